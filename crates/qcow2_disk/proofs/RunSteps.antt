@@ -12,7 +12,7 @@ use Rattle.qcow2_disk.specs.Stops.{GivenBytes, IsGiven, Checkpoint, checkpoint_a
 use Rattle.qcow2_disk.specs.Mappings.{PreparedMapping}
 use Rattle.qcow2_disk.specs.AbstractImages.{Setting, Guest, Abstraction, AbstractImage, abstract_image, guest_of, stored_bytes, IsWhole}
 use Rattle.qcow2_disk.specs.Calls.{Refusal, memory, storage, not_compressed, another, CallEffect, AnsweredEffect, RefusedEffect, IsRefusalByFault, EffectOnSound, EffectOnFailed, Stops}
-use Rattle.qcow2_disk.specs.Runs.{Command, Reply, Found, CommandMeaning, IsFaultReply, IsStorageReply, MayAnswer, IsAnswerOfFailed, IsRightlyTold, ResizesLast, State, CommandStep, Run, IsSafeWhile, RefinesGuest, RefinesAlong, IsStopIn, RefinesState, RefinesCommand, RefinesRun, RefinesWholeRun, RefinesDisk, IsOwnInterval, started, checkpoint_during, checkpoint_after, stepped, given_by, asked_by, flush, shrink, done, number_is}
+use Rattle.qcow2_disk.specs.Runs.{Command, Reply, Found, CommandMeaning, IsFaultReply, IsStorageReply, MayAnswer, IsAnswerOfFailed, ReplyMatches, ResizesLast, State, CommandStep, Run, IsSafeWhile, RefinesGuest, RefinesAlong, IsStopIn, RefinesState, RefinesCommand, RefinesRun, RefinesWholeRun, RefinesDisk, IsOwnInterval, started, checkpoint_during, checkpoint_after, stepped, given_by, asked_by, flush, shrink, done, number_is}
 use Rattle.qcow2_disk.specs.UngivenCovers.{UngivenStay}
 use Rattle.qcow2_disk.proofs.Compose.{TouchesLess, works_less, stops_none, rests_none}
 use Rattle.qcow2_disk.proofs.HeaderRest.{header_rest_same}
@@ -25,7 +25,7 @@ bool_cases false = inr refl
 -- how a call ends on an image that worked
 pub record Ends (found : ℕ → Option Found) (old new : AbstractImage) (command : Command) (reply : Reply) : Type 0 where
   pub ends : (new.is_sound × CommandMeaning old.setting found (guest_of old) command reply (guest_of new) × (¬ IsStorageReply reply)) ⊎ (IsFaultReply reply × IsTrue new.is_failed)
-  pub finds : new.is_sound → IsRightlyTold new.setting old.known new command reply
+  pub finds : new.is_sound → ReplyMatches new.setting old.known new command reply
   pub checkpoint : (x : Setting) (s : State) → RefinesState x old s → s.is_failed ≡ false → new.is_sound → (checkpoint_after x s command reply (guest_of new) ≡ checkpoint_during x s command)
       ⊎ (StopOkEverywhere new.setting.backing (checkpoint_after x s command reply (guest_of new)) new.known × LeavesKept new.setting.backing (checkpoint_after x s command reply (guest_of new)) new.storage)
 
@@ -124,7 +124,7 @@ module _ (x : Setting) (old new : AbstractImage) (s : State) (command : Command)
           since = λ _. ok;
         }
 
-    going : new.is_sound → CommandMeaning x s.found s.guest command reply (guest_of new) → (¬ IsStorageReply reply) → IsRightlyTold new.setting old.known new command reply
+    going : new.is_sound → CommandMeaning x s.found s.guest command reply (guest_of new) → (¬ IsStorageReply reply) → ReplyMatches new.setting old.known new command reply
         → ((checkpoint_after x s command reply (guest_of new) ≡ checkpoint_during x s command)
         ⊎ (StopOkEverywhere new.setting.backing (checkpoint_after x s command reply (guest_of new)) new.known × LeavesKept new.setting.backing (checkpoint_after x s command reply (guest_of new)) new.storage))
         → RefinesCommand x old new s command reply
@@ -155,7 +155,7 @@ module _ (x : Setting) (old new : AbstractImage) (s : State) (command : Command)
           interval = record {
             own = λ _. own;
             sized = λ _. sized;
-            told = λ _. subst (λ y. IsRightlyTold y old.known new command reply) (acts.setting ∙ stands.setting) finds;
+            told = λ _. subst (λ y. ReplyMatches y old.known new command reply) (acts.setting ∙ stands.setting) finds;
             beside = λ _. subst (λ (y : Setting). UngivenStay y.cluster_size (given_by x s.guest command) old.known new.known) stands.setting (acts.beside sound);
           };
           surplus = λ _. acts.surplus sound;
@@ -201,14 +201,14 @@ refusal_ends {new = new} {Still = Still} reply error refuses fault by_storage so
 -- a call that was answered, and one that was refused
 pub done_as : (x : Setting) (old new : AbstractImage) (s : State) (command is : Command) (reply : Reply) → command ≡ is → RefinesState x old s → IsAnswer old new is reply
     → AnsweredEffect old new (given_by old.setting (guest_of old) is) (asked_by is) (CommandMeaning old.setting s.found (guest_of old) is reply (guest_of new))
-    → (IsStorageReply reply → ⊥) → ((x' : Setting) (s' : State) → checkpoint_after x' s' is reply (guest_of new) ≡ checkpoint_during x' s' is) → (old.is_sound → IsRightlyTold new.setting old.known new is reply) → RefinesCommand x old new s command reply
+    → (IsStorageReply reply → ⊥) → ((x' : Setting) (s' : State) → checkpoint_after x' s' is reply (guest_of new) ≡ checkpoint_during x' s' is) → (old.is_sound → ReplyMatches new.setting old.known new is reply) → RefinesCommand x old new s command reply
 done_as x old new s command is reply e stands answer does answered checkpoint finds =
     subst (λ q. RefinesCommand x old new s q reply) (sym e) (called x old new s is reply stands answer does.acts
     (λ sound. let a = does.answer sound in record { ends = inl (a.0, a.1, answered); finds = λ _. finds sound; checkpoint = λ x' s' _ _ _. inl (checkpoint x' s') }))
 
 pub refused_told : (x : Setting) (old new : AbstractImage) (s : State) (command is : Command) (reply : Reply) (error : Refusal) → command ≡ is → RefinesState x old s → IsAnswer old new is reply
     → RefusedEffect old new (given_by old.setting (guest_of old) is) (asked_by is) error (CommandMeaning old.setting s.found (guest_of old) is reply (guest_of new)) → (IsRefusalByFault error → IsFaultReply reply) → (IsStorageReply reply → error ≡ storage)
-    → ((x' : Setting) (s' : State) → checkpoint_after x' s' is reply (guest_of new) ≡ checkpoint_during x' s' is) → (old.is_sound → IsRightlyTold new.setting old.known new is reply) → RefinesCommand x old new s command reply
+    → ((x' : Setting) (s' : State) → checkpoint_after x' s' is reply (guest_of new) ≡ checkpoint_during x' s' is) → (old.is_sound → ReplyMatches new.setting old.known new is reply) → RefinesCommand x old new s command reply
 refused_told x old new s command is reply error e stands answer refuses fault by_storage checkpoint finds =
     subst (λ q. RefinesCommand x old new s q reply) (sym e) (called x old new s is reply stands answer refuses.acts
     (λ sound. record {
@@ -220,7 +220,7 @@ refused_told x old new s command is reply error e stands answer refuses fault by
 -- one that tells nothing but its refusal
 pub refused_as : (x : Setting) (old new : AbstractImage) (s : State) (command is : Command) (reply : Reply) (error : Refusal) → command ≡ is → RefinesState x old s → IsAnswer old new is reply
     → RefusedEffect old new (given_by old.setting (guest_of old) is) (asked_by is) error (CommandMeaning old.setting s.found (guest_of old) is reply (guest_of new)) → (IsRefusalByFault error → IsFaultReply reply) → (IsStorageReply reply → error ≡ storage)
-    → ((x' : Setting) (s' : State) → checkpoint_after x' s' is reply (guest_of new) ≡ checkpoint_during x' s' is) → IsRightlyTold new.setting old.known new is reply → RefinesCommand x old new s command reply
+    → ((x' : Setting) (s' : State) → checkpoint_after x' s' is reply (guest_of new) ≡ checkpoint_during x' s' is) → ReplyMatches new.setting old.known new is reply → RefinesCommand x old new s command reply
 refused_as x old new s command is reply error e stands answer refuses fault by_storage checkpoint finds = refused_told x old new s command is reply error e stands answer refuses fault by_storage checkpoint (λ _. finds)
 
 -- no call at all
@@ -251,7 +251,7 @@ kept_at_once v header_bytes b whole same rest =
 pub flushed_as : (x : Setting) (old new : AbstractImage) (s : State) (command is : Command) (reply : Reply) → command ≡ is → RefinesState x old s → IsAnswer old new is reply
     → AnsweredEffect old new (given_by old.setting (guest_of old) is) (asked_by is) ((new.known ≡ stored_bytes new) × CommandMeaning old.setting s.found (guest_of old) is reply (guest_of new))
     → (new.is_sound → IsWhole new) → (IsStorageReply reply → ⊥)
-    → ((x' : Setting) (s' : State) → checkpoint_after x' s' is reply (guest_of new) ≡ checkpoint_at (guest_of new).disk s'.checkpoint.header_bytes) → IsRightlyTold new.setting old.known new is reply → RefinesCommand x old new s command reply
+    → ((x' : Setting) (s' : State) → checkpoint_after x' s' is reply (guest_of new) ≡ checkpoint_at (guest_of new).disk s'.checkpoint.header_bytes) → ReplyMatches new.setting old.known new is reply → RefinesCommand x old new s command reply
 flushed_as x old new s command is reply e stands answer does whole answered checkpoint finds =
     subst (λ q. RefinesCommand x old new s q reply) (sym e) (called x old new s is reply stands answer does.acts
     (λ sound. let a = does.answer sound in record {
@@ -271,7 +271,7 @@ pub gave_less : (x : Setting) (old new : AbstractImage) (s : State) (command is 
     → (does : AnsweredEffect old new (given old.setting (guest_of old)) (asked_by is) (CommandMeaning old.setting s.found (guest_of old) is reply (guest_of new)))
     → (old.is_sound → (o : ℕ) (w : Value) → IsGiven (given old.setting (guest_of old)) o w → IsGiven (given_by old.setting (guest_of old) is) o w)
     → (old.is_sound → TouchesLess old.setting.cluster_size (given old.setting (guest_of old)) (given_by old.setting (guest_of old) is)) → (IsStorageReply reply → ⊥)
-    → ((x' : Setting) (s' : State) → checkpoint_after x' s' is reply (guest_of new) ≡ checkpoint_with (given x' s'.guest) (asked_by is) s'.checkpoint) → IsRightlyTold new.setting old.known new is reply → RefinesCommand x old new s command reply
+    → ((x' : Setting) (s' : State) → checkpoint_after x' s' is reply (guest_of new) ≡ checkpoint_with (given x' s'.guest) (asked_by is) s'.checkpoint) → ReplyMatches new.setting old.known new is reply → RefinesCommand x old new s command reply
 gave_less x old new s command is reply given e stands answer does within touches answered checkpoint finds =
     let gs = given old.setting (guest_of old) in
     subst (λ q. RefinesCommand x old new s q reply) (sym e) (called x old new s is reply stands answer
@@ -297,7 +297,7 @@ gave_less x old new s command is reply given e stands answer does within touches
 -- a command that was misused: nothing is called
 pub none_as : (x : Setting) (v : AbstractImage) (s : State) (command is : Command) (reply : Reply) → command ≡ is → RefinesState x v s → IsAnswer v v is reply
     → (v.is_sound → CommandMeaning v.setting s.found (guest_of v) is reply (guest_of v)) → (IsStorageReply reply → ⊥)
-    → ((x' : Setting) (s' : State) → checkpoint_after x' s' is reply (guest_of v) ≡ checkpoint_during x' s' is) → IsRightlyTold v.setting v.known v is reply → RefinesCommand x v v s command reply
+    → ((x' : Setting) (s' : State) → checkpoint_after x' s' is reply (guest_of v) ≡ checkpoint_during x' s' is) → ReplyMatches v.setting v.known v is reply → RefinesCommand x v v s command reply
 none_as x v s command is reply e stands answer means answered checkpoint finds =
     subst (λ q. RefinesCommand x v v s q reply) (sym e) (called x v v s is reply stands answer
     (acts_none v (given_by v.setting (guest_of v) is) (asked_by is))

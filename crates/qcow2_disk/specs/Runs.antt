@@ -277,17 +277,17 @@ abbrev pub IsRightlyWritten : (offset n : ℕ) → (after : Bytes) → Type 0
 IsRightlyWritten offset n after = (g : ℕ) → Touches (cluster_size (header after)) offset (offset + n) g → is_copied_data (cover (header after) after g) ≡ true
 
 -- The reply matches the tables. A lookup returns what the known contents hold, and leaves them unchanged. The replies of a prepare, a clear, a special read and a growth match the mappings before and after. After a write its clusters are copied data. After a flush no cluster waits to be freed.
-abbrev pub IsRightlyTold : Setting → (before : Bytes) → AbstractImage → Command → Reply → Type 0
-IsRightlyTold x before new (get_mapping place offset max) (mapping_is from kind n) = IsFoundIn new.known x.is_backed offset max kind n × (new.known ≡ before)
-IsRightlyTold x before new (prepare slot offset n overwrite) (prepared_is host count is_existing) = IsPreparedRightly before new slot n (record { offset = host; length = count; is_existing = is_existing })
-IsRightlyTold x before new (write offset bytes) done = IsRightlyWritten offset (length bytes) new.known
-IsRightlyTold x before new (clear how offset n) (range_is from count) = IsRightlyCleared how before new.known offset n
-IsRightlyTold x before new (read_special offset n) (refused e) = IsRightlySpecial before offset n e
-IsRightlyTold x before new (try_read_special offset n) (refused e) = IsRightlySpecial before offset n e
-IsRightlyTold x before new (try_read_special offset n) (plain_at at) = IsRightlyPlain before offset n at
-IsRightlyTold x before new (grow size mode) done = IsRightlyGrown mode size before new.known
-IsRightlyTold x before new flush done = (c : ℕ) → new.to_be_freed c ≡ 0
-IsRightlyTold x before new command reply = Unit {0}
+abbrev pub ReplyMatches : Setting → (before : Bytes) → AbstractImage → Command → Reply → Type 0
+ReplyMatches x before new (get_mapping place offset max) (mapping_is from kind n) = IsFoundIn new.known x.is_backed offset max kind n × (new.known ≡ before)
+ReplyMatches x before new (prepare slot offset n overwrite) (prepared_is host count is_existing) = IsPreparedRightly before new slot n (record { offset = host; length = count; is_existing = is_existing })
+ReplyMatches x before new (write offset bytes) done = IsRightlyWritten offset (length bytes) new.known
+ReplyMatches x before new (clear how offset n) (range_is from count) = IsRightlyCleared how before new.known offset n
+ReplyMatches x before new (read_special offset n) (refused e) = IsRightlySpecial before offset n e
+ReplyMatches x before new (try_read_special offset n) (refused e) = IsRightlySpecial before offset n e
+ReplyMatches x before new (try_read_special offset n) (plain_at at) = IsRightlyPlain before offset n at
+ReplyMatches x before new (grow size mode) done = IsRightlyGrown mode size before new.known
+ReplyMatches x before new flush done = (c : ℕ) → new.to_be_freed c ≡ 0
+ReplyMatches x before new command reply = Unit {0}
 
 -- A resize writes the size last: every moment before has the old size.
 abbrev pub ResizesLast : (size : ℕ) → (old new : StorageView) → Command → Type 0
@@ -299,7 +299,7 @@ ResizesLast size old new command = Unit {0}
 pub record IsCommandInterval (x : Setting) (old : StorageView) (known : Bytes) (new : AbstractImage) (s : State) (command : Command) (reply : Reply) (end : State) : Type 0 where
   pub own : s.is_failed ≡ false → IsOwnInterval x.backing old new.storage known (given_by x s.guest command) (asked_by command)
   pub sized : s.is_failed ≡ false → ResizesLast s.guest.disk.size old new.storage command
-  pub told : end.is_failed ≡ false → IsRightlyTold x known new command reply
+  pub told : end.is_failed ≡ false → ReplyMatches x known new command reply
   pub beside : end.is_failed ≡ false → UngivenStay x.cluster_size (given_by x s.guest command) known new.known
 
 -- Along a run: when each command returns, the image agrees with the run, and every moment during the command is safe.

@@ -43,7 +43,7 @@ use Rattle.qcow2_image.specs.Found.{l1_index_of}
 use Rattle.qcow2_image.specs.Image.{is_writable, size_of}
 use Rattle.qcow2_image.specs.ImageInvariant.{ImageInvariant, abstract_of, disk_of, listed_run, of_data, pending_in, to_free}
 use Rattle.qcow2_image.specs.L1Entries.{NeedsOverflowingL1Entry}
-use Rattle.qcow2_image.specs.MetAlone.{IsMetTaking}
+use Rattle.qcow2_image.specs.MetAlone.{MayFailAllocating}
 use Rattle.qcow2_image.specs.MovedTables.{MovesTables}
 use Rattle.qcow2_image.specs.NewTables.{IsFaultOrLacksTable}
 use Rattle.qcow2_image.specs.Prepared.{table_of}
@@ -128,7 +128,7 @@ module _ {S F : Type 0} (view : S → StorageView) (backing : F → BackingView)
   pub record RefusesClearing (how : ClearMode) (old new : Qcow2 S F) (offset n : ℕ) (e : ImageError) : Type 0 where
     pub ungiven : RefusesUngiven old new e
     pub lacks : refuses_to_clear old offset n how ≡ None → (out : List (Option Prepared)) → (abstract_of view backing old out).is_sound → (HasPinnedMapping out → ⊥) → IsFaultOrLacksTable view new (from_in old offset n) e
-    pub met : refuses_to_clear old offset n how ≡ None → (out : List (Option Prepared)) → (abstract_of view backing old out).is_sound → IsMetTaking (HasPinnedMapping out) (IsUnderMapping old.file.header.fields (from_in old offset n) out) ⊥ (NeedsOverflowingL1Entry old (from_in old offset n)) e
+    pub met : refuses_to_clear old offset n how ≡ None → (out : List (Option Prepared)) → (abstract_of view backing old out).is_sound → MayFailAllocating (HasPinnedMapping out) (IsUnderMapping old.file.header.fields (from_in old offset n) out) ⊥ (NeedsOverflowingL1Entry old (from_in old offset n)) e
 
   -- ---- parts of the work
 

@@ -16,10 +16,10 @@ use Rattle.qcow2_image.specs.Image.{HasNothingToFree, ImageStays, IsSameImage, s
 use Rattle.qcow2_image.specs.ImageInvariant.{ImageInvariant, abstract_of, pending_in}
 use Rattle.qcow2_image.specs.L1Entries.{HasOwnTable, NeedsOverflowingL1Entry}
 use Rattle.qcow2_image.specs.Limits.{IfLimit, IsLimited}
-use Rattle.qcow2_image.specs.MetAlone.{IsMetTaking}
+use Rattle.qcow2_image.specs.MetAlone.{MayFailAllocating}
 use Rattle.qcow2_image.specs.NewTables.{IsFaultOrLacksTable}
 use Rattle.qcow2_image.specs.Noted.{ChangesRose, FailsOnceWritten, NotesPart}
-use Rattle.qcow2_image.specs.PinnedTables.{HeedsPins}
+use Rattle.qcow2_image.specs.PinnedTables.{RespectsPins}
 use Rattle.qcow2_image.specs.Refusals.{FreesRefused, IsMetPreparing, MarksFailed}
 use Rattle.qcow2_image.specs.declared.discarding.ClearMode.{ClearMode}
 use Rattle.qcow2_image.specs.declared.image.Qcow2.{Qcow2}
@@ -57,7 +57,7 @@ module _ {S F : Type 0} (view : S → StorageView) (backing : F → BackingView)
       pub early : IfSome (refuses_to_clear old offset n how) (λ e. (result ≡ Err e) × (new ≡ old))
       pub late : may_clear → IfErr result IsMetPreparing
       pub refused : IfErr result (RefusesClearing view backing how old new offset n)
-      pub pinned : touches_some → may_clear → HasOwnTable old (from_in old offset n) → HeedsPins old (from_in old offset n) result
+      pub pinned : touches_some → may_clear → HasOwnTable old (from_in old offset n) → RespectsPins old (from_in old offset n) result
       pub under : may_clear → touches_some → (out : List (Option Prepared)) → (abstract_of view backing old out).is_sound
           → IfErr result (λ e. e ≡ TablePrepared → IsUnderMapping old.file.header.fields (from_in old offset n) out) × IfOk result (λ range. IsUnderMapping old.file.header.fields (from_in old offset n) out → ⊥)
       pub freed : may_clear → touches_some → (out : List (Option Prepared)) → (abstract_of view backing old out).is_sound → IfErr result (FreesRefused new)
@@ -85,7 +85,7 @@ module _ {S F : Type 0} (view : S → StorageView) (backing : F → BackingView)
 
     -- The causes of a refusal.
     abbrev pub MeetsBetween : Type 0
-    MeetsBetween = OfWhole (λ out. IfErr result (IsMetTaking (HasPinnedMapping out) (IsUnderMapping old.file.header.fields from out) ⊥ (NeedsOverflowingL1Entry old from)))
+    MeetsBetween = OfWhole (λ out. IfErr result (MayFailAllocating (HasPinnedMapping out) (IsUnderMapping old.file.header.fields from out) ⊥ (NeedsOverflowingL1Entry old from)))
 
     -- If no mapping is pinned, a refusal is a fault, or the first offset has no L2 table of its own.
     abbrev pub LacksBetween : Type 0

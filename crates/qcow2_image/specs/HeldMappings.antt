@@ -60,9 +60,9 @@ module _ {S F : Type 0} (image : Qcow2 S F) (offset : ℕ) where
   IsHeldRun max kind n = IsLongestSo image.file.header.fields (is_some image.backing) image.l1_table image.file.caches offset max kind n
 
   -- A call succeeds only if the tables in memory map the range in this way, and is refused 10 only if they don't.
-  abbrev pub HeedsHeld : {A : Type 0} → MappingKind → ℕ → Result A ImageError → Type 0
-  HeedsHeld kind n (Ok _) = IsHeldAs kind n
-  HeedsHeld kind n (Err e) = e ≡ OutdatedMapping → ¬ IsHeldAs kind n
+  abbrev pub FitsTables : {A : Type 0} → MappingKind → ℕ → Result A ImageError → Type 0
+  FitsTables kind n (Ok _) = IsHeldAs kind n
+  FitsTables kind n (Err e) = e ≡ OutdatedMapping → ¬ IsHeldAs kind n
 
 module _ {S F : Type 0} where
   -- What the tables in memory map stays the same.

@@ -82,11 +82,11 @@ module _ {S F : Type 0} where
     pub few : places.fields.reftable_clusters * entries_per_cluster image.file.header.fields ≤ 1048576
 
   -- The call succeeds only if no L2 table is pinned. If one is, it is refused 21, or 14 if there is no memory for the list of pinned tables.
-  abbrev pub HeedsPrepared : {T : Type 0} → Qcow2 S F → Result T ImageError → Type 0
-  HeedsPrepared old (Ok _) = ¬ HasPinnedTable old
-  HeedsPrepared old (Err (I.StillInUse tables)) = Unit {0}
-  HeedsPrepared old (Err I.Memory) = Unit {0}
-  HeedsPrepared old (Err e) = ¬ HasPinnedTable old
+  abbrev pub RespectsPrepared : {T : Type 0} → Qcow2 S F → Result T ImageError → Type 0
+  RespectsPrepared old (Ok _) = ¬ HasPinnedTable old
+  RespectsPrepared old (Err (I.StillInUse tables)) = Unit {0}
+  RespectsPrepared old (Err I.Memory) = Unit {0}
+  RespectsPrepared old (Err e) = ¬ HasPinnedTable old
 
   -- The list of clusters to free is emptied, and tables are dropped.
   pub record DropsCached (old new : Qcow2 S F) : Type 0 where
@@ -164,7 +164,7 @@ module _ {S F : Type 0} where
           pub failed : IsTrue (is_failed old) → (result ≡ Err I.Failed) × (new ≡ old)
           pub kept : OnErr result (KeepsTables old new)
           pub cause : is_failed old ≡ false → IfErr result IsMet
-          pub prepared : is_failed old ≡ false → HeedsPrepared old result
+          pub prepared : is_failed old ≡ false → RespectsPrepared old result
           pub why : is_failed old ≡ false → (view_in view old.file).is_honest → IfErr result (IsReasonAgainstReading old new)
           pub list : is_failed old ≡ false → HasNothingToFree new
 

@@ -24,8 +24,8 @@ use Rattle.qcow2_image.specs.Refusals.{IsFaultOrLimit}
 use Rattle.qcow2_image.specs.UnseenSteps.{is_announced}
 
 -- Why a call that allocates is refused while no mapping is prepared: a fault; a limit; 7, if bytes of a compressed cluster would have to be copied; or 20, if an L1 entry past 64 bits would have to be written.
-abbrev pub IsMetAlone : (compressed far : Type 0) → ImageError → Type 0
-IsMetAlone compressed far e = IsFaultOrLimit e ⊎ (((e ≡ I.Compressed) × compressed) ⊎ ((e ≡ I.Overflow) × far))
+abbrev pub MayFailAlone : (compressed far : Type 0) → ImageError → Type 0
+MayFailAlone compressed far e = IsFaultOrLimit e ⊎ (((e ≡ I.Compressed) × compressed) ⊎ ((e ≡ I.Overflow) × far))
 
 -- Some guest cluster that the range touches is compressed.
 pub record HasCompressedIn (from to : ℕ) (h : HeaderFields) (known : Bytes) : Type 0 where
@@ -113,10 +113,10 @@ IsMetPutting held p at e = IsFault e ⊎ ((table_of p ≡ None) × (IsMetLooking
 -- ---- calls that allocate, on a sound image, whatever is prepared
 
 -- Why a call that allocates is refused: as while no mapping is prepared; or 8 or 9, each only for its own cause.
-abbrev pub IsMetTaking : (held kept compressed far : Type 0) → ImageError → Type 0
-IsMetTaking held kept compressed far e = IsMetAlone compressed far e ⊎ (((e ≡ I.InUse) × held) ⊎ ((e ≡ I.TablePrepared) × kept))
+abbrev pub MayFailAllocating : (held kept compressed far : Type 0) → ImageError → Type 0
+MayFailAllocating held kept compressed far e = MayFailAlone compressed far e ⊎ (((e ≡ I.InUse) × held) ⊎ ((e ≡ I.TablePrepared) × kept))
 
 -- Why filling the range behind the end of a disk is refused: as a call that allocates, with 7 only if bytes of a compressed cluster would have to be copied, and 8 and 9 only if a mapping is pinned. Zero clusters are also refused below version 3 (3).
 abbrev pub IsMetGrowing : List (Option Prepared) → PreallocateMode → (from to : ℕ) → HeaderFields → Bytes → ImageError → Type 0
 IsMetGrowing out mode from to h known e =
-    IsMetTaking (HasPinnedMapping out) (HasPinnedMapping out) (HasCompressedIn from (copied_end (cluster_size h) from to mode) h known) ⊥ e ⊎ ((e ≡ I.Version) × ((mode ≡ Mode.Zero) × (h.version < 3)))
+    MayFailAllocating (HasPinnedMapping out) (HasPinnedMapping out) (HasCompressedIn from (copied_end (cluster_size h) from to mode) h known) ⊥ e ⊎ ((e ≡ I.Version) × ((mode ≡ Mode.Zero) × (h.version < 3)))

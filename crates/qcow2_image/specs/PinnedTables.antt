@@ -31,9 +31,9 @@ module _ {S F : Type 0} where
     pub pins : (cluster : ℕ) → l2_pins new.file.caches cluster ≡ l2_pins old.file.caches cluster
 
   -- The call succeeds only if the offset's table is not pinned, and is refused 9 only if it is.
-  abbrev pub HeedsPins : {A : Type 0} → Qcow2 S F → ℕ → Result A ImageError → Type 0
-  HeedsPins image offset (Ok _) = own_pins image offset ≡ 0
-  HeedsPins image offset (Err e) = e ≡ TablePrepared → 0 < own_pins image offset
+  abbrev pub RespectsPins : {A : Type 0} → Qcow2 S F → ℕ → Result A ImageError → Type 0
+  RespectsPins image offset (Ok _) = own_pins image offset ≡ 0
+  RespectsPins image offset (Err e) = e ≡ TablePrepared → 0 < own_pins image offset
 
   -- A range that is not in place is prepared only if the offset's table is not pinned.
   abbrev pub PreparesUnpinned : Qcow2 S F → ℕ → Result Prepared ImageError → Type 0

@@ -15,7 +15,7 @@ ghost use Rattle.qcow2_alloc.specs.MetadataCaches.{IsEntryAt, l2_at};
 ghost use Rattle.qcow2_alloc.specs.declared.error.ImageError.TheVariants.{TablePrepared};
 ghost use Rattle.qcow2_image.specs.declared.prepared.Prepared.{Prepared};
 ghost use Rattle.qcow2_image.specs.L1Entries.{HasOwnTable};
-ghost use Rattle.qcow2_image.specs.PinnedTables.{HeedsPins};
+ghost use Rattle.qcow2_image.specs.PinnedTables.{RespectsPins};
 ghost use Rattle.qcow2_image.specs.Image.{ImageStays, is_writable, size_of};
 ghost use Rattle.qcow2_image.specs.ImageInvariant.{ImageInvariant, pending_in, listed_run};
 ghost use Rattle.qcow2_image.specs.Refusals.{IsMet, IsMetPreparing, passes as passes_size};
@@ -278,7 +278,7 @@ impl<S: Storage, F: WrappedFormat<S>> Qcow2<S, F> {
         ensures taken { RefusedUnder S.view F.backing from self.old result }
         ensures free { AnsweredBeside S.view F.backing from self.old result }
         ensures freed { FreesBetween S.view F.backing how from to self.old self.new result }
-        ensures pinned { HasOwnTable self.old from → HeedsPins self.old from result }
+        ensures pinned { HasOwnTable self.old from → RespectsPins self.old from result }
     {
         match self.clear_in_table(from, to, how) {
             Ok(()) => Ok(()),
@@ -303,7 +303,7 @@ impl<S: Storage, F: WrappedFormat<S>> Qcow2<S, F> {
         ensures clears { ClearsBetween S.view F.backing how from to self.old self.new result }
         ensures taken { RefusedUnder S.view F.backing from self.old result }
         ensures free { AnsweredBeside S.view F.backing from self.old result }
-        ensures pinned { HasOwnTable self.old from → HeedsPins self.old from result }
+        ensures pinned { HasOwnTable self.old from → RespectsPins self.old from result }
     {
         let table = self.writable_l2_table(from)?;
         if self.file.caches.l2_is_pinned(table) {

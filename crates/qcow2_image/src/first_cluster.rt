@@ -8,7 +8,7 @@ ghost use Rattle.std.specs.Prelude.{List, Option, ◌≡◌, ◌+◌, ◌-◌, �
 ghost use Rattle.std.specs.Prelude.{vec_capacity, IfOk, IfErr, IsSome, IsTrue, OnOk};
 ghost use Rattle.qcow2_image.specs.Backings.{HasPinnedMapping};
 ghost use Rattle.qcow2_alloc.specs.ImageError.{IsFault};
-ghost use Rattle.qcow2_image.specs.MetAlone.{IsCopiedCompressed, IsMetAlone, IsMetLooking, IsMetTaking};
+ghost use Rattle.qcow2_image.specs.MetAlone.{IsCopiedCompressed, MayFailAlone, IsMetLooking, MayFailAllocating};
 ghost use Rattle.qcow2_metadata.specs.L2Mapping.{IsHostCluster, IsInReach, greatest_offset};
 ghost use Rattle.qcow2_metadata.specs.Header.{cluster_size};
 ghost use Rattle.qcow2_metadata.specs.Cover.{cover};
@@ -65,7 +65,7 @@ impl<S: Storage, F: WrappedFormat<S>> Qcow2<S, F> {
         ensures met { (out : List (Option Prepared))
             → ImageInvariant S.view F.backing (pending_in S.view F.backing self.old out) self.old out
             → HoldsTable S.view F.backing self.old offset table
-            → IfErr result (IsMetTaking (HasPinnedMapping out) (0 < l2_pins self.old.file.caches table)
+            → IfErr result (MayFailAllocating (HasPinnedMapping out) (0 < l2_pins self.old.file.caches table)
             (IsCopiedCompressed self.old.file.header.fields
             (cover self.old.file.header.fields (known_in S.view self.old.file)
             (offset / cluster_size self.old.file.header.fields)) offset length overwrite) ⊥) }
@@ -123,7 +123,7 @@ impl<S: Storage, F: WrappedFormat<S>> Qcow2<S, F> {
             → HoldsTable S.view F.backing self.old offset table
             → cover self.old.file.header.fields (known_in S.view self.old.file)
             (offset / cluster_size self.old.file.header.fields) ≡ old.now
-            → IfErr result (IsMetTaking (HasPinnedMapping out) ⊥
+            → IfErr result (MayFailAllocating (HasPinnedMapping out) ⊥
             (IsCopiedCompressed self.old.file.header.fields old.now offset length overwrite) ⊥) }
         ensures limit { (out : List (Option Prepared))
             → ImageInvariant S.view F.backing (pending_in S.view F.backing self.old out) self.old out
@@ -317,7 +317,8 @@ impl<S: Storage, F: WrappedFormat<S>> Qcow2<S, F> {
         ensures header { KeepsHeader self.old.file.header self.new.file.header }
         ensures met { (p : Pending) (out : List (Option Prepared)) → ImageInvariant S.view F.backing p self.old out
             → HoldsAll S.view F.backing p out
-            → IfErr result (IsMetAlone (IsCopiedCompressed self.old.file.header.fields old.now offset length overwrite)
+            → IfErr result (MayFailAlone
+            (IsCopiedCompressed self.old.file.header.fields old.now offset length overwrite)
             ⊥) }
         ensures limit { (p : Pending) (out : List (Option Prepared)) → ImageInvariant S.view F.backing p self.old out
             → HoldsAll S.view F.backing p out → IfLimit result (IsLimitedTaking S.view F.backing p 1 self.old out) }

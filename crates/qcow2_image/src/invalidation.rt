@@ -8,7 +8,7 @@ ghost use Rattle.qcow2_metadata.specs.Header.{entries_per_cluster, header, with_
 ghost use Rattle.qcow2_image.specs.Image.{is_writable, HasNothingToFree};
 ghost use Rattle.qcow2_image.specs.ImageInvariant.{HasL1Table, ImageInvariant};
 ghost use Rattle.qcow2_image.specs.ImageSteps.{ImageFails, ImageStep};
-ghost use Rattle.qcow2_image.specs.Invalidated.{ArePlacesFor, DropsCached, HeedsPrepared, HoldsNoTable, IsAsStored};
+ghost use Rattle.qcow2_image.specs.Invalidated.{ArePlacesFor, DropsCached, RespectsPrepared, HoldsNoTable, IsAsStored};
 ghost use Rattle.qcow2_image.specs.Invalidated.{IsAtRest, KeepsTables, TakesTables};
 ghost use Rattle.qcow2_image.specs.Invalidated.{IsReasonAgainstPlaces, IsReasonAgainstReading};
 ghost use Rattle.qcow2_image.specs.Invalidated.{ReadsPlaces, ReadsTables};
@@ -68,7 +68,7 @@ impl<S: Storage, F: WrappedFormat<S>> Qcow2<S, F> {
     fn drop_and_read(&mut self) -> Result<(), ImageError>
         ensures step { ReadsAnew S.view self.old self.new }
         ensures fails { ImageFails S.view F.backing self.old self.new result IsMet }
-        ensures prepared { HeedsPrepared self.old result }
+        ensures prepared { RespectsPrepared self.old result }
         ensures kept { OnErr result (KeepsTables self.old self.new) }
         ensures why { (view_in S.view self.old.file).is_honest
             → IfErr result (IsReasonAgainstReading S.view self.old self.new) }
@@ -88,7 +88,7 @@ impl<S: Storage, F: WrappedFormat<S>> Qcow2<S, F> {
         ensures step { ImageStep S.view self.old self.new }
         ensures rest { DropsCached self.old self.new }
         ensures fails { ImageFails S.view F.backing self.old self.new result IsOfTables }
-        ensures prepared { HeedsPrepared self.old result }
+        ensures prepared { RespectsPrepared self.old result }
         ensures why { IfErr result (IsReasonAgainstReading S.view self.old self.new) }
         ensures dropped { OnOk result (HoldsNoTable self.new) }
         ensures keeps { IsAtRest S.view self.old → (p : Pending) (out : List (Option Prepared))

@@ -14,7 +14,7 @@ ghost use Rattle.qcow2_image.specs.Calls.{AnswersCall, Puts};
 ghost use Rattle.qcow2_image.specs.Faults.{IsNotOfStorage};
 ghost use Rattle.qcow2_image.specs.Found.{AreBytesOf, IsFoundWhole, IsMappedAs, further_by};
 ghost use Rattle.qcow2_image.specs.CallParts.{PutsPart, WritesBytes};
-ghost use Rattle.qcow2_image.specs.HeldMappings.{HeedsHeld, KeepsHeld};
+ghost use Rattle.qcow2_image.specs.HeldMappings.{FitsTables, KeepsHeld};
 ghost use Rattle.qcow2_image.specs.ListedClusters.{ListStays};
 ghost use Rattle.qcow2_image.specs.UnseenSteps.{UnseenStep};
 ghost use Rattle.qcow2_image.specs.ImageInvariant.{IsHonestBacking, ImageInvariant, pending_in, backing_bytes, disk_of};
@@ -81,7 +81,7 @@ impl<S: Storage, F: WrappedFormat<S>> Qcow2<S, F> {
         ensures sees { AnswersCall S.view F.backing self.old self.new []
             (λ done old new. (new ≡ old) × Shows old.disk (mapping.now.offset + at) bytes.new) result }
         ensures held { refuses_mapping self.old mapping.now.image ≡ None → 0 < length bytes.old
-            → HeedsHeld self.new (mapping.now.offset + at) (further_by at mapping.now.kind) (length bytes.old) result }
+            → FitsTables self.new (mapping.now.offset + at) (further_by at mapping.now.kind) (length bytes.old) result }
     {
         self.check_usable()?;
         if mapping.image != self.number {
@@ -120,7 +120,7 @@ impl<S: Storage, F: WrappedFormat<S>> Qcow2<S, F> {
             → ImageInvariant S.view F.backing p self.old out
             → IfOk result (λ done. Shows (disk_of S.view F.backing self.new) (mapping.now.offset + at) bytes.new) }
         ensures held { 0 < length bytes.old
-            → HeedsHeld self.new (mapping.now.offset + at) (further_by at mapping.now.kind) (length bytes.old) result }
+            → FitsTables self.new (mapping.now.offset + at) (further_by at mapping.now.kind) (length bytes.old) result }
     {
         let offset = self.place_within(mapping.offset, at)?;
         let kind = mapping.kind.further(at);
@@ -162,7 +162,7 @@ impl<S: Storage, F: WrappedFormat<S>> Qcow2<S, F> {
             → IfOk result (λ done. IsMappedAs S.view self.new offset wanted.now length) }
         ensures found { (p : Pending) (out : List (Option Prepared)) → ImageInvariant S.view F.backing p self.old out
             → OnOk result (IsFoundWhole S.view self.old offset wanted.now length) }
-        ensures held { 0 < length → HeedsHeld self.new offset wanted.now length result }
+        ensures held { 0 < length → FitsTables self.new offset wanted.now length result }
     {
         let (kind, found) = self.look_up(offset, length)?;
         if found >= length && wanted.is(&kind) {
@@ -343,7 +343,7 @@ impl<S: Storage, F: WrappedFormat<S>> Qcow2<S, F> {
         ensures private { IsSome (table_of prepared.now) → result ≢ Err OutdatedMapping }
         ensures sees { Puts S.view F.backing self.old self.new prepared.now at bytes.now result }
         ensures held { refuses_mapping self.old (image_of prepared.now) ≡ None → table_of prepared.now ≡ None
-            → 0 < length bytes.now → HeedsHeld self.new (prepared.now.guest + at)
+            → 0 < length bytes.now → FitsTables self.new (prepared.now.guest + at)
             (Raw Image (prepared.now.offset + at) true) (length bytes.now) result }
         ensures freeing { ListStays self.old self.new }
         ensures once { PutsOnce S.view F.backing prepared.now at bytes.now self.old self.new result }
@@ -392,7 +392,7 @@ impl<S: Storage, F: WrappedFormat<S>> Qcow2<S, F> {
             → PutsPart S.view F.backing self.old self.new out k prepared.now at bytes.now result }
         ensures list { ListStays self.old self.new }
         ensures held { table_of prepared.now ≡ None → 0 < length bytes.now
-            → HeedsHeld self.new (prepared.now.guest + at) (Raw Image (prepared.now.offset + at) true)
+            → FitsTables self.new (prepared.now.guest + at) (Raw Image (prepared.now.offset + at) true)
             (length bytes.now) result }
         ensures once { PutsOnce S.view F.backing prepared.now at bytes.now self.old self.new result }
     {
@@ -430,7 +430,7 @@ impl<S: Storage, F: WrappedFormat<S>> Qcow2<S, F> {
             → OnOk result (IsFoundWhole S.view self.old (prepared.now.guest + at) (Raw Image host true) length) }
         ensures private { IsSome (table_of prepared.now) → result ≡ Ok tt }
         ensures held { table_of prepared.now ≡ None → 0 < length
-            → HeedsHeld self.new (prepared.now.guest + at) (Raw Image host true) length result }
+            → FitsTables self.new (prepared.now.guest + at) (Raw Image host true) length result }
         ensures idle { IsSome (table_of prepared.now) → self.new ≡ self.old }
     {
         if prepared.table.is_some() {

@@ -10,7 +10,7 @@ ghost use Rattle.std.specs.Prelude.{◌≤◌, [], ◌∷◌, ◌++◌, length, 
 ghost use Rattle.std.specs.Prelude.{IsSome, IsTrue, IsFalse, MatchOption, MatchResult, Ok, Err, None, false};
 ghost use Rattle.qcow2_metadata.specs.EntryTable.{entry_count};
 ghost use Rattle.qcow2_image.specs.Backings.{HasPinnedMapping};
-ghost use Rattle.qcow2_image.specs.MetAlone.{CopiesCompressed, KeepsL1Place, IsMetTaking};
+ghost use Rattle.qcow2_image.specs.MetAlone.{CopiesCompressed, KeepsL1Place, MayFailAllocating};
 ghost use Rattle.qcow2_metadata.specs.L2Mapping.{IsInReach, greatest_offset, named_run};
 ghost use Rattle.qcow2_disk.specs.Mappings.{is_copied_data};
 ghost use Rattle.qcow2_image.specs.Image.{HasNothingToFree, ImageStays, IsSameImage, KeepsRest, is_failed, is_writable};
@@ -169,7 +169,7 @@ impl<S: Storage, F: WrappedFormat<S>> Qcow2<S, F> {
         ensures late { refuses_to_prepare self.old offset length ≡ None → IfErr result IsMetPreparing }
         ensures met { refuses_to_prepare self.old offset length ≡ None → 0 < length → (out : List (Option Prepared))
             → (abstract_of S.view F.backing self.old out).is_sound
-            → IfErr result (IsMetTaking (HasPinnedMapping out)
+            → IfErr result (MayFailAllocating (HasPinnedMapping out)
             (IsTaken self.old.file.header.fields (known_in S.view self.old.file) offset length out)
             (CopiesCompressed offset length overwrite self.old.file.header.fields (known_in S.view self.old.file))
             (NeedsOverflowingL1Entry self.old offset)) }

@@ -6,7 +6,7 @@ ghost use Rattle.std.specs.Prelude.{replicate, slice_get, slice_set, None, Ok, S
 ghost use Rattle.qcow2_alloc.specs.ImageFile.{known_in};
 ghost use Rattle.qcow2_image.specs.Backings.{HasPinnedMapping};
 ghost use Rattle.qcow2_alloc.specs.ImageError.{IsFault};
-ghost use Rattle.qcow2_image.specs.MetAlone.{HasCompressedIn, HasNearEntries, IsMetGrowing, IsMetTaking};
+ghost use Rattle.qcow2_image.specs.MetAlone.{HasCompressedIn, HasNearEntries, IsMetGrowing, MayFailAllocating};
 ghost use Rattle.image_access.specs.declared.storage.PreallocateMode.TheVariants.{None as PreallocateNone, Zero};
 ghost use Rattle.qcow2_metadata.specs.Header.{cluster_size, rounded_up as rounded_up_to};
 ghost use Rattle.image_access.specs.Contents.{zeroed};
@@ -167,7 +167,7 @@ impl<S: Storage, F: WrappedFormat<S>> Qcow2<S, F> {
         ensures met { (out : List (Option Prepared))
             → ImageInvariant S.view F.backing (pending_in S.view F.backing self.old out) self.old out → old ≤ size
             → HasNearEntries (rounded_up_to (cluster_size self.old.file.header.fields) size) self.old.file.header.fields
-            → IfErr result (IsMetTaking (HasPinnedMapping out) (HasPinnedMapping out)
+            → IfErr result (MayFailAllocating (HasPinnedMapping out) (HasPinnedMapping out)
             (HasCompressedIn old (rounded_up_to
             (cluster_size self.old.file.header.fields) size) self.old.file.header.fields
             (known_in S.view self.old.file)) ⊥) }
@@ -192,7 +192,7 @@ impl<S: Storage, F: WrappedFormat<S>> Qcow2<S, F> {
             → ImageInvariant S.view F.backing (pending_in S.view F.backing self.old out) self.old out → old ≤ size
             → 3 ≤ self.old.file.header.fields.version
             → HasNearEntries (rounded_up_to (cluster_size self.old.file.header.fields) size) self.old.file.header.fields
-            → IfErr result (IsMetTaking (HasPinnedMapping out) (HasPinnedMapping out)
+            → IfErr result (MayFailAllocating (HasPinnedMapping out) (HasPinnedMapping out)
             (HasCompressedIn old (rounded_up_to
             (cluster_size self.old.file.header.fields) old) self.old.file.header.fields
             (known_in S.view self.old.file)) ⊥) }
@@ -226,7 +226,7 @@ impl<S: Storage, F: WrappedFormat<S>> Qcow2<S, F> {
             → from ≤ end → IsWholeRange self.old.file.header.fields from end → 3 ≤ self.old.file.header.fields.version
             → FillsPart (FillsOrRefuses S.view F.backing from old end self.old self.new out result)
             (HasNearEntries end self.old.file.header.fields
-            → IfErr result (IsMetTaking (HasPinnedMapping out) (HasPinnedMapping out)
+            → IfErr result (MayFailAllocating (HasPinnedMapping out) (HasPinnedMapping out)
             (HasCompressedIn old from self.old.file.header.fields (known_in S.view self.old.file)) ⊥)) }
         ensures emptied { HasNothingToFree self.old → OnOk result (HasNothingToFree self.new) }
     {
@@ -245,7 +245,7 @@ impl<S: Storage, F: WrappedFormat<S>> Qcow2<S, F> {
             → IsWholeRange self.old.file.header.fields from to → 3 ≤ self.old.file.header.fields.version
             → FillsPart (FillsOrRefuses S.view F.backing 0 from to self.old self.new out result)
             (HasNearEntries to self.old.file.header.fields
-            → IfErr result (IsMetTaking (HasPinnedMapping out) (HasPinnedMapping out) ⊥ ⊥)) }
+            → IfErr result (MayFailAllocating (HasPinnedMapping out) (HasPinnedMapping out) ⊥ ⊥)) }
         ensures emptied { HasNothingToFree self.old → OnOk result (HasNothingToFree self.new) }
     {
         let mut at = from;
@@ -265,7 +265,7 @@ impl<S: Storage, F: WrappedFormat<S>> Qcow2<S, F> {
             → IsWholeRange self.old.file.header.fields from to → 3 ≤ self.old.file.header.fields.version
             → FillsPart (FillsFirst S.view F.backing 0 from to self.old self.new out result)
             (HasNearEntries to self.old.file.header.fields
-            → IfErr result (IsMetTaking (HasPinnedMapping out) (HasPinnedMapping out) ⊥ ⊥)) }
+            → IfErr result (MayFailAllocating (HasPinnedMapping out) (HasPinnedMapping out) ⊥ ⊥)) }
         ensures emptied { HasNothingToFree self.old → OnOk result (HasNothingToFree self.new) }
         ensures next { IfOk result (λ next. (from ≤ next) × (from < to → from < next) × (next ≤ max from to)) }
         ensures whole { (out : List (Option Prepared))
@@ -294,7 +294,7 @@ impl<S: Storage, F: WrappedFormat<S>> Qcow2<S, F> {
             → to % cluster_size self.old.file.header.fields ≡ 0
             → FillsPart (FillsOrRefuses S.view F.backing to from to self.old self.new out result)
             (HasNearEntries to self.old.file.header.fields
-            → IfErr result (IsMetTaking (HasPinnedMapping out) (HasPinnedMapping out)
+            → IfErr result (MayFailAllocating (HasPinnedMapping out) (HasPinnedMapping out)
             (HasCompressedIn from to self.old.file.header.fields (known_in S.view self.old.file)) ⊥)) }
         ensures emptied { HasNothingToFree self.old → OnOk result (HasNothingToFree self.new) }
     {
@@ -318,7 +318,7 @@ impl<S: Storage, F: WrappedFormat<S>> Qcow2<S, F> {
             → FillsPart (to % cluster_size self.old.file.header.fields ≡ 0
             → FillsFirst S.view F.backing to from to self.old self.new out result)
             (to % cluster_size self.old.file.header.fields ≡ 0 → HasNearEntries to self.old.file.header.fields
-            → IfErr result (IsMetTaking (HasPinnedMapping out) (HasPinnedMapping out)
+            → IfErr result (MayFailAllocating (HasPinnedMapping out) (HasPinnedMapping out)
             (HasCompressedIn from to self.old.file.header.fields (known_in S.view self.old.file)) ⊥)) }
         ensures emptied { HasNothingToFree self.old → OnOk result (HasNothingToFree self.new) }
         ensures next { IfOk result (λ next. (from < next) × (next ≤ to)) }

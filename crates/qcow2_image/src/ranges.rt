@@ -4,7 +4,7 @@ ghost use Rattle.qcow2_image.specs.SoundParts.{BehindSoundly, FillsSoundly, Rest
 ghost use Rattle.qcow2_image.specs.ImageSteps.{ImageFails, ImageStep};
 ghost use Rattle.std.specs.Prelude.{ℕ, List, Option, ◌≡◌, ◌≢◌, ◌+◌, ◌-◌, ◌*◌, ◌%◌, ◌<◌, min, true, Some, None, Ok};
 ghost use Rattle.std.specs.Prelude.{slice_get, vec_len, vec_capacity, IfOk, IfErr, IsTrue, IsSome, ◌/◌};
-ghost use Rattle.qcow2_image.specs.MetAlone.{IsCopiedCompressed, IsMetAlone};
+ghost use Rattle.qcow2_image.specs.MetAlone.{IsCopiedCompressed, MayFailAlone};
 ghost use Rattle.qcow2_metadata.specs.L2Mapping.{IsHostCluster, IsInReach};
 ghost use Rattle.qcow2_metadata.specs.Header.{cluster_size};
 ghost use Rattle.qcow2_disk.specs.Found.{rest_of_table};
@@ -158,7 +158,8 @@ impl<S: Storage, F: WrappedFormat<S>> Qcow2<S, F> {
         ensures header { KeepsHeader self.old.file.header self.new.file.header }
         ensures met { (p : Pending) (out : List (Option Prepared)) → ImageInvariant S.view F.backing p self.old out
             → HoldsAll S.view F.backing p out → host % cluster_size self.old.file.header.fields ≡ 0
-            → IfErr result (IsMetAlone (IsCopiedCompressed self.old.file.header.fields old.now offset length overwrite)
+            → IfErr result (MayFailAlone
+            (IsCopiedCompressed self.old.file.header.fields old.now offset length overwrite)
             ⊥) }
         ensures limit { (p : Pending) (out : List (Option Prepared)) → ImageInvariant S.view F.backing p self.old out
             → HoldsAll S.view F.backing p out → IfLimit result (IsLimitedTaking S.view F.backing p 1 self.old out) }

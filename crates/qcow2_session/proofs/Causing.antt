@@ -18,7 +18,7 @@ use Rattle.qcow2_image.specs.Image.{is_external, is_failed, number_of}
 use Rattle.qcow2_image.specs.ImageInvariant.{abstract_of}
 use Rattle.qcow2_image.proofs.Prepare.MetTaking.{taking_as}
 use Rattle.qcow2_image.specs.Backings.{HasPinnedMapping}
-use Rattle.qcow2_image.specs.MetAlone.{CopiesCompressed, IsMetAlone, IsMetReadingRange, IsMetTaking}
+use Rattle.qcow2_image.specs.MetAlone.{CopiesCompressed, MayFailAlone, IsMetReadingRange, MayFailAllocating}
 use Rattle.qcow2_image.specs.declared.image.Qcow2.{Qcow2}
 use Rattle.qcow2_image.specs.declared.mapping.Mapping.{Mapping}
 use Rattle.qcow2_image.specs.declared.prepared.CommitRefused.{CommitRefused}
@@ -27,10 +27,10 @@ use Rattle.qcow2_image.specs.declared.prepared.Prepared.{Prepared}
 use Rattle.qcow2_image.specs.Preallocation.{IsUnderMappingIn}
 use Rattle.qcow2_image.specs.Prepared.{IsHandedBackBy}
 use Rattle.qcow2_image.specs.Refusals.{IsMet, IsMetPreparing, passes, refuse_if, refuses_mapping, refuses_to_prepare, refuses_to_read, unusable}
-use Rattle.qcow2_session.specs.Causes.{HasNothingToDo, MeetsOnSound, IsRightlyRefused, IsUntouchedUnder, MayMeet, TellsMisuse, first_cause, MeetsClearing, MeetsTaking}
+use Rattle.qcow2_session.specs.Causes.{HasNothingToDo, MayFailOnSound, RefusalJustified, IsUntouchedUnder, MayFailWith, TellsMisuse, first_cause, MeetsClearing, MeetsTaking}
 use Rattle.qcow2_session.specs.Commands.{reply_of_clearing}
 use Rattle.qcow2_session.specs.CountedFaults.{refusal_in}
-use Rattle.qcow2_session.specs.Sessions.{HeedsMappings, IsOfReading, NeedsOverflowingToWrite}
+use Rattle.qcow2_session.specs.Sessions.{RespectsMappings, IsOfReading, NeedsOverflowingToWrite}
 use Rattle.qcow2_disk.specs.Mappings.{given_of}
 use Rattle.qcow2_image.specs.Limits.{IsLimited}
 use Rattle.qcow2_session.specs.declared.session.Command.{Command}
@@ -80,7 +80,7 @@ mapping_reading A X image e early late = by (is_failed image) (is_external image
 
 module _ {S F : Type 0} (view : S → StorageView) (backing : F → BackingView) (old new : Qcow2 S F) (before : List (Option Prepared)) {found : ℕ → Option Mapping} (command : Command) where
   -- nothing was called
-  pub is_misused : TellsMisuse before found command R.Misuse → new ≡ old → MeetsOnSound view backing old new before found command R.Misuse → IsRightlyRefused view backing old new before found command R.Misuse
+  pub is_misused : TellsMisuse before found command R.Misuse → new ≡ old → MayFailOnSound view backing old new before found command R.Misuse → RefusalJustified view backing old new before found command R.Misuse
   is_misused misuse same heeds = record {
     misuse = misuse;
     still = λ _. same;
@@ -93,31 +93,31 @@ module _ {S F : Type 0} (view : S → StorageView) (backing : F → BackingView)
 
   -- it was answered, so nothing refused it at once
   pub is_done : (reply : Reply) → (reply ≡ R.Misuse → ⊥) → TellsMisuse before found command reply → refusal_in reply ≡ None → IfSome (first_cause old command) (λ e. ⊥)
-      → (first_cause old command ≡ None → (abstract_of view backing old before).is_sound → MeetsOnSound view backing old new before found command reply) → IsRightlyRefused view backing old new before found command reply
+      → (first_cause old command ≡ None → (abstract_of view backing old before).is_sound → MayFailOnSound view backing old new before found command reply) → RefusalJustified view backing old new before found command reply
   is_done reply never misuse done early heeds = record {
     misuse = misuse;
     still = λ is. absurd (never is);
     early = if_some_to (first_cause old command) (λ e no. absurd no) early;
-    late = λ _. subst (λ o. IfSome o (MayMeet command)) (sym done) tt;
+    late = λ _. subst (λ o. IfSome o (MayFailWith command)) (sym done) tt;
     met = λ _ _. subst (λ o. IfSome o (MeetsTaking view old new before command)) (sym done) tt;
     idle = λ _ _. done;
     heeds = heeds;
   }
 
   pub is_answered : {A : Type 0} (Same : Type 0) (a : A) (reply : Reply) → (reply ≡ R.Misuse → ⊥) → TellsMisuse before found command reply → refusal_in reply ≡ None → IfSome (first_cause old command) (λ e. (◌≡◌ {A = Result A ImageError} (Ok a) (Err e)) × Same)
-      → (first_cause old command ≡ None → (abstract_of view backing old before).is_sound → MeetsOnSound view backing old new before found command reply) → IsRightlyRefused view backing old new before found command reply
+      → (first_cause old command ≡ None → (abstract_of view backing old before).is_sound → MayFailOnSound view backing old new before found command reply) → RefusalJustified view backing old new before found command reply
   is_answered Same a reply never misuse done early heeds = is_done reply never misuse done (if_some_to (first_cause old command) (λ e no. let is = no.0 in cc) early) heeds
 
   -- it was refused
   pub is_refused : (e : ImageError) (reply : Reply) → (reply ≡ R.Misuse → ⊥) → TellsMisuse before found command reply → refusal_in reply ≡ Some e → IfSome (first_cause old command) (λ x. (e ≡ x) × (new ≡ old))
-      → (first_cause old command ≡ None → MayMeet command e) → (first_cause old command ≡ None → (abstract_of view backing old before).is_sound → MeetsTaking view old new before command e)
+      → (first_cause old command ≡ None → MayFailWith command e) → (first_cause old command ≡ None → (abstract_of view backing old before).is_sound → MeetsTaking view old new before command e)
       → (first_cause old command ≡ None → HasNothingToDo view backing old new before command → ⊥)
-      → (first_cause old command ≡ None → (abstract_of view backing old before).is_sound → MeetsOnSound view backing old new before found command reply) → IsRightlyRefused view backing old new before found command reply
+      → (first_cause old command ≡ None → (abstract_of view backing old before).is_sound → MayFailOnSound view backing old new before found command reply) → RefusalJustified view backing old new before found command reply
   is_refused e reply never misuse is early late met idle heeds = record {
     misuse = misuse;
     still = λ is. absurd (never is);
     early = if_some_to (first_cause old command) (λ x h. (inl (is ∙ ap Some h.0), h.1)) early;
-    late = λ none. subst (λ o. IfSome o (MayMeet command)) (sym is) (late none);
+    late = λ none. subst (λ o. IfSome o (MayFailWith command)) (sym is) (late none);
     met = λ none sound. subst (λ o. IfSome o (MeetsTaking view old new before command)) (sym is) (met none sound);
     idle = λ none nothing. absurd (idle none nothing);
     heeds = heeds;
@@ -137,7 +137,7 @@ fits_below size offset n fits some = elim (cases_lt offset size) [
 -- ---- reads and writes
 
 -- what is met alone is 20 only for its cause
-far_alone : {C D : Type 0} (e : ImageError) → IsMetAlone C D e → e ≡ I.Overflow → D
+far_alone : {C D : Type 0} (e : ImageError) → MayFailAlone C D e → e ≡ I.Overflow → D
 far_alone e (inl (inl (inl fault))) is = absurd cc
 far_alone e (inl (inl (inr fault))) is = absurd cc
 far_alone e (inl (inr limit)) is = absurd cc
@@ -145,41 +145,41 @@ far_alone e (inr (inl compressed)) is = absurd (let why = compressed.0 in cc)
 far_alone e (inr (inr far)) is = far.1
 
 -- so it is of what taking clusters meets
-far_taking : {H K C D : Type 0} (e : ImageError) → IsMetTaking H K C D e → e ≡ I.Overflow → D
+far_taking : {H K C D : Type 0} (e : ImageError) → MayFailAllocating H K C D e → e ≡ I.Overflow → D
 far_taking e (inl alone) is = far_alone e alone is
 far_taking e (inr (inl used)) is = absurd (let why = used.0 in cc)
 far_taking e (inr (inr kept)) is = absurd (let why = kept.0 in cc)
 
 module _ {S F : Type 0} (view : S → StorageView) (backing : F → BackingView) (old new : Qcow2 S F) (before : List (Option Prepared)) {found : ℕ → Option Mapping} where
-  pub read_answered : (Same : Type 0) (offset n : ℕ) (bytes : Vec ℕ Global) → IfSome (refuses_to_read old offset n) (λ x. (◌≡◌ {A = Result (Vec ℕ Global) ImageError} (Ok bytes) (Err x)) × Same) → IsRightlyRefused view backing old new before found (C.Read offset n) (R.Bytes bytes)
+  pub read_answered : (Same : Type 0) (offset n : ℕ) (bytes : Vec ℕ Global) → IfSome (refuses_to_read old offset n) (λ x. (◌≡◌ {A = Result (Vec ℕ Global) ImageError} (Ok bytes) (Err x)) × Same) → RefusalJustified view backing old new before found (C.Read offset n) (R.Bytes bytes)
   read_answered Same offset n bytes early = is_answered view backing old new before (C.Read offset n) Same bytes (R.Bytes bytes) (λ is. absurd cc) (λ is. absurd cc, λ is. absurd is) refl early (λ _ _. tt)
 
   pub read_refused : (offset n : ℕ) (e : ImageError) → IfSome (refuses_to_read old offset n) (λ x. (◌≡◌ {A = Result (Vec ℕ Global) ImageError} (Err e) (Err x)) × (new ≡ old)) → (refuses_to_read old offset n ≡ None → IsMet e × (0 < n))
       → (refuses_to_read old offset n ≡ None → (out : List (Option Prepared)) → (abstract_of view backing old out).is_sound → IsMetReadingRange out offset (offset + n) old.file.header.fields (known_in view old.file) e)
-      → IsRightlyRefused view backing old new before found (C.Read offset n) (R.Refused e)
+      → RefusalJustified view backing old new before found (C.Read offset n) (R.Refused e)
   read_refused offset n e early late met =
       is_refused view backing old new before (C.Read offset n) e (R.Refused e) (λ is. absurd cc) (λ is. absurd cc, λ is. absurd is) refl (begun_with (Vec ℕ Global) (new ≡ old) e (refuses_to_read old offset n) early)
       (λ none. (late none).0) (λ _ _. tt) (λ none empty. let some = (late none).1 in omega (arith, some, empty)) (λ none sound. met none before sound)
 
   pub write_answered : (Same : Type 0) (offset : ℕ) (bytes : Vec ℕ Global) → IfSome (refuses_to_prepare old offset (length bytes.items)) (λ x. (◌≡◌ {A = Result (Unit {0}) (ImageError × ℕ)} (Ok tt) (Err (x, 0))) × Same)
-      → (refuses_to_prepare old offset (length bytes.items) ≡ None → (abstract_of view backing old before).is_sound → HeedsMappings view backing old before offset bytes.items (Ok tt)) → IsRightlyRefused view backing old new before found (C.Write offset bytes) R.Done
+      → (refuses_to_prepare old offset (length bytes.items) ≡ None → (abstract_of view backing old before).is_sound → RespectsMappings view backing old before offset bytes.items (Ok tt)) → RefusalJustified view backing old new before found (C.Write offset bytes) R.Done
   write_answered Same offset bytes early part = is_done view backing old new before (C.Write offset bytes) R.Done (λ is. absurd cc) (λ is. absurd cc, λ is. absurd is) refl
       (if_some_to (refuses_to_prepare old offset (length bytes.items)) (λ e no. let is = no.0 in cc) early) (λ none sound. (λ is. absurd cc, part none sound))
 
   pub write_refused_for : (offset : ℕ) (bytes : Vec ℕ Global) (e : ImageError) (n : ℕ) → IfSome (refuses_to_prepare old offset (length bytes.items)) (λ x. (◌≡◌ {A = Result (Unit {0}) (ImageError × ℕ)} (Err (e, n)) (Err (x, 0))) × (new ≡ old))
       → (refuses_to_prepare old offset (length bytes.items) ≡ None → IsMetPreparing e × (0 < length bytes.items))
-      → (refuses_to_prepare old offset (length bytes.items) ≡ None → (abstract_of view backing old before).is_sound → IsMetTaking (HasPinnedMapping before) (IsUnderMappingIn old.file.header.fields offset (offset + length bytes.items) before) (CopiesCompressed offset (length bytes.items) true new.file.header.fields (known_in view new.file)) (NeedsOverflowingToWrite view backing old offset bytes.items n) e)
+      → (refuses_to_prepare old offset (length bytes.items) ≡ None → (abstract_of view backing old before).is_sound → MayFailAllocating (HasPinnedMapping before) (IsUnderMappingIn old.file.header.fields offset (offset + length bytes.items) before) (CopiesCompressed offset (length bytes.items) true new.file.header.fields (known_in view new.file)) (NeedsOverflowingToWrite view backing old offset bytes.items n) e)
       → (refuses_to_prepare old offset (length bytes.items) ≡ None → (abstract_of view backing old before).is_sound → e ≡ I.TablePrepared → IsUnderMappingIn old.file.header.fields offset (offset + length bytes.items) before)
       → (refuses_to_prepare old offset (length bytes.items) ≡ None → (abstract_of view backing old before).is_sound → e ≡ I.Limit → IsLimited view backing (given_of offset bytes.items ∷ []) (offset + length bytes.items) old before)
-      → (refuses_to_prepare old offset (length bytes.items) ≡ None → (abstract_of view backing old before).is_sound → HeedsMappings view backing old before offset bytes.items (Err (e, n)))
-      → IsRightlyRefused view backing old new before found (C.Write offset bytes) (R.WriteRefused e n)
+      → (refuses_to_prepare old offset (length bytes.items) ≡ None → (abstract_of view backing old before).is_sound → RespectsMappings view backing old before offset bytes.items (Err (e, n)))
+      → RefusalJustified view backing old new before found (C.Write offset bytes) (R.WriteRefused e n)
   write_refused_for offset bytes e n early late met taken limit part = is_refused view backing old new before (C.Write offset bytes) e (R.WriteRefused e n) (λ is. absurd cc) (λ is. absurd cc, λ is. absurd is) refl
       (if_some_to (refuses_to_prepare old offset (length bytes.items)) (λ x h. (let is = h.0 in let pair : (e, n) ≡ (x, 0) = same_error is in ap (λ (p : ImageError × ℕ). p.0) pair, h.1)) early) (λ none. (late none).0) (λ none sound. taking_as (λ held. held) (λ kept. kept) (λ is. is) (λ far. tt) e (met none sound)) (λ none empty. let some = (late none).1 in omega (arith, some, empty)) (λ none sound. (λ is. taken none sound (some_error is), (limit none sound, part none sound, far_taking e (met none sound))))
 
-  pub size_answered : (n : ℕ) → IsRightlyRefused view backing old new before found C.Size (R.Size n)
+  pub size_answered : (n : ℕ) → RefusalJustified view backing old new before found C.Size (R.Size n)
   size_answered n = is_done view backing old new before C.Size (R.Size n) (λ is. absurd cc) (λ is. absurd cc, λ is. absurd is) refl tt (λ _ _. tt)
 
-  pub leaks_answered : (n : ℕ) → IsRightlyRefused view backing old new before found C.Leaked (R.Leaked n)
+  pub leaks_answered : (n : ℕ) → RefusalJustified view backing old new before found C.Leaked (R.Leaked n)
   leaks_answered n = is_done view backing old new before C.Leaked (R.Leaked n) (λ is. absurd cc) (λ is. absurd cc, λ is. absurd is) refl tt (λ _ _. tt)
 
 -- ---- mappings of the image
@@ -281,12 +281,12 @@ grow_meets e old size takes none larger (inr mode) = absurd (elim (cases_lt old 
 
 module _ {S F : Type 0} (view : S → StorageView) (backing : F → BackingView) (old new : Qcow2 S F) (before : List (Option Prepared)) {found : ℕ → Option Mapping} (offset n : ℕ) (how : Clearing) (command : Command)
     (cause : first_cause old command ≡ refuses_clearing old offset n how) (nothing : HasNothingToDo view backing old new before command → to_in old offset n ≤ from_in old offset n)
-    (may : (e : ImageError) → IsMetPreparing e → MayMeet command e) (taking : (e : ImageError) → MeetsClearing view old new before offset n e → MeetsTaking view old new before command e) (heed : (reply : Reply) → IsUntouchedUnder view backing old new before offset n reply → MeetsOnSound view backing old new before found command reply)
+    (may : (e : ImageError) → IsMetPreparing e → MayFailWith command e) (taking : (e : ImageError) → MeetsClearing view old new before offset n e → MeetsTaking view old new before command e) (heed : (reply : Reply) → IsUntouchedUnder view backing old new before offset n reply → MayFailOnSound view backing old new before found command reply)
     (misuse : (reply : Reply) → (reply ≡ R.Misuse → ⊥) → TellsMisuse before found command reply) where
   clears_as : (r : Result (ℕ × ℕ) ImageError) → IfSome (refuses_clearing old offset n how) (λ e. (r ≡ Err e) × (new ≡ old)) → (refuses_clearing old offset n how ≡ None → IfErr r IsMetPreparing) → (refuses_clearing old offset n how ≡ None → (abstract_of view backing old before).is_sound → IfErr r (MeetsClearing view old new before offset n))
       → (refuses_clearing old offset n how ≡ None → to_in old offset n ≤ from_in old offset n → (r ≡ Ok (from_in old offset n, 0)) × (new ≡ old))
       → (refuses_clearing old offset n how ≡ None → from_in old offset n < to_in old offset n → (abstract_of view backing old before).is_sound → IfErr r (λ e. e ≡ I.TablePrepared → IsUnderMapping old.file.header.fields (from_in old offset n) before) × IfOk r (λ range. ¬ IsUnderMapping old.file.header.fields (from_in old offset n) before))
-      → IsRightlyRefused view backing old new before found command (reply_of_clearing r)
+      → RefusalJustified view backing old new before found command (reply_of_clearing r)
   clears_as (Ok range) early late met idle under =
       is_answered view backing old new before command (new ≡ old) range (R.Range range.0 range.1) (λ is. absurd cc) (misuse (R.Range range.0 range.1) (λ is. absurd cc)) refl (subst (λ o. IfSome o (λ e. (◌≡◌ {A = Result (ℕ × ℕ) ImageError} (Ok range) (Err e)) × (new ≡ old))) (sym cause) early)
       (λ none sound. heed (R.Range range.0 range.1) (λ some is. (under (sym cause ∙ none) some sound).1 is))
@@ -299,5 +299,5 @@ module _ {S F : Type 0} (view : S → StorageView) (backing : F → BackingView)
   pub clears_rightly : (r : Result (ℕ × ℕ) ImageError) (reply : Reply) → reply ≡ reply_of_clearing r → IfSome (refuses_clearing old offset n how) (λ e. (r ≡ Err e) × (new ≡ old)) → (refuses_clearing old offset n how ≡ None → IfErr r IsMetPreparing) → (refuses_clearing old offset n how ≡ None → (abstract_of view backing old before).is_sound → IfErr r (MeetsClearing view old new before offset n))
       → (refuses_clearing old offset n how ≡ None → to_in old offset n ≤ from_in old offset n → (r ≡ Ok (from_in old offset n, 0)) × (new ≡ old))
       → (refuses_clearing old offset n how ≡ None → from_in old offset n < to_in old offset n → (abstract_of view backing old before).is_sound → IfErr r (λ e. e ≡ I.TablePrepared → IsUnderMapping old.file.header.fields (from_in old offset n) before) × IfOk r (λ range. ¬ IsUnderMapping old.file.header.fields (from_in old offset n) before))
-      → IsRightlyRefused view backing old new before found command reply
-  clears_rightly r reply is early late met idle under = subst (λ q. IsRightlyRefused view backing old new before found command q) (sym is) (clears_as r early late met idle under)
+      → RefusalJustified view backing old new before found command reply
+  clears_rightly r reply is early late met idle under = subst (λ q. RefusalJustified view backing old new before found command q) (sym is) (clears_as r early late met idle under)

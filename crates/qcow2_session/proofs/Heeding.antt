@@ -12,14 +12,14 @@ use Rattle.qcow2_image.specs.Found.{l1_index_of}
 use Rattle.qcow2_image.specs.Preparing.{IsTaken}
 use Rattle.qcow2_image.specs.declared.image.Qcow2.{Qcow2}
 use Rattle.qcow2_image.specs.declared.prepared.Prepared.{Prepared}
-use Rattle.qcow2_session.specs.Sessions.{HeedsFirst, IsHeededAt, Writes}
+use Rattle.qcow2_session.specs.Sessions.{RespectsFirst, IsRespectedAt, Writes}
 use Rattle.qcow2_session.proofs.Copied.{same_index}
 use Rattle.qcow2_session.proofs.WrittenParts.{writes_none}
 
 module _ {S F : Type 0} (view : S → StorageView) (backing : F → BackingView) (old : Qcow2 S F) (out : List (Option Prepared)) (offset : ℕ) (bytes : List ℕ) where
   -- one part more, behind the bytes that are written
   pub heeded_more : (done count at : ℕ) (before : Qcow2 S F) → at ≡ offset + done → cluster_size before.file.header.fields ≡ cluster_size old.file.header.fields → Writes view backing old before offset (take done bytes) (Ok tt) → (done ≡ 0 → before ≡ old)
-      → 0 < length (drop done bytes) → HeedsFirst view backing before out at (length (drop done bytes)) (Ok count) → ((i : ℕ) → i < done → IsHeededAt view backing old out offset bytes i) → (i : ℕ) → i < done + count → IsHeededAt view backing old out offset bytes i
+      → 0 < length (drop done bytes) → RespectsFirst view backing before out at (length (drop done bytes)) (Ok count) → ((i : ℕ) → i < done → IsRespectedAt view backing old out offset bytes i) → (i : ℕ) → i < done + count → IsRespectedAt view backing old out offset bytes i
   heeded_more done count at before there size written begun some heeds so_far i lt = elim (cases_lt i done) [
     | inl earlier ↦ so_far i earlier
     | inr here ↦
@@ -44,6 +44,6 @@ module _ {S F : Type 0} (view : S → StorageView) (backing : F → BackingView)
   ]
 
   -- the first part
-  pub heeded_first : (count : ℕ) → count ≤ length bytes → HeedsFirst view backing old out offset (length bytes) (Ok count) → (i : ℕ) → i < count → IsHeededAt view backing old out offset bytes i
+  pub heeded_first : (count : ℕ) → count ≤ length bytes → RespectsFirst view backing old out offset (length bytes) (Ok count) → (i : ℕ) → i < count → IsRespectedAt view backing old out offset bytes i
   heeded_first count within heeds i lt =
       heeded_more 0 count offset old (omega arith) refl (λ out. writes_none _ offset bytes) (λ none. refl) (omega (arith, within, lt)) heeds (λ k none. absurd (omega (arith, none))) i (omega (arith, lt))

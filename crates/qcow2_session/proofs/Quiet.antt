@@ -13,7 +13,7 @@ use Rattle.qcow2_image.specs.Unwritten.{ContentsStayThroughout, HoldsNothingModi
 use Rattle.qcow2_image.proofs.Map.Unmodified.{quiet_still}
 use Rattle.qcow2_image.proofs.Map.Quiet.{reads_none, reads_same, reads_aside}
 use Rattle.qcow2_alloc.proofs.KeptTables.AllWritten.{written_then}
-use Rattle.qcow2_session.specs.Told.{AreExisting, IsLeftQuietly, IsNeverWritten, IsToldAlong, RunPoint, StaysQuiet}
+use Rattle.qcow2_session.specs.Told.{AreExisting, IsLeftQuietly, IsNeverWritten, AreReportedAlong, RunPoint, StaysQuiet}
 use Rattle.qcow2_session.specs.declared.session.Command.{Command}
 use Rattle.qcow2_session.specs.declared.session.Reply.{Reply}
 
@@ -51,7 +51,7 @@ module _ {S F : Type 0} (view : S → StorageView) where
   -- commands, one after another
   module _ (backing : F → BackingView) where
     pub along_quietly : (first : RunPoint S F) (commands : List Command) (replies : List Reply) (points : List (RunPoint S F)) (last : RunPoint S F)
-        → IsToldAlong view backing first commands replies points last → is_writable first.image ≡ false → AreExisting first.prepared → ReadsQuietly view first.image last.image
+        → AreReportedAlong view backing first commands replies points last → is_writable first.image ≡ false → AreExisting first.prepared → ReadsQuietly view first.image last.image
     along_quietly first [] [] [] last along reading existing = subst (λ (p : RunPoint S F). ReadsQuietly view first.image p.image) (sym along) (reads_none view first.image)
     along_quietly first (command ∷ commands) (reply ∷ replies) (next ∷ points) last along reading existing =
         let left = along.0.quiet reading existing in

@@ -13,7 +13,7 @@ use Rattle.qcow2_image.specs.Backings.{HasPinnedMapping}
 use Rattle.qcow2_image.specs.Calls.{refusal_of}
 use Rattle.qcow2_image.specs.Image.{IsSameImage, is_failed, is_writable, size_of}
 use Rattle.qcow2_image.specs.ImageInvariant.{abstract_of}
-use Rattle.qcow2_image.specs.MetAlone.{CopiesCompressed, IsMetReadingRange, IsMetTaking}
+use Rattle.qcow2_image.specs.MetAlone.{CopiesCompressed, IsMetReadingRange, MayFailAllocating}
 use Rattle.qcow2_image.specs.Preallocation.{IsUnderMappingIn}
 use Rattle.qcow2_image.specs.Refusals.{IsMet, IsMetPreparing, passes, refuse_if, refuses_to_prepare, refuses_to_read, unusable}
 use Rattle.qcow2_image.specs.declared.image.Qcow2.{Qcow2}
@@ -114,13 +114,13 @@ module _ {S F : Type 0} (view : S → StorageView) (new : Qcow2 S F) where
   -- a write that was refused
   pub write_importing : {Far : Type 0} (out : List (Option Prepared)) (old mid : Qcow2 S F) → IsSameImage old mid → is_writable new ≡ is_writable mid → (at n : ℕ) → is_failed mid ≡ false → refuses_to_read old at n ≡ None → (e : ImageError) (k : ℕ) (X : Type 0)
       → IfSome (refuses_to_prepare mid at n) (λ x. (◌≡◌ {A = Result (Unit {0}) (ImageError × ℕ)} (Err (e, k)) (Err (x, 0))) × X)
-      → (refuses_to_prepare mid at n ≡ None → IsMetTaking (HasPinnedMapping out) (IsUnderMappingIn mid.file.header.fields at (at + n) out) (CopiesCompressed at n true new.file.header.fields (known_in view new.file)) Far e) → IsMetImporting view at (at + n) new out e
+      → (refuses_to_prepare mid at n ≡ None → MayFailAllocating (HasPinnedMapping out) (IsUnderMappingIn mid.file.header.fields at (at + n) out) (CopiesCompressed at n true new.file.header.fields (known_in view new.file)) Far e) → IsMetImporting view at (at + n) new out e
   write_importing {Far} out old mid same writable at n works none e k X early met = ⊎_elim
       (λ (closed : (e ≡ I.ReadOnly) × (is_writable mid ≡ false)). inr (inl (closed.0, writable ∙ closed.1)))
       (λ (free : refuses_to_prepare mid at n ≡ None). met_writing (met free))
       (early_or_late old mid same at n works none e k X early)
     where
-      met_writing : IsMetTaking (HasPinnedMapping out) (IsUnderMappingIn mid.file.header.fields at (at + n) out) (CopiesCompressed at n true new.file.header.fields (known_in view new.file)) Far e → IsMetImporting view at (at + n) new out e
+      met_writing : MayFailAllocating (HasPinnedMapping out) (IsUnderMappingIn mid.file.header.fields at (at + n) out) (CopiesCompressed at n true new.file.header.fields (known_in view new.file)) Far e → IsMetImporting view at (at + n) new out e
       met_writing (inl (inl limit)) = inl limit
       met_writing (inl (inr (inl compressed))) = let c = compressed.1 in inr (inr (inr (inl (compressed.0, record { guest = c.guest; touched = c.touched; is = c.is }))))
       met_writing (inl (inr (inr far))) = inr (inr (inl far.0))

@@ -14,7 +14,7 @@ use Rattle.qcow2_image.specs.ImageInvariant.{abstract_of, image_abstraction}
 use Rattle.qcow2_image.proofs.Free.{free_places}
 use Rattle.qcow2_session.specs.Commands.{command_of, reply_of}
 use Rattle.qcow2_session.specs.Sessions.{mappings_in, range_of}
-use Rattle.qcow2_session.specs.Told.{IsToldAlong, IsToldStep, KeepsItself, RunPoint, StepsAlong, abstract_at, first_point, free_slots}
+use Rattle.qcow2_session.specs.Told.{AreReportedAlong, IsReportedStep, KeepsItself, RunPoint, StepsAlong, abstract_at, first_point, free_slots}
 use Rattle.qcow2_session.specs.declared.session.Command.{Command}
 use Rattle.qcow2_session.specs.declared.session.Reply.{Reply}
 use Rattle.qcow2_session.proofs.Meanings.{step_found, found_same, ranges_after}
@@ -50,8 +50,8 @@ none_before (c ∷ commands) command none = let rest = none_before commands comm
 module _ {S F : Type 0} (view : S → StorageView) (backing : F → BackingView) where
   -- one command more
   told_push : (first : RunPoint S F) (commands : List Command) (replies : List Reply) (points : List (RunPoint S F)) (last : RunPoint S F) (command : Command) (reply : Reply) (next : RunPoint S F)
-      → IsToldAlong view backing first commands replies points last → IsToldStep view backing last next command reply → IsToldAlong view backing first (commands ++ command ∷ []) (replies ++ reply ∷ []) (points ++ next ∷ []) next
-  told_push first [] [] [] last command reply next same step = (subst (λ (p : RunPoint S F). IsToldStep view backing p next command reply) same step, refl)
+      → AreReportedAlong view backing first commands replies points last → IsReportedStep view backing last next command reply → AreReportedAlong view backing first (commands ++ command ∷ []) (replies ++ reply ∷ []) (points ++ next ∷ []) next
+  told_push first [] [] [] last command reply next same step = (subst (λ (p : RunPoint S F). IsReportedStep view backing p next command reply) same step, refl)
   told_push first (c ∷ commands) (r ∷ replies) (p ∷ points) last command reply next along step = (along.0, told_push p commands replies points last command reply next along.1 step)
   told_push first [] [] (p ∷ points) last command reply next along step = absurd along
   told_push first [] (r ∷ replies) points last command reply next along step = absurd along
@@ -59,7 +59,7 @@ module _ {S F : Type 0} (view : S → StorageView) (backing : F → BackingView)
   told_push first (c ∷ commands) (r ∷ replies) [] last command reply next along step = absurd along
 
   steps_push : (x : Setting) (first : RunPoint S F) (s : State) (commands : List Command) (replies : List Reply) (points : List (RunPoint S F)) (last : RunPoint S F) (t : State) (command : Command) (reply : Reply) (next : RunPoint S F)
-      → IsToldAlong view backing first commands replies points last → StepsAlong view backing x first s commands replies points t
+      → AreReportedAlong view backing first commands replies points last → StepsAlong view backing x first s commands replies points t
       → (step : RefinesCommand x (abstract_at view backing last) (abstract_at view backing next) t (command_of command) (reply_of reply))
       → StepsAlong view backing x first s (commands ++ command ∷ []) (replies ++ reply ∷ []) (points ++ next ∷ []) step.end
   steps_push x first s [] [] [] last t command reply next along same step =
@@ -81,7 +81,7 @@ module _ {S F : Type 0} (view : S → StorageView) (backing : F → BackingView)
   -- what was told so far
   pub record IsToldSoFar (old : Qcow2 S F) (last : RunPoint S F) (commands : List Command) (replies : List Reply) : Type 0 where
     pub points : List (RunPoint S F)
-    pub along : IsToldAlong view backing (first_point old) commands replies points last
+    pub along : AreReportedAlong view backing (first_point old) commands replies points last
     pub so_far : HasNoInvalidation (map command_of commands) → (x : Setting) (s : State) → RefinesState x (abstract_of view backing old []) s → StepsSoFar x (first_point old) last (begun s) commands replies points
 
   pub first_told : (image : Qcow2 S F) (out : List (Option Prepared)) (mappings : List (Option Mapping)) (replies : List Reply) → out ≡ free_slots → mappings ≡ replicate 256 None → replies ≡ []
@@ -101,7 +101,7 @@ module _ {S F : Type 0} (view : S → StorageView) (backing : F → BackingView)
         };
       })))
 
-  pub told_more : (old : Qcow2 S F) (last next : RunPoint S F) (commands : List Command) (replies : List Reply) (command : Command) (reply : Reply) → IsToldSoFar old last commands replies → IsToldStep view backing last next command reply
+  pub told_more : (old : Qcow2 S F) (last next : RunPoint S F) (commands : List Command) (replies : List Reply) (command : Command) (reply : Reply) → IsToldSoFar old last commands replies → IsReportedStep view backing last next command reply
       → (KeepsUnflushed (command_of command) → (x : Setting) (s : State) → RefinesState x (abstract_at view backing last) s → (s.is_failed ≡ false → (k : ℕ) → s.found k ≡ range_of (last.found k)) → RefinesCommand x (abstract_at view backing last) (abstract_at view backing next) s (command_of command) (reply_of reply))
       → IsToldSoFar old next (commands ++ command ∷ []) (replies ++ reply ∷ [])
   told_more old last next commands replies command reply told step command_step = record {

@@ -11,14 +11,14 @@ use Rattle.qcow2_image.specs.Faults.{CountsImageFaults, SameFaults}
 use Rattle.qcow2_image.specs.Image.{IsSameImage, KeepsWholeHeader, is_failed}
 use Rattle.qcow2_image.specs.L1Entries.{NeedsOverflowingL1Entry}
 use Rattle.qcow2_image.specs.Limits.{IfLimit, IsLimited}
-use Rattle.qcow2_image.specs.MetAlone.{CopiesCompressed, IsMetTaking}
+use Rattle.qcow2_image.specs.MetAlone.{CopiesCompressed, MayFailAllocating}
 use Rattle.qcow2_image.specs.Unwritten.{ReadsQuietly}
 use Rattle.qcow2_image.specs.declared.image.Qcow2.{Qcow2}
 use Rattle.qcow2_image.specs.declared.prepared.Prepared.{Prepared}
 use Rattle.qcow2_session.specs.Conversions.{IsLeft, IsUnchanged}
 use Rattle.qcow2_session.specs.CountedFaults.{CommandCounts, ConversionCounts, refusal_in}
 use Rattle.qcow2_session.specs.Marks.{MarksAtOnce, MarksInParts, reason_in}
-use Rattle.qcow2_session.specs.Sessions.{HeedsFirst}
+use Rattle.qcow2_session.specs.Sessions.{RespectsFirst}
 use Rattle.qcow2_session.specs.Told.{StaysQuiet}
 use Rattle.qcow2_session.specs.declared.session.Reply.{Reply}
 
@@ -47,8 +47,8 @@ module _ {S F : Type 0} (view : S → StorageView) (backing : F → BackingView)
 
   -- The first bytes of a range are written to a sound image. A refusal has its cause. It is refused 9, and succeeds, only as the prepared mappings allow, and refused 13 only if a limit was passed.
   pub record WritesSoundly (offset n : ℕ) (out : List (Option Prepared)) (result : Result ℕ ImageError) : Type 0 where
-    pub met : IfErr result (IsMetTaking (HasPinnedMapping out) (IsUnderMapping old.file.header.fields offset out) (CopiesCompressed offset n true new.file.header.fields (known_in view new.file)) (NeedsOverflowingL1Entry old offset))
-    pub taken : HeedsFirst view backing old out offset n result
+    pub met : IfErr result (MayFailAllocating (HasPinnedMapping out) (IsUnderMapping old.file.header.fields offset out) (CopiesCompressed offset n true new.file.header.fields (known_in view new.file)) (NeedsOverflowingL1Entry old offset))
+    pub taken : RespectsFirst view backing old out offset n result
     pub limit : IfLimit result (IsLimited view backing [] (offset + n) old out)
 
   module _ {T : Type 0} (result : Result T ImageError) where

@@ -19,7 +19,7 @@ use Rattle.qcow2_image.specs.Image.{is_failed, is_writable, size_of}
 use Rattle.qcow2_image.specs.ImageInvariant.{abstract_of}
 use Rattle.qcow2_image.specs.Invalidated.{IsOfPrepared, IsStillInUse}
 use Rattle.qcow2_image.specs.L1Entries.{NeedsOverflowingL1Entry}
-use Rattle.qcow2_image.specs.MetAlone.{CopiesCompressed, IsCacheHeld, IsMetLooking, IsMetMapped, IsMetPutting, IsMetReadingRange, IsMetSpecial, IsMetGrowing, IsMetTaking}
+use Rattle.qcow2_image.specs.MetAlone.{CopiesCompressed, IsCacheHeld, IsMetLooking, IsMetMapped, IsMetPutting, IsMetReadingRange, IsMetSpecial, IsMetGrowing, MayFailAllocating}
 use Rattle.qcow2_image.specs.Preallocation.{IsUnderMappingIn}
 use Rattle.qcow2_image.specs.Prepared.{length_of, table_of}
 use Rattle.qcow2_image.specs.Preparing.{IsTaken}
@@ -33,7 +33,7 @@ use Rattle.qcow2_image.specs.declared.prepared.Prepared.{Prepared}
 use Rattle.qcow2_session.specs.CountedFaults.{refusal_in}
 use Rattle.qcow2_disk.specs.Mappings.{given_of}
 use Rattle.qcow2_image.specs.Limits.{IsLimited}
-use Rattle.qcow2_session.specs.Sessions.{HeedsMappings, NeedsOverflowingToWrite}
+use Rattle.qcow2_session.specs.Sessions.{RespectsMappings, NeedsOverflowingToWrite}
 use Rattle.qcow2_session.specs.declared.session.Command.{Command}
 use Rattle.qcow2_session.specs.declared.session.Reply.{Reply}
 
@@ -88,36 +88,36 @@ TellsMisuse before found command reply = (reply ≡ R.Misuse) ↔ IsMisused befo
 -- ---- during the work
 
 -- The refusals of a command that no check refused.
-abbrev pub MayMeet : Command → ImageError → Type 0
-MayMeet (C.Write offset bytes) e = IsMetPreparing e
-MayMeet (C.GetMapping slot offset max) e = IsOfTables e
-MayMeet (C.PrepareDataMapping slot offset n overwrite) e = IsMetPreparing e
-MayMeet (C.CommitDataMapping slot) e = IsOfTables e
-MayMeet (C.DiscardDataMapping slot) e = ⊥
-MayMeet (C.EnsureZeroMapping offset n) e = IsMetPreparing e
-MayMeet (C.DiscardToZero offset n) e = IsMetPreparing e
-MayMeet (C.DiscardToAny offset n) e = IsMetPreparing e
-MayMeet (C.DiscardToBacking offset n) e = IsMetPreparing e
-MayMeet (C.ReadvSpecial offset n) e = IsMet e ⊎ (e ≡ I.NotCompressed offset)
-MayMeet C.Flush e = IsOfTables e
-MayMeet C.Sync e = IsFault e
-MayMeet (C.ResizeGrow size mode) e = IsMetPreparing e
-MayMeet (C.ResizeShrink size) e = IsFault e ⊎ (e ≡ I.MappingPrepared)
-MayMeet C.Size e = ⊥
-MayMeet C.Leaked e = ⊥
-MayMeet command e = IsMet e
+abbrev pub MayFailWith : Command → ImageError → Type 0
+MayFailWith (C.Write offset bytes) e = IsMetPreparing e
+MayFailWith (C.GetMapping slot offset max) e = IsOfTables e
+MayFailWith (C.PrepareDataMapping slot offset n overwrite) e = IsMetPreparing e
+MayFailWith (C.CommitDataMapping slot) e = IsOfTables e
+MayFailWith (C.DiscardDataMapping slot) e = ⊥
+MayFailWith (C.EnsureZeroMapping offset n) e = IsMetPreparing e
+MayFailWith (C.DiscardToZero offset n) e = IsMetPreparing e
+MayFailWith (C.DiscardToAny offset n) e = IsMetPreparing e
+MayFailWith (C.DiscardToBacking offset n) e = IsMetPreparing e
+MayFailWith (C.ReadvSpecial offset n) e = IsMet e ⊎ (e ≡ I.NotCompressed offset)
+MayFailWith C.Flush e = IsOfTables e
+MayFailWith C.Sync e = IsFault e
+MayFailWith (C.ResizeGrow size mode) e = IsMetPreparing e
+MayFailWith (C.ResizeShrink size) e = IsFault e ⊎ (e ≡ I.MappingPrepared)
+MayFailWith C.Size e = ⊥
+MayFailWith C.Leaked e = ⊥
+MayFailWith command e = IsMet e
 
 module _ {S F : Type 0} (view : S → StorageView) (old new : Qcow2 S F) (before : List (Option Prepared)) where
   -- Why clearing a range of a sound image is refused: a fault; a limit; 20; 8, if a mapping is pinned; or 9, if one is pinned in the L2 table of the first offset.
   abbrev pub MeetsClearing : (offset n : ℕ) → ImageError → Type 0
-  MeetsClearing offset n e = IsMetTaking (HasPinnedMapping before) (IsUnderMapping old.file.header.fields (from_in old offset n) before) ⊥ (NeedsOverflowingL1Entry old (from_in old offset n)) e
+  MeetsClearing offset n e = MayFailAllocating (HasPinnedMapping before) (IsUnderMapping old.file.header.fields (from_in old offset n) before) ⊥ (NeedsOverflowingL1Entry old (from_in old offset n)) e
 
   -- Why a command that allocates clusters of a sound image is refused during the work. For a write, a compressed cluster is one at the moment of the refusal.
   abbrev pub MeetsTaking : Command → ImageError → Type 0
   MeetsTaking (C.Write offset bytes) e =
-      IsMetTaking (HasPinnedMapping before) (IsUnderMappingIn old.file.header.fields offset (offset + length bytes.items) before) (CopiesCompressed offset (length bytes.items) true new.file.header.fields (known_in view new.file)) (Unit {0}) e
+      MayFailAllocating (HasPinnedMapping before) (IsUnderMappingIn old.file.header.fields offset (offset + length bytes.items) before) (CopiesCompressed offset (length bytes.items) true new.file.header.fields (known_in view new.file)) (Unit {0}) e
   MeetsTaking (C.PrepareDataMapping slot offset n overwrite) e =
-      IsMetTaking (HasPinnedMapping before) (IsTaken old.file.header.fields (known_in view old.file) offset n before) (CopiesCompressed offset n overwrite old.file.header.fields (known_in view old.file)) (NeedsOverflowingL1Entry old offset) e
+      MayFailAllocating (HasPinnedMapping before) (IsTaken old.file.header.fields (known_in view old.file) offset n before) (CopiesCompressed offset n overwrite old.file.header.fields (known_in view old.file)) (NeedsOverflowingL1Entry old offset) e
   MeetsTaking (C.EnsureZeroMapping offset n) e = MeetsClearing offset n e
   MeetsTaking (C.DiscardToZero offset n) e = MeetsClearing offset n e
   MeetsTaking (C.DiscardToAny offset n) e = MeetsClearing offset n e
@@ -178,8 +178,8 @@ module _ {S F : Type 0} (view : S → StorageView) (backing : F → BackingView)
 
   -- A write is refused 13 only if it passed a limit, and 20 only if the rest of its range, behind the bytes that were written, has that cause. Each of its parts respects the prepared mappings.
   abbrev pub StopsRightly : (offset : ℕ) → List ℕ → Reply → Type 0
-  StopsRightly offset bytes (R.WriteRefused e n) = (e ≡ I.Limit → IsLimited view backing (given_of offset bytes ∷ []) (offset + length bytes) old before) × HeedsMappings view backing old before offset bytes (Err (e, n)) × (e ≡ I.Overflow → NeedsOverflowingToWrite view backing old offset bytes n)
-  StopsRightly offset bytes R.Done = HeedsMappings view backing old before offset bytes (Ok tt)
+  StopsRightly offset bytes (R.WriteRefused e n) = (e ≡ I.Limit → IsLimited view backing (given_of offset bytes ∷ []) (offset + length bytes) old before) × RespectsMappings view backing old before offset bytes (Err (e, n)) × (e ≡ I.Overflow → NeedsOverflowingToWrite view backing old offset bytes n)
+  StopsRightly offset bytes R.Done = RespectsMappings view backing old before offset bytes (Ok tt)
   StopsRightly offset bytes reply = Unit {0}
 
   -- While a mapping that isn't existing is prepared, an invalidation is refused 21, or 14 if there is no memory for the list of pinned tables. Otherwise it is refused only for a fault.
@@ -190,35 +190,35 @@ module _ {S F : Type 0} (view : S → StorageView) (backing : F → BackingView)
 
   -- What prepared mappings refuse: ranges of a pinned L2 table (9), a shrink (17) and an invalidation (21), and nothing else. Putting, and reading what was looked up, is refused 10 only if the mapping is outdated. Commits and flushes are refused only by a fault.
   -- Reads, lookups and puts are refused by a fault, or for a cause in the image or in its prepared mappings.
-  abbrev pub MeetsOnSound : (found : ℕ → Option Mapping) → Command → Reply → Type 0
-  MeetsOnSound found (C.Read offset n) reply = IfSome (refusal_in reply) (IsMetReadingRange before offset (offset + n) old.file.header.fields (known_in view old.file))
-  MeetsOnSound found (C.Write offset bytes) reply = (refusal_in reply ≡ Some I.TablePrepared → IsUnderMappingIn old.file.header.fields offset (offset + length bytes.items) before) × StopsRightly offset bytes.items reply
-  MeetsOnSound found (C.PrepareDataMapping slot offset n overwrite) reply = IsUntakenIn offset n reply
-  MeetsOnSound found (C.GetMapping slot offset max) reply = IfSome (refusal_in reply) (IsMetLooking (IsCacheHeld old before))
-  MeetsOnSound found (C.ReadMapped slot at n) reply = ReadsLookedUp found slot at n reply × IfSome (refusal_in reply) (IsMetLookedUp found slot at n)
-  MeetsOnSound found (C.WriteMapped slot at bytes) reply = (refusal_in reply ≡ Some I.OutdatedMapping → IsOutdatedAt slot at (length bytes.items)) × IfSome (refusal_in reply) (IsMetPuttingAt slot at)
-  MeetsOnSound found (C.CommitDataMapping slot) reply = IfSome (refusal_in reply) IsFault
-  MeetsOnSound found C.InvalidateCache reply = HeedsInUse reply
-  MeetsOnSound found C.Flush reply = IfSome (refusal_in reply) IsFault
-  MeetsOnSound found (C.EnsureZeroMapping offset n) reply = IsUntouchedUnder offset n reply
-  MeetsOnSound found (C.DiscardToZero offset n) reply = IsUntouchedUnder offset n reply
-  MeetsOnSound found (C.DiscardToAny offset n) reply = IsUntouchedUnder offset n reply
-  MeetsOnSound found (C.DiscardToBacking offset n) reply = IsUntouchedUnder offset n reply
-  MeetsOnSound found (C.ReadvSpecial offset n) reply = IfSome (refusal_in reply) (IsMetSpecial (IsCacheHeld old before) offset)
-  MeetsOnSound found (C.TryReadvSpecial offset n) reply = IfSome (refusal_in reply) (λ e. IsMetLooking (IsCacheHeld old before) e ⊎ (e ≡ I.Compressed))
-  MeetsOnSound found (C.ResizeGrow size mode) reply = size_of old < size → refusal_in reply ≡ Some I.TablePrepared → (shows_old mode ≡ false) × IsUnderMappingIn old.file.header.fields (size_of old) (boundary_in old size) before
-  MeetsOnSound found (C.ResizeShrink size) reply = size < size_of old → (refusal_in reply ≡ Some I.MappingPrepared) ↔ HasPinnedMapping before
-  MeetsOnSound found command reply = Unit {0}
+  abbrev pub MayFailOnSound : (found : ℕ → Option Mapping) → Command → Reply → Type 0
+  MayFailOnSound found (C.Read offset n) reply = IfSome (refusal_in reply) (IsMetReadingRange before offset (offset + n) old.file.header.fields (known_in view old.file))
+  MayFailOnSound found (C.Write offset bytes) reply = (refusal_in reply ≡ Some I.TablePrepared → IsUnderMappingIn old.file.header.fields offset (offset + length bytes.items) before) × StopsRightly offset bytes.items reply
+  MayFailOnSound found (C.PrepareDataMapping slot offset n overwrite) reply = IsUntakenIn offset n reply
+  MayFailOnSound found (C.GetMapping slot offset max) reply = IfSome (refusal_in reply) (IsMetLooking (IsCacheHeld old before))
+  MayFailOnSound found (C.ReadMapped slot at n) reply = ReadsLookedUp found slot at n reply × IfSome (refusal_in reply) (IsMetLookedUp found slot at n)
+  MayFailOnSound found (C.WriteMapped slot at bytes) reply = (refusal_in reply ≡ Some I.OutdatedMapping → IsOutdatedAt slot at (length bytes.items)) × IfSome (refusal_in reply) (IsMetPuttingAt slot at)
+  MayFailOnSound found (C.CommitDataMapping slot) reply = IfSome (refusal_in reply) IsFault
+  MayFailOnSound found C.InvalidateCache reply = HeedsInUse reply
+  MayFailOnSound found C.Flush reply = IfSome (refusal_in reply) IsFault
+  MayFailOnSound found (C.EnsureZeroMapping offset n) reply = IsUntouchedUnder offset n reply
+  MayFailOnSound found (C.DiscardToZero offset n) reply = IsUntouchedUnder offset n reply
+  MayFailOnSound found (C.DiscardToAny offset n) reply = IsUntouchedUnder offset n reply
+  MayFailOnSound found (C.DiscardToBacking offset n) reply = IsUntouchedUnder offset n reply
+  MayFailOnSound found (C.ReadvSpecial offset n) reply = IfSome (refusal_in reply) (IsMetSpecial (IsCacheHeld old before) offset)
+  MayFailOnSound found (C.TryReadvSpecial offset n) reply = IfSome (refusal_in reply) (λ e. IsMetLooking (IsCacheHeld old before) e ⊎ (e ≡ I.Compressed))
+  MayFailOnSound found (C.ResizeGrow size mode) reply = size_of old < size → refusal_in reply ≡ Some I.TablePrepared → (shows_old mode ≡ false) × IsUnderMappingIn old.file.header.fields (size_of old) (boundary_in old size) before
+  MayFailOnSound found (C.ResizeShrink size) reply = size < size_of old → (refusal_in reply ≡ Some I.MappingPrepared) ↔ HasPinnedMapping before
+  MayFailOnSound found command reply = Unit {0}
 
   -- ---- one command
 
   -- The refusal of a command. A misuse is replied to as such, and nothing changes. Otherwise the first check that fails gives the reply, and nothing changes.
   -- If no check fails, the command is refused only for causes that its work may meet, and on a sound image for fewer. A command with nothing to do is not refused. On a sound image a command respects the prepared mappings.
-  pub record IsRightlyRefused (found : ℕ → Option Mapping) (command : Command) (reply : Reply) : Type 0 where
+  pub record RefusalJustified (found : ℕ → Option Mapping) (command : Command) (reply : Reply) : Type 0 where
     pub misuse : TellsMisuse before found command reply
     pub still : reply ≡ R.Misuse → new ≡ old
     pub early : IfSome (first_cause old command) (λ e. ((refusal_in reply ≡ Some e) ⊎ (reply ≡ R.Misuse)) × (new ≡ old))
-    pub late : first_cause old command ≡ None → IfSome (refusal_in reply) (MayMeet command)
+    pub late : first_cause old command ≡ None → IfSome (refusal_in reply) (MayFailWith command)
     pub met : first_cause old command ≡ None → (abstract_of view backing old before).is_sound → IfSome (refusal_in reply) (MeetsTaking view old new before command)
     pub idle : first_cause old command ≡ None → HasNothingToDo command → refusal_in reply ≡ None
-    pub heeds : first_cause old command ≡ None → (abstract_of view backing old before).is_sound → MeetsOnSound found command reply
+    pub heeds : first_cause old command ≡ None → (abstract_of view backing old before).is_sound → MayFailOnSound found command reply

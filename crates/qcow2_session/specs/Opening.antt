@@ -22,7 +22,7 @@ use Rattle.qcow2_image.specs.Readable.{IsRefusedRightly, OpensRightly}
 use Rattle.qcow2_image.specs.Unwritten.{ContentsStayThroughout}
 use Rattle.qcow2_session.specs.Commands.{command_of, reply_of}
 use Rattle.qcow2_session.specs.CountedFaults.{RunCounts}
-use Rattle.qcow2_session.specs.Told.{TellsThrough}
+use Rattle.qcow2_session.specs.Told.{ReportsMatchImage}
 use Rattle.qcow2_session.specs.declared.session.Command.{Command}
 use Rattle.qcow2_session.specs.declared.session.Reply.{Reply}
 
@@ -84,7 +84,7 @@ module _ {S F : Type 0} (view : S → StorageView) (backing : F → BackingView)
     pub works : is_failed opened ≡ false
     pub counts : OpeningCounts view before.faults (Ok opened)
     pub leaves : LeavesStorage view true before (Ok opened)
-    pub run : TellsThrough view backing opened image commands replies
+    pub run : ReportsMatchImage view backing opened image commands replies
     pub behind : NamesTablesBehind opened.file.header.fields → LiesBehindHeader opened
     pub header_cluster : HasNoInvalidation (map command_of commands) → PreservesHeaderCluster view opened image
     pub is : before.is_honest → IsConsistent (byte_at before.contents) → IsHonestBacking view backing below → IsOpenedFrom view backing (byte_at before.contents) opened

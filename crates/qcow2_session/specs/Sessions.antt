@@ -134,7 +134,7 @@ module _ {S F : Type 0} (view : S → StorageView) (backing : F → BackingView)
   -- Byte i of a write was written by a part that began at it or before it, in the same L2 table. At some image `before` the part, exactly the bytes before the part are written.
   -- For the first part, `before` is the image at the begin of the write.
   -- No mapping pinned that L2 table then, unless all of the rest could be written in place.
-  pub record IsHeededAt (out : List (Option Prepared)) (offset : ℕ) (bytes : List ℕ) (i : ℕ) : Type 0 where
+  pub record IsRespectedAt (out : List (Option Prepared)) (offset : ℕ) (bytes : List ℕ) (i : ℕ) : Type 0 where
     pub from : ℕ
     pub low : from ≤ i
     pub same_table : l1_index_of old.file.header.fields (offset + i) ≡ l1_index_of old.file.header.fields (offset + from)
@@ -144,14 +144,14 @@ module _ {S F : Type 0} (view : S → StorageView) (backing : F → BackingView)
     pub untaken : ¬ IsTaken before.file.header.fields (known_in view before.file) (offset + from) (length bytes - from) out
 
   -- Every byte that is reported as written was written in this way. A write is refused 9 only if a pinned mapping is in the way of the rest.
-  abbrev pub HeedsMappings : List (Option Prepared) → (offset : ℕ) → List ℕ → Result (Unit {0}) (ImageError × ℕ) → Type 0
-  HeedsMappings out offset bytes (Ok done) = (i : ℕ) → i < length bytes → IsHeededAt out offset bytes i
-  HeedsMappings out offset bytes (Err r) = (r.0 ≡ TablePrepared → IsTakenToWrite out offset bytes r.1) × ((i : ℕ) → i < r.1 → IsHeededAt out offset bytes i)
+  abbrev pub RespectsMappings : List (Option Prepared) → (offset : ℕ) → List ℕ → Result (Unit {0}) (ImageError × ℕ) → Type 0
+  RespectsMappings out offset bytes (Ok done) = (i : ℕ) → i < length bytes → IsRespectedAt out offset bytes i
+  RespectsMappings out offset bytes (Err r) = (r.0 ≡ TablePrepared → IsTakenToWrite out offset bytes r.1) × ((i : ℕ) → i < r.1 → IsRespectedAt out offset bytes i)
 
   -- The first part of a write lies in one L2 table, and respects the pinned mappings.
-  abbrev pub HeedsFirst : List (Option Prepared) → (offset n : ℕ) → Result ℕ ImageError → Type 0
-  HeedsFirst out offset n (Ok count) = 0 < n → (count ≤ rest_of_table old.file.header.fields offset) × (¬ IsTaken old.file.header.fields (known_in view old.file) offset n out)
-  HeedsFirst out offset n (Err e) = e ≡ TablePrepared → (0 < n) × IsTaken old.file.header.fields (known_in view old.file) offset n out
+  abbrev pub RespectsFirst : List (Option Prepared) → (offset n : ℕ) → Result ℕ ImageError → Type 0
+  RespectsFirst out offset n (Ok count) = 0 < n → (count ≤ rest_of_table old.file.header.fields offset) × (¬ IsTaken old.file.header.fields (known_in view old.file) offset n out)
+  RespectsFirst out offset n (Err e) = e ≡ TablePrepared → (0 < n) × IsTaken old.file.header.fields (known_in view old.file) offset n out
 
 module _ {S F : Type 0} (view : S → StorageView) (backing : F → BackingView) (old new : Qcow2 S F) where
   -- One command is one step of every run that agrees with the image and its mappings.

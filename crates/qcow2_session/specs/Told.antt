@@ -19,7 +19,7 @@ use Rattle.qcow2_image.specs.Prepared.{length_of, offset_of, table_of}
 use Rattle.qcow2_image.specs.Preparing.{IsAnswered, IsOfNothing}
 use Rattle.qcow2_alloc.specs.Quiet.{WritesNothing}
 use Rattle.qcow2_image.specs.Unwritten.{HoldsNothingModified, ReadsQuietly}
-use Rattle.qcow2_session.specs.Causes.{IsRightlyRefused}
+use Rattle.qcow2_session.specs.Causes.{RefusalJustified}
 use Rattle.qcow2_session.specs.Commands.{command_of, reply_of}
 use Rattle.qcow2_session.specs.CountedFaults.{CommandCounts, refusal_in}
 use Rattle.qcow2_session.specs.Marks.{MarksBy}
@@ -109,29 +109,29 @@ module _ {S F : Type 0} (view : S → StorageView) (backing : F → BackingView)
 
     -- The reply matches the image: a lookup is a mapping of this image, a clearing call returns its whole clusters, and an offset that is not compressed is the call's own. A size that is not smaller leaves the old one.
     -- The size is that of the header in memory, also on a failed image, and the number of leaks is the one that was counted. A prepare returns the mapping in its slot. A successful write of a sound image leaves the list of clusters to free the same or empty. A refused one returns how many bytes it wrote.
-    abbrev pub TellsOfImage : (before after : List (Option Prepared)) → Command → Reply → Type 0
-    TellsOfImage before after (C.GetMapping slot offset max) (R.Mapping m) = IsLookup offset max m
-    TellsOfImage before after (C.EnsureZeroMapping offset n) reply = TellsRange offset n reply
-    TellsOfImage before after (C.DiscardToZero offset n) reply = TellsRange offset n reply
-    TellsOfImage before after (C.DiscardToAny offset n) reply = TellsRange offset n reply
-    TellsOfImage before after (C.DiscardToBacking offset n) reply = TellsRange offset n reply
-    TellsOfImage before after (C.TryReadvSpecial offset n) (R.NotCompressed plain) = MatchOption plain (n ≡ 0) (λ at. at ≡ offset)
-    TellsOfImage before after (C.ResizeShrink size) (R.Shrunk answer) = size_of old ≤ size → answer ≡ size_of old
-    TellsOfImage before after C.Size (R.Size n) = n ≡ size_of new
-    TellsOfImage before after C.Leaked (R.Leaked n) = n ≡ leaked_in new
-    TellsOfImage before after (C.PrepareDataMapping slot offset n overwrite) (R.Prepared host count existing) =
+    abbrev pub ReplyMatchesImage : (before after : List (Option Prepared)) → Command → Reply → Type 0
+    ReplyMatchesImage before after (C.GetMapping slot offset max) (R.Mapping m) = IsLookup offset max m
+    ReplyMatchesImage before after (C.EnsureZeroMapping offset n) reply = TellsRange offset n reply
+    ReplyMatchesImage before after (C.DiscardToZero offset n) reply = TellsRange offset n reply
+    ReplyMatchesImage before after (C.DiscardToAny offset n) reply = TellsRange offset n reply
+    ReplyMatchesImage before after (C.DiscardToBacking offset n) reply = TellsRange offset n reply
+    ReplyMatchesImage before after (C.TryReadvSpecial offset n) (R.NotCompressed plain) = MatchOption plain (n ≡ 0) (λ at. at ≡ offset)
+    ReplyMatchesImage before after (C.ResizeShrink size) (R.Shrunk answer) = size_of old ≤ size → answer ≡ size_of old
+    ReplyMatchesImage before after C.Size (R.Size n) = n ≡ size_of new
+    ReplyMatchesImage before after C.Leaked (R.Leaked n) = n ≡ leaked_in new
+    ReplyMatchesImage before after (C.PrepareDataMapping slot offset n overwrite) (R.Prepared host count existing) =
         (abstract_of view backing old before).is_sound → (p : Prepared) × (slice_get after slot ≡ Some (Some p)) × IsMappingFor offset n p
-    TellsOfImage before after (C.Write offset bytes) (R.Refused e) = ⊥
-    TellsOfImage before after (C.Write offset bytes) R.Done = (abstract_of view backing old before).is_sound → ListsNoMore old new
-    TellsOfImage before after command reply = Unit {0}
+    ReplyMatchesImage before after (C.Write offset bytes) (R.Refused e) = ⊥
+    ReplyMatchesImage before after (C.Write offset bytes) R.Done = (abstract_of view backing old before).is_sound → ListsNoMore old new
+    ReplyMatchesImage before after command reply = Unit {0}
 
   -- One command of a run, whatever the image contains. The reply matches the image, and the slots are those after the command. It is refused only for its causes, and with an I/O error only if one was counted.
   -- An I/O error makes the image fail, and a failed image stays failed, with the same size. An image opened for reading is not written.
-  pub record IsToldStep (from to : RunPoint S F) (command : Command) (reply : Reply) : Type 0 where
+  pub record IsReportedStep (from to : RunPoint S F) (command : Command) (reply : Reply) : Type 0 where
     pub keeps : KeepsItself from.image to.image
-    pub tells : TellsOfImage from.image to.image from.prepared to.prepared command reply
+    pub tells : ReplyMatchesImage from.image to.image from.prepared to.prepared command reply
     pub slots : SlotsAfter from.prepared command reply to.prepared
-    pub causes : IsRightlyRefused view backing from.image to.image from.prepared from.found command reply
+    pub causes : RefusalJustified view backing from.image to.image from.prepared from.found command reply
     pub finds : (slot : ℕ) → to.found slot ≡ looked_up_after from.found command reply slot
     pub counts : CommandCounts view backing from.image to.image reply
     pub failed : MarksBy view from.image to.image command (refusal_in reply)
@@ -139,10 +139,10 @@ module _ {S F : Type 0} (view : S → StorageView) (backing : F → BackingView)
     pub quiet : LeavesQuietly view from.image from.prepared to.image to.prepared
 
   -- Each command of the run goes from one of these points to the next.
-  abbrev pub IsToldAlong : (first : RunPoint S F) → List Command → List Reply → (points : List (RunPoint S F)) → (last : RunPoint S F) → Type 0
-  IsToldAlong first [] [] [] last = last ≡ first
-  IsToldAlong first (command ∷ commands) (reply ∷ replies) (next ∷ points) last = IsToldStep first next command reply × IsToldAlong next commands replies points last
-  IsToldAlong first commands replies points last = ⊥
+  abbrev pub AreReportedAlong : (first : RunPoint S F) → List Command → List Reply → (points : List (RunPoint S F)) → (last : RunPoint S F) → Type 0
+  AreReportedAlong first [] [] [] last = last ≡ first
+  AreReportedAlong first (command ∷ commands) (reply ∷ replies) (next ∷ points) last = IsReportedStep first next command reply × AreReportedAlong next commands replies points last
+  AreReportedAlong first commands replies points last = ⊥
 
   -- The view of a point: the image with its prepared mappings.
   abbrev pub abstract_at : RunPoint S F → AbstractImage
@@ -157,15 +157,15 @@ module _ {S F : Type 0} (view : S → StorageView) (backing : F → BackingView)
 
   module _ (old new : Qcow2 S F) where
     -- A whole run through these points, after which the mappings that are left are dropped. That fails no image. Without the command `InvalidateCache`, the commands are steps of every run that agrees with the image.
-    pub record IsToldRun (commands : List Command) (replies : List Reply) : Type 0 where
+    pub record IsReportedRun (commands : List Command) (replies : List Reply) : Type 0 where
       pub points : List (RunPoint S F)
       pub last : RunPoint S F
-      pub along : IsToldAlong (first_point old) commands replies points last
+      pub along : AreReportedAlong (first_point old) commands replies points last
       pub steps : HasNoInvalidation (map command_of commands) → (x : Setting) (s : State) → RefinesState x (abstract_of view backing old []) s → (end : State) × StepsAlong x (first_point old) (begun s) commands replies points end
       pub leaves : ReleasesMappings view backing last.image new last.prepared []
       pub keeps : KeepsItself last.image new
       pub failed : is_failed new ≡ is_failed last.image
 
     -- There is such a run, or no command ran.
-    abbrev pub TellsThrough : List Command → List Reply → Type 0
-    TellsThrough commands replies = IsUntouched view backing old new replies ⊎ IsToldRun commands replies
+    abbrev pub ReportsMatchImage : List Command → List Reply → Type 0
+    ReportsMatchImage commands replies = IsUntouched view backing old new replies ⊎ IsReportedRun commands replies

@@ -4,10 +4,10 @@ ghost use Rattle.std.specs.Prelude.{ℕ, ◌≡◌, false, List, Option};
 ghost use Rattle.qcow2_image.specs.declared.mapping.Mapping.{Mapping};
 ghost use Rattle.qcow2_image.specs.Image.{is_writable};
 ghost use Rattle.qcow2_image.specs.declared.prepared.Prepared.{Prepared};
-ghost use Rattle.qcow2_session.specs.Causes.{IsRightlyRefused};
+ghost use Rattle.qcow2_session.specs.Causes.{RefusalJustified};
 ghost use Rattle.qcow2_session.specs.Commands.{reply_of_clearing};
 ghost use Rattle.qcow2_session.specs.Sessions.{CommandSteps, Finds};
-ghost use Rattle.qcow2_session.specs.Told.{TellsOfImage};
+ghost use Rattle.qcow2_session.specs.Told.{ReplyMatchesImage};
 ghost use Rattle.qcow2_session.specs.declared.session.Command.TheVariants.{EnsureZeroMapping, DiscardToZero};
 ghost use Rattle.qcow2_session.specs.declared.session.Command.TheVariants.{DiscardToAny, DiscardToBacking};
 ghost use Rattle.qcow2_session.specs.declared.slots.Slots.{Slots};
@@ -25,9 +25,10 @@ pub(crate) fn ensure_zero<S: Storage, F: WrappedFormat<S>>(
     ensures step { CommandStep S.view F.backing image.old image.new result }
     ensures reading { is_writable image.old ≡ false → image.new ≡ image.old }
     ensures tells { (before : List (Option Prepared))
-        → TellsOfImage S.view F.backing image.old image.new before before (EnsureZeroMapping offset length) result }
+        → ReplyMatchesImage S.view F.backing image.old image.new before before (EnsureZeroMapping offset length)
+        result }
     ensures causes { (before : List (Option Prepared)) (found : ℕ → Option Mapping)
-        → IsRightlyRefused S.view F.backing image.old image.new before found (EnsureZeroMapping offset length) result }
+        → RefusalJustified S.view F.backing image.old image.new before found (EnsureZeroMapping offset length) result }
     ensures command_step { (slots : Slots)
         → CommandSteps S.view F.backing image.old image.new slots slots (EnsureZeroMapping offset length) result }
     ensures finds { (slots : Slots) → Finds slots slots (EnsureZeroMapping offset length) result }
@@ -44,9 +45,9 @@ pub(crate) fn discard_to_zero<S: Storage, F: WrappedFormat<S>>(
     ensures step { CommandStep S.view F.backing image.old image.new result }
     ensures reading { is_writable image.old ≡ false → image.new ≡ image.old }
     ensures tells { (before : List (Option Prepared))
-        → TellsOfImage S.view F.backing image.old image.new before before (DiscardToZero offset length) result }
+        → ReplyMatchesImage S.view F.backing image.old image.new before before (DiscardToZero offset length) result }
     ensures causes { (before : List (Option Prepared)) (found : ℕ → Option Mapping)
-        → IsRightlyRefused S.view F.backing image.old image.new before found (DiscardToZero offset length) result }
+        → RefusalJustified S.view F.backing image.old image.new before found (DiscardToZero offset length) result }
     ensures command_step { (slots : Slots) → CommandSteps S.view F.backing image.old image.new slots slots (DiscardToZero offset length) result }
     ensures finds { (slots : Slots) → Finds slots slots (DiscardToZero offset length) result }
 {
@@ -62,9 +63,9 @@ pub(crate) fn discard_to_any<S: Storage, F: WrappedFormat<S>>(
     ensures step { CommandStep S.view F.backing image.old image.new result }
     ensures reading { is_writable image.old ≡ false → image.new ≡ image.old }
     ensures tells { (before : List (Option Prepared))
-        → TellsOfImage S.view F.backing image.old image.new before before (DiscardToAny offset length) result }
+        → ReplyMatchesImage S.view F.backing image.old image.new before before (DiscardToAny offset length) result }
     ensures causes { (before : List (Option Prepared)) (found : ℕ → Option Mapping)
-        → IsRightlyRefused S.view F.backing image.old image.new before found (DiscardToAny offset length) result }
+        → RefusalJustified S.view F.backing image.old image.new before found (DiscardToAny offset length) result }
     ensures command_step { (slots : Slots) → CommandSteps S.view F.backing image.old image.new slots slots (DiscardToAny offset length) result }
     ensures finds { (slots : Slots) → Finds slots slots (DiscardToAny offset length) result }
 {
@@ -80,9 +81,9 @@ pub(crate) fn discard_to_backing<S: Storage, F: WrappedFormat<S>>(
     ensures step { CommandStep S.view F.backing image.old image.new result }
     ensures reading { is_writable image.old ≡ false → image.new ≡ image.old }
     ensures tells { (before : List (Option Prepared))
-        → TellsOfImage S.view F.backing image.old image.new before before (DiscardToBacking offset length) result }
+        → ReplyMatchesImage S.view F.backing image.old image.new before before (DiscardToBacking offset length) result }
     ensures causes { (before : List (Option Prepared)) (found : ℕ → Option Mapping)
-        → IsRightlyRefused S.view F.backing image.old image.new before found (DiscardToBacking offset length) result }
+        → RefusalJustified S.view F.backing image.old image.new before found (DiscardToBacking offset length) result }
     ensures command_step { (slots : Slots) → CommandSteps S.view F.backing image.old image.new slots slots (DiscardToBacking offset length) result }
     ensures finds { (slots : Slots) → Finds slots slots (DiscardToBacking offset length) result }
 {

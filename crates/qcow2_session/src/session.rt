@@ -16,7 +16,7 @@ ghost use Rattle.qcow2_disk.specs.Mappings.{given_of};
 ghost use Rattle.qcow2_image.specs.Limits.{IsLimited};
 ghost use Rattle.qcow2_image.specs.ListedClusters.{ListsNoMore};
 ghost use Rattle.qcow2_image.specs.MetAlone.{CopiesCompressed, IsCacheHeld, IsMetMapped, IsMetReadingRange};
-ghost use Rattle.qcow2_image.specs.MetAlone.{IsMetTaking};
+ghost use Rattle.qcow2_image.specs.MetAlone.{MayFailAllocating};
 ghost use Rattle.qcow2_image.specs.Preallocation.{IsUnderMappingIn};
 ghost use Rattle.qcow2_image.specs.Image.{IsSameImage, is_failed, is_writable, number_of, size_of, KeepsWholeHeader};
 ghost use Rattle.qcow2_image.specs.Prepared.{image_of};
@@ -25,19 +25,19 @@ ghost use Rattle.qcow2_image.specs.Calls.{Discards};
 ghost use Rattle.qcow2_image.specs.Refusals.{IsMet, IsMetPreparing, unusable, refuses_mapping, refuses_to_read};
 ghost use Rattle.qcow2_image.specs.Refusals.{refuses_to_prepare};
 ghost use Rattle.qcow2_image.specs.Faults.{NoFewerFaults, SameFaults, TellsEachBy, TellsFault};
-ghost use Rattle.qcow2_session.specs.Causes.{IsRightlyRefused};
+ghost use Rattle.qcow2_session.specs.Causes.{RefusalJustified};
 ghost use Rattle.qcow2_session.specs.CountedFaults.{CommandCounts, RunCounts, refusal_in};
 ghost use Rattle.qcow2_session.specs.Marks.{MarksBy, MarksInParts};
 ghost use Rattle.qcow2_session.specs.Sessions.{IsRightlyBeyond, IsOfReading, IsOfWriting};
 ghost use Rattle.qcow2_session.specs.Sessions.{LeavesCopied, NeedsOverflowingToWrite, EndsCluster, Reads, ReadsInto};
 ghost use Rattle.qcow2_session.specs.Sessions.{ReadsFirst, Writes, WritesFirst, CommandSteps, Finds, ReleasesMappings};
 ghost use Rattle.qcow2_session.specs.Sessions.{RunsThrough, RunRefinesDisk, LookupsFindContents, mappings_in};
-ghost use Rattle.qcow2_session.specs.Sessions.{HeedsMappings};
+ghost use Rattle.qcow2_session.specs.Sessions.{RespectsMappings};
 ghost use Rattle.qcow2_image.specs.declared.mapping.Mapping.{Mapping};
 ghost use Rattle.qcow2_image.specs.Ranges.{ReleasesOneMapping};
 ghost use Rattle.qcow2_image.specs.Unwritten.{ReadsQuietly};
-ghost use Rattle.qcow2_session.specs.Told.{KeepsItself, LeavesQuietly, SlotsAfter, StaysQuiet, TellsOfImage};
-ghost use Rattle.qcow2_session.specs.Told.{TellsThrough};
+ghost use Rattle.qcow2_session.specs.Told.{KeepsItself, LeavesQuietly, SlotsAfter, StaysQuiet, ReplyMatchesImage};
+ghost use Rattle.qcow2_session.specs.Told.{ReportsMatchImage};
 ghost use Rattle.qcow2_image.specs.declared.prepared.Prepared.{Prepared};
 
 use crate::clearing::{discard_to_any, discard_to_backing, discard_to_zero, ensure_zero};
@@ -304,7 +304,7 @@ pub fn write<S: Storage, F: WrappedFormat<S>>(
         → IfErr result (λ (e, n). IsMetPreparing e × (0 < length bytes.now)) }
     ensures met { refuses_to_prepare image.old offset (length bytes.now) ≡ None → (out : List (Option Prepared))
         → (abstract_of S.view F.backing image.old out).is_sound
-        → IfErr result (λ (e, n). IsMetTaking (HasPinnedMapping out)
+        → IfErr result (λ (e, n). MayFailAllocating (HasPinnedMapping out)
         (IsUnderMappingIn image.old.file.header.fields offset (offset + length bytes.now) out)
         (CopiesCompressed offset (length bytes.now) true image.new.file.header.fields (known_in S.view image.new.file))
         (NeedsOverflowingToWrite S.view F.backing image.old offset bytes.now n) e) }
@@ -314,7 +314,7 @@ pub fn write<S: Storage, F: WrappedFormat<S>>(
         → IsUnderMappingIn image.old.file.header.fields offset (offset + length bytes.now) out) }
     ensures taken_part { refuses_to_prepare image.old offset (length bytes.now) ≡ None → (out : List (Option Prepared))
         → (abstract_of S.view F.backing image.old out).is_sound
-        → HeedsMappings S.view F.backing image.old out offset bytes.now result }
+        → RespectsMappings S.view F.backing image.old out offset bytes.now result }
     ensures limit { refuses_to_prepare image.old offset (length bytes.now) ≡ None → (out : List (Option Prepared))
         → (abstract_of S.view F.backing image.old out).is_sound
         → IfErr result (λ (e, n). e ≡ Limit → IsLimited S.view F.backing (given_of offset bytes.now ∷ [])
@@ -421,7 +421,7 @@ pub fn run<S: Storage, F: WrappedFormat<S>>(
     ensures count { (result.items ≡ []) ⊎ (vec_len result ≡ length commands.now) }
     ensures runs { RunsThrough S.view F.backing image.old image.new commands.now result.items }
     ensures means { RunRefinesDisk S.view F.backing image.old image.new commands.now result.items }
-    ensures tells { TellsThrough S.view F.backing image.old image.new commands.now result.items }
+    ensures tells { ReportsMatchImage S.view F.backing image.old image.new commands.now result.items }
     ensures maps { LookupsFindContents S.view F.backing image.old image.new commands.now result.items }
     ensures quiet { StaysQuiet S.view image.old image.new }
 {
@@ -456,10 +456,10 @@ fn step<S: Storage, F: WrappedFormat<S>>(
     ensures command_step { KeepsUnflushed (command_of command.now)
         → CommandSteps S.view F.backing image.old image.new slots.old slots.new command.now result }
     ensures finds { Finds slots.old slots.new command.now result }
-    ensures tells { TellsOfImage S.view F.backing image.old image.new slots.old.prepared.items slots.new.prepared.items command.now result }
+    ensures tells { ReplyMatchesImage S.view F.backing image.old image.new slots.old.prepared.items slots.new.prepared.items command.now result }
     ensures after { SlotsAfter slots.old.prepared.items command.now result slots.new.prepared.items }
     ensures size { IsTrue (is_failed image.old) → size_of image.new ≡ size_of image.old }
-    ensures causes { IsRightlyRefused S.view F.backing image.old image.new slots.old.prepared.items
+    ensures causes { RefusalJustified S.view F.backing image.old image.new slots.old.prepared.items
         (mappings_in slots.old.mappings.items) command.now result }
     ensures quiet { LeavesQuietly S.view image.old slots.old.prepared.items image.new slots.new.prepared.items }
 {
@@ -514,13 +514,14 @@ fn get_mapping<S: Storage, F: WrappedFormat<S>>(
 ) -> Reply
     requires { slots.old.image ≡ number_of image.old }
     ensures step { CommandStep S.view F.backing image.old image.new result }
-    ensures causes { IsRightlyRefused S.view F.backing image.old image.new slots.old.prepared.items
+    ensures causes { RefusalJustified S.view F.backing image.old image.new slots.old.prepared.items
         (mappings_in slots.old.mappings.items) (Command.GetMapping slot offset max) result }
     ensures slots { slots.new.image ≡ slots.old.image }
     ensures command_step { CommandSteps S.view F.backing image.old image.new slots.old slots.new (Command.GetMapping slot offset max) result }
     ensures finds { Finds slots.old slots.new (Command.GetMapping slot offset max) result }
     ensures after { SlotsAfter slots.old.prepared.items (Command.GetMapping slot offset max) result slots.new.prepared.items }
-    ensures tells { TellsOfImage S.view F.backing image.old image.new slots.old.prepared.items slots.new.prepared.items
+    ensures tells { ReplyMatchesImage S.view F.backing image.old image.new slots.old.prepared.items
+        slots.new.prepared.items
         (Command.GetMapping slot offset max) result }
     ensures quiet { LeavesQuietly S.view image.old slots.old.prepared.items image.new slots.new.prepared.items }
 {
@@ -543,7 +544,7 @@ fn read_mapped<S: Storage, F: WrappedFormat<S>>(
 ) -> Reply
     requires { slots.now.image ≡ number_of image.old }
     ensures step { CommandStep S.view F.backing image.old image.new result }
-    ensures causes { IsRightlyRefused S.view F.backing image.old image.new slots.now.prepared.items
+    ensures causes { RefusalJustified S.view F.backing image.old image.new slots.now.prepared.items
         (mappings_in slots.now.mappings.items) (Command.ReadMapped slot at length) result }
     ensures command_step { CommandSteps S.view F.backing image.old image.new slots.now slots.now (Command.ReadMapped slot at length) result }
     ensures finds { Finds slots.now slots.now (Command.ReadMapped slot at length) result }
@@ -600,14 +601,15 @@ fn prepare<S: Storage, F: WrappedFormat<S>>(
 ) -> Reply
     requires { slots.old.image ≡ number_of image.old }
     ensures step { CommandStep S.view F.backing image.old image.new result }
-    ensures causes { IsRightlyRefused S.view F.backing image.old image.new slots.old.prepared.items
+    ensures causes { RefusalJustified S.view F.backing image.old image.new slots.old.prepared.items
         (mappings_in slots.old.mappings.items) (Command.PrepareDataMapping slot offset length overwrite) result }
     ensures slots { slots.new.image ≡ slots.old.image }
     ensures command_step { CommandSteps S.view F.backing image.old image.new slots.old slots.new
         (Command.PrepareDataMapping slot offset length overwrite) result }
     ensures finds { Finds slots.old slots.new (Command.PrepareDataMapping slot offset length overwrite) result }
     ensures after { SlotsAfter slots.old.prepared.items (Command.PrepareDataMapping slot offset length overwrite) result slots.new.prepared.items }
-    ensures tells { TellsOfImage S.view F.backing image.old image.new slots.old.prepared.items slots.new.prepared.items
+    ensures tells { ReplyMatchesImage S.view F.backing image.old image.new slots.old.prepared.items
+        slots.new.prepared.items
         (Command.PrepareDataMapping slot offset length overwrite) result }
     ensures quiet { LeavesQuietly S.view image.old slots.old.prepared.items image.new slots.new.prepared.items }
 {
@@ -638,7 +640,7 @@ fn write_mapped<S: Storage, F: WrappedFormat<S>>(
     requires { slots.now.image ≡ number_of image.old }
     ensures step { CommandStep S.view F.backing image.old image.new result }
     ensures reading { is_writable image.old ≡ false → image.new ≡ image.old }
-    ensures causes { IsRightlyRefused S.view F.backing image.old image.new slots.now.prepared.items
+    ensures causes { RefusalJustified S.view F.backing image.old image.new slots.now.prepared.items
         (mappings_in slots.now.mappings.items) (Command.WriteMapped slot at bytes.now) result }
     ensures command_step { CommandSteps S.view F.backing image.old image.new slots.now slots.now (Command.WriteMapped slot at bytes.now) result }
     ensures finds { Finds slots.now slots.now (Command.WriteMapped slot at bytes.now) result }
@@ -663,7 +665,7 @@ fn commit<S: Storage, F: WrappedFormat<S>>(
 ) -> Reply
     requires { slots.old.image ≡ number_of image.old }
     ensures step { CommandStep S.view F.backing image.old image.new result }
-    ensures causes { IsRightlyRefused S.view F.backing image.old image.new slots.old.prepared.items
+    ensures causes { RefusalJustified S.view F.backing image.old image.new slots.old.prepared.items
         (mappings_in slots.old.mappings.items) (Command.CommitDataMapping slot) result }
     ensures slots { slots.new.image ≡ slots.old.image }
     ensures command_step { CommandSteps S.view F.backing image.old image.new slots.old slots.new (Command.CommitDataMapping slot) result }
@@ -691,7 +693,7 @@ fn discard<S: Storage, F: WrappedFormat<S>>(
 ) -> Reply
     requires { slots.old.image ≡ number_of image.old }
     ensures step { CommandStep S.view F.backing image.old image.new result }
-    ensures causes { IsRightlyRefused S.view F.backing image.old image.new slots.old.prepared.items
+    ensures causes { RefusalJustified S.view F.backing image.old image.new slots.old.prepared.items
         (mappings_in slots.old.mappings.items) (Command.DiscardDataMapping slot) result }
     ensures slots { slots.new.image ≡ slots.old.image }
     ensures command_step { CommandSteps S.view F.backing image.old image.new slots.old slots.new (Command.DiscardDataMapping slot) result }
@@ -711,7 +713,7 @@ fn discard<S: Storage, F: WrappedFormat<S>>(
 fn flush<S: Storage, F: WrappedFormat<S>>(image: &mut Qcow2<S, F>) -> Reply
     ensures step { CommandStep S.view F.backing image.old image.new result }
     ensures causes { (before : List (Option Prepared)) (found : ℕ → Option Mapping)
-        → IsRightlyRefused S.view F.backing image.old image.new before found Command.Flush result }
+        → RefusalJustified S.view F.backing image.old image.new before found Command.Flush result }
     ensures command_step { (slots : Slots) → CommandSteps S.view F.backing image.old image.new slots slots Command.Flush result }
     ensures finds { (slots : Slots) → Finds slots slots Command.Flush result }
     ensures quiet { StaysQuiet S.view image.old image.new }
@@ -725,7 +727,7 @@ fn flush<S: Storage, F: WrappedFormat<S>>(image: &mut Qcow2<S, F>) -> Reply
 fn sync<S: Storage, F: WrappedFormat<S>>(image: &mut Qcow2<S, F>) -> Reply
     ensures step { CommandStep S.view F.backing image.old image.new result }
     ensures causes { (before : List (Option Prepared)) (found : ℕ → Option Mapping)
-        → IsRightlyRefused S.view F.backing image.old image.new before found Command.Sync result }
+        → RefusalJustified S.view F.backing image.old image.new before found Command.Sync result }
     ensures command_step { (slots : Slots) → CommandSteps S.view F.backing image.old image.new slots slots Command.Sync result }
     ensures finds { (slots : Slots) → Finds slots slots Command.Sync result }
     ensures quiet { ReadsQuietly S.view image.old image.new }
@@ -739,7 +741,7 @@ fn sync<S: Storage, F: WrappedFormat<S>>(image: &mut Qcow2<S, F>) -> Reply
 fn invalidate<S: Storage, F: WrappedFormat<S>>(image: &mut Qcow2<S, F>) -> Reply
     ensures step { InvalidatingCommand S.view F.backing image.old image.new result }
     ensures causes { (before : List (Option Prepared)) (found : ℕ → Option Mapping)
-        → IsRightlyRefused S.view F.backing image.old image.new before found Command.InvalidateCache result }
+        → RefusalJustified S.view F.backing image.old image.new before found Command.InvalidateCache result }
     ensures finds { (slots : Slots) → Finds slots slots Command.InvalidateCache result }
 {
     if let Err(refusal) = image.invalidate_cache() {

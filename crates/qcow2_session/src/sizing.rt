@@ -4,11 +4,11 @@ ghost use Rattle.qcow2_image.specs.BehindHeader.{PreservesHeaderCluster};
 ghost use Rattle.qcow2_image.specs.declared.mapping.Mapping.{Mapping};
 ghost use Rattle.qcow2_image.specs.Image.{is_failed, is_writable, size_of};
 ghost use Rattle.qcow2_image.specs.declared.prepared.Prepared.{Prepared};
-ghost use Rattle.qcow2_session.specs.Causes.{IsRightlyRefused};
+ghost use Rattle.qcow2_session.specs.Causes.{RefusalJustified};
 ghost use Rattle.qcow2_session.specs.CountedFaults.{CommandCounts, refusal_in};
 ghost use Rattle.qcow2_session.specs.Marks.{MarksAtOnce};
 ghost use Rattle.qcow2_session.specs.Sessions.{CommandSteps, Finds};
-ghost use Rattle.qcow2_session.specs.Told.{KeepsItself, TellsOfImage};
+ghost use Rattle.qcow2_session.specs.Told.{KeepsItself, ReplyMatchesImage};
 ghost use Rattle.qcow2_session.specs.declared.session.Command.TheVariants.{ResizeGrow, ResizeShrink};
 ghost use Rattle.qcow2_session.specs.declared.slots.Slots.{Slots};
 
@@ -29,7 +29,7 @@ pub(crate) fn grow<S: Storage, F: WrappedFormat<S>>(
     ensures header_cluster { PreservesHeaderCluster S.view image.old image.new }
     ensures marks { MarksAtOnce S.view (refusal_in result) image.old image.new }
     ensures causes { (before : List (Option Prepared)) (found : ℕ → Option Mapping)
-        → IsRightlyRefused S.view F.backing image.old image.new before found (ResizeGrow size mode) result }
+        → RefusalJustified S.view F.backing image.old image.new before found (ResizeGrow size mode) result }
     ensures command_step { (slots : Slots) → CommandSteps S.view F.backing image.old image.new slots slots (ResizeGrow size mode) result }
     ensures finds { (slots : Slots) → Finds slots slots (ResizeGrow size mode) result }
 {
@@ -47,9 +47,9 @@ pub(crate) fn shrink<S: Storage, F: WrappedFormat<S>>(image: &mut Qcow2<S, F>, s
     ensures faults { CommandCounts S.view F.backing image.old image.new result }
     ensures header_cluster { PreservesHeaderCluster S.view image.old image.new }
     ensures marks { MarksAtOnce S.view (refusal_in result) image.old image.new }
-    ensures tells { (before : List (Option Prepared)) → TellsOfImage S.view F.backing image.old image.new before before (ResizeShrink size) result }
+    ensures tells { (before : List (Option Prepared)) → ReplyMatchesImage S.view F.backing image.old image.new before before (ResizeShrink size) result }
     ensures causes { (before : List (Option Prepared)) (found : ℕ → Option Mapping)
-        → IsRightlyRefused S.view F.backing image.old image.new before found (ResizeShrink size) result }
+        → RefusalJustified S.view F.backing image.old image.new before found (ResizeShrink size) result }
     ensures command_step { (slots : Slots) → CommandSteps S.view F.backing image.old image.new slots slots (ResizeShrink size) result }
     ensures finds { (slots : Slots) → Finds slots slots (ResizeShrink size) result }
 {

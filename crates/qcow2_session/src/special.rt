@@ -9,11 +9,11 @@ ghost use Rattle.qcow2_image.specs.Refusals.{IsMet, unusable};
 ghost use Rattle.qcow2_alloc.specs.declared.error.ImageError.TheVariants.{Compressed, NotCompressed};
 ghost use Rattle.qcow2_image.specs.ImageInvariant.{abstract_of};
 ghost use Rattle.qcow2_image.specs.declared.prepared.Prepared.{Prepared};
-ghost use Rattle.qcow2_session.specs.Causes.{IsRightlyRefused};
+ghost use Rattle.qcow2_session.specs.Causes.{RefusalJustified};
 ghost use Rattle.qcow2_session.specs.Commands.{IsOwnOffset, TellsPlain, TellsSpecial};
 ghost use Rattle.qcow2_session.specs.Sessions.{CommandSteps, Finds};
 ghost use Rattle.qcow2_image.specs.Unwritten.{ReadsQuietly};
-ghost use Rattle.qcow2_session.specs.Told.{TellsOfImage};
+ghost use Rattle.qcow2_session.specs.Told.{ReplyMatchesImage};
 ghost use Rattle.qcow2_session.specs.declared.session.Command.TheVariants.{ReadvSpecial, TryReadvSpecial};
 ghost use Rattle.qcow2_session.specs.declared.slots.Slots.{Slots};
 
@@ -31,7 +31,7 @@ pub(crate) fn readv_special<S: Storage, F: WrappedFormat<S>>(
 ) -> Reply
     ensures step { CommandStep S.view F.backing image.old image.new result }
     ensures causes { (before : List (Option Prepared)) (found : ℕ → Option Mapping)
-        → IsRightlyRefused S.view F.backing image.old image.new before found (ReadvSpecial offset length) result }
+        → RefusalJustified S.view F.backing image.old image.new before found (ReadvSpecial offset length) result }
     ensures command_step { (slots : Slots) → CommandSteps S.view F.backing image.old image.new slots slots (ReadvSpecial offset length) result }
     ensures finds { (slots : Slots) → Finds slots slots (ReadvSpecial offset length) result }
     ensures quiet { ReadsQuietly S.view image.old image.new }
@@ -51,9 +51,9 @@ pub(crate) fn try_readv_special<S: Storage, F: WrappedFormat<S>>(
 ) -> Reply
     ensures step { CommandStep S.view F.backing image.old image.new result }
     ensures tells { (before : List (Option Prepared))
-        → TellsOfImage S.view F.backing image.old image.new before before (TryReadvSpecial offset length) result }
+        → ReplyMatchesImage S.view F.backing image.old image.new before before (TryReadvSpecial offset length) result }
     ensures causes { (before : List (Option Prepared)) (found : ℕ → Option Mapping)
-        → IsRightlyRefused S.view F.backing image.old image.new before found (TryReadvSpecial offset length) result }
+        → RefusalJustified S.view F.backing image.old image.new before found (TryReadvSpecial offset length) result }
     ensures command_step { (slots : Slots) → CommandSteps S.view F.backing image.old image.new slots slots (TryReadvSpecial offset length) result }
     ensures finds { (slots : Slots) → Finds slots slots (TryReadvSpecial offset length) result }
     ensures quiet { ReadsQuietly S.view image.old image.new }

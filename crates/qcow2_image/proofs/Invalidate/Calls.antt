@@ -19,7 +19,7 @@ use Rattle.qcow2_alloc.proofs.KeptMarks.{notes_then}
 use Rattle.qcow2_image.specs.Image.{is_writable, leaked_in, ImageStays, IsBegun}
 use Rattle.qcow2_image.specs.ImageInvariant.{HasL1Table, ImageInvariant}
 use Rattle.qcow2_image.specs.ImageSteps.{ImageStep}
-use Rattle.qcow2_image.specs.Invalidated.{ArePlacesFor, DropsCached, HeedsPrepared, HoldsNoTable, IsAsStored, IsAtRest, IsReasonAgainstPlaces, IsReasonAgainstReading, IsOfPrepared, IsReasonNotToRead, IsStillInUse, KeepsTables, ReadsAnew, ReadsPlaces, TakesTables, reftable_in}
+use Rattle.qcow2_image.specs.Invalidated.{ArePlacesFor, DropsCached, RespectsPrepared, HoldsNoTable, IsAsStored, IsAtRest, IsReasonAgainstPlaces, IsReasonAgainstReading, IsOfPrepared, IsReasonNotToRead, IsStillInUse, KeepsTables, ReadsAnew, ReadsPlaces, TakesTables, reftable_in}
 use Rattle.qcow2_image.specs.PinnedTables.{HasPinnedTable}
 use Rattle.qcow2_image.specs.Readable.{IsReasonAgainstTables}
 use Rattle.qcow2_image.specs.Unwritten.{ContentsStayThroughout}
@@ -182,7 +182,7 @@ module _ {S F : Type 0} (view : S → StorageView) (old new : Qcow2 S F) where
 
 -- ---- while a mapping is prepared, and where it is told so
 module _ {S F : Type 0} (old : Qcow2 S F) where
-  pub heeds_all : (r : Result (Unit {0}) ImageError) → HasPinnedTable old → HeedsPrepared old r → IsErrAnd r IsOfPrepared
+  pub heeds_all : (r : Result (Unit {0}) ImageError) → HasPinnedTable old → RespectsPrepared old r → IsErrAnd r IsOfPrepared
   heeds_all (Ok x) has none = absurd (none has)
   heeds_all (Err (I.StillInUse tables)) has heeds = inl tt
   heeds_all (Err I.Memory) has heeds = inr refl
@@ -200,7 +200,7 @@ module _ {S F : Type 0} (view : S → StorageView) (old begun : Qcow2 S F) (begi
   had_begun : HasPinnedTable begun → HasPinnedTable old
   had_begun has = record { cluster = has.cluster; pins = subst (λ (m : MetadataCaches S). 0 < l2_pins m has.cluster) begins.caches has.pins }
 
-  pub heeds_begun : (r : Result (Unit {0}) ImageError) → HeedsPrepared begun r → HeedsPrepared old r
+  pub heeds_begun : (r : Result (Unit {0}) ImageError) → RespectsPrepared begun r → RespectsPrepared old r
   heeds_begun (Ok x) none = λ has. none (has_begun has)
   heeds_begun (Err (I.StillInUse tables)) heeds = tt
   heeds_begun (Err I.Memory) heeds = tt

@@ -36,7 +36,7 @@ use Rattle.qcow2_alloc.proofs.HeaderClusters.{bytes_stay}
 use Rattle.qcow2_image.specs.BehindHeader.{IsBesideNumbers, KeepsTablesBehind}
 use Rattle.qcow2_image.specs.Faults.{CountsImageFaults, SameFaults}
 use Rattle.qcow2_image.specs.Image.{leaked_by, leaked_in}
-use Rattle.qcow2_image.specs.Invalidated.{HeedsPrepared, HoldsNoTable, HoldsPinnedAlone, IsAtRest, IsReasonAgainstReading}
+use Rattle.qcow2_image.specs.Invalidated.{RespectsPrepared, HoldsNoTable, HoldsPinnedAlone, IsAtRest, IsReasonAgainstReading}
 use Rattle.qcow2_image.specs.PinnedTables.{HasPinnedTable}
 use Rattle.qcow2_image.proofs.Call.FaultCounts.{counted_ok, fewer_of}
 use Rattle.qcow2_image.proofs.Call.Called.{keeps_then}
@@ -160,16 +160,16 @@ module _ {S F : Type 0} (view : S → StorageView) (backing : F → BackingView)
   pub none_in_use : (none : pinned old.file.caches.l2.entries ≡ []) → ¬ HasPinnedTable old
   none_in_use none has = let no = none_pinned (λ k. has.cluster == k) old.file.caches.l2.entries none in let some = has.pins in absurd (omega (arith, no, some))
 
-  pub heeds_none : ¬ HasPinnedTable old → (r : Result (Unit {0}) ImageError) → HeedsPrepared old r
+  pub heeds_none : ¬ HasPinnedTable old → (r : Result (Unit {0}) ImageError) → RespectsPrepared old r
   heeds_none none (Ok x) = none
   heeds_none none (Err (I.StillInUse tables)) = tt
   heeds_none none (Err I.Memory) = tt
   heeds_none none (Err e) = none
 
-  pub heeds_left : (e : ImageError) → LeavesPinned old.file.caches.l2.entries (Err e) new.file.caches.l2.entries → HeedsPrepared {T = Unit {0}} old (Err e)
+  pub heeds_left : (e : ImageError) → LeavesPinned old.file.caches.l2.entries (Err e) new.file.caches.l2.entries → RespectsPrepared {T = Unit {0}} old (Err e)
   heeds_left e left = elim left.1 [
-    | inl memory ↦ subst (λ (x : ImageError). HeedsPrepared {T = Unit {0}} old (Err x)) (sym memory.0) tt
-    | inr used ↦ subst (λ (x : ImageError). HeedsPrepared {T = Unit {0}} old (Err x)) (sym used.1) tt
+    | inl memory ↦ subst (λ (x : ImageError). RespectsPrepared {T = Unit {0}} old (Err x)) (sym memory.0) tt
+    | inr used ↦ subst (λ (x : ImageError). RespectsPrepared {T = Unit {0}} old (Err x)) (sym used.1) tt
   ]
 
   pub why_left : (e : ImageError) → LeavesPinned old.file.caches.l2.entries (Err e) new.file.caches.l2.entries → ((c : ℕ) → l2_pins new.file.caches c ≡ l2_pins old.file.caches c) → IsReasonAgainstReading view old new e

@@ -16,7 +16,7 @@ use Rattle.qcow2_image.specs.declared.image.Qcow2.{Qcow2}
 use Rattle.qcow2_image.specs.declared.mapping.MappingKind.{MappingKind}
 use Rattle.qcow2_image.specs.declared.mapping.MappingKind.TheVariants as M
 use Rattle.qcow2_image.specs.Found.{found_kind, mapping_of, IsRunBehind}
-use Rattle.qcow2_image.specs.HeldMappings.{HeedsHeld, IsHeldAs, IsLongestSo, IsMappedBy, IsMappedSo, KeepsHeld, named_place}
+use Rattle.qcow2_image.specs.HeldMappings.{FitsTables, IsHeldAs, IsLongestSo, IsMappedBy, IsMappedSo, KeepsHeld, named_place}
 use Rattle.qcow2_image.proofs.Map.Looked.{kind_within, product_le, same_kind}
 
 below_count : (k count size : ℕ) → k * size < count * size → k < count
@@ -143,12 +143,12 @@ module _ {S F : Type 0} where
 
   module _ {A : Type 0} (offset : ℕ) (kind : MappingKind) (n : ℕ) where
     -- so a part that isn't refused 10 heeds them
-    pub heeds_then : (image : Qcow2 S F) (result : Result A ImageError) → (result ≡ Err OutdatedMapping → ⊥) → IsHeldAs image offset kind n → HeedsHeld image offset kind n result
+    pub heeds_then : (image : Qcow2 S F) (result : Result A ImageError) → (result ≡ Err OutdatedMapping → ⊥) → IsHeldAs image offset kind n → FitsTables image offset kind n result
     heeds_then image (Ok done) current is = is
     heeds_then image (Err e) current is = λ outdated. absurd (current (ap Err outdated))
 
     -- as it does behind calls that leave the tables in memory
-    pub heeds_on : (old new : Qcow2 S F) (result : Result A ImageError) → KeepsHeld old new → HeedsHeld old offset kind n result → HeedsHeld new offset kind n result
+    pub heeds_on : (old new : Qcow2 S F) (result : Result A ImageError) → KeepsHeld old new → FitsTables old offset kind n result → FitsTables new offset kind n result
     heeds_on old new (Ok done) keeps is = held_as old new offset kind n keeps is
     heeds_on old new (Err e) keeps isnt = λ outdated is. isnt outdated (held_as new old offset kind n (keeps_back keeps) is)
 

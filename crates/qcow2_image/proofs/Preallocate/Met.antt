@@ -29,7 +29,7 @@ use Rattle.qcow2_image.specs.Clearing.{IsUnderMapping}
 use Rattle.qcow2_image.specs.Found.{l1_index_of}
 use Rattle.qcow2_image.specs.ImageInvariant.{ImageInvariant}
 use Rattle.qcow2_image.specs.L1Entries.{NeedsOverflowingL1Entry, ReachesOffset, IsPlacedNear}
-use Rattle.qcow2_image.specs.MetAlone.{copied_end, CopiesCompressed, HasCompressedIn, HasNearEntries, IsMetGrowing, IsMetTaking, KeepsL1Place}
+use Rattle.qcow2_image.specs.MetAlone.{copied_end, CopiesCompressed, HasCompressedIn, HasNearEntries, IsMetGrowing, MayFailAllocating, KeepsL1Place}
 use Rattle.qcow2_image.specs.MovedTables.{MovesTables}
 use Rattle.qcow2_image.specs.Preallocation.{FillsPart}
 use Rattle.qcow2_image.specs.Preparing.{IsTaken}
@@ -151,8 +151,8 @@ module _ {S F : Type 0} (view : S → StorageView) (backing : F → BackingView)
         needs.0.far (room_near h image.l1_table.cluster_bits image.l1_table.cluster (l1_index_of h from) sound.l1_table.bits (sound.l1_table.cluster (omega (arith, inside))) inside near.near)
 
     -- what preparing the first bytes of a range meets
-    pub met_piece : (n : ℕ) → from + n ≤ to → (overwrite : Bool) (e : ImageError) → IsMetTaking (HasPinnedMapping out) (IsTaken image.file.header.fields (known_in view image.file) from n out) (CopiesCompressed from n overwrite image.file.header.fields (known_in view image.file)) (NeedsOverflowingL1Entry image from) e
-        → IsMetTaking (HasPinnedMapping out) (HasPinnedMapping out) (HasCompressedIn from to image.file.header.fields (known_in view image.file)) ⊥ e
+    pub met_piece : (n : ℕ) → from + n ≤ to → (overwrite : Bool) (e : ImageError) → MayFailAllocating (HasPinnedMapping out) (IsTaken image.file.header.fields (known_in view image.file) from n out) (CopiesCompressed from n overwrite image.file.header.fields (known_in view image.file)) (NeedsOverflowingL1Entry image from) e
+        → MayFailAllocating (HasPinnedMapping out) (HasPinnedMapping out) (HasCompressedIn from to image.file.header.fields (known_in view image.file)) ⊥ e
     met_piece n within overwrite e met =
         let h = image.file.header.fields in
         let known = known_in view image.file in
@@ -177,8 +177,8 @@ module _ {S F : Type 0} (view : S → StorageView) (backing : F → BackingView)
         compressed_wider h (known_in view old.file) x y from' to' low high
         (compressed_moved h h' (known_in view old.file) (known_in view now.file) from' to' part.header (still_compressed (cluster_size h) (pow_pos h.cluster_bits) first from at h (known_in view old.file) h' (known_in view now.file) part.covers) has)
 
-    pub met_before : (from' to' x y : ℕ) → x ≤ from' → to' ≤ y → (e : ImageError) → IsMetTaking (HasPinnedMapping out) (HasPinnedMapping out) (HasCompressedIn from' to' now.file.header.fields (known_in view now.file)) ⊥ e
-        → IsMetTaking (HasPinnedMapping out) (HasPinnedMapping out) (HasCompressedIn x y old.file.header.fields (known_in view old.file)) ⊥ e
+    pub met_before : (from' to' x y : ℕ) → x ≤ from' → to' ≤ y → (e : ImageError) → MayFailAllocating (HasPinnedMapping out) (HasPinnedMapping out) (HasCompressedIn from' to' now.file.header.fields (known_in view now.file)) ⊥ e
+        → MayFailAllocating (HasPinnedMapping out) (HasPinnedMapping out) (HasCompressedIn x y old.file.header.fields (known_in view old.file)) ⊥ e
     met_before from' to' x y low high e met = taking_as (λ held. held) (λ kept. kept) (compressed_before from' to' x y low high) (λ never. never) e met
 
     -- the entries that they reach are near still: the L1 table stays where it is

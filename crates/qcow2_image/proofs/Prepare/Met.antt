@@ -29,7 +29,7 @@ use Rattle.qcow2_alloc.proofs.AllocationSteps.{handed_on}
 use Rattle.qcow2_alloc.proofs.KeptTables.Standing.{own_cluster}
 use Rattle.qcow2_image.specs.Found.{found_kind}
 use Rattle.qcow2_image.specs.ImageInvariant.{ImageInvariant}
-use Rattle.qcow2_image.specs.MetAlone.{IsMetAlone, IsMetMapped, IsMetReading, IsSpecial}
+use Rattle.qcow2_image.specs.MetAlone.{MayFailAlone, IsMetMapped, IsMetReading, IsSpecial}
 use Rattle.qcow2_image.specs.Refusals.{IsFaultOrLimit}
 use Rattle.qcow2_image.specs.declared.image.Qcow2.{Qcow2}
 use Rattle.qcow2_image.specs.declared.mapping.MappingKind.{MappingKind}
@@ -54,7 +54,7 @@ pub limit_alone : (C : Type 0) (e : ImageError) → IsFaultOr C e → IsFaultOrL
 limit_alone C e why = elim why [ inl fault ↦ inl fault | inr limit ↦ inr limit.0 ]
 
 -- filling a cluster is part of taking one
-pub filling_met : (B C D : Type 0) (e : ImageError) → (B → C) → IsFault e ⊎ ((e ≡ I.Compressed) × B) → IsMetAlone C D e
+pub filling_met : (B C D : Type 0) (e : ImageError) → (B → C) → IsFault e ⊎ ((e ≡ I.Compressed) × B) → MayFailAlone C D e
 filling_met B C D e to why = elim why [ inl fault ↦ inl (inl fault) | inr compressed ↦ inr (inl (compressed.0, to compressed.1)) ]
 
 -- ---- kinds of mappings

@@ -17,7 +17,7 @@ use Rattle.qcow2_image.specs.declared.image.Qcow2.{Qcow2}
 use Rattle.qcow2_image.specs.declared.prepared.Prepared.{Prepared}
 use Rattle.qcow2_image.specs.declared.prepared.Share.{Share}
 use Rattle.qcow2_image.specs.ImageInvariant.{cluster_of, pending_in, pins_by, IsPending, IsReadyWith, ImageInvariant}
-use Rattle.qcow2_image.specs.MetAlone.{IsMetAlone, KeepsL1Place}
+use Rattle.qcow2_image.specs.MetAlone.{MayFailAlone, KeepsL1Place}
 use Rattle.qcow2_image.specs.Ranges.{MayGoOn}
 use Rattle.qcow2_image.proofs.Apart.{pins_own}
 use Rattle.qcow2_image.proofs.Commit.Entered.{HasFirst, pinned_new_data}
@@ -28,7 +28,7 @@ use Rattle.qcow2_image.proofs.Shares.{over_all_at}
 -- ---- refusals
 
 -- the causes follow from those of a part
-pub alone_as : {C D C' D' : Type 0} → (C → C') → (D → D') → (e : ImageError) → IsMetAlone C D e → IsMetAlone C' D' e
+pub alone_as : {C D C' D' : Type 0} → (C → C') → (D → D') → (e : ImageError) → MayFailAlone C D e → MayFailAlone C' D' e
 alone_as compressed far e met = elim met [
   | inl why ↦ inl why
   | inr cause ↦ elim cause [ inl one ↦ inr (inl (one.0, compressed one.1)) | inr one ↦ inr (inr (one.0, far one.1)) ]

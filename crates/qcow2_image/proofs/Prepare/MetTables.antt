@@ -26,7 +26,7 @@ use Rattle.qcow2_image.specs.declared.prepared.Prepared.{Prepared}
 use Rattle.qcow2_image.specs.Found.{l1_index_of}
 use Rattle.qcow2_image.specs.ImageInvariant.{ImageInvariant, pending_in}
 use Rattle.qcow2_image.specs.L1Entries.{NeedsOverflowingL1Entry}
-use Rattle.qcow2_image.specs.MetAlone.{IsMetAlone, IsMetLooking}
+use Rattle.qcow2_image.specs.MetAlone.{MayFailAlone, IsMetLooking}
 use Rattle.qcow2_image.specs.NewTables.{IsStored}
 use Rattle.qcow2_image.specs.UnseenSteps.{HoldsTable}
 use Rattle.qcow2_image.proofs.Clear.Between.{fits_table}
@@ -35,8 +35,8 @@ use Rattle.qcow2_image.proofs.Prepare.Placing.{holds, keeps_placed, keeps_stored
 
 -- ---- refusals
 module _ {A : Type 0} (compressed far : Type 0) where
-  pub hands_alone : (r : Result A ImageError) (e : ImageError) → IsErr r × IsErrAnd r (λ x. x ≡ e) → IsMetAlone compressed far e → IfErr r (IsMetAlone compressed far)
-  hands_alone r e on why = handed_on (λ (x : Result _ _). IfErr x (IsMetAlone compressed far)) r e on why
+  pub hands_alone : (r : Result A ImageError) (e : ImageError) → IsErr r × IsErrAnd r (λ x. x ≡ e) → MayFailAlone compressed far e → IfErr r (MayFailAlone compressed far)
+  hands_alone r e on why = handed_on (λ (x : Result _ _). IfErr x (MayFailAlone compressed far)) r e on why
 
 module _ {S F : Type 0} (view : S → StorageView) (backing : F → BackingView) (out : List (Option Prepared)) where
   -- a table is loaded but for a fault, or where a mapping is prepared

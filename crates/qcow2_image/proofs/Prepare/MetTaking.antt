@@ -3,18 +3,18 @@ use Rattle.std.proofs.Common.{◌≡◌, inl, inr, Result, Ok, Err}
 use Rattle.std.specs.Prelude.{IfErr}
 use Rattle.qcow2_alloc.specs.declared.error.ImageError.{ImageError}
 use Rattle.qcow2_alloc.specs.declared.error.ImageError.TheVariants as I
-use Rattle.qcow2_image.specs.MetAlone.{IsMetLooking, IsMetTaking}
+use Rattle.qcow2_image.specs.MetAlone.{IsMetLooking, MayFailAllocating}
 use Rattle.qcow2_image.proofs.Prepare.MetRanges.{alone_as}
 
 -- the causes follow from those of a part
-pub taking_as : {H K C D H' K' C' D' : Type 0} → (H → H') → (K → K') → (C → C') → (D → D') → (e : ImageError) → IsMetTaking H K C D e → IsMetTaking H' K' C' D' e
+pub taking_as : {H K C D H' K' C' D' : Type 0} → (H → H') → (K → K') → (C → C') → (D → D') → (e : ImageError) → MayFailAllocating H K C D e → MayFailAllocating H' K' C' D' e
 taking_as held kept compressed far e met = elim met [
   | inl alone ↦ inl (alone_as compressed far e alone)
   | inr other ↦ elim other [ inl used ↦ inr (inl (used.0, held used.1)) | inr table ↦ inr (inr (table.0, kept table.1)) ]
 ]
 
 -- why a table is kept is told beside it
-pub taking_kept : {H K C D K' C' D' : Type 0} → (C → C') → (D → D') → (e : ImageError) → (e ≡ I.TablePrepared → K') → IsMetTaking H K C D e → IsMetTaking H K' C' D' e
+pub taking_kept : {H K C D K' C' D' : Type 0} → (C → C') → (D → D') → (e : ImageError) → (e ≡ I.TablePrepared → K') → MayFailAllocating H K C D e → MayFailAllocating H K' C' D' e
 taking_kept compressed far e kept met = elim met [
   | inl alone ↦ inl (alone_as compressed far e alone)
   | inr other ↦ elim other [ inl used ↦ inr (inl used) | inr table ↦ inr (inr (table.0, kept table.0)) ]
@@ -26,5 +26,5 @@ if_err_both to (Ok x) p q = tt
 if_err_both to (Err e) p q = to e p q
 
 -- a lookup is part of it
-pub looking_taking : {H : Type 0} (K C D : Type 0) (e : ImageError) → IsMetLooking H e → IsMetTaking H K C D e
+pub looking_taking : {H : Type 0} (K C D : Type 0) (e : ImageError) → IsMetLooking H e → MayFailAllocating H K C D e
 looking_taking K C D e met = elim met [ inl fault ↦ inl (inl (inl fault)) | inr used ↦ inr (inl used) ]

@@ -12,7 +12,7 @@ use Rattle.qcow2_image.specs.declared.image.Qcow2.{Qcow2}
 use Rattle.qcow2_image.specs.declared.prepared.Prepared.{Prepared}
 use Rattle.qcow2_image.specs.Image.{IsBegun}
 use Rattle.qcow2_image.specs.L1Entries.{HasOwnTable}
-use Rattle.qcow2_image.specs.PinnedTables.{FindsOwn, HeedsPins, PreparesUnpinned, own_pins, own_table}
+use Rattle.qcow2_image.specs.PinnedTables.{FindsOwn, RespectsPins, PreparesUnpinned, own_pins, own_table}
 use Rattle.qcow2_image.specs.Refusals.{IsMet}
 
 pub whole_quotient : (k c o : ℕ) → c * 2 ^ k ≡ o → c ≡ o / 2 ^ k
@@ -31,8 +31,8 @@ module _ {S F : Type 0} where
   pub found_pins : (old new : Qcow2 S F) (offset table : ℕ) → FindsOwn old new offset (Ok table) → l2_pins new.file.caches table ≡ own_pins old offset
   found_pins old new offset table found = found.pins table ∙ ap (l2_pins old.file.caches) found.table
 
-  pub heeds_refused : {A : Type 0} (image : Qcow2 S F) (offset : ℕ) (r : Result A ImageError) (e : ImageError) → IsErr r × IsErrAnd r (λ x. x ≡ e) → (e ≡ TablePrepared → 0 < own_pins image offset) → HeedsPins image offset r
-  heeds_refused image offset r e is why = handed_on (λ (x : Result _ _). HeedsPins image offset x) r e is why
+  pub heeds_refused : {A : Type 0} (image : Qcow2 S F) (offset : ℕ) (r : Result A ImageError) (e : ImageError) → IsErr r × IsErrAnd r (λ x. x ≡ e) → (e ≡ TablePrepared → 0 < own_pins image offset) → RespectsPins image offset r
+  heeds_refused image offset r e is why = handed_on (λ (x : Result _ _). RespectsPins image offset x) r e is why
 
   pub unpinned_refused : (image : Qcow2 S F) (offset : ℕ) (r : Result Prepared ImageError) (e : ImageError) → IsErr r × IsErrAnd r (λ x. x ≡ e) → (e ≡ TablePrepared → 0 < own_pins image offset) → PreparesUnpinned image offset r
   unpinned_refused image offset r e is why = handed_on (λ (x : Result _ _). PreparesUnpinned image offset x) r e is why
@@ -50,7 +50,7 @@ module _ {S F : Type 0} where
   pub begun_own : (old begun : Qcow2 S F) (offset : ℕ) → IsBegun old begun → HasOwnTable old offset → HasOwnTable begun offset
   begun_own old begun offset begins own = subst (λ (i : Qcow2 S F). HasOwnTable i offset) (sym begins.rest) own
 
-  pub heeds_begun : {A : Type 0} (old begun : Qcow2 S F) (offset : ℕ) (r : Result A ImageError) → IsBegun old begun → HeedsPins begun offset r → HeedsPins old offset r
+  pub heeds_begun : {A : Type 0} (old begun : Qcow2 S F) (offset : ℕ) (r : Result A ImageError) → IsBegun old begun → RespectsPins begun offset r → RespectsPins old offset r
   heeds_begun old begun offset (Ok x) begins none = sym (begun_pins old begun offset begins) ∙ none
   heeds_begun old begun offset (Err e) begins taken = λ is. subst (λ n. 0 < n) (begun_pins old begun offset begins) (taken is)
 

@@ -12,7 +12,7 @@ use Rattle.qcow2_session.proofs.LookingUp.{looked_up, none_said}
 use Rattle.qcow2_session.proofs.Meanings.{ranges_after}
 use Rattle.qcow2_session.proofs.Places.{surplus_none}
 use Rattle.qcow2_session.proofs.Runs.{GoesOn, first_of_all, command_step_on, map_more}
-use Rattle.qcow2_session.specs.Told.{IsToldRun, RunPoint, first_point}
+use Rattle.qcow2_session.specs.Told.{IsReportedRun, RunPoint, first_point}
 use Rattle.qcow2_session.proofs.Told.{IsToldSoFar, first_told, image_itself, itself_then, none_before, same_itself, told_more}
 use Rattle.qcow2_session.specs.Sessions.{mappings_in, range_of, IsUntouched}
 use Rattle.qcow2_session.proofs.Unwritten.{existing_none}
@@ -128,7 +128,7 @@ pub returns-clause-tells : goal.returns-clause-tells
 returns-clause-tells g c =
     let all : take c.loop-command.command-index c.args.commands.now ≡ c.args.commands.now = take_all c.loop-command.command-index c.args.commands.now c.loop-command-test.false in
     let told = c.loop-command.invariant.told in
-    inr (subst (λ k. IsToldRun g.S.Storage.view g.F.BackingDisk.backing c.args.image.now c.discard_all.new.image k c.loop-command.replies.items) all (record {
+    inr (subst (λ k. IsReportedRun g.S.Storage.view g.F.BackingDisk.backing c.args.image.now c.discard_all.new.image k c.loop-command.replies.items) all (record {
       points = told.points;
       last = record { image = c.loop-command.image; prepared = c.loop-command.slots.prepared.items; found = mappings_in c.loop-command.slots.mappings.items };
       along = told.along;
@@ -166,7 +166,7 @@ returns-clause-maps g c = λ none opened.
     let before = abstract_of view below old [] in
     ⊎_elim
     (λ (untouched : IsUntouched view below old new replies). none_said b (is_some old.backing) (map command_of commands) replies untouched.0)
-    (λ (told : IsToldRun view below old new commands replies).
+    (λ (told : IsReportedRun view below old new commands replies).
     let steps = told.steps none before.setting (started before) (begins before opened.sound (whole view below old [] opened.sound) opened.clean) in
     looked_up view below before.setting b (first_point old) (begun (started before)) steps.0 commands replies told.points steps.1 refl opened.clean)
     (returns-clause-tells g c)

@@ -7,9 +7,9 @@ use Rattle.qcow2_disk.specs.Runs.{KeepsUnflushed}
 use Rattle.qcow2_session.specs.Commands.{command_of}
 use Rattle.qcow2_session.specs.Sessions.{CommandSteps, mappings_in}
 use Rattle.qcow2_session.proofs.Answering.{reading_first, error_is, write_error_is, not_both, reads_answer, writes_answer, write_refused_answer}
-use Rattle.qcow2_session.specs.Told.{SlotsAfter, TellsOfImage}
+use Rattle.qcow2_session.specs.Told.{SlotsAfter, ReplyMatchesImage}
 use Rattle.qcow2_session.specs.declared.session.Reply.TheVariants.{Bytes, Done, Leaked, Refused, Size, WriteRefused}
-use Rattle.qcow2_session.specs.Causes.{IsRightlyRefused}
+use Rattle.qcow2_session.specs.Causes.{RefusalJustified}
 use Rattle.qcow2_session.proofs.Causing.{read_answered, leaks_answered, read_refused, size_answered, write_answered, write_refused_for}
 use Rattle.qcow2_image.proofs.Call.BehindHeader.{behind_none}
 use Rattle.qcow2_image.proofs.Map.Quiet.{reads_none}
@@ -86,141 +86,141 @@ pub returns-in-ResizeShrink-clause-command_step : goal.returns-in-ResizeShrink-c
 returns-in-ResizeShrink-clause-command_step g c = λ _. subst (λ q. CommandSteps g.S.Storage.view g.F.BackingDisk.backing c.args.image.now c.shrink.new.image c.args.slots.now c.args.slots.now q c.shrink.result) (sym c.in-ResizeShrink.is) (c.shrink.ensures.command_step c.args.slots.now)
 
 pub returns-in-Ok-clause-tells : goal.returns-in-Ok-clause-tells
-returns-in-Ok-clause-tells g c = subst (λ q. TellsOfImage g.S.Storage.view g.F.BackingDisk.backing c.args.image.now c.read.new.image c.args.slots.now.prepared.items c.args.slots.now.prepared.items q (Bytes c.in-Ok.bytes)) (sym c.in-Read.is) tt
+returns-in-Ok-clause-tells g c = subst (λ q. ReplyMatchesImage g.S.Storage.view g.F.BackingDisk.backing c.args.image.now c.read.new.image c.args.slots.now.prepared.items c.args.slots.now.prepared.items q (Bytes c.in-Ok.bytes)) (sym c.in-Read.is) tt
 
 pub returns-in-Err-clause-tells : goal.returns-in-Err-clause-tells
-returns-in-Err-clause-tells g c = subst (λ q. TellsOfImage g.S.Storage.view g.F.BackingDisk.backing c.args.image.now c.read.new.image c.args.slots.now.prepared.items c.args.slots.now.prepared.items q (Refused c.in-Err.refusal)) (sym c.in-Read.is) tt
+returns-in-Err-clause-tells g c = subst (λ q. ReplyMatchesImage g.S.Storage.view g.F.BackingDisk.backing c.args.image.now c.read.new.image c.args.slots.now.prepared.items c.args.slots.now.prepared.items q (Refused c.in-Err.refusal)) (sym c.in-Read.is) tt
 
 pub returns-in-Ok-write-clause-tells : goal.returns-in-Ok-write-clause-tells
-returns-in-Ok-write-clause-tells g c = subst (λ q. TellsOfImage g.S.Storage.view g.F.BackingDisk.backing c.args.image.now c.write.new.image c.args.slots.now.prepared.items c.args.slots.now.prepared.items q Done) (sym c.in-Write.is) (c.in-Ok-write.ensures.freeing c.args.slots.now.prepared.items)
+returns-in-Ok-write-clause-tells g c = subst (λ q. ReplyMatchesImage g.S.Storage.view g.F.BackingDisk.backing c.args.image.now c.write.new.image c.args.slots.now.prepared.items c.args.slots.now.prepared.items q Done) (sym c.in-Write.is) (c.in-Ok-write.ensures.freeing c.args.slots.now.prepared.items)
 
 pub returns-in-Err-write-clause-tells : goal.returns-in-Err-write-clause-tells
-returns-in-Err-write-clause-tells g c = subst (λ q. TellsOfImage g.S.Storage.view g.F.BackingDisk.backing c.args.image.now c.write.new.image c.args.slots.now.prepared.items c.args.slots.now.prepared.items q (WriteRefused c.in-Err-write.refusal c.in-Err-write.done)) (sym c.in-Write.is) tt
+returns-in-Err-write-clause-tells g c = subst (λ q. ReplyMatchesImage g.S.Storage.view g.F.BackingDisk.backing c.args.image.now c.write.new.image c.args.slots.now.prepared.items c.args.slots.now.prepared.items q (WriteRefused c.in-Err-write.refusal c.in-Err-write.done)) (sym c.in-Write.is) tt
 
 pub returns-in-Flush-clause-tells : goal.returns-in-Flush-clause-tells
-returns-in-Flush-clause-tells g c = subst (λ q. TellsOfImage g.S.Storage.view g.F.BackingDisk.backing c.args.image.now c.flush.new.image c.args.slots.now.prepared.items c.args.slots.now.prepared.items q c.flush.result) (sym c.in-Flush.is) tt
+returns-in-Flush-clause-tells g c = subst (λ q. ReplyMatchesImage g.S.Storage.view g.F.BackingDisk.backing c.args.image.now c.flush.new.image c.args.slots.now.prepared.items c.args.slots.now.prepared.items q c.flush.result) (sym c.in-Flush.is) tt
 
 pub returns-in-Sync-clause-tells : goal.returns-in-Sync-clause-tells
-returns-in-Sync-clause-tells g c = subst (λ q. TellsOfImage g.S.Storage.view g.F.BackingDisk.backing c.args.image.now c.sync.new.image c.args.slots.now.prepared.items c.args.slots.now.prepared.items q c.sync.result) (sym c.in-Sync.is) tt
+returns-in-Sync-clause-tells g c = subst (λ q. ReplyMatchesImage g.S.Storage.view g.F.BackingDisk.backing c.args.image.now c.sync.new.image c.args.slots.now.prepared.items c.args.slots.now.prepared.items q c.sync.result) (sym c.in-Sync.is) tt
 
 pub returns-in-Size-clause-tells : goal.returns-in-Size-clause-tells
-returns-in-Size-clause-tells g c = subst (λ q. TellsOfImage g.S.Storage.view g.F.BackingDisk.backing c.args.image.now c.args.image.now c.args.slots.now.prepared.items c.args.slots.now.prepared.items q (Size c.size.result)) (sym c.in-Size.is) c.size.ensures.value
+returns-in-Size-clause-tells g c = subst (λ q. ReplyMatchesImage g.S.Storage.view g.F.BackingDisk.backing c.args.image.now c.args.image.now c.args.slots.now.prepared.items c.args.slots.now.prepared.items q (Size c.size.result)) (sym c.in-Size.is) c.size.ensures.value
 
 pub returns-in-Leaked-clause-tells : goal.returns-in-Leaked-clause-tells
-returns-in-Leaked-clause-tells g c = subst (λ q. TellsOfImage g.S.Storage.view g.F.BackingDisk.backing c.args.image.now c.args.image.now c.args.slots.now.prepared.items c.args.slots.now.prepared.items q (Leaked c.leaked_clusters.result)) (sym c.in-Leaked.is) c.leaked_clusters.ensures
+returns-in-Leaked-clause-tells g c = subst (λ q. ReplyMatchesImage g.S.Storage.view g.F.BackingDisk.backing c.args.image.now c.args.image.now c.args.slots.now.prepared.items c.args.slots.now.prepared.items q (Leaked c.leaked_clusters.result)) (sym c.in-Leaked.is) c.leaked_clusters.ensures
 
 pub returns-in-GetMapping-clause-tells : goal.returns-in-GetMapping-clause-tells
-returns-in-GetMapping-clause-tells g c = subst (λ q. TellsOfImage g.S.Storage.view g.F.BackingDisk.backing c.args.image.now c.get_mapping.new.image c.args.slots.now.prepared.items c.get_mapping.new.slots.prepared.items q c.get_mapping.result) (sym c.in-GetMapping.is) c.get_mapping.ensures.tells
+returns-in-GetMapping-clause-tells g c = subst (λ q. ReplyMatchesImage g.S.Storage.view g.F.BackingDisk.backing c.args.image.now c.get_mapping.new.image c.args.slots.now.prepared.items c.get_mapping.new.slots.prepared.items q c.get_mapping.result) (sym c.in-GetMapping.is) c.get_mapping.ensures.tells
 
 pub returns-in-ReadMapped-clause-tells : goal.returns-in-ReadMapped-clause-tells
-returns-in-ReadMapped-clause-tells g c = subst (λ q. TellsOfImage g.S.Storage.view g.F.BackingDisk.backing c.args.image.now c.read_mapped.new.image c.args.slots.now.prepared.items c.args.slots.now.prepared.items q c.read_mapped.result) (sym c.in-ReadMapped.is) tt
+returns-in-ReadMapped-clause-tells g c = subst (λ q. ReplyMatchesImage g.S.Storage.view g.F.BackingDisk.backing c.args.image.now c.read_mapped.new.image c.args.slots.now.prepared.items c.args.slots.now.prepared.items q c.read_mapped.result) (sym c.in-ReadMapped.is) tt
 
 pub returns-in-PrepareDataMapping-clause-tells : goal.returns-in-PrepareDataMapping-clause-tells
-returns-in-PrepareDataMapping-clause-tells g c = subst (λ q. TellsOfImage g.S.Storage.view g.F.BackingDisk.backing c.args.image.now c.prepare.new.image c.args.slots.now.prepared.items c.prepare.new.slots.prepared.items q c.prepare.result) (sym c.in-PrepareDataMapping.is) c.prepare.ensures.tells
+returns-in-PrepareDataMapping-clause-tells g c = subst (λ q. ReplyMatchesImage g.S.Storage.view g.F.BackingDisk.backing c.args.image.now c.prepare.new.image c.args.slots.now.prepared.items c.prepare.new.slots.prepared.items q c.prepare.result) (sym c.in-PrepareDataMapping.is) c.prepare.ensures.tells
 
 pub returns-in-WriteMapped-clause-tells : goal.returns-in-WriteMapped-clause-tells
-returns-in-WriteMapped-clause-tells g c = subst (λ q. TellsOfImage g.S.Storage.view g.F.BackingDisk.backing c.args.image.now c.write_mapped.new.image c.args.slots.now.prepared.items c.args.slots.now.prepared.items q c.write_mapped.result) (sym c.in-WriteMapped.is) tt
+returns-in-WriteMapped-clause-tells g c = subst (λ q. ReplyMatchesImage g.S.Storage.view g.F.BackingDisk.backing c.args.image.now c.write_mapped.new.image c.args.slots.now.prepared.items c.args.slots.now.prepared.items q c.write_mapped.result) (sym c.in-WriteMapped.is) tt
 
 pub returns-in-CommitDataMapping-clause-tells : goal.returns-in-CommitDataMapping-clause-tells
-returns-in-CommitDataMapping-clause-tells g c = subst (λ q. TellsOfImage g.S.Storage.view g.F.BackingDisk.backing c.args.image.now c.commit.new.image c.args.slots.now.prepared.items c.commit.new.slots.prepared.items q c.commit.result) (sym c.in-CommitDataMapping.is) tt
+returns-in-CommitDataMapping-clause-tells g c = subst (λ q. ReplyMatchesImage g.S.Storage.view g.F.BackingDisk.backing c.args.image.now c.commit.new.image c.args.slots.now.prepared.items c.commit.new.slots.prepared.items q c.commit.result) (sym c.in-CommitDataMapping.is) tt
 
 pub returns-in-DiscardDataMapping-clause-tells : goal.returns-in-DiscardDataMapping-clause-tells
-returns-in-DiscardDataMapping-clause-tells g c = subst (λ q. TellsOfImage g.S.Storage.view g.F.BackingDisk.backing c.args.image.now c.discard.new.image c.args.slots.now.prepared.items c.discard.new.slots.prepared.items q c.discard.result) (sym c.in-DiscardDataMapping.is) tt
+returns-in-DiscardDataMapping-clause-tells g c = subst (λ q. ReplyMatchesImage g.S.Storage.view g.F.BackingDisk.backing c.args.image.now c.discard.new.image c.args.slots.now.prepared.items c.discard.new.slots.prepared.items q c.discard.result) (sym c.in-DiscardDataMapping.is) tt
 
 pub returns-in-EnsureZeroMapping-clause-tells : goal.returns-in-EnsureZeroMapping-clause-tells
-returns-in-EnsureZeroMapping-clause-tells g c = subst (λ q. TellsOfImage g.S.Storage.view g.F.BackingDisk.backing c.args.image.now c.ensure_zero.new.image c.args.slots.now.prepared.items c.args.slots.now.prepared.items q c.ensure_zero.result) (sym c.in-EnsureZeroMapping.is) (c.ensure_zero.ensures.tells c.args.slots.now.prepared.items)
+returns-in-EnsureZeroMapping-clause-tells g c = subst (λ q. ReplyMatchesImage g.S.Storage.view g.F.BackingDisk.backing c.args.image.now c.ensure_zero.new.image c.args.slots.now.prepared.items c.args.slots.now.prepared.items q c.ensure_zero.result) (sym c.in-EnsureZeroMapping.is) (c.ensure_zero.ensures.tells c.args.slots.now.prepared.items)
 
 pub returns-in-DiscardToZero-clause-tells : goal.returns-in-DiscardToZero-clause-tells
-returns-in-DiscardToZero-clause-tells g c = subst (λ q. TellsOfImage g.S.Storage.view g.F.BackingDisk.backing c.args.image.now c.discard_to_zero.new.image c.args.slots.now.prepared.items c.args.slots.now.prepared.items q c.discard_to_zero.result) (sym c.in-DiscardToZero.is) (c.discard_to_zero.ensures.tells c.args.slots.now.prepared.items)
+returns-in-DiscardToZero-clause-tells g c = subst (λ q. ReplyMatchesImage g.S.Storage.view g.F.BackingDisk.backing c.args.image.now c.discard_to_zero.new.image c.args.slots.now.prepared.items c.args.slots.now.prepared.items q c.discard_to_zero.result) (sym c.in-DiscardToZero.is) (c.discard_to_zero.ensures.tells c.args.slots.now.prepared.items)
 
 pub returns-in-DiscardToAny-clause-tells : goal.returns-in-DiscardToAny-clause-tells
-returns-in-DiscardToAny-clause-tells g c = subst (λ q. TellsOfImage g.S.Storage.view g.F.BackingDisk.backing c.args.image.now c.discard_to_any.new.image c.args.slots.now.prepared.items c.args.slots.now.prepared.items q c.discard_to_any.result) (sym c.in-DiscardToAny.is) (c.discard_to_any.ensures.tells c.args.slots.now.prepared.items)
+returns-in-DiscardToAny-clause-tells g c = subst (λ q. ReplyMatchesImage g.S.Storage.view g.F.BackingDisk.backing c.args.image.now c.discard_to_any.new.image c.args.slots.now.prepared.items c.args.slots.now.prepared.items q c.discard_to_any.result) (sym c.in-DiscardToAny.is) (c.discard_to_any.ensures.tells c.args.slots.now.prepared.items)
 
 pub returns-in-DiscardToBacking-clause-tells : goal.returns-in-DiscardToBacking-clause-tells
-returns-in-DiscardToBacking-clause-tells g c = subst (λ q. TellsOfImage g.S.Storage.view g.F.BackingDisk.backing c.args.image.now c.discard_to_backing.new.image c.args.slots.now.prepared.items c.args.slots.now.prepared.items q c.discard_to_backing.result) (sym c.in-DiscardToBacking.is) (c.discard_to_backing.ensures.tells c.args.slots.now.prepared.items)
+returns-in-DiscardToBacking-clause-tells g c = subst (λ q. ReplyMatchesImage g.S.Storage.view g.F.BackingDisk.backing c.args.image.now c.discard_to_backing.new.image c.args.slots.now.prepared.items c.args.slots.now.prepared.items q c.discard_to_backing.result) (sym c.in-DiscardToBacking.is) (c.discard_to_backing.ensures.tells c.args.slots.now.prepared.items)
 
 pub returns-in-ReadvSpecial-clause-tells : goal.returns-in-ReadvSpecial-clause-tells
-returns-in-ReadvSpecial-clause-tells g c = subst (λ q. TellsOfImage g.S.Storage.view g.F.BackingDisk.backing c.args.image.now c.readv_special.new.image c.args.slots.now.prepared.items c.args.slots.now.prepared.items q c.readv_special.result) (sym c.in-ReadvSpecial.is) tt
+returns-in-ReadvSpecial-clause-tells g c = subst (λ q. ReplyMatchesImage g.S.Storage.view g.F.BackingDisk.backing c.args.image.now c.readv_special.new.image c.args.slots.now.prepared.items c.args.slots.now.prepared.items q c.readv_special.result) (sym c.in-ReadvSpecial.is) tt
 
 pub returns-in-TryReadvSpecial-clause-tells : goal.returns-in-TryReadvSpecial-clause-tells
-returns-in-TryReadvSpecial-clause-tells g c = subst (λ q. TellsOfImage g.S.Storage.view g.F.BackingDisk.backing c.args.image.now c.try_readv_special.new.image c.args.slots.now.prepared.items c.args.slots.now.prepared.items q c.try_readv_special.result) (sym c.in-TryReadvSpecial.is) (c.try_readv_special.ensures.tells c.args.slots.now.prepared.items)
+returns-in-TryReadvSpecial-clause-tells g c = subst (λ q. ReplyMatchesImage g.S.Storage.view g.F.BackingDisk.backing c.args.image.now c.try_readv_special.new.image c.args.slots.now.prepared.items c.args.slots.now.prepared.items q c.try_readv_special.result) (sym c.in-TryReadvSpecial.is) (c.try_readv_special.ensures.tells c.args.slots.now.prepared.items)
 
 pub returns-in-ResizeGrow-clause-tells : goal.returns-in-ResizeGrow-clause-tells
-returns-in-ResizeGrow-clause-tells g c = subst (λ q. TellsOfImage g.S.Storage.view g.F.BackingDisk.backing c.args.image.now c.grow.new.image c.args.slots.now.prepared.items c.args.slots.now.prepared.items q c.grow.result) (sym c.in-ResizeGrow.is) tt
+returns-in-ResizeGrow-clause-tells g c = subst (λ q. ReplyMatchesImage g.S.Storage.view g.F.BackingDisk.backing c.args.image.now c.grow.new.image c.args.slots.now.prepared.items c.args.slots.now.prepared.items q c.grow.result) (sym c.in-ResizeGrow.is) tt
 
 pub returns-in-ResizeShrink-clause-tells : goal.returns-in-ResizeShrink-clause-tells
-returns-in-ResizeShrink-clause-tells g c = subst (λ q. TellsOfImage g.S.Storage.view g.F.BackingDisk.backing c.args.image.now c.shrink.new.image c.args.slots.now.prepared.items c.args.slots.now.prepared.items q c.shrink.result) (sym c.in-ResizeShrink.is) (c.shrink.ensures.tells c.args.slots.now.prepared.items)
+returns-in-ResizeShrink-clause-tells g c = subst (λ q. ReplyMatchesImage g.S.Storage.view g.F.BackingDisk.backing c.args.image.now c.shrink.new.image c.args.slots.now.prepared.items c.args.slots.now.prepared.items q c.shrink.result) (sym c.in-ResizeShrink.is) (c.shrink.ensures.tells c.args.slots.now.prepared.items)
 
 pub returns-in-Ok-clause-causes : goal.returns-in-Ok-clause-causes
-returns-in-Ok-clause-causes g c = subst (λ q. IsRightlyRefused g.S.Storage.view g.F.BackingDisk.backing c.args.image.now c.read.new.image c.args.slots.now.prepared.items (mappings_in c.args.slots.now.mappings.items) q (Bytes c.in-Ok.bytes)) (sym c.in-Read.is) (read_answered g.S.Storage.view g.F.BackingDisk.backing c.args.image.now c.read.new.image c.args.slots.now.prepared.items _ _ _ _ c.in-Ok.ensures.early)
+returns-in-Ok-clause-causes g c = subst (λ q. RefusalJustified g.S.Storage.view g.F.BackingDisk.backing c.args.image.now c.read.new.image c.args.slots.now.prepared.items (mappings_in c.args.slots.now.mappings.items) q (Bytes c.in-Ok.bytes)) (sym c.in-Read.is) (read_answered g.S.Storage.view g.F.BackingDisk.backing c.args.image.now c.read.new.image c.args.slots.now.prepared.items _ _ _ _ c.in-Ok.ensures.early)
 
 pub returns-in-Err-clause-causes : goal.returns-in-Err-clause-causes
 returns-in-Err-clause-causes g c =
-    subst (λ q. IsRightlyRefused g.S.Storage.view g.F.BackingDisk.backing c.args.image.now c.read.new.image c.args.slots.now.prepared.items (mappings_in c.args.slots.now.mappings.items) q (Refused c.in-Err.refusal))
+    subst (λ q. RefusalJustified g.S.Storage.view g.F.BackingDisk.backing c.args.image.now c.read.new.image c.args.slots.now.prepared.items (mappings_in c.args.slots.now.mappings.items) q (Refused c.in-Err.refusal))
     (sym c.in-Read.is) (read_refused g.S.Storage.view g.F.BackingDisk.backing c.args.image.now c.read.new.image c.args.slots.now.prepared.items _ _ _ c.in-Err.ensures.early c.in-Err.ensures.late c.in-Err.ensures.met)
 
 pub returns-in-Ok-write-clause-causes : goal.returns-in-Ok-write-clause-causes
-returns-in-Ok-write-clause-causes g c = subst (λ q. IsRightlyRefused g.S.Storage.view g.F.BackingDisk.backing c.args.image.now c.write.new.image c.args.slots.now.prepared.items (mappings_in c.args.slots.now.mappings.items) q Done) (sym c.in-Write.is) (write_answered g.S.Storage.view g.F.BackingDisk.backing c.args.image.now c.write.new.image c.args.slots.now.prepared.items _ _ _ (rw c.deref.ensures.value at c.in-Ok-write.ensures.early)
+returns-in-Ok-write-clause-causes g c = subst (λ q. RefusalJustified g.S.Storage.view g.F.BackingDisk.backing c.args.image.now c.write.new.image c.args.slots.now.prepared.items (mappings_in c.args.slots.now.mappings.items) q Done) (sym c.in-Write.is) (write_answered g.S.Storage.view g.F.BackingDisk.backing c.args.image.now c.write.new.image c.args.slots.now.prepared.items _ _ _ (rw c.deref.ensures.value at c.in-Ok-write.ensures.early)
     (λ none sound. (rw c.deref.ensures.value at c.in-Ok-write.ensures.taken_part) none c.args.slots.now.prepared.items sound))
 
 pub returns-in-Err-write-clause-causes : goal.returns-in-Err-write-clause-causes
-returns-in-Err-write-clause-causes g c = subst (λ q. IsRightlyRefused g.S.Storage.view g.F.BackingDisk.backing c.args.image.now c.write.new.image c.args.slots.now.prepared.items (mappings_in c.args.slots.now.mappings.items) q (WriteRefused c.in-Err-write.refusal c.in-Err-write.done)) (sym c.in-Write.is)
+returns-in-Err-write-clause-causes g c = subst (λ q. RefusalJustified g.S.Storage.view g.F.BackingDisk.backing c.args.image.now c.write.new.image c.args.slots.now.prepared.items (mappings_in c.args.slots.now.mappings.items) q (WriteRefused c.in-Err-write.refusal c.in-Err-write.done)) (sym c.in-Write.is)
     (write_refused_for g.S.Storage.view g.F.BackingDisk.backing c.args.image.now c.write.new.image c.args.slots.now.prepared.items _ _ _ _ (rw c.deref.ensures.value at c.in-Err-write.ensures.early) (rw c.deref.ensures.value at c.in-Err-write.ensures.late) (λ none sound. (rw c.deref.ensures.value at c.in-Err-write.ensures.met) none c.args.slots.now.prepared.items sound) (λ none sound. (rw c.deref.ensures.value at c.in-Err-write.ensures.taken) none c.args.slots.now.prepared.items sound)
     (λ none sound. (rw c.deref.ensures.value at c.in-Err-write.ensures.limit) none c.args.slots.now.prepared.items sound) (λ none sound. (rw c.deref.ensures.value at c.in-Err-write.ensures.taken_part) none c.args.slots.now.prepared.items sound))
 
 pub returns-in-Size-clause-causes : goal.returns-in-Size-clause-causes
-returns-in-Size-clause-causes g c = subst (λ q. IsRightlyRefused g.S.Storage.view g.F.BackingDisk.backing c.args.image.now c.args.image.now c.args.slots.now.prepared.items (mappings_in c.args.slots.now.mappings.items) q (Size c.size.result)) (sym c.in-Size.is) (size_answered g.S.Storage.view g.F.BackingDisk.backing c.args.image.now c.args.image.now c.args.slots.now.prepared.items c.size.result)
+returns-in-Size-clause-causes g c = subst (λ q. RefusalJustified g.S.Storage.view g.F.BackingDisk.backing c.args.image.now c.args.image.now c.args.slots.now.prepared.items (mappings_in c.args.slots.now.mappings.items) q (Size c.size.result)) (sym c.in-Size.is) (size_answered g.S.Storage.view g.F.BackingDisk.backing c.args.image.now c.args.image.now c.args.slots.now.prepared.items c.size.result)
 
 pub returns-in-Leaked-clause-causes : goal.returns-in-Leaked-clause-causes
-returns-in-Leaked-clause-causes g c = subst (λ q. IsRightlyRefused g.S.Storage.view g.F.BackingDisk.backing c.args.image.now c.args.image.now c.args.slots.now.prepared.items (mappings_in c.args.slots.now.mappings.items) q (Leaked c.leaked_clusters.result)) (sym c.in-Leaked.is) (leaks_answered g.S.Storage.view g.F.BackingDisk.backing c.args.image.now c.args.image.now c.args.slots.now.prepared.items c.leaked_clusters.result)
+returns-in-Leaked-clause-causes g c = subst (λ q. RefusalJustified g.S.Storage.view g.F.BackingDisk.backing c.args.image.now c.args.image.now c.args.slots.now.prepared.items (mappings_in c.args.slots.now.mappings.items) q (Leaked c.leaked_clusters.result)) (sym c.in-Leaked.is) (leaks_answered g.S.Storage.view g.F.BackingDisk.backing c.args.image.now c.args.image.now c.args.slots.now.prepared.items c.leaked_clusters.result)
 
 pub returns-in-GetMapping-clause-causes : goal.returns-in-GetMapping-clause-causes
-returns-in-GetMapping-clause-causes g c = subst (λ q. IsRightlyRefused g.S.Storage.view g.F.BackingDisk.backing c.args.image.now c.get_mapping.new.image c.args.slots.now.prepared.items (mappings_in c.args.slots.now.mappings.items) q c.get_mapping.result) (sym c.in-GetMapping.is) c.get_mapping.ensures.causes
+returns-in-GetMapping-clause-causes g c = subst (λ q. RefusalJustified g.S.Storage.view g.F.BackingDisk.backing c.args.image.now c.get_mapping.new.image c.args.slots.now.prepared.items (mappings_in c.args.slots.now.mappings.items) q c.get_mapping.result) (sym c.in-GetMapping.is) c.get_mapping.ensures.causes
 
 pub returns-in-ReadMapped-clause-causes : goal.returns-in-ReadMapped-clause-causes
-returns-in-ReadMapped-clause-causes g c = subst (λ q. IsRightlyRefused g.S.Storage.view g.F.BackingDisk.backing c.args.image.now c.read_mapped.new.image c.args.slots.now.prepared.items (mappings_in c.args.slots.now.mappings.items) q c.read_mapped.result) (sym c.in-ReadMapped.is) c.read_mapped.ensures.causes
+returns-in-ReadMapped-clause-causes g c = subst (λ q. RefusalJustified g.S.Storage.view g.F.BackingDisk.backing c.args.image.now c.read_mapped.new.image c.args.slots.now.prepared.items (mappings_in c.args.slots.now.mappings.items) q c.read_mapped.result) (sym c.in-ReadMapped.is) c.read_mapped.ensures.causes
 
 pub returns-in-PrepareDataMapping-clause-causes : goal.returns-in-PrepareDataMapping-clause-causes
-returns-in-PrepareDataMapping-clause-causes g c = subst (λ q. IsRightlyRefused g.S.Storage.view g.F.BackingDisk.backing c.args.image.now c.prepare.new.image c.args.slots.now.prepared.items (mappings_in c.args.slots.now.mappings.items) q c.prepare.result) (sym c.in-PrepareDataMapping.is) c.prepare.ensures.causes
+returns-in-PrepareDataMapping-clause-causes g c = subst (λ q. RefusalJustified g.S.Storage.view g.F.BackingDisk.backing c.args.image.now c.prepare.new.image c.args.slots.now.prepared.items (mappings_in c.args.slots.now.mappings.items) q c.prepare.result) (sym c.in-PrepareDataMapping.is) c.prepare.ensures.causes
 
 pub returns-in-WriteMapped-clause-causes : goal.returns-in-WriteMapped-clause-causes
-returns-in-WriteMapped-clause-causes g c = subst (λ q. IsRightlyRefused g.S.Storage.view g.F.BackingDisk.backing c.args.image.now c.write_mapped.new.image c.args.slots.now.prepared.items (mappings_in c.args.slots.now.mappings.items) q c.write_mapped.result) (sym c.in-WriteMapped.is) c.write_mapped.ensures.causes
+returns-in-WriteMapped-clause-causes g c = subst (λ q. RefusalJustified g.S.Storage.view g.F.BackingDisk.backing c.args.image.now c.write_mapped.new.image c.args.slots.now.prepared.items (mappings_in c.args.slots.now.mappings.items) q c.write_mapped.result) (sym c.in-WriteMapped.is) c.write_mapped.ensures.causes
 
 pub returns-in-CommitDataMapping-clause-causes : goal.returns-in-CommitDataMapping-clause-causes
-returns-in-CommitDataMapping-clause-causes g c = subst (λ q. IsRightlyRefused g.S.Storage.view g.F.BackingDisk.backing c.args.image.now c.commit.new.image c.args.slots.now.prepared.items (mappings_in c.args.slots.now.mappings.items) q c.commit.result) (sym c.in-CommitDataMapping.is) c.commit.ensures.causes
+returns-in-CommitDataMapping-clause-causes g c = subst (λ q. RefusalJustified g.S.Storage.view g.F.BackingDisk.backing c.args.image.now c.commit.new.image c.args.slots.now.prepared.items (mappings_in c.args.slots.now.mappings.items) q c.commit.result) (sym c.in-CommitDataMapping.is) c.commit.ensures.causes
 
 pub returns-in-DiscardDataMapping-clause-causes : goal.returns-in-DiscardDataMapping-clause-causes
-returns-in-DiscardDataMapping-clause-causes g c = subst (λ q. IsRightlyRefused g.S.Storage.view g.F.BackingDisk.backing c.args.image.now c.discard.new.image c.args.slots.now.prepared.items (mappings_in c.args.slots.now.mappings.items) q c.discard.result) (sym c.in-DiscardDataMapping.is) c.discard.ensures.causes
+returns-in-DiscardDataMapping-clause-causes g c = subst (λ q. RefusalJustified g.S.Storage.view g.F.BackingDisk.backing c.args.image.now c.discard.new.image c.args.slots.now.prepared.items (mappings_in c.args.slots.now.mappings.items) q c.discard.result) (sym c.in-DiscardDataMapping.is) c.discard.ensures.causes
 
 pub returns-in-EnsureZeroMapping-clause-causes : goal.returns-in-EnsureZeroMapping-clause-causes
-returns-in-EnsureZeroMapping-clause-causes g c = subst (λ q. IsRightlyRefused g.S.Storage.view g.F.BackingDisk.backing c.args.image.now c.ensure_zero.new.image c.args.slots.now.prepared.items (mappings_in c.args.slots.now.mappings.items) q c.ensure_zero.result) (sym c.in-EnsureZeroMapping.is) (c.ensure_zero.ensures.causes c.args.slots.now.prepared.items (mappings_in c.args.slots.now.mappings.items))
+returns-in-EnsureZeroMapping-clause-causes g c = subst (λ q. RefusalJustified g.S.Storage.view g.F.BackingDisk.backing c.args.image.now c.ensure_zero.new.image c.args.slots.now.prepared.items (mappings_in c.args.slots.now.mappings.items) q c.ensure_zero.result) (sym c.in-EnsureZeroMapping.is) (c.ensure_zero.ensures.causes c.args.slots.now.prepared.items (mappings_in c.args.slots.now.mappings.items))
 
 pub returns-in-DiscardToZero-clause-causes : goal.returns-in-DiscardToZero-clause-causes
-returns-in-DiscardToZero-clause-causes g c = subst (λ q. IsRightlyRefused g.S.Storage.view g.F.BackingDisk.backing c.args.image.now c.discard_to_zero.new.image c.args.slots.now.prepared.items (mappings_in c.args.slots.now.mappings.items) q c.discard_to_zero.result) (sym c.in-DiscardToZero.is) (c.discard_to_zero.ensures.causes c.args.slots.now.prepared.items (mappings_in c.args.slots.now.mappings.items))
+returns-in-DiscardToZero-clause-causes g c = subst (λ q. RefusalJustified g.S.Storage.view g.F.BackingDisk.backing c.args.image.now c.discard_to_zero.new.image c.args.slots.now.prepared.items (mappings_in c.args.slots.now.mappings.items) q c.discard_to_zero.result) (sym c.in-DiscardToZero.is) (c.discard_to_zero.ensures.causes c.args.slots.now.prepared.items (mappings_in c.args.slots.now.mappings.items))
 
 pub returns-in-DiscardToAny-clause-causes : goal.returns-in-DiscardToAny-clause-causes
-returns-in-DiscardToAny-clause-causes g c = subst (λ q. IsRightlyRefused g.S.Storage.view g.F.BackingDisk.backing c.args.image.now c.discard_to_any.new.image c.args.slots.now.prepared.items (mappings_in c.args.slots.now.mappings.items) q c.discard_to_any.result) (sym c.in-DiscardToAny.is) (c.discard_to_any.ensures.causes c.args.slots.now.prepared.items (mappings_in c.args.slots.now.mappings.items))
+returns-in-DiscardToAny-clause-causes g c = subst (λ q. RefusalJustified g.S.Storage.view g.F.BackingDisk.backing c.args.image.now c.discard_to_any.new.image c.args.slots.now.prepared.items (mappings_in c.args.slots.now.mappings.items) q c.discard_to_any.result) (sym c.in-DiscardToAny.is) (c.discard_to_any.ensures.causes c.args.slots.now.prepared.items (mappings_in c.args.slots.now.mappings.items))
 
 pub returns-in-DiscardToBacking-clause-causes : goal.returns-in-DiscardToBacking-clause-causes
-returns-in-DiscardToBacking-clause-causes g c = subst (λ q. IsRightlyRefused g.S.Storage.view g.F.BackingDisk.backing c.args.image.now c.discard_to_backing.new.image c.args.slots.now.prepared.items (mappings_in c.args.slots.now.mappings.items) q c.discard_to_backing.result) (sym c.in-DiscardToBacking.is) (c.discard_to_backing.ensures.causes c.args.slots.now.prepared.items (mappings_in c.args.slots.now.mappings.items))
+returns-in-DiscardToBacking-clause-causes g c = subst (λ q. RefusalJustified g.S.Storage.view g.F.BackingDisk.backing c.args.image.now c.discard_to_backing.new.image c.args.slots.now.prepared.items (mappings_in c.args.slots.now.mappings.items) q c.discard_to_backing.result) (sym c.in-DiscardToBacking.is) (c.discard_to_backing.ensures.causes c.args.slots.now.prepared.items (mappings_in c.args.slots.now.mappings.items))
 
 pub returns-in-ReadvSpecial-clause-causes : goal.returns-in-ReadvSpecial-clause-causes
-returns-in-ReadvSpecial-clause-causes g c = subst (λ q. IsRightlyRefused g.S.Storage.view g.F.BackingDisk.backing c.args.image.now c.readv_special.new.image c.args.slots.now.prepared.items (mappings_in c.args.slots.now.mappings.items) q c.readv_special.result) (sym c.in-ReadvSpecial.is) (c.readv_special.ensures.causes c.args.slots.now.prepared.items (mappings_in c.args.slots.now.mappings.items))
+returns-in-ReadvSpecial-clause-causes g c = subst (λ q. RefusalJustified g.S.Storage.view g.F.BackingDisk.backing c.args.image.now c.readv_special.new.image c.args.slots.now.prepared.items (mappings_in c.args.slots.now.mappings.items) q c.readv_special.result) (sym c.in-ReadvSpecial.is) (c.readv_special.ensures.causes c.args.slots.now.prepared.items (mappings_in c.args.slots.now.mappings.items))
 
 pub returns-in-TryReadvSpecial-clause-causes : goal.returns-in-TryReadvSpecial-clause-causes
-returns-in-TryReadvSpecial-clause-causes g c = subst (λ q. IsRightlyRefused g.S.Storage.view g.F.BackingDisk.backing c.args.image.now c.try_readv_special.new.image c.args.slots.now.prepared.items (mappings_in c.args.slots.now.mappings.items) q c.try_readv_special.result) (sym c.in-TryReadvSpecial.is) (c.try_readv_special.ensures.causes c.args.slots.now.prepared.items (mappings_in c.args.slots.now.mappings.items))
+returns-in-TryReadvSpecial-clause-causes g c = subst (λ q. RefusalJustified g.S.Storage.view g.F.BackingDisk.backing c.args.image.now c.try_readv_special.new.image c.args.slots.now.prepared.items (mappings_in c.args.slots.now.mappings.items) q c.try_readv_special.result) (sym c.in-TryReadvSpecial.is) (c.try_readv_special.ensures.causes c.args.slots.now.prepared.items (mappings_in c.args.slots.now.mappings.items))
 
 pub returns-in-Flush-clause-causes : goal.returns-in-Flush-clause-causes
-returns-in-Flush-clause-causes g c = subst (λ q. IsRightlyRefused g.S.Storage.view g.F.BackingDisk.backing c.args.image.now c.flush.new.image c.args.slots.now.prepared.items (mappings_in c.args.slots.now.mappings.items) q c.flush.result) (sym c.in-Flush.is) (c.flush.ensures.causes c.args.slots.now.prepared.items (mappings_in c.args.slots.now.mappings.items))
+returns-in-Flush-clause-causes g c = subst (λ q. RefusalJustified g.S.Storage.view g.F.BackingDisk.backing c.args.image.now c.flush.new.image c.args.slots.now.prepared.items (mappings_in c.args.slots.now.mappings.items) q c.flush.result) (sym c.in-Flush.is) (c.flush.ensures.causes c.args.slots.now.prepared.items (mappings_in c.args.slots.now.mappings.items))
 
 pub returns-in-Sync-clause-causes : goal.returns-in-Sync-clause-causes
-returns-in-Sync-clause-causes g c = subst (λ q. IsRightlyRefused g.S.Storage.view g.F.BackingDisk.backing c.args.image.now c.sync.new.image c.args.slots.now.prepared.items (mappings_in c.args.slots.now.mappings.items) q c.sync.result) (sym c.in-Sync.is) (c.sync.ensures.causes c.args.slots.now.prepared.items (mappings_in c.args.slots.now.mappings.items))
+returns-in-Sync-clause-causes g c = subst (λ q. RefusalJustified g.S.Storage.view g.F.BackingDisk.backing c.args.image.now c.sync.new.image c.args.slots.now.prepared.items (mappings_in c.args.slots.now.mappings.items) q c.sync.result) (sym c.in-Sync.is) (c.sync.ensures.causes c.args.slots.now.prepared.items (mappings_in c.args.slots.now.mappings.items))
 
 pub returns-in-ResizeGrow-clause-causes : goal.returns-in-ResizeGrow-clause-causes
-returns-in-ResizeGrow-clause-causes g c = subst (λ q. IsRightlyRefused g.S.Storage.view g.F.BackingDisk.backing c.args.image.now c.grow.new.image c.args.slots.now.prepared.items (mappings_in c.args.slots.now.mappings.items) q c.grow.result) (sym c.in-ResizeGrow.is) (c.grow.ensures.causes c.args.slots.now.prepared.items (mappings_in c.args.slots.now.mappings.items))
+returns-in-ResizeGrow-clause-causes g c = subst (λ q. RefusalJustified g.S.Storage.view g.F.BackingDisk.backing c.args.image.now c.grow.new.image c.args.slots.now.prepared.items (mappings_in c.args.slots.now.mappings.items) q c.grow.result) (sym c.in-ResizeGrow.is) (c.grow.ensures.causes c.args.slots.now.prepared.items (mappings_in c.args.slots.now.mappings.items))
 
 pub returns-in-ResizeShrink-clause-causes : goal.returns-in-ResizeShrink-clause-causes
-returns-in-ResizeShrink-clause-causes g c = subst (λ q. IsRightlyRefused g.S.Storage.view g.F.BackingDisk.backing c.args.image.now c.shrink.new.image c.args.slots.now.prepared.items (mappings_in c.args.slots.now.mappings.items) q c.shrink.result) (sym c.in-ResizeShrink.is) (c.shrink.ensures.causes c.args.slots.now.prepared.items (mappings_in c.args.slots.now.mappings.items))
+returns-in-ResizeShrink-clause-causes g c = subst (λ q. RefusalJustified g.S.Storage.view g.F.BackingDisk.backing c.args.image.now c.shrink.new.image c.args.slots.now.prepared.items (mappings_in c.args.slots.now.mappings.items) q c.shrink.result) (sym c.in-ResizeShrink.is) (c.shrink.ensures.causes c.args.slots.now.prepared.items (mappings_in c.args.slots.now.mappings.items))
 
 pub returns-in-Ok-clause-after : goal.returns-in-Ok-clause-after
 returns-in-Ok-clause-after g c = subst (λ q. SlotsAfter c.args.slots.now.prepared.items q (Bytes c.in-Ok.bytes) c.args.slots.now.prepared.items) (sym c.in-Read.is) refl
@@ -493,10 +493,10 @@ pub returns-in-InvalidateCache-clause-command_step : goal.returns-in-InvalidateC
 returns-in-InvalidateCache-clause-command_step g c = λ kept. absurd (subst (λ q. KeepsUnflushed (command_of q)) c.in-InvalidateCache.is kept)
 
 pub returns-in-InvalidateCache-clause-tells : goal.returns-in-InvalidateCache-clause-tells
-returns-in-InvalidateCache-clause-tells g c = subst (λ q. TellsOfImage g.S.Storage.view g.F.BackingDisk.backing c.args.image.now c.invalidate.new.image c.args.slots.now.prepared.items c.args.slots.now.prepared.items q c.invalidate.result) (sym c.in-InvalidateCache.is) tt
+returns-in-InvalidateCache-clause-tells g c = subst (λ q. ReplyMatchesImage g.S.Storage.view g.F.BackingDisk.backing c.args.image.now c.invalidate.new.image c.args.slots.now.prepared.items c.args.slots.now.prepared.items q c.invalidate.result) (sym c.in-InvalidateCache.is) tt
 
 pub returns-in-InvalidateCache-clause-causes : goal.returns-in-InvalidateCache-clause-causes
-returns-in-InvalidateCache-clause-causes g c = subst (λ q. IsRightlyRefused g.S.Storage.view g.F.BackingDisk.backing c.args.image.now c.invalidate.new.image c.args.slots.now.prepared.items (mappings_in c.args.slots.now.mappings.items) q c.invalidate.result) (sym c.in-InvalidateCache.is) (c.invalidate.ensures.causes c.args.slots.now.prepared.items (mappings_in c.args.slots.now.mappings.items))
+returns-in-InvalidateCache-clause-causes g c = subst (λ q. RefusalJustified g.S.Storage.view g.F.BackingDisk.backing c.args.image.now c.invalidate.new.image c.args.slots.now.prepared.items (mappings_in c.args.slots.now.mappings.items) q c.invalidate.result) (sym c.in-InvalidateCache.is) (c.invalidate.ensures.causes c.args.slots.now.prepared.items (mappings_in c.args.slots.now.mappings.items))
 
 pub returns-in-InvalidateCache-clause-after : goal.returns-in-InvalidateCache-clause-after
 returns-in-InvalidateCache-clause-after g c = subst (λ q. SlotsAfter c.args.slots.now.prepared.items q c.invalidate.result c.args.slots.now.prepared.items) (sym c.in-InvalidateCache.is) refl

@@ -12,7 +12,7 @@ use Rattle.qcow2_image.specs.ListedClusters.{ListsNoMore}
 use Rattle.qcow2_image.specs.Refusals.{refuses_to_prepare}
 use Rattle.qcow2_image.specs.Noted.{CountsImageChanges}
 use Rattle.qcow2_image.specs.declared.prepared.Prepared.{Prepared}
-use Rattle.qcow2_session.specs.Sessions.{EndsCluster, LeavesCopied, IsHeededAt}
+use Rattle.qcow2_session.specs.Sessions.{EndsCluster, LeavesCopied, IsRespectedAt}
 use Rattle.qcow2_session.specs.Told.{StaysQuiet}
 use Rattle.qcow2_image.specs.Faults.{SameFaults}
 
@@ -28,7 +28,7 @@ invariant-loop-done g l = record {
   ends : (out : List (Option Prepared)) → (abstract_of g.S.Storage.view g.F.BackingDisk.backing l.fn.image out).is_sound → l.done < length l.bytes → EndsCluster l.fn.image (l.fn.offset + l.done);
   end : l.fn.offset + length l.bytes < 2 ^ 64;
   heeded : refuses_to_prepare l.fn.image l.fn.offset (length l.bytes) ≡ None → (out : List (Option Prepared)) → (abstract_of g.S.Storage.view g.F.BackingDisk.backing l.fn.image out).is_sound
-      → (i : ℕ) → i < l.done → IsHeededAt g.S.Storage.view g.F.BackingDisk.backing l.fn.image out l.fn.offset l.bytes i;
+      → (i : ℕ) → i < l.done → IsRespectedAt g.S.Storage.view g.F.BackingDisk.backing l.fn.image out l.fn.offset l.bytes i;
   copied : 0 < length l.bytes → (out : List (Option Prepared)) → (abstract_of g.S.Storage.view g.F.BackingDisk.backing l.fn.image out).is_sound → LeavesCopied g.S.Storage.view g.F.BackingDisk.backing l.fn.image l.image l.fn.offset l.bytes l.done;
   quiet : StaysQuiet g.S.Storage.view l.fn.image l.image;
   freeing : (out : List (Option Prepared)) → (abstract_of g.S.Storage.view g.F.BackingDisk.backing l.fn.image out).is_sound → ListsNoMore l.fn.image l.image;

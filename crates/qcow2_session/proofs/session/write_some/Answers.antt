@@ -15,7 +15,7 @@ use Rattle.qcow2_image.specs.Refusals.{refuses_mapping, refuses_to_prepare, IsMe
 use Rattle.qcow2_image.specs.declared.prepared.CommitRefused.TheVariants.{Kept}
 use Rattle.qcow2_image.specs.ImageInvariant.{abstract_of, image_abstraction, meaning}
 use Rattle.qcow2_disk.specs.Alike.{AreDataAt}
-use Rattle.qcow2_session.specs.Sessions.{cluster_size_of, LeavesCopied, WritesFirst, HeedsFirst}
+use Rattle.qcow2_session.specs.Sessions.{cluster_size_of, LeavesCopied, WritesFirst, RespectsFirst}
 use Rattle.qcow2_session.proofs.Bytes.{cut_long, cut_part, cut_short}
 use Rattle.qcow2_session.proofs.Chunks.{may_write_none, put_refused, written, commit_old_tables, commit_kept}
 use Rattle.qcow2_session.proofs.Writing.{chunk_ends}
@@ -47,7 +47,7 @@ use Rattle.qcow2_image.proofs.Prepare.Lacked.{limited_upto, other_limit}
 use Rattle.qcow2_image.proofs.Sizing.Shrinking.{fault_of}
 use Rattle.qcow2_image.specs.L1Entries.{NeedsOverflowingL1Entry}
 use Rattle.qcow2_image.specs.Limits.{IfLimit, IsLimited}
-use Rattle.qcow2_image.specs.MetAlone.{CopiesCompressed, IsCacheHeld, IsMetTaking}
+use Rattle.qcow2_image.specs.MetAlone.{CopiesCompressed, IsCacheHeld, MayFailAllocating}
 use Rattle.qcow2_session.proofs.MetOnSound.{existing_found, existing_long, existing_near, put_unlimited, compressed_behind, put_looking}
 use Rattle.qcow2_image.specs.Backings.{HasPinnedMapping}
 use Rattle.qcow2_image.proofs.Prepare.MetTaking.{taking_as}
@@ -387,9 +387,9 @@ returns-in_err-prepared-clause-sound g c = λ none out sound.
     let e = c.in_err-prepared.field-0.0 in
     let call = c.in_err-prepared.ensures.sees out in
     record {
-      met = subst (λ r. IfErr r (IsMetTaking (HasPinnedMapping out) (IsUnderMapping old.file.header.fields c.args.offset out) (CopiesCompressed c.args.offset n true new.file.header.fields (known_in view new.file)) (NeedsOverflowingL1Entry old c.args.offset))) (sym (refused_is _ e c.from_residual.ensures))
+      met = subst (λ r. IfErr r (MayFailAllocating (HasPinnedMapping out) (IsUnderMapping old.file.header.fields c.args.offset out) (CopiesCompressed c.args.offset n true new.file.header.fields (known_in view new.file)) (NeedsOverflowingL1Entry old c.args.offset))) (sym (refused_is _ e c.from_residual.ensures))
           (⊎_elim (λ still. taking_as (λ held. held) (λ taken. under_taken taken) (compressed_behind view g.F.BackingDisk.backing out old new sound still.0 (call.acts.works sound) c.args.offset n) (λ far. far) e (c.in_err-prepared.ensures.met none some out sound)) (λ failed. inl (inl (inl (fault_of e failed.0)))) (call.answer sound));
-      taken = subst (λ r. HeedsFirst g.S.Storage.view g.F.BackingDisk.backing old out c.args.offset n r) (sym (refused_is _ c.in_err-prepared.field-0.0 c.from_residual.ensures))
+      taken = subst (λ r. RespectsFirst g.S.Storage.view g.F.BackingDisk.backing old out c.args.offset n r) (sym (refused_is _ c.in_err-prepared.field-0.0 c.from_residual.ensures))
           (λ is. (
             elim (cases_lt 0 n) [
               | inl some ↦ some

@@ -8,7 +8,7 @@ use Rattle.qcow2_image.proofs.Preallocate.Grown.{up_to_end, up_whole}
 use Rattle.std.specs.Prelude.{IfErr}
 use Rattle.qcow2_alloc.specs.ImageFile.{known_in}
 use Rattle.qcow2_image.specs.ImageInvariant.{pending_in}
-use Rattle.qcow2_image.specs.MetAlone.{HasCompressedIn, HasNearEntries, IsMetTaking}
+use Rattle.qcow2_image.specs.MetAlone.{HasCompressedIn, HasNearEntries, MayFailAllocating}
 use Rattle.qcow2_image.proofs.Preallocate.Met.{never_past}
 use Rattle.qcow2_image.specs.Backings.{HasPinnedMapping}
 use Rattle.qcow2_image.proofs.Call.ImageSteps.{step_none}
@@ -40,7 +40,7 @@ returns-clause-met g c = λ out sound le near.
     let cs = cluster_size h in
     let some = pow_pos h.cluster_bits in
     let end : c.in-Some.end ≡ rounded_up (cluster_size c.args.self.now.file.header.fields) c.args.size = c.in-Some.ensures.some ∙ ap (λ s. rounded_up s c.args.size) c.cluster_size.ensures.value in
-    subst (λ n. IfErr c.fill_range.result (IsMetTaking (HasPinnedMapping out) (HasPinnedMapping out) (HasCompressedIn c.args.old n h (known_in g.S.Storage.view old.file)) ⊥)) end
+    subst (λ n. IfErr c.fill_range.result (MayFailAllocating (HasPinnedMapping out) (HasPinnedMapping out) (HasCompressedIn c.args.old n h (known_in g.S.Storage.view old.file)) ⊥)) end
     ((c.fill_range.ensures.sound out sound (subst (λ n. c.args.old ≤ n) (sym end) (up_to_end cs c.args.old c.args.size some le)) (subst (λ n. n % cs ≡ 0) (sym end) (up_whole cs c.args.size some))).met (subst (λ n. HasNearEntries n h) (sym end) near))
 
 pub returns-in_default-clause-step : goal.returns-in_default-clause-step

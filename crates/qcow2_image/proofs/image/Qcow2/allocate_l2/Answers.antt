@@ -20,7 +20,7 @@ use Rattle.qcow2_alloc.specs.LowestRuns.{IsUsed}
 use Rattle.qcow2_laws.specs.Changes.{one_at, with_new_tables}
 use Rattle.qcow2_image.proofs.Call.FaultCounts.{counted_as, counted_still, same_told, untouched}
 use Rattle.qcow2_image.specs.Backings.{HasPinnedMapping}
-use Rattle.qcow2_image.specs.MetAlone.{IsMetTaking}
+use Rattle.qcow2_image.specs.MetAlone.{MayFailAllocating}
 use Rattle.qcow2_image.proofs.Prepare.Met.{hands_met}
 use Rattle.qcow2_image.proofs.Prepare.MetTaking.{looking_taking}
 
@@ -131,7 +131,7 @@ returns-in_err-pending-clause-sound g c = λ p out sound may says.
     let left = none_taken view below out p old sound file a marks list leaks e found.takes (found.hint own.hint) in
     record {
       does = handed_on (EntersTable view below p old taken out c.args.index) c.from_residual.result e c.from_residual.ensures left;
-      met = λ near. hands_met (IsMetTaking (HasPinnedMapping out) ⊥ ⊥ ⊥) c.from_residual.result e c.from_residual.ensures (elim why [ inl fault ↦ inl (inl (inl fault)) | inr cause ↦ inl (inl (inr cause.0)) ]);
+      met = λ near. hands_met (MayFailAllocating (HasPinnedMapping out) ⊥ ⊥ ⊥) c.from_residual.result e c.from_residual.ensures (elim why [ inl fault ↦ inl (inl (inl fault)) | inr cause ↦ inl (inl (inr cause.0)) ]);
       limit = λ near. hands_limit c.from_residual.result e c.from_residual.ensures
           (limited_left taken 0 e (elim left [ inl stays ↦ inl stays | inr broken ↦ inr broken.interrupted.fault ]) (goes_step (returns-in_err-pending-clause-step g c))
           (λ full. record { allocator = a; is = refl; lacks = inl (1, inl refl, full) }) why);

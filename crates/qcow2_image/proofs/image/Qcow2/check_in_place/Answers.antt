@@ -7,7 +7,7 @@ use Rattle.qcow2_image.proofs.Map.Loading.{if_ok}
 use Rattle.std.specs.Prelude.{Result}
 use Rattle.qcow2_alloc.proofs.AllocationSteps.{handed_on}
 use Rattle.qcow2_alloc.proofs.CachedEntries.Lists.{none_of}
-use Rattle.qcow2_image.specs.HeldMappings.{HeedsHeld}
+use Rattle.qcow2_image.specs.HeldMappings.{FitsTables}
 use Rattle.qcow2_image.specs.MetAlone.{IsCacheHeld, IsMetLookingAgain}
 use Rattle.qcow2_image.specs.Prepared.{table_of}
 use Rattle.qcow2_image.proofs.Prepare.Met.{hands_met, met_as}
@@ -31,11 +31,11 @@ returns-clause-found g c = λ none p out sound.
 
 pub returns-in_err-guest-clause-held : goal.returns-in_err-guest-clause-held
 returns-in_err-guest-clause-held g c = λ none some.
-    handed_on (λ (r : Result _ _). HeedsHeld c.args.self.now (c.args.prepared.now.guest + c.args.at) (Raw Image c.args.host true) c.args.length r) c.from_residual.result c.in_err-guest.field-0.0 c.from_residual.ensures
+    handed_on (λ (r : Result _ _). FitsTables c.args.self.now (c.args.prepared.now.guest + c.args.at) (Raw Image c.args.host true) c.args.length r) c.from_residual.result c.in_err-guest.field-0.0 c.from_residual.ensures
     (λ outdated whole. absurd (let b = whole.below in let p = c.in_err-guest.ensures.past in omega (arith, b, p, some)))
 
 pub returns-clause-held : goal.returns-clause-held
-returns-clause-held g c = λ none some. subst (λ o. HeedsHeld c.check_mapped.new.self o (Raw Image c.args.host true) c.args.length c.check_mapped.result) c.in_ok-guest.ensures.place (c.check_mapped.ensures.held some)
+returns-clause-held g c = λ none some. subst (λ o. FitsTables c.check_mapped.new.self o (Raw Image c.args.host true) c.args.length c.check_mapped.result) c.in_ok-guest.ensures.place (c.check_mapped.ensures.held some)
 
 pub returns-in_err-guest-clause-met : goal.returns-in_err-guest-clause-met
 returns-in_err-guest-clause-met g c = λ p out sound.

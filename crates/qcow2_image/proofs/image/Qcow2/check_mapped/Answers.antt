@@ -9,7 +9,7 @@ use Rattle.std.specs.Prelude.{Result, is_some}
 use Rattle.qcow2_image.proofs.Map.Held.{held_whole, heeds_else, same_found}
 use Rattle.std.proofs.lemmas.Bool.{cases_lt}
 use Rattle.qcow2_alloc.specs.ImageError.{IsOfTables}
-use Rattle.qcow2_image.specs.HeldMappings.{HeedsHeld, IsHeldAs}
+use Rattle.qcow2_image.specs.HeldMappings.{FitsTables, IsHeldAs}
 use Rattle.qcow2_image.specs.Image.{size_of}
 use Rattle.qcow2_image.proofs.image.Qcow2.check_mapped.Goals as goal
 
@@ -67,5 +67,5 @@ returns-clause-held g c = λ some outdated whole.
 
 pub returns-in_err-kind-clause-held : goal.returns-in_err-kind-clause-held
 returns-in_err-kind-clause-held g c = λ some.
-    handed_on (λ (r : Result _ _). HeedsHeld c.look_up.new.self c.args.offset c.args.wanted.now c.args.length r) c.from_residual.result c.in_err-kind.field-0.0 c.from_residual.ensures
+    handed_on (λ (r : Result _ _). FitsTables c.look_up.new.self c.args.offset c.args.wanted.now c.args.length r) c.from_residual.result c.in_err-kind.field-0.0 c.from_residual.ensures
     (heeds_else c.look_up.new.self c.args.offset c.args.wanted.now c.args.length IsOfTables c.in_err-kind.field-0.0 (λ no. no) c.in_err-kind.ensures.fails.cause)

@@ -10,7 +10,7 @@ use Rattle.qcow2_image.proofs.Prepare.Lacked.{limited_frees}
 use Rattle.qcow2_image.proofs.Prepare.MetTables.{met_freed}
 use Rattle.qcow2_image.specs.L1Entries.{NeedsOverflowingL1Entry}
 use Rattle.qcow2_image.specs.Backings.{HasPinnedMapping}
-use Rattle.qcow2_image.specs.MetAlone.{IsMetTaking}
+use Rattle.qcow2_image.specs.MetAlone.{MayFailAllocating}
 use Rattle.qcow2_image.specs.Clearing.{IsUnderMapping}
 use Rattle.qcow2_image.proofs.Clear.ClearedCalls.{same_image_then}
 
@@ -51,7 +51,7 @@ returns-in-Err-clause-limit g c = λ out sound whole is.
 pub returns-in-Err-clause-met : goal.returns-in-Err-clause-met
 returns-in-Err-clause-met g c = λ out sound whole.
     let old = c.args.self.now in
-    met_freed g.S.Storage.view g.F.BackingDisk.backing out (IsMetTaking (HasPinnedMapping out) (IsUnderMapping old.file.header.fields c.args.from out) ⊥ (NeedsOverflowingL1Entry old c.args.from)) (λ e fault. inl (inl (inl fault))) old c.clear_in_table.new.self c.process_free_list_after.new.self c.in-Err.refusal c.process_free_list_after.result (c.in-Err.ensures.clears out sound whole) c.process_free_list_after.ensures.fault
+    met_freed g.S.Storage.view g.F.BackingDisk.backing out (MayFailAllocating (HasPinnedMapping out) (IsUnderMapping old.file.header.fields c.args.from out) ⊥ (NeedsOverflowingL1Entry old c.args.from)) (λ e fault. inl (inl (inl fault))) old c.clear_in_table.new.self c.process_free_list_after.new.self c.in-Err.refusal c.process_free_list_after.result (c.in-Err.ensures.clears out sound whole) c.process_free_list_after.ensures.fault
     (c.process_free_list_after.ensures.told.1 out) (c.in-Err.ensures.met out sound whole)
 
 pub returns-in-Ok-clause-step : goal.returns-in-Ok-clause-step

@@ -19,7 +19,7 @@ use Rattle.qcow2_image.proofs.Call.Unlimited.{fault_unlimited}
 use Rattle.qcow2_image.proofs.Prepare.MetTables.{reading_fault}
 use Rattle.qcow2_image.specs.L1Entries.{NeedsOverflowingL1Entry}
 use Rattle.qcow2_image.specs.Backings.{HasPinnedMapping}
-use Rattle.qcow2_image.specs.MetAlone.{IsMetTaking}
+use Rattle.qcow2_image.specs.MetAlone.{MayFailAllocating}
 use Rattle.qcow2_image.proofs.Prepare.Met.{hands_met}
 use Rattle.qcow2_image.proofs.Prepare.MetTaking.{taking_as}
 use Rattle.qcow2_image.specs.Faults.{CountsImageFaults}
@@ -105,7 +105,7 @@ returns-in_err-table-clause-limit g c = λ out sound whole.
 pub returns-in_err-table-clause-met : goal.returns-in_err-table-clause-met
 returns-in_err-table-clause-met g c = λ out sound whole.
     let old = c.args.self.now in
-    hands_met (IsMetTaking (HasPinnedMapping out) (IsUnderMapping old.file.header.fields c.args.from out) ⊥ (NeedsOverflowingL1Entry old c.args.from)) c.from_residual.result c.in_err-table.field-0.0 c.from_residual.ensures
+    hands_met (MayFailAllocating (HasPinnedMapping out) (IsUnderMapping old.file.header.fields c.args.from out) ⊥ (NeedsOverflowingL1Entry old c.args.from)) c.from_residual.result c.in_err-table.field-0.0 c.from_residual.ensures
     (taking_as (λ held. held) (λ no. absurd no) (λ no. no) (λ far. far) c.in_err-table.field-0.0 ((c.in_err-table.ensures.sound out sound).met))
 
 pub returns-then-l2_is_pinned-clause-met : goal.returns-then-l2_is_pinned-clause-met
@@ -144,7 +144,7 @@ returns-in_err-old_data-clause-met g c = λ out sound whole.
     let e = c.in_err-old_data.field-0.0 in
     let fault = reading_fault g.S.Storage.view g.F.BackingDisk.backing out c.args.self.now c.writable_l2_table.new.self c.args.how from c.args.to c.in_ok-table.table found.0 found.1 whole c.requires.some c.cluster-first.result ((c.args.to - from) / 2 ^ c.cluster_bits-bits.result) e first (ap (λ n. (c.args.to - from) / 2 ^ n) bits) c.in_err-old_data.ensures.only_faults in
     let old = c.args.self.now in
-    hands_met (IsMetTaking (HasPinnedMapping out) (IsUnderMapping old.file.header.fields from out) ⊥ (NeedsOverflowingL1Entry old from)) c.from_residual-in_err-old_data.result e c.from_residual-in_err-old_data.ensures (inl (inl (inl fault)))
+    hands_met (MayFailAllocating (HasPinnedMapping out) (IsUnderMapping old.file.header.fields from out) ⊥ (NeedsOverflowingL1Entry old from)) c.from_residual-in_err-old_data.result e c.from_residual-in_err-old_data.ensures (inl (inl (inl fault)))
 
 pub returns-in_err-table-clause-step : goal.returns-in_err-table-clause-step
 returns-in_err-table-clause-step g c =

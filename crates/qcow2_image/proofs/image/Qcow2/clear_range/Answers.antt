@@ -27,11 +27,11 @@ use Rattle.qcow2_alloc.proofs.Outcomes.{err_as}
 use Rattle.qcow2_image.proofs.Clear.Touched.{some_answered}
 use Rattle.qcow2_image.proofs.Call.BehindHeader.{behind_call, behind_then}
 use Rattle.qcow2_image.proofs.Prepare.Pinned.{begun_own, heeds_begun, of_tables_untaken}
-use Rattle.qcow2_image.specs.PinnedTables.{HeedsPins}
+use Rattle.qcow2_image.specs.PinnedTables.{RespectsPins}
 use Rattle.qcow2_alloc.specs.declared.error.ImageError.{ImageError}
 use Rattle.qcow2_image.proofs.Prepare.Lacked.{other_limit, goes_begun, limited_since}
 use Rattle.qcow2_image.proofs.Call.Unlimited.{fault_unlimited}
-use Rattle.qcow2_image.specs.MetAlone.{IsMetTaking}
+use Rattle.qcow2_image.specs.MetAlone.{MayFailAllocating}
 use Rattle.qcow2_image.proofs.Prepare.MetTables.{far_before}
 use Rattle.qcow2_image.proofs.Prepare.MetTaking.{taking_as}
 use Rattle.qcow2_image.proofs.Clear.ClearedCalls.{begins_clearing, early_fails, early_sound, early_step, idle_fails, idle_sound, idle_step, not_early, parts_cleared, same_image_then}
@@ -113,11 +113,11 @@ returns-in_err-mark_failure-clause-fails g c =
             let call = b.seen out sound in
             let h = begun.file.header.fields in
             taking_as (λ held. held) (under_before old.file.header.fields h first out call.header) (λ no. no) (far_before old begun first c.begin.ensures.rest) e
-            (subst (λ k. IsMetTaking (HasPinnedMapping out) (IsUnderMapping h k out) ⊥ (NeedsOverflowingL1Entry begun k) e) b.first_is
-            (subst (λ (r : Result _ _). IfErr r (IsMetTaking (HasPinnedMapping out) (IsUnderMapping h c.in_ok-from.from out) ⊥ (NeedsOverflowingL1Entry begun c.in_ok-from.from))) done (c.clear_between-cleared.ensures.met out call.sound (b.whole out call))));
+            (subst (λ k. MayFailAllocating (HasPinnedMapping out) (IsUnderMapping h k out) ⊥ (NeedsOverflowingL1Entry begun k) e) b.first_is
+            (subst (λ (r : Result _ _). IfErr r (MayFailAllocating (HasPinnedMapping out) (IsUnderMapping h c.in_ok-from.from out) ⊥ (NeedsOverflowingL1Entry begun c.in_ok-from.from))) done (c.clear_between-cleared.ensures.met out call.sound (b.whole out call))));
       });
-      pinned = λ some none own. heeds_begun old begun first bad c.begin.ensures.begun (subst (λ k. HeedsPins begun k bad) b.first_is
-          (subst (λ (r : Result (Unit {0}) ImageError). HeedsPins begun c.in_ok-from.from r) done (c.clear_between-cleared.ensures.pinned (subst (λ k. HasOwnTable begun k) (sym b.first_is) (begun_own old begun first c.begin.ensures.begun own)))));
+      pinned = λ some none own. heeds_begun old begun first bad c.begin.ensures.begun (subst (λ k. RespectsPins begun k bad) b.first_is
+          (subst (λ (r : Result (Unit {0}) ImageError). RespectsPins begun c.in_ok-from.from r) done (c.clear_between-cleared.ensures.pinned (subst (λ k. HasOwnTable begun k) (sym b.first_is) (begun_own old begun first c.begin.ensures.begun own)))));
       under = λ none some out sound.
           let call = b.seen out sound in
           let taken = subst (λ (r : Result _ _). IfErr r (λ x. x ≡ TablePrepared → IsUnderMapping begun.file.header.fields c.in_ok-from.from out)) done (c.clear_between-cleared.ensures.taken out call.sound) in
@@ -284,8 +284,8 @@ returns-clause-fails g c =
       early = not_early view below old how offset n c.check_clear.result c.check_clear.ensures.refusal c.in_ok-from.from c.in_ok-from.to c.in_ok-from.was c.process_free_list_at_end.new.self (Ok (c.in_ok-from.from, c.saturating_sub.result));
       late = λ none. tt;
       refused = tt;
-      pinned = λ some none own. heeds_begun old begun first good c.begin.ensures.begun (subst (λ k. HeedsPins begun k good) b.first_is
-          (subst (λ (r : Result (Unit {0}) ImageError). HeedsPins begun c.in_ok-from.from r) done (c.clear_between-cleared.ensures.pinned (subst (λ k. HasOwnTable begun k) (sym b.first_is) (begun_own old begun first c.begin.ensures.begun own)))));
+      pinned = λ some none own. heeds_begun old begun first good c.begin.ensures.begun (subst (λ k. RespectsPins begun k good) b.first_is
+          (subst (λ (r : Result (Unit {0}) ImageError). RespectsPins begun c.in_ok-from.from r) done (c.clear_between-cleared.ensures.pinned (subst (λ k. HasOwnTable begun k) (sym b.first_is) (begun_own old begun first c.begin.ensures.begun own)))));
       under = λ none some out sound.
           let call = b.seen out sound in
           let free = subst (λ (r : Result _ _). IfOk r (λ x. IsUnderMapping begun.file.header.fields c.in_ok-from.from out → ⊥)) done (c.clear_between-cleared.ensures.free out call.sound) in

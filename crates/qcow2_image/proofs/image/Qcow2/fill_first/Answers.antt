@@ -19,7 +19,7 @@ use Rattle.qcow2_image.proofs.Prepare.Lacked.{goes_step, limited_giving, limited
 use Rattle.qcow2_alloc.specs.ImageError.{IsFault}
 use Rattle.qcow2_alloc.specs.ImageFile.{known_in}
 use Rattle.qcow2_alloc.specs.declared.error.ImageError.{ImageError}
-use Rattle.qcow2_image.specs.MetAlone.{HasCompressedIn, IsMetTaking}
+use Rattle.qcow2_image.specs.MetAlone.{HasCompressedIn, MayFailAllocating}
 use Rattle.qcow2_image.proofs.Preallocate.Met.{hands_met, met_piece}
 use Rattle.qcow2_image.specs.Backings.{HasPinnedMapping}
 
@@ -70,7 +70,7 @@ returns-in_err-prepared-clause-sound g c = λ out sound.
                 taken_here old.file.header.fields c.args.from c.args.to out lt (record { place = t.place; other = t.other; is_out = t.is_out; keeps_table = t.keeps_table; same_table = t.same_table });
             limit = λ is. limited_giving (given_by_zeros c.args.from c.args.to ∷ []) (limited_upto (omega (arith, lt)) ((c.in_err-prepared.ensures.sound some out sound).limit is));
           });
-      met = λ whole near. hands_met (IsMetTaking (HasPinnedMapping out) (HasPinnedMapping out) (HasCompressedIn c.args.from c.args.to old.file.header.fields (known_in view old.file)) ⊥) c.from_residual.result e c.from_residual.ensures
+      met = λ whole near. hands_met (MayFailAllocating (HasPinnedMapping out) (HasPinnedMapping out) (HasCompressedIn c.args.from c.args.to old.file.header.fields (known_in view old.file)) ⊥) c.from_residual.result e c.from_residual.ensures
           (met_piece view below out (pending_in view below old out) old sound c.args.from c.args.to lt near c.min.result (omega (arith, asked, lt)) true e ((c.in_err-prepared.ensures.sound some out sound).met));
     }
 
@@ -138,7 +138,7 @@ returns-in_err-process_free_list-clause-sound g c = λ out sound.
           (freed_refused view below done out new e part.sound (c.in_err-process_free_list.ensures.frees (beside view below done out) out listed)) c.process_free_list.ensures.keeps_rest.header);
       met = λ whole near. let part = all_filled view below out old mid p from to c.most.result n c.min-count.result sound ready answered lt whole few asked counted (c.in_ok-prepared.ensures.some some).some c.put_zeros.new.self done c.in_default.ensures.written c.commit_filled.ensures.commits c.commit_filled.ensures.header c.in_ok-prepared.ensures.l1_place in
           let listed = subst (λ (x : Pending). ImageInvariant view below x done out) (all_listed view below done out) part.sound in
-          hands_met (IsMetTaking (HasPinnedMapping out) (HasPinnedMapping out) (HasCompressedIn from to old.file.header.fields (known_in view old.file)) ⊥) c.from_residual-in_err-process_free_list.result c.in_err-process_free_list.field-0.0 c.from_residual-in_err-process_free_list.ensures
+          hands_met (MayFailAllocating (HasPinnedMapping out) (HasPinnedMapping out) (HasCompressedIn from to old.file.header.fields (known_in view old.file)) ⊥) c.from_residual-in_err-process_free_list.result c.in_err-process_free_list.field-0.0 c.from_residual-in_err-process_free_list.ensures
           (inl (inl (inl (c.in_err-process_free_list.ensures.faults (beside view below done out) out listed))));
     }
 

@@ -6,7 +6,7 @@ use Rattle.qcow2_image.proofs.Preallocate.Turns.{filled_first, filled_next, fill
 use Rattle.qcow2_image.proofs.Call.FaultCounts.{counted_ok, counted_on, faults_then, untouched}
 use Rattle.qcow2_image.proofs.Call.BehindHeader.{behind_none, behind_then}
 use Rattle.qcow2_alloc.specs.ImageFile.{known_in}
-use Rattle.qcow2_image.specs.MetAlone.{HasCompressedIn, IsMetTaking}
+use Rattle.qcow2_image.specs.MetAlone.{HasCompressedIn, MayFailAllocating}
 use Rattle.qcow2_image.proofs.Preallocate.Met.{hands_met, met_before, near_behind}
 use Rattle.qcow2_image.specs.Backings.{HasPinnedMapping}
 use Rattle.qcow2_image.proofs.image.Qcow2.fill_range.Goals as goal
@@ -64,7 +64,7 @@ returns-in_err-at-clause-sound g c = λ out sound le whole.
     record {
       fills = handed_on (λ r. FillsOrRefuses view below c.args.to c.args.from c.args.to c.args.self.now c.fill_first.new.self out r) c.from_residual.result e c.from_residual.ensures
           (filled_refused view below c.args.from c.args.to c.loop-at.at c.args.self.now c.loop-at.self c.fill_first.new.self c.loop-at-test.true c.loop-at.invariant.turns c.loop-at.invariant.behind e (λ list still. (c.in_err-at.ensures.sound list still).fills) out sound whole);
-      met = λ near. hands_met (IsMetTaking (HasPinnedMapping out) (HasPinnedMapping out) (HasCompressedIn from to old.file.header.fields (known_in view old.file)) ⊥) c.from_residual.result e c.from_residual.ensures
+      met = λ near. hands_met (MayFailAllocating (HasPinnedMapping out) (HasPinnedMapping out) (HasCompressedIn from to old.file.header.fields (known_in view old.file)) ⊥) c.from_residual.result e c.from_residual.ensures
           (met_before view below out to from c.loop-at.at old now part c.loop-at.at to from to low (omega arith) e
           ((c.in_err-at.ensures.sound out part.sound).met (still_at old.file.header.fields now.file.header.fields to part.header whole) (near_behind view below out to from c.loop-at.at old now part to to (omega (arith, lt)) (omega arith) near)));
     }

@@ -7,7 +7,7 @@ use Rattle.qcow2_alloc.specs.declared.error.ImageError.{ImageError}
 use Rattle.qcow2_image.specs.Calls.{AnswersCall}
 use Rattle.qcow2_image.specs.Image.{is_failed}
 use Rattle.qcow2_image.specs.ImageInvariant.{pending_in}
-use Rattle.qcow2_image.specs.Invalidated.{HeedsPrepared, IsOfPrepared, IsReasonAgainstReading, IsStillInUse, KeepsTables, reftable_in}
+use Rattle.qcow2_image.specs.Invalidated.{RespectsPrepared, IsOfPrepared, IsReasonAgainstReading, IsStillInUse, KeepsTables, reftable_in}
 use Rattle.qcow2_image.specs.Refusals.{IsMet}
 use Rattle.qcow2_image.specs.declared.image.Qcow2.{Qcow2}
 use Rattle.qcow2_image.specs.Backings.{HasPinnedMapping}
@@ -37,7 +37,7 @@ returns-clause-fails g c =
         reftable = ap (λ (i : Qcow2 _ _). reftable_in i) c.mark_failure.ensures.rest ∙ kept.reftable ∙ ap (λ (i : Qcow2 _ _). reftable_in i) c.begin.ensures.rest;
       }) c.drop_and_read-done.ensures.kept);
       cause = λ _. subst (λ (x : Result _ _). IfErr x IsMet) answer c.drop_and_read-done.ensures.fails.cause;
-      prepared = λ _. subst (λ (x : Result _ _). HeedsPrepared old x) answer (heeds_begun view old begun c.begin.ensures.begun r c.drop_and_read-done.ensures.prepared);
+      prepared = λ _. subst (λ (x : Result _ _). RespectsPrepared old x) answer (heeds_begun view old begun c.begin.ensures.begun r c.drop_and_read-done.ensures.prepared);
       why =
           λ _ honest.
           subst (λ (x : Result _ _). IfErr x (IsReasonAgainstReading view old new)) answer

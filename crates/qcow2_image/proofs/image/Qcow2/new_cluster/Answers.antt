@@ -17,7 +17,7 @@ use Rattle.qcow2_image.proofs.Call.Notes.{same_kept}
 use Rattle.qcow2_image.proofs.Call.BehindHeader.{behind_by, behind_none, behind_then}
 use Rattle.qcow2_image.proofs.Prepare.Lacked.{hands_limit, other_limit}
 use Rattle.qcow2_image.proofs.Prepare.Met.{filling_met, hands_met, new_behind}
-use Rattle.qcow2_image.specs.MetAlone.{IsCopiedCompressed, IsMetAlone}
+use Rattle.qcow2_image.specs.MetAlone.{IsCopiedCompressed, MayFailAlone}
 use Rattle.qcow2_image.proofs.Prepare.Unannounced.{copied_as}
 
 pub returns-in-Ok-clause-gains : goal.returns-in-Ok-clause-gains
@@ -74,7 +74,7 @@ returns-in-Err-clause-limit g c = λ p out sound holds. other_limit _ c.in-Err.r
 
 pub returns-in_err-pending-clause-met : goal.returns-in_err-pending-clause-met
 returns-in_err-pending-clause-met g c = λ p out sound holds.
-    hands_met (IsMetAlone (IsCopiedCompressed c.args.self.now.file.header.fields c.args.old.now c.args.offset c.args.length c.args.overwrite) ⊥) c.from_residual.result c.in_err-pending.field-0.0 c.from_residual.ensures (inl (c.in_err-pending.ensures.fault p out sound))
+    hands_met (MayFailAlone (IsCopiedCompressed c.args.self.now.file.header.fields c.args.old.now c.args.offset c.args.length c.args.overwrite) ⊥) c.from_residual.result c.in_err-pending.field-0.0 c.from_residual.ensures (inl (c.in_err-pending.ensures.fault p out sound))
 
 pub returns-in-Err-clause-met : goal.returns-in-Err-clause-met
 returns-in-Err-clause-met g c = λ p out sound holds.

@@ -8,7 +8,7 @@ use Rattle.qcow2_image.proofs.Call.FaultCounts.{counted_as, counted_of, untouche
 use Rattle.qcow2_image.proofs.Prepare.Lacked.{limited_frees}
 use Rattle.qcow2_alloc.specs.ImageFile.{known_in}
 use Rattle.qcow2_image.specs.L1Entries.{NeedsOverflowingL1Entry}
-use Rattle.qcow2_image.specs.MetAlone.{CopiesCompressed, IsMetTaking}
+use Rattle.qcow2_image.specs.MetAlone.{CopiesCompressed, MayFailAllocating}
 use Rattle.qcow2_image.proofs.Prepare.MetTables.{met_freed}
 use Rattle.qcow2_image.specs.Backings.{HasPinnedMapping}
 use Rattle.qcow2_image.specs.Preparing.{IsTaken}
@@ -67,7 +67,7 @@ returns-in-Err-clause-sound g c = λ some out sound.
       answers = tt;
       freeing = tt;
       readies = back_then_freed g.S.Storage.view g.F.BackingDisk.backing out c.args.self.now c.prepare_range.new.self c.process_free_list_after.new.self c.in-Err.refusal c.process_free_list_after.result ((c.in-Err.ensures.sound some out sound).readies) c.process_free_list_after.ensures.fault (c.process_free_list_after.ensures.frees out);
-      met = met_freed g.S.Storage.view g.F.BackingDisk.backing out (IsMetTaking (HasPinnedMapping out) (IsTaken h known c.args.offset c.args.length out) (CopiesCompressed c.args.offset c.args.length c.args.overwrite h known) (NeedsOverflowingL1Entry old c.args.offset)) (λ e fault. inl (inl (inl fault))) old c.prepare_range.new.self c.process_free_list_after.new.self c.in-Err.refusal c.process_free_list_after.result
+      met = met_freed g.S.Storage.view g.F.BackingDisk.backing out (MayFailAllocating (HasPinnedMapping out) (IsTaken h known c.args.offset c.args.length out) (CopiesCompressed c.args.offset c.args.length c.args.overwrite h known) (NeedsOverflowingL1Entry old c.args.offset)) (λ e fault. inl (inl (inl fault))) old c.prepare_range.new.self c.process_free_list_after.new.self c.in-Err.refusal c.process_free_list_after.result
           ((c.in-Err.ensures.sound some out sound).readies) c.process_free_list_after.ensures.fault (c.process_free_list_after.ensures.told.1 out) ((c.in-Err.ensures.sound some out sound).met);
       taken = λ is. (c.in-Err.ensures.sound some out sound).taken (c.process_free_list_after.ensures.taken c.in-Err.ensures.fails.cause is);
       limit = λ is. (c.in-Err.ensures.sound some out sound).limit

@@ -30,7 +30,7 @@ use Rattle.qcow2_image.specs.PinnedTables.{PreparesUnpinned}
 use Rattle.qcow2_metadata.specs.Header.{cluster_size}
 use Rattle.qcow2_metadata.specs.declared.header.HeaderFields.{HeaderFields}
 use Rattle.qcow2_image.specs.L1Entries.{NeedsOverflowingL1Entry}
-use Rattle.qcow2_image.specs.MetAlone.{CopiesCompressed, IsMetTaking}
+use Rattle.qcow2_image.specs.MetAlone.{CopiesCompressed, MayFailAllocating}
 use Rattle.qcow2_image.proofs.Prepare.Unannounced.{compressed_as}
 use Rattle.qcow2_image.proofs.Prepare.MetTables.{far_before}
 use Rattle.qcow2_image.specs.Prepared.{length_of, offset_of, table_of}
@@ -157,7 +157,7 @@ returns-clause-met g c = λ may some out sound.
     let size : cluster_size mid.file.header.fields ≡ cluster_size old.file.header.fields = ap (λ (x : HeaderFields). cluster_size x) stays.header in
     let h = old.file.header.fields in
     let known = known_in view old.file in
-    subst (λ (r : Result _ _). IfErr r (IsMetTaking (HasPinnedMapping out) (IsTaken h known from n out) (CopiesCompressed from n overwrite h known) (NeedsOverflowingL1Entry old from))) (sym c.mark_failure.ensures.answer)
+    subst (λ (r : Result _ _). IfErr r (MayFailAllocating (HasPinnedMapping out) (IsTaken h known from n out) (CopiesCompressed from n overwrite h known) (NeedsOverflowingL1Entry old from))) (sym c.mark_failure.ensures.answer)
     (if_err c.prepare-prepared.result
     (taking_as (λ held. held) (λ taken. taken_before view old mid from n stays.header stays.covers out taken) (compressed_as h mid.file.header.fields known (known_in view mid.file) from n overwrite size stays.covers) (far_before old mid from c.begin.ensures.begun.rest))
     ((c.prepare-prepared.ensures.sound some out stays.sound).met))

@@ -26,7 +26,7 @@ use Rattle.qcow2_alloc.proofs.KeptTables.Turning.{always_ok}
 use Rattle.qcow2_alloc.specs.CachePins.{l2_pins}
 use Rattle.qcow2_image.proofs.Clear.Between.{no_pins}
 use Rattle.qcow2_image.proofs.Prepare.Lacked.{hands_limit, other_limit}
-use Rattle.qcow2_image.specs.MetAlone.{IsCopiedCompressed, IsMetTaking}
+use Rattle.qcow2_image.specs.MetAlone.{IsCopiedCompressed, MayFailAllocating}
 use Rattle.qcow2_image.specs.Backings.{HasPinnedMapping}
 use Rattle.qcow2_image.proofs.Prepare.MetTaking.{taking_as}
 use Rattle.qcow2_image.proofs.Prepare.Taken.{if_err}
@@ -137,7 +137,7 @@ returns-in-None-clause-met g c = λ out sound holds.
     let p = pending_in view g.F.BackingDisk.backing old out in
     let covered = first_stands view g.F.BackingDisk.backing old p c.args.offset c.args.table c.new.result c.cluster_bits.result c.cluster-cluster.result c.in_ok-old.old c.cluster-cluster.ensures c.new.ensures c.cluster_bits.ensures.value holds (c.in_ok-old.ensures.says p (l1_index_of old.file.header.fields c.args.offset) sound.file) in
     let copied = IsCopiedCompressed old.file.header.fields in
-    subst (λ (x : L2Mapping). IfErr c.prepare_private.result (IsMetTaking (HasPinnedMapping out) (0 < l2_pins old.file.caches c.args.table) (copied x c.args.offset c.args.length c.args.overwrite) ⊥)) (sym covered)
+    subst (λ (x : L2Mapping). IfErr c.prepare_private.result (MayFailAllocating (HasPinnedMapping out) (0 < l2_pins old.file.caches c.args.table) (copied x c.args.offset c.args.length c.args.overwrite) ⊥)) (sym covered)
     (if_err c.prepare_private.result (taking_as (λ held. held) (λ no. absurd no) (λ is. is) (λ no. no)) (c.prepare_private.ensures.met out sound holds covered))
 
 pub returns-then-l2_is_pinned-clause-step : goal.returns-then-l2_is_pinned-clause-step

@@ -19,7 +19,7 @@ use Rattle.qcow2_image.proofs.Call.BehindHeader.{behind_then}
 use Rattle.qcow2_image.proofs.Call.ImageSteps.{step_none}
 use Rattle.qcow2_image.proofs.Prepare.Lacked.{goes_step, hands_limit, limited_from, places_enter}
 use Rattle.std.proofs.lemmas.Nat.{pow_pos, mod_below}
-use Rattle.qcow2_image.specs.MetAlone.{CopiesCompressed, IsMetTaking}
+use Rattle.qcow2_image.specs.MetAlone.{CopiesCompressed, MayFailAllocating}
 use Rattle.qcow2_image.proofs.Prepare.MetRanges.{alone_as}
 use Rattle.qcow2_image.proofs.Prepare.Unannounced.{compressed_as, compressed_at}
 use Rattle.qcow2_image.specs.Backings.{HasPinnedMapping}
@@ -114,7 +114,7 @@ returns-in_err-prepared-clause-sound g c = λ out sound holds.
     record {
       readies = handed_on (λ r. PreparesRange view below old mid out c.args.offset c.args.length c.args.overwrite r) c.from_residual.result c.in_err-prepared.field-0.0 c.from_residual.ensures
           (back_refused view below out old mid c.in_err-prepared.field-0.0 sound (c.in_err-prepared.ensures.readies out sound holds));
-      met = λ some. hands_met (IsMetTaking (HasPinnedMapping out) (0 < l2_pins c.args.self.now.file.caches c.args.table) (CopiesCompressed offset n c.args.overwrite h known) ⊥) c.from_residual.result c.in_err-prepared.field-0.0 c.from_residual.ensures
+      met = λ some. hands_met (MayFailAllocating (HasPinnedMapping out) (0 < l2_pins c.args.self.now.file.caches c.args.table) (CopiesCompressed offset n c.args.overwrite h known) ⊥) c.from_residual.result c.in_err-prepared.field-0.0 c.from_residual.ensures
           (taking_as (λ held. held) (λ kept. kept) (λ copied. compressed_at h known offset n offset n c.args.overwrite (omega arith) some refl (inl refl) copied) (λ no. no) c.in_err-prepared.field-0.0 (c.in_err-prepared.ensures.met out sound holds));
       limit = λ some. hands_limit c.from_residual.result c.in_err-prepared.field-0.0 c.from_residual.ensures (c.in_err-prepared.ensures.limit out sound holds);
     }

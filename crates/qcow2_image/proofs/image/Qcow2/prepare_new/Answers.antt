@@ -27,7 +27,7 @@ use Rattle.qcow2_image.proofs.Prepare.Lacking.{named_place}
 use Rattle.qcow2_alloc.specs.ImageFile.{known_in}
 use Rattle.qcow2_image.specs.Found.{l1_index_of}
 use Rattle.qcow2_image.proofs.Prepare.Met.{hands_met}
-use Rattle.qcow2_image.specs.MetAlone.{IsCopiedCompressed, IsMetTaking}
+use Rattle.qcow2_image.specs.MetAlone.{IsCopiedCompressed, MayFailAllocating}
 use Rattle.qcow2_image.specs.Backings.{HasPinnedMapping}
 use Rattle.qcow2_image.proofs.Prepare.MetTaking.{looking_taking}
 
@@ -81,7 +81,7 @@ returns-in_err-old_data-clause-sound g c = λ out sound holds.
     let old = c.args.self.now in
     record {
       readies = λ unpinned covered. any_refusal (λ r. Readies view below old old out c.args.offset c.args.length c.args.overwrite r) c.from_residual.result (search rules) (back_none view below out old (pending_in view below old out) sound);
-      met = hands_met (IsMetTaking (HasPinnedMapping out) ⊥ (IsCopiedCompressed c.args.self.now.file.header.fields c.args.old.now c.args.offset c.args.length c.args.overwrite) ⊥) c.from_residual.result c.in_err-old_data.field-0.0 c.from_residual.ensures (inl (inl (inl c.in_err-old_data.ensures.fault)));
+      met = hands_met (MayFailAllocating (HasPinnedMapping out) ⊥ (IsCopiedCompressed c.args.self.now.file.header.fields c.args.old.now c.args.offset c.args.length c.args.overwrite) ⊥) c.from_residual.result c.in_err-old_data.field-0.0 c.from_residual.ensures (inl (inl (inl c.in_err-old_data.ensures.fault)));
       limit = hands_limit c.from_residual.result c.in_err-old_data.field-0.0 c.from_residual.ensures (other_limit _ c.in_err-old_data.field-0.0 (fault_unlimited c.in_err-old_data.field-0.0 c.in_err-old_data.ensures.fault));
     }
 
@@ -94,7 +94,7 @@ returns-in_err-pending-clause-sound g c = λ out sound holds.
     record {
       readies = λ unpinned covered. handed_on (λ r. Readies view below old c.new_cluster.new.self out c.args.offset c.args.length c.args.overwrite r) c.from_residual-in_err-pending.result c.in_err-pending.field-0.0 c.from_residual-in_err-pending.ensures
           (c.in_err-pending.ensures.gains (pending_in view below old out) out sound (λ n. omega arith));
-      met = hands_met (IsMetTaking (HasPinnedMapping out) ⊥ (IsCopiedCompressed c.args.self.now.file.header.fields c.args.old.now c.args.offset c.args.length c.args.overwrite) ⊥) c.from_residual-in_err-pending.result c.in_err-pending.field-0.0 c.from_residual-in_err-pending.ensures (inl (c.in_err-pending.ensures.met p out sound (λ k. omega arith)));
+      met = hands_met (MayFailAllocating (HasPinnedMapping out) ⊥ (IsCopiedCompressed c.args.self.now.file.header.fields c.args.old.now c.args.offset c.args.length c.args.overwrite) ⊥) c.from_residual-in_err-pending.result c.in_err-pending.field-0.0 c.from_residual-in_err-pending.ensures (inl (c.in_err-pending.ensures.met p out sound (λ k. omega arith)));
       limit = hands_limit c.from_residual-in_err-pending.result c.in_err-pending.field-0.0 c.from_residual-in_err-pending.ensures
           (λ is. limited_more (limited_taking sound (c.in_err-pending.ensures.limit (pending_in view g.F.BackingDisk.backing old out) out sound (λ k. omega arith) is)));
     }

@@ -6,7 +6,7 @@ use Rattle.qcow2_image.proofs.Map.Loading.{if_ok, if_ok_any}
 use Rattle.qcow2_image.proofs.Prepare.KeptShares.{begins_kept}
 use Rattle.qcow2_image.proofs.Prepare.Lacked.{unlimited_all}
 use Rattle.qcow2_image.proofs.Prepare.Met.{met_as}
-use Rattle.qcow2_image.specs.MetAlone.{IsCopiedCompressed, IsMetTaking}
+use Rattle.qcow2_image.specs.MetAlone.{IsCopiedCompressed, MayFailAllocating}
 use Rattle.qcow2_alloc.specs.ImageError.{IsFault}
 use Rattle.qcow2_image.specs.Backings.{HasPinnedMapping}
 
@@ -31,7 +31,7 @@ returns-in-None-clause-limit g c = λ out sound holds. (c.prepare_new.ensures.so
 
 pub returns-in-Some-clause-met : goal.returns-in-Some-clause-met
 returns-in-Some-clause-met g c = λ out sound holds covered.
-    met_as IsFault (IsMetTaking (HasPinnedMapping out) ⊥ (IsCopiedCompressed c.args.self.now.file.header.fields c.args.old.now c.args.offset c.args.length c.args.overwrite) ⊥) c.prepare_kept.result (λ e fault. inl (inl (inl fault))) (c.prepare_kept.ensures.fault out sound (covered ∙ c.in-Some.ensures.place.0))
+    met_as IsFault (MayFailAllocating (HasPinnedMapping out) ⊥ (IsCopiedCompressed c.args.self.now.file.header.fields c.args.old.now c.args.offset c.args.length c.args.overwrite) ⊥) c.prepare_kept.result (λ e fault. inl (inl (inl fault))) (c.prepare_kept.ensures.fault out sound (covered ∙ c.in-Some.ensures.place.0))
 
 pub returns-in-None-clause-met : goal.returns-in-None-clause-met
 returns-in-None-clause-met g c = λ out sound holds covered. (c.prepare_new.ensures.sound out sound holds).met

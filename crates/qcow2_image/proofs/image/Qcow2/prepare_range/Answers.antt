@@ -20,7 +20,7 @@ use Rattle.qcow2_image.proofs.Prepare.Lacked.{hands_limit, other_limit, goes_ste
 use Rattle.qcow2_metadata.specs.Header.{cluster_size}
 use Rattle.qcow2_metadata.specs.declared.header.HeaderFields.{HeaderFields}
 use Rattle.qcow2_image.specs.L1Entries.{NeedsOverflowingL1Entry}
-use Rattle.qcow2_image.specs.MetAlone.{CopiesCompressed, IsMetTaking}
+use Rattle.qcow2_image.specs.MetAlone.{CopiesCompressed, MayFailAllocating}
 use Rattle.qcow2_image.proofs.Prepare.MetRanges.{place_kept, place_then}
 use Rattle.qcow2_image.proofs.Prepare.Unannounced.{compressed_as}
 use Rattle.qcow2_image.specs.Backings.{HasPinnedMapping}
@@ -84,7 +84,7 @@ returns-in_err-table-clause-sound g c = λ some out sound.
       freeing = search rules;
       readies = handed_on (λ r. PreparesRange g.S.Storage.view g.F.BackingDisk.backing c.args.self.now c.writable_l2_table.new.self out c.args.offset c.args.length c.args.overwrite r) c.from_residual.result c.in_err-table.field-0.0 c.from_residual.ensures
           ((c.in_err-table.ensures.sound out sound).finds);
-      met = hands_met (IsMetTaking (HasPinnedMapping out) (IsTaken h known c.args.offset c.args.length out) (CopiesCompressed c.args.offset c.args.length c.args.overwrite h known) (NeedsOverflowingL1Entry old c.args.offset)) c.from_residual.result c.in_err-table.field-0.0 c.from_residual.ensures
+      met = hands_met (MayFailAllocating (HasPinnedMapping out) (IsTaken h known c.args.offset c.args.length out) (CopiesCompressed c.args.offset c.args.length c.args.overwrite h known) (NeedsOverflowingL1Entry old c.args.offset)) c.from_residual.result c.in_err-table.field-0.0 c.from_residual.ensures
           (taking_as (λ held. held) (λ no. absurd no) (λ no. absurd no) (λ far. far) c.in_err-table.field-0.0 ((c.in_err-table.ensures.sound out sound).met));
       limit = hands_limit c.from_residual.result c.in_err-table.field-0.0 c.from_residual.ensures ((c.in_err-table.ensures.sound out sound).limit);
     }

@@ -12,7 +12,7 @@ use Rattle.qcow2_image.proofs.Prepare.Met.{hands_met, mapped_met, met_as}
 use Rattle.std.specs.Prelude.{IfErr, Result, is_some}
 use Rattle.qcow2_alloc.proofs.KeptTables.AllWritten.{written_then}
 use Rattle.qcow2_image.proofs.Map.Held.{heeds_then, held_as, none_eof}
-use Rattle.qcow2_image.specs.HeldMappings.{HeedsHeld, IsHeldAs}
+use Rattle.qcow2_image.specs.HeldMappings.{FitsTables, IsHeldAs}
 use Rattle.qcow2_image.proofs.Call.ImageSteps.{step_then}
 use Rattle.qcow2_image.proofs.image.Qcow2.read_current.Goals as goal
 
@@ -72,7 +72,7 @@ returns-clause-met g c = λ p out sound.
 
 pub returns-in_err-offset-clause-held : goal.returns-in_err-offset-clause-held
 returns-in_err-offset-clause-held g c = λ some.
-    handed_on (λ (r : Result _ _). HeedsHeld c.args.self.now (c.args.mapping.now.offset + c.args.at) (further_by c.args.at c.args.mapping.now.kind) (length c.args.bytes.now) r) c.from_residual.result c.in_err-offset.field-0.0 c.from_residual.ensures
+    handed_on (λ (r : Result _ _). FitsTables c.args.self.now (c.args.mapping.now.offset + c.args.at) (further_by c.args.at c.args.mapping.now.kind) (length c.args.bytes.now) r) c.from_residual.result c.in_err-offset.field-0.0 c.from_residual.ensures
     (λ outdated whole. absurd (let b = whole.below in let p = c.in_err-offset.ensures.past in omega (arith, b, p, some)))
 
 pub returns-in_err-check_mapped-clause-held : goal.returns-in_err-check_mapped-clause-held
@@ -80,9 +80,9 @@ returns-in_err-check_mapped-clause-held g c = λ some.
     let n = length c.args.bytes.now in
     let new = c.check_mapped.new.self in
     let e = c.in_err-check_mapped.field-0.0 in
-    handed_on (λ (r : Result _ _). HeedsHeld new (c.args.mapping.now.offset + c.args.at) (further_by c.args.at c.args.mapping.now.kind) n r) c.from_residual-in_err-check_mapped.result e c.from_residual-in_err-check_mapped.ensures
-    (subst (λ k. HeedsHeld new (c.args.mapping.now.offset + c.args.at) {A = Unit {0}} k n (Err e)) c.further-kind.ensures
-    (subst (λ o. HeedsHeld new o {A = Unit {0}} c.further-kind.result n (Err e)) c.in_ok-offset.ensures.place (c.in_err-check_mapped.ensures.held some)))
+    handed_on (λ (r : Result _ _). FitsTables new (c.args.mapping.now.offset + c.args.at) (further_by c.args.at c.args.mapping.now.kind) n r) c.from_residual-in_err-check_mapped.result e c.from_residual-in_err-check_mapped.ensures
+    (subst (λ k. FitsTables new (c.args.mapping.now.offset + c.args.at) {A = Unit {0}} k n (Err e)) c.further-kind.ensures
+    (subst (λ o. FitsTables new o {A = Unit {0}} c.further-kind.result n (Err e)) c.in_ok-offset.ensures.place (c.in_err-check_mapped.ensures.held some)))
 
 pub returns-clause-held : goal.returns-clause-held
 returns-clause-held g c = λ some.

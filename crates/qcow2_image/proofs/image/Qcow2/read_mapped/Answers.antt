@@ -21,7 +21,7 @@ use Rattle.qcow2_image.proofs.Prepare.Met.{mapped_met_at, met_as}
 use Rattle.qcow2_image.specs.MetAlone.{IsCacheHeld, IsMetMapped}
 use Rattle.qcow2_image.proofs.Map.Quiet.{reads_call}
 use Rattle.qcow2_image.proofs.Map.Held.{heeds_on, keeps_marked}
-use Rattle.qcow2_image.specs.HeldMappings.{HeedsHeld}
+use Rattle.qcow2_image.specs.HeldMappings.{FitsTables}
 use Rattle.qcow2_image.proofs.image.Qcow2.read_mapped.Goals as goal
 
 pub returns-clause-sees : goal.returns-clause-sees
@@ -88,7 +88,7 @@ returns-clause-held g c = λ usable some.
     let n = length c.args.bytes.now in
     let at = c.args.mapping.now.offset + c.args.at in
     let kind = further_by c.args.at c.args.mapping.now.kind in
-    subst (λ (r : Result _ _). HeedsHeld c.mark_failure.new.self at kind n r) (sym c.mark_failure.ensures.answer)
+    subst (λ (r : Result _ _). FitsTables c.mark_failure.new.self at kind n r) (sym c.mark_failure.ensures.answer)
     (heeds_on at kind n c.read_current-done.new.self c.mark_failure.new.self c.read_current-done.result (keeps_marked c.read_current-done.new.self c.mark_failure.new.self _ c.mark_failure.ensures.rest) (c.read_current-done.ensures.held some))
 
 pub returns-then-is_empty-clause-held : goal.returns-then-is_empty-clause-held

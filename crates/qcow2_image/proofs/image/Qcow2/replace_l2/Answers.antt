@@ -13,7 +13,7 @@ use Rattle.qcow2_image.proofs.Prepare.Lacked.{hands_limit, limited_in_since, lim
 use Rattle.qcow2_alloc.specs.ImageFile.{contents_in}
 use Rattle.qcow2_image.proofs.Prepare.Lacking.{named_place, loads_looking}
 use Rattle.qcow2_image.specs.Backings.{HasPinnedMapping}
-use Rattle.qcow2_image.specs.MetAlone.{IsMetTaking}
+use Rattle.qcow2_image.specs.MetAlone.{MayFailAllocating}
 use Rattle.qcow2_image.proofs.Prepare.Met.{hands_met}
 use Rattle.qcow2_image.proofs.Prepare.MetTaking.{looking_taking}
 
@@ -29,7 +29,7 @@ returns-in_err-l2_get_or_insert-clause-sound g c = λ p out sound shared.
     let why = loads_looking view below out p old sound e (c.in_err-l2_get_or_insert.ensures.refusals h (named_place h (contents_in view old.file) c.args.index c.args.old shared.place) p sound.file.honest sound.file.caches sound.file.named_blocks) in
     record {
       does = refused (OwnsTable view below p old mid out c.args.index) c.from_residual.result c.from_residual.ensures.0 (λ e. inl (as_listed_after view below out p old mid refl kept));
-      met = λ near. hands_met (IsMetTaking (HasPinnedMapping out) ⊥ ⊥ ⊥) c.from_residual.result e c.from_residual.ensures (looking_taking ⊥ ⊥ ⊥ e why);
+      met = λ near. hands_met (MayFailAllocating (HasPinnedMapping out) ⊥ ⊥ ⊥) c.from_residual.result e c.from_residual.ensures (looking_taking ⊥ ⊥ ⊥ e why);
       limit = λ near. hands_limit c.from_residual.result e c.from_residual.ensures (other_limit _ e (looking_unlimited e why));
     }
 

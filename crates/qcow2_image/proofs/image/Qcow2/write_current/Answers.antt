@@ -15,7 +15,7 @@ use Rattle.qcow2_image.specs.ImageInvariant.{pending_in}
 use Rattle.qcow2_image.proofs.Write.PutParts.{mapped_in_place, puts_nothing, puts_refused, puts_then, puts_written}
 use Rattle.qcow2_image.proofs.Call.Called.{Quietly, quiet_sound}
 use Rattle.qcow2_image.proofs.Map.Held.{heeds_then, held_as, keeps_storage}
-use Rattle.qcow2_image.specs.HeldMappings.{HeedsHeld, IsHeldAs}
+use Rattle.qcow2_image.specs.HeldMappings.{FitsTables, IsHeldAs}
 use Rattle.std.specs.Prelude.{Result}
 use Rattle.std.proofs.lemmas.Bool.{cases_lt}
 use Rattle.qcow2_alloc.specs.ImageError.{IsFault}
@@ -79,8 +79,8 @@ returns-in_err-check_in_place-clause-held g c = λ none some.
     let n = length c.args.bytes.now in
     let new = c.check_in_place.new.self in
     let e = c.in_err-check_in_place.field-0.0 in
-    handed_on (λ (r : Result _ _). HeedsHeld new (c.args.prepared.now.guest + c.args.at) (Raw Image (c.args.prepared.now.offset + c.args.at) true) n r) c.from_residual.result e c.from_residual.ensures
-    (subst (λ o. HeedsHeld new (c.args.prepared.now.guest + c.args.at) {A = Unit {0}} (Raw Image o true) n (Err e)) c.in-Some.ensures.1 (c.in_err-check_in_place.ensures.held none some))
+    handed_on (λ (r : Result _ _). FitsTables new (c.args.prepared.now.guest + c.args.at) (Raw Image (c.args.prepared.now.offset + c.args.at) true) n r) c.from_residual.result e c.from_residual.ensures
+    (subst (λ o. FitsTables new (c.args.prepared.now.guest + c.args.at) {A = Unit {0}} (Raw Image o true) n (Err e)) c.in-Some.ensures.1 (c.in_err-check_in_place.ensures.held none some))
 
 pub returns-clause-held : goal.returns-clause-held
 returns-clause-held g c = λ none some.

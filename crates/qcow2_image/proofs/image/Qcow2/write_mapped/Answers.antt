@@ -20,7 +20,7 @@ use Rattle.qcow2_image.proofs.Call.FaultCounts.{counted_marked}
 use Rattle.qcow2_image.proofs.Call.OnceWritten.{fails_none, fails_once}
 use Rattle.qcow2_image.proofs.Call.BehindHeader.{behind_call}
 use Rattle.qcow2_image.proofs.Map.Held.{heeds_on, keeps_marked}
-use Rattle.qcow2_image.specs.HeldMappings.{HeedsHeld}
+use Rattle.qcow2_image.specs.HeldMappings.{FitsTables}
 use Rattle.qcow2_image.proofs.Map.MetLooking.{held_since}
 use Rattle.qcow2_image.specs.MetAlone.{IsCacheHeld, IsMetPutting}
 use Rattle.qcow2_alloc.proofs.AllocationSteps.{handed_on}
@@ -89,7 +89,7 @@ returns-clause-held g c = λ usable none some.
     let n = length c.args.bytes.now in
     let at = c.args.prepared.now.guest + c.args.at in
     let kind = Raw Image (c.args.prepared.now.offset + c.args.at) true in
-    subst (λ (r : Result _ _). HeedsHeld c.mark_failure.new.self at kind n r) (sym c.mark_failure.ensures.answer)
+    subst (λ (r : Result _ _). FitsTables c.mark_failure.new.self at kind n r) (sym c.mark_failure.ensures.answer)
     (heeds_on at kind n c.write_current-done.new.self c.mark_failure.new.self c.write_current-done.result (keeps_marked c.write_current-done.new.self c.mark_failure.new.self _ c.mark_failure.ensures.rest) (c.write_current-done.ensures.held none some))
 
 pub returns-then-is_empty-clause-held : goal.returns-then-is_empty-clause-held

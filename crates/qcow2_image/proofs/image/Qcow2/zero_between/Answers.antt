@@ -9,7 +9,7 @@ use Rattle.qcow2_image.proofs.Call.Called.{works_none}
 use Rattle.qcow2_image.proofs.Preallocate.Filled.{fills_before, fills_none, fills_or_refuses, refused_after, zeros_from}
 use Rattle.qcow2_image.proofs.Preallocate.Turns.{same_version, still_at}
 use Rattle.qcow2_alloc.specs.ImageFile.{known_in}
-use Rattle.qcow2_image.specs.MetAlone.{HasCompressedIn, IsMetTaking}
+use Rattle.qcow2_image.specs.MetAlone.{HasCompressedIn, MayFailAllocating}
 use Rattle.qcow2_image.proofs.Preallocate.Met.{hands_met, met_before, near_behind}
 use Rattle.qcow2_image.proofs.Prepare.Taken.{if_err}
 use Rattle.qcow2_image.specs.Backings.{HasPinnedMapping}
@@ -39,7 +39,7 @@ returns-in_err-next-clause-sound g c = λ out sound before order whole third.
       fills = handed_on (λ r. FillsOrRefuses view below c.args.from c.args.old c.args.end a b out r) c.from_residual.result e c.from_residual.ensures
           (refused_after view below out a a b c.args.from c.args.old c.args.end c.args.old c.args.old c.args.from c.args.end (omega arith) (omega (arith, before, order)) before (omega arith) (fills_none view below out a c.args.from c.args.old sound (works_none (abstract_of view below a out) sound)) (goes_step step_none) e
           ((c.in_err-next.ensures.sound out sound order whole third).fills));
-      met = λ near. hands_met (IsMetTaking (HasPinnedMapping out) (HasPinnedMapping out) (HasCompressedIn c.args.old c.args.from old.file.header.fields (known_in g.S.Storage.view old.file)) ⊥) c.from_residual.result c.in_err-next.field-0.0 c.from_residual.ensures
+      met = λ near. hands_met (MayFailAllocating (HasPinnedMapping out) (HasPinnedMapping out) (HasCompressedIn c.args.old c.args.from old.file.header.fields (known_in g.S.Storage.view old.file)) ⊥) c.from_residual.result c.in_err-next.field-0.0 c.from_residual.ensures
           (taking_as (λ held. held) (λ kept. kept) (λ no. absurd no) (λ no. no) c.in_err-next.field-0.0 ((c.in_err-next.ensures.sound out sound order whole third).met near));
     }
 
@@ -60,7 +60,7 @@ returns-in_err-fill_range-clause-sound g c = λ out sound before order whole thi
           (refused_after view below out a b d c.args.from c.args.old c.args.end c.args.from c.in_ok-next.next c.args.old c.args.from before (omega (arith, next.2, order)) (omega arith) order first (goes_step c.zero_first.ensures.step) e
           ((c.in_err-fill_range.ensures.sound out first.sound before (still_at a.file.header.fields b.file.header.fields c.args.from first.header whole.0)).fills));
       met = λ near. let first = (c.in_ok-next.ensures.sound out sound order whole third).fills in
-          hands_met (IsMetTaking (HasPinnedMapping out) (HasPinnedMapping out) (HasCompressedIn c.args.old c.args.from h (known_in view a.file)) ⊥) c.from_residual-in_err-fill_range.result e c.from_residual-in_err-fill_range.ensures
+          hands_met (MayFailAllocating (HasPinnedMapping out) (HasPinnedMapping out) (HasCompressedIn c.args.old c.args.from h (known_in view a.file)) ⊥) c.from_residual-in_err-fill_range.result e c.from_residual-in_err-fill_range.ensures
           (met_before view below out 0 c.args.from c.in_ok-next.next a b first c.args.old c.args.from c.args.old c.args.from (omega arith) (omega arith) e
           ((c.in_err-fill_range.ensures.sound out first.sound before (still_at h h' c.args.from first.header whole.0)).met (near_behind view below out 0 c.args.from c.in_ok-next.next a b first c.args.end c.args.from (omega (arith, next.2, order)) order near)));
     }

@@ -19,7 +19,7 @@ use Rattle.qcow2_image.proofs.Call.Unlimited.{fault_unlimited}
 use Rattle.qcow2_image.proofs.Prepare.Lacked.{limited_giving, limited_upto}
 use Rattle.qcow2_image.proofs.Preallocate.Met.{under_prepared, never_far}
 use Rattle.qcow2_image.specs.Backings.{HasPinnedMapping}
-use Rattle.qcow2_image.specs.MetAlone.{IsMetTaking}
+use Rattle.qcow2_image.specs.MetAlone.{MayFailAllocating}
 use Rattle.qcow2_image.proofs.Prepare.Met.{hands_met}
 use Rattle.qcow2_image.proofs.Prepare.MetTaking.{taking_as}
 use Rattle.qcow2_image.proofs.Call.ImageSteps.{step_none, step_of_part, step_then}
@@ -95,7 +95,7 @@ returns-in_err-clear_between-clause-sound g c = λ out sound order whole third.
         within = next_within h sizes.some sizes.entries from to c.min-next.result whole.1 is high;
         version = λ _. third;
       } in
-          hands_met (IsMetTaking (HasPinnedMapping out) (HasPinnedMapping out) ⊥ ⊥) c.from_residual.result e c.from_residual.ensures
+          hands_met (MayFailAllocating (HasPinnedMapping out) (HasPinnedMapping out) ⊥ ⊥) c.from_residual.result e c.from_residual.ensures
           (taking_as (λ held. held) (under_prepared h from out) (λ no. no) (never_far view below out (pending_in view below old out) old sound from to c.if-to-from.false near) e (c.in_err-clear_between.ensures.met out sound can));
     }
 
@@ -136,7 +136,7 @@ returns-in_err-process_free_list-clause-sound g c = λ out sound order whole thi
         version = λ _. third;
       }) in
           let listed = subst (λ (x : Pending). ImageInvariant view below x mid out) (all_listed view below mid out) part.sound in
-          hands_met (IsMetTaking (HasPinnedMapping out) (HasPinnedMapping out) ⊥ ⊥) c.from_residual-in_err-process_free_list.result c.in_err-process_free_list.field-0.0 c.from_residual-in_err-process_free_list.ensures
+          hands_met (MayFailAllocating (HasPinnedMapping out) (HasPinnedMapping out) ⊥ ⊥) c.from_residual-in_err-process_free_list.result c.in_err-process_free_list.field-0.0 c.from_residual-in_err-process_free_list.ensures
           (inl (inl (inl (c.in_err-process_free_list.ensures.faults (beside view below mid out) out listed))));
     }
 

@@ -8,7 +8,7 @@ use Rattle.qcow2_image.proofs.Preallocate.Grown.{up_least, up_rising, up_whole}
 use Rattle.std.specs.Prelude.{IfErr}
 use Rattle.qcow2_alloc.specs.ImageFile.{known_in}
 use Rattle.qcow2_image.specs.ImageInvariant.{pending_in}
-use Rattle.qcow2_image.specs.MetAlone.{HasCompressedIn, HasNearEntries, IsMetTaking}
+use Rattle.qcow2_image.specs.MetAlone.{HasCompressedIn, HasNearEntries, MayFailAllocating}
 use Rattle.qcow2_image.proofs.Preallocate.Met.{never_past}
 use Rattle.qcow2_image.specs.Backings.{HasPinnedMapping}
 use Rattle.qcow2_image.proofs.Call.ImageSteps.{step_none}
@@ -70,7 +70,7 @@ returns-clause-met g c = λ out sound le version near.
     let end : c.in-Some-rounded_up.end ≡ rounded_up (cluster_size c.args.self.now.file.header.fields) c.args.size = c.in-Some-rounded_up.ensures.some ∙ ap (λ s. rounded_up s c.args.size) size in
     let least = up_least cs c.args.old some in
     let rising = up_rising cs c.args.old c.args.size some le in
-    subst (λ n. IfErr c.zero_between.result (IsMetTaking (HasPinnedMapping out) (HasPinnedMapping out) (HasCompressedIn c.args.old n h (known_in g.S.Storage.view old.file)) ⊥)) from
+    subst (λ n. IfErr c.zero_between.result (MayFailAllocating (HasPinnedMapping out) (HasPinnedMapping out) (HasCompressedIn c.args.old n h (known_in g.S.Storage.view old.file)) ⊥)) from
     ((c.zero_between.ensures.sound out sound (omega (arith, from, least)) (omega (arith, from, end, rising)) (subst (λ n. n % cs ≡ 0) (sym from) (up_whole cs c.args.old some), subst (λ n. n % cs ≡ 0) (sym end) (up_whole cs c.args.size some)) version).met
     (subst (λ n. HasNearEntries n h) (sym end) near))
 
