@@ -13,7 +13,7 @@ use Rattle.qcow2_metadata.specs.Consistent.{IsConsistent}
 use Rattle.qcow2_metadata.specs.Header.{header}
 use Rattle.qcow2_metadata.specs.declared.header.HeaderFields.{HeaderFields}
 use Rattle.qcow2_disk.specs.AbstractImages.{IsOpened}
-use Rattle.qcow2_laws.proofs.Unseen.{known_header}
+use Rattle.qcow2_laws.proofs.Internal.{known_header}
 use Rattle.qcow2_alloc.specs.ImageError.{IsFault}
 use Rattle.qcow2_alloc.specs.ImageFile.{known_in, state_in}
 use Rattle.qcow2_alloc.specs.declared.error.ImageError.{ImageError}

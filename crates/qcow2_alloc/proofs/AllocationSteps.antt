@@ -21,13 +21,13 @@ use Rattle.qcow2_alloc.specs.declared.image_file.ImageFile.{ImageFile}
 use Rattle.qcow2_alloc.specs.declared.clusters_to_free.ClusterKind.{ClusterKind}
 use Rattle.qcow2_alloc.specs.declared.clusters_to_free.ClusterKind.TheVariants.{Data, Metadata}
 use Rattle.qcow2_alloc.specs.declared.clusters_to_free.ClustersToFreeEntry.{ClustersToFreeEntry}
-use Rattle.qcow2_alloc.specs.Allocation.{run_at, is_data, taken_as, Owed, Taken, Listed, owed_as, MayTake, MayLower, HasNone, NamesBlock, NamesBehindHeader, KeepsRefblocks, NamesLacking, KeepsEntries, KeepsNamed, RefblockAt, UnseenAllocatorStep, UnseenAllocatorGrowth, PlacesBlock, GetsBlock, RefusedGrowth, TakesOne, TakesCluster, Allocates}
+use Rattle.qcow2_alloc.specs.Allocation.{run_at, is_data, taken_as, Owed, Taken, Listed, owed_as, MayTake, MayLower, HasNone, NamesBlock, NamesBehindHeader, KeepsRefblocks, NamesLacking, KeepsEntries, KeepsNamed, RefblockAt, InternalAllocatorStep, InternalAllocatorGrowth, PlacesBlock, GetsBlock, RefusedGrowth, TakesOne, TakesCluster, Allocates}
 use Rattle.qcow2_alloc.specs.CachePins.{KeepsPinsAndNotes}
 use Rattle.qcow2_alloc.specs.ImageFile.{view_in, contents_in, known_in, FileInvariant, AllocatorInvariant, HasReftable, RefusedFileStep}
 use Rattle.image_access.specs.declared.error.StorageError.{StorageError}
 use Rattle.image_access.specs.declared.error.StorageError.TheVariants.{Fault, Memory}
 use Rattle.qcow2_alloc.specs.ImageError.{of_storage, IsFault}
-use Rattle.qcow2_alloc.specs.MetadataCaches.{order_of, rb_at, IsCountedAt, RaisesCount, LowersCount, UnseenCacheStep}
+use Rattle.qcow2_alloc.specs.MetadataCaches.{order_of, rb_at, IsCountedAt, RaisesCount, LowersCount, InternalCacheStep}
 use Rattle.qcow2_alloc.specs.declared.image_storage.ImageStorage.{ImageStorage}
 use Rattle.qcow2_alloc.specs.ImageStorage.{storage_of}
 use Rattle.qcow2_alloc.proofs.KeptTables.Standing.{own_cluster}
@@ -163,42 +163,42 @@ other_range cluster end per per' k below same past is =
 module _ {S : Type 0} (view : S → StorageView) where
   -- ---- one step after another
   -- an allocator with the same reftable
-  pub allocator_step_as : (p r : Pending) (a b : ImageFile S) (t t' : Allocator) → t'.reftable ≡ t.reftable → UnseenAllocatorStep view p a t b r → UnseenAllocatorStep view p a t' b r
+  pub allocator_step_as : (p r : Pending) (a b : ImageFile S) (t t' : Allocator) → t'.reftable ≡ t.reftable → InternalAllocatorStep view p a t b r → InternalAllocatorStep view p a t' b r
   allocator_step_as p r a b t t' same first = record { file_step = first.file_step; reftable = subst (HasReftable view b) (sym same) first.reftable }
 
-  pub allocator_step_none : (p : Pending) (file : ImageFile S) (t : Allocator) → AllocatorInvariant view t p file → UnseenAllocatorStep view p file t file p
+  pub allocator_step_none : (p : Pending) (file : ImageFile S) (t : Allocator) → AllocatorInvariant view t p file → InternalAllocatorStep view p file t file p
   allocator_step_none p file t sound = record { file_step = file_step_none view p file sound.sound; reftable = sound.reftable }
 
-  pub allocator_step_then : (p r : Pending) (a b c : ImageFile S) (t t' : Allocator) → UnseenAllocatorStep view p a t b p → UnseenAllocatorStep view p b t' c r → UnseenAllocatorStep view p a t' c r
+  pub allocator_step_then : (p r : Pending) (a b c : ImageFile S) (t t' : Allocator) → InternalAllocatorStep view p a t b p → InternalAllocatorStep view p b t' c r → InternalAllocatorStep view p a t' c r
   allocator_step_then p r a b c t t' first second = record { file_step = file_step_then view p p r a b c (λ k some. some) first.file_step second.file_step; reftable = second.reftable }
 
-  pub is_sound_now : (p q : Pending) (a b : ImageFile S) (t : Allocator) → UnseenAllocatorStep view p a t b q → AllocatorInvariant view t q b
+  pub is_sound_now : (p q : Pending) (a b : ImageFile S) (t : Allocator) → InternalAllocatorStep view p a t b q → AllocatorInvariant view t q b
   is_sound_now p q a b t first = record { sound = first.file_step.sound; reftable = first.reftable }
 
   -- the same where the reftable may move
-  pub on_of : (p q : Pending) (a b : ImageFile S) (t : Allocator) → UnseenAllocatorStep view p a t b q → UnseenAllocatorGrowth view p a t b q
+  pub on_of : (p q : Pending) (a b : ImageFile S) (t : Allocator) → InternalAllocatorStep view p a t b q → InternalAllocatorGrowth view p a t b q
   on_of p q a b t allocator_step = record { file_step = file_step_on view p q a b allocator_step.file_step; reftable = allocator_step.reftable }
 
-  pub on_none : (p : Pending) (file : ImageFile S) (t : Allocator) → AllocatorInvariant view t p file → UnseenAllocatorGrowth view p file t file p
+  pub on_none : (p : Pending) (file : ImageFile S) (t : Allocator) → AllocatorInvariant view t p file → InternalAllocatorGrowth view p file t file p
   on_none p file t sound = on_of p p file file t (allocator_step_none p file t sound)
 
   -- what is held for guests is held still
-  pub allocator_step_on : (p q r : Pending) (a b c : ImageFile S) (t t' : Allocator) → ((k : ℕ) → 0 < p.new_data k → 0 < q.new_data k) → UnseenAllocatorGrowth view p a t b q → UnseenAllocatorGrowth view q b t' c r → UnseenAllocatorGrowth view p a t' c r
+  pub allocator_step_on : (p q r : Pending) (a b c : ImageFile S) (t t' : Allocator) → ((k : ℕ) → 0 < p.new_data k → 0 < q.new_data k) → InternalAllocatorGrowth view p a t b q → InternalAllocatorGrowth view q b t' c r → InternalAllocatorGrowth view p a t' c r
   allocator_step_on p q r a b c t t' new_data first second = record { file_step = on_then view p q r a b c new_data first.file_step second.file_step; reftable = second.reftable }
 
-  pub is_sound_on : (p q : Pending) (a b : ImageFile S) (t : Allocator) → UnseenAllocatorGrowth view p a t b q → AllocatorInvariant view t q b
+  pub is_sound_on : (p q : Pending) (a b : ImageFile S) (t : Allocator) → InternalAllocatorGrowth view p a t b q → AllocatorInvariant view t q b
   is_sound_on p q a b t first = record { sound = first.file_step.sound; reftable = first.reftable }
 
   -- after clusters were taken
-  pub allocator_step_more : (d : Bool) (p : Pending) (n : ℕ → ℕ) (r : Pending) (a b c : ImageFile S) (t t' : Allocator) → UnseenAllocatorStep view p a t b (taken_as d p n) → UnseenAllocatorStep view (taken_as d p n) b t' c r → UnseenAllocatorStep view p a t' c r
+  pub allocator_step_more : (d : Bool) (p : Pending) (n : ℕ → ℕ) (r : Pending) (a b c : ImageFile S) (t t' : Allocator) → InternalAllocatorStep view p a t b (taken_as d p n) → InternalAllocatorStep view (taken_as d p n) b t' c r → InternalAllocatorStep view p a t' c r
   allocator_step_more d p n r a b c t t' first second = record { file_step = file_step_then view p (taken_as d p n) r a b c (new_data_more d p n) first.file_step second.file_step; reftable = second.reftable }
 
   pub allocator_step_cached : (p : Pending) (file : ImageFile S) (t : Allocator) (storage : ImageStorage S) (caches : MetadataCaches S) → AllocatorInvariant view t p file
-      → UnseenCacheStep file.header.fields p (view_in view file) file.caches (view (storage_of storage)) caches → KeepsPinsAndNotes file.caches caches → UnseenAllocatorStep view p file t (record file { storage = storage; caches = caches }) p
+      → InternalCacheStep file.header.fields p (view_in view file) file.caches (view (storage_of storage)) caches → KeepsPinsAndNotes file.caches caches → InternalAllocatorStep view p file t (record file { storage = storage; caches = caches }) p
   allocator_step_cached p file t storage caches sound stays marks = record { file_step = file_step_cached view p file storage caches sound.sound stays marks; reftable = reftable_cached view p file storage caches sound.sound stays t.reftable sound.reftable }
 
   -- a refusal that is no fault left all sound
-  pub still_sound : (p : Pending) (a b : ImageFile S) (t : Allocator) (e : ImageError) → (IsFault e → ⊥) → RefusedFileStep view p a t b e → UnseenAllocatorStep view p a t b p
+  pub still_sound : (p : Pending) (a b : ImageFile S) (t : Allocator) (e : ImageError) → (IsFault e → ⊥) → RefusedFileStep view p a t b e → InternalAllocatorStep view p a t b p
   still_sound p a b t e other leaves = elim leaves [ inl sound ↦ record { file_step = sound.0; reftable = sound.1 } | inr interrupted ↦ absurd (other interrupted.fault) ]
 
   -- a refusal that left the same pending, as both words say it
@@ -206,34 +206,34 @@ module _ {S : Type 0} (view : S → StorageView) where
   leaves_as p a b t e leaves = elim leaves [ inl sound ↦ inl (on_of p p a b t (record { file_step = sound.0; reftable = sound.1 })) | inr interrupted ↦ inr interrupted ]
 
   -- a refusal after a step
-  pub leaves_on : (p q r : Pending) (a b c : ImageFile S) (t t' : Allocator) (e : ImageError) → ((k : ℕ) → 0 < p.new_data k → 0 < q.new_data k) → UnseenAllocatorGrowth view p a t b q → RefusedGrowth view q b t' c r e → RefusedGrowth view p a t' c r e
+  pub leaves_on : (p q r : Pending) (a b c : ImageFile S) (t t' : Allocator) (e : ImageError) → ((k : ℕ) → 0 < p.new_data k → 0 < q.new_data k) → InternalAllocatorGrowth view p a t b q → RefusedGrowth view q b t' c r e → RefusedGrowth view p a t' c r e
   leaves_on p q r a b c t t' e new_data first second = elim second [
     | inl sound ↦ inl (allocator_step_on p q r a b c t t' new_data first sound)
     | inr interrupted ↦ inr (on_interrupted view p q a b c e first.file_step interrupted)
   ]
 
   -- one that is no fault
-  pub still_as : (p q : Pending) (a b : ImageFile S) (t : Allocator) (e : ImageError) → (IsFault e → ⊥) → RefusedGrowth view p a t b q e → UnseenAllocatorGrowth view p a t b q
+  pub still_as : (p q : Pending) (a b : ImageFile S) (t : Allocator) (e : ImageError) → (IsFault e → ⊥) → RefusedGrowth view p a t b q e → InternalAllocatorGrowth view p a t b q
   still_as p q a b t e other leaves = elim leaves [ inl sound ↦ sound | inr interrupted ↦ absurd (other interrupted.fault) ]
 
   -- another allocator with the same reftable
-  pub on_as : (p q : Pending) (a b : ImageFile S) (t t' : Allocator) → t'.reftable ≡ t.reftable → UnseenAllocatorGrowth view p a t b q → UnseenAllocatorGrowth view p a t' b q
+  pub on_as : (p q : Pending) (a b : ImageFile S) (t t' : Allocator) → t'.reftable ≡ t.reftable → InternalAllocatorGrowth view p a t b q → InternalAllocatorGrowth view p a t' b q
   on_as p q a b t t' same allocator_step = record { file_step = allocator_step.file_step; reftable = subst (HasReftable view b) (sym same) allocator_step.reftable }
 
   -- a cluster that is taken, or is in use, after a step
   pub takes_on : (p q : Pending) (a b c : ImageFile S) (t t' t'' : Allocator) (d : Bool) (cluster : ℕ) (taken : Bool) → ((k : ℕ) → 0 < p.new_data k → 0 < q.new_data k) → t''.reftable ≡ t'.reftable
-      → UnseenAllocatorGrowth view p a t b q → TakesOne view q b t' c d cluster (Ok taken) → TakesCluster view p a t'' c q d cluster (Ok taken)
+      → InternalAllocatorGrowth view p a t b q → TakesOne view q b t' c d cluster (Ok taken) → TakesCluster view p a t'' c q d cluster (Ok taken)
   takes_on p q a b c t t' t'' d cluster true new_data same first second =
       on_as p (taken_as d q (one_at cluster)) a c t' t'' same (allocator_step_on p q (taken_as d q (one_at cluster)) a b c t t' new_data first (on_of q (taken_as d q (one_at cluster)) b c t' second))
   takes_on p q a b c t t' t'' d cluster false new_data same first second = on_as p q a c t' t'' same (allocator_step_on p q q a b c t t' new_data first (on_of q q b c t' second))
 
   -- an allocation after a step that left the same pending
-  pub allocates_then : (p q : Pending) (a b c : ImageFile S) (t t' : Allocator) (kind : ClusterKind) (n : ℕ) (result : Result ClustersToFreeEntry ImageError) → UnseenAllocatorGrowth view p a t b p → Allocates view p b t' c q kind n result → Allocates view p a t' c q kind n result
+  pub allocates_then : (p q : Pending) (a b c : ImageFile S) (t t' : Allocator) (kind : ClusterKind) (n : ℕ) (result : Result ClustersToFreeEntry ImageError) → InternalAllocatorGrowth view p a t b p → Allocates view p b t' c q kind n result → Allocates view p a t' c q kind n result
   allocates_then p q a b c t t' kind n (Ok run) first second = (second.0, second.1, allocator_step_on p p (taken_as (is_data kind) q (run_at run.first_cluster n)) a b c t t' (λ k some. some) first second.2)
   allocates_then p q a b c t t' kind n (Err e) first second = leaves_on p p q a b c t t' e (λ k some. some) first second
 
   -- a refblock that was placed in a cluster that was taken for it, and that was noted
-  pub gets_taken : (p : Pending) (a b c : ImageFile S) (t t' : Allocator) (range at : ℕ) (result : Result (Unit {0}) ImageError) → UnseenAllocatorStep view p a t b (taken_as false p (one_at at)) → IsTrue c.caches.is_changed
+  pub gets_taken : (p : Pending) (a b c : ImageFile S) (t t' : Allocator) (range at : ℕ) (result : Result (Unit {0}) ImageError) → InternalAllocatorStep view p a t b (taken_as false p (one_at at)) → IsTrue c.caches.is_changed
       → PlacesBlock view (taken_as false p (one_at at)) b t' c p range at result → GetsBlock view p a t' c result
   gets_taken p a b c t t' range at (Ok _) first noted placed = record { file_step = file_step_then view p (taken_as false p (one_at at)) p a b c (λ k some. some) first.file_step placed.0.file_step; reftable = placed.0.reftable }
   gets_taken p a b c t t' range at (Err e) first noted placed = inr (interrupted_after view p (taken_as false p (one_at at)) a b c t' e first.file_step placed.0 noted placed.1)
@@ -244,7 +244,7 @@ module _ {S : Type 0} (view : S → StorageView) where
   gets_placed p old new t range at (Err e) placed = placed.1
 
   -- a refusal after a step that left the same pending, as the errors of answers say it
-  pub gets_then : (p : Pending) (a b c : ImageFile S) (t t' : Allocator) (result : Result (Unit {0}) ImageError) → UnseenAllocatorStep view p a t b p → GetsBlock view p b t' c result → GetsBlock view p a t' c result
+  pub gets_then : (p : Pending) (a b c : ImageFile S) (t t' : Allocator) (result : Result (Unit {0}) ImageError) → InternalAllocatorStep view p a t b p → GetsBlock view p b t' c result → GetsBlock view p a t' c result
   gets_then p a b c t t' (Ok _) first second = allocator_step_then p p a b c t t' first second
   gets_then p a b c t t' (Err e) first second = leaves_then view p a b c t' e first.file_step second
 
@@ -286,10 +286,10 @@ module _ {S : Type 0} (view : S → StorageView) where
       }
 
   -- ---- one cluster
-  module _ (p : Pending) (a b : ImageFile S) (t : Allocator) (first : UnseenAllocatorStep view p a t b p) (cluster block index : ℕ) (at : IsCountedAt b.header.fields (known_in view b) cluster block index)
+  module _ (p : Pending) (a b : ImageFile S) (t : Allocator) (first : InternalAllocatorStep view p a t b p) (cluster block index : ℕ) (at : IsCountedAt b.header.fields (known_in view b) cluster block index)
       (caches : MetadataCaches S) (turned : order_of caches ≡ order_of b.caches) (marks : KeepsPinsAndNotes b.caches caches) where
     pub taken_one : (d : Bool) → MayTake d a → order_of b.caches ≡ order_of a.caches → count b.header.fields (known_in view b) cluster ≡ 0 → RaisesCount b.caches caches block index
-        → UnseenAllocatorStep view p a t (record b { caches = caches }) (taken_as d p (one_at cluster))
+        → InternalAllocatorStep view p a t (record b { caches = caches }) (taken_as d p (one_at cluster))
     taken_one d may same free raises =
         let made = raises b.header.fields p (contents_in view b) cluster first.file_step.sound.caches at free in record {
           file_step = file_step_then view p p (taken_as d p (one_at cluster)) a b (record b { caches = caches }) (λ k some. some) first.file_step
@@ -297,7 +297,7 @@ module _ {S : Type 0} (view : S → StorageView) where
           reftable = reftable_counted view p b caches cluster first.file_step.sound marks turned t.reftable first.reftable;
         }
 
-    pub given_one : (owed : Owed) (q : Pending) → MayLower owed b → p ≡ owed_as owed q (one_at cluster) → LowersCount b.caches caches block index → UnseenAllocatorStep view p a t (record b { caches = caches }) q
+    pub given_one : (owed : Owed) (q : Pending) → MayLower owed b → p ≡ owed_as owed q (one_at cluster) → LowersCount b.caches caches block index → InternalAllocatorStep view p a t (record b { caches = caches }) q
     given_one owed q may owes lowers =
         let made = lowers b.header.fields p (contents_in view b) cluster first.file_step.sound.caches at in record {
           file_step = file_step_then view p p q a b (record b { caches = caches }) (λ k some. some) first.file_step (file_step_lowered view p b caches cluster first.file_step.sound marks turned q made owed may owes);

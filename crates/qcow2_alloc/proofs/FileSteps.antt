@@ -15,12 +15,12 @@ use Rattle.qcow2_laws.specs.CrashInvariant.{Pending}
 use Rattle.qcow2_laws.specs.Changes.{one_at, with_new_data, with_new_tables, without_old_tables, without_old_data, new_data_to_old_tables, new_tables_to_old_tables}
 use Rattle.qcow2_laws.specs.SafeSteps.{DriverState, SafeStep}
 use Rattle.qcow2_laws.specs.Steps.{CountRises, CountFalls}
-use Rattle.qcow2_laws.specs.Unseen.{IsUnseen}
+use Rattle.qcow2_laws.specs.Internal.{IsInternal}
 use Rattle.qcow2_laws.proofs.Caches.{unnamed_free_l2, unnamed_free_rb}
 use Rattle.qcow2_laws.proofs.KeptSteps.{known_is_on_storage}
 use Rattle.qcow2_laws.proofs.SafeSteps.{safe_throughout_none, raise_safe_throughout, fall_safe_throughout}
 use Rattle.qcow2_laws.proofs.Steps.{count_is_changed, pending_is_changed}
-use Rattle.qcow2_laws.proofs.Unseen.{unseen_none, unseen_then, unseen_known, unseen_count, l1_same_none, l1_same_then, l1_same_storage, l1_same_known}
+use Rattle.qcow2_laws.proofs.Internal.{unseen_none, unseen_then, unseen_known, unseen_count, l1_same_none, l1_same_then, l1_same_storage, l1_same_known}
 use Rattle.qcow2_alloc.specs.declared.allocation.Allocator.{Allocator}
 use Rattle.qcow2_alloc.specs.declared.cache.MetadataCaches.{MetadataCaches}
 use Rattle.qcow2_alloc.specs.declared.error.ImageError.{ImageError}
@@ -29,10 +29,10 @@ use Rattle.qcow2_alloc.specs.declared.image_storage.ImageStorage.{ImageStorage}
 use Rattle.qcow2_alloc.specs.Allocation.{taken_as, listed_as, Owed, Taken, Listed, owed_as, MayTake, MayLower}
 use Rattle.qcow2_alloc.specs.declared.clusters_to_free.ClusterKind.TheVariants.{Data, Metadata}
 use Rattle.qcow2_alloc.specs.CachePins.{KeepsPinsAndNotes}
-use Rattle.qcow2_alloc.specs.ImageFile.{nothing_given, pending_at, view_in, contents_in, known_in, state_in, FileInvariant, HasReftable, UnseenFileStep, UnseenFileGrowth, InterruptedFileStep, RefusedFileStep, IsFault}
+use Rattle.qcow2_alloc.specs.ImageFile.{nothing_given, pending_at, view_in, contents_in, known_in, state_in, FileInvariant, HasReftable, InternalFileStep, InternalFileGrowth, InterruptedFileStep, RefusedFileStep, IsFault}
 use Rattle.qcow2_alloc.specs.ImageStorage.{storage_of, is_changed_of}
 use Rattle.qcow2_alloc.specs.KeptTables.{IsSafeSince}
-use Rattle.qcow2_alloc.specs.MetadataCaches.{order_of, l2_tables, refblocks, known_of, UnseenCacheStep, Made}
+use Rattle.qcow2_alloc.specs.MetadataCaches.{order_of, l2_tables, refblocks, known_of, InternalCacheStep, Made}
 use Rattle.qcow2_alloc.proofs.CountsStay.{counts_follow}
 use Rattle.qcow2_alloc.proofs.KeptTables.BlocksNamed.{top_still}
 use Rattle.qcow2_alloc.proofs.FileInvariants.{file_invariant_of}
@@ -66,7 +66,7 @@ cached_safe_throughout old new known since = record { moments = since.moments; c
 
 module _ {S : Type 0} (view : S → StorageView) where
   abbrev Moved : Pending → Pending → ImageFile S → ImageFile S → Type 0
-  Moved = UnseenFileStep view
+  Moved = InternalFileStep view
 
   -- ---- one step after another
 
@@ -103,10 +103,10 @@ module _ {S : Type 0} (view : S → StorageView) where
   }
 
   -- the same where the reftable may move
-  pub file_step_on : (p q : Pending) (a b : ImageFile S) → Moved p q a b → UnseenFileGrowth view p q a b
+  pub file_step_on : (p q : Pending) (a b : ImageFile S) → Moved p q a b → InternalFileGrowth view p q a b
   file_step_on p q a b file_step = record { sound = file_step.sound; safe_step = file_step.safe_step; since = file_step.since; unseen = file_step.unseen; l1_table = file_step.l1_table }
 
-  pub on_then : (p q r : Pending) (a b c : ImageFile S) → ((k : ℕ) → 0 < p.new_data k → 0 < q.new_data k) → UnseenFileGrowth view p q a b → UnseenFileGrowth view q r b c → UnseenFileGrowth view p r a c
+  pub on_then : (p q r : Pending) (a b c : ImageFile S) → ((k : ℕ) → 0 < p.new_data k → 0 < q.new_data k) → InternalFileGrowth view p q a b → InternalFileGrowth view q r b c → InternalFileGrowth view p r a c
   on_then p q r a b c new_data first second = record {
     sound = second.sound;
     safe_step = record {
@@ -119,14 +119,14 @@ module _ {S : Type 0} (view : S → StorageView) where
     l1_table = l1_same_then (state_in view a p) (state_in view b q) (state_in view c r) first.unseen.header first.l1_table second.l1_table;
   }
 
-  pub on_interrupted : (p q : Pending) (a b c : ImageFile S) (e : ImageError) → UnseenFileGrowth view p q a b → InterruptedFileStep view b c e → InterruptedFileStep view a c e
+  pub on_interrupted : (p q : Pending) (a b c : ImageFile S) (e : ImageError) → InternalFileGrowth view p q a b → InterruptedFileStep view b c e → InterruptedFileStep view a c e
   on_interrupted p q a b c e first second = record { fault = second.fault; noted = second.noted; since = safe_throughout_then a b c first.since first.safe_step.known second.since }
 
   pub interrupted_then : (p q : Pending) (a b c : ImageFile S) (e : ImageError) → Moved p q a b → InterruptedFileStep view b c e → InterruptedFileStep view a c e
   interrupted_then p q a b c e first second = record { fault = second.fault; noted = second.noted; since = safe_throughout_then a b c first.since first.safe_step.known second.since }
 
   -- a fault after a change that was noted breaks off
-  pub on_interrupted_after : (p q : Pending) (a b c : ImageFile S) (t : Allocator) (e : ImageError) → UnseenFileGrowth view p q a b → IsFault e → IsTrue c.caches.is_changed → RefusedFileStep view q b t c e → InterruptedFileStep view a c e
+  pub on_interrupted_after : (p q : Pending) (a b c : ImageFile S) (t : Allocator) (e : ImageError) → InternalFileGrowth view p q a b → IsFault e → IsTrue c.caches.is_changed → RefusedFileStep view q b t c e → InterruptedFileStep view a c e
   on_interrupted_after p q a b c t e first fault noted second = record {
     fault = fault;
     noted = λ _. or_right (is_changed_of c.storage) c.caches.is_changed noted;
@@ -148,7 +148,7 @@ module _ {S : Type 0} (view : S → StorageView) where
 
   -- ---- a call of the caches
   module _ (p : Pending) (file : ImageFile S) (storage : ImageStorage S) (caches : MetadataCaches S) (sound : FileInvariant view p file)
-      (stays : UnseenCacheStep file.header.fields p (view_in view file) file.caches (view (storage_of storage)) caches) where
+      (stays : InternalCacheStep file.header.fields p (view_in view file) file.caches (view (storage_of storage)) caches) where
     abbrev called : ImageFile S
     called = record file { storage = storage; caches = caches }
 
@@ -183,7 +183,7 @@ module _ {S : Type 0} (view : S → StorageView) where
     now_known = known_of file.header.fields caches (contents_in view file)
 
     -- no entry of the storage changes
-    same_storage_bytes : (q : Pending) → SafeStep (state_in view file p) (state_in view counted q) nothing_given [] → IsUnseen (state_in view file p) (state_in view counted q) → (k : ℕ) → q.surplus k ≡ p.surplus k
+    same_storage_bytes : (q : Pending) → SafeStep (state_in view file p) (state_in view counted q) nothing_given [] → IsInternal (state_in view file p) (state_in view counted q) → (k : ℕ) → q.surplus k ≡ p.surplus k
         → count file.header.fields (known_in view file) k + pending_at q k ≤ count file.header.fields now_known k + pending_at p k
     same_storage_bytes q safe_step unseen k same =
         counts_follow file.header.fields (order_of file.caches) (order_of caches) p q (contents_in view file) (contents_in view file) (known_in view file) now_known sound.caches.kept.kept.crash_invariant safe_step.sound unseen.covers (λ i. omega arith) k same

@@ -11,10 +11,10 @@ use Rattle.qcow2_laws.specs.Writes.{IsUnnamed, IsWritten}
 use Rattle.qcow2_laws.proofs.Beside.{data_beside, same_beside, unnamed_free}
 use Rattle.qcow2_laws.proofs.SafeSteps.{done_safe_throughout}
 use Rattle.qcow2_laws.proofs.Steps.{data_is_written}
-use Rattle.qcow2_laws.proofs.Unseen.{unseen_written}
+use Rattle.qcow2_laws.proofs.Internal.{unseen_written}
 use Rattle.qcow2_alloc.specs.declared.image_file.ImageFile.{ImageFile}
 use Rattle.qcow2_alloc.specs.declared.image_storage.ImageStorage.{ImageStorage}
-use Rattle.qcow2_alloc.specs.ImageFile.{nothing_given, view_in, contents_in, known_in, state_in, FileInvariant, HasReftable, UnseenFileStep}
+use Rattle.qcow2_alloc.specs.ImageFile.{nothing_given, view_in, contents_in, known_in, state_in, FileInvariant, HasReftable, InternalFileStep}
 use Rattle.qcow2_alloc.specs.ImageStorage.{storage_of}
 use Rattle.qcow2_alloc.specs.MetadataCaches.{order_of, l2_tables, refblocks}
 use Rattle.qcow2_alloc.proofs.CountsStay.{counts_follow, fixed_more}
@@ -64,7 +64,7 @@ module _ {S : Type 0} (view : S → StorageView) (p : Pending) (file : ImageFile
   }
 
   -- no guest sees it
-  pub file_step_written : EachMomentSince (view_in view file) (view (storage_of storage)) (IsLeftBy (view (storage_of storage))) → UnseenFileStep view p p file written
+  pub file_step_written : EachMomentSince (view_in view file) (view (storage_of storage)) (IsLeftBy (view (storage_of storage))) → InternalFileStep view p p file written
   file_step_written time =
       let h = file.header.fields in
       let unseen = unseen_written (state_in view file p) (state_in view written p) sound.caches.kept.kept.crash_invariant each_known refl in record {

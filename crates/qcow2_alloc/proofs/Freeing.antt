@@ -18,7 +18,7 @@ use Rattle.qcow2_alloc.specs.declared.clusters_to_free.ClusterKind.TheVariants.{
 use Rattle.qcow2_alloc.specs.declared.clusters_to_free.ClustersToFreeEntry.{ClustersToFreeEntry}
 use Rattle.qcow2_alloc.specs.declared.error.ImageError.{ImageError}
 use Rattle.qcow2_alloc.specs.declared.image_file.ImageFile.{ImageFile}
-use Rattle.qcow2_alloc.specs.Allocation.{run_at, Listed, listed_as, owed_as, UnseenAllocatorStep, GivesBack, Frees}
+use Rattle.qcow2_alloc.specs.Allocation.{run_at, Listed, listed_as, owed_as, InternalAllocatorStep, GivesBack, Frees}
 use Rattle.qcow2_alloc.specs.FreeList.{run_of, of_data, of_tables, to_free, is_same, with_listed, but}
 use Rattle.qcow2_alloc.specs.ImageFile.{contents_in, known_in, FileInvariant, AllocatorInvariant, IsFault, HasReftable, RefusedFileStep}
 use Rattle.qcow2_alloc.proofs.AllocationSteps.{owed_counted}
@@ -148,11 +148,11 @@ counted_small h b known c reads some = elim (cases_lt (c / counts_per_block h) (
 module _ {S : Type 0} (view : S → StorageView) where
   -- ---- one step after another
 
-  pub allocator_step_on : (p q r : Pending) (a b c : ImageFile S) (t t' : Allocator) → ((k : ℕ) → 0 < p.new_data k → 0 < q.new_data k) → UnseenAllocatorStep view p a t b q → UnseenAllocatorStep view q b t' c r → UnseenAllocatorStep view p a t' c r
+  pub allocator_step_on : (p q r : Pending) (a b c : ImageFile S) (t t' : Allocator) → ((k : ℕ) → 0 < p.new_data k → 0 < q.new_data k) → InternalAllocatorStep view p a t b q → InternalAllocatorStep view q b t' c r → InternalAllocatorStep view p a t' c r
   allocator_step_on p q r a b c t t' new_data first second = record { file_step = file_step_then view p q r a b c new_data first.file_step second.file_step; reftable = second.reftable }
 
   -- a fault left it where it was, or it broke off
-  pub frees_refused : (p q : Pending) (a b c : ImageFile S) (t t' : Allocator) (e : ImageError) → ((k : ℕ) → 0 < p.new_data k → 0 < q.new_data k) → UnseenAllocatorStep view p a t b q → IsFault e → RefusedFileStep view q b t' c e → Frees view p a t' c q (Err e)
+  pub frees_refused : (p q : Pending) (a b c : ImageFile S) (t t' : Allocator) (e : ImageError) → ((k : ℕ) → 0 < p.new_data k → 0 < q.new_data k) → InternalAllocatorStep view p a t b q → IsFault e → RefusedFileStep view q b t' c e → Frees view p a t' c q (Err e)
   frees_refused p q a b c t t' e new_data first fault left = (
     fault,
     elim left [
@@ -172,13 +172,13 @@ module _ {S : Type 0} (view : S → StorageView) where
   pub with_relisted : (p : Pending) (a : ImageFile S) (t : Allocator) (l : List ClustersToFreeEntry) → AllocatorInvariant view t p a → AllocatorInvariant view t p (record a { free_list = l })
   with_relisted p a t l sound = record { sound = sound_relisted p a l sound.sound; reftable = reftable_relisted a l t.reftable sound.reftable }
 
-  pub allocator_step_to : (p q : Pending) (a b : ImageFile S) (t : Allocator) (l : List ClustersToFreeEntry) → UnseenAllocatorStep view p a t b q → UnseenAllocatorStep view p a t (record b { free_list = l }) q
+  pub allocator_step_to : (p q : Pending) (a b : ImageFile S) (t : Allocator) (l : List ClustersToFreeEntry) → InternalAllocatorStep view p a t b q → InternalAllocatorStep view p a t (record b { free_list = l }) q
   allocator_step_to p q a b t l first = record {
     file_step = record { sound = sound_relisted q b l first.file_step.sound; safe_step = first.file_step.safe_step; since = first.file_step.since; unseen = first.file_step.unseen; l1_table = first.file_step.l1_table; counts = first.file_step.counts };
     reftable = reftable_relisted b l t.reftable first.reftable;
   }
 
-  pub allocator_step_from : (p q : Pending) (a b : ImageFile S) (t : Allocator) (l : List ClustersToFreeEntry) → UnseenAllocatorStep view p (record a { free_list = l }) t b q → UnseenAllocatorStep view p a t b q
+  pub allocator_step_from : (p q : Pending) (a b : ImageFile S) (t : Allocator) (l : List ClustersToFreeEntry) → InternalAllocatorStep view p (record a { free_list = l }) t b q → InternalAllocatorStep view p a t b q
   allocator_step_from p q a b t l first = record {
     file_step = record { sound = first.file_step.sound; safe_step = first.file_step.safe_step; since = first.file_step.since; unseen = first.file_step.unseen; l1_table = first.file_step.l1_table; counts = first.file_step.counts };
     reftable = first.reftable;
@@ -188,16 +188,16 @@ module _ {S : Type 0} (view : S → StorageView) where
   pub frees_as : (p p' q q' : Pending) (a b : ImageFile S) (t : Allocator) (l m : List ClustersToFreeEntry) (result : Result (Unit {0}) ImageError) → p ≡ p' → q ≡ q' → Frees view p (record a { free_list = l }) t b q result
       → Frees view p' a t (record b { free_list = m }) q' result
   frees_as p p' q q' a b t l m (Ok _) before after frees =
-      subst (λ (r : Pending). UnseenAllocatorStep view r a t (record b { free_list = m }) q') before (subst (λ (r : Pending). UnseenAllocatorStep view p a t (record b { free_list = m }) r) after (allocator_step_to p q a b t m (allocator_step_from p q a b t l frees)))
+      subst (λ (r : Pending). InternalAllocatorStep view r a t (record b { free_list = m }) q') before (subst (λ (r : Pending). InternalAllocatorStep view p a t (record b { free_list = m }) r) after (allocator_step_to p q a b t m (allocator_step_from p q a b t l frees)))
   frees_as p p' q q' a b t l m (Err e) before after frees = (
     frees.0,
     elim frees.1 [
-      | inl left ↦ inl (subst (λ (r : Pending). UnseenAllocatorStep view r a t (record b { free_list = m }) q') before (subst (λ (r : Pending). UnseenAllocatorStep view p a t (record b { free_list = m }) r) after (allocator_step_to p q a b t m (allocator_step_from p q a b t l left))))
+      | inl left ↦ inl (subst (λ (r : Pending). InternalAllocatorStep view r a t (record b { free_list = m }) q') before (subst (λ (r : Pending). InternalAllocatorStep view p a t (record b { free_list = m }) r) after (allocator_step_to p q a b t m (allocator_step_from p q a b t l left))))
       | inr interrupted ↦ inr (record { fault = interrupted.fault; noted = interrupted.noted; since = interrupted.since })
     ],
   )
 
-  pub frees_then : (p q r : Pending) (a b c : ImageFile S) (t t' : Allocator) (result : Result (Unit {0}) ImageError) → ((k : ℕ) → 0 < p.new_data k → 0 < q.new_data k) → UnseenAllocatorStep view p a t b q → Frees view q b t' c r result → Frees view p a t' c r result
+  pub frees_then : (p q r : Pending) (a b c : ImageFile S) (t t' : Allocator) (result : Result (Unit {0}) ImageError) → ((k : ℕ) → 0 < p.new_data k → 0 < q.new_data k) → InternalAllocatorStep view p a t b q → Frees view q b t' c r result → Frees view p a t' c r result
   frees_then p q r a b c t t' (Ok _) new_data first second = allocator_step_on p q r a b c t t' new_data first second
   frees_then p q r a b c t t' (Err e) new_data first second = (
     second.0,
@@ -212,7 +212,7 @@ module _ {S : Type 0} (view : S → StorageView) where
     pub entry_sound : (b : ImageFile S) (t : Allocator) → AllocatorInvariant view t (with_listed p (b.free_list ++ taken)) b → AllocatorInvariant view t (with_listed (with_listed p rest) (b.free_list ++ e ∷ [])) b
     entry_sound b t sound = subst (λ (r : Pending). AllocatorInvariant view t r b) (sym (with_first p b.free_list taken rest e is)) sound
 
-    pub entry_eviction : (q : Pending) (a b c : ImageFile S) (t t' : Allocator) (result : Result (Unit {0}) ImageError) → ((k : ℕ) → 0 < q.new_data k → 0 < p.new_data k) → UnseenAllocatorStep view q a t b (with_listed p (b.free_list ++ taken))
+    pub entry_eviction : (q : Pending) (a b c : ImageFile S) (t t' : Allocator) (result : Result (Unit {0}) ImageError) → ((k : ℕ) → 0 < q.new_data k → 0 < p.new_data k) → InternalAllocatorStep view q a t b (with_listed p (b.free_list ++ taken))
         → Frees view (with_listed (with_listed p rest) (b.free_list ++ e ∷ [])) b t' c (with_listed (with_listed p rest) c.free_list) result → Frees view q a t' c (with_listed p (c.free_list ++ rest)) result
     entry_eviction q a b c t t' result new_data first second =
         frees_then q (with_listed p (b.free_list ++ taken)) (with_listed p (c.free_list ++ rest)) a b c t t' result new_data first
@@ -241,15 +241,15 @@ module _ {S : Type 0} (view : S → StorageView) where
       pub first_owed : (file : ImageFile S) (t : Allocator) → AllocatorInvariant view t listed_run file → AllocatorInvariant view t owed_run file
       first_owed file t sound = subst (λ (r : Pending). AllocatorInvariant view t r file) (sym owed_is) sound
 
-      module _ (q : Pending) (new_data : (k : ℕ) → 0 < q.new_data k → 0 < listed_run.new_data k) (a b c : ImageFile S) (t t' : Allocator) (before : UnseenAllocatorStep view q a t b listed_run) where
+      module _ (q : Pending) (new_data : (k : ℕ) → 0 < q.new_data k → 0 < listed_run.new_data k) (a b c : ImageFile S) (t t' : Allocator) (before : InternalAllocatorStep view q a t b listed_run) where
         -- it can't be lowered
         pub run_refused : (e : ImageError) → GivesBack view owed_run b t' c (behind_first run kind p) (Err e) → Frees view q a t' c listed_run (Err e)
         run_refused e low = frees_refused q listed_run a b c t t' e new_data before low.0 (subst (λ (r : Pending). RefusedFileStep view r b t' c e) owed_is low.1)
 
         -- it is freed
-        pub run_freed : (next : ClustersToFreeEntry) → (run.first_cluster + 1 < 2 ^ 64 → next.first_cluster ≡ run.first_cluster + 1) → next.count ≡ run.count - 1 → UnseenAllocatorStep view owed_run b t' c (behind_first run kind p)
-            → UnseenAllocatorStep view q a t' c (listed_as kind p (run_of next))
+        pub run_freed : (next : ClustersToFreeEntry) → (run.first_cluster + 1 < 2 ^ 64 → next.first_cluster ≡ run.first_cluster + 1) → next.count ≡ run.count - 1 → InternalAllocatorStep view owed_run b t' c (behind_first run kind p)
+            → InternalAllocatorStep view q a t' c (listed_as kind p (run_of next))
         run_freed next first count low =
-            let after = subst (λ (r : Pending). UnseenAllocatorStep view r b t' c (behind_first run kind p)) owed_is low in
+            let after = subst (λ (r : Pending). InternalAllocatorStep view r b t' c (behind_first run kind p)) owed_is low in
             allocator_step_on q listed_run (listed_as kind p (run_of next)) a b c t t' new_data before
-            (subst (λ (r : Pending). UnseenAllocatorStep view listed_run b t' c r) (listed_rest kind p run next (first (first_small b before.file_step.sound)) count) after)
+            (subst (λ (r : Pending). InternalAllocatorStep view listed_run b t' c r) (listed_rest kind p run next (first (first_small b before.file_step.sound)) count) after)

@@ -18,7 +18,7 @@ use Rattle.qcow2_alloc.specs.declared.allocation.Allocator.{Allocator}
 use Rattle.qcow2_alloc.specs.declared.clusters_to_free.ClustersToFreeEntry.{ClustersToFreeEntry}
 use Rattle.qcow2_alloc.specs.declared.error.ImageError.{ImageError}
 use Rattle.qcow2_alloc.specs.declared.image_file.ImageFile.{ImageFile}
-use Rattle.qcow2_alloc.specs.Allocation.{UnseenAllocatorStep, UnseenAllocatorGrowth}
+use Rattle.qcow2_alloc.specs.Allocation.{InternalAllocatorStep, InternalAllocatorGrowth}
 use Rattle.qcow2_alloc.specs.ClustersToFree.{metadata_entry}
 use Rattle.qcow2_alloc.specs.FreeList.{of_data, of_tables, to_free, pending_then}
 use Rattle.qcow2_alloc.specs.Growing.{IsCloneOf}
@@ -84,18 +84,18 @@ module _ {S : Type 0} (view : S → StorageView) (q : Pending) (file : ImageFile
         named = named_alike h old t clone;
       }
 
-module _ {S : Type 0} (view : S → StorageView) (p : Pending) (a b c : ImageFile S) (u u' : Allocator) (t : EntryTableView) (first n : ℕ) (same : b.header ≡ a.header) (room : UnseenAllocatorStep view p a u b (with_run p a.header.fields t first n)) where
+module _ {S : Type 0} (view : S → StorageView) (p : Pending) (a b c : ImageFile S) (u u' : Allocator) (t : EntryTableView) (first n : ℕ) (same : b.header ≡ a.header) (room : InternalAllocatorStep view p a u b (with_run p a.header.fields t first n)) where
   fields : b.header.fields ≡ a.header.fields
   fields = ap (λ (h : HeaderView). h.fields) same
 
-  pub room_now : UnseenAllocatorStep view p a u b (with_run p b.header.fields t first n)
-  room_now = subst (λ (h : HeaderFields). UnseenAllocatorStep view p a u b (with_run p h t first n)) (sym fields) room
+  pub room_now : InternalAllocatorStep view p a u b (with_run p b.header.fields t first n)
+  room_now = subst (λ (h : HeaderFields). InternalAllocatorStep view p a u b (with_run p h t first n)) (sym fields) room
 
   -- ---- there was room for it
   pub entered : (result : Result (Unit {0}) ImageError) → ((k : ℕ) → counted_run a.header.fields t first n k ≡ 0) ⊎ IsTrue c.caches.is_changed → NamesReftable view (with_run p b.header.fields t first n) p b u' c result → EntersReftable view p a u' c result
   entered (Ok done) noted names =
       allocator_step_on view p (with_run p b.header.fields t first n) (without_reftable p a.header.fields) a b c u u' (λ k some. some) (on_of view p (with_run p b.header.fields t first n) a b u room_now)
-      (subst (λ (h : HeaderFields). UnseenAllocatorGrowth view (with_run p b.header.fields t first n) b u' c (without_reftable p h)) fields names)
+      (subst (λ (h : HeaderFields). InternalAllocatorGrowth view (with_run p b.header.fields t first n) b u' c (without_reftable p h)) fields names)
   entered (Err e) noted names =
       leaves_as view p a c u' e (ends_room view p t first n a b c u u' e room noted names.0 (subst (λ (h : HeaderFields). RefusedFileStep view (with_run p h t first n) b u' c e) fields names.1))
 
@@ -124,9 +124,9 @@ module _ {S : Type 0} (view : S → StorageView) (p : Pending) (old new : ImageF
       omega (arith, more, one))
       (λ k. refl)
 
-  pub grown : UnseenAllocatorGrowth view p old allocator new (without_reftable p old.header.fields) → (l : List ClustersToFreeEntry) → UnseenAllocatorGrowth view p old allocator (record new { free_list = l ++ former ∷ [] }) (pending_then p l (l ++ former ∷ []))
+  pub grown : InternalAllocatorGrowth view p old allocator new (without_reftable p old.header.fields) → (l : List ClustersToFreeEntry) → InternalAllocatorGrowth view p old allocator (record new { free_list = l ++ former ∷ [] }) (pending_then p l (l ++ former ∷ []))
   grown allocator_step l =
-      subst (λ (q : Pending). UnseenAllocatorGrowth view p old allocator (record new { free_list = l ++ former ∷ [] }) q) (listed l)
+      subst (λ (q : Pending). InternalAllocatorGrowth view p old allocator (record new { free_list = l ++ former ∷ [] }) q) (listed l)
       (record {
         file_step = record {
           sound = file_invariant_of allocator_step.file_step.sound.honest allocator_step.file_step.sound.caches allocator_step.file_step.sound.named_blocks allocator_step.file_step.sound.room;

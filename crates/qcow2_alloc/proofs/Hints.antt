@@ -19,7 +19,7 @@ use Rattle.qcow2_alloc.specs.declared.allocation.Allocator.{Allocator}
 use Rattle.qcow2_alloc.specs.declared.clusters_to_free.ClusterKind.TheVariants.{Data, Metadata}
 use Rattle.qcow2_alloc.specs.declared.error.ImageError.{ImageError}
 use Rattle.qcow2_alloc.specs.declared.image_file.ImageFile.{ImageFile}
-use Rattle.qcow2_alloc.specs.Allocation.{run_at, taken_as, Owed, Taken, Listed, owed_as, HasNone, RefblockAt, UnseenAllocatorStep, GetsBlock, LowersOne, PlacesBlock, TakesOne}
+use Rattle.qcow2_alloc.specs.Allocation.{run_at, taken_as, Owed, Taken, Listed, owed_as, HasNone, RefblockAt, InternalAllocatorStep, GetsBlock, LowersOne, PlacesBlock, TakesOne}
 use Rattle.qcow2_alloc.specs.ImageFile.{pending_at, contents_in, known_in, FileInvariant, HasReftable, RefusedFileStep, IsFault}
 use Rattle.qcow2_alloc.specs.MetadataCaches.{rb_at}
 use Rattle.qcow2_alloc.specs.declared.cache.MetadataCaches.{MetadataCaches}
@@ -91,18 +91,18 @@ not_broken file e other is = elim is [ inl so ↦ so | inr interruption ↦ absu
 
 module _ {S : Type 0} (view : S → StorageView) where
   -- a cluster stays in use while no less is pending
-  pub used_stays : (p p' : Pending) (a b : ImageFile S) (t : Allocator) (k : ℕ) → UnseenAllocatorStep view p a t b p' → pending_at p k ≤ pending_at p' k → IsUsed view a k → IsUsed view b k
+  pub used_stays : (p p' : Pending) (a b : ImageFile S) (t : Allocator) (k : ℕ) → InternalAllocatorStep view p a t b p' → pending_at p k ≤ pending_at p' k → IsUsed view a k → IsUsed view b k
   used_stays p p' a b t k allocator_step no_less used zero = used (let counts = allocator_step.file_step.counts k in omega (arith, counts, no_less, zero))
 
   -- what is taken is in use
-  pub taken_used : (p : Pending) (d : Bool) (n : ℕ → ℕ) (a b : ImageFile S) (t : Allocator) (k : ℕ) → UnseenAllocatorStep view p a t b (taken_as d p n) → 0 < n k → IsUsed view b k
+  pub taken_used : (p : Pending) (d : Bool) (n : ℕ → ℕ) (a b : ImageFile S) (t : Allocator) (k : ℕ) → InternalAllocatorStep view p a t b (taken_as d p n) → 0 < n k → IsUsed view b k
   taken_used p d n a b t k allocator_step some zero = let counts = allocator_step.file_step.counts k in let more = taken_pending d p n k in absurd (omega (arith, counts, more, some, zero))
 
-  pub hint_stays : (p : Pending) (a b : ImageFile S) (t t' : Allocator) → UnseenAllocatorStep view p a t' b p → ((k : ℕ) → IsPassed t' k → IsPassed t k) → NoFreeBelowHint view t a → NoFreeBelowHint view t' b
+  pub hint_stays : (p : Pending) (a b : ImageFile S) (t t' : Allocator) → InternalAllocatorStep view p a t' b p → ((k : ℕ) → IsPassed t' k → IsPassed t k) → NoFreeBelowHint view t a → NoFreeBelowHint view t' b
   hint_stays p a b t t' allocator_step same hint k below = used_stays p p a b t' k allocator_step (omega arith) (hint k (same k below))
 
   -- after clusters were taken
-  pub hint_taken : (p : Pending) (d : Bool) (n : ℕ → ℕ) (a b : ImageFile S) (t t' : Allocator) → UnseenAllocatorStep view p a t' b (taken_as d p n) → ((k : ℕ) → IsPassed t' k → IsPassed t k) → NoFreeBelowHint view t a → NoFreeBelowHint view t' b
+  pub hint_taken : (p : Pending) (d : Bool) (n : ℕ → ℕ) (a b : ImageFile S) (t t' : Allocator) → InternalAllocatorStep view p a t' b (taken_as d p n) → ((k : ℕ) → IsPassed t' k → IsPassed t k) → NoFreeBelowHint view t a → NoFreeBelowHint view t' b
   hint_taken p d n a b t t' allocator_step same hint k below =
       used_stays p (taken_as d p n) a b t' k allocator_step (let more = taken_pending d p n k in omega (arith, more)) (hint k (same k below))
 
@@ -117,7 +117,7 @@ module _ {S : Type 0} (view : S → StorageView) where
   ]
 
   -- what lies between the first free cluster and the next one is in use
-  pub hint_passed : (p : Pending) (a b : ImageFile S) (t : Allocator) (cluster next : ℕ) → UnseenAllocatorStep view p a t b p → AreUsed view b cluster next → cluster ≡ t.first_free_cluster
+  pub hint_passed : (p : Pending) (a b : ImageFile S) (t : Allocator) (cluster next : ℕ) → InternalAllocatorStep view p a t b p → AreUsed view b cluster next → cluster ≡ t.first_free_cluster
       → NoFreeBelowHint view t a → NoFreeBelowHint view (record t { first_free_cluster = next }) b
   hint_passed p a b t cluster next step used stood hint k passed = elim passed [
     | inl below ↦ elim (cases_lt k cluster) [
@@ -253,7 +253,7 @@ module _ {S : Type 0} (view : S → StorageView) where
   raised_used p d cluster old new t false takes used = used refl
 
   -- a count fell
-  pub lowered_so : (p p' : Pending) (old new : ImageFile S) (t : Allocator) (made : Bool) → IsTrue made → LowersOne view p old t new p' (Ok made) → UnseenAllocatorStep view p old t new p'
+  pub lowered_so : (p p' : Pending) (old new : ImageFile S) (t : Allocator) (made : Bool) → IsTrue made → LowersOne view p old t new p' (Ok made) → InternalAllocatorStep view p old t new p'
   lowered_so p p' old new t true so lowers = lowers
   lowered_so p p' old new t false so lowers = absurd lowers
 
@@ -265,7 +265,7 @@ module _ {S : Type 0} (view : S → StorageView) where
       ap block_offset (sym (sound'.caches.kept.kept.crash_invariant.same_top.reftable range) ∙ sound.caches.kept.kept.crash_invariant.same_top.reftable range) in ((λ none. at.0 (sym same ∙ none)), same ∙ at.1, new_data)
 
   -- a count was lowered, which is noted where it came to 0
-  pub hint_lowered : (owed : Owed) (p : Pending) (cluster : ℕ) (old new : ImageFile S) (t t' : Allocator) → UnseenAllocatorStep view (owed_as owed p (one_at cluster)) old t' new p → ((k : ℕ) → IsPassed t' k → IsPassed t k)
+  pub hint_lowered : (owed : Owed) (p : Pending) (cluster : ℕ) (old new : ImageFile S) (t t' : Allocator) → InternalAllocatorStep view (owed_as owed p (one_at cluster)) old t' new p → ((k : ℕ) → IsPassed t' k → IsPassed t k)
       → (count new.header.fields (known_in view new) cluster ≡ 0 → IsPassed t' cluster → ⊥) → NoFreeBelowHint view t old → NoFreeBelowHint view t' new
   hint_lowered owed p cluster old new t t' allocator_step fewer noted hint k passed = elim (cases_eq k cluster) [
     | inl same ↦ λ zero. noted (subst (λ n. count new.header.fields (known_in view new) n ≡ 0) same zero) (subst (IsPassed t') same passed)

@@ -8,8 +8,8 @@ use Rattle.qcow2_laws.specs.CrashInvariant.{Pending}
 use Rattle.qcow2_alloc.specs.declared.allocation.Allocator.{Allocator}
 use Rattle.qcow2_alloc.specs.declared.error.ImageError.{ImageError}
 use Rattle.qcow2_alloc.specs.declared.image_file.ImageFile.{ImageFile}
-use Rattle.qcow2_alloc.specs.Allocation.{RefusedGrowth, UnseenAllocatorStep}
-use Rattle.qcow2_alloc.specs.ImageFile.{known_in, HasReftable, UnseenFileGrowth, InterruptedFileStep}
+use Rattle.qcow2_alloc.specs.Allocation.{RefusedGrowth, InternalAllocatorStep}
+use Rattle.qcow2_alloc.specs.ImageFile.{known_in, HasReftable, InternalFileGrowth, InterruptedFileStep}
 use Rattle.qcow2_alloc.specs.KeptAllocators.{IsAllocatorOf}
 use Rattle.qcow2_alloc.specs.LowestRuns.{NoFreeBelowHint, SearchesAnew, BrokeOff}
 use Rattle.number_runs.specs.NumberRuns.{IsIn}
@@ -41,13 +41,13 @@ module _ {S : Type 0} (view : S → StorageView) where
   }
 
   -- a refused call left both as they are kept, or broke off
-  pub refused_kept : (p q : Pending) (a b : ImageFile S) (t : Allocator) (e : ImageError) → RefusedGrowth view p a t b q e → NoFreeBelowHint view t b ⊎ BrokeOff b e → (UnseenFileGrowth view p q a b × IsAllocatorOf view b t) ⊎ InterruptedFileStep view a b e
+  pub refused_kept : (p q : Pending) (a b : ImageFile S) (t : Allocator) (e : ImageError) → RefusedGrowth view p a t b q e → NoFreeBelowHint view t b ⊎ BrokeOff b e → (InternalFileGrowth view p q a b × IsAllocatorOf view b t) ⊎ InterruptedFileStep view a b e
   refused_kept p q a b t e leaves hint = elim hint [
     | inl kept ↦ elim leaves [ inl grows ↦ inl (grows.file_step, record { reftable = grows.reftable; hint = kept }) | inr interrupted ↦ inr interrupted ]
     | inr interruption ↦ inr (elim leaves [ inl grows ↦ record { fault = interruption.0; noted = interruption.1; since = grows.file_step.since } | inr interrupted ↦ interrupted ])
   ]
 
   -- so did one that frees
-  pub freed_kept : (p q : Pending) (a b : ImageFile S) (t : Allocator) (e : ImageError) → UnseenAllocatorStep view p a t b q ⊎ InterruptedFileStep view a b e → NoFreeBelowHint view t b ⊎ BrokeOff b e
-      → (UnseenFileGrowth view p q a b × IsAllocatorOf view b t) ⊎ InterruptedFileStep view a b e
+  pub freed_kept : (p q : Pending) (a b : ImageFile S) (t : Allocator) (e : ImageError) → InternalAllocatorStep view p a t b q ⊎ InterruptedFileStep view a b e → NoFreeBelowHint view t b ⊎ BrokeOff b e
+      → (InternalFileGrowth view p q a b × IsAllocatorOf view b t) ⊎ InterruptedFileStep view a b e
   freed_kept p q a b t e leaves hint = refused_kept p q a b t e (elim leaves [ inl step ↦ inl (on_of view p q a b t step) | inr interrupted ↦ inr interrupted ]) hint

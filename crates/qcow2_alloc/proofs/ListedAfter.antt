@@ -5,7 +5,7 @@ use Rattle.std.proofs.Common.{◌≡◌, ℕ, ◌+◌, ◌<◌, Bool, true, fals
 use Rattle.qcow2_metadata.specs.Header.{HeaderView, counts_per_block, with_fields, with_reftable}
 use Rattle.qcow2_laws.specs.Changes.{one_at}
 use Rattle.qcow2_laws.specs.CrashInvariant.{Pending}
-use Rattle.qcow2_laws.specs.Unseen.{KeepsFormat}
+use Rattle.qcow2_laws.specs.Internal.{KeepsFormat}
 use Rattle.qcow2_alloc.specs.declared.clusters_to_free.ClusterKind.{ClusterKind}
 use Rattle.qcow2_alloc.specs.declared.clusters_to_free.ClusterKind.TheVariants.{Metadata}
 use Rattle.qcow2_alloc.specs.declared.clusters_to_free.ClustersToFreeEntry.{ClustersToFreeEntry}
@@ -13,7 +13,7 @@ use Rattle.qcow2_alloc.specs.declared.allocation.Allocator.{Allocator}
 use Rattle.qcow2_alloc.specs.declared.error.ImageError.{ImageError}
 use Rattle.qcow2_alloc.specs.declared.image_file.ImageFile.{ImageFile}
 use Rattle.image_access.specs.Moments.{StorageView}
-use Rattle.qcow2_alloc.specs.Allocation.{run_at, taken_as, UnseenAllocatorGrowth, GetsBlock, GrowsTable, RefusedGrowth}
+use Rattle.qcow2_alloc.specs.Allocation.{run_at, taken_as, InternalAllocatorGrowth, GetsBlock, GrowsTable, RefusedGrowth}
 use Rattle.qcow2_alloc.specs.FreeList.{of_data, of_tables, to_free, pending_then, but, ListsTables}
 use Rattle.qcow2_alloc.specs.ImageFile.{KeepsHeader, IsFault, InterruptedFileStep}
 use Rattle.qcow2_alloc.proofs.AllocationSteps.{on_of, allocator_step_on, leaves_as, leaves_on}
@@ -81,7 +81,7 @@ module _ {S : Type 0} (view : S → StorageView) where
   grows_none p a b t (Ok done) gets = on_of view p p a b t gets
   grows_none p a b t (Err e) gets = leaves_as view p a b t e gets
 
-  pub grows_on : (p q : Pending) (a b c : ImageFile S) (t t' : Allocator) (result : Result (Unit {0}) ImageError) → ((k : ℕ) → 0 < p.new_data k → 0 < q.new_data k) → UnseenAllocatorGrowth view p a t b q → GetsBlock view q b t' c result
+  pub grows_on : (p q : Pending) (a b c : ImageFile S) (t t' : Allocator) (result : Result (Unit {0}) ImageError) → ((k : ℕ) → 0 < p.new_data k → 0 < q.new_data k) → InternalAllocatorGrowth view p a t b q → GetsBlock view q b t' c result
       → GrowsTable view p a t' c q result
   grows_on p q a b c t t' (Ok done) new_data first second = allocator_step_on view p q q a b c t t' new_data first (on_of view q q b c t' second)
   grows_on p q a b c t t' (Err e) new_data first second = leaves_on view p q q a b c t t' e new_data first (leaves_as view q b c t' e second)
@@ -95,23 +95,23 @@ module _ {S : Type 0} (view : S → StorageView) (d : Bool) (p : Pending) (n : �
   new_data_so_far k some = new_data_more d (pending_then p a.free_list b.free_list) n k some
 
   -- the run is taken still
-  pub still_taken : UnseenAllocatorGrowth view p a t b so_far → UnseenAllocatorGrowth view so_far b t' c (pending_then so_far b.free_list c.free_list) → UnseenAllocatorGrowth view p a t' c (taken_as d (pending_then p a.free_list c.free_list) n)
+  pub still_taken : InternalAllocatorGrowth view p a t b so_far → InternalAllocatorGrowth view so_far b t' c (pending_then so_far b.free_list c.free_list) → InternalAllocatorGrowth view p a t' c (taken_as d (pending_then p a.free_list c.free_list) n)
   still_taken before step =
-      subst (λ (r : Pending). UnseenAllocatorGrowth view p a t' c r) (listed_after_taken d p a.free_list b.free_list c.free_list n first then)
+      subst (λ (r : Pending). InternalAllocatorGrowth view p a t' c r) (listed_after_taken d p a.free_list b.free_list c.free_list n first then)
       (allocator_step_on view p so_far (pending_then so_far b.free_list c.free_list) a b c t t' new_data_so_far before step)
 
   -- one more cluster is taken
-  pub more_taken : (from count : ℕ) → n ≡ run_at from count → UnseenAllocatorGrowth view p a t b so_far → UnseenAllocatorGrowth view so_far b t' c (taken_as d (pending_then so_far b.free_list c.free_list) (one_at (from + count)))
-      → UnseenAllocatorGrowth view p a t' c (taken_as d (pending_then p a.free_list c.free_list) (run_at from (count + 1)))
+  pub more_taken : (from count : ℕ) → n ≡ run_at from count → InternalAllocatorGrowth view p a t b so_far → InternalAllocatorGrowth view so_far b t' c (taken_as d (pending_then so_far b.free_list c.free_list) (one_at (from + count)))
+      → InternalAllocatorGrowth view p a t' c (taken_as d (pending_then p a.free_list c.free_list) (run_at from (count + 1)))
   more_taken from count is before step =
-      subst (λ (r : Pending). UnseenAllocatorGrowth view p a t' c r)
+      subst (λ (r : Pending). InternalAllocatorGrowth view p a t' c r)
       (ap (λ (q : Pending). taken_as d q (one_at (from + count))) (listed_after_taken d p a.free_list b.free_list c.free_list n first then)
       ∙ ap (λ m. taken_as d (taken_as d (pending_then p a.free_list c.free_list) m) (one_at (from + count))) is
       ∙ taken_last d (pending_then p a.free_list c.free_list) from count)
       (allocator_step_on view p so_far (taken_as d (pending_then so_far b.free_list c.free_list) (one_at (from + count))) a b c t t' new_data_so_far before step)
 
   -- a fault after a change that was noted breaks off
-  pub ends_taken : (e : ImageError) → UnseenAllocatorGrowth view p a t b so_far → IsFault e → IsTrue c.caches.is_changed → (r : Pending) → RefusedGrowth view so_far b t' c r e → InterruptedFileStep view a c e
+  pub ends_taken : (e : ImageError) → InternalAllocatorGrowth view p a t b so_far → IsFault e → IsTrue c.caches.is_changed → (r : Pending) → RefusedGrowth view so_far b t' c r e → InterruptedFileStep view a c e
   ends_taken e before fault noted r step = record {
     fault = fault;
     noted = λ _. or_right (is_changed_of c.storage) c.caches.is_changed noted;
@@ -122,20 +122,20 @@ module _ {S : Type 0} (view : S → StorageView) (d : Bool) (p : Pending) (n : �
   }
 
 module _ {S : Type 0} (view : S → StorageView) (p : Pending) (a b c : ImageFile S) (t t' : Allocator) (first : ListsTables a.free_list b.free_list) (then : ListsTables b.free_list c.free_list)
-    (before : UnseenAllocatorGrowth view p a t b (pending_then p a.free_list b.free_list)) where
+    (before : InternalAllocatorGrowth view p a t b (pending_then p a.free_list b.free_list)) where
   -- what is pending, as a step of its own tells it
   since_then : pending_then (pending_then p a.free_list b.free_list) b.free_list c.free_list ≡ pending_then p a.free_list c.free_list
   since_then = listed_after_then p a.free_list b.free_list c.free_list first then
 
-  pub then_none : UnseenAllocatorGrowth view (pending_then p a.free_list b.free_list) b t' c (pending_then (pending_then p a.free_list b.free_list) b.free_list c.free_list) → UnseenAllocatorGrowth view p a t' c (pending_then p a.free_list c.free_list)
+  pub then_none : InternalAllocatorGrowth view (pending_then p a.free_list b.free_list) b t' c (pending_then (pending_then p a.free_list b.free_list) b.free_list c.free_list) → InternalAllocatorGrowth view p a t' c (pending_then p a.free_list c.free_list)
   then_none step =
-      subst (λ (r : Pending). UnseenAllocatorGrowth view p a t' c r) since_then
+      subst (λ (r : Pending). InternalAllocatorGrowth view p a t' c r) since_then
       (allocator_step_on view p (pending_then p a.free_list b.free_list) (pending_then (pending_then p a.free_list b.free_list) b.free_list c.free_list) a b c t t' (λ k some. some) before step)
 
-  pub then_taken : (d : Bool) (n : ℕ → ℕ) → UnseenAllocatorGrowth view (pending_then p a.free_list b.free_list) b t' c (taken_as d (pending_then (pending_then p a.free_list b.free_list) b.free_list c.free_list) n)
-      → UnseenAllocatorGrowth view p a t' c (taken_as d (pending_then p a.free_list c.free_list) n)
+  pub then_taken : (d : Bool) (n : ℕ → ℕ) → InternalAllocatorGrowth view (pending_then p a.free_list b.free_list) b t' c (taken_as d (pending_then (pending_then p a.free_list b.free_list) b.free_list c.free_list) n)
+      → InternalAllocatorGrowth view p a t' c (taken_as d (pending_then p a.free_list c.free_list) n)
   then_taken d n step =
-      subst (λ (r : Pending). UnseenAllocatorGrowth view p a t' c (taken_as d r n)) since_then
+      subst (λ (r : Pending). InternalAllocatorGrowth view p a t' c (taken_as d r n)) since_then
       (allocator_step_on view p (pending_then p a.free_list b.free_list) (taken_as d (pending_then (pending_then p a.free_list b.free_list) b.free_list c.free_list) n) a b c t t' (λ k some. some) before step)
 
   pub then_leaves : (e : ImageError) → RefusedGrowth view (pending_then p a.free_list b.free_list) b t' c (pending_then (pending_then p a.free_list b.free_list) b.free_list c.free_list) e → RefusedGrowth view p a t' c (pending_then p a.free_list c.free_list) e

@@ -17,17 +17,17 @@ use Rattle.qcow2_laws.specs.Changes.{one_at}
 use Rattle.qcow2_laws.specs.Clusters.{Direction}
 use Rattle.qcow2_laws.specs.CrashInvariant.{Pending, CrashInvariant, SameCovers}
 use Rattle.qcow2_laws.specs.Guests.{over_guests, names}
-use Rattle.qcow2_laws.specs.Unseen.{KeepsFormat}
+use Rattle.qcow2_laws.specs.Internal.{KeepsFormat}
 use Rattle.qcow2_laws.proofs.Formats.{size_format, guests_format, l1_format}
 use Rattle.qcow2_laws.proofs.Guests.{over_guests-same}
 use Rattle.qcow2_laws.proofs.Places.{reftable_entry-past}
 use Rattle.qcow2_laws.proofs.Shares.{shares, in_l1, in_reftable, block_has}
 use Rattle.qcow2_laws.proofs.Sums.{some_term, sum_below-le, sum_below-longer}
 use Rattle.qcow2_laws.proofs.Tops.{l1_names-same}
-use Rattle.qcow2_alloc.specs.Allocation.{run_at, taken_as, is_data, Allocates, KeepsRefblocks, RefusedGrowth, UnseenAllocatorGrowth}
+use Rattle.qcow2_alloc.specs.Allocation.{run_at, taken_as, is_data, Allocates, KeepsRefblocks, RefusedGrowth, InternalAllocatorGrowth}
 use Rattle.qcow2_alloc.specs.FreeList.{of_data, of_tables, to_free, pending_then, run_of, ListsTables, OldReftablesQueued, IsRunOfTable}
 use Rattle.qcow2_alloc.specs.GrownTables.{reftable_at, without_reftable}
-use Rattle.qcow2_alloc.specs.ImageFile.{pending_at, contents_in, known_in, FileInvariant, HasReftable, AllocatorInvariant, UnseenFileGrowth}
+use Rattle.qcow2_alloc.specs.ImageFile.{pending_at, contents_in, known_in, FileInvariant, HasReftable, AllocatorInvariant, InternalFileGrowth}
 use Rattle.qcow2_alloc.specs.Limits.{IsPastLimits}
 use Rattle.qcow2_alloc.specs.LowestRuns.{IsUsed}
 use Rattle.qcow2_alloc.specs.MetadataCaches.{order_of}
@@ -186,7 +186,7 @@ blocks_kept h h' b b' t t' format has has' many many' longer ranges k =
     let le = sum_below-le (reftable_entries h') Before Now each in
     omega (arith, further, end, le)
 
-module _ {S : Type 0} (view : S → StorageView) (p q : Pending) (old new : ImageFile S) (t t' : EntryTableView) (sound : FileInvariant view p old) (has : HasReftable view old t) (growth : UnseenFileGrowth view p q old new) (has' : HasReftable view new t') (k : ℕ)
+module _ {S : Type 0} (view : S → StorageView) (p q : Pending) (old new : ImageFile S) (t t' : EntryTableView) (sound : FileInvariant view p old) (has : HasReftable view old t) (growth : InternalFileGrowth view p q old new) (has' : HasReftable view new t') (k : ℕ)
     (same : q.surplus k ≡ p.surplus k) where
   abbrev h : HeaderFields
   h = old.header.fields
@@ -302,7 +302,7 @@ module _ {S : Type 0} (view : S → StorageView) (p : Pending) (old new : ImageF
   taken_surplus true n k = refl
   taken_surplus false n k = refl
 
-  made_taken : (d : Bool) (n : ℕ → ℕ) → UnseenAllocatorGrowth view p old allocator' new (taken_as d q n) → (k : ℕ) → IsUsed view new k → IsUsed view old k ⊎ (0 < n k) ⊎ Made k ⊎ IsListedSince old.free_list new.free_list k
+  made_taken : (d : Bool) (n : ℕ → ℕ) → InternalAllocatorGrowth view p old allocator' new (taken_as d q n) → (k : ℕ) → IsUsed view new k → IsUsed view old k ⊎ (0 < n k) ⊎ Made k ⊎ IsListedSince old.free_list new.free_list k
   made_taken d n growth k used =
       elim (made view p (taken_as d q n) old new allocator.reftable allocator'.reftable sound.sound sound.reftable growth.file_step growth.reftable k (taken_surplus d n k) used) [
         | inl was ↦ inl was
@@ -315,7 +315,7 @@ module _ {S : Type 0} (view : S → StorageView) (p : Pending) (old new : ImageF
       ]
 
   -- what is listed is counted, whatever was taken beside it
-  counts_then : (r : Pending) → ((k : ℕ) → r.surplus k ≡ p.surplus k) → ((k : ℕ) → pending_at q k ≤ pending_at r k) → UnseenAllocatorGrowth view p old allocator' new r → CountsListed view old new
+  counts_then : (r : Pending) → ((k : ℕ) → r.surplus k ≡ p.surplus k) → ((k : ℕ) → pending_at q k ≤ pending_at r k) → InternalAllocatorGrowth view p old allocator' new r → CountsListed view old new
   counts_then r surplus more growth k =
       let listed = listed_more p old.free_list new.free_list lists k in
       let longer = gave_longer allocator.reftable allocator'.reftable former.more former.gone in
@@ -323,13 +323,13 @@ module _ {S : Type 0} (view : S → StorageView) (p : Pending) (old new : ImageF
       let beside = more k in
       omega (arith, listed, is, beside)
 
-  counts_none : UnseenAllocatorGrowth view p old allocator' new q → CountsListed view old new
+  counts_none : InternalAllocatorGrowth view p old allocator' new q → CountsListed view old new
   counts_none = counts_then q (λ k. refl) (λ k. omega arith)
 
-  counts_taken : (d : Bool) (n : ℕ → ℕ) → UnseenAllocatorGrowth view p old allocator' new (taken_as d q n) → CountsListed view old new
+  counts_taken : (d : Bool) (n : ℕ → ℕ) → InternalAllocatorGrowth view p old allocator' new (taken_as d q n) → CountsListed view old new
   counts_taken d n = counts_then (taken_as d q n) (taken_surplus d n) (λ k. let parts = taken_pending d q n k in omega (arith, parts))
 
-  made_none : UnseenAllocatorGrowth view p old allocator' new q → (k : ℕ) → IsUsed view new k → IsUsed view old k ⊎ Made k ⊎ IsListedSince old.free_list new.free_list k
+  made_none : InternalAllocatorGrowth view p old allocator' new q → (k : ℕ) → IsUsed view new k → IsUsed view old k ⊎ Made k ⊎ IsListedSince old.free_list new.free_list k
   made_none growth k used =
       elim (made view p q old new allocator.reftable allocator'.reftable sound.sound sound.reftable growth.file_step growth.reftable k refl used) [
         | inl was ↦ inl was
@@ -360,7 +360,7 @@ module _ {S : Type 0} (view : S → StorageView) (p : Pending) (old new : ImageF
 
   -- what was listed was in use
   module _ (listed : ListsUsed view old new) where
-    made_alone : UnseenAllocatorGrowth view p old allocator' new q → (k : ℕ) → IsUsed view new k → IsUsed view old k ⊎ Made k
+    made_alone : InternalAllocatorGrowth view p old allocator' new q → (k : ℕ) → IsUsed view new k → IsUsed view old k ⊎ Made k
     made_alone growth k used = elim (made_none growth k used) [
       | inl was ↦ inl was
       | inr (inl anew) ↦ inr anew
@@ -368,9 +368,9 @@ module _ {S : Type 0} (view : S → StorageView) (p : Pending) (old new : ImageF
     ]
 
     -- just this cluster was taken
-    pub made_one : (d : Bool) (n cluster : ℕ) (run : ClustersToFreeEntry) → n ≡ cluster → run.first_cluster ≡ cluster → run.count ≡ 1 → UnseenAllocatorGrowth view p old allocator' new (taken_as d q (one_at n)) → AllocatesOnly view run_in Made old new (Ok (Some run))
+    pub made_one : (d : Bool) (n cluster : ℕ) (run : ClustersToFreeEntry) → n ≡ cluster → run.first_cluster ≡ cluster → run.count ≡ 1 → InternalAllocatorGrowth view p old allocator' new (taken_as d q (one_at n)) → AllocatesOnly view run_in Made old new (Ok (Some run))
     made_one d n cluster run same first count growth =
-        let taken_run : UnseenAllocatorGrowth view p old allocator' new (taken_as d q (run_at n 1)) = subst (λ (r : Pending). UnseenAllocatorGrowth view p old allocator' new r) (taken_alone d q n) growth in (
+        let taken_run : InternalAllocatorGrowth view p old allocator' new (taken_as d q (run_at n 1)) = subst (λ (r : Pending). InternalAllocatorGrowth view p old allocator' new r) (taken_alone d q n) growth in (
           λ k used.
               let here : run_of run k ≡ run_at n 1 k = ap (λ m. run_at run.first_cluster m k) count ∙ ap (λ m. run_at m 1 k) (first ∙ sym same) in
               elim (made_taken d (run_at n 1) taken_run k used) [
@@ -383,7 +383,7 @@ module _ {S : Type 0} (view : S → StorageView) (p : Pending) (old new : ImageF
         )
 
     -- it was not
-    pub made_untaken : UnseenAllocatorGrowth view p old allocator' new q → AllocatesOnly view run_in Made old new (Ok None)
+    pub made_untaken : InternalAllocatorGrowth view p old allocator' new q → AllocatesOnly view run_in Made old new (Ok None)
     made_untaken growth = ((λ k used. elim (made_alone growth k used) [ inl was ↦ inl was | inr anew ↦ inr (inr anew) ]), counts_none growth)
 
     -- that was refused
@@ -394,13 +394,13 @@ module _ {S : Type 0} (view : S → StorageView) (p : Pending) (old new : ImageF
     ]
 
     -- a cluster that can't be taken was in use, or was made on the way
-    pub made_before : (start : ImageFile S) → ((k : ℕ) → IsUsed view old k → IsUsed view start k) → (cluster : ℕ) → UnseenAllocatorGrowth view p old allocator' new q → IsUsed view new cluster → IsUsed view new cluster × (IsUsed view start cluster ⊎ Made cluster)
+    pub made_before : (start : ImageFile S) → ((k : ℕ) → IsUsed view old k → IsUsed view start k) → (cluster : ℕ) → InternalAllocatorGrowth view p old allocator' new q → IsUsed view new cluster → IsUsed view new cluster × (IsUsed view start cluster ⊎ Made cluster)
     made_before start uses cluster growth used = (used, elim (made_alone growth cluster used) [ inl was ↦ inl (uses cluster was) | inr anew ↦ inr anew ])
 
 -- a longer reftable is entered: where the former one stands was in use
 module _ {S : Type 0} (view : S → StorageView) (p : Pending) (old new : ImageFile S) (allocator allocator' : Allocator) (sound : AllocatorInvariant view allocator p old) where
   pub made_entered : (e : ClustersToFreeEntry) (list : List ClustersToFreeEntry) → IsRunOfTable allocator.reftable e → list ≡ old.free_list ++ e ∷ [] → entry_count allocator.reftable ≤ entry_count allocator'.reftable → KeepsRefblocks allocator.reftable allocator'.reftable
-      → UnseenAllocatorGrowth view p old allocator' new (without_reftable p old.header.fields) → (done : Unit {0}) → AllocatesOnly view (λ done k. 0) (IsAllocatedMetadata old.header.fields allocator.reftable allocator'.reftable) old (record new { free_list = list }) (Ok done)
+      → InternalAllocatorGrowth view p old allocator' new (without_reftable p old.header.fields) → (done : Unit {0}) → AllocatesOnly view (λ done k. 0) (IsAllocatedMetadata old.header.fields allocator.reftable allocator'.reftable) old (record new { free_list = list }) (Ok done)
   made_entered e list run is longer ranges growth done = (
     λ k used.
         elim (made view p (without_reftable p old.header.fields) old new allocator.reftable allocator'.reftable sound.sound sound.reftable growth.file_step growth.reftable k refl used) [

@@ -24,7 +24,7 @@ use Rattle.qcow2_laws.specs.CrashInvariant.{Pending, SameIn}
 use Rattle.qcow2_laws.specs.Caches.{AreClean, BlocksMayGo, HasL2, HasOwnL2, HasBlock}
 use Rattle.qcow2_laws.specs.Guests.{table_at}
 use Rattle.qcow2_laws.specs.SafeSteps.{SafeStep}
-use Rattle.qcow2_laws.specs.Unseen.{IsUnseen, SameL1Table}
+use Rattle.qcow2_laws.specs.Internal.{IsInternal, SameL1Table}
 use Rattle.qcow2_laws.specs.Tops.{IsSameBut, IsSameOutside, WritesReftableEntry, IsNewBlock}
 use Rattle.qcow2_laws.proofs.Beside.{overwritten_but, reftable_entry_beside}
 use Rattle.qcow2_laws.proofs.Blocks.{table_once}
@@ -35,11 +35,11 @@ use Rattle.qcow2_laws.proofs.Places.{Sizes, block_count-moved}
 use Rattle.qcow2_laws.proofs.SafeSteps.{done_safe_throughout, write_safe_throughout}
 use Rattle.qcow2_laws.proofs.Shares.{shares, table_has, block_has, reftable_has}
 use Rattle.qcow2_laws.proofs.Steps.{table_is_named}
-use Rattle.qcow2_laws.proofs.Unseen.{unseen_refblock}
+use Rattle.qcow2_laws.proofs.Internal.{unseen_refblock}
 use Rattle.qcow2_alloc.specs.declared.image_file.ImageFile.{ImageFile}
 use Rattle.qcow2_alloc.specs.declared.image_storage.ImageStorage.{ImageStorage}
 use Rattle.qcow2_alloc.specs.Allocation.{placing, first_counts, HasPlaceFor, StandsFirst, StandAt}
-use Rattle.qcow2_alloc.specs.ImageFile.{nothing_given, view_in, contents_in, known_in, state_in, FileInvariant, HasReftable, UnseenFileStep}
+use Rattle.qcow2_alloc.specs.ImageFile.{nothing_given, view_in, contents_in, known_in, state_in, FileInvariant, HasReftable, InternalFileStep}
 use Rattle.qcow2_alloc.specs.ImageStorage.{storage_of}
 use Rattle.qcow2_alloc.specs.KeptTables.{AreLoaded}
 use Rattle.qcow2_alloc.specs.MetadataCaches.{order_of, l2_tables, refblocks, rb_at}
@@ -219,7 +219,7 @@ module _ {S : Type 0} (view : S → StorageView) (d : Bool) (p : Pending) (range
     still_named k some = sym (other_reftable h on_storage on_storage' range k but (λ same. some (ap (λ n. block_offset (reftable_entry h on_storage n)) same ∙ (has_none view q file t sound has range place.none).0)))
 
     -- ---- the caches
-    abbrev unseen : IsUnseen (state_in view file q) (state_in view named p) × SameL1Table (state_in view file q) (state_in view named p)
+    abbrev unseen : IsInternal (state_in view file q) (state_in view named p) × SameL1Table (state_in view file q) (state_in view named p)
     unseen = unseen_refblock (state_in view file q) (state_in view named p) sound.caches.kept.kept.crash_invariant range entry refl writes
 
     -- tables stand in other clusters than the reftable
@@ -290,7 +290,7 @@ module _ {S : Type 0} (view : S → StorageView) (d : Bool) (p : Pending) (range
       entries = table_now;
     }
 
-    pub file_step_named : (view (storage_of storage)).is_honest → EachMomentSince (view_in view file) (view (storage_of storage)) (IsLeftBy (view (storage_of storage))) → UnseenFileStep view q p file named
+    pub file_step_named : (view (storage_of storage)).is_honest → EachMomentSince (view_in view file) (view (storage_of storage)) (IsLeftBy (view (storage_of storage))) → InternalFileStep view q p file named
     file_step_named honest time = record {
       sound = file_invariant_of
           honest
@@ -312,5 +312,5 @@ module _ {S : Type 0} (view : S → StorageView) (d : Bool) (p : Pending) (range
         write_safe_throughout {result = result} (view_in view file) (view (storage_of storage)) (state_in view file q) nothing_given [] (λ b. overwritten b (h.reftable_offset + 8 * range) (to_be_bytes w64 entry)) calls changes sound.honest refl
         (λ is. (state_in view (record file { storage = storage }) p, refl, safe_step storage is))
 
-    pub named_so : (x : Unit {0}) → result ≡ Ok x → UnseenFileStep view q p file (record file { storage = storage }) × HasReftable view (record file { storage = storage }) t'
+    pub named_so : (x : Unit {0}) → result ≡ Ok x → InternalFileStep view q p file (record file { storage = storage }) × HasReftable view (record file { storage = storage }) t'
     named_so x done = let is = rw done at (changes sound.honest) in (file_step_named storage is (calls.honest sound.honest) (calls.time sound.honest), reftable_named storage is)

@@ -16,19 +16,19 @@ use Rattle.qcow2_laws.specs.CrashInvariant.{Pending}
 use Rattle.qcow2_laws.specs.SafeSteps.{SafeStep}
 use Rattle.qcow2_disk.specs.Stops.{SafeThroughout}
 use Rattle.qcow2_laws.specs.Tops.{WritesHeader, with_reftable_at, IsNewReftable}
-use Rattle.qcow2_laws.specs.Unseen.{IsUnseen}
+use Rattle.qcow2_laws.specs.Internal.{IsInternal}
 use Rattle.qcow2_laws.proofs.Headers.{header_fixed, header_l1, header_known_covers}
 use Rattle.qcow2_laws.proofs.SafeSteps.{step_safe_throughout}
 use Rattle.qcow2_laws.proofs.ReftableMoves.{now_l1, now_reftable, known_counts}
 use Rattle.qcow2_laws.proofs.Steps.{header_is_written}
-use Rattle.qcow2_laws.proofs.Unseen.{table_bytes}
+use Rattle.qcow2_laws.proofs.Internal.{table_bytes}
 use Rattle.qcow2_alloc.specs.declared.allocation.Allocator.{Allocator}
 use Rattle.qcow2_alloc.specs.declared.image_file.ImageFile.{ImageFile}
 use Rattle.qcow2_alloc.specs.declared.image_storage.ImageStorage.{ImageStorage}
 use Rattle.qcow2_alloc.specs.declared.error.ImageError.{ImageError}
-use Rattle.qcow2_alloc.specs.Allocation.{run_at, UnseenAllocatorGrowth}
+use Rattle.qcow2_alloc.specs.Allocation.{run_at, InternalAllocatorGrowth}
 use Rattle.qcow2_alloc.specs.GrownTables.{reftable_at, with_run, without_reftable, StandsGrown}
-use Rattle.qcow2_alloc.specs.ImageFile.{nothing_given, view_in, contents_in, known_in, state_in, FileInvariant, AllocatorInvariant, HasReftable, IsFault, UnseenFileGrowth, InterruptedFileStep}
+use Rattle.qcow2_alloc.specs.ImageFile.{nothing_given, view_in, contents_in, known_in, state_in, FileInvariant, AllocatorInvariant, HasReftable, IsFault, InternalFileGrowth, InterruptedFileStep}
 use Rattle.qcow2_alloc.specs.ImageStorage.{storage_of, is_changed_of}
 use Rattle.qcow2_alloc.specs.KeptTables.{AreLoaded}
 use Rattle.qcow2_alloc.specs.LowestRuns.{IsUsed}
@@ -175,7 +175,7 @@ module _ {S : Type 0} (view : S → StorageView) (p : Pending) (first blocks clu
       | inr real ↦ inl (same_block h' h on_storage' on_storage c refl now (sym (block_same now.0 real)))
     ]
 
-    unseen_now : IsUnseen (state_in view file q) (state_in view named (without_reftable p h))
+    unseen_now : IsInternal (state_in view file q) (state_in view named (without_reftable p h))
     unseen_now =
         let crash_invariant = sound.caches.kept.kept.crash_invariant in record {
           header = refl;
@@ -184,7 +184,7 @@ module _ {S : Type 0} (view : S → StorageView) (p : Pending) (first blocks clu
               writes_now.known_others;
         }
 
-    pub on_named : SafeThroughout (view_in view file) (view (storage_of storage)) known nothing_given [] → UnseenFileGrowth view q (without_reftable p h) file named
+    pub on_named : SafeThroughout (view_in view file) (view (storage_of storage)) known nothing_given [] → InternalFileGrowth view q (without_reftable p h) file named
     on_named since = record {
       sound = file_invariant_of
           honest
@@ -284,14 +284,14 @@ module _ {S : Type 0} (view : S → StorageView) (p : Pending) (first blocks clu
       is_written : (view (storage_of storage)).contents ≡ reftable_pointer_written new_fields (view_in view file).contents
       is_written = rw done at (changes sound.sound.honest)
 
-      allocator_step_after : UnseenAllocatorGrowth view taken file (record allocator { reftable = t }) after (without_reftable p file.header.fields)
+      allocator_step_after : InternalAllocatorGrowth view taken file (record allocator { reftable = t }) after (without_reftable p file.header.fields)
       allocator_step_after = record {
         file_step = on_named view p first blocks clusters file allocator.reftable t sound.sound sound.reftable ready is_table storage is_written (calls_now.honest sound.sound.honest) lasts;
         reftable = reftable_named view p first blocks clusters file allocator.reftable t sound.sound sound.reftable ready is_table storage is_written (calls_now.honest sound.sound.honest);
       }
 
-      pub allocator_step_named : UnseenAllocatorGrowth view taken file (record allocator { reftable = t }) written_file (without_reftable p file.header.fields)
-      allocator_step_named = subst (λ (v : HeaderView). UnseenAllocatorGrowth view taken file (record allocator { reftable = t }) (record file { storage = storage; header = v }) (without_reftable p file.header.fields)) (sym header_now) allocator_step_after
+      pub allocator_step_named : InternalAllocatorGrowth view taken file (record allocator { reftable = t }) written_file (without_reftable p file.header.fields)
+      allocator_step_named = subst (λ (v : HeaderView). InternalAllocatorGrowth view taken file (record allocator { reftable = t }) (record file { storage = storage; header = v }) (without_reftable p file.header.fields)) (sym header_now) allocator_step_after
 
       pub keeps_used : (k : ℕ) → IsUsed view file k → IsUsed view written_file k
       keeps_used k used =

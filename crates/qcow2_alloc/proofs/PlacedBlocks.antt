@@ -27,9 +27,9 @@ use Rattle.qcow2_alloc.specs.declared.cache.MetadataCaches.{MetadataCaches}
 use Rattle.qcow2_alloc.specs.declared.image_file.ImageFile.{ImageFile}
 use Rattle.qcow2_alloc.specs.declared.image_storage.ImageStorage.{ImageStorage}
 use Rattle.qcow2_alloc.specs.Allocation.{placing, HasPlaceFor, StandAt}
-use Rattle.qcow2_alloc.specs.ImageFile.{view_in, contents_in, known_in, state_in, FileInvariant, HasReftable, UnseenFileStep}
+use Rattle.qcow2_alloc.specs.ImageFile.{view_in, contents_in, known_in, state_in, FileInvariant, HasReftable, InternalFileStep}
 use Rattle.qcow2_alloc.specs.ImageStorage.{storage_of}
-use Rattle.qcow2_alloc.specs.MetadataCaches.{order_of, l2_tables, refblocks, HoldsKnown, UnseenCacheStep}
+use Rattle.qcow2_alloc.specs.MetadataCaches.{order_of, l2_tables, refblocks, HoldsKnown, InternalCacheStep}
 use Rattle.qcow2_alloc.specs.CachePins.{KeepsPinsAndNotes}
 use Rattle.qcow2_alloc.specs.TableCaches.{IsBlockOf}
 use Rattle.qcow2_alloc.proofs.FileSteps.{one_here, file_step_cached, reftable_cached}
@@ -133,7 +133,7 @@ module _ {S : Type 0} (view : S → StorageView) where
       ]
     ]
 
-    pub file_step_rewritten : UnseenFileStep view q q file rewritten
+    pub file_step_rewritten : InternalFileStep view q q file rewritten
     file_step_rewritten = file_step_written view q file storage sound (calls.honest sound.honest) each (calls.time sound.honest)
 
     pub reftable_rewritten : (t : EntryTableView) → HasReftable view file t → HasReftable view rewritten t
@@ -155,7 +155,7 @@ module _ {S : Type 0} (view : S → StorageView) where
         stands i (subst (λ n. i < n) (sym long) lt)
         ∙ sym (known_there (placing d p at) file at sound (is_free d p range at file t sound has may place) (at * cluster_size file.header.fields + i) (in_own file.header.fields.cluster_bits at i lt))
 
-    module _ (storage : ImageStorage S) (caches : MetadataCaches S) (stays : UnseenCacheStep file.header.fields (placing d p at) (view_in view file) file.caches (view (storage_of storage)) caches) (marks : KeepsPinsAndNotes file.caches caches) where
+    module _ (storage : ImageStorage S) (caches : MetadataCaches S) (stays : InternalCacheStep file.header.fields (placing d p at) (view_in view file) file.caches (view (storage_of storage)) caches) (marks : KeepsPinsAndNotes file.caches caches) where
       abbrev put : ImageFile S
       put = record file { storage = storage; caches = caches }
 

@@ -20,7 +20,7 @@ use Rattle.qcow2_laws.specs.Tops.{IsSameOutside}
 use Rattle.qcow2_alloc.specs.declared.allocation.Allocator.{Allocator}
 use Rattle.qcow2_alloc.specs.declared.error.ImageError.{ImageError}
 use Rattle.qcow2_alloc.specs.declared.image_file.ImageFile.{ImageFile}
-use Rattle.qcow2_alloc.specs.Allocation.{run_at, StandAt, UnseenAllocatorStep}
+use Rattle.qcow2_alloc.specs.Allocation.{run_at, StandAt, InternalAllocatorStep}
 use Rattle.qcow2_alloc.specs.GrownTables.{with_run}
 use Rattle.qcow2_alloc.specs.ImageFile.{contents_in, IsFault, FileInvariant, AllocatorInvariant, HasReftable, RefusedFileStep}
 use Rattle.qcow2_alloc.specs.MetadataCaches.{order_of, l2_tables, rb_at}
@@ -76,11 +76,11 @@ module _ {S : Type 0} (view : S → StorageView) (p : Pending) (first n : ℕ) (
 
     pub wrote_ok : (x : Unit {0}) → (AllocatorInvariant view a (with_run p f.header.fields a.reftable first n) f → IsBlockOf f.header.fields block → WritesTo view (with_run p f.header.fields a.reftable first n) f a f' cluster block.bytes (Ok x))
         → AllocatorInvariant view a (with_run p h a.reftable first n) f → IsBlockOf f.header.fields block
-        → UnseenAllocatorStep view (with_run p h a.reftable first n) f a f' (with_run p h a.reftable first n) × StandAt (contents_in view f') (cluster * cluster_size h) block.bytes × IsSameOutside (cluster_size h) cluster (contents_in view f) (contents_in view f')
+        → InternalAllocatorStep view (with_run p h a.reftable first n) f a f' (with_run p h a.reftable first n) × StandAt (contents_in view f') (cluster * cluster_size h) block.bytes × IsSameOutside (cluster_size h) cluster (contents_in view f) (contents_in view f')
         × (rb_at f'.caches cluster ≡ None)
     wrote_ok x clause sound fits =
         subst (λ (k : HeaderFields). AllocatorInvariant view a (with_run p k a.reftable first n) f
-        → UnseenAllocatorStep view (with_run p k a.reftable first n) f a f' (with_run p k a.reftable first n) × StandAt (contents_in view f') (cluster * cluster_size k) block.bytes × IsSameOutside (cluster_size k) cluster (contents_in view f) (contents_in view f')
+        → InternalAllocatorStep view (with_run p k a.reftable first n) f a f' (with_run p k a.reftable first n) × StandAt (contents_in view f') (cluster * cluster_size k) block.bytes × IsSameOutside (cluster_size k) cluster (contents_in view f) (contents_in view f')
         × (rb_at f'.caches cluster ≡ None)) same (λ s. let w = clause s fits in (w.allocator_step, w.stands, w.outside, w.gone)) sound
 
 -- what may be written still may

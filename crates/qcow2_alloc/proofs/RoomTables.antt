@@ -17,7 +17,7 @@ use Rattle.qcow2_alloc.specs.declared.cache.MetadataCaches.{MetadataCaches}
 use Rattle.qcow2_alloc.specs.declared.error.ImageError.{ImageError}
 use Rattle.qcow2_alloc.specs.declared.image_file.ImageFile.{ImageFile}
 use Rattle.qcow2_alloc.specs.declared.image_storage.ImageStorage.{ImageStorage}
-use Rattle.qcow2_alloc.specs.Allocation.{run_at, StandAt, UnseenAllocatorStep, UnseenAllocatorGrowth}
+use Rattle.qcow2_alloc.specs.Allocation.{run_at, StandAt, InternalAllocatorStep, InternalAllocatorGrowth}
 use Rattle.qcow2_alloc.specs.GrownTables.{with_run, without_reftable, IsGrown, StandsGrown, NamesReftable}
 use Rattle.qcow2_alloc.specs.LowestRuns.{KeepsUsed}
 use Rattle.qcow2_alloc.proofs.Hints.{used_stays}
@@ -28,7 +28,7 @@ use Rattle.qcow2_alloc.proofs.FileSteps.{leaves_then}
 use Rattle.qcow2_alloc.specs.CachePins.{KeepsPinsAndNotes}
 use Rattle.qcow2_alloc.specs.ImageFile.{view_in, contents_in, IsFault, AllocatorInvariant, RefusedFileStep}
 use Rattle.qcow2_alloc.specs.ImageStorage.{storage_of}
-use Rattle.qcow2_alloc.specs.MetadataCaches.{order_of, l2_tables, refblocks, rb_at, UnseenCacheStep}
+use Rattle.qcow2_alloc.specs.MetadataCaches.{order_of, l2_tables, refblocks, rb_at, InternalCacheStep}
 use Rattle.qcow2_alloc.specs.Rooms.{WritesTable}
 use Rattle.qcow2_alloc.proofs.PlacedRooms.{Counting}
 use Rattle.qcow2_alloc.proofs.RoomSteps.{run_within}
@@ -66,7 +66,7 @@ in_longer first blocks n c le some =
 -- ---- a call of the caches leaves the clusters of a run as they are
 module _ {S : Type 0} (view : S → StorageView) (p : Pending) (first n : ℕ) (file : ImageFile S) (a : Allocator) (storage : ImageStorage S) (caches : MetadataCaches S)
     (sound : AllocatorInvariant view a (with_run p file.header.fields a.reftable first n) file) (may : BlocksMayGo (order_of file.caches) (l2_tables file.caches))
-    (stays : UnseenCacheStep file.header.fields (with_run p file.header.fields a.reftable first n) (view_in view file) file.caches (view (storage_of storage)) caches)
+    (stays : InternalCacheStep file.header.fields (with_run p file.header.fields a.reftable first n) (view_in view file) file.caches (view (storage_of storage)) caches)
     (marks : KeepsPinsAndNotes file.caches caches) (may_now : BlocksMayGo (order_of caches) (l2_tables caches)) where
   abbrev fresh : Pending
   fresh = with_run p file.header.fields a.reftable first n
@@ -74,7 +74,7 @@ module _ {S : Type 0} (view : S → StorageView) (p : Pending) (first n : ℕ) (
   abbrev called : ImageFile S
   called = record file { storage = storage; caches = caches }
 
-  step_called : UnseenAllocatorStep view fresh file a called fresh
+  step_called : InternalAllocatorStep view fresh file a called fresh
   step_called = allocator_step_cached view fresh file a storage caches sound stays marks
 
   pub same_in_run : (c : ℕ) → 0 < run_at first n c → SameIn (cluster_size file.header.fields) c (contents_in view file) (contents_in view called)
@@ -96,11 +96,11 @@ module _ {S : Type 0} (view : S → StorageView) (p : Pending) (first n : ℕ) (
 
   pub table_ok : (x : Unit {0}) → (AllocatorInvariant view a (with_run p f.header.fields a.reftable first n) f → WritesTable view (with_run p f.header.fields a.reftable first n) f a f' cluster clusters bytes (Ok x))
       → AllocatorInvariant view a (with_run p h a.reftable first n) f
-      → UnseenAllocatorStep view (with_run p h a.reftable first n) f a f' (with_run p h a.reftable first n) × StandAt (contents_in view f') (cluster * cluster_size h) bytes
+      → InternalAllocatorStep view (with_run p h a.reftable first n) f a f' (with_run p h a.reftable first n) × StandAt (contents_in view f') (cluster * cluster_size h) bytes
       × ((c : ℕ) → run_at cluster clusters c ≡ 0 → SameIn (cluster_size h) c (contents_in view f) (contents_in view f'))
   table_ok x clause sound =
       subst (λ (k : HeaderFields). AllocatorInvariant view a (with_run p k a.reftable first n) f
-      → UnseenAllocatorStep view (with_run p k a.reftable first n) f a f' (with_run p k a.reftable first n) × StandAt (contents_in view f') (cluster * cluster_size k) bytes
+      → InternalAllocatorStep view (with_run p k a.reftable first n) f a f' (with_run p k a.reftable first n) × StandAt (contents_in view f') (cluster * cluster_size k) bytes
       × ((c : ℕ) → run_at cluster clusters c ≡ 0 → SameIn (cluster_size k) c (contents_in view f) (contents_in view f'))) same (λ s. let w = clause s in (w.allocator_step, w.stands, w.outside)) sound
 
 -- all of it stands ready
@@ -117,15 +117,15 @@ stands_ready view file h old t first blocks clusters same grown stands counts cl
 }
 
 -- after steps that leave the same pending
-pub uses_after : {S : Type 0} (view : S → StorageView) (q : Pending) (a b c : ImageFile S) (t : Allocator) (result : Result (Unit {0}) ImageError) → UnseenAllocatorStep view q a t b q → KeepsUsed view b c result → KeepsUsed view a c result
+pub uses_after : {S : Type 0} (view : S → StorageView) (q : Pending) (a b c : ImageFile S) (t : Allocator) (result : Result (Unit {0}) ImageError) → InternalAllocatorStep view q a t b q → KeepsUsed view b c result → KeepsUsed view a c result
 uses_after view q a b c t (Ok x) first uses = λ k used. uses k (used_stays view q q a b t k first (omega arith) used)
 uses_after view q a b c t (Err e) first uses = elim uses [ inl kept ↦ inl (λ k used. kept k (used_stays view q q a b t k first (omega arith) used)) | inr interruption ↦ inr interruption ]
 
 -- the pointer is written after those
 pub names_then : {S : Type 0} (view : S → StorageView) (p : Pending) (a b c : ImageFile S) (u u' : Allocator) (t : EntryTableView) (first n : ℕ) → b.header.fields ≡ a.header.fields → (result : Result (Unit {0}) ImageError)
-    → UnseenAllocatorStep view (with_run p a.header.fields t first n) a u b (with_run p a.header.fields t first n) → NamesReftable view (with_run p b.header.fields t first n) p b u' c result → NamesReftable view (with_run p a.header.fields t first n) p a u' c result
+    → InternalAllocatorStep view (with_run p a.header.fields t first n) a u b (with_run p a.header.fields t first n) → NamesReftable view (with_run p b.header.fields t first n) p b u' c result → NamesReftable view (with_run p a.header.fields t first n) p a u' c result
 names_then view p a b c u u' t first n same (Ok x) before names =
     let q : Pending = with_run p a.header.fields t first n in
     allocator_step_on view q q (without_reftable p a.header.fields) a b c u u' (λ k some. some) (on_of view q q a b u before)
-    (subst (λ (k : HeaderFields). UnseenAllocatorGrowth view (with_run p k t first n) b u' c (without_reftable p k)) same names)
+    (subst (λ (k : HeaderFields). InternalAllocatorGrowth view (with_run p k t first n) b u' c (without_reftable p k)) same names)
 names_then view p a b c u u' t first n same (Err e) before names = (names.0, leaves_then view (with_run p a.header.fields t first n) a b c u' e before.file_step (subst (λ (k : HeaderFields). RefusedFileStep view (with_run p k t first n) b u' c e) same names.1))

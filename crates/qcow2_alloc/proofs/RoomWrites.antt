@@ -30,12 +30,12 @@ use Rattle.qcow2_alloc.specs.declared.allocation.Allocator.{Allocator}
 use Rattle.qcow2_alloc.specs.declared.cache.MetadataCaches.{MetadataCaches}
 use Rattle.qcow2_alloc.specs.declared.image_file.ImageFile.{ImageFile}
 use Rattle.qcow2_alloc.specs.declared.image_storage.ImageStorage.{ImageStorage}
-use Rattle.qcow2_alloc.specs.Allocation.{run_at, StandAt, UnseenAllocatorStep}
+use Rattle.qcow2_alloc.specs.Allocation.{run_at, StandAt, InternalAllocatorStep}
 use Rattle.qcow2_alloc.specs.CachePins.{KeepsPinsAndNotes}
 use Rattle.qcow2_alloc.specs.GrownTables.{counted_run, with_run}
 use Rattle.qcow2_alloc.specs.ImageFile.{view_in, contents_in, known_in, state_in, FileInvariant, AllocatorInvariant, HasReftable}
 use Rattle.qcow2_alloc.specs.ImageStorage.{storage_of}
-use Rattle.qcow2_alloc.specs.MetadataCaches.{order_of, l2_tables, rb_at, known_of, UnseenCacheStep, TakesBlock}
+use Rattle.qcow2_alloc.specs.MetadataCaches.{order_of, l2_tables, rb_at, known_of, InternalCacheStep, TakesBlock}
 use Rattle.qcow2_alloc.specs.ImageError.{of_storage}
 use Rattle.qcow2_alloc.specs.Rooms.{WritesTo, WritesTable}
 use Rattle.qcow2_alloc.specs.TableCaches.{IsBlockOf}
@@ -74,7 +74,7 @@ module _ {S : Type 0} (view : S → StorageView) where
     abbrev on_storage : Bytes
     on_storage = contents_in view file
 
-    stays_as : (known : known_of h caches on_storage ≡ known_in view file) → TakesBlock file.caches caches cluster → UnseenCacheStep h q (view_in view file) file.caches (view_in view file) caches
+    stays_as : (known : known_of h caches on_storage ≡ known_in view file) → TakesBlock file.caches caches cluster → InternalCacheStep h q (view_in view file) file.caches (view_in view file) caches
     stays_as known takes =
         let off = takes h q on_storage sound.caches in
         let crash_invariant = subst (λ (d : Direction). CrashInvariant h d q on_storage (known_in view file)) (sym order) sound.caches.kept.kept.crash_invariant in
@@ -86,7 +86,7 @@ module _ {S : Type 0} (view : S → StorageView) where
           since = safe_none (view_in view file) (known_in view file);
         }
 
-    removed_stays : (taken : Bool) → (IsFalse taken → caches ≡ file.caches) → (IsTrue taken → TakesBlock file.caches caches cluster) → UnseenCacheStep h q (view_in view file) file.caches (view_in view file) caches
+    removed_stays : (taken : Bool) → (IsFalse taken → caches ≡ file.caches) → (IsTrue taken → TakesBlock file.caches caches cluster) → InternalCacheStep h q (view_in view file) file.caches (view_in view file) caches
     removed_stays true same takes =
         let off = takes refl h q on_storage sound.caches in
         let there = known_there view q file cluster sound free in
@@ -95,10 +95,10 @@ module _ {S : Type 0} (view : S → StorageView) where
           | inr other ↦ sym (off.outside o other)
         ])) (takes refl)
     removed_stays false same takes =
-        subst (λ (c : MetadataCaches S). UnseenCacheStep h q (view_in view file) file.caches (view_in view file) c) (sym (same refl)) (stay_none view h q file.storage file.caches sound.honest sound.caches)
+        subst (λ (c : MetadataCaches S). InternalCacheStep h q (view_in view file) file.caches (view_in view file) c) (sym (same refl)) (stay_none view h q file.storage file.caches sound.honest sound.caches)
 
     pub allocator_step_removed : (a : Allocator) → HasReftable view file a.reftable → (taken : Bool) → (IsFalse taken → caches ≡ file.caches) → (IsTrue taken → TakesBlock file.caches caches cluster) → KeepsPinsAndNotes file.caches caches
-        → UnseenAllocatorStep view q file a (record file { caches = caches }) q
+        → InternalAllocatorStep view q file a (record file { caches = caches }) q
     allocator_step_removed a has taken same takes marks = allocator_step_cached view q file a file.storage caches (record { sound = sound; reftable = has }) (removed_stays taken same takes) marks
 
   -- ---- the bytes of a refblock are written to its cluster
@@ -109,7 +109,7 @@ module _ {S : Type 0} (view : S → StorageView) where
     abbrev written : ImageFile S
     written = record file { storage = storage }
 
-    pub allocator_step_rewritten : UnseenAllocatorStep view q file a written q
+    pub allocator_step_rewritten : InternalAllocatorStep view q file a written q
     allocator_step_rewritten = record { file_step = file_step_rewritten view q file storage at bytes result sound.sound free long writes calls; reftable = reftable_rewritten view q file storage at bytes result sound.sound free long writes calls a.reftable sound.reftable }
 
     pub stands_written : (x : Unit {0}) → result ≡ Ok x → StandAt (contents_in view written) (at * cluster_size file.header.fields) bytes
@@ -140,7 +140,7 @@ module _ {S : Type 0} (view : S → StorageView) where
     abbrev block_written : ImageFile S
     block_written = record forgot { storage = after }
 
-    one : UnseenAllocatorStep view run_pending file a forgot run_pending
+    one : InternalAllocatorStep view run_pending file a forgot run_pending
     one = allocator_step_removed run_pending file caches cluster sound.sound (free_in_run p first n file a.reftable sound.sound sound.reftable may cluster some) order a sound.reftable taken same takes marks
 
     may_still : BlocksMayGo (order_of caches) (l2_tables caches)
@@ -161,7 +161,7 @@ module _ {S : Type 0} (view : S → StorageView) where
     now : AllocatorInvariant view a run_pending forgot
     now = is_sound_now view run_pending run_pending file forgot a one
 
-    pub allocator_step_block : UnseenAllocatorStep view run_pending file a block_written run_pending
+    pub allocator_step_block : InternalAllocatorStep view run_pending file a block_written run_pending
     allocator_step_block = allocator_step_then view run_pending run_pending file forgot block_written a a one (allocator_step_rewritten run_pending forgot a after cluster block.bytes result now free_still long writes calls_now)
 
     pub block_refused : (e : StorageError) → WritesTo view run_pending file a block_written cluster block.bytes (Err (of_storage e))
@@ -236,7 +236,7 @@ module _ {S : Type 0} (view : S → StorageView) where
       ]
     ]
 
-    allocator_step_table : UnseenAllocatorStep view table_pending file a table_written table_pending
+    allocator_step_table : InternalAllocatorStep view table_pending file a table_written table_pending
     allocator_step_table = record {
       file_step = file_step_written view table_pending file after sound.sound (table_calls.honest sound.sound.honest) each (table_calls.time sound.sound.honest);
       reftable = reftable_written view table_pending file after sound.sound (table_calls.honest sound.sound.honest) each a.reftable sound.reftable;

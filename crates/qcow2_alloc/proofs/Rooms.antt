@@ -12,7 +12,7 @@ use Rattle.qcow2_laws.specs.CrashInvariant.{Pending}
 use Rattle.qcow2_alloc.specs.declared.allocation.Allocator.{Allocator}
 use Rattle.qcow2_alloc.specs.declared.error.ImageError.{ImageError}
 use Rattle.qcow2_alloc.specs.declared.image_file.ImageFile.{ImageFile}
-use Rattle.qcow2_alloc.specs.Allocation.{run_at, UnseenAllocatorStep, TakesOne}
+use Rattle.qcow2_alloc.specs.Allocation.{run_at, InternalAllocatorStep, TakesOne}
 use Rattle.qcow2_alloc.specs.GrownTables.{counted_run, with_run}
 use Rattle.qcow2_alloc.specs.ImageFile.{IsFault, AllocatorInvariant, RefusedFileStep}
 use Rattle.qcow2_alloc.specs.Rooms.{lacks, counted_one, opens, opened, TakesFree}
@@ -165,51 +165,51 @@ module _ {S : Type 0} (view : S → StorageView) where
   -- a cluster that was counted, or is in use
   pub free_taken : (p : Pending) (old new : ImageFile S) (a : Allocator) (t : EntryTableView) (cluster : ℕ) (taken : Bool) → lacks t (cluster / counts_per_block old.header.fields) ≡ false
       → TakesOne view p old a new false cluster (Ok taken) → TakesFree view p old a new t cluster (Ok taken)
-  free_taken p old new a t cluster true has takes = subst (λ (r : Pending). UnseenAllocatorStep view p old a new r) (sym (one_taken old.header.fields t p cluster has)) takes
+  free_taken p old new a t cluster true has takes = subst (λ (r : Pending). InternalAllocatorStep view p old a new r) (sym (one_taken old.header.fields t p cluster has)) takes
   free_taken p old new a t cluster false has takes = takes
 
   -- a fault breaks off, or comes before anything was counted
-  pub ends_room : (p : Pending) (t : EntryTableView) (first n : ℕ) (a b c : ImageFile S) (u u' : Allocator) (e : ImageError) → UnseenAllocatorStep view p a u b (with_run p a.header.fields t first n)
+  pub ends_room : (p : Pending) (t : EntryTableView) (first n : ℕ) (a b c : ImageFile S) (u u' : Allocator) (e : ImageError) → InternalAllocatorStep view p a u b (with_run p a.header.fields t first n)
       → ((k : ℕ) → counted_run a.header.fields t first n k ≡ 0) ⊎ IsTrue c.caches.is_changed → IsFault e → RefusedFileStep view (with_run p a.header.fields t first n) b u' c e → RefusedFileStep view p a u' c e
   ends_room p t first n a b c u u' e before noted fault leaves = elim noted [
     | inl none ↦
         let same = run_none a.header.fields t p first n none in
-        leaves_then view p a b c u' e (subst (λ (r : Pending). UnseenAllocatorStep view p a u b r) same before).file_step (subst (λ (r : Pending). RefusedFileStep view r b u' c e) same leaves)
+        leaves_then view p a b c u' e (subst (λ (r : Pending). InternalAllocatorStep view p a u b r) same before).file_step (subst (λ (r : Pending). RefusedFileStep view r b u' c e) same leaves)
     | inr changed ↦ inr (interrupted_after view p (with_run p a.header.fields t first n) a b c u' e before.file_step fault changed leaves)
   ]
 
   -- one cluster more of a run is taken
-  pub run_taken : (p : Pending) (t t' : EntryTableView) (first n : ℕ) (a b c : ImageFile S) (u u' : Allocator) (taken : Bool) → b.header.fields ≡ a.header.fields → t' ≡ t → UnseenAllocatorStep view p a u b (with_run p a.header.fields t first n) → taken ≡ true
-      → TakesFree view (with_run p a.header.fields t first n) b u' c t' (first + n) (Ok taken) → UnseenAllocatorStep view p a u' c (with_run p a.header.fields t first (n + 1))
+  pub run_taken : (p : Pending) (t t' : EntryTableView) (first n : ℕ) (a b c : ImageFile S) (u u' : Allocator) (taken : Bool) → b.header.fields ≡ a.header.fields → t' ≡ t → InternalAllocatorStep view p a u b (with_run p a.header.fields t first n) → taken ≡ true
+      → TakesFree view (with_run p a.header.fields t first n) b u' c t' (first + n) (Ok taken) → InternalAllocatorStep view p a u' c (with_run p a.header.fields t first (n + 1))
   run_taken p t t' first n a b c u u' false same_header same before is takes = absurd (let bad : false ≡ true = is in cc)
   run_taken p t t' first n a b c u u' true same_header same before is takes =
       let h = a.header.fields in
       let q : Pending = with_run p a.header.fields t first n in
-      let now = subst (λ (x : EntryTableView). UnseenAllocatorStep view q b u' c (with_new_tables q (counted_one h x (first + n)))) same (subst (λ (k : HeaderFields). UnseenAllocatorStep view q b u' c (with_new_tables q (counted_one k t' (first + n)))) same_header takes) in
-      allocator_step_more view false p (counted_run h t first n) (with_run p h t first (n + 1)) a b c u u' before (subst (λ (r : Pending). UnseenAllocatorStep view q b u' c r) (run_more h t p first n) now)
+      let now = subst (λ (x : EntryTableView). InternalAllocatorStep view q b u' c (with_new_tables q (counted_one h x (first + n)))) same (subst (λ (k : HeaderFields). InternalAllocatorStep view q b u' c (with_new_tables q (counted_one k t' (first + n)))) same_header takes) in
+      allocator_step_more view false p (counted_run h t first n) (with_run p h t first (n + 1)) a b c u u' before (subst (λ (r : Pending). InternalAllocatorStep view q b u' c r) (run_more h t p first n) now)
 
   -- so it isn't
-  pub run_not_taken : (p : Pending) (t : EntryTableView) (first n cluster : ℕ) (a b c : ImageFile S) (u u' : Allocator) (t' : EntryTableView) (taken : Bool) → UnseenAllocatorStep view p a u b (with_run p a.header.fields t first n) → taken ≡ false
-      → TakesFree view (with_run p a.header.fields t first n) b u' c t' cluster (Ok taken) → UnseenAllocatorStep view p a u' c (with_run p a.header.fields t first n)
+  pub run_not_taken : (p : Pending) (t : EntryTableView) (first n cluster : ℕ) (a b c : ImageFile S) (u u' : Allocator) (t' : EntryTableView) (taken : Bool) → InternalAllocatorStep view p a u b (with_run p a.header.fields t first n) → taken ≡ false
+      → TakesFree view (with_run p a.header.fields t first n) b u' c t' cluster (Ok taken) → InternalAllocatorStep view p a u' c (with_run p a.header.fields t first n)
   run_not_taken p t first n cluster a b c u u' t' true before is takes = absurd (let bad : true ≡ false = is in cc)
   run_not_taken p t first n cluster a b c u u' t' false before is takes = allocator_step_more view false p (counted_run a.header.fields t first n) (with_run p a.header.fields t first n) a b c u u' before takes
 
   -- ---- the first cluster of a run is given back
   module _ (p : Pending) (t : EntryTableView) (at end : ℕ) (start b f : ImageFile S) (u u' : Allocator) (within : at < end) (has : lacks t (at / counts_per_block start.header.fields) ≡ false)
-      (before : UnseenAllocatorStep view p start u b (with_run p start.header.fields t at (end - at))) where
+      (before : InternalAllocatorStep view p start u b (with_run p start.header.fields t at (end - at))) where
     abbrev rest : Pending
     rest = with_run p start.header.fields t (at + 1) (end - (at + 1))
 
     owes : with_run p start.header.fields t at (end - at) ≡ with_new_tables rest (one_at at)
     owes = sym (run_less start.header.fields t p at end within) ∙ one_taken start.header.fields t rest at has
 
-    owing : UnseenAllocatorStep view p start u b (with_new_tables rest (one_at at))
-    owing = subst (λ (r : Pending). UnseenAllocatorStep view p start u b r) owes before
+    owing : InternalAllocatorStep view p start u b (with_new_tables rest (one_at at))
+    owing = subst (λ (r : Pending). InternalAllocatorStep view p start u b r) owes before
 
     pub owed_now : AllocatorInvariant view u (with_new_tables rest (one_at at)) b
     owed_now = is_sound_now view p (with_new_tables rest (one_at at)) start b u owing
 
-    pub left_one : UnseenAllocatorStep view (with_new_tables rest (one_at at)) b u' f rest → UnseenAllocatorStep view p start u' f rest
+    pub left_one : InternalAllocatorStep view (with_new_tables rest (one_at at)) b u' f rest → InternalAllocatorStep view p start u' f rest
     left_one back = record { file_step = file_step_then view p (with_new_tables rest (one_at at)) rest start b f (λ k some. some) owing.file_step back.file_step; reftable = back.reftable }
 
     pub left_fault : (first n : ℕ) (e : ImageError) → first ≤ at → at < first + n → ((k : ℕ) → counted_run start.header.fields t first n k ≡ 0) ⊎ IsTrue f.caches.is_changed
@@ -221,7 +221,7 @@ module _ {S : Type 0} (view : S → StorageView) where
 
   -- the first one isn't counted
   pub left_none : (p : Pending) (t : EntryTableView) (at end : ℕ) (start b : ImageFile S) (u : Allocator) → at < end → lacks t (at / counts_per_block start.header.fields) ≡ true
-      → UnseenAllocatorStep view p start u b (with_run p start.header.fields t at (end - at)) → UnseenAllocatorStep view p start u b (with_run p start.header.fields t (at + 1) (end - (at + 1)))
+      → InternalAllocatorStep view p start u b (with_run p start.header.fields t at (end - at)) → InternalAllocatorStep view p start u b (with_run p start.header.fields t (at + 1) (end - (at + 1)))
   left_none p t at end start b u within none before =
       let h = start.header.fields in
-      subst (λ (r : Pending). UnseenAllocatorStep view p start u b r) (sym (run_less h t p at end within) ∙ one_none h t (with_run p h t (at + 1) (end - (at + 1))) at none) before
+      subst (λ (r : Pending). InternalAllocatorStep view p start u b r) (sym (run_less h t p at end within) ∙ one_none h t (with_run p h t (at + 1) (end - (at + 1))) at none) before

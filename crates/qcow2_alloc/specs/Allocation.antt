@@ -15,7 +15,7 @@ use Rattle.qcow2_laws.specs.Changes.{one_at, with_new_data, with_new_tables}
 use Rattle.qcow2_laws.specs.CrashInvariant.{Pending}
 use Rattle.qcow2_alloc.specs.MetadataCaches.{order_of, rb_at}
 use Rattle.qcow2_alloc.specs.ImageError.{IsFault}
-use Rattle.qcow2_alloc.specs.ImageFile.{contents_in, known_in, HasReftable, UnseenFileStep, UnseenFileGrowth, InterruptedFileStep, RefusedFileStep}
+use Rattle.qcow2_alloc.specs.ImageFile.{contents_in, known_in, HasReftable, InternalFileStep, InternalFileGrowth, InterruptedFileStep, RefusedFileStep}
 use Rattle.qcow2_alloc.specs.declared.allocation.Allocator.{Allocator}
 use Rattle.qcow2_alloc.specs.declared.clusters_to_free.ClusterKind.{ClusterKind}
 use Rattle.qcow2_alloc.specs.declared.clusters_to_free.ClusterKind.TheVariants.{Data, Metadata}
@@ -162,18 +162,18 @@ module _ {S : Type 0} where
 
     module _ (p : Pending) (old : ImageFile S) (allocator' : Allocator) (new : ImageFile S) where
       -- The file and the allocator are sound again, with these pending clusters.
-      pub record UnseenAllocatorStep (p' : Pending) : Type 0 where
-        pub file_step : UnseenFileStep view p p' old new
+      pub record InternalAllocatorStep (p' : Pending) : Type 0 where
+        pub file_step : InternalFileStep view p p' old new
         pub reftable : HasReftable view new allocator'.reftable
 
       -- The file and the allocator are sound again, and the reftable may have moved.
-      pub record UnseenAllocatorGrowth (p' : Pending) : Type 0 where
-        pub file_step : UnseenFileGrowth view p p' old new
+      pub record InternalAllocatorGrowth (p' : Pending) : Type 0 where
+        pub file_step : InternalFileGrowth view p p' old new
         pub reftable : HasReftable view new allocator'.reftable
 
       -- The refblock of a range is loaded.
       abbrev pub LoadsBlock : ℕ → Result (Option ℕ) ImageError → Type 0
-      LoadsBlock range (Ok block) = UnseenAllocatorStep p × RefblockAt new range block
+      LoadsBlock range (Ok block) = InternalAllocatorStep p × RefblockAt new range block
       LoadsBlock range (Err e) = IsFault e × RefusedFileStep view p old allocator' new e
 
       -- A refblock is in its cluster and in its cache.
@@ -183,94 +183,94 @@ module _ {S : Type 0} where
 
       -- A refblock is written, and is in its cache.
       abbrev pub WritesBlock : RefBlockView → ℕ → Result (Unit {0}) ImageError → Type 0
-      WritesBlock block at (Ok _) = UnseenAllocatorStep p × HoldsBlock block at
+      WritesBlock block at (Ok _) = InternalAllocatorStep p × HoldsBlock block at
       WritesBlock block at (Err e) = IsFault e × RefusedFileStep view p old allocator' new e
 
       -- The refblock of a range is placed in a cluster.
       abbrev pub PlacesBlock : Pending → ℕ → ℕ → Result (Unit {0}) ImageError → Type 0
-      PlacesBlock p' range at (Ok _) = UnseenAllocatorStep p' × RefblockAt new range (Some at)
+      PlacesBlock p' range at (Ok _) = InternalAllocatorStep p' × RefblockAt new range (Some at)
       PlacesBlock p' range at (Err e) = IsFault e × RefusedFileStep view p old allocator' new e
 
       -- A range gets its refblock.
       abbrev pub GetsBlock : Result (Unit {0}) ImageError → Type 0
-      GetsBlock (Ok _) = UnseenAllocatorStep p
+      GetsBlock (Ok _) = InternalAllocatorStep p
       GetsBlock (Err e) = RefusedFileStep view p old allocator' new e
 
       -- A cluster is allocated for a table, or there is no free one.
       abbrev pub TakesLowest : Result (Option ℕ) ImageError → Type 0
-      TakesLowest (Ok (Some at)) = UnseenAllocatorStep (taken_as false p (one_at at))
-      TakesLowest (Ok None) = UnseenAllocatorStep p
+      TakesLowest (Ok (Some at)) = InternalAllocatorStep (taken_as false p (one_at at))
+      TakesLowest (Ok None) = InternalAllocatorStep p
       TakesLowest (Err e) = RefusedFileStep view p old allocator' new e
 
       -- A cluster is allocated, or it is in use.
       abbrev pub TakesOne : Bool → ℕ → Result Bool ImageError → Type 0
-      TakesOne is_data cluster (Ok true) = UnseenAllocatorStep (taken_as is_data p (one_at cluster))
-      TakesOne is_data cluster (Ok false) = UnseenAllocatorStep p
+      TakesOne is_data cluster (Ok true) = InternalAllocatorStep (taken_as is_data p (one_at cluster))
+      TakesOne is_data cluster (Ok false) = InternalAllocatorStep p
       TakesOne is_data cluster (Err e) = RefusedFileStep view p old allocator' new e
 
       -- ---- steps in which the reftable may grow; p' is what is pending then, without what is allocated
 
       -- What a refused part leaves: a sound file, or one that a fault interrupted.
       abbrev pub RefusedGrowth : Pending → ImageError → Type 0
-      RefusedGrowth p' e = UnseenAllocatorGrowth p' ⊎ InterruptedFileStep view old new e
+      RefusedGrowth p' e = InternalAllocatorGrowth p' ⊎ InterruptedFileStep view old new e
 
       -- The reftable is longer then, or the same.
       abbrev pub GrowsTable : Pending → Result (Unit {0}) ImageError → Type 0
-      GrowsTable p' (Ok _) = UnseenAllocatorGrowth p'
+      GrowsTable p' (Ok _) = InternalAllocatorGrowth p'
       GrowsTable p' (Err e) = RefusedGrowth p' e
 
       -- A cluster is allocated, or it is in use.
       abbrev pub TakesCluster : Pending → Bool → ℕ → Result Bool ImageError → Type 0
-      TakesCluster p' is_data cluster (Ok true) = UnseenAllocatorGrowth (taken_as is_data p' (one_at cluster))
-      TakesCluster p' is_data cluster (Ok false) = UnseenAllocatorGrowth p'
+      TakesCluster p' is_data cluster (Ok true) = InternalAllocatorGrowth (taken_as is_data p' (one_at cluster))
+      TakesCluster p' is_data cluster (Ok false) = InternalAllocatorGrowth p'
       TakesCluster p' is_data cluster (Err e) = RefusedGrowth p' e
 
       -- The n clusters of a run are allocated, or none if one of them is in use.
       abbrev pub TakesRun : Pending → Bool → ℕ → ℕ → Result ℕ ImageError → Type 0
-      TakesRun p' is_data first n (Ok taken) = (taken ≡ n → UnseenAllocatorGrowth (taken_as is_data p' (run_at first n))) × (taken ≢ n → UnseenAllocatorGrowth p')
+      TakesRun p' is_data first n (Ok taken) = (taken ≡ n → InternalAllocatorGrowth (taken_as is_data p' (run_at first n))) × (taken ≢ n → InternalAllocatorGrowth p')
       TakesRun p' is_data first n (Err e) = RefusedGrowth p' e
 
       -- Some run of n clusters is allocated.
       abbrev pub TakesSomeRun : Pending → Bool → ℕ → Result ℕ ImageError → Type 0
-      TakesSomeRun p' is_data n (Ok first) = UnseenAllocatorGrowth (taken_as is_data p' (run_at first n))
+      TakesSomeRun p' is_data n (Ok first) = InternalAllocatorGrowth (taken_as is_data p' (run_at first n))
       TakesSomeRun p' is_data n (Err e) = RefusedGrowth p' e
 
       -- An allocation returns a run of n clusters of this kind, which are allocated now. If it is refused, at most the list to be freed has changed, or a fault interrupted it.
       abbrev pub Allocates : Pending → ClusterKind → ℕ → Result ClustersToFreeEntry ImageError → Type 0
-      Allocates p' kind n (Ok run) = (run.count ≡ n) × (run.kind ≡ kind) × UnseenAllocatorGrowth (taken_as (is_data kind) p' (run_at run.first_cluster n))
+      Allocates p' kind n (Ok run) = (run.count ≡ n) × (run.kind ≡ kind) × InternalAllocatorGrowth (taken_as (is_data kind) p' (run_at run.first_cluster n))
       Allocates p' kind n (Err e) = RefusedGrowth p' e
 
       -- Exactly the requested cluster is allocated for data, or it cannot be.
       abbrev pub AllocatesAt : Pending → ℕ → Result (Option ClustersToFreeEntry) ImageError → Type 0
-      AllocatesAt p' cluster (Ok (Some run)) = (run.first_cluster ≡ cluster) × (run.count ≡ 1) × (run.kind ≡ Data) × UnseenAllocatorGrowth (taken_as true p' (run_at cluster 1))
-      AllocatesAt p' cluster (Ok None) = UnseenAllocatorGrowth p'
+      AllocatesAt p' cluster (Ok (Some run)) = (run.first_cluster ≡ cluster) × (run.count ≡ 1) × (run.kind ≡ Data) × InternalAllocatorGrowth (taken_as true p' (run_at cluster 1))
+      AllocatesAt p' cluster (Ok None) = InternalAllocatorGrowth p'
       AllocatesAt p' cluster (Err e) = RefusedGrowth p' e
 
       -- What was allocated is freed again.
       abbrev pub GivesBackAs : Pending → Result (Unit {0}) ImageError → Type 0
-      GivesBackAs p' (Ok _) = UnseenAllocatorGrowth p'
+      GivesBackAs p' (Ok _) = InternalAllocatorGrowth p'
       GivesBackAs p' (Err e) = IsFault e × RefusedGrowth p' e
 
       -- ----
 
       -- A pending cluster gets its refcount decremented.
       abbrev pub LowersOne : Pending → Result Bool ImageError → Type 0
-      LowersOne p' (Ok true) = UnseenAllocatorStep p'
+      LowersOne p' (Ok true) = InternalAllocatorStep p'
       LowersOne p' (Ok false) = ⊥
       LowersOne p' (Err e) = IsFault e × RefusedFileStep view p old allocator' new e
 
       -- Pending clusters are freed.
       abbrev pub GivesBack : Pending → Result (Unit {0}) ImageError → Type 0
-      GivesBack p' (Ok _) = UnseenAllocatorStep p'
+      GivesBack p' (Ok _) = InternalAllocatorStep p'
       GivesBack p' (Err e) = IsFault e × RefusedFileStep view p old allocator' new e
 
       -- Clusters are freed, and this is pending then. A fault may stop it at some point.
       abbrev pub Frees : Pending → Result (Unit {0}) ImageError → Type 0
-      Frees p' (Ok _) = UnseenAllocatorStep p'
-      Frees p' (Err e) = IsFault e × (UnseenAllocatorStep p' ⊎ InterruptedFileStep view old new e)
+      Frees p' (Ok _) = InternalAllocatorStep p'
+      Frees p' (Err e) = IsFault e × (InternalAllocatorStep p' ⊎ InterruptedFileStep view old new e)
 
     -- The run that was allocated since a start is freed again, if a change was recorded. p' is what is pending without it.
     abbrev pub GivesBackRun : Allocator → ImageFile S → Allocator → ImageFile S → ℕ → ℕ → Result (Unit {0}) ImageError → Type 0
     GivesBackRun allocator old allocator' new first n result =
         (p p' : Pending) (is_data : Bool) (start : ImageFile S) → ((k : ℕ) → 0 < p.new_data k → 0 < p'.new_data k)
-        → UnseenAllocatorGrowth p start allocator old (taken_as is_data p' (run_at first n)) → (0 < n → IsTrue old.caches.is_changed) → GivesBackAs p start allocator' new p' result
+        → InternalAllocatorGrowth p start allocator old (taken_as is_data p' (run_at first n)) → (0 < n → IsTrue old.caches.is_changed) → GivesBackAs p start allocator' new p' result

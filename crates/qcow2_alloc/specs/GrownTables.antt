@@ -11,7 +11,7 @@ use Rattle.qcow2_metadata.specs.TableBytes.{entry_at}
 use Rattle.qcow2_laws.specs.Caches.{AreClean, BlocksMayGo}
 use Rattle.qcow2_laws.specs.Changes.{with_new_tables}
 use Rattle.qcow2_laws.specs.CrashInvariant.{Pending}
-use Rattle.qcow2_alloc.specs.Allocation.{run_at, StandAt, HasNone, UnseenAllocatorGrowth, RefusedGrowth}
+use Rattle.qcow2_alloc.specs.Allocation.{run_at, StandAt, HasNone, InternalAllocatorGrowth, RefusedGrowth}
 use Rattle.qcow2_alloc.specs.ImageFile.{contents_in, IsFault, RefusedFileStep}
 use Rattle.qcow2_alloc.specs.MetadataCaches.{order_of, l2_tables, refblocks, rb_at}
 use Rattle.qcow2_alloc.specs.declared.allocation.Allocator.{Allocator}
@@ -68,10 +68,10 @@ module _ {S : Type 0} (view : S → StorageView) where
 
   -- The header points to the longer reftable, and the clusters of the old one wait to be freed; or a fault left everything sound, or interrupted the step.
   abbrev pub NamesReftable : Pending → Pending → ImageFile S → Allocator → ImageFile S → Result (Unit {0}) ImageError → Type 0
-  NamesReftable q p old allocator' new (Ok _) = UnseenAllocatorGrowth view q old allocator' new (without_reftable p old.header.fields)
+  NamesReftable q p old allocator' new (Ok _) = InternalAllocatorGrowth view q old allocator' new (without_reftable p old.header.fields)
   NamesReftable q p old allocator' new (Err e) = IsFault e × RefusedFileStep view q old allocator' new e
 
   -- The reftable is replaced by a longer one, for which clusters are allocated; or everything is as sound as before, or a fault interrupted the step.
   abbrev pub EntersReftable : Pending → ImageFile S → Allocator → ImageFile S → Result (Unit {0}) ImageError → Type 0
-  EntersReftable p old allocator' new (Ok _) = UnseenAllocatorGrowth view p old allocator' new (without_reftable p old.header.fields)
+  EntersReftable p old allocator' new (Ok _) = InternalAllocatorGrowth view p old allocator' new (without_reftable p old.header.fields)
   EntersReftable p old allocator' new (Err e) = RefusedGrowth view p old allocator' new p e

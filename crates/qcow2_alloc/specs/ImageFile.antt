@@ -9,7 +9,7 @@ use Rattle.qcow2_disk.specs.Stops.{GivenBytes, SafeThroughout}
 use Rattle.qcow2_laws.specs.CrashInvariant.{Pending}
 use Rattle.qcow2_laws.specs.Caches.{AreNamedBlocks}
 use Rattle.qcow2_laws.specs.SafeSteps.{DriverState, SafeStep}
-use Rattle.qcow2_laws.specs.Unseen.{IsUnseen, SameL1Table}
+use Rattle.qcow2_laws.specs.Internal.{IsInternal, SameL1Table}
 pub use Rattle.qcow2_alloc.specs.ImageError.{IsFault}
 pub use Rattle.qcow2_alloc.specs.CachePins.{l2_pins, CachesHaveRoom, KeepsPinsAndNotes}
 use Rattle.qcow2_alloc.specs.ImageStorage.{storage_of, is_changed_of}
@@ -70,21 +70,21 @@ module _ {S : Type 0} where
       pub reftable : HasReftable file allocator.reftable
 
     -- A step that guests don't see: the file is sound again, and a stop at any moment is as safe as before.
-    pub record UnseenFileStep (p p' : Pending) (old new : ImageFile S) : Type 0 where
+    pub record InternalFileStep (p p' : Pending) (old new : ImageFile S) : Type 0 where
       pub sound : FileInvariant p' new
       pub safe_step : SafeStep (state_in old p) (state_in new p') nothing_given []
       pub since : SafeThroughout (view_in old) (view_in new) (known_in old) nothing_given []
-      pub unseen : IsUnseen (state_in old p) (state_in new p')
+      pub unseen : IsInternal (state_in old p) (state_in new p')
       pub l1_table : SameL1Table (state_in old p) (state_in new p')
       -- Each refcount changes with what is pending. It may rise more if a refblock gets its reference.
       pub counts : (k : ℕ) → count old.header.fields (known_in old) k + pending_at p' k ≤ count new.header.fields (known_in new) k + pending_at p k
 
     -- A step in which the reftable may move: its old clusters lose their references, and keep their refcounts.
-    pub record UnseenFileGrowth (p p' : Pending) (old new : ImageFile S) : Type 0 where
+    pub record InternalFileGrowth (p p' : Pending) (old new : ImageFile S) : Type 0 where
       pub sound : FileInvariant p' new
       pub safe_step : SafeStep (state_in old p) (state_in new p') nothing_given []
       pub since : SafeThroughout (view_in old) (view_in new) (known_in old) nothing_given []
-      pub unseen : IsUnseen (state_in old p) (state_in new p')
+      pub unseen : IsInternal (state_in old p) (state_in new p')
       pub l1_table : SameL1Table (state_in old p) (state_in new p')
 
     -- A fault interrupted the step. If memory ran out, a change was recorded. A stop at any moment is as safe as before.
@@ -95,4 +95,4 @@ module _ {S : Type 0} where
 
     -- What a refused call leaves of a sound file with its allocator: all as sound as before, or a step that a fault interrupted.
     abbrev pub RefusedFileStep : Pending → ImageFile S → Allocator → ImageFile S → ImageError → Type 0
-    RefusedFileStep p old allocator' new e = (UnseenFileStep p p old new × HasReftable new allocator'.reftable) ⊎ InterruptedFileStep old new e
+    RefusedFileStep p old allocator' new e = (InternalFileStep p p old new × HasReftable new allocator'.reftable) ⊎ InterruptedFileStep old new e

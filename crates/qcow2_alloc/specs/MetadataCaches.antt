@@ -102,7 +102,7 @@ module _ {S : Type 0} where
     pub kept : AreKept h (order_of caches) p (l2_tables caches) (refblocks caches) on_storage
 
   -- The caches are sound again, the known contents are the same, no refblock is new, and a stop is as safe as before.
-  pub record UnseenCacheStep (h : HeaderFields) (p : Pending) (old : StorageView) (caches : MetadataCaches S) (new : StorageView) (caches' : MetadataCaches S) : Type 0 where
+  pub record InternalCacheStep (h : HeaderFields) (p : Pending) (old : StorageView) (caches : MetadataCaches S) (new : StorageView) (caches' : MetadataCaches S) : Type 0 where
     pub honest : new.is_honest
     pub sound : CacheInvariant h p caches' (byte_at new.contents)
     pub known : known_of h caches' (byte_at new.contents) ≡ known_of h caches (byte_at old.contents)
@@ -118,13 +118,13 @@ module _ {S : Type 0} where
   InsertKeeps view old caches new caches' IsFitFor cluster bytes is_modified =
       (h : HeaderFields) (p : Pending) → (view (storage_of old)).is_honest → CacheInvariant h p caches (byte_at (view (storage_of old)).contents)
       → IsFitFor h → is_modified ≡ false → IfSome cluster (HoldsKnown h caches (byte_at (view (storage_of old)).contents) bytes)
-      → UnseenCacheStep h p (view (storage_of old)) caches (view (storage_of new)) caches'
+      → InternalCacheStep h p (view (storage_of old)) caches (view (storage_of new)) caches'
 
   -- What loading, flushing and switching do to sound caches over an honest storage.
   abbrev pub KeepSound : (S → StorageView) → ImageStorage S → MetadataCaches S → ImageStorage S → MetadataCaches S → Type 0
   KeepSound view old caches new caches' =
       (h : HeaderFields) (p : Pending) → (view (storage_of old)).is_honest → CacheInvariant h p caches (byte_at (view (storage_of old)).contents)
-      → UnseenCacheStep h p (view (storage_of old)) caches (view (storage_of new)) caches'
+      → InternalCacheStep h p (view (storage_of old)) caches (view (storage_of new)) caches'
 
   -- Loading, flushing and switching write tables in the order of the direction that held before.
   abbrev pub WritesInOrder : (S → StorageView) → ImageStorage S → MetadataCaches S → ImageStorage S → Type 0

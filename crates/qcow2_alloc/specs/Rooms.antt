@@ -12,7 +12,7 @@ use Rattle.qcow2_metadata.specs.TableBytes.{entry_at}
 use Rattle.qcow2_laws.specs.Changes.{one_at, with_new_tables}
 use Rattle.qcow2_laws.specs.CrashInvariant.{Pending, SameIn}
 use Rattle.qcow2_laws.specs.Tops.{IsSameOutside}
-use Rattle.qcow2_alloc.specs.Allocation.{run_at, StandAt, HasNone, NamesLacking, UnseenAllocatorStep}
+use Rattle.qcow2_alloc.specs.Allocation.{run_at, StandAt, HasNone, NamesLacking, InternalAllocatorStep}
 use Rattle.qcow2_alloc.specs.GrownTables.{counted_run, with_run, named_by_reftable_entries, IsGrown}
 use Rattle.qcow2_alloc.specs.ImageFile.{contents_in, IsFault, RefusedFileStep}
 use Rattle.qcow2_alloc.specs.MetadataCaches.{rb_at}
@@ -45,18 +45,18 @@ room_length room = room.blocks + room.clusters
 module _ {S : Type 0} (view : S → StorageView) (p : Pending) (old : ImageFile S) (allocator' : Allocator) (new : ImageFile S) where
   -- A cluster is allocated, if its range has a refblock; or it is in use.
   abbrev pub TakesFree : EntryTableView → ℕ → Result Bool ImageError → Type 0
-  TakesFree t cluster (Ok true) = UnseenAllocatorStep view p old allocator' new (with_new_tables p (counted_one old.header.fields t cluster))
-  TakesFree t cluster (Ok false) = UnseenAllocatorStep view p old allocator' new p
+  TakesFree t cluster (Ok true) = InternalAllocatorStep view p old allocator' new (with_new_tables p (counted_one old.header.fields t cluster))
+  TakesFree t cluster (Ok false) = InternalAllocatorStep view p old allocator' new p
   TakesFree t cluster (Err e) = IsFault e × RefusedFileStep view p old allocator' new e
 
   -- This many clusters from `first` on are allocated.
   abbrev pub ReachesRoom : EntryTableView → ℕ → Result Reach ImageError → Type 0
-  ReachesRoom t first (Ok reach) = UnseenAllocatorStep view p old allocator' new (with_run p old.header.fields t first reach.taken)
+  ReachesRoom t first (Ok reach) = InternalAllocatorStep view p old allocator' new (with_run p old.header.fields t first reach.taken)
   ReachesRoom t first (Err e) = IsFault e × RefusedFileStep view p old allocator' new e
 
   -- The clusters of a room are allocated.
   abbrev pub TakesRoom : EntryTableView → Result Room ImageError → Type 0
-  TakesRoom t (Ok room) = UnseenAllocatorStep view p old allocator' new (with_run p old.header.fields t room.first (room_length room))
+  TakesRoom t (Ok room) = InternalAllocatorStep view p old allocator' new (with_run p old.header.fields t room.first (room_length room))
   TakesRoom t (Err e) = RefusedFileStep view p old allocator' new e
 
 -- A longer reftable in memory has the same entries, and needs this many clusters.
@@ -116,7 +116,7 @@ module _ {S : Type 0} (view : S → StorageView) where
   module _ (q : Pending) (old : ImageFile S) (allocator : Allocator) (new : ImageFile S) where
     -- These bytes are in a cluster that no cached refblock has. Nothing else changes on the storage.
     pub record StandsIn (cluster : ℕ) (bytes : List ℕ) : Type 0 where
-      pub allocator_step : UnseenAllocatorStep view q old allocator new q
+      pub allocator_step : InternalAllocatorStep view q old allocator new q
       pub stands : StandAt (contents_in view new) (cluster * cluster_size old.header.fields) bytes
       pub outside : IsSameOutside (cluster_size old.header.fields) cluster (contents_in view old) (contents_in view new)
       pub gone : rb_at new.caches cluster ≡ None
@@ -127,7 +127,7 @@ module _ {S : Type 0} (view : S → StorageView) where
 
     -- The refblocks that a reftable lacks are in the first clusters of the room, and a longer one has entries for them.
     pub record HasPlaced (before after : EntryTableView) (room : Room) : Type 0 where
-      pub allocator_step : UnseenAllocatorStep view q old allocator new q
+      pub allocator_step : InternalAllocatorStep view q old allocator new q
       pub grown : IsGrown old.header.fields before (placed_at after (room.first + room.blocks)) room.first room.blocks room.clusters
       pub counts : StandCounting new before after room.first (room_length room)
       pub uncached : (c : ℕ) → 0 < run_at room.first room.blocks c → rb_at new.caches c ≡ None
@@ -138,7 +138,7 @@ module _ {S : Type 0} (view : S → StorageView) where
 
     -- The table is in these clusters, and nothing else changes on the storage.
     pub record StandsFrom (cluster clusters : ℕ) (bytes : List ℕ) : Type 0 where
-      pub allocator_step : UnseenAllocatorStep view q old allocator new q
+      pub allocator_step : InternalAllocatorStep view q old allocator new q
       pub stands : StandAt (contents_in view new) (cluster * cluster_size old.header.fields) bytes
       pub outside : (c : ℕ) → run_at cluster clusters c ≡ 0 → SameIn (cluster_size old.header.fields) c (contents_in view old) (contents_in view new)
 

@@ -6,7 +6,7 @@ use Rattle.qcow2_metadata.specs.Header.{counts_per_block, entries_per_cluster}
 use Rattle.qcow2_metadata.specs.L2Mapping.{IsHostCluster}
 use Rattle.qcow2_metadata.specs.declared.header.HeaderFields.{HeaderFields}
 use Rattle.qcow2_laws.specs.CrashInvariant.{Pending}
-use Rattle.qcow2_alloc.specs.Allocation.{Allocates, AllocatesAt, GivesBack, GrowsTable, GetsBlock, HasNone, KeepsEntries, KeepsNamed, NamesBlock, NamesLacking, SameLeaks, TakesCluster, TakesOne, TakesRun, UnseenAllocatorGrowth, run_at, taken_as}
+use Rattle.qcow2_alloc.specs.Allocation.{Allocates, AllocatesAt, GivesBack, GrowsTable, GetsBlock, HasNone, KeepsEntries, KeepsNamed, NamesBlock, NamesLacking, SameLeaks, TakesCluster, TakesOne, TakesRun, InternalAllocatorGrowth, run_at, taken_as}
 use Rattle.qcow2_alloc.specs.CachePins.{KeepsPinsAndNotes}
 use Rattle.qcow2_alloc.specs.Faults.{faults_of}
 use Rattle.qcow2_alloc.specs.FreeList.{pending_then, run_of, FillsClusters, ReplacesReftable, ListsTables, OldReftablesQueued}
@@ -197,7 +197,7 @@ module _ {S : Type 0} (view : S → StorageView) where
 
   -- This many clusters are allocated, none of which was in use.
   pub record TakenSoFar (p : Pending) (is_data : Bool) (allocator : Allocator) (old : ImageFile S) (allocator' : Allocator) (new : ImageFile S) (first n : ℕ) : Type 0 where
-    pub taken : UnseenAllocatorGrowth view p old allocator' new (taken_as is_data (pending_then p old.free_list new.free_list) (run_at first n))
+    pub taken : InternalAllocatorGrowth view p old allocator' new (taken_as is_data (pending_then p old.free_list new.free_list) (run_at first n))
     pub leaks : SameLeaks allocator allocator'
     pub uses : StaysUsed view old new
     pub free : (k : ℕ) → 0 < run_at first n k → ¬ IsUsed view old k

@@ -10,7 +10,7 @@ use Rattle.qcow2_metadata.specs.FirstZero.{IsFirstZero}
 use Rattle.qcow2_metadata.specs.Header.{counts_per_block}
 use Rattle.qcow2_metadata.specs.RefBlock.{RefBlockView, count_at, counts_of}
 use Rattle.qcow2_laws.specs.CrashInvariant.{Pending}
-use Rattle.qcow2_alloc.specs.Allocation.{HasNone, NamesBlock, UnseenAllocatorStep}
+use Rattle.qcow2_alloc.specs.Allocation.{HasNone, NamesBlock, InternalAllocatorStep}
 use Rattle.qcow2_alloc.specs.ImageError.{IsFault}
 use Rattle.qcow2_alloc.specs.ImageFile.{RefusedFileStep}
 use Rattle.qcow2_alloc.specs.LowestRuns.{IsCovered, IsUsed, NoFreeBelowHint}
@@ -74,15 +74,15 @@ module _ {S : Type 0} where
 
     -- The file and its allocator stay sound, or a fault ended the call.
     abbrev pub StaysSound : {A : Type 0} → Pending → ImageFile S → Allocator → ImageFile S → Result A ImageError → Type 0
-    StaysSound p old allocator' new (Ok done) = UnseenAllocatorStep view p old allocator' new p
+    StaysSound p old allocator' new (Ok done) = InternalAllocatorStep view p old allocator' new p
     StaysSound p old allocator' new (Err e) = IsFault e × RefusedFileStep view p old allocator' new e
 
     -- The file and its allocator stay sound, or a fault ended the search. If it passed over no free cluster before, all clusters from the one where it started up to the one where it continues are in use.
     abbrev pub PassesKnown : Pending → Allocator → ImageFile S → Allocator → ImageFile S → ℕ → Result ℕ ImageError → Type 0
-    PassesKnown p allocator old allocator' new from (Ok next) = UnseenAllocatorStep view p old allocator' new p × (NoFreeBelowHint view allocator old → AreUsed new from next)
+    PassesKnown p allocator old allocator' new from (Ok next) = InternalAllocatorStep view p old allocator' new p × (NoFreeBelowHint view allocator old → AreUsed new from next)
     PassesKnown p allocator old allocator' new from (Err e) = IsFault e × RefusedFileStep view p old allocator' new e
 
     -- A search that started at one cluster continues at another, and all clusters between them are in use; or a fault ended it.
     abbrev pub PassesUsed : Pending → ImageFile S → Allocator → ImageFile S → ℕ → Result ℕ ImageError → Type 0
-    PassesUsed p old allocator' new from (Ok next) = UnseenAllocatorStep view p old allocator' new p × AreUsed new from next
+    PassesUsed p old allocator' new from (Ok next) = InternalAllocatorStep view p old allocator' new p × AreUsed new from next
     PassesUsed p old allocator' new from (Err e) = IsFault e × RefusedFileStep view p old allocator' new e

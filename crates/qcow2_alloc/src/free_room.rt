@@ -2,7 +2,7 @@
 ghost use Rattle.std.specs.Prelude.{◌≡◌, ◌+◌, ◌/◌, ◌^◌, ◌<◌, ◌≤◌, false, IfOk, IsTrue};
 ghost use Rattle.qcow2_metadata.specs.Header.{counts_per_block};
 ghost use Rattle.qcow2_laws.specs.CrashInvariant.{Pending};
-ghost use Rattle.qcow2_alloc.specs.Allocation.{UnseenAllocatorStep};
+ghost use Rattle.qcow2_alloc.specs.Allocation.{InternalAllocatorStep};
 ghost use Rattle.qcow2_alloc.specs.GrownTables.{with_run};
 ghost use Rattle.qcow2_alloc.specs.ImageError.{IsOfTables};
 ghost use Rattle.qcow2_alloc.specs.ImageFile.{AllocatorInvariant};
@@ -179,7 +179,7 @@ impl Allocator {
         ensures reftable { self.new.reftable ≡ self.old.reftable }
         ensures first { SearchStays self.old self.new }
         ensures sound { (p : Pending) (start : ImageFile S) → start.header ≡ file.old.header
-            → UnseenAllocatorStep S.view p start self.old file.old
+            → InternalAllocatorStep S.view p start self.old file.old
             (with_run p start.header.fields self.old.reftable first n)
             → LeavesSoundly S.view p first n start self.old file.old self.new file.new result }
         ensures fails { Fails S.view file.old.storage file.new.storage result IsOfTables }

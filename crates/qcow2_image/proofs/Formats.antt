@@ -7,7 +7,7 @@ use Rattle.qcow2_metadata.specs.Header.{with_reftable}
 use Rattle.qcow2_metadata.specs.Entries.{l1_entry}
 use Rattle.qcow2_metadata.specs.Cover.{cover, cover_under}
 use Rattle.qcow2_metadata.specs.L2Table.{L2TableView}
-use Rattle.qcow2_laws.specs.Unseen.{KeepsFormat}
+use Rattle.qcow2_laws.specs.Internal.{KeepsFormat}
 use Rattle.qcow2_laws.proofs.Formats.{l1_format}
 use Rattle.qcow2_alloc.specs.FreeList.{ListsTables}
 use Rattle.qcow2_alloc.specs.MetadataCaches.{IsEntryAt}
@@ -16,7 +16,7 @@ use Rattle.qcow2_image.specs.declared.prepared.Prepared.{Prepared}
 use Rattle.qcow2_image.specs.declared.prepared.Share.{Share}
 use Rattle.qcow2_image.specs.declared.prepared.Share.TheVariants.{InPlace, Kept, New}
 use Rattle.qcow2_image.specs.NewTables.{SaysKnown}
-use Rattle.qcow2_image.specs.UnseenSteps.{ListGrows}
+use Rattle.qcow2_image.specs.InternalSteps.{ListGrows}
 use Rattle.qcow2_image.specs.ImageInvariant.{IsShareAt, IsReadyWith}
 
 -- ---- what is read with it

@@ -12,7 +12,7 @@ use Rattle.qcow2_metadata.specs.declared.header.HeaderFields.{HeaderFields}
 use Rattle.qcow2_laws.specs.CrashInvariant.{Pending}
 use Rattle.qcow2_disk.specs.AbstractImages.{HasFreePlaces, IsWhole}
 use Rattle.qcow2_laws.proofs.Steps.{sound_is_consistent}
-use Rattle.qcow2_laws.proofs.Unseen.{known_header}
+use Rattle.qcow2_laws.proofs.Internal.{known_header}
 use Rattle.qcow2_alloc.specs.ImageFile.{state_in, view_in, known_in, FileInvariant}
 use Rattle.qcow2_alloc.specs.ImageStorage.{storage_of}
 use Rattle.qcow2_image.specs.declared.image.Qcow2.{Qcow2}

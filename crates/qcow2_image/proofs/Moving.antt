@@ -7,19 +7,19 @@ use Rattle.image_access.specs.Moments.{StorageView}
 use Rattle.qcow2_metadata.specs.declared.header.HeaderFields.{HeaderFields}
 use Rattle.qcow2_metadata.specs.Header.{cluster_size}
 use Rattle.qcow2_laws.specs.CrashInvariant.{Pending}
-use Rattle.qcow2_laws.specs.Unseen.{KeepsFormat}
+use Rattle.qcow2_laws.specs.Internal.{KeepsFormat}
 use Rattle.qcow2_laws.proofs.Formats.{l1_format}
 use Rattle.qcow2_alloc.specs.Allocation.{SameLeaks}
 use Rattle.qcow2_alloc.specs.CachePins.{l2_pins}
 use Rattle.qcow2_alloc.specs.declared.allocation.Allocator.{Allocator}
 use Rattle.qcow2_alloc.specs.declared.image_file.ImageFile.{ImageFile}
-use Rattle.qcow2_alloc.specs.ImageFile.{contents_in, known_in, UnseenFileStep, UnseenFileGrowth}
+use Rattle.qcow2_alloc.specs.ImageFile.{contents_in, known_in, InternalFileStep, InternalFileGrowth}
 use Rattle.qcow2_alloc.proofs.FileSteps.{file_step_on}
 use Rattle.qcow2_alloc.specs.KeptAllocators.{IsAllocatorOf}
 use Rattle.qcow2_image.specs.declared.image.Qcow2.{Qcow2}
 use Rattle.qcow2_image.specs.declared.prepared.Prepared.{Prepared}
 use Rattle.qcow2_image.specs.Image.{leaked_by, leaked_in}
-use Rattle.qcow2_image.specs.UnseenSteps.{UnseenStep, ListGrows, UnseenFreeingStep}
+use Rattle.qcow2_image.specs.InternalSteps.{InternalStep, ListGrows, InternalFreeingStep}
 use Rattle.qcow2_image.specs.ImageInvariant.{cluster_of, HasL1Table, IsReadyWith, ImageInvariant}
 use Rattle.qcow2_image.proofs.Formats.{l1_shared, ready_format}
 use Rattle.qcow2_image.proofs.Ready.{still_ready}
@@ -29,7 +29,7 @@ pub leaked_still : {S F : Type 0} (image : Qcow2 S F) (before after : Allocator)
 leaked_still image before after is same = same ∙ ap leaked_by (sym is)
 
 module _ {S F : Type 0} (view : S → StorageView) (backing : F → BackingView) (old : Qcow2 S F) (out : List (Option Prepared)) (p p' : Pending) (sound : ImageInvariant view backing p old out)
-    (file : ImageFile S) (allocator : Option Allocator) (file_step : UnseenFileGrowth view p p' old.file file) (reftable : IfSome allocator (IsAllocatorOf view file)) (leaks : leaked_by allocator ≡ leaked_in old)
+    (file : ImageFile S) (allocator : Option Allocator) (file_step : InternalFileGrowth view p p' old.file file) (reftable : IfSome allocator (IsAllocatorOf view file)) (leaks : leaked_by allocator ≡ leaked_in old)
     (pins : (table : ℕ) → l2_pins file.caches table ≡ l2_pins old.file.caches table) where
   abbrev h : HeaderFields
   h = old.file.header.fields
@@ -51,7 +51,7 @@ module _ {S F : Type 0} (view : S → StorageView) (backing : F → BackingView)
       (still_ready h (known_in view old.file) (contents_in view old.file) (known_in view file) (contents_in view file) q sound.file.caches.kept.kept.crash_invariant.same_top.l1
       (λ i. l1_shared h file.header.fields header (contents_in view file) (known_in view file) i (file_step.sound.caches.kept.kept.crash_invariant.same_top.l1 i)) (λ i copied. file_step.l1_table i) (λ i. file_step.unseen.covers (cluster_of h q + i)) q.table ready)
 
-  pub file_tidied : UnseenFreeingStep view backing p p' old (record old { file = file; allocator = allocator }) out
+  pub file_tidied : InternalFreeingStep view backing p p' old (record old { file = file; allocator = allocator }) out
   file_tidied = record {
     sound = record {
       works = sound.works;
@@ -72,7 +72,7 @@ module _ {S F : Type 0} (view : S → StorageView) (backing : F → BackingView)
     leaks = leaks;
   }
 
-  pub file_moved_on : ListGrows old (record old { file = file; allocator = allocator }) → UnseenStep view backing p p' old (record old { file = file; allocator = allocator }) out
+  pub file_moved_on : ListGrows old (record old { file = file; allocator = allocator }) → InternalStep view backing p p' old (record old { file = file; allocator = allocator }) out
   file_moved_on list = record {
     sound = file_tidied.sound;
     safe_step = file_tidied.safe_step;
@@ -86,7 +86,7 @@ module _ {S F : Type 0} (view : S → StorageView) (backing : F → BackingView)
 
 -- the reftable stays, and so does the list
 module _ {S F : Type 0} (view : S → StorageView) (backing : F → BackingView) (old : Qcow2 S F) (out : List (Option Prepared)) (p p' : Pending) (sound : ImageInvariant view backing p old out)
-    (file : ImageFile S) (allocator : Option Allocator) (file_step : UnseenFileStep view p p' old.file file) (reftable : IfSome allocator (IsAllocatorOf view file)) (leaks : leaked_by allocator ≡ leaked_in old)
+    (file : ImageFile S) (allocator : Option Allocator) (file_step : InternalFileStep view p p' old.file file) (reftable : IfSome allocator (IsAllocatorOf view file)) (leaks : leaked_by allocator ≡ leaked_in old)
     (pins : (table : ℕ) → l2_pins file.caches table ≡ l2_pins old.file.caches table) where
-  pub file_moved : file.free_list ≡ old.file.free_list → UnseenStep view backing p p' old (record old { file = file; allocator = allocator }) out
+  pub file_moved : file.free_list ≡ old.file.free_list → InternalStep view backing p p' old (record old { file = file; allocator = allocator }) out
   file_moved list = file_moved_on view backing old out p p' sound file allocator (file_step_on view p p' old.file file file_step) reftable leaks pins (record { more = []; is = list ∙ sym (append-nil old.file.free_list) })

@@ -10,7 +10,7 @@ use Rattle.qcow2_laws.specs.Guests.{table_at}
 use Rattle.qcow2_image.specs.declared.prepared.Prepared.{Prepared}
 use Rattle.qcow2_image.specs.declared.prepared.Share.{Share}
 use Rattle.qcow2_image.specs.declared.prepared.Share.TheVariants.{InPlace, Kept, New}
-use Rattle.qcow2_image.specs.UnseenSteps.{NamesOwn}
+use Rattle.qcow2_image.specs.InternalSteps.{NamesOwn}
 use Rattle.qcow2_metadata.specs.L2Mapping.{IsInReach, named_run}
 use Rattle.qcow2_disk.specs.Mappings.{is_copied_data}
 use Rattle.qcow2_image.specs.ImageInvariant.{cluster_of, listed_run, IsShareAt, IsPending, IsReadyWith}

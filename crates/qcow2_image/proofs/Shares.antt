@@ -16,12 +16,12 @@ use Rattle.qcow2_metadata.specs.declared.l2_mapping.L2Mapping.TheVariants.{Zero}
 use Rattle.qcow2_laws.specs.CrashInvariant.{Pending}
 use Rattle.qcow2_laws.specs.Guests.{over_guests, names}
 use Rattle.qcow2_laws.specs.SafeSteps.{DriverState, StateInvariant}
-use Rattle.qcow2_laws.specs.Unseen.{used_by_guests}
+use Rattle.qcow2_laws.specs.Internal.{used_by_guests}
 use Rattle.qcow2_laws.proofs.Consistency.{in_own}
 use Rattle.qcow2_laws.proofs.KeptClusters.{kept_aligned}
 use Rattle.qcow2_laws.proofs.Mixes.{tied}
 use Rattle.qcow2_laws.proofs.Places.{in_one}
-use Rattle.qcow2_laws.proofs.Unseen.{named_some}
+use Rattle.qcow2_laws.proofs.Internal.{named_some}
 use Rattle.qcow2_alloc.specs.ClustersToFree.{data_entry}
 use Rattle.qcow2_alloc.specs.declared.clusters_to_free.ClustersToFreeEntry.{ClustersToFreeEntry}
 use Rattle.qcow2_alloc.specs.ImageFile.{state_in, contents_in, known_in}
@@ -30,7 +30,7 @@ use Rattle.qcow2_image.specs.declared.image.Qcow2.{Qcow2}
 use Rattle.qcow2_image.specs.declared.prepared.Prepared.{Prepared}
 use Rattle.qcow2_image.specs.declared.prepared.Share.{Share}
 use Rattle.qcow2_image.specs.declared.prepared.Share.TheVariants.{InPlace, Kept, New}
-use Rattle.qcow2_image.specs.UnseenSteps.{freed_by, HoldsAll}
+use Rattle.qcow2_image.specs.InternalSteps.{freed_by, HoldsAll}
 use Rattle.qcow2_image.specs.ImageInvariant.{of_data, of_tables, to_free, new_data_in, new_data_by, over_all, is_entered, cluster_of, begin_of, host_begin_of, place_of, share_of, IsShareAt, IsPending, IsReadyWith, is_private, ImageInvariant}
 use Rattle.qcow2_image.proofs.Inside.{names_inside}
 use Rattle.qcow2_image.proofs.Sound.{free_more}

@@ -10,7 +10,7 @@ use Rattle.qcow2_disk.specs.Stops.{GivenBytes}
 use Rattle.qcow2_disk.specs.UngivenCovers.{IsUngiven, Touches, UngivenStay}
 use Rattle.qcow2_laws.specs.CrashInvariant.{Pending}
 use Rattle.qcow2_laws.specs.SafeSteps.{StateInvariant}
-use Rattle.qcow2_laws.proofs.Unseen.{known_header}
+use Rattle.qcow2_laws.proofs.Internal.{known_header}
 use Rattle.qcow2_alloc.specs.ImageFile.{known_in, state_in}
 use Rattle.qcow2_alloc.specs.declared.image_file.ImageFile.{ImageFile}
 use Rattle.qcow2_image.specs.MovedTables.{CoversStay}

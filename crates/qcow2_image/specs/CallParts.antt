@@ -1,6 +1,6 @@
 -- The parts of a call that a guest sees.
 use Rattle.qcow2_metadata.specs.Header.{cluster_size}
-use Rattle.qcow2_image.specs.UnseenSteps.{RefusedFillingStep, HoldsTable}
+use Rattle.qcow2_image.specs.InternalSteps.{RefusedFillingStep, HoldsTable}
 use Rattle.qcow2_alloc.specs.ImageError.{IsFault as IsFaultOfTables}
 use Rattle.std.specs.Prelude.{Bool, true, false, ℕ, ◌+◌, ◌*◌, ◌/◌, ◌≡◌, ◌<◌, ◌≤◌, ◌==◌, ◌⊎◌, List, [], ◌∷◌, length, Option, Some, None, IsSome, IsTrue, Result, Ok, Err, slice_get, slice_set, if◌then◌else◌}
 use Rattle.image_access.specs.Backing.{BackingView}
@@ -103,7 +103,7 @@ module _ {S F : Type 0} (view : S → StorageView) where
         → CommitsAll old new out k p q × (IsTrue entered → IsTrue new.file.caches.is_changed)
 
     -- The image is sound, the guest sees what it saw, and every mapping is the same. The L1 table and the reftable may have moved.
-    pub record UnseenCall (old new : Qcow2 S F) (out : List (Option Prepared)) : Type 0 where
+    pub record InternalCall (old new : Qcow2 S F) (out : List (Option Prepared)) : Type 0 where
       pub works : EffectOnSound (abstract_of view backing old out) (abstract_of view backing new out) [] []
       pub sound : ImageInvariant view backing (pending_in view backing new out) new out
       pub same : IsSame (abstract_of view backing old out) (abstract_of view backing new out)
@@ -118,18 +118,18 @@ module _ {S F : Type 0} (view : S → StorageView) where
 
     -- What a refused part leaves: a sound image that looks the same, or one that is about to fail.
     abbrev pub RefusedCall : Qcow2 S F → Qcow2 S F → List (Option Prepared) → ImageError → Type 0
-    RefusedCall old new out e = UnseenCall old new out ⊎ InterruptedCall old new out e
+    RefusedCall old new out e = InternalCall old new out ⊎ InterruptedCall old new out e
 
     -- Clusters are freed at the end of a call, which guests don't see. Only a fault refuses this. If a change was recorded in the caches, the image failed then.
     abbrev pub EndsFreeing : Qcow2 S F → Qcow2 S F → List (Option Prepared) → Result (Unit {0}) ImageError → Type 0
-    EndsFreeing old new out (Ok _) = UnseenCall old new out
+    EndsFreeing old new out (Ok _) = InternalCall old new out
     EndsFreeing old new out (Err e) =
         RefusedEffect (abstract_of view backing old out) (abstract_of view backing new out) [] [] (refusal_of e) (IsSame (abstract_of view backing old out) (abstract_of view backing new out))
         × IsRefusalByFault (refusal_of e) × (IsTrue old.file.caches.is_changed → IsTrue (is_failed new))
 
     -- The L2 table of an offset is found or made.
     abbrev pub FindsTable : Qcow2 S F → Qcow2 S F → List (Option Prepared) → ℕ → Result ℕ ImageError → Type 0
-    FindsTable old new out offset (Ok table) = UnseenCall old new out × HoldsTable view backing new offset table
+    FindsTable old new out offset (Ok table) = InternalCall old new out × HoldsTable view backing new offset table
     FindsTable old new out offset (Err e) = RefusedCall old new out e
 
     -- A range is prepared, and its mapping is in a slot that was empty.

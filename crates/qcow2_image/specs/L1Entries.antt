@@ -7,7 +7,7 @@ use Rattle.qcow2_metadata.specs.TableBytes.{entry_at}
 use Rattle.qcow2_image.specs.declared.image.Qcow2.{Qcow2}
 use Rattle.qcow2_image.specs.Found.{l1_index_of}
 use Rattle.qcow2_image.specs.MetAlone.{KeepsL1Place}
-use Rattle.qcow2_image.specs.UnseenSteps.{NamesOwn}
+use Rattle.qcow2_image.specs.InternalSteps.{NamesOwn}
 
 -- The L1 table has its old entries and those up to that of an offset, and no more.
 abbrev pub ReachesOffset : ℕ → HeaderFields → HeaderFields → Type 0

@@ -4,7 +4,7 @@ pub mod Prepared
 pub mod Refusals
 pub mod ImageInvariant
 pub mod Calls
-pub mod UnseenSteps
+pub mod InternalSteps
 pub mod NewTables
 pub mod Faults
 pub mod Found

@@ -17,7 +17,7 @@ use Rattle.qcow2_image.specs.BehindHeader.{PreservesHeaderCluster}
 use Rattle.qcow2_image.specs.Found.{l1_index_of}
 use Rattle.qcow2_image.specs.Image.{IsSameImage}
 use Rattle.qcow2_image.specs.ImageInvariant.{abstract_of}
-use Rattle.qcow2_image.specs.UnseenSteps.{UnseenFillingStep, UnseenStep, pending_with_listed}
+use Rattle.qcow2_image.specs.InternalSteps.{InternalFillingStep, InternalStep, pending_with_listed}
 use Rattle.qcow2_image.specs.declared.image.Qcow2.{Qcow2}
 use Rattle.qcow2_image.specs.declared.prepared.Prepared.{Prepared}
 
@@ -58,11 +58,11 @@ module _ {S F : Type 0} where
 
     module _ (backing : F → BackingView) where
       -- A part of a call passed a limit at a state that guests cannot tell from the old one. What is pending differs only by more clusters that wait to be freed.
-      abbrev pub IsLimitedUnseen : Pending → ℕ → Qcow2 S F → List (Option Prepared) → Type 0
-      IsLimitedUnseen p end old out = IsLimitedIn (λ mid. UnseenStep view backing p (pending_with_listed p old mid) old mid out) end old
+      abbrev pub IsLimitedInternal : Pending → ℕ → Qcow2 S F → List (Option Prepared) → Type 0
+      IsLimitedInternal p end old out = IsLimitedIn (λ mid. InternalStep view backing p (pending_with_listed p old mid) old mid out) end old
 
       abbrev pub IsLimitedTaking : Pending → ℕ → Qcow2 S F → List (Option Prepared) → Type 0
-      IsLimitedTaking p end old out = IsLimitedIn (λ mid. UnseenFillingStep view backing p (pending_with_listed p old mid) old mid out) end old
+      IsLimitedTaking p end old out = IsLimitedIn (λ mid. InternalFillingStep view backing p (pending_with_listed p old mid) old mid out) end old
 
       -- A call passed a limit at a sound state that it led to, with at most this many mapping slots. It is the same image, with the same cluster size and the same surplus of each cluster, and no cluster was leaked. The mapping of every guest cluster that is given no byte is the same.
       pub record IsLimitedWith (most : ℕ) (given : List GivenBytes) (end : ℕ) (old : Qcow2 S F) (out : List (Option Prepared)) : Type 0 where

@@ -16,7 +16,7 @@ use Rattle.qcow2_disk.specs.Disk.{disk}
 use Rattle.qcow2_laws.specs.SafeSteps.{SafeStep}
 use Rattle.qcow2_disk.specs.Stops.{SafeThroughout}
 use Rattle.qcow2_laws.specs.Tops.{with_places, with_l1_at}
-use Rattle.qcow2_laws.specs.Unseen.{used_by_guests, SameUsedBytes}
+use Rattle.qcow2_laws.specs.Internal.{used_by_guests, SameUsedBytes}
 use Rattle.qcow2_alloc.specs.Allocation.{run_at}
 use Rattle.qcow2_alloc.specs.MetadataCaches.{order_of}
 use Rattle.qcow2_alloc.specs.ClustersToFree.{metadata_entry}
@@ -25,11 +25,11 @@ use Rattle.qcow2_alloc.specs.declared.error.ImageError.{ImageError}
 use Rattle.qcow2_alloc.specs.ImageFile.{view_in, contents_in, known_in, state_in, nothing_given, InterruptedFileStep}
 use Rattle.qcow2_image.specs.declared.image.Qcow2.{Qcow2}
 use Rattle.qcow2_image.specs.declared.prepared.Prepared.{Prepared}
-use Rattle.qcow2_image.specs.CallParts.{RefusedCall, UnseenCall}
+use Rattle.qcow2_image.specs.CallParts.{RefusedCall, InternalCall}
 use Rattle.qcow2_image.specs.Image.{leaked_in}
 use Rattle.qcow2_image.specs.ImageInvariant.{below_of, ImageInvariant}
 use Rattle.qcow2_image.specs.MovedTables.{MovesTables, CoversStay}
-use Rattle.qcow2_image.specs.UnseenSteps.{UnseenStep, ListGrows, pending_with_listed}
+use Rattle.qcow2_image.specs.InternalSteps.{InternalStep, ListGrows, pending_with_listed}
 
 -- The number of clusters that a table needs.
 abbrev pub clusters_of : EntryTableView → ℕ
@@ -72,7 +72,7 @@ module _ {S F : Type 0} where
 
     module _ (backing : F → BackingView) where
       -- Guests don't see the step, though the L1 table may move. The image is sound again, and a stop at any moment is as safe as before.
-      pub record UnseenMove (p p' : Pending) (old new : Qcow2 S F) (out : List (Option Prepared)) : Type 0 where
+      pub record InternalMove (p p' : Pending) (old new : Qcow2 S F) (out : List (Option Prepared)) : Type 0 where
         pub sound : ImageInvariant view backing p' new out
         pub safe_step : SafeStep (state_in view old.file p) (state_in view new.file p') nothing_given []
         pub since : SafeThroughout (view_in view old.file) (view_in view new.file) (known_in view old.file) nothing_given []
@@ -94,17 +94,17 @@ module _ {S F : Type 0} where
 
       -- What a refused part leaves: a sound image with more clusters to free at most, or one that is about to fail.
       abbrev pub RefusedMove : Pending → Qcow2 S F → Qcow2 S F → List (Option Prepared) → ImageError → Type 0
-      RefusedMove p old new out e = UnseenStep view backing p (pending_with_listed p old new) old new out ⊎ InterruptedMove old new e
+      RefusedMove p old new out e = InternalStep view backing p (pending_with_listed p old new) old new out ⊎ InterruptedMove old new e
 
       -- A longer table is written to its clusters.
       abbrev pub PlacesTable : Pending → Qcow2 S F → Qcow2 S F → List (Option Prepared) → EntryTableView → ℕ → Result (Unit {0}) ImageError → Type 0
-      PlacesTable p old new out t cluster (Ok _) = UnseenStep view backing p p old new out × StandsWhole new t cluster
-      PlacesTable p old new out t cluster (Err e) = UnseenStep view backing p p old new out
+      PlacesTable p old new out t cluster (Ok _) = InternalStep view backing p p old new out × StandsWhole new t cluster
+      PlacesTable p old new out t cluster (Err e) = InternalStep view backing p p old new out
 
       -- The header points to the longer table instead of the old one. If this is refused, its clusters are still those of a new table, or a fault ended the part.
       abbrev pub NamesTable : Pending → Qcow2 S F → Qcow2 S F → List (Option Prepared) → EntryTableView → ℕ → Result (Unit {0}) ImageError → Type 0
-      NamesTable p old new out t cluster (Ok _) = UnseenMove (with_table p t cluster) (without_l1 p old.file.header.fields) old new out
-      NamesTable p old new out t cluster (Err e) = UnseenStep view backing (with_table p t cluster) (with_table p t cluster) old new out ⊎ InterruptedMove old new e
+      NamesTable p old new out t cluster (Ok _) = InternalMove (with_table p t cluster) (without_l1 p old.file.header.fields) old new out
+      NamesTable p old new out t cluster (Err e) = InternalStep view backing (with_table p t cluster) (with_table p t cluster) old new out ⊎ InterruptedMove old new e
 
       -- The header points to a longer table in clusters that were allocated for it. The list of clusters to free may change too.
       abbrev pub NamesTaken : Pending → Qcow2 S F → Qcow2 S F → List (Option Prepared) → EntryTableView → ClustersToFreeEntry → Result (Unit {0}) ImageError → Type 0
@@ -113,15 +113,15 @@ module _ {S F : Type 0} where
 
       -- A longer table gets its clusters, and replaces the L1 table.
       abbrev pub TakesTable : Pending → Qcow2 S F → Qcow2 S F → List (Option Prepared) → Result (Unit {0}) ImageError → Type 0
-      TakesTable p old new out (Ok _) = UnseenMove p (without_l1 (pending_with_listed p old new) old.file.header.fields) old new out
+      TakesTable p old new out (Ok _) = InternalMove p (without_l1 (pending_with_listed p old new) old.file.header.fields) old new out
       TakesTable p old new out (Err e) = RefusedMove p old new out e
 
       -- A longer table replaces the L1 table, and the clusters of the old one wait to be freed.
       abbrev pub Lengthens : Pending → Qcow2 S F → Qcow2 S F → List (Option Prepared) → Result (Unit {0}) ImageError → Type 0
-      Lengthens p old new out (Ok _) = UnseenMove p (pending_with_listed p old new) old new out
+      Lengthens p old new out (Ok _) = InternalMove p (pending_with_listed p old new) old new out
       Lengthens p old new out (Err e) = RefusedMove p old new out e
 
       -- A part of a call makes sure that there is an L1 entry. Guests don't see it.
       abbrev pub MakesEntry : Qcow2 S F → Qcow2 S F → List (Option Prepared) → Result (Unit {0}) ImageError → Type 0
-      MakesEntry old new out (Ok _) = UnseenCall view backing old new out
+      MakesEntry old new out (Ok _) = InternalCall view backing old new out
       MakesEntry old new out (Err e) = RefusedCall view backing old new out e

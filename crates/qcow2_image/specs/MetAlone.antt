@@ -21,7 +21,7 @@ use Rattle.qcow2_image.specs.declared.prepared.Prepared.{Prepared}
 use Rattle.qcow2_image.specs.Found.{l1_index_of}
 use Rattle.qcow2_image.specs.Prepared.{offset_of, table_of}
 use Rattle.qcow2_image.specs.Refusals.{IsFaultOrLimit}
-use Rattle.qcow2_image.specs.UnseenSteps.{is_announced}
+use Rattle.qcow2_image.specs.InternalSteps.{is_announced}
 
 -- Why a call that allocates is refused while no mapping is prepared: a fault; a limit; 7, if bytes of a compressed cluster would have to be copied; or 20, if an L1 entry past 64 bits would have to be written.
 abbrev pub MayFailAlone : (compressed far : Type 0) → ImageError → Type 0

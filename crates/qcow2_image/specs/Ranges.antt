@@ -18,7 +18,7 @@ use Rattle.qcow2_laws.specs.Changes.{with_new_data}
 use Rattle.qcow2_laws.specs.CrashInvariant.{Pending, SameCovers}
 use Rattle.qcow2_disk.specs.Found.{rest_of_table}
 use Rattle.qcow2_disk.specs.Mappings.{IsPrepared}
-use Rattle.qcow2_laws.specs.Unseen.{KeepsFormat}
+use Rattle.qcow2_laws.specs.Internal.{KeepsFormat}
 use Rattle.qcow2_alloc.specs.ImageFile.{contents_in, known_in}
 use Rattle.qcow2_alloc.specs.Limits.{IsPastLimits}
 use Rattle.qcow2_alloc.specs.MetadataCaches.{AreAllWritten}
@@ -29,9 +29,9 @@ use Rattle.qcow2_image.specs.declared.image.Qcow2.{Qcow2}
 use Rattle.qcow2_image.specs.declared.prepared.Prepared.{Prepared}
 use Rattle.qcow2_image.specs.declared.prepared.Share.{Share}
 use Rattle.qcow2_image.specs.declared.prepared.Share.TheVariants.{New}
-use Rattle.qcow2_image.specs.CallParts.{IsReadied, RefusedCall, UnseenCall}
+use Rattle.qcow2_image.specs.CallParts.{IsReadied, RefusedCall, InternalCall}
 use Rattle.qcow2_image.specs.ImageInvariant.{run_of, of_data, of_tables, to_free, new_data_in, new_data_by, over_all, is_entered, cluster_of, place_of, listed_run, disk_of, pending_in, abstract_of, meaning, IsShareAt, ImageInvariant}
-use Rattle.qcow2_image.specs.UnseenSteps.{IsGained, RefusedFillingStep, UnseenFillingStep, pending_with_listed}
+use Rattle.qcow2_image.specs.InternalSteps.{IsGained, RefusedFillingStep, InternalFillingStep, pending_with_listed}
 
 module _ (h : HeaderFields) where
   -- A mapping of the rest of the first cluster of a range, in this L2 table.
@@ -109,16 +109,16 @@ module _ {S F : Type 0} (view : S → StorageView) where
   module _ (backing : F → BackingView) where
     -- Exactly this cluster is allocated for data; or it is past a limit, or in use.
     abbrev pub TakesDataAt : Pending → Qcow2 S F → Qcow2 S F → List (Option Prepared) → ℕ → Result (Option ClustersToFreeEntry) ImageError → Type 0
-    TakesDataAt p old new out cluster (Ok (Some n)) = (n.first_cluster ≡ cluster) × (n.count ≡ 1) × (n.kind ≡ Kind.Data) × UnseenFillingStep view backing p (with_new_data (pending_with_listed p old new) (run_of n)) old new out
+    TakesDataAt p old new out cluster (Ok (Some n)) = (n.first_cluster ≡ cluster) × (n.count ≡ 1) × (n.kind ≡ Kind.Data) × InternalFillingStep view backing p (with_new_data (pending_with_listed p old new) (run_of n)) old new out
     TakesDataAt p old new out cluster (Ok None) =
-        UnseenFillingStep view backing p (pending_with_listed p old new) old new out × (IsPastLimits old.file.header.fields cluster ⊎ (count new.file.header.fields (known_in view new.file) cluster ≢ 0))
+        InternalFillingStep view backing p (pending_with_listed p old new) old new out × (IsPastLimits old.file.header.fields cluster ⊎ (count new.file.header.fields (known_in view new.file) cluster ≢ 0))
     TakesDataAt p old new out cluster (Err e) = RefusedFillingStep view backing p old new out e
 
     -- Exactly this cluster is allocated, and filled with what the guest sees, except where the caller promised to overwrite; or it is past a limit, or in use.
     abbrev pub GainsAt : Pending → Qcow2 S F → Qcow2 S F → List (Option Prepared) → ℕ → ℕ → Bool → L2Mapping → ℕ → Result (Option ClustersToFreeEntry) ImageError → Type 0
     GainsAt p old new out offset n overwrite mapping cluster (Ok (Some run)) = (run.first_cluster ≡ cluster) × IsGained view backing p old new out offset n overwrite mapping run
     GainsAt p old new out offset n overwrite mapping cluster (Ok None) =
-        UnseenFillingStep view backing p (pending_with_listed p old new) old new out × (IsPastLimits old.file.header.fields cluster ⊎ (count new.file.header.fields (known_in view new.file) cluster ≢ 0))
+        InternalFillingStep view backing p (pending_with_listed p old new) old new out × (IsPastLimits old.file.header.fields cluster ⊎ (count new.file.header.fields (known_in view new.file) cluster ≢ 0))
     GainsAt p old new out offset n overwrite mapping cluster (Err e) = RefusedFillingStep view backing p old new out e
 
     -- The share of a guest cluster at a host offset: a new cluster that no mapping has yet.
@@ -132,14 +132,14 @@ module _ {S F : Type 0} (view : S → StorageView) where
     abbrev pub SharesAt : Pending → Qcow2 S F → Qcow2 S F → List (Option Prepared) → ℕ → ℕ → Bool → L2Mapping → ℕ → Result (Option Share) ImageError → Type 0
     SharesAt p old new out offset n overwrite mapping host (Ok (Some share)) = IsSharedAt p old new out offset n overwrite mapping host share
     SharesAt p old new out offset n overwrite mapping host (Ok None) =
-        UnseenFillingStep view backing p (pending_with_listed p old new) old new out
+        InternalFillingStep view backing p (pending_with_listed p old new) old new out
         × (IsPastLimits old.file.header.fields (host / cluster_size old.file.header.fields) ⊎ (count new.file.header.fields (known_in view new.file) (host / cluster_size old.file.header.fields) ≢ 0))
     SharesAt p old new out offset n overwrite mapping host (Err e) = RefusedFillingStep view backing p old new out e
 
     -- There is a share for the guest cluster behind a mapping. If it is not in place, its cluster has what the guest sees, except where the caller promised to overwrite.
     pub record StandsBehind (old new : Qcow2 S F) (out : List (Option Prepared)) (n : ℕ) (overwrite : Bool) (p : Prepared) (share : Share) : Type 0 where
       pub pending : Pending
-      pub image_step : UnseenFillingStep view backing (pending_in view backing old out) pending old new out
+      pub image_step : InternalFillingStep view backing (pending_in view backing old out) pending old new out
       pub new_data : (c : ℕ) → pending.new_data c ≡ over_all new_data_by out c + new_data_in (share ∷ []) c
       pub new_tables : (c : ℕ) → pending.new_tables c ≡ 0
       pub old_tables : (c : ℕ) → pending.old_tables c ≡ to_free of_tables new.file.free_list c
@@ -152,7 +152,7 @@ module _ {S F : Type 0} (view : S → StorageView) where
     -- Such a share is found; or there can be none, and nothing changed; or the part was refused.
     abbrev pub FindsBehind : Qcow2 S F → Qcow2 S F → List (Option Prepared) → (n : ℕ) → Bool → Prepared → Result (Option Share) ImageError → Type 0
     FindsBehind old new out n overwrite p (Ok (Some share)) = StandsBehind old new out n overwrite p share
-    FindsBehind old new out n overwrite p (Ok None) = UnseenCall view backing old new out × Ends new p
+    FindsBehind old new out n overwrite p (Ok None) = InternalCall view backing old new out × Ends new p
     FindsBehind old new out n overwrite p (Err e) = RefusedCall view backing old new out e
 
     -- A prepared mapping was extended in its slot. Everything in it that is not copied data is private.
@@ -168,7 +168,7 @@ module _ {S F : Type 0} (view : S → StorageView) where
     -- A mapping was extended by the next cluster; or there can be none, and nothing changed; or the part was refused.
     abbrev pub GoesNext : Qcow2 S F → Qcow2 S F → List (Option Prepared) → (k n : ℕ) → Bool → Prepared → Prepared → Result Bool ImageError → Type 0
     GoesNext old new out k n overwrite p q (Ok true) = IsExtended old new out k n overwrite p q
-    GoesNext old new out k n overwrite p q (Ok false) = UnseenCall view backing old new out × Ends new p
+    GoesNext old new out k n overwrite p q (Ok false) = InternalCall view backing old new out × Ends new p
     GoesNext old new out k n overwrite p q (Err e) = RefusedCall view backing old new out e
 
     -- A range was prepared up to some point, and then a part was refused.

@@ -18,7 +18,7 @@ use Rattle.qcow2_alloc.specs.Limits.{IsFaultOr}
 use Rattle.qcow2_alloc.specs.declared.error.ImageError.{ImageError}
 use Rattle.qcow2_alloc.specs.declared.error.ImageError.TheVariants as I
 use Rattle.qcow2_image.specs.Backings.{HasPinnedMapping}
-use Rattle.qcow2_image.specs.CallParts.{UnseenCall}
+use Rattle.qcow2_image.specs.CallParts.{InternalCall}
 use Rattle.qcow2_image.specs.Calls.{refusal_of}
 use Rattle.qcow2_image.specs.Clearing.{ClearsImageCovers, RefusesUngiven, given_bytes_between, setting_of}
 use Rattle.qcow2_image.specs.declared.discarding.ClearMode.TheVariants.{Uncovered}
@@ -201,4 +201,4 @@ module _ {S F : Type 0} (view : S → StorageView) (backing : F → BackingView)
 
   abbrev pub WritesSize : Qcow2 S F → Qcow2 S F → List (Option Prepared) → ℕ → Result (Unit {0}) ImageError → Type 0
   WritesSize old new out size (Ok _) = SetsSize size old new out
-  WritesSize old new out size (Err e) = UnseenCall view backing old new out ⊎ MayStand old new out size e
+  WritesSize old new out size (Err e) = InternalCall view backing old new out ⊎ MayStand old new out size e

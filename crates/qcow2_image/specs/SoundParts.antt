@@ -14,7 +14,7 @@ use Rattle.qcow2_image.specs.Backings.{HasPinnedMapping}
 use Rattle.qcow2_image.specs.CallParts.{FindsTable, PreparesRange}
 use Rattle.qcow2_image.specs.Image.{size_of}
 use Rattle.qcow2_image.specs.L1Entries.{HasNearEntry, HasOwnTable, NeedsOverflowingL1Entry}
-use Rattle.qcow2_image.specs.Limits.{GoesTo, IfLimit, IsLimited, IsLimitedAmong, IsLimitedTaking, IsLimitedUnseen}
+use Rattle.qcow2_image.specs.Limits.{GoesTo, IfLimit, IsLimited, IsLimitedAmong, IsLimitedTaking, IsLimitedInternal}
 use Rattle.qcow2_image.specs.ListedClusters.{ListsNoMore}
 use Rattle.qcow2_image.specs.MetAlone.{CopiesCompressed, IsCopiedCompressed, MayFailAlone, IsMetGrowing, MayFailAllocating}
 use Rattle.qcow2_image.specs.NewTables.{IsFaultOrLacksTable}
@@ -46,21 +46,21 @@ module _ {S F : Type 0} (view : S → StorageView) (backing : F → BackingView)
   pub record OwnsSoundly (p : Pending) (offset : ℕ) (old new : Qcow2 S F) (out : List (Option Prepared)) (result : Result ℕ ImageError) (Does : Type 0) : Type 0 where
     pub does : Does
     pub met : (HasOwnTable old offset ⊎ HasNearEntry old (l1_index_of old.file.header.fields offset)) → IfErr result (MayFailAllocating (HasPinnedMapping out) ⊥ ⊥ ⊥)
-    pub limit : (HasOwnTable old offset ⊎ HasNearEntry old (l1_index_of old.file.header.fields offset)) → IfLimit result (IsLimitedUnseen view backing p 1 old out)
+    pub limit : (HasOwnTable old offset ⊎ HasNearEntry old (l1_index_of old.file.header.fields offset)) → IfLimit result (IsLimitedInternal view backing p 1 old out)
     pub lacks : IfErr result (IsFaultOrLacksTable view new offset)
 
   -- The L2 table is loaded into the cache, as `Does` says. If no mapping is prepared, a refusal is a fault, or the offset has no table of its own.
   pub record EnsuresSoundly (p : Pending) (offset : ℕ) (old new : Qcow2 S F) (out : List (Option Prepared)) (result : Result ℕ ImageError) (Does : Type 0) : Type 0 where
     pub ready : Does
     pub met : (HasOwnTable old offset ⊎ HasNearEntry old (l1_index_of old.file.header.fields offset)) → IfErr result (MayFailAllocating (HasPinnedMapping out) ⊥ ⊥ ⊥)
-    pub limit : (HasOwnTable old offset ⊎ HasNearEntry old (l1_index_of old.file.header.fields offset)) → IfLimit result (IsLimitedUnseen view backing p 1 old out)
+    pub limit : (HasOwnTable old offset ⊎ HasNearEntry old (l1_index_of old.file.header.fields offset)) → IfLimit result (IsLimitedInternal view backing p 1 old out)
     pub lacks : (HasPinnedMapping out → ⊥) → IfErr result (IsFaultOrLacksTable view new offset)
 
   -- An L1 entry that may be written gets an L2 table, as `Does` says. A refusal has a cause.
   pub record EntersSoundly (p : Pending) (index : ℕ) (old : Qcow2 S F) (out : List (Option Prepared)) (result : Result ℕ ImageError) (Does : Type 0) : Type 0 where
     pub does : Does
     pub met : HasNearEntry old index → IfErr result (MayFailAllocating (HasPinnedMapping out) ⊥ ⊥ ⊥)
-    pub limit : HasNearEntry old index → IfLimit result (IsLimitedUnseen view backing p 1 old out)
+    pub limit : HasNearEntry old index → IfLimit result (IsLimitedInternal view backing p 1 old out)
 
   -- The L1 table is extended to cover an offset, as `Does` says. A refusal is a fault or a limit.
   pub record EntrySoundly (offset : ℕ) (old new : Qcow2 S F) (out : List (Option Prepared)) (result : Result (Unit {0}) ImageError) (Does : Type 0) : Type 0 where

@@ -7,8 +7,8 @@ ghost use Rattle.qcow2_image.specs.MetAlone.{HasUnannounced, IsCopiedCompressed,
 ghost use Rattle.qcow2_laws.specs.CrashInvariant.{Pending};
 ghost use Rattle.qcow2_alloc.specs.ImageFile.{known_in};
 ghost use Rattle.qcow2_image.specs.CallParts.{WritesBytes};
-ghost use Rattle.qcow2_image.specs.UnseenSteps.{UnseenFillingStep, HoldsAll, IsCopied, IsFilled, IsKeptAlone};
-ghost use Rattle.qcow2_image.specs.UnseenSteps.{IsInHeldCluster, is_announced};
+ghost use Rattle.qcow2_image.specs.InternalSteps.{InternalFillingStep, HoldsAll, IsCopied, IsFilled, IsKeptAlone};
+ghost use Rattle.qcow2_image.specs.InternalSteps.{IsInHeldCluster, is_announced};
 ghost use Rattle.qcow2_image.specs.CopyRange.{HasByte};
 ghost use Rattle.qcow2_image.specs.ImageInvariant.{ImageInvariant, new_data_by, over_all};
 ghost use Rattle.qcow2_image.specs.Found.{IsMappedAs};
@@ -45,7 +45,7 @@ impl<S: Storage, F: WrappedFormat<S>> Qcow2<S, F> {
             × IsCopiedCompressed self.old.file.header.fields old.now offset length overwrite)) }
         ensures image_step { (p : Pending) (out : List (Option Prepared))
             → ImageInvariant S.view F.backing p self.old out → HoldsAll S.view F.backing p out → 0 < p.new_data cluster
-            → over_all new_data_by out cluster ≡ 0 → UnseenFillingStep S.view F.backing p p self.old self.new out }
+            → over_all new_data_by out cluster ≡ 0 → InternalFillingStep S.view F.backing p p self.old self.new out }
         ensures allocator { self.new.allocator ≡ self.old.allocator }
         ensures table { self.new.l1_table ≡ self.old.l1_table }
         ensures list { self.new.file.free_list ≡ self.old.file.free_list }
@@ -84,7 +84,7 @@ impl<S: Storage, F: WrappedFormat<S>> Qcow2<S, F> {
         ensures image_step { (p : Pending) (out : List (Option Prepared))
             → ImageInvariant S.view F.backing p self.old out → HoldsAll S.view F.backing p out
             → IsKeptAlone S.view F.backing self.old out offset host
-            → UnseenFillingStep S.view F.backing p p self.old self.new out }
+            → InternalFillingStep S.view F.backing p p self.old self.new out }
         ensures fills { (p : Pending) (out : List (Option Prepared)) → ImageInvariant S.view F.backing p self.old out
             → cover self.old.file.header.fields (known_in S.view self.old.file)
             (offset / cluster_size self.old.file.header.fields) ≡ L2Mapping.Zero (Some (host, true))
@@ -128,7 +128,7 @@ impl<S: Storage, F: WrappedFormat<S>> Qcow2<S, F> {
         ensures image_step { (p : Pending) (out : List (Option Prepared)) (cluster : ℕ)
             → ImageInvariant S.view F.backing p self.old out → HoldsAll S.view F.backing p out
             → IsInHeldCluster S.view F.backing p self.old out cluster at length
-            → UnseenFillingStep S.view F.backing p p self.old self.new out }
+            → InternalFillingStep S.view F.backing p p self.old self.new out }
         ensures allocator { self.new.allocator ≡ self.old.allocator }
         ensures table { self.new.l1_table ≡ self.old.l1_table }
         ensures list { self.new.file.free_list ≡ self.old.file.free_list }

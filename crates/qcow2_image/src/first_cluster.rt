@@ -27,8 +27,8 @@ ghost use Rattle.qcow2_image.specs.declared.mapping.Place.TheVariants.{Image};
 ghost use Rattle.qcow2_image.specs.CallParts.{Readies};
 ghost use Rattle.qcow2_image.specs.ImageInvariant.{ImageInvariant, pending_in};
 ghost use Rattle.qcow2_image.specs.Ranges.{BeginsInKept, HasRoomForRange, IsFirst};
-ghost use Rattle.qcow2_image.specs.UnseenSteps.{Gains, HoldsAll, HoldsTable, ListGrows, Pins, SameHeld, TakesData};
-ghost use Rattle.qcow2_image.specs.UnseenSteps.{UnseenStep};
+ghost use Rattle.qcow2_image.specs.InternalSteps.{Gains, HoldsAll, HoldsTable, ListGrows, Pins, SameHeld, TakesData};
+ghost use Rattle.qcow2_image.specs.InternalSteps.{InternalStep};
 
 use crate::mappings::{copied_offset, preallocated_offset};
 use crate::prepared::Share;
@@ -248,7 +248,7 @@ impl<S: Storage, F: WrappedFormat<S>> Qcow2<S, F> {
         ensures table { self.new.l1_table ≡ self.old.l1_table }
         ensures list { self.new.file.free_list ≡ self.old.file.free_list }
         ensures keeps { (p : Pending) (out : List (Option Prepared)) → ImageInvariant S.view F.backing p self.old out
-            → UnseenStep S.view F.backing p p self.old self.new out }
+            → InternalStep S.view F.backing p p self.old self.new out }
         ensures contents { (p : Pending) (out : List (Option Prepared)) → ImageInvariant S.view F.backing p self.old out
             → SameHeld S.view F.backing p self.old self.new }
         ensures cached { OnOk result (IsSome (l2_at self.new.file.caches table)) }

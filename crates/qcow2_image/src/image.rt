@@ -88,7 +88,7 @@ impl<S: Storage, F: WrappedFormat<S>> Qcow2<S, F> {
     ghost use Rattle.qcow2_alloc.specs.ImageError.{IsFault, IsOfTables};
     ghost use Rattle.qcow2_image.specs.Calls.{FlushesImage};
     ghost use Rattle.qcow2_alloc.specs.ImageFile.{contents_in, known_in, view_in};
-    ghost use Rattle.qcow2_image.specs.UnseenSteps.{UnseenStep, FreesListed};
+    ghost use Rattle.qcow2_image.specs.InternalSteps.{InternalStep, FreesListed};
     ghost use Rattle.qcow2_alloc.specs.FreeList.{with_listed};
     ghost use Rattle.qcow2_alloc.specs.ImageStorage.{storage_of, SameNotes};
     ghost use Rattle.qcow2_image.specs.Refusals.{unusable, IsMet, MarksFailed, MarksRefused};
@@ -512,7 +512,7 @@ impl<S: Storage, F: WrappedFormat<S>> Qcow2<S, F> {
         ensures faults { SameFaults S.view F.backing self.old self.new }
         ensures storage { storage_of self.new.file.storage ≡ storage_of self.old.file.storage }
         ensures keeps { (p : Pending) (out : List (Option Prepared)) → ImageInvariant S.view F.backing p self.old out
-            → UnseenStep S.view F.backing p p self.old self.new out }
+            → InternalStep S.view F.backing p p self.old self.new out }
         ensures known { (p : Pending) (out : List (Option Prepared)) → ImageInvariant S.view F.backing p self.old out
             → known_in S.view self.new.file ≡ known_in S.view self.old.file }
         ensures rest { self.new ≡ record self.old {

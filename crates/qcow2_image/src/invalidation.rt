@@ -16,7 +16,7 @@ ghost use Rattle.qcow2_image.specs.Invalidated.{InvalidatesSoundly, Invalidating
 ghost use Rattle.qcow2_image.specs.Invalidated.{ReadsAnew};
 ghost use Rattle.qcow2_image.specs.Readable.{IsReasonAgainstTables};
 ghost use Rattle.qcow2_image.specs.Refusals.{IsMet};
-ghost use Rattle.qcow2_image.specs.UnseenSteps.{UnseenStep};
+ghost use Rattle.qcow2_image.specs.InternalSteps.{InternalStep};
 ghost use Rattle.qcow2_image.specs.declared.prepared.Prepared.{Prepared};
 
 use crate::{ImageError, Qcow2};
@@ -76,7 +76,7 @@ impl<S: Storage, F: WrappedFormat<S>> Qcow2<S, F> {
         ensures dropped { OnOk result (HoldsNoTable self.new) }
         ensures read { (view_in S.view self.old.file).is_honest → OnOk result (IsAsStored S.view F.backing self.new) }
         ensures keeps { IsAtRest S.view self.old → (p : Pending) (out : List (Option Prepared))
-            → ImageInvariant S.view F.backing p self.old out → UnseenStep S.view F.backing p p self.old self.new out }
+            → ImageInvariant S.view F.backing p self.old out → InternalStep S.view F.backing p p self.old self.new out }
     {
         self.drop_cached()?;
         let places = self.read_places()?;
@@ -92,7 +92,7 @@ impl<S: Storage, F: WrappedFormat<S>> Qcow2<S, F> {
         ensures why { IfErr result (IsReasonAgainstReading S.view self.old self.new) }
         ensures dropped { OnOk result (HoldsNoTable self.new) }
         ensures keeps { IsAtRest S.view self.old → (p : Pending) (out : List (Option Prepared))
-            → ImageInvariant S.view F.backing p self.old out → UnseenStep S.view F.backing p p self.old self.new out }
+            → ImageInvariant S.view F.backing p self.old out → InternalStep S.view F.backing p p self.old self.new out }
     {
         let _forgotten = self.file.free_list.take();
         self.file.caches.invalidate_l2()?;
@@ -113,7 +113,7 @@ impl<S: Storage, F: WrappedFormat<S>> Qcow2<S, F> {
         ensures why { (view_in S.view self.old.file).is_honest → IfErr result (IsReasonAgainstPlaces
             self.old.file.header.fields (contents_in S.view self.old.file) (is_writable self.old)) }
         ensures keeps { (p : Pending) (out : List (Option Prepared)) → ImageInvariant S.view F.backing p self.old out
-            → UnseenStep S.view F.backing p p self.old self.new out }
+            → InternalStep S.view F.backing p p self.old self.new out }
     {
         self.file.storage.invalidate_cache()?;
         let writable = self.allocator.is_some();
@@ -140,7 +140,7 @@ impl<S: Storage, F: WrappedFormat<S>> Qcow2<S, F> {
             places.fields (contents_in S.view self.old.file) (is_writable self.old)) }
         ensures keeps { places.fields ≡ self.old.file.header.fields → (p : Pending) (out : List (Option Prepared))
             → ImageInvariant S.view F.backing p self.old out
-            → UnseenStep S.view F.backing p p self.old self.new out }
+            → InternalStep S.view F.backing p p self.old self.new out }
     {
         let named = mem::replace(&mut self.file.header, places);
         let read = self.read_tables();
@@ -163,7 +163,7 @@ impl<S: Storage, F: WrappedFormat<S>> Qcow2<S, F> {
         ensures why { (view_in S.view self.old.file).is_honest → IfErr result (IsReasonAgainstTables
             self.old.file.header.fields (contents_in S.view self.old.file) (is_writable self.old)) }
         ensures keeps { (p : Pending) (out : List (Option Prepared)) → ImageInvariant S.view F.backing p self.old out
-            → UnseenStep S.view F.backing p p self.old self.new out }
+            → InternalStep S.view F.backing p p self.old self.new out }
     {
         let table = Self::load_l1_table(&mut self.file)?;
         let Some(allocator) = &mut self.allocator else {

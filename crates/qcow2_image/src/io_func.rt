@@ -16,7 +16,7 @@ ghost use Rattle.qcow2_image.specs.Found.{AreBytesOf, IsFoundWhole, IsMappedAs, 
 ghost use Rattle.qcow2_image.specs.CallParts.{PutsPart, WritesBytes};
 ghost use Rattle.qcow2_image.specs.HeldMappings.{FitsTables, KeepsHeld};
 ghost use Rattle.qcow2_image.specs.ListedClusters.{ListStays};
-ghost use Rattle.qcow2_image.specs.UnseenSteps.{UnseenStep};
+ghost use Rattle.qcow2_image.specs.InternalSteps.{InternalStep};
 ghost use Rattle.qcow2_image.specs.ImageInvariant.{IsHonestBacking, ImageInvariant, pending_in, backing_bytes, disk_of};
 ghost use Rattle.qcow2_image.specs.ImageInvariant.{abstract_of};
 ghost use Rattle.qcow2_image.specs.declared.mapping.MappingKind.TheVariants.{Eof, Raw};
@@ -108,7 +108,7 @@ impl<S: Storage, F: WrappedFormat<S>> Qcow2<S, F> {
             (IsFoundWhole S.view self.old (mapping.now.offset + at) (further_by at mapping.now.kind)
             (length bytes.old))) }
         ensures keeps { (p : Pending) (out : List (Option Prepared)) → ImageInvariant S.view F.backing p self.old out
-            → UnseenStep S.view F.backing p p self.old self.new out }
+            → InternalStep S.view F.backing p p self.old self.new out }
         ensures outdated { 0 < length bytes.old → (p : Pending) (out : List (Option Prepared))
             → ImageInvariant S.view F.backing p self.old out → result ≡ Err OutdatedMapping
             → ¬ IsFoundWhole S.view self.old (mapping.now.offset + at) (further_by at mapping.now.kind)
@@ -154,7 +154,7 @@ impl<S: Storage, F: WrappedFormat<S>> Qcow2<S, F> {
         ensures met { (p : Pending) (out : List (Option Prepared)) → ImageInvariant S.view F.backing p self.old out
             → IfErr result (IsMetLookingAgain (IsCacheHeld self.old out)) }
         ensures keeps { (p : Pending) (out : List (Option Prepared)) → ImageInvariant S.view F.backing p self.old out
-            → UnseenStep S.view F.backing p p self.old self.new out }
+            → InternalStep S.view F.backing p p self.old self.new out }
         ensures outdated { (p : Pending) (out : List (Option Prepared)) → ImageInvariant S.view F.backing p self.old out
             → result ≡ Err OutdatedMapping → ¬ IsFoundWhole S.view self.old offset wanted.now length }
         ensures mapped { 0 < length → (p : Pending) (out : List (Option Prepared))
@@ -185,7 +185,7 @@ impl<S: Storage, F: WrappedFormat<S>> Qcow2<S, F> {
         ensures allocator { self.new.allocator ≡ self.old.allocator }
         ensures table { self.new.l1_table ≡ self.old.l1_table }
         ensures keeps { (p : Pending) (out : List (Option Prepared)) → ImageInvariant S.view F.backing p self.old out
-            → UnseenStep S.view F.backing p p self.old self.new out }
+            → InternalStep S.view F.backing p p self.old self.new out }
         ensures outdated { result ≡ Err OutdatedMapping → (kind.now ≡ Eof) × (self.new ≡ self.old) }
         ensures shows { (p : Pending) (out : List (Option Prepared)) → ImageInvariant S.view F.backing p self.old out
             → IsMappedAs S.view self.old offset kind.now (length bytes.old)
@@ -221,7 +221,7 @@ impl<S: Storage, F: WrappedFormat<S>> Qcow2<S, F> {
         ensures allocator { self.new.allocator ≡ self.old.allocator }
         ensures table { self.new.l1_table ≡ self.old.l1_table }
         ensures keeps { (p : Pending) (out : List (Option Prepared)) → ImageInvariant S.view F.backing p self.old out
-            → UnseenStep S.view F.backing p p self.old self.new out }
+            → InternalStep S.view F.backing p p self.old self.new out }
         ensures reads { IsHonestBacking S.view F.backing self.old.backing
             → IfOk result (λ done. (length bytes.new ≡ length bytes.old)
             × AreBytesOf (backing_bytes S.view F.backing self.old.backing) offset bytes.new) }
@@ -297,7 +297,7 @@ impl<S: Storage, F: WrappedFormat<S>> Qcow2<S, F> {
             → IfErr result (λ e. IsMetLooking (IsCacheHeld self.old out) e ⊎ (e ≡ Compressed)) }
         ensures answer { IfOk result (λ at. at ≡ Some offset) }
         ensures keeps { (p : Pending) (out : List (Option Prepared)) → ImageInvariant S.view F.backing p self.old out
-            → UnseenStep S.view F.backing p p self.old self.new out }
+            → InternalStep S.view F.backing p p self.old self.new out }
         ensures tells { (p : Pending) (out : List (Option Prepared)) → ImageInvariant S.view F.backing p self.old out
             → TellsWhether (known_in S.view self.old.file) offset result }
     {
@@ -418,7 +418,7 @@ impl<S: Storage, F: WrappedFormat<S>> Qcow2<S, F> {
             → IfErr result (λ e. (table_of prepared.now ≡ None) × IsMetLookingAgain (IsCacheHeld self.old out) e) }
         ensures list { self.new.file.free_list ≡ self.old.file.free_list }
         ensures keeps { (p : Pending) (out : List (Option Prepared)) → ImageInvariant S.view F.backing p self.old out
-            → UnseenStep S.view F.backing p p self.old self.new out }
+            → InternalStep S.view F.backing p p self.old self.new out }
         ensures outdated { 0 < length → (p : Pending) (out : List (Option Prepared))
             → ImageInvariant S.view F.backing p self.old out → result ≡ Err OutdatedMapping
             → ¬ IsFoundWhole S.view self.old (prepared.now.guest + at) (Raw Image host true) length }

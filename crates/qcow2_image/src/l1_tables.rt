@@ -1,5 +1,5 @@
 //! Replacing the L1 table by a longer one.
-ghost use Rattle.qcow2_image.specs.Limits.{IfLimit, IsLimitedUnseen, entries_reaching};
+ghost use Rattle.qcow2_image.specs.Limits.{IfLimit, IsLimitedInternal, entries_reaching};
 ghost use Rattle.qcow2_image.specs.L1Entries.{EndsBefore, IsPlacedNear};
 ghost use Rattle.qcow2_image.specs.SoundParts.{EntrySoundly};
 ghost use Rattle.qcow2_image.specs.ImageSteps.{ImageFails, ImageStep};
@@ -20,7 +20,7 @@ ghost use Rattle.qcow2_image.specs.LongerTables.{PlacesTable, NamesTable, NamesT
 ghost use Rattle.qcow2_image.specs.LongerTables.{MakesEntry};
 ghost use Rattle.qcow2_alloc.specs.declared.error.ImageError.TheVariants.{Limit};
 ghost use Rattle.qcow2_image.specs.Refusals.{IsFaultOrLimit, IsMet};
-ghost use Rattle.qcow2_image.specs.UnseenSteps.{ListGrows};
+ghost use Rattle.qcow2_image.specs.InternalSteps.{ListGrows};
 ghost use Rattle.qcow2_image.specs.Faults.{CountsImageFaults, IsNotOfStorage};
 
 use crate::Qcow2;
@@ -66,7 +66,7 @@ impl<S: Storage, F: WrappedFormat<S>> Qcow2<S, F> {
         ensures cause { IsTrue (is_writable self.old) → IfErr result IsMet }
         ensures limit { (p : Pending) (out : List (Option Prepared)) → ImageInvariant S.view F.backing p self.old out
             → (offset : ℕ) → index ≡ l1_index_of self.old.file.header.fields offset
-            → IfLimit result (IsLimitedUnseen S.view F.backing p (offset + 1) self.old out) }
+            → IfLimit result (IsLimitedInternal S.view F.backing p (offset + 1) self.old out) }
         ensures fault { IsTrue (is_writable self.old) → (p : Pending) (out : List (Option Prepared))
             → ImageInvariant S.view F.backing p self.old out → IfErr result IsFaultOrLimit }
         ensures lengthens { (p : Pending) (out : List (Option Prepared))
@@ -120,7 +120,7 @@ impl<S: Storage, F: WrappedFormat<S>> Qcow2<S, F> {
         ensures cause { IsTrue (is_writable self.old) → IfErr result IsMet }
         ensures limit { (p : Pending) (out : List (Option Prepared)) → ImageInvariant S.view F.backing p self.old out
             → IsLongerL1 self.old table → (offset : ℕ) → entry_count table ≡ entries_reaching offset self.old
-            → IfLimit result (IsLimitedUnseen S.view F.backing p (offset + 1) self.old out) }
+            → IfLimit result (IsLimitedInternal S.view F.backing p (offset + 1) self.old out) }
         ensures fault { IsTrue (is_writable self.old) → (p : Pending) (out : List (Option Prepared))
             → ImageInvariant S.view F.backing p self.old out → IsLongerL1 self.old table → 0 < entry_count table
             → IfErr result IsFaultOrLimit }

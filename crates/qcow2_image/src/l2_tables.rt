@@ -15,7 +15,7 @@ ghost use Rattle.qcow2_alloc.specs.MetadataCaches.{l2_at, order_of};
 ghost use Rattle.qcow2_laws.specs.Clusters.{RbDependsOnL2};
 ghost use Rattle.qcow2_image.specs.declared.prepared.Prepared.{Prepared};
 ghost use Rattle.qcow2_image.specs.Found.{l1_index_of};
-ghost use Rattle.qcow2_image.specs.UnseenSteps.{Ensures};
+ghost use Rattle.qcow2_image.specs.InternalSteps.{Ensures};
 ghost use Rattle.qcow2_image.specs.ImageInvariant.{ImageInvariant, pending_in};
 ghost use Rattle.qcow2_image.specs.L1Entries.{L1EntryOverflows, HasOwnTable, HasNearEntry};
 ghost use Rattle.qcow2_image.specs.ListedClusters.{KeepsList};

@@ -18,7 +18,7 @@ ghost use Rattle.qcow2_image.specs.Found.{found_kind, mapping_of, IsRunBehind, N
 ghost use Rattle.qcow2_image.specs.Found.{l1_index_of, l2_index_of};
 ghost use Rattle.qcow2_image.specs.HeldMappings.{IsHeldRun, named_place};
 ghost use Rattle.qcow2_image.specs.PinnedTables.{own_table};
-ghost use Rattle.qcow2_image.specs.UnseenSteps.{UnseenStep};
+ghost use Rattle.qcow2_image.specs.InternalSteps.{InternalStep};
 ghost use Rattle.qcow2_image.specs.ImageInvariant.{HasL1Table, ImageInvariant, abstract_of};
 ghost use Rattle.qcow2_metadata.specs.Header.{cluster_size};
 ghost use Rattle.qcow2_image.specs.declared.mapping.MappingKind.TheVariants.{Eof};
@@ -107,7 +107,7 @@ impl<S: Storage, F: WrappedFormat<S>> Qcow2<S, F> {
         ensures met { (p : Pending) (out : List (Option Prepared)) → ImageInvariant S.view F.backing p self.old out
             → IfErr result (IsMetLooking (IsCacheHeld self.old out)) }
         ensures keeps { (p : Pending) (out : List (Option Prepared)) → ImageInvariant S.view F.backing p self.old out
-            → UnseenStep S.view F.backing p p self.old self.new out }
+            → InternalStep S.view F.backing p p self.old self.new out }
         ensures known { (p : Pending) (out : List (Option Prepared)) → ImageInvariant S.view F.backing p self.old out
             → known_in S.view self.new.file ≡ known_in S.view self.old.file }
         ensures within { IfOk result (λ (kind, n). n ≤ max) }

@@ -35,8 +35,8 @@ ghost use Rattle.qcow2_image.specs.Faults.{CountsImageFaults, IsNotOfStorage, No
 ghost use Rattle.qcow2_image.specs.Faults.{TellsFault};
 ghost use Rattle.qcow2_image.specs.declared.image.Qcow2.{Qcow2};
 ghost use Rattle.qcow2_image.specs.Found.{l1_index_of, l2_index_of};
-ghost use Rattle.qcow2_image.specs.UnseenSteps.{DropsNothing, HoldsTable, EntersCluster, EntersShare, FreesLater};
-ghost use Rattle.qcow2_image.specs.UnseenSteps.{Unpins, old_data_by, freed_by};
+ghost use Rattle.qcow2_image.specs.InternalSteps.{DropsNothing, HoldsTable, EntersCluster, EntersShare, FreesLater};
+ghost use Rattle.qcow2_image.specs.InternalSteps.{Unpins, old_data_by, freed_by};
 ghost use Rattle.qcow2_image.specs.ImageInvariant.{ImageInvariant, listed_run, meaning, pending_in, abstract_of};
 ghost use Rattle.qcow2_metadata.specs.Header.{entries_per_cluster, cluster_size};
 ghost use Rattle.qcow2_metadata.specs.Cover.{cover};

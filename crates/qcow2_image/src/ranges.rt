@@ -16,7 +16,7 @@ ghost use Rattle.qcow2_image.specs.declared.prepared.Prepared.{Prepared};
 ghost use Rattle.qcow2_image.specs.declared.image.Qcow2.{Qcow2};
 ghost use Rattle.qcow2_image.specs.CallParts.{IsReadied};
 ghost use Rattle.qcow2_image.specs.ImageInvariant.{pending_in, ImageInvariant};
-ghost use Rattle.qcow2_image.specs.UnseenSteps.{HoldsAll, ListGrows};
+ghost use Rattle.qcow2_image.specs.InternalSteps.{HoldsAll, ListGrows};
 ghost use Rattle.qcow2_image.specs.Ranges.{FindsBehind, GainsAt, GoesNext, GoesOn, HasRoomForRange, IsLongerMapping};
 ghost use Rattle.qcow2_image.specs.Ranges.{IsNext, EndsWithCluster, MayGoOn, SharesAt, TakesDataAt};
 

@@ -1,5 +1,5 @@
 //! Growing the disk without preallocation.
-ghost use Rattle.qcow2_image.specs.Limits.{IfLimit, IsLimited, IsLimitedUnseen};
+ghost use Rattle.qcow2_image.specs.Limits.{IfLimit, IsLimited, IsLimitedInternal};
 ghost use Rattle.std.specs.Prelude.{◌≡◌, ◌-◌, ◌<◌, [], false, IfErr, IsTrue, OnOk};
 ghost use Rattle.qcow2_image.specs.Faults.{CountsImageFaults};
 ghost use Rattle.qcow2_image.specs.Image.{is_failed, is_writable};
@@ -7,7 +7,7 @@ ghost use Rattle.qcow2_image.specs.Refusals.{IsMet, MarksFailed, IsFaultOrLimit}
 ghost use Rattle.qcow2_laws.specs.CrashInvariant.{Pending};
 ghost use Rattle.qcow2_image.specs.Growing.{Resizes, GrowsDisk, KeepsSurplus, LeavesSound, ReachesSize};
 ghost use Rattle.qcow2_image.specs.L1Entries.{ReachesOffset};
-ghost use Rattle.qcow2_image.specs.UnseenSteps.{ListGrows, UnseenStep, pending_with_listed};
+ghost use Rattle.qcow2_image.specs.InternalSteps.{ListGrows, InternalStep, pending_with_listed};
 ghost use Rattle.qcow2_image.specs.ImageInvariant.{ImageInvariant, abstract_of};
 
 use crate::Qcow2;
@@ -52,8 +52,8 @@ impl<S: Storage, F: WrappedFormat<S>> Qcow2<S, F> {
         ensures fault { IsTrue (is_writable self.old) → (p : Pending) → ImageInvariant S.view F.backing p self.old []
             → IfErr result IsFaultOrLimit }
         ensures limit { (p : Pending) → ImageInvariant S.view F.backing p self.old []
-            → IfLimit result (IsLimitedUnseen S.view F.backing p size self.old []
-            × UnseenStep S.view F.backing p (pending_with_listed p self.old self.new) self.old self.new []) }
+            → IfLimit result (IsLimitedInternal S.view F.backing p size self.old []
+            × InternalStep S.view F.backing p (pending_with_listed p self.old self.new) self.old self.new []) }
         ensures failed { is_failed self.new ≡ is_failed self.old }
         ensures writable { is_writable self.new ≡ is_writable self.old }
         ensures faults { CountsImageFaults S.view F.backing self.old self.new result }

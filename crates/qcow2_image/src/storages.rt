@@ -9,7 +9,7 @@ ghost use Rattle.qcow2_image.specs.Calls.{AnswersCall};
 ghost use Rattle.qcow2_image.specs.Image.{is_failed};
 ghost use Rattle.qcow2_image.specs.ImageInvariant.{ImageInvariant};
 ghost use Rattle.qcow2_image.specs.Storages.{storages_of};
-ghost use Rattle.qcow2_image.specs.UnseenSteps.{UnseenStep};
+ghost use Rattle.qcow2_image.specs.InternalSteps.{InternalStep};
 ghost use Rattle.qcow2_image.specs.Unwritten.{ContentsStayThroughout};
 ghost use Rattle.qcow2_image.specs.declared.prepared.Prepared.{Prepared};
 
@@ -44,7 +44,7 @@ impl<S: Storage, F: WrappedFormat<S>> Qcow2<S, F> {
         ensures silent { (view_in S.view self.old.file).is_honest
             → ContentsStayThroughout (view_in S.view self.old.file) (view_in S.view self.new.file) }
         ensures keeps { (p : Pending) (out : List (Option Prepared)) → ImageInvariant S.view F.backing p self.old out
-            → UnseenStep S.view F.backing p p self.old self.new out }
+            → InternalStep S.view F.backing p p self.old self.new out }
     {
         self.file.storage.sync()?;
         Ok(())

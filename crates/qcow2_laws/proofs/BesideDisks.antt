@@ -14,8 +14,8 @@ use Rattle.qcow2_metadata.specs.declared.l2_mapping.L2Mapping.TheVariants.{Data,
 use Rattle.qcow2_disk.specs.Disk.{Disk, disk_with}
 use Rattle.qcow2_laws.specs.Beside.{StandsAtGuest}
 use Rattle.qcow2_laws.specs.SafeSteps.{DriverState, StateInvariant}
-use Rattle.qcow2_laws.specs.Unseen.{IsUnseen, KeepsFormat, with_cluster}
-use Rattle.qcow2_laws.proofs.Unseen.{known_header}
+use Rattle.qcow2_laws.specs.Internal.{IsInternal, KeepsFormat, with_cluster}
+use Rattle.qcow2_laws.proofs.Internal.{known_header}
 
 -- but for compressed data no cover shows a byte of the image itself
 same_value : (h : HeaderFields) (b c file backing : Bytes) (o g : ℕ) (v : L2Mapping) → StandsAtGuest h g v → value_under h b file backing o v ≡ value_under h c file backing o v
@@ -29,7 +29,7 @@ unfolding guest_value cover cover_under l1_entry
 value_with h offset clusters b file backing o = refl
 
 -- where the covers stay and the header's format, and the file's bytes, the disk stays, whatever becomes of the bytes of tables
-module _ (old new : DriverState) (sound : StateInvariant old) (sound' : StateInvariant new) (unseen : IsUnseen old new) (at_guests : (g : ℕ) → StandsAtGuest old.header g (cover old.header old.known g)) (file backing : Bytes) where
+module _ (old new : DriverState) (sound : StateInvariant old) (sound' : StateInvariant new) (unseen : IsInternal old new) (at_guests : (g : ℕ) → StandsAtGuest old.header g (cover old.header old.known g)) (file backing : Bytes) where
   value_stays : (o : ℕ) → guest_value old.header new.known file backing o ≡ guest_value old.header old.known file backing o
   unfolding guest_value
   value_stays o =

@@ -13,7 +13,7 @@ use Rattle.qcow2_laws.specs.Clusters.{Direction, Neither, L2DependsOnRb, RbDepen
 use Rattle.qcow2_laws.specs.Guests.{table_at}
 use Rattle.qcow2_laws.specs.CrashInvariant.{Pending, CrashInvariant, SameTop, SameIn, IsPartly, SameCovers, SameCounts, IsInOrder, IsMixed, MayTurn}
 use Rattle.qcow2_laws.specs.Writes.{IsUnnamed}
-use Rattle.qcow2_laws.specs.Caches.{known_bytes, IsFreeAt, IsFreeOf, AreApart, AreClean, HasOwnL2, HasBlock, CacheInvariantOver, BlocksMayGo, TablesMayGo, IsWrittenSo, UnseenTableWrite, AreNamedBlocks}
+use Rattle.qcow2_laws.specs.Caches.{known_bytes, IsFreeAt, IsFreeOf, AreApart, AreClean, HasOwnL2, HasBlock, CacheInvariantOver, BlocksMayGo, TablesMayGo, IsWrittenSo, InternalTableWrite, AreNamedBlocks}
 use Rattle.qcow2_laws.proofs.Places.{Sizes, Sizes-from}
 use Rattle.qcow2_laws.proofs.Tops.{for_tables-top}
 use Rattle.qcow2_laws.proofs.Mixes.{top_kept, mixed_crash_invariant, mixed_either, turned_crash_invariant}
@@ -205,7 +205,7 @@ module _ (h : HeaderFields) (d : Direction) (p : Pending) (l2s rbs : List Cached
     rb_known : known_bytes (cluster_size h) l2s (front ++ t' ∷ back) on_storage' ≡ known_bytes (cluster_size h) l2s rbs on_storage
     rb_known = ap (known (cluster_size h) l2s) (written_known (cluster_size h) t t' on_storage on_storage' so front back rb_apart_at ∙ ap (λ ts. known (cluster_size h) ts on_storage) (sym are))
 
-    pub block_written : UnseenTableWrite h d p l2s rbs on_storage l2s (front ++ t' ∷ back) on_storage'
+    pub block_written : InternalTableWrite h d p l2s rbs on_storage l2s (front ++ t' ∷ back) on_storage'
     block_written =
         let top = top_of on_storage' (blocks_partly on_storage' rb_partly) in
         let now = mixed_crash_invariant h d p on_storage (known_bytes (cluster_size h) l2s rbs on_storage) on_storage' kept.crash_invariant rb_mixed in
@@ -254,7 +254,7 @@ module _ (h : HeaderFields) (d : Direction) (p : Pending) (l2s rbs : List Cached
           ∙ sym (known-at (cluster_size h) l2s (known (cluster_size h) rbs on_storage) on_storage o (known-none (cluster_size h) rbs on_storage o (free o refl)))
     ])
 
-    pub table_written : UnseenTableWrite h d p l2s rbs on_storage (front ++ t' ∷ back) rbs on_storage'
+    pub table_written : InternalTableWrite h d p l2s rbs on_storage (front ++ t' ∷ back) rbs on_storage'
     table_written =
         let top = top_of on_storage' (tables_partly on_storage' l2_partly) in
         let now = mixed_crash_invariant h d p on_storage (known_bytes (cluster_size h) l2s rbs on_storage) on_storage' kept.crash_invariant l2_mixed in

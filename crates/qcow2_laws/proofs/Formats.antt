@@ -9,7 +9,7 @@ use Rattle.qcow2_metadata.specs.Guest.{guest_value}
 use Rattle.qcow2_laws.specs.Guests.{named_by_guest}
 use Rattle.qcow2_laws.specs.Guests.{over_guests, guests, names, marks, marked_by_guest, marked_by_l1_table}
 use Rattle.qcow2_laws.specs.CrashInvariant.{SameCovers}
-use Rattle.qcow2_laws.specs.Unseen.{KeepsFormat}
+use Rattle.qcow2_laws.specs.Internal.{KeepsFormat}
 use Rattle.qcow2_laws.proofs.Guests.{over_guests-same}
 
 -- ---- the same header, one step after another, and back

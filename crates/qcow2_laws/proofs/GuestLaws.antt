@@ -19,7 +19,7 @@ use Rattle.qcow2_laws.proofs.Guests.{past_guests}
 use Rattle.qcow2_laws.proofs.Consistency.{crash_invariant_consistent, known_consistent}
 use Rattle.qcow2_laws.proofs.Values.{value_is, size_is}
 use Rattle.qcow2_laws.proofs.Tops.{first_keeps_rest}
-use Rattle.qcow2_laws.proofs.Unseen.{known_header}
+use Rattle.qcow2_laws.proofs.Internal.{known_header}
 use Rattle.qcow2_disk.proofs.HeaderRest.{header_rest_same}
 use Rattle.qcow2_laws.proofs.L1Moves.{guests_kept}
 

@@ -20,13 +20,13 @@ use Rattle.qcow2_laws.specs.CrashInvariant.{Pending}
 use Rattle.qcow2_laws.specs.Tops.{WritesAt}
 use Rattle.qcow2_laws.specs.SafeSteps.{DriverState, StateInvariant, SafeStep}
 use Rattle.qcow2_laws.specs.Steps.{guest_at, EntryChanges}
-use Rattle.qcow2_laws.specs.Unseen.{used_by_guests}
+use Rattle.qcow2_laws.specs.Internal.{used_by_guests}
 use Rattle.qcow2_laws.specs.GuestLaws.{Kept, IsHostedAt, WritesRun, KeptClusterIsWritten, KeptClusterIsCommitted}
 use Rattle.qcow2_laws.proofs.Places.{in_one}
 use Rattle.qcow2_laws.proofs.Mixes.{tied}
 use Rattle.qcow2_laws.proofs.Consistency.{in_own}
 use Rattle.qcow2_laws.proofs.SafeSteps.{safe_step_less}
-use Rattle.qcow2_laws.proofs.Unseen.{named_some}
+use Rattle.qcow2_laws.proofs.Internal.{named_some}
 use Rattle.qcow2_laws.proofs.Shown.{shown_zero}
 use Rattle.qcow2_laws.proofs.PutRuns.{run_written, given_has}
 use Rattle.qcow2_laws.proofs.MappedAnew.{Maps, pending_after, entry_unseen, entry_maps}

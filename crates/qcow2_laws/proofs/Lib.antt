@@ -30,7 +30,7 @@ pub mod NewImages
 pub mod CachedChanges
 pub mod Beside
 pub mod HeaderWrites
-pub mod Unseen
+pub mod Internal
 pub mod Shown
 pub mod Alike
 pub mod PutRuns

@@ -19,7 +19,7 @@ use Rattle.qcow2_laws.specs.CrashInvariant.{Pending}
 use Rattle.qcow2_laws.specs.Changes.{remapped}
 use Rattle.qcow2_laws.specs.SafeSteps.{DriverState, StateInvariant, SafeStep}
 use Rattle.qcow2_laws.specs.Steps.{guest_at, EntryChanges}
-use Rattle.qcow2_laws.specs.Unseen.{IsMappedAnew, with_cluster}
+use Rattle.qcow2_laws.specs.Internal.{IsMappedAnew, with_cluster}
 use Rattle.qcow2_laws.proofs.Places.{in_one}
 use Rattle.qcow2_laws.proofs.Guests.{own_names, own_data_of, uncovered_names, over_guests-change}
 use Rattle.qcow2_laws.proofs.Tops.{for_tables-top, IsTop-top}
@@ -30,7 +30,7 @@ use Rattle.qcow2_laws.proofs.Shares.{shares, table_has}
 use Rattle.qcow2_laws.proofs.Blocks.{entry_top, entry_others}
 use Rattle.qcow2_laws.proofs.CachedChanges.{in_at, in_most}
 use Rattle.qcow2_laws.proofs.Steps.{entry_is_changed}
-use Rattle.qcow2_laws.proofs.Unseen.{table_bytes, named_some, size_stays, value_stays}
+use Rattle.qcow2_laws.proofs.Internal.{table_bytes, named_some, size_stays, value_stays}
 use Rattle.qcow2_laws.proofs.Shown.{shown_under}
 
 -- what such a step does: it gives what the guest cluster shows then, which are these values over each backing disk

@@ -17,7 +17,7 @@ use Rattle.qcow2_disk.specs.Mappings.{given_shown}
 use Rattle.qcow2_laws.specs.Guests.{names}
 use Rattle.qcow2_laws.specs.Steps.{guest_at, EntryChanges}
 use Rattle.qcow2_laws.specs.SafeSteps.{DriverState, StateInvariant, SafeStep}
-use Rattle.qcow2_laws.specs.Unseen.{used_by_guests, with_cluster}
+use Rattle.qcow2_laws.specs.Internal.{used_by_guests, with_cluster}
 use Rattle.qcow2_laws.specs.GuestLaws.{MapsEntry, MapsInTurn, IsZeros, ClustersInTurnAreARange}
 use Rattle.qcow2_laws.proofs.Guests.{over_guests-change}
 use Rattle.qcow2_laws.proofs.Blocks.{guest_within}

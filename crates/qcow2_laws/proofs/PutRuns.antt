@@ -21,7 +21,7 @@ use Rattle.qcow2_laws.specs.CrashInvariant.{SameCovers, SameIn}
 use Rattle.qcow2_laws.specs.Tops.{IsSameOutside, WritesAt}
 use Rattle.qcow2_laws.specs.Writes.{IsWritten}
 use Rattle.qcow2_laws.specs.SafeSteps.{DriverState, StateInvariant, SafeStep}
-use Rattle.qcow2_laws.specs.Unseen.{SameL1Table}
+use Rattle.qcow2_laws.specs.Internal.{SameL1Table}
 use Rattle.qcow2_disk.specs.Alike.{IsDataAt}
 use Rattle.qcow2_laws.specs.GuestLaws.{Hosting, InPlace, Kept, Held, IsHostedAt, IsHeld, is_private_hosting, IsGivenAt, WritesRun, RunIsWritten}
 use Rattle.qcow2_laws.proofs.Places.{in_one}
@@ -32,7 +32,7 @@ use Rattle.qcow2_laws.proofs.Shares.{top_stays}
 use Rattle.qcow2_laws.proofs.Steps.{data_is_written}
 use Rattle.qcow2_laws.proofs.Shown.{Writes, shown_zero}
 use Rattle.qcow2_disk.proofs.ForUsers.{laid_inside, laid_outside}
-use Rattle.qcow2_laws.proofs.Unseen.{named_some, size_stays, value_stays}
+use Rattle.qcow2_laws.proofs.Internal.{named_some, size_stays, value_stays}
 use Rattle.qcow2_laws.proofs.Alike.{at_shown}
 
 -- ---- a place lies outside of a range, or is one of its places

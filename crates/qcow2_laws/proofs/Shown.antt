@@ -15,12 +15,12 @@ use Rattle.qcow2_disk.specs.Disk.{Disk, disk}
 use Rattle.qcow2_disk.specs.Stops.{GivenBytes}
 use Rattle.qcow2_laws.specs.Guests.{names, named_in_either}
 use Rattle.qcow2_laws.specs.SafeSteps.{DriverState, StateInvariant, SafeStep}
-use Rattle.qcow2_laws.specs.Unseen.{IsUnseenBut, SameL1Table}
+use Rattle.qcow2_laws.specs.Internal.{IsInternalBut, SameL1Table}
 use Rattle.qcow2_laws.proofs.Places.{in_one}
 use Rattle.qcow2_laws.proofs.Mixes.{tied}
 use Rattle.qcow2_laws.proofs.Consistency.{in_own}
 use Rattle.qcow2_laws.proofs.Values.{value_is, size_is}
-use Rattle.qcow2_laws.proofs.Unseen.{known_header, named_some}
+use Rattle.qcow2_laws.proofs.Internal.{known_header, named_some}
 
 -- ---- what is read
 module _ (s : DriverState) (sound : StateInvariant s) where
@@ -68,6 +68,6 @@ module _ (s : DriverState) (sound : StateInvariant s) where
 -- what a write of data does: what it gives, and what the guest's disk is then
 pub record Writes (c : ℕ) (old new : DriverState) (given : Bytes → List GivenBytes) (now : Bytes → Disk) : Type 0 where
   pub safe_step : SafeStep old new given []
-  pub unseen : IsUnseenBut c old new
+  pub unseen : IsInternalBut c old new
   pub l1 : SameL1Table old new
   pub shows : (backing : Bytes) → disk new.known backing ≡ now backing

@@ -74,7 +74,7 @@ abbrev pub IsSafeBetween : Bytes → Bytes → Bytes → Type 0
 IsSafeBetween on_storage known b = (backing : Bytes) (m : Checkpoint) → StopOkEverywhere backing m on_storage → StopOkEverywhere backing m known → StopOkEverywhere backing m b
 
 -- One table more is written: the invariant holds, the known contents are the same, and a stop is as safe as before.
-pub record UnseenTableWrite (h : HeaderFields) (d : Direction) (p : Pending) (l2s rbs : List CachedTable) (on_storage : Bytes) (l2s' rbs' : List CachedTable) (on_storage' : Bytes) : Type 0 where
+pub record InternalTableWrite (h : HeaderFields) (d : Direction) (p : Pending) (l2s rbs : List CachedTable) (on_storage : Bytes) (l2s' rbs' : List CachedTable) (on_storage' : Bytes) : Type 0 where
   pub kept : CacheInvariantOver h d p l2s' rbs' on_storage'
   pub known : known_bytes (cluster_size h) l2s' rbs' on_storage' ≡ known_bytes (cluster_size h) l2s rbs on_storage
   pub safe : IsSafeBetween on_storage (known_bytes (cluster_size h) l2s rbs on_storage) on_storage'

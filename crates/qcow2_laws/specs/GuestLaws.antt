@@ -17,7 +17,7 @@ use Rattle.qcow2_laws.specs.Steps.{guest_at, EntryChanges}
 use Rattle.qcow2_laws.specs.Changes.{renamed, remapped}
 use Rattle.qcow2_laws.specs.Tops.{with_places, with_l1_at, WritesHeader, IsNewL1, WritesAt}
 use Rattle.qcow2_laws.specs.SafeSteps.{DriverState, StateInvariant, SafeStep}
-use Rattle.qcow2_laws.specs.Unseen.{used_by_guests, SameUsedBytes, SameL1Table, with_cluster}
+use Rattle.qcow2_laws.specs.Internal.{used_by_guests, SameUsedBytes, SameL1Table, with_cluster}
 use Rattle.qcow2_disk.specs.Alike.{IsDataAt}
 
 -- The state after the header points to an L1 table at `offset`, with this many entries.

@@ -17,7 +17,7 @@ use Rattle.qcow2_laws.specs.Opened.{nothing_pending, surplus_of}
 use Rattle.qcow2_laws.specs.Changes.{one_at, with_new_data, with_new_tables, without_old_tables, without_old_data, new_data_to_old_data, new_data_to_old_tables, new_tables_to_old_tables, remapped, named_now, renamed}
 use Rattle.qcow2_laws.specs.Writes.{IsUnnamed, IsWritten}
 use Rattle.qcow2_laws.specs.Tops.{with_places, WritesL1Entry, IsNewTable, WritesReftableEntry, IsNewBlock, WritesHeader, resized_places, with_l1_at, IsNewL1, with_reftable_at, IsNewReftable}
-use Rattle.qcow2_laws.specs.Caches.{CacheInvariantOver, BlocksMayGo, TablesMayGo, IsWrittenSo, UnseenTableWrite}
+use Rattle.qcow2_laws.specs.Caches.{CacheInvariantOver, BlocksMayGo, TablesMayGo, IsWrittenSo, InternalTableWrite}
 use Rattle.qcow2_laws.specs.SafeSteps.{DriverState, StateInvariant, SafeStep}
 use Rattle.qcow2_laws.specs.Steps.{CountRises, CountFalls, guest_at, EntryChanges, ShowsGiven}
 
@@ -42,9 +42,9 @@ pub record MixIsSafe : Type 0 where
 -- One cached table is written or not, whatever the storage answers.
 pub record TableIsWritten : Type 0 where
   pub block : (h : HeaderFields) (d : Direction) (p : Pending) (l2s front back : List CachedTable) (t t' : CachedTable) (on_storage on_storage' : Bytes) → CacheInvariantOver h d p l2s (front ++ t ∷ back) on_storage
-      → BlocksMayGo d l2s → IsWrittenSo (cluster_size h) t t' on_storage on_storage' → UnseenTableWrite h d p l2s (front ++ t ∷ back) on_storage l2s (front ++ t' ∷ back) on_storage'
+      → BlocksMayGo d l2s → IsWrittenSo (cluster_size h) t t' on_storage on_storage' → InternalTableWrite h d p l2s (front ++ t ∷ back) on_storage l2s (front ++ t' ∷ back) on_storage'
   pub table : (h : HeaderFields) (d : Direction) (p : Pending) (front back rbs : List CachedTable) (t t' : CachedTable) (on_storage on_storage' : Bytes) → CacheInvariantOver h d p (front ++ t ∷ back) rbs on_storage
-      → TablesMayGo d rbs → IsWrittenSo (cluster_size h) t t' on_storage on_storage' → UnseenTableWrite h d p (front ++ t ∷ back) rbs on_storage (front ++ t' ∷ back) rbs on_storage'
+      → TablesMayGo d rbs → IsWrittenSo (cluster_size h) t t' on_storage on_storage' → InternalTableWrite h d p (front ++ t ∷ back) rbs on_storage (front ++ t' ∷ back) rbs on_storage'
 
 -- One refcount of a refblock changes.
 pub record CountIsChanged : Type 0 where

@@ -5,7 +5,7 @@ pub mod Opened
 pub mod Changes
 pub mod Writes
 pub mod Tops
-pub mod Unseen
+pub mod Internal
 pub mod Beside
 pub mod Caches
 pub mod SafeSteps

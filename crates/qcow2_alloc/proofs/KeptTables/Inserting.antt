@@ -26,7 +26,7 @@ use Rattle.qcow2_alloc.specs.CacheAnswers.{InsertsNew, Replaces}
 use Rattle.qcow2_alloc.specs.ImageStorage.{storage_of}
 use Rattle.qcow2_alloc.specs.TableCaches.{l2_steps, rb_steps, cleared_l2, cleared_rb, IsTableOf, IsBlockOf}
 use Rattle.qcow2_alloc.specs.KeptTables.{cached_tables, AllValuesFit, AreElsewhere, AreKept}
-use Rattle.qcow2_alloc.specs.MetadataCaches.{HasFormat, order_of, l2_tables, refblocks, CacheInvariant, UnseenCacheStep, HoldsKnown}
+use Rattle.qcow2_alloc.specs.MetadataCaches.{HasFormat, order_of, l2_tables, refblocks, CacheInvariant, InternalCacheStep, HoldsKnown}
 use Rattle.qcow2_alloc.proofs.CachedEntries.Lists.{lookup-from_entry}
 use Rattle.qcow2_alloc.proofs.KeptTables.BlocksNamed.{named_blocks_beside, named_blocks_anew, blocks_stand, block_place}
 use Rattle.qcow2_alloc.proofs.KeptTables.Standing.{clean_stands, insert_stands, replace_stands}
@@ -107,7 +107,7 @@ module _ {S : Type 0} (view : S → StorageView) (old new : ImageStorage S) (cac
         (Contains-lookup_entry (eqb key) caches.l2.entries e some).1 (rw is at (rw some at there)))
 
     pub table_put : (may_flush ≡ true → TablesMayGo (order_of caches) (refblocks caches)) → (h : HeaderFields) (p : Pending) → (seen old).is_honest → CacheInvariant h p caches (byte_at (seen old).contents)
-        → IsTableOf h v → v.is_modified ≡ false → HoldsKnown h caches (byte_at (seen old).contents) v.bytes key → UnseenCacheStep h p (seen old) caches (seen new) (record caches { l2 = l2 })
+        → IsTableOf h v → v.is_modified ≡ false → HoldsKnown h caches (byte_at (seen old).contents) v.bytes key → InternalCacheStep h p (seen old) caches (seen new) (record caches { l2 = l2 })
     table_put may h p honest sound fits clean holds =
         let of_format = table_as caches.l2.backend.header.fields h v sound.l2_format fits in
         let bits = caches.l2.backend.header.fields.cluster_bits in
@@ -158,7 +158,7 @@ module _ {S : Type 0} (view : S → StorageView) (old new : ImageStorage S) (cac
         (Contains-lookup_entry (eqb key) caches.rb.entries e some).1 (rw is at (rw some at there)))
 
     pub block_put : (may_flush ≡ true → BlocksMayGo (order_of caches) (l2_tables caches)) → (h : HeaderFields) (p : Pending) → (seen old).is_honest → CacheInvariant h p caches (byte_at (seen old).contents)
-        → IsBlockOf h v → v.is_modified ≡ false → HoldsKnown h caches (byte_at (seen old).contents) v.bytes key → UnseenCacheStep h p (seen old) caches (seen new) (record caches { rb = rb })
+        → IsBlockOf h v → v.is_modified ≡ false → HoldsKnown h caches (byte_at (seen old).contents) v.bytes key → InternalCacheStep h p (seen old) caches (seen new) (record caches { rb = rb })
     block_put may h p honest sound fits clean holds =
         let of_format = block_as caches.rb.backend.header.fields h v sound.rb_format fits in
         let bits = caches.rb.backend.header.fields.cluster_bits in

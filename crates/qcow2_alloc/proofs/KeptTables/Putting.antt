@@ -22,7 +22,7 @@ use Rattle.qcow2_alloc.specs.CacheAnswers.{InsertsNew, Replaces}
 use Rattle.qcow2_alloc.specs.ImageStorage.{storage_of}
 use Rattle.qcow2_alloc.specs.TableCaches.{l2_steps, cleared_l2, IsTableOf}
 use Rattle.qcow2_alloc.specs.KeptTables.{cached_table, cached_tables, AllValuesFit, AreElsewhere, AreKept}
-use Rattle.qcow2_alloc.specs.MetadataCaches.{laid_at, order_of, l2_tables, refblocks, CacheInvariant, UnseenCacheStep, Overlay}
+use Rattle.qcow2_alloc.specs.MetadataCaches.{laid_at, order_of, l2_tables, refblocks, CacheInvariant, InternalCacheStep, Overlay}
 use Rattle.qcow2_alloc.proofs.KeptTables.BlocksNamed.{named_blocks_beside}
 use Rattle.qcow2_alloc.proofs.KeptTables.Standing.{own_cluster}
 use Rattle.qcow2_alloc.proofs.KeptTables.Writing.{crash_safety, Ready, Puts, nothing_new, made_ready}
@@ -46,7 +46,7 @@ put_at_last key v fs answer left false is taken = let e = taken.done is in absur
 
 -- ---- nothing new, and then a table is laid over
 module _ {S : Type 0} (view : S → StorageView) (h : HeaderFields) (p : Pending) (r s t : ImageStorage S) (a b c : MetadataCaches S) (table : CachedTable) (Stands : Bytes → Bytes → Type 0) (IsNamed : Bytes → Type 0) where
-  pub laid_then : UnseenCacheStep h p (view (storage_of r)) a (view (storage_of s)) b → Overlay Stands IsNamed h (view (storage_of s)) b (view (storage_of t)) c table → Overlay Stands IsNamed h (view (storage_of r)) a (view (storage_of t)) c table
+  pub laid_then : InternalCacheStep h p (view (storage_of r)) a (view (storage_of s)) b → Overlay Stands IsNamed h (view (storage_of s)) b (view (storage_of t)) c table → Overlay Stands IsNamed h (view (storage_of r)) a (view (storage_of t)) c table
   laid_then first second = record {
     honest = second.honest;
     known = second.known ∙ ap (known (cluster_size h) (table ∷ [])) first.known;
@@ -104,7 +104,7 @@ module _ {S : Type 0} (view : S → StorageView) (old new : ImageStorage S) (cac
         (λ none. insert_fits seen bits (λ (t : L2TableView). t.bytes) (λ t. t.is_modified) cleared_l2 IsFit (table_still caches.l2.backend.header.fields) caches.l2.size may_flush old new key v caches.l2.entries l2.entries answer left fits sound.l2_fit (rw is at (missing (rw (lookup_none (eqb key) caches.l2.entries none) refl))))
         (λ e some. replace_fits seen bits (λ (t : L2TableView). t.bytes) (λ t. t.is_modified) cleared_l2 IsFit (table_still caches.l2.backend.header.fields) may_flush old new key v caches.l2.entries l2.entries e answer left some fits sound.l2_fit (rw is at (rw some at there)))
 
-    pub table_kept : (answer ≡ Ok true → ⊥) → UnseenCacheStep h p (seen old) caches (seen new) (record caches { l2 = l2 })
+    pub table_kept : (answer ≡ Ok true → ⊥) → InternalCacheStep h p (seen old) caches (seen new) (record caches { l2 = l2 })
     table_kept isnt =
         let same_backend : l2.backend ≡ caches.l2.backend = ap (λ c. c.backend) others in
         let f = nothing_new seen bits (λ (t : L2TableView). t.bytes) (λ t. t.is_modified) cleared_l2 IsFit (λ v. refl) (λ v. refl) P all crash_safety key v old new caches.l2.entries l2.entries answer isnt puts in

@@ -27,7 +27,7 @@ use Rattle.qcow2_alloc.specs.ImageStorage.{storage_of}
 use Rattle.qcow2_alloc.specs.TableLaws.{same_number}
 use Rattle.qcow2_alloc.specs.TableCaches.{rb_steps, cleared_rb, IsBlockOf}
 use Rattle.qcow2_alloc.specs.KeptTables.{cached_table, cached_tables, AllValuesFit, AreElsewhere, AreKept}
-use Rattle.qcow2_alloc.specs.MetadataCaches.{laid_at, order_of, l2_tables, refblocks, CacheInvariant, UnseenCacheStep, Overlay}
+use Rattle.qcow2_alloc.specs.MetadataCaches.{laid_at, order_of, l2_tables, refblocks, CacheInvariant, InternalCacheStep, Overlay}
 use Rattle.qcow2_alloc.proofs.KeptTables.BlocksNamed.{top_still, named_blocks_anew, blocks_stand, block_place}
 use Rattle.qcow2_alloc.proofs.KeptTables.Standing.{IsStanding, AreStanding, own_cluster, insert_stands, replace_stands}
 use Rattle.qcow2_alloc.proofs.KeptTables.Writing.{crash_safety, block_named, Ready, Puts, nothing_new, made_ready}
@@ -102,7 +102,7 @@ module _ {S : Type 0} (view : S → StorageView) (old new : ImageStorage S) (cac
         (λ went. subst (λ n. IsStanding (λ (b : RefBlockView). b.is_modified) IsFit Named n v) (same_number key e.0 (Contains-lookup_entry (eqb key) caches.rb.entries e some).1) (stands went))
         (blocks_stand h p caches (byte_at (seen old).contents) sound named_blocks) (rw is at (rw some at there)))
 
-    pub block_kept : (answer ≡ Ok true → ⊥) → UnseenCacheStep h p (seen old) caches (seen new) (record caches { rb = rb })
+    pub block_kept : (answer ≡ Ok true → ⊥) → InternalCacheStep h p (seen old) caches (seen new) (record caches { rb = rb })
     block_kept isnt =
         let same_backend : rb.backend ≡ caches.rb.backend = ap (λ c. c.backend) others in
         let f = nothing_new seen bits (λ (b : RefBlockView). b.bytes) (λ b. b.is_modified) cleared_rb IsFit (λ v. refl) (λ v. refl) P all crash_safety key v old new caches.rb.entries rb.entries answer isnt puts in

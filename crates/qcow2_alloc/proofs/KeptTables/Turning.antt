@@ -14,7 +14,7 @@ use Rattle.qcow2_alloc.specs.declared.cache.MetadataCaches.{MetadataCaches}
 use Rattle.qcow2_alloc.specs.declared.image_storage.ImageStorage.{ImageStorage}
 use Rattle.qcow2_alloc.specs.ImageStorage.{storage_of}
 use Rattle.qcow2_alloc.specs.KeptTables.{IsSafeSince}
-use Rattle.qcow2_alloc.specs.MetadataCaches.{order, order_of, l2_tables, refblocks, known_of, AreAllWritten, CacheInvariant, UnseenCacheStep, KeepSound}
+use Rattle.qcow2_alloc.specs.MetadataCaches.{order, order_of, l2_tables, refblocks, known_of, AreAllWritten, CacheInvariant, InternalCacheStep, KeepSound}
 
 -- ---- moments: a word for each elementary step of the caches
 
@@ -39,7 +39,7 @@ safe_then old mid new known known' same first second = record {
 module _ {S : Type 0} (view : S → StorageView) where
   -- nothing happens
   pub stay_none : (h : HeaderFields) (p : Pending) (s : ImageStorage S) (c : MetadataCaches S) → (view (storage_of s)).is_honest → CacheInvariant h p c (byte_at (view (storage_of s)).contents)
-      → UnseenCacheStep h p (view (storage_of s)) c (view (storage_of s)) c
+      → InternalCacheStep h p (view (storage_of s)) c (view (storage_of s)) c
   stay_none h p s c honest sound = record {
     honest = honest;
     sound = sound;
@@ -51,8 +51,8 @@ module _ {S : Type 0} (view : S → StorageView) where
   pub keep_none : (s : ImageStorage S) (c : MetadataCaches S) → KeepSound view s c s c
   keep_none s c h p honest sound = stay_none h p s c honest sound
 
-  pub stay_then : (h : HeaderFields) (p : Pending) (r s t : ImageStorage S) (a b c : MetadataCaches S) → UnseenCacheStep h p (view (storage_of r)) a (view (storage_of s)) b
-      → UnseenCacheStep h p (view (storage_of s)) b (view (storage_of t)) c → UnseenCacheStep h p (view (storage_of r)) a (view (storage_of t)) c
+  pub stay_then : (h : HeaderFields) (p : Pending) (r s t : ImageStorage S) (a b c : MetadataCaches S) → InternalCacheStep h p (view (storage_of r)) a (view (storage_of s)) b
+      → InternalCacheStep h p (view (storage_of s)) b (view (storage_of t)) c → InternalCacheStep h p (view (storage_of r)) a (view (storage_of t)) c
   stay_then h p r s t a b c first second = record {
     honest = second.honest;
     sound = second.sound;

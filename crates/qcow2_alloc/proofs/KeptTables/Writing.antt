@@ -17,7 +17,7 @@ use Rattle.qcow2_metadata.specs.Tables.{CachedTable, known}
 use Rattle.qcow2_disk.specs.Stops.{StopOkEverywhere}
 use Rattle.qcow2_laws.specs.Clusters.{Direction}
 use Rattle.qcow2_laws.specs.CrashInvariant.{Pending, SameTop}
-use Rattle.qcow2_laws.specs.Caches.{known_bytes, AreClean, HasL2, HasBlock, CacheInvariantOver, BlocksMayGo, TablesMayGo, IsWrittenSo, IsSafeBetween, UnseenTableWrite}
+use Rattle.qcow2_laws.specs.Caches.{known_bytes, AreClean, HasL2, HasBlock, CacheInvariantOver, BlocksMayGo, TablesMayGo, IsWrittenSo, IsSafeBetween, InternalTableWrite}
 use Rattle.qcow2_laws.proofs.Tops.{SameTop-sym, SameTop-trans}
 use Rattle.qcow2_laws.proofs.Shares.{table_has, block_has}
 use Rattle.qcow2_laws.proofs.Caches.{rbs_free, l2s_free}
@@ -69,7 +69,7 @@ no_safety = record {
 -- ---- one table of either cache is written
 
 -- where two images are known alike, their header, L1 table and reftable are the same
-same_top : (h : HeaderFields) (d : Direction) (p : Pending) (l2s rbs l2s' rbs' : List CachedTable) (on_storage on_storage' : Bytes) → UnseenTableWrite h d p l2s rbs on_storage l2s' rbs' on_storage' → CacheInvariantOver h d p l2s rbs on_storage → SameTop h on_storage' on_storage
+same_top : (h : HeaderFields) (d : Direction) (p : Pending) (l2s rbs l2s' rbs' : List CachedTable) (on_storage on_storage' : Bytes) → InternalTableWrite h d p l2s rbs on_storage l2s' rbs' on_storage' → CacheInvariantOver h d p l2s rbs on_storage → SameTop h on_storage' on_storage
 same_top h d p l2s rbs l2s' rbs' on_storage on_storage' keeps kept =
     SameTop-trans h on_storage' (known_bytes (cluster_size h) l2s rbs on_storage) on_storage
     (subst (SameTop h on_storage') keeps.known keeps.kept.crash_invariant.same_top)

@@ -13,17 +13,17 @@ use Rattle.qcow2_disk.specs.Disk.{disk}
 use Rattle.qcow2_laws.specs.CrashInvariant.{Pending}
 use Rattle.qcow2_laws.specs.SafeSteps.{StateInvariant}
 use Rattle.qcow2_disk.specs.Mappings.{PreparedMapping}
-use Rattle.qcow2_laws.specs.Unseen.{SameUsedBytes, used_by_guests}
+use Rattle.qcow2_laws.specs.Internal.{SameUsedBytes, used_by_guests}
 use Rattle.qcow2_disk.specs.AbstractImages.{Setting, Guest, guest_of, meaning_at}
 use Rattle.qcow2_disk.specs.Calls.{EffectOnSound}
-use Rattle.qcow2_laws.proofs.Unseen.{unseen_disk}
+use Rattle.qcow2_laws.proofs.Internal.{unseen_disk}
 use Rattle.qcow2_metadata.specs.declared.header.HeaderFields.{HeaderFields}
 use Rattle.qcow2_alloc.specs.ImageFile.{state_in, contents_in, known_in, nothing_given}
 use Rattle.qcow2_image.specs.declared.image.Qcow2.{Qcow2}
 use Rattle.qcow2_image.specs.declared.prepared.Prepared.{Prepared}
 use Rattle.qcow2_image.specs.ImageInvariant.{below_of, of_data, of_tables, to_free, new_data_by, over_all, pending_in, abstract_of, meaning, is_entered, is_new, is_private, is_hidden, place_of, share_of, backing_bytes, ImageInvariant}
 use Rattle.qcow2_image.specs.MovedTables.{MovesTables}
-use Rattle.qcow2_image.specs.UnseenSteps.{pending_with_listed, ListGrows, UnseenStep, UnseenFreeingStep}
+use Rattle.qcow2_image.specs.InternalSteps.{pending_with_listed, ListGrows, InternalStep, InternalFreeingStep}
 use Rattle.qcow2_image.proofs.Moved.{format_file_step, format_stay}
 use Rattle.qcow2_image.proofs.Shares.{private_used, used_unlaid}
 use Rattle.qcow2_image.proofs.Sound.{free_more, pending_is}
@@ -42,7 +42,7 @@ pub same_setting : (a b : Setting) → a.cluster_size ≡ b.cluster_size → ◌
 same_setting a b sizes below = ap (λ n. record a { cluster_size = n }) sizes ∙ ap (λ (f : Bool × Bytes). record b { is_backed = f.0; backing = f.1 }) below
 
 -- where the list grows
-pub freeing_step_kept : {S F : Type 0} (view : S → StorageView) (backing : F → BackingView) (old new : Qcow2 S F) (out : List (Option Prepared)) (p p' : Pending) → UnseenStep view backing p p' old new out → UnseenFreeingStep view backing p p' old new out
+pub freeing_step_kept : {S F : Type 0} (view : S → StorageView) (backing : F → BackingView) (old new : Qcow2 S F) (out : List (Option Prepared)) (p p' : Pending) → InternalStep view backing p p' old new out → InternalFreeingStep view backing p p' old new out
 freeing_step_kept view backing old new out p p' keeps = record { sound = keeps.sound; safe_step = keeps.safe_step; since = keeps.since; unseen = keeps.unseen; copied = keeps.copied; below = keeps.below; leaks = keeps.leaks }
 
 module _ {S F : Type 0} (view : S → StorageView) (backing : F → BackingView) (old new : Qcow2 S F) (out : List (Option Prepared)) where
@@ -108,14 +108,14 @@ module _ {S F : Type 0} (view : S → StorageView) (backing : F → BackingView)
           (shows (backing_bytes view backing new.backing) ∙ ap (λ (b : Bool × Bytes). disk (known_in view old.file) b.1) below)
           (fun_ext (λ k. same_slot same_header private_bytes k (slice_get out k) refl))
 
-    pub still_seen : UnseenFreeingStep view backing p p' old new out → guest_of (abstract_of view backing new out) ≡ guest_of (abstract_of view backing old out)
+    pub still_seen : InternalFreeingStep view backing p p' old new out → guest_of (abstract_of view backing new out) ≡ guest_of (abstract_of view backing old out)
     still_seen freeing_step = still_shown freeing_step.sound (format_file_step old.file.header.fields new.file.header.fields freeing_step.unseen.header) freeing_step.unseen.bytes
         (unseen_disk (state_in view old.file p) (state_in view new.file p') sound.file.caches.kept.kept.crash_invariant sound.inside freeing_step.sound.file.caches.kept.kept.crash_invariant freeing_step.unseen) freeing_step.below
 
   -- ---- a whole call that no guest sees
 
   module _ (sound : ImageInvariant view backing (pending_in view backing old out) old out)
-      (keeps : UnseenStep view backing (pending_in view backing old out) (pending_with_listed (pending_in view backing old out) old new) old new out) where
+      (keeps : InternalStep view backing (pending_in view backing old out) (pending_with_listed (pending_in view backing old out) old new) old new out) where
     pending_now : pending_with_listed (pending_in view backing old out) old new ≡ pending_in view backing new out
     pending_now = followed sound keeps.list keeps.sound
 

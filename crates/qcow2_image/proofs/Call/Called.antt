@@ -7,12 +7,12 @@ use Rattle.image_access.specs.Backing.{BackingView}
 use Rattle.image_access.specs.Moments.{StorageView}
 use Rattle.qcow2_metadata.specs.Entries.{l1_entry}
 use Rattle.qcow2_laws.specs.CrashInvariant.{Pending}
-use Rattle.qcow2_laws.specs.Unseen.{KeepsFormat}
+use Rattle.qcow2_laws.specs.Internal.{KeepsFormat}
 use Rattle.qcow2_disk.specs.AbstractImages.{Guest, AbstractImage, guest_of}
 use Rattle.qcow2_disk.specs.Calls.{Refusal, storage, EffectOnSound, AnsweredEffect, RefusedEffect, IsSame}
 use Rattle.qcow2_laws.proofs.Formats.{l1_format}
 use Rattle.qcow2_laws.proofs.SafeSteps.{safe_step_then, steps_safe_throughout}
-use Rattle.qcow2_laws.proofs.Unseen.{unseen_then}
+use Rattle.qcow2_laws.proofs.Internal.{unseen_then}
 use Rattle.qcow2_alloc.specs.declared.error.ImageError.{ImageError}
 use Rattle.qcow2_alloc.specs.ImageFile.{state_in, view_in, nothing_given}
 use Rattle.qcow2_image.specs.declared.image.Qcow2.{Qcow2}
@@ -21,7 +21,7 @@ use Rattle.qcow2_image.specs.Calls.{refusal_of, AnswersCall}
 use Rattle.qcow2_image.specs.Image.{number_of, is_failed}
 use Rattle.qcow2_image.proofs.Call.Marked.{MayMark, MayMarkBy}
 use Rattle.qcow2_image.specs.ImageInvariant.{of_data, of_tables, to_free, ImageInvariant, pending_in, abstract_of}
-use Rattle.qcow2_image.specs.UnseenSteps.{NamesOwn, KeepsCopied, pending_with_listed, UnseenStep}
+use Rattle.qcow2_image.specs.InternalSteps.{NamesOwn, KeepsCopied, pending_with_listed, InternalStep}
 use Rattle.qcow2_image.proofs.Call.Answered.{works_now, sound_now, same_now}
 use Rattle.qcow2_image.proofs.Call.CallOutcomes.{outcome_answered, outcome_refused}
 use Rattle.qcow2_disk.proofs.Compose.{stops_none, rests_none}
@@ -57,7 +57,7 @@ module _ {S F : Type 0} (view : S → StorageView) (backing : F → BackingView)
         let moved : l1_entry b.file.header.fields (state_in view b.file p').on_storage i ≡ l1_entry a.file.header.fields (state_in view a.file p).on_storage i = read (state_in view b.file p').on_storage i ∙ first i is in
         sym (read (state_in view c.file p'').on_storage i) ∙ then i (subst NamesOwn (sym moved) is) ∙ moved
 
-    pub keeps_then : ((k : ℕ) → 0 < p.new_data k → 0 < p'.new_data k) → UnseenStep view backing p p' a b out → UnseenStep view backing p' p'' b c out → UnseenStep view backing p p'' a c out
+    pub keeps_then : ((k : ℕ) → 0 < p.new_data k → 0 < p'.new_data k) → InternalStep view backing p p' a b out → InternalStep view backing p' p'' b c out → InternalStep view backing p p'' a c out
     keeps_then new_data first then = record {
       sound = then.sound;
       safe_step = safe_step_then (state_in view a.file p) (state_in view b.file p') (state_in view c.file p'') nothing_given nothing_given [] [] first.safe_step then.safe_step;
@@ -74,7 +74,7 @@ module _ {S F : Type 0} (view : S → StorageView) (backing : F → BackingView)
   module _ (old new : Qcow2 S F) where
     -- nothing is held or to be freed in between, and no guest sees a change
     pub record Quietly : Type 0 where
-      pub keeps : UnseenStep view backing (pending_in view backing old out) (pending_in view backing old out) old new out
+      pub keeps : InternalStep view backing (pending_in view backing old out) (pending_in view backing old out) old new out
       pub list : new.file.free_list ≡ old.file.free_list
 
     module _ (quiet : ImageInvariant view backing (pending_in view backing old out) old out → Quietly) where
@@ -82,8 +82,8 @@ module _ {S F : Type 0} (view : S → StorageView) (backing : F → BackingView)
       unmoved sound = same_freed (pending_in view backing old out) (pending_with_listed (pending_in view backing old out) old new) refl
           (fun_ext (λ k. let e = ap (λ l. to_free of_tables l k) (quiet sound).list in omega arith)) (fun_ext (λ k. let e = ap (λ l. to_free of_data l k) (quiet sound).list in omega arith))
 
-      pub listed : (sound : ImageInvariant view backing (pending_in view backing old out) old out) → UnseenStep view backing (pending_in view backing old out) (pending_with_listed (pending_in view backing old out) old new) old new out
-      listed sound = subst (λ (q : Pending). UnseenStep view backing (pending_in view backing old out) q old new out) (unmoved sound) (quiet sound).keeps
+      pub listed : (sound : ImageInvariant view backing (pending_in view backing old out) old out) → InternalStep view backing (pending_in view backing old out) (pending_with_listed (pending_in view backing old out) old new) old new out
+      listed sound = subst (λ (q : Pending). InternalStep view backing (pending_in view backing old out) q old new out) (unmoved sound) (quiet sound).keeps
 
       pub quiet_works : ImageInvariant view backing (pending_in view backing old out) old out → EffectOnSound (abstract_of view backing old out) (abstract_of view backing new out) [] []
       quiet_works sound = works_now view backing old new out sound (listed sound)
@@ -106,8 +106,8 @@ module _ {S F : Type 0} (view : S → StorageView) (backing : F → BackingView)
 module _ {S F : Type 0} (view : S → StorageView) (backing : F → BackingView) where
   -- two parts after one another
   pub quietly_then : (out : List (Option Prepared)) (a b c : Qcow2 S F)
-      → ((p : Pending) (out : List (Option Prepared)) → ImageInvariant view backing p a out → UnseenStep view backing p p a b out) → b.file.free_list ≡ a.file.free_list
-      → ((p : Pending) (out : List (Option Prepared)) → ImageInvariant view backing p b out → UnseenStep view backing p p b c out) → c.file.free_list ≡ b.file.free_list
+      → ((p : Pending) (out : List (Option Prepared)) → ImageInvariant view backing p a out → InternalStep view backing p p a b out) → b.file.free_list ≡ a.file.free_list
+      → ((p : Pending) (out : List (Option Prepared)) → ImageInvariant view backing p b out → InternalStep view backing p p b c out) → c.file.free_list ≡ b.file.free_list
       → ImageInvariant view backing (pending_in view backing a out) a out → Quietly view backing out a c
   quietly_then out a b c first listed then still sound =
       let p = pending_in view backing a out in

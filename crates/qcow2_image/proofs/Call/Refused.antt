@@ -20,8 +20,8 @@ use Rattle.qcow2_image.specs.declared.prepared.Prepared.{Prepared}
 use Rattle.qcow2_image.specs.Calls.{refusal_of}
 use Rattle.qcow2_image.specs.Image.{number_of, is_failed, KeepsRestOn, has_noted_change, leaked_in}
 use Rattle.qcow2_image.proofs.Call.Marked.{MayMark}
-use Rattle.qcow2_image.specs.CallParts.{UnseenCall, InterruptedCall, RefusedCall, FindsTable, IsReadied, PreparesRange}
-use Rattle.qcow2_image.specs.UnseenSteps.{InterruptedStep, Ensures, UnseenFillingStep, RefusedFillingStep, UnseenStep, RefusedStep, pending_with_listed}
+use Rattle.qcow2_image.specs.CallParts.{InternalCall, InterruptedCall, RefusedCall, FindsTable, IsReadied, PreparesRange}
+use Rattle.qcow2_image.specs.InternalSteps.{InterruptedStep, Ensures, InternalFillingStep, RefusedFillingStep, InternalStep, RefusedStep, pending_with_listed}
 use Rattle.qcow2_image.specs.ImageInvariant.{of_data, of_tables, to_free, pending_in, abstract_of, meaning, below_of, ImageInvariant}
 use Rattle.qcow2_image.proofs.Moved.{file_step_then, format_file_step, stay_then, format_stay}
 use Rattle.qcow2_image.proofs.Sound.{free_more}
@@ -39,7 +39,7 @@ marks_fault e before marked noted fault is marks memory = ⊎_elim
 module _ {S F : Type 0} (view : S → StorageView) (backing : F → BackingView) (out : List (Option Prepared)) where
   -- a step after which the guest sees what it saw
   pub stays_stepped : (old new : Qcow2 S F) (p : Pending) → Steps view backing old new out out nothing_given p → guest_of (abstract_of view backing new out) ≡ guest_of (abstract_of view backing old out)
-      → SameCovers old.file.header.fields (known_in view old.file) (known_in view new.file) → UnseenCall view backing old new out
+      → SameCovers old.file.header.fields (known_in view old.file) (known_in view new.file) → InternalCall view backing old new out
   stays_stepped old new p steps same covers = record {
     works = stepped_works view backing old new out out nothing_given p steps;
     sound = stepped_sound view backing old new out out nothing_given p steps;
@@ -48,7 +48,7 @@ module _ {S F : Type 0} (view : S → StorageView) (backing : F → BackingView)
     covers = format_stay old.file.header.fields new.file.header.fields (known_in view old.file) (known_in view new.file) steps.header covers;
   }
 
-  pub stays_kept : (old new : Qcow2 S F) → ImageInvariant view backing (pending_in view backing old out) old out → UnseenStep view backing (pending_in view backing old out) (pending_with_listed (pending_in view backing old out) old new) old new out → UnseenCall view backing old new out
+  pub stays_kept : (old new : Qcow2 S F) → ImageInvariant view backing (pending_in view backing old out) old out → InternalStep view backing (pending_in view backing old out) (pending_with_listed (pending_in view backing old out) old new) old new out → InternalCall view backing old new out
   stays_kept old new sound keeps = record { works = works_now view backing old new out sound keeps; sound = sound_now view backing old new out sound keeps; same = same_now view backing old new out sound keeps; header = format_file_step old.file.header.fields new.file.header.fields keeps.unseen.header; covers = format_stay old.file.header.fields new.file.header.fields (known_in view old.file) (known_in view new.file) keeps.unseen.header keeps.unseen.covers }
 
   -- it broke off
@@ -69,8 +69,8 @@ module _ {S F : Type 0} (view : S → StorageView) (backing : F → BackingView)
   break_off old new e interruption = break_off_so old new e interruption.interrupted (ap (λ (h : HeaderFields). cluster_size h) interruption.header) interruption.below interruption.leaks
 
   -- ---- one part after another
-  module _ (a b c : Qcow2 S F) (first : UnseenCall view backing a b out) where
-    pub stays_then : UnseenCall view backing b c out → UnseenCall view backing a c out
+  module _ (a b c : Qcow2 S F) (first : InternalCall view backing a b out) where
+    pub stays_then : InternalCall view backing b c out → InternalCall view backing a c out
     stays_then then = record {
       works = works_then (abstract_of view backing a out) (abstract_of view backing b out) (abstract_of view backing c out) [] [] first.sound first.works then.works;
       sound = then.sound;
@@ -120,7 +120,7 @@ module _ {S F : Type 0} (view : S → StorageView) (backing : F → BackingView)
   finds old new sound rest offset (Err e) ready = left_refused old new e sound rest ready
 
   -- a mapping was made ready, or that was refused
-  pub image_step_stays : (old new : Qcow2 S F) → ImageInvariant view backing (pending_in view backing old out) old out → UnseenFillingStep view backing (pending_in view backing old out) (pending_with_listed (pending_in view backing old out) old new) old new out → UnseenCall view backing old new out
+  pub image_step_stays : (old new : Qcow2 S F) → ImageInvariant view backing (pending_in view backing old out) old out → InternalFillingStep view backing (pending_in view backing old out) (pending_with_listed (pending_in view backing old out) old new) old new out → InternalCall view backing old new out
   image_step_stays old new sound image_step =
       stays_stepped old new (pending_with_listed (pending_in view backing old out) old new) (record {
         sound = image_step.sound;
@@ -157,7 +157,7 @@ module _ {S F : Type 0} (view : S → StorageView) (backing : F → BackingView)
     abbrev failed_now : Qcow2 S F
     failed_now = record new { is_failed = marked }
 
-    refuses_stayed : UnseenCall view backing old new out → RefusedEffect (abstract_of view backing old out) (abstract_of view backing failed_now out) [] [] (refusal_of e) (IsSame (abstract_of view backing old out) (abstract_of view backing failed_now out))
+    refuses_stayed : InternalCall view backing old new out → RefusedEffect (abstract_of view backing old out) (abstract_of view backing failed_now out) [] [] (refusal_of e) (IsSame (abstract_of view backing old out) (abstract_of view backing failed_now out))
     refuses_stayed stays = outcome_refused view backing old new out out [] (λ sound. stays.works) (λ sound. stays.sound) number usable marked e marks (λ sound. inl stays.same)
 
     module _ (memory : e ≡ I.Memory → IsTrue (has_noted_change new) → IsTrue marked) where

@@ -11,7 +11,7 @@ use Rattle.qcow2_laws.specs.SafeSteps.{SafeStep}
 use Rattle.qcow2_disk.specs.Stops.{SafeThroughout, GivenBytes}
 use Rattle.qcow2_disk.specs.Calls.{EffectOnSound}
 use Rattle.qcow2_disk.specs.UngivenCovers.{UngivenStay}
-use Rattle.qcow2_laws.specs.Unseen.{KeepsFormat}
+use Rattle.qcow2_laws.specs.Internal.{KeepsFormat}
 use Rattle.qcow2_alloc.specs.ImageFile.{state_in, view_in, known_in}
 use Rattle.qcow2_image.specs.declared.image.Qcow2.{Qcow2}
 use Rattle.qcow2_image.specs.declared.prepared.Prepared.{Prepared}

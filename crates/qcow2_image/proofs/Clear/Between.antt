@@ -24,7 +24,7 @@ use Rattle.qcow2_alloc.specs.declared.clusters_to_free.ClustersToFreeEntry.{Clus
 use Rattle.qcow2_alloc.specs.ImageFile.{contents_in, known_in}
 use Rattle.qcow2_alloc.specs.MetadataCaches.{IsEntryAt}
 use Rattle.qcow2_alloc.proofs.KeptTables.Standing.{own_cluster}
-use Rattle.qcow2_image.specs.CallParts.{UnseenCall}
+use Rattle.qcow2_image.specs.CallParts.{InternalCall}
 use Rattle.qcow2_image.specs.Clearing.{ClearsImageCovers, ClearsPart, ClearsTable, IsUnderMapping, IsClearable, MayClear, ReadsAll, ReadsDropped, cover_once_cleared, given_bytes_between, is_between, listed_by, setting_of, shown_by, AreCleared}
 use Rattle.qcow2_image.specs.declared.discarding.ClearMode.{ClearMode}
 use Rattle.qcow2_image.specs.declared.image.Qcow2.{Qcow2}
@@ -32,7 +32,7 @@ use Rattle.qcow2_image.specs.declared.prepared.Prepared.{Prepared}
 use Rattle.qcow2_image.specs.Found.{l1_index_of, l2_index_of}
 use Rattle.qcow2_image.specs.ImageInvariant.{IsPending, IsReadyWith, abstract_of, disk_of, listed_run, pending_in, pins_by}
 use Rattle.qcow2_image.specs.MovedTables.{MovesTables, CoversStay}
-use Rattle.qcow2_image.specs.UnseenSteps.{HoldsTable}
+use Rattle.qcow2_image.specs.InternalSteps.{HoldsTable}
 use Rattle.qcow2_image.proofs.Apart.{pins_own}
 use Rattle.qcow2_image.proofs.Clear.Cleared.{all_cleared}
 use Rattle.qcow2_image.proofs.Moved.{file_step_then}
@@ -184,7 +184,7 @@ module _ {S F : Type 0} (view : S → StorageView) (backing : F → BackingView)
       covers g ∙ ap (λ v. cond (is_between h' from to g) (cover_once_cleared how v) v) there
       ∙ ap (λ (x : HeaderFields). cond (is_between x from to g) (cover_once_cleared how (cover h known g)) (cover h known g)) format
 
-  module _ (old mid new : Qcow2 S F) (how : ClearMode) (from to : ℕ) (first : UnseenCall view backing old mid out) where
+  module _ (old mid new : Qcow2 S F) (how : ClearMode) (from to : ℕ) (first : InternalCall view backing old mid out) where
     same_setting : setting_of view backing mid ≡ setting_of view backing old
     same_setting = first.works.setting
 
@@ -213,14 +213,14 @@ module _ {S F : Type 0} (view : S → StorageView) (backing : F → BackingView)
   whole_format h h' how from to format whole = subst (λ (x : HeaderFields). IsClearable x how from to) (sym format) (record { begins = whole.begins; ends = whole.ends; within = whole.within; version = whole.version })
 
   -- the entries of whole clusters stand in one table
-  pub fits_table : (old mid : Qcow2 S F) (how : ClearMode) (from to : ℕ) → UnseenCall view backing old mid out → IsClearable old.file.header.fields how from to → from < to
+  pub fits_table : (old mid : Qcow2 S F) (how : ClearMode) (from to : ℕ) → InternalCall view backing old mid out → IsClearable old.file.header.fields how from to → from < to
       → from / cluster_size mid.file.header.fields % entries_per_cluster mid.file.header.fields + (to - from) / cluster_size mid.file.header.fields ≤ entries_per_cluster mid.file.header.fields
   fits_table old mid how from to found whole_old lt =
       let h = mid.file.header.fields in
       let whole = whole_format old.file.header.fields h how from to found.header whole_old in
       row_within (cluster_size h) (entries_per_cluster h) (pow_pos h.cluster_bits) from to whole.begins whole.ends lt (Sizes-from h (contents_in view mid.file) found.sound.file.caches.kept.kept.crash_invariant.top.header_reads).entries whole.within
 
-  module _ (old mid b new : Qcow2 S F) (how : ClearMode) (from to table : ℕ) (found : UnseenCall view backing old mid out) (holds : HoldsTable view backing mid from table) (whole_old : IsClearable old.file.header.fields how from to) (lt : from < to)
+  module _ (old mid b new : Qcow2 S F) (how : ClearMode) (from to table : ℕ) (found : InternalCall view backing old mid out) (holds : HoldsTable view backing mid from table) (whole_old : IsClearable old.file.header.fields how from to) (lt : from < to)
       (unpinned : l2_pins mid.file.caches table ≡ 0) (list : List ClustersToFreeEntry)
       (reads : ReadsAll view backing how table (from / cluster_size mid.file.header.fields) ((to - from) / cluster_size mid.file.header.fields) mid list)
       (clears : ClearsTable view backing how table (l2_index_of mid.file.header.fields from) ((to - from) / cluster_size mid.file.header.fields) mid b)
@@ -302,7 +302,7 @@ module _ {S F : Type 0} (view : S → StorageView) (backing : F → BackingView)
     part = clears.part out p (l1_index_of h from) may
 
   -- ---- a table that is under a mapping
-  module _ (old mid : Qcow2 S F) (from table : ℕ) (found : UnseenCall view backing old mid out) (holds : HoldsTable view backing mid from table) where
+  module _ (old mid : Qcow2 S F) (from table : ℕ) (found : InternalCall view backing old mid out) (holds : HoldsTable view backing mid from table) where
     same_row : (guest : ℕ) → l1_index_of mid.file.header.fields guest ≡ l1_index_of old.file.header.fields guest
     same_row guest = ap (λ (h : HeaderFields). l1_index_of h guest) found.header
 

@@ -23,7 +23,7 @@ use Rattle.qcow2_disk.proofs.ForUsers.{laid_outside}
 use Rattle.qcow2_alloc.specs.declared.error.ImageError.{ImageError}
 use Rattle.qcow2_alloc.specs.declared.error.ImageError.TheVariants as I
 use Rattle.qcow2_alloc.specs.ImageFile.{contents_in, known_in}
-use Rattle.qcow2_image.specs.CallParts.{EndsFreeing, RefusedCall, UnseenCall}
+use Rattle.qcow2_image.specs.CallParts.{EndsFreeing, RefusedCall, InternalCall}
 use Rattle.qcow2_image.specs.Calls.{refusal_of}
 use Rattle.qcow2_image.specs.Clearing.{Clears, ClearsImageCovers, ClearsPart, IsUnderMapping, IsClearable, RefusesUngiven, from_in, given_bytes_between, all_given_by_clear, needs_zero_entries, refuses_to_clear, rounds_past, setting_of, shown_by, to_in}
 use Rattle.qcow2_image.specs.declared.discarding.ClearMode.{ClearMode}
@@ -167,11 +167,11 @@ module _ {S F : Type 0} (view : S → StorageView) (backing : F → BackingView)
 
   -- ---- it begins, and clusters are cleared
   module _ (begun entries : Qcow2 S F) (quiet : (out : List (Option Prepared)) → ImageInvariant view backing (pending_in view backing old out) old out → Quietly view backing out old begun) where
-    pub begins : (out : List (Option Prepared)) → ImageInvariant view backing (pending_in view backing old out) old out → UnseenCall view backing old begun out
+    pub begins : (out : List (Option Prepared)) → ImageInvariant view backing (pending_in view backing old out) old out → InternalCall view backing old begun out
     begins out sound = stays_kept view backing out old begun sound (listed view backing out old begun (quiet out) sound)
 
     -- the touched range is one of whole clusters
-    pub whole_in : (out : List (Option Prepared)) → UnseenCall view backing old begun out → (IsTrue (needs_zero_entries how) → 3 ≤ old.file.header.fields.version) → IsClearable begun.file.header.fields how (from_in old offset n) (to_in old offset n)
+    pub whole_in : (out : List (Option Prepared)) → InternalCall view backing old begun out → (IsTrue (needs_zero_entries how) → 3 ≤ old.file.header.fields.version) → IsClearable begun.file.header.fields how (from_in old offset n) (to_in old offset n)
     whole_in out call version =
         let h = old.file.header.fields in
         let h' = begun.file.header.fields in
@@ -183,21 +183,21 @@ module _ {S F : Type 0} (view : S → StorageView) (backing : F → BackingView)
 
     -- that was refused
     refused_ungiven : (e : ImageError) (marked : Bool) → number_of entries ≡ number_of old → MayMark e (is_failed entries) marked → (e ≡ I.Memory → IsTrue (has_noted_change entries) → IsTrue marked)
-        → ((out : List (Option Prepared)) → UnseenCall view backing old begun out → RefusedCall view backing begun entries out e) → (out : List (Option Prepared))
+        → ((out : List (Option Prepared)) → InternalCall view backing old begun out → RefusedCall view backing begun entries out e) → (out : List (Option Prepared))
         → RefusedEffect (abstract_of view backing old out) (abstract_of view backing (record entries { is_failed = marked }) out) [] [] (refusal_of e) (IsSame (abstract_of view backing old out) (abstract_of view backing (record entries { is_failed = marked }) out))
     refused_ungiven e marked number marks memory refused out = refuses_left view backing out old usable entries marked number e marks memory (λ sound. refused_then view backing out old begun entries (begins out sound) e (refused out (begins out sound)))
 
     pub ungiven_refused : (e : ImageError) (marked : Bool) → number_of entries ≡ number_of old → MayMark e (is_failed entries) marked → (e ≡ I.Memory → IsTrue (has_noted_change entries) → IsTrue marked)
-        → ((out : List (Option Prepared)) → UnseenCall view backing old begun out → RefusedCall view backing begun entries out e) → RefusesUngiven view backing old (record entries { is_failed = marked }) e
+        → ((out : List (Option Prepared)) → InternalCall view backing old begun out → RefusedCall view backing begun entries out e) → RefusesUngiven view backing old (record entries { is_failed = marked }) e
     ungiven_refused e marked number marks memory refused none out = refused_ungiven e marked number marks memory refused out
 
     pub clear_refused : (e : ImageError) (marked : Bool) → number_of entries ≡ number_of old → MayMark e (is_failed entries) marked → (e ≡ I.Memory → IsTrue (has_noted_change entries) → IsTrue marked)
-        → ((out : List (Option Prepared)) → UnseenCall view backing old begun out → RefusedCall view backing begun entries out e) → Clears view backing how old (record entries { is_failed = marked }) offset n (Err e)
+        → ((out : List (Option Prepared)) → InternalCall view backing old begun out → RefusedCall view backing begun entries out e) → Clears view backing how old (record entries { is_failed = marked }) offset n (Err e)
     clear_refused e marked number marks memory refused = λ out.
         refuses_more (abstract_of view backing old out) (abstract_of view backing (record entries { is_failed = marked }) out) given_bytes (refusal_of e) _
         (refused_ungiven e marked number marks memory refused out)
 
-    module _ (parts : (out : List (Option Prepared)) → UnseenCall view backing old begun out → ClearsPart view backing how from to begun entries out) (freed : Qcow2 S F) (r : Result (Unit {0}) ImageError)
+    module _ (parts : (out : List (Option Prepared)) → InternalCall view backing old begun out → ClearsPart view backing how from to begun entries out) (freed : Qcow2 S F) (r : Result (Unit {0}) ImageError)
         (ends : (out : List (Option Prepared)) → ImageInvariant view backing (pending_in view backing entries out) entries out → EndsFreeing view backing entries freed out r) (number : number_of freed ≡ number_of old) where
       pub part : (out : List (Option Prepared)) → ImageInvariant view backing (pending_in view backing old out) old out → ClearsPart view backing how from to old entries out
       part out sound = clears_after view backing out old begun entries how from to (begins out sound) (parts out (begins out sound))
@@ -210,7 +210,7 @@ module _ {S F : Type 0} (view : S → StorageView) (backing : F → BackingView)
           → ClearsImageCovers how (from_in old offset n) (to_in old offset n) old.file.header.fields (known_in view old.file) freed.file.header.fields (known_in view freed.file)
       clear_covers ok out sound =
           let it = part out sound in
-          let call : UnseenCall view backing entries freed out = subst (EndsFreeing view backing entries freed out) ok (ends out it.sound) in
+          let call : InternalCall view backing entries freed out = subst (EndsFreeing view backing entries freed out) ok (ends out it.sound) in
           covers_after how from to old.file.header.fields entries.file.header.fields freed.file.header.fields (known_in view old.file) (known_in view entries.file) (known_in view freed.file) it.covers call.covers
 
       -- clusters were freed
@@ -219,7 +219,7 @@ module _ {S F : Type 0} (view : S → StorageView) (backing : F → BackingView)
           let a = abstract_of view backing old out in
           let e = abstract_of view backing entries out in
           let f = abstract_of view backing freed out in
-          let call : ImageInvariant view backing (pending_in view backing old out) old out → UnseenCall view backing entries freed out = λ sound. subst (EndsFreeing view backing entries freed out) ok (ends out (part out sound).sound) in
+          let call : ImageInvariant view backing (pending_in view backing old out) old out → InternalCall view backing entries freed out = λ sound. subst (EndsFreeing view backing entries freed out) ok (ends out (part out sound).sound) in
           outcome_answered view backing old freed out out given_bytes
           (λ sound. works_then a e f given_bytes [] (part out sound).sound (part_works out sound) (works_less e f [] given_bytes [] (λ o x never. absurd never) (λ g u. tt) (call sound).works))
           (λ sound. (call sound).sound) number usable

@@ -14,14 +14,14 @@ use Rattle.qcow2_alloc.proofs.AllocationSteps.{handed_on}
 use Rattle.qcow2_alloc.specs.ImageFile.{known_in}
 use Rattle.qcow2_alloc.specs.declared.error.ImageError.{ImageError}
 use Rattle.qcow2_alloc.specs.declared.error.ImageError.TheVariants as I
-use Rattle.qcow2_image.specs.CallParts.{UnseenCall}
+use Rattle.qcow2_image.specs.CallParts.{InternalCall}
 use Rattle.qcow2_image.specs.Clearing.{ClearsImageCovers, ClearsOrRefuses, ClearsPart, IsClearable, cover_once_cleared, from_in, is_between, needs_zero_entries, refuses_to_clear, rounds_past, to_in}
 use Rattle.qcow2_image.specs.ClearingCalls.{ClearsSoundly, ClearsStep, FailsToClear}
 use Rattle.qcow2_image.specs.Faults.{CountsImageFaults, IsNotOfStorage, SameFaults}
 use Rattle.qcow2_image.specs.Image.{IsSameImage, has_noted_change, is_external, is_failed, is_writable, size_of}
 use Rattle.qcow2_image.specs.ImageInvariant.{ImageInvariant, pending_in}
 use Rattle.qcow2_image.specs.Refusals.{failed_after, passes, refuse_if}
-use Rattle.qcow2_image.specs.UnseenSteps.{UnseenStep}
+use Rattle.qcow2_image.specs.InternalSteps.{InternalStep}
 use Rattle.qcow2_image.specs.declared.discarding.ClearMode.{ClearMode}
 use Rattle.qcow2_image.specs.declared.image.Qcow2.{Qcow2}
 use Rattle.qcow2_image.specs.declared.prepared.Prepared.{Prepared}
@@ -181,12 +181,12 @@ pub record BeginsClearing {S F : Type 0} (view : S → StorageView) (backing : F
   pub last_is : last ≡ to_in old offset n
   pub works : is_failed old ≡ false
   pub quiet : (out : List (Option Prepared)) → ImageInvariant view backing (pending_in view backing old out) old out → Quietly view backing out old begun
-  pub seen : (out : List (Option Prepared)) → ImageInvariant view backing (pending_in view backing old out) old out → UnseenCall view backing old begun out
-  pub whole : (out : List (Option Prepared)) → UnseenCall view backing old begun out → IsClearable begun.file.header.fields how first last
+  pub seen : (out : List (Option Prepared)) → ImageInvariant view backing (pending_in view backing old out) old out → InternalCall view backing old begun out
+  pub whole : (out : List (Option Prepared)) → InternalCall view backing old begun out → IsClearable begun.file.header.fields how first last
 
 module _ {S F : Type 0} (view : S → StorageView) (backing : F → BackingView) (old : Qcow2 S F) (how : ClearMode) (offset n : ℕ) (checked : Result (ℕ × ℕ) ImageError)
     (check : MatchOption (refuses_to_clear old offset n how) (checked ≡ Ok (from_in old offset n, to_in old offset n)) (λ e. checked ≡ Err e)) (first last : ℕ) (was : checked ≡ Ok (first, last)) (begun : Qcow2 S F) where
-  pub begins_clearing : ((p : Pending) (out : List (Option Prepared)) → ImageInvariant view backing p old out → UnseenStep view backing p p old begun out) → begun.file.free_list ≡ old.file.free_list
+  pub begins_clearing : ((p : Pending) (out : List (Option Prepared)) → ImageInvariant view backing p old out → InternalStep view backing p p old begun out) → begun.file.free_list ≡ old.file.free_list
       → (IsTrue (needs_zero_entries how) → 3 ≤ old.file.header.fields.version) → BeginsClearing view backing old how offset n begun first last
   begins_clearing keeps list version =
       let range = not_refused checked (from_in old offset n, to_in old offset n) (refuses_to_clear old offset n how) (first, last) check was in
@@ -209,7 +209,7 @@ module _ {S F : Type 0} (view : S → StorageView) (backing : F → BackingView)
 pub parts_cleared : {S F : Type 0} (view : S → StorageView) (backing : F → BackingView) (old : Qcow2 S F) (how : ClearMode) (offset n : ℕ) (begun : Qcow2 S F) (first last : ℕ) → BeginsClearing view backing old how offset n begun first last
     → (entries : Qcow2 S F) (r : Result (Unit {0}) ImageError) (x : Unit {0}) → r ≡ Ok x
     → ((out : List (Option Prepared)) → ImageInvariant view backing (pending_in view backing begun out) begun out → IsClearable begun.file.header.fields how first last → ClearsOrRefuses view backing how first last begun entries out r)
-    → (out : List (Option Prepared)) → UnseenCall view backing old begun out → ClearsPart view backing how (from_in old offset n) (to_in old offset n) begun entries out
+    → (out : List (Option Prepared)) → InternalCall view backing old begun out → ClearsPart view backing how (from_in old offset n) (to_in old offset n) begun entries out
 parts_cleared view backing old how offset n begun first last b entries r x done clears out call =
     subst (λ k. ClearsPart view backing how k (to_in old offset n) begun entries out) b.first_is (subst (λ k. ClearsPart view backing how first k begun entries out) b.last_is
     (subst (ClearsOrRefuses view backing how first last begun entries out) done (clears out call.sound (b.whole out call))))

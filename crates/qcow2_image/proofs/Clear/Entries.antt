@@ -25,7 +25,7 @@ use Rattle.qcow2_laws.specs.GuestLaws.{IsZeros, MapsEntry}
 use Rattle.qcow2_laws.specs.Guests.{names, table_at}
 use Rattle.qcow2_laws.specs.SafeSteps.{DriverState, StateInvariant}
 use Rattle.qcow2_laws.specs.Steps.{guest_at, EntryChanges}
-use Rattle.qcow2_laws.specs.Unseen.{SameOtherCovers}
+use Rattle.qcow2_laws.specs.Internal.{SameOtherCovers}
 use Rattle.qcow2_laws.proofs.CachedChanges.{Takes, takes_nothing, takes_own}
 use Rattle.qcow2_laws.proofs.MappedAnew.{entry_uncovered, entry_zeroed, pending_after}
 use Rattle.qcow2_laws.proofs.Places.{Sizes-from, cover_at}

@@ -15,7 +15,7 @@ use Rattle.qcow2_image.specs.declared.image.Qcow2.{Qcow2}
 use Rattle.qcow2_image.specs.declared.prepared.Prepared.{Prepared}
 use Rattle.qcow2_image.specs.Image.{number_of, is_failed}
 use Rattle.qcow2_image.specs.Calls.{Discards, refusal_of}
-use Rattle.qcow2_image.specs.CallParts.{CommitsAll, EndsFreeing, EntersAll, ShowsPart, UnseenCall}
+use Rattle.qcow2_image.specs.CallParts.{CommitsAll, EndsFreeing, EntersAll, ShowsPart, InternalCall}
 use Rattle.qcow2_alloc.specs.ImageFile.{contents_in, known_in}
 use Rattle.qcow2_image.specs.ImageInvariant.{pending_in, abstract_of, meaning, IsReadyWith, ImageInvariant}
 use Rattle.qcow2_image.proofs.Call.Answered.{same_guest}
@@ -141,7 +141,7 @@ module _ {S F : Type 0} (view : S → StorageView) (backing : F → BackingView)
 
       -- ---- clusters were freed, and it is let go
       module _ (ok : r ≡ Ok tt) (new : Qcow2 S F) (discards : Discards view backing freed new q) where
-        freed_call : UnseenCall view backing entered freed left
+        freed_call : InternalCall view backing entered freed left
         freed_call = subst (EndsFreeing view backing entered freed left) ok ended
 
         release_prepared : AnsweredEffect f (abstract_of view backing new (slice_set left k None)) [] [] (guest_of (abstract_of view backing new (slice_set left k None)) ≡ with_slot (guest_of f) k None)

@@ -53,7 +53,7 @@ use Rattle.qcow2_image.specs.declared.prepared.Prepared.{Prepared}
 use Rattle.qcow2_image.specs.declared.prepared.Share.{Share}
 use Rattle.qcow2_image.specs.declared.prepared.Share.TheVariants.{InPlace, Kept, New}
 use Rattle.qcow2_image.specs.CallParts.{CommitsPart, ShowsPart}
-use Rattle.qcow2_image.specs.UnseenSteps.{old_data_by}
+use Rattle.qcow2_image.specs.InternalSteps.{old_data_by}
 use Rattle.qcow2_image.proofs.Sound.{free_more}
 use Rattle.qcow2_image.specs.ImageInvariant.{to_free, of_data, of_tables, listed_run, new_data_in, new_data_by, pins_by, over_all, pending_in, abstract_of, meaning, is_entered, is_private, cluster_of, host_begin_of, share_of, backing_bytes, IsNewAt, IsShareAt, IsPending, IsReady, IsReadyWith, ImageInvariant}
 use Rattle.qcow2_image.proofs.Apart.{apart_guests}

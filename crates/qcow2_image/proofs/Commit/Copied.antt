@@ -13,7 +13,7 @@ use Rattle.qcow2_alloc.specs.ImageFile.{contents_in, known_in}
 use Rattle.qcow2_image.specs.declared.image.Qcow2.{Qcow2}
 use Rattle.qcow2_image.specs.declared.prepared.Prepared.{Prepared}
 use Rattle.qcow2_image.specs.declared.prepared.Share.TheVariants.{InPlace}
-use Rattle.qcow2_image.specs.CallParts.{CommitsAll, EndsFreeing, EntersAll, IsEntered, UnseenCall}
+use Rattle.qcow2_image.specs.CallParts.{CommitsAll, EndsFreeing, EntersAll, IsEntered, InternalCall}
 use Rattle.qcow2_image.specs.ImageInvariant.{cluster_of, host_begin_of, pending_in, IsPending, IsReadyWith, ImageInvariant}
 use Rattle.qcow2_image.specs.Ranges.{ReleasesOneMapping}
 use Rattle.qcow2_image.proofs.Call.Called.{Quietly, quiet_sound}
@@ -67,7 +67,7 @@ module _ {S F : Type 0} (view : S → StorageView) (backing : F → BackingView)
       → AreDataAt new.file.header.fields (known_in view new.file) true p.guest p.offset p.length
   stands_copied some r begins enters whole ends ok released out k placed sound =
       let all : CommitsAll view backing begun entered out k p q = (enters out k placed some (quiet_sound view backing out old begun (begins out) sound)).0 in
-      let freeing : UnseenCall view backing entered freed (slice_set out k (Some q)) = subst (EndsFreeing view backing entered freed (slice_set out k (Some q))) ok (ends (slice_set out k (Some q)) all.part.sound) in
+      let freeing : InternalCall view backing entered freed (slice_set out k (Some q)) = subst (EndsFreeing view backing entered freed (slice_set out k (Some q))) ok (ends (slice_set out k (Some q)) all.part.sound) in
       let told = stands_entered view entered p q some whole (all.part.sound.ready k q (get_set_same out k (Some q) (Some p) placed)).mapped in
       let moved : AreDataAt freed.file.header.fields (known_in view freed.file) true p.guest p.offset p.length =
       λ i lt. data_moved entered.file.header.fields freed.file.header.fields (known_in view entered.file) (known_in view freed.file) freeing.header freeing.covers (p.guest + i) (p.offset + i) (told i lt) in

@@ -36,7 +36,7 @@ use Rattle.qcow2_image.specs.declared.prepared.Share.{Share}
 use Rattle.qcow2_image.specs.declared.prepared.Share.TheVariants.{InPlace, Kept, New}
 use Rattle.qcow2_image.specs.CallParts.{CommitsPart, EntersAll, IsEntered, ShowsPart}
 use Rattle.qcow2_image.specs.Image.{ImageStays}
-use Rattle.qcow2_image.specs.UnseenSteps.{DropsNothing, EntersShare, old_data_by}
+use Rattle.qcow2_image.specs.InternalSteps.{DropsNothing, EntersShare, old_data_by}
 use Rattle.qcow2_image.specs.ImageInvariant.{cluster_of, host_begin_of, is_entered, pins_by, pending_in, abstract_of, meaning, is_private, IsShareAt, IsPending, IsReadyWith, ImageInvariant}
 use Rattle.qcow2_image.proofs.Apart.{pins_own}
 use Rattle.qcow2_image.proofs.Call.Called.{works_none}

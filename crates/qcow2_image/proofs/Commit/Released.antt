@@ -27,7 +27,7 @@ use Rattle.qcow2_image.specs.declared.image.Qcow2.{Qcow2}
 use Rattle.qcow2_image.specs.declared.prepared.Prepared.{Prepared}
 use Rattle.qcow2_image.specs.declared.prepared.Share.{Share}
 use Rattle.qcow2_image.specs.Calls.{Discards}
-use Rattle.qcow2_image.specs.UnseenSteps.{freed_by}
+use Rattle.qcow2_image.specs.InternalSteps.{freed_by}
 use Rattle.qcow2_image.specs.ImageInvariant.{of_data, of_tables, new_data_by, pins_by, pending_in, abstract_of, meaning, backing_bytes, IsReadyWith, ImageInvariant}
 use Rattle.qcow2_image.proofs.Call.Answered.{same_guest}
 use Rattle.qcow2_image.proofs.Shares.{IsOfData, freed_data, freed_tables, of_data_at, over_all_at, ready_table}

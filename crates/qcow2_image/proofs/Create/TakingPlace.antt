@@ -29,7 +29,7 @@ use Rattle.qcow2_image.specs.Calls.{FlushesImage}
 use Rattle.qcow2_image.specs.Clearing.{setting_of}
 use Rattle.qcow2_image.specs.Created.{Enlarges, GrowsBy, IsPreallocated, IsStopOfCreating, IsUnwritten, ShowsZeros, StopsCreating, TakesPlace}
 use Rattle.qcow2_image.specs.declared.image.Qcow2.{Qcow2}
-use Rattle.qcow2_laws.specs.Unseen.{KeepsFormat}
+use Rattle.qcow2_laws.specs.Internal.{KeepsFormat}
 use Rattle.qcow2_image.proofs.Grow.Lengths.{fits_grown}
 use Rattle.qcow2_image.specs.Growing.{FitsSize, Extends, Lasts, ReachesSize, SameFormat, WritesBack}
 use Rattle.qcow2_image.specs.Image.{is_writable, size_of}

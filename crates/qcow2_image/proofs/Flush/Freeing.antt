@@ -11,7 +11,7 @@ use Rattle.qcow2_laws.specs.SafeSteps.{SafeStep}
 use Rattle.qcow2_disk.specs.AbstractImages.{stored_bytes}
 use Rattle.qcow2_laws.proofs.Formats.{format_same, format_then}
 use Rattle.qcow2_laws.proofs.SafeSteps.{safe_step_then, steps_safe_throughout}
-use Rattle.qcow2_laws.proofs.Unseen.{unseen_then}
+use Rattle.qcow2_laws.proofs.Internal.{unseen_then}
 use Rattle.qcow2_alloc.specs.declared.allocation.Allocator.{Allocator}
 use Rattle.qcow2_alloc.specs.declared.error.ImageError.{ImageError}
 use Rattle.qcow2_alloc.specs.declared.image_file.ImageFile.{ImageFile}
@@ -26,8 +26,8 @@ use Rattle.qcow2_alloc.proofs.KeptAllocators.{freed_kept}
 use Rattle.qcow2_alloc.specs.LowestRuns.{KeepsNoFreeBelowHint}
 use Rattle.qcow2_image.specs.declared.image.Qcow2.{Qcow2}
 use Rattle.qcow2_image.specs.declared.prepared.Prepared.{Prepared}
-use Rattle.qcow2_image.specs.CallParts.{EndsFreeing, RefusedCall, UnseenCall}
-use Rattle.qcow2_image.specs.UnseenSteps.{UnseenStep, UnseenFreeingStep, FreesListed}
+use Rattle.qcow2_image.specs.CallParts.{EndsFreeing, RefusedCall, InternalCall}
+use Rattle.qcow2_image.specs.InternalSteps.{InternalStep, InternalFreeingStep, FreesListed}
 use Rattle.qcow2_image.specs.Calls.{FlushesImage, refusal_of}
 use Rattle.qcow2_image.specs.Image.{number_of, is_failed, has_noted_change, leaked_by, leaked_in}
 use Rattle.qcow2_image.proofs.Call.Marked.{MayMarkBy}
@@ -41,7 +41,7 @@ use Rattle.qcow2_image.proofs.UngivenCovers.{all_stay}
 use Rattle.qcow2_image.proofs.Moved.{format_stay}
 
 module _ {S F : Type 0} (view : S → StorageView) (backing : F → BackingView) (out : List (Option Prepared)) where
-  pub freeing_step_then : (a b c : Qcow2 S F) (p q r : Pending) → ((k : ℕ) → 0 < p.new_data k → 0 < q.new_data k) → UnseenFreeingStep view backing p q a b out → UnseenFreeingStep view backing q r b c out → UnseenFreeingStep view backing p r a c out
+  pub freeing_step_then : (a b c : Qcow2 S F) (p q r : Pending) → ((k : ℕ) → 0 < p.new_data k → 0 < q.new_data k) → InternalFreeingStep view backing p q a b out → InternalFreeingStep view backing q r b c out → InternalFreeingStep view backing p r a c out
   freeing_step_then a b c p q r new_data first then = record {
     sound = then.sound;
     safe_step = safe_step_then (state_in view a.file p) (state_in view b.file q) (state_in view c.file r) nothing_given nothing_given [] [] first.safe_step then.safe_step;
@@ -67,25 +67,25 @@ module _ {S F : Type 0} (view : S → StorageView) (backing : F → BackingView)
   frees_fault p q old file a (Err e) frees = frees.0
 
   -- whatever is answered
-  pub frees_any : (p : Pending) (old new : Qcow2 S F) (r : Result (Unit {0}) ImageError) → UnseenFreeingStep view backing (with_listed p old.file.free_list) (with_listed p new.file.free_list) old new out → FreesListed view backing p old new out r
+  pub frees_any : (p : Pending) (old new : Qcow2 S F) (r : Result (Unit {0}) ImageError) → InternalFreeingStep view backing (with_listed p old.file.free_list) (with_listed p new.file.free_list) old new out → FreesListed view backing p old new out r
   frees_any p old new (Ok _) freeing_step = freeing_step
   frees_any p old new (Err e) freeing_step = inl freeing_step
 
   -- a part that leaves the list follows
-  pub freeing_step_on : (a b c : Qcow2 S F) (p : Pending) → c.file.free_list ≡ b.file.free_list → UnseenFreeingStep view backing (with_listed p a.file.free_list) (with_listed p b.file.free_list) a b out
-      → UnseenStep view backing (with_listed p b.file.free_list) (with_listed p b.file.free_list) b c out → UnseenFreeingStep view backing (with_listed p a.file.free_list) (with_listed p c.file.free_list) a c out
+  pub freeing_step_on : (a b c : Qcow2 S F) (p : Pending) → c.file.free_list ≡ b.file.free_list → InternalFreeingStep view backing (with_listed p a.file.free_list) (with_listed p b.file.free_list) a b out
+      → InternalStep view backing (with_listed p b.file.free_list) (with_listed p b.file.free_list) b c out → InternalFreeingStep view backing (with_listed p a.file.free_list) (with_listed p c.file.free_list) a c out
   freeing_step_on a b c p listed first then =
-      subst (λ l. UnseenFreeingStep view backing (with_listed p a.file.free_list) (with_listed p l) a c out) (sym listed)
+      subst (λ l. InternalFreeingStep view backing (with_listed p a.file.free_list) (with_listed p l) a c out) (sym listed)
       (freeing_step_then a b c (with_listed p a.file.free_list) (with_listed p b.file.free_list) (with_listed p b.file.free_list) (λ k some. some) first (freeing_step_kept view backing b c out (with_listed p b.file.free_list) (with_listed p b.file.free_list) then))
 
-  before : (a b c : Qcow2 S F) (p : Pending) → b.file.free_list ≡ a.file.free_list → UnseenStep view backing (with_listed p a.file.free_list) (with_listed p a.file.free_list) a b out
-      → UnseenFreeingStep view backing (with_listed p b.file.free_list) (with_listed p c.file.free_list) b c out → UnseenFreeingStep view backing (with_listed p a.file.free_list) (with_listed p c.file.free_list) a c out
+  before : (a b c : Qcow2 S F) (p : Pending) → b.file.free_list ≡ a.file.free_list → InternalStep view backing (with_listed p a.file.free_list) (with_listed p a.file.free_list) a b out
+      → InternalFreeingStep view backing (with_listed p b.file.free_list) (with_listed p c.file.free_list) b c out → InternalFreeingStep view backing (with_listed p a.file.free_list) (with_listed p c.file.free_list) a c out
   before a b c p listed first then =
       freeing_step_then a b c (with_listed p a.file.free_list) (with_listed p a.file.free_list) (with_listed p c.file.free_list) (λ k some. some) (freeing_step_kept view backing a b out (with_listed p a.file.free_list) (with_listed p a.file.free_list) first)
-      (subst (λ l. UnseenFreeingStep view backing (with_listed p l) (with_listed p c.file.free_list) b c out) listed then)
+      (subst (λ l. InternalFreeingStep view backing (with_listed p l) (with_listed p c.file.free_list) b c out) listed then)
 
   -- and one goes before
-  pub frees_on : (a b c : Qcow2 S F) (p : Pending) (r : Result (Unit {0}) ImageError) → b.file.free_list ≡ a.file.free_list → UnseenStep view backing (with_listed p a.file.free_list) (with_listed p a.file.free_list) a b out
+  pub frees_on : (a b c : Qcow2 S F) (p : Pending) (r : Result (Unit {0}) ImageError) → b.file.free_list ≡ a.file.free_list → InternalStep view backing (with_listed p a.file.free_list) (with_listed p a.file.free_list) a b out
       → FreesListed view backing p b c out r → FreesListed view backing p a c out r
   frees_on a b c p (Ok _) listed first then = before a b c p listed first then
   frees_on a b c p (Err e) listed first then = elim then [
@@ -112,8 +112,8 @@ module _ {S F : Type 0} (view : S → StorageView) (backing : F → BackingView)
   pub all_listed : pending_in view backing old out ≡ with_listed beside old.file.free_list
   all_listed = pending_same (pending_in view backing old out) (with_listed beside old.file.free_list) (λ k. refl) (λ k. refl) (λ k. sym (omega arith)) (λ k. sym (omega arith)) (λ k. refl)
 
-  module _ (new : Qcow2 S F) (sound : ImageInvariant view backing (pending_in view backing old out) old out) (freeing_step : UnseenFreeingStep view backing (with_listed beside old.file.free_list) (with_listed beside new.file.free_list) old new out) where
-    pub tidy_stays : UnseenCall view backing old new out
+  module _ (new : Qcow2 S F) (sound : ImageInvariant view backing (pending_in view backing old out) old out) (freeing_step : InternalFreeingStep view backing (with_listed beside old.file.free_list) (with_listed beside new.file.free_list) old new out) where
+    pub tidy_stays : InternalCall view backing old new out
     tidy_stays =
         stays_stepped view backing out old new (with_listed beside new.file.free_list) (record {
           sound = freeing_step.sound;
@@ -138,7 +138,7 @@ module _ {S F : Type 0} (view : S → StorageView) (backing : F → BackingView)
       → ((out : List (Option Prepared)) → ImageInvariant view backing (pending_in view backing old out) old out → FreesListed view backing (beside view backing old out) old new out r)
       → IfOk r (λ done. known_in view new.file ≡ contents_in view new.file) → FlushesImage view backing old (record new { is_failed = marked }) r
   flushes_with_outcome (Ok done) marks memory frees written = λ out.
-      let stays : ImageInvariant view backing (pending_in view backing old out) old out → UnseenCall view backing old new out = λ sound. tidy_stays view backing old out new sound (frees out sound) in
+      let stays : ImageInvariant view backing (pending_in view backing old out) old out → InternalCall view backing old new out = λ sound. tidy_stays view backing old out new sound (frees out sound) in
       subst (λ (f : Bool). let v = abstract_of view backing old out in let w = abstract_of view backing (record new { is_failed = f }) out in AnsweredEffect v w [] [] ((w.known ≡ stored_bytes w) × IsSame v w)) (sym marks)
       (outcome_answered view backing old new out out [] (λ sound. (stays sound).works) (λ sound. (stays sound).sound) number usable (λ sound. (written, (stays sound).same)))
   flushes_with_outcome (Err e) marks memory frees written = λ out. refuses_left view backing out old usable new marked number e marks memory (λ sound. freed_refused view backing old out new e sound (frees out sound))

@@ -18,18 +18,18 @@ use Rattle.qcow2_alloc.specs.ImageFile.{nothing_given, view_in, known_in, state_
 use Rattle.qcow2_alloc.proofs.FileSteps.{pending_same}
 use Rattle.qcow2_alloc.proofs.PlacedBlocks.{file_sizes}
 use Rattle.qcow2_image.specs.declared.image.Qcow2.{Qcow2}
-use Rattle.qcow2_image.specs.LongerTables.{RefusedMove, UnseenMove}
+use Rattle.qcow2_image.specs.LongerTables.{RefusedMove, InternalMove}
 use Rattle.qcow2_image.proofs.Grow.Lengths.{fits_grown, reaches_begun, reaches_told}
 use Rattle.qcow2_image.specs.L1Entries.{ReachesOffset}
 use Rattle.qcow2_image.specs.Growing.{FitsSize, Lasts, Extends, Resizes, GrowsDisk, KeepsSurplus, LeavesSound, WritesBack, ReachesSize, GrowsWhole}
 use Rattle.qcow2_image.specs.Image.{size_of, is_failed, is_writable}
 use Rattle.qcow2_image.proofs.Call.Marked.{MayMark, MayMarkBy}
 use Rattle.qcow2_image.proofs.Call.Refused.{stays_kept, stays_then}
-use Rattle.qcow2_image.specs.CallParts.{UnseenCall}
+use Rattle.qcow2_image.specs.CallParts.{InternalCall}
 use Rattle.qcow2_image.specs.Limits.{IfLimit}
 use Rattle.qcow2_alloc.specs.FreeList.{with_listed}
 use Rattle.qcow2_image.proofs.Flush.Freeing.{all_listed, beside}
-use Rattle.qcow2_image.specs.UnseenSteps.{UnseenFreeingStep, FreesListed, UnseenStep, ListGrows, pending_with_listed}
+use Rattle.qcow2_image.specs.InternalSteps.{InternalFreeingStep, FreesListed, InternalStep, ListGrows, pending_with_listed}
 use Rattle.qcow2_image.specs.ImageInvariant.{of_data, of_tables, to_free, pending_in, ImageInvariant}
 use Rattle.qcow2_image.proofs.Moved.{format_stay, file_step_format}
 use Rattle.qcow2_image.proofs.Sound.{IsOnly, free_more, pending_is}
@@ -37,7 +37,7 @@ use Rattle.qcow2_image.proofs.Sound.{IsOnly, free_more, pending_is}
 module _ {S F : Type 0} (view : S → StorageView) (backing : F → BackingView) where
   -- ---- one part after another
   -- a part that no guest sees, though the L1 table may move
-  pub extends_moving : (p q : Pending) (a b : Qcow2 S F) → UnseenMove view backing p q a b [] → Extends view backing p q a b []
+  pub extends_moving : (p q : Pending) (a b : Qcow2 S F) → InternalMove view backing p q a b [] → Extends view backing p q a b []
   extends_moving p q a b file_step = record {
     sound = file_step.sound;
     safe_step = file_step.safe_step;
@@ -50,7 +50,7 @@ module _ {S F : Type 0} (view : S → StorageView) (backing : F → BackingView)
   pub lasts_refused : (p : Pending) (a b : Qcow2 S F) (e : ImageError) → RefusedMove view backing p a b [] e → Lasts view a b []
   lasts_refused p a b e left = ⊎_elim (λ keeps. keeps.since) (λ interruption. interruption.interrupted.since) left
 
-  pub extends_keeping : (p q : Pending) (a b : Qcow2 S F) → UnseenStep view backing p q a b [] → Extends view backing p q a b []
+  pub extends_keeping : (p q : Pending) (a b : Qcow2 S F) → InternalStep view backing p q a b [] → Extends view backing p q a b []
   extends_keeping p q a b keeps = record {
     sound = keeps.sound;
     safe_step = keeps.safe_step;
@@ -114,7 +114,7 @@ module _ {S F : Type 0} (view : S → StorageView) (backing : F → BackingView)
       reaches_told view backing [] p (pending_with_listed p a c) a c (size - 1) sound resizes.0.sound (ap entry_count same ∙ long ∙ ap (λ n. max (entry_count a.l1_table) (n + 1)) is)
 
   -- ---- the call
-  module _ (old mid big : Qcow2 S F) (sound : ImageInvariant view backing (pending_in view backing old []) old []) (begun : UnseenStep view backing (pending_in view backing old []) (pending_in view backing old []) old mid [])
+  module _ (old mid big : Qcow2 S F) (sound : ImageInvariant view backing (pending_in view backing old []) old []) (begun : InternalStep view backing (pending_in view backing old []) (pending_in view backing old []) old mid [])
       (same : mid.file.free_list ≡ old.file.free_list) (size : ℕ) (larger : size_of old < size) where
     abbrev p : Pending
     p = pending_in view backing old []
@@ -166,8 +166,8 @@ module _ {S F : Type 0} (view : S → StorageView) (backing : F → BackingView)
         (subst (λ (i : Qcow2 S F). OnOk done (KeepsSurplus view backing old i)) (sym rest) (kept done (is_failed new) writable resizes grows marks))
 
   -- ---- a larger L1 table met a limit
-  pub left_sound : {A B : Type 0} (old begun big new : Qcow2 S F) → (call : UnseenCall view backing old begun []) → is_writable big ≡ is_writable old → (r : Result (Unit {0}) ImageError) → new ≡ record big { is_failed = is_failed new } → MayMarkBy r (is_failed big) (is_failed new)
-      → (A → B) → IfLimit r (A × UnseenStep view backing (pending_in view backing begun []) (pending_with_listed (pending_in view backing begun []) begun big) begun big []) → IfLimit r (B × LeavesSound view backing old new)
+  pub left_sound : {A B : Type 0} (old begun big new : Qcow2 S F) → (call : InternalCall view backing old begun []) → is_writable big ≡ is_writable old → (r : Result (Unit {0}) ImageError) → new ≡ record big { is_failed = is_failed new } → MayMarkBy r (is_failed big) (is_failed new)
+      → (A → B) → IfLimit r (A × InternalStep view backing (pending_in view backing begun []) (pending_with_listed (pending_in view backing begun []) begun big) begun big []) → IfLimit r (B × LeavesSound view backing old new)
   left_sound old begun big new call writable (Ok x) rest marks to limit = tt
   left_sound old begun big new call writable (Err e) rest marks to limit = λ is.
       let met = limit is in
@@ -180,7 +180,7 @@ module _ {S F : Type 0} (view : S → StorageView) (backing : F → BackingView)
       )
 
   -- ---- what is listed is freed, and all tables are written
-  extends_tidying : (p q : Pending) (a b : Qcow2 S F) → UnseenFreeingStep view backing p q a b [] → Extends view backing p q a b []
+  extends_tidying : (p q : Pending) (a b : Qcow2 S F) → InternalFreeingStep view backing p q a b [] → Extends view backing p q a b []
   extends_tidying p q a b freeing_step = record {
     sound = freeing_step.sound;
     safe_step = freeing_step.safe_step;

@@ -16,13 +16,13 @@ use Rattle.qcow2_laws.specs.Changes.{new_tables_to_old_tables}
 use Rattle.qcow2_laws.specs.CrashInvariant.{Pending}
 use Rattle.qcow2_laws.specs.Guests.{over_guests, names}
 use Rattle.qcow2_laws.specs.SafeSteps.{SafeStep}
-use Rattle.qcow2_laws.specs.Unseen.{used_by_guests}
+use Rattle.qcow2_laws.specs.Internal.{used_by_guests}
 use Rattle.qcow2_laws.proofs.Formats.{guests_format}
 use Rattle.qcow2_laws.proofs.Guests.{over_guests-same}
 use Rattle.qcow2_laws.proofs.SafeSteps.{safe_step_none, safe_step_then, steps_safe_throughout}
 use Rattle.qcow2_laws.proofs.Steps.{pending_is_changed}
-use Rattle.qcow2_laws.proofs.Unseen.{unseen_disk}
-use Rattle.qcow2_alloc.specs.Allocation.{run_at, taken_as, UnseenAllocatorGrowth, RefusedGrowth}
+use Rattle.qcow2_laws.proofs.Internal.{unseen_disk}
+use Rattle.qcow2_alloc.specs.Allocation.{run_at, taken_as, InternalAllocatorGrowth, RefusedGrowth}
 use Rattle.qcow2_alloc.specs.CachePins.{KeepsPinsAndNotes}
 use Rattle.qcow2_alloc.specs.declared.allocation.Allocator.{Allocator}
 use Rattle.qcow2_alloc.specs.declared.clusters_to_free.ClusterKind.{ClusterKind}
@@ -39,10 +39,10 @@ use Rattle.qcow2_alloc.proofs.Runs.{run_none}
 use Rattle.qcow2_alloc.specs.LowestRuns.{NoFreeBelowHint, BrokeOff}
 use Rattle.qcow2_image.specs.declared.image.Qcow2.{Qcow2}
 use Rattle.qcow2_image.specs.declared.prepared.Prepared.{Prepared}
-use Rattle.qcow2_image.specs.CallParts.{RefusedCall, UnseenCall}
+use Rattle.qcow2_image.specs.CallParts.{RefusedCall, InternalCall}
 use Rattle.qcow2_image.specs.ImageInvariant.{of_data, of_tables, to_free, pending_in, ImageInvariant, abstract_of}
-use Rattle.qcow2_image.specs.LongerTables.{clusters_of, run_of_table, listed, with_table, without_l1, IsLongerL1, StandsWhole, UnseenMove, InterruptedMove, RefusedMove, PlacesTable, NamesTable, NamesTaken, TakesTable, MakesEntry}
-use Rattle.qcow2_image.specs.UnseenSteps.{UnseenStep, FreesListed, ListGrows, pending_with_listed}
+use Rattle.qcow2_image.specs.LongerTables.{clusters_of, run_of_table, listed, with_table, without_l1, IsLongerL1, StandsWhole, InternalMove, InterruptedMove, RefusedMove, PlacesTable, NamesTable, NamesTaken, TakesTable, MakesEntry}
+use Rattle.qcow2_image.specs.InternalSteps.{InternalStep, FreesListed, ListGrows, pending_with_listed}
 use Rattle.qcow2_image.proofs.Call.Answered.{followed, same_setting, still_shown}
 use Rattle.qcow2_image.proofs.Call.Called.{keeps_then}
 use Rattle.qcow2_image.proofs.Call.Refused.{break_off_so, refused_then, stays_kept, stays_then}
@@ -63,7 +63,7 @@ run_few first n k = elim (nat_le first k && nat_lt k (first + n)) as (λ (b : Bo
 
 module _ {S F : Type 0} (view : S → StorageView) (backing : F → BackingView) (out : List (Option Prepared)) where
   -- ---- one part after another
-  module _ (p q : Pending) (a b : Qcow2 S F) (new_data : (k : ℕ) → 0 < p.new_data k → 0 < q.new_data k) (keeps : UnseenStep view backing p q a b out) where
+  module _ (p q : Pending) (a b : Qcow2 S F) (new_data : (k : ℕ) → 0 < p.new_data k → 0 < q.new_data k) (keeps : InternalStep view backing p q a b out) where
     used_stay : (c : ℕ) → 0 < used_by_guests (state_in view a.file p) c → 0 < used_by_guests (state_in view b.file q) c
     used_stay c some =
         let h = a.file.header.fields in
@@ -73,7 +73,7 @@ module _ {S F : Type 0} (view : S → StorageView) (backing : F → BackingView)
         let still = new_data c in
         grind arith
 
-    pub file_step_kept : ImageInvariant view backing p a out → UnseenMove view backing p q a b out
+    pub file_step_kept : ImageInvariant view backing p a out → InternalMove view backing p q a b out
     file_step_kept sound = record {
       sound = keeps.sound;
       safe_step = keeps.safe_step;
@@ -88,7 +88,7 @@ module _ {S F : Type 0} (view : S → StorageView) (backing : F → BackingView)
       leaks = keeps.leaks;
     }
 
-  pub move_then : (p q r : Pending) (a b c : Qcow2 S F) → UnseenMove view backing p q a b out → UnseenMove view backing q r b c out → UnseenMove view backing p r a c out
+  pub move_then : (p q r : Pending) (a b c : Qcow2 S F) → InternalMove view backing p q a b out → InternalMove view backing q r b c out → InternalMove view backing p r a c out
   move_then p q r a b c first then =
       let size : cluster_size a.file.header.fields ≡ cluster_size b.file.header.fields = sym (ap (λ (h : HeaderFields). cluster_size h) first.header) in record {
         sound = then.sound;
@@ -104,7 +104,7 @@ module _ {S F : Type 0} (view : S → StorageView) (backing : F → BackingView)
         leaks = then.leaks ∙ first.leaks;
       }
 
-  pub interruption_then : (p q : Pending) (a b c : Qcow2 S F) (e : ImageError) → UnseenStep view backing p q a b out → InterruptedMove view backing b c e → InterruptedMove view backing a c e
+  pub interruption_then : (p q : Pending) (a b c : Qcow2 S F) (e : ImageError) → InternalStep view backing p q a b out → InterruptedMove view backing b c e → InterruptedMove view backing a c e
   interruption_then p q a b c e first interruption = record {
     interrupted = (interrupted_on view backing out p q a b c e first (record { interrupted = interruption.interrupted; leaks = interruption.leaks })).interrupted;
     header = file_step_then a.file.header.fields b.file.header.fields c.file.header.fields (format_file_step a.file.header.fields b.file.header.fields first.unseen.header) interruption.header;
@@ -125,7 +125,7 @@ module _ {S F : Type 0} (view : S → StorageView) (backing : F → BackingView)
       joined : (r : Result (Unit {0}) ImageError) → NamesTable view backing p b c out (record t { cluster = Some cluster }) cluster r → NamesTable view backing p a c out t cluster r
       joined (Ok x) named =
           let q = with_table p t cluster in
-          subst (λ (h : HeaderFields). UnseenMove view backing q (without_l1 p h) a c out) placed.0.unseen.header
+          subst (λ (h : HeaderFields). InternalMove view backing q (without_l1 p h) a c out) placed.0.unseen.header
           (move_then q q (without_l1 p b.file.header.fields) a b c (file_step_kept q q a b (λ k some. some) placed.0 sound) named)
       joined (Err e) left = let q = with_table p t cluster in elim left [
         | inl keeps ↦ inl (keeps_then view backing out a b c q q q (λ k some. some) placed.0 keeps)
@@ -137,7 +137,7 @@ module _ {S F : Type 0} (view : S → StorageView) (backing : F → BackingView)
   run_given_up p t cluster = record p { old_tables = λ k. p.old_tables k + run_at cluster (clusters_of t) k }
 
   abandoned_run : (p : Pending) (t : EntryTableView) (cluster : ℕ) (image : Qcow2 S F) (list more : List ClustersToFreeEntry) → ImageInvariant view backing (with_table p t cluster) image out → (is : list ≡ image.file.free_list ++ more)
-      → UnseenStep view backing (with_table p t cluster) (run_given_up p t cluster) image (record image { file = record image.file { free_list = list } }) out
+      → InternalStep view backing (with_table p t cluster) (run_given_up p t cluster) image (record image { file = record image.file { free_list = list } }) out
   abandoned_run p t cluster image list more sound is =
       let q = with_table p t cluster in
       let s = state_in view image.file q in
@@ -179,9 +179,9 @@ module _ {S F : Type 0} (view : S → StorageView) (backing : F → BackingView)
       | inr interrupted ↦ inr (record { interrupted = interrupted.interrupted; header = format_file_step old.file.header.fields file.header.fields (header_format old.file.header file.header header); below = refl; leaks = leaks })
     ]
 
-    module _ (t : EntryTableView) (cluster n : ℕ) (many : n ≡ clusters_of t) (allocator_step : UnseenAllocatorGrowth view p old.file a file (taken_as false since (run_at cluster n))) (hint : NoFreeBelowHint view a file) (longer : IsLongerL1 old t) where
-      pub keeps_taken : UnseenStep view backing p (with_table since t cluster) old taken out
-      keeps_taken = subst (λ m. UnseenStep view backing p (taken_as false since (run_at cluster m)) old taken out) many
+    module _ (t : EntryTableView) (cluster n : ℕ) (many : n ≡ clusters_of t) (allocator_step : InternalAllocatorGrowth view p old.file a file (taken_as false since (run_at cluster n))) (hint : NoFreeBelowHint view a file) (longer : IsLongerL1 old t) where
+      pub keeps_taken : InternalStep view backing p (with_table since t cluster) old taken out
+      keeps_taken = subst (λ m. InternalStep view backing p (taken_as false since (run_at cluster m)) old taken out) many
           (file_moved_on view backing old out p (taken_as false since (run_at cluster n)) sound file (Some a) allocator_step.file_step (record { reftable = allocator_step.reftable; hint = hint }) leaks marks.pins (lists_grow old taken lists))
 
       pub longer_taken : IsLongerL1 taken t
@@ -200,8 +200,8 @@ module _ {S F : Type 0} (view : S → StorageView) (backing : F → BackingView)
         table_taken x is =
             let q = with_table since t cluster in
             let it : NamesTable view backing since taken new out t cluster (Ok x) = subst (NamesTable view backing since taken new out t cluster) is named in
-            subst (λ s. UnseenMove view backing p (without_l1 s old.file.header.fields) old new out) (listed_after_on view backing out p old taken new same)
-            (subst (λ (h : HeaderFields). UnseenMove view backing p (without_l1 since h) old new out) (ap (λ (v : HeaderView). v.fields) header)
+            subst (λ s. InternalMove view backing p (without_l1 s old.file.header.fields) old new out) (listed_after_on view backing out p old taken new same)
+            (subst (λ (h : HeaderFields). InternalMove view backing p (without_l1 since h) old new out) (ap (λ (v : HeaderView). v.fields) header)
             (move_then p q (without_l1 since file.header.fields) old taken new (file_step_kept p q old taken (λ k some. some) keeps_taken sound) it))
 
         pub table_refused : (e : ImageError) (run : ClustersToFreeEntry) (more : List ClustersToFreeEntry) → r ≡ Err e → run.first_cluster ≡ cluster → run.count ≡ clusters_of t → run.kind ≡ Kind.Metadata → more ≡ new.file.free_list ++ run ∷ []
@@ -211,7 +211,7 @@ module _ {S F : Type 0} (view : S → StorageView) (backing : F → BackingView)
             let refused : NamesTable view backing since taken new out t cluster (Err e) = subst (NamesTable view backing since taken new out t cluster) is named in
             elim refused [
               | inl keeps ↦ inl (
-                  subst (λ (s : Pending). UnseenStep view backing p s old (record new { file = record new.file { free_list = more } }) out)
+                  subst (λ (s : Pending). InternalStep view backing p s old (record new { file = record new.file { free_list = more } }) out)
                   (freed_run p t cluster old taken (record new { file = record new.file { free_list = more } }) run (lists_grow old taken lists) at count kind (longer ∙ ap (λ l. l ++ run ∷ []) same))
                   (keeps_then view backing out old new (record new { file = record new.file { free_list = more } }) p q (run_given_up since t cluster) (λ k h. h) (keeps_then view backing out old taken new p q q (λ k h. h) keeps_taken keeps)
                   (abandoned_run since t cluster new more (run ∷ []) keeps.sound longer)))
@@ -286,7 +286,7 @@ module _ {S F : Type 0} (view : S → StorageView) (backing : F → BackingView)
     no_data None k = refl
     no_data (Some cluster) k = omega arith
 
-    module _ (mid : Qcow2 S F) (takes : UnseenMove view backing p (without_l1 (pending_with_listed p old mid) h) old mid out) (list : List ClustersToFreeEntry) (former : Option ClustersToFreeEntry) (grows : ListGrows old mid)
+    module _ (mid : Qcow2 S F) (takes : InternalMove view backing p (without_l1 (pending_with_listed p old mid) h) old mid out) (list : List ClustersToFreeEntry) (former : Option ClustersToFreeEntry) (grows : ListGrows old mid)
         (is : former ≡ run_of_table old.l1_table old.l1_table.cluster) (longer : list ≡ mid.file.free_list ++ listed former) where
       abbrev final : Qcow2 S F
       final = record mid { file = record mid.file { free_list = list } }
@@ -310,20 +310,20 @@ module _ {S F : Type 0} (view : S → StorageView) (backing : F → BackingView)
           omega (arith, since, sum, none))
           (λ k. refl)
 
-      pub lengthened : UnseenMove view backing p (pending_with_listed p old final) old final out
+      pub lengthened : InternalMove view backing p (pending_with_listed p old final) old final out
       lengthened =
           let q = without_l1 (pending_with_listed p old mid) h in
-          subst (λ (r : Pending). UnseenMove view backing p r old final out) to_be_freed
+          subst (λ (r : Pending). InternalMove view backing p r old final out) to_be_freed
           (move_then p q q old mid final takes
           (file_step_kept q q mid final (λ k some. some) (keeps_listed view backing out q q mid list (listed former) takes.sound longer (safe_step_none (state_in view mid.file q) takes.sound.file.caches.kept.kept.crash_invariant)) takes.sound))
 
 -- ---- a call that makes an L1 entry
 module _ {S F : Type 0} (view : S → StorageView) (backing : F → BackingView) (out : List (Option Prepared)) (old new : Qcow2 S F) (sound : ImageInvariant view backing (pending_in view backing old out) old out) where
-  module _ (file_step : UnseenMove view backing (pending_in view backing old out) (pending_with_listed (pending_in view backing old out) old new) old new out) where
+  module _ (file_step : InternalMove view backing (pending_in view backing old out) (pending_with_listed (pending_in view backing old out) old new) old new out) where
     pending_now : pending_with_listed (pending_in view backing old out) old new ≡ pending_in view backing new out
     pending_now = followed view backing old new out sound file_step.list file_step.sound
 
-    pub stays_moved : UnseenCall view backing old new out
+    pub stays_moved : InternalCall view backing old new out
     stays_moved = record {
       works = record {
         setting = same_setting _ _ (ap (λ (h : HeaderFields). cluster_size h) file_step.header) file_step.below;
@@ -352,6 +352,6 @@ module _ {S F : Type 0} (view : S → StorageView) (backing : F → BackingView)
       stays_kept view backing out image image sound (as_listed_after view backing out p image image refl (keeps_none view backing out p image sound))
 
   -- what is listed is freed behind a part of the call
-  pub freed_then : (old mid new : Qcow2 S F) → UnseenCall view backing old mid out → (r : Result (Unit {0}) ImageError) → FreesListed view backing (beside view backing mid out) mid new out r → MakesEntry view backing old new out r
+  pub freed_then : (old mid new : Qcow2 S F) → InternalCall view backing old mid out → (r : Result (Unit {0}) ImageError) → FreesListed view backing (beside view backing mid out) mid new out r → MakesEntry view backing old new out r
   freed_then old mid new first (Ok x) frees = stays_then view backing out old mid new first (tidy_stays view backing mid out new first.sound frees)
   freed_then old mid new first (Err e) frees = refused_then view backing out old mid new first e (freed_refused view backing mid out new e first.sound frees)

@@ -12,7 +12,7 @@ use Rattle.qcow2_metadata.specs.EntryTable.{EntryTableView, entry_count}
 use Rattle.qcow2_metadata.specs.Header.{HeaderView, cluster_size, entries_per_cluster, rounded_up}
 use Rattle.qcow2_metadata.specs.TableBytes.{entry_at}
 use Rattle.qcow2_laws.specs.CrashInvariant.{Pending}
-use Rattle.qcow2_laws.specs.Unseen.{KeepsFormat}
+use Rattle.qcow2_laws.specs.Internal.{KeepsFormat}
 use Rattle.qcow2_laws.proofs.Places.{div_mono}
 use Rattle.qcow2_alloc.specs.ImageFile.{contents_in}
 use Rattle.qcow2_alloc.specs.declared.error.ImageError.{ImageError}
@@ -24,7 +24,7 @@ use Rattle.qcow2_image.specs.ImageInvariant.{ImageInvariant}
 use Rattle.qcow2_image.specs.L1Entries.{ReachesOffset, ReachingStays, HasOwnTable}
 use Rattle.qcow2_image.specs.MetAlone.{KeepsL1Place}
 use Rattle.qcow2_image.specs.MovedTables.{MovesTables}
-use Rattle.qcow2_image.specs.UnseenSteps.{NamesOwn}
+use Rattle.qcow2_image.specs.InternalSteps.{NamesOwn}
 
 -- what an answer implies
 pub on_ok : {A P Q : Type 0} (r : Result A ImageError) → (P → Q) → OnOk r P → OnOk r Q

@@ -39,7 +39,7 @@ use Rattle.qcow2_image.proofs.Open.Reftables.{allocator_moved}
 use Rattle.qcow2_image.specs.declared.image.Qcow2.{Qcow2}
 use Rattle.qcow2_image.specs.declared.prepared.Prepared.{Prepared}
 use Rattle.qcow2_image.specs.LongerTables.{with_table, clusters_of, IsLongerL1, StandsWhole}
-use Rattle.qcow2_image.specs.UnseenSteps.{UnseenStep}
+use Rattle.qcow2_image.specs.InternalSteps.{InternalStep}
 use Rattle.qcow2_image.specs.ImageInvariant.{ImageInvariant}
 use Rattle.qcow2_image.proofs.Moving.{file_moved}
 
@@ -127,7 +127,7 @@ module _ {S F : Type 0} (view : S → StorageView) (backing : F → BackingView)
       reftable_now = allocator_moved view image.file placed.file q (file_step_written view q image.file storage sound.file (calls_now.honest sound.file.honest) each_now (calls_now.time sound.file.honest))
           (reftable_written view q image.file storage sound.file (calls_now.honest sound.file.honest) each_now)
 
-      pub keeps_placed : UnseenStep view backing q q image placed out
+      pub keeps_placed : InternalStep view backing q q image placed out
       keeps_placed = file_moved view backing image out q q sound placed.file image.allocator (file_step_written view q image.file storage sound.file (calls_now.honest sound.file.honest) each_now (calls_now.time sound.file.honest)) (reftable_now image.allocator sound.reftable)
           refl (λ k. refl) refl
 

@@ -44,7 +44,7 @@ use Rattle.qcow2_laws.proofs.Headers.{header_known_counts}
 use Rattle.qcow2_alloc.proofs.FileInvariants.{file_invariant_of}
 use Rattle.qcow2_image.specs.declared.image.Qcow2.{Qcow2}
 use Rattle.qcow2_image.specs.declared.prepared.Prepared.{Prepared}
-use Rattle.qcow2_image.specs.LongerTables.{with_table, without_l1, StandsWhole, UnseenMove, NamesTable}
+use Rattle.qcow2_image.specs.LongerTables.{with_table, without_l1, StandsWhole, InternalMove, NamesTable}
 use Rattle.qcow2_image.specs.ImageInvariant.{ImageInvariant}
 use Rattle.qcow2_image.specs.MovedTables.{MovesTables}
 use Rattle.qcow2_image.proofs.Open.HeaderKept.{placed_named_blocks, placed_sound}
@@ -185,7 +185,7 @@ module _ {S F : Type 0} (view : S → StorageView) (backing : F → BackingView)
       once = sound.once;
     }
 
-    named_file_step : SafeThroughout (view_in view old.file) (view (storage_of storage)) known nothing_given [] → UnseenMove view backing q (without_l1 p h) old now out
+    named_file_step : SafeThroughout (view_in view old.file) (view (storage_of storage)) known nothing_given [] → InternalMove view backing q (without_l1 p h) old now out
     named_file_step since = record {
       sound = named_sound;
       safe_step = safe_step_now;

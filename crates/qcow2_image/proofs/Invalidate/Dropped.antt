@@ -18,7 +18,7 @@ use Rattle.qcow2_alloc.specs.CachePins.{l2_pins, CachesHaveRoom, LeavesPinned}
 use Rattle.qcow2_alloc.specs.BehindHeader.{KeepBehindHeader}
 use Rattle.qcow2_alloc.specs.ImageFile.{contents_in, known_in, view_in}
 use Rattle.qcow2_alloc.specs.KeptTables.{cached_tables}
-use Rattle.qcow2_alloc.specs.MetadataCaches.{known_of, l2_tables, order_of, refblocks, AreAllWritten, CacheInvariant, Evict, TakesOff, UnseenCacheStep}
+use Rattle.qcow2_alloc.specs.MetadataCaches.{known_of, l2_tables, order_of, refblocks, AreAllWritten, CacheInvariant, Evict, TakesOff, InternalCacheStep}
 use Rattle.qcow2_alloc.specs.declared.async_lru_cache.slot.Slot.{Slot}
 use Rattle.qcow2_alloc.specs.declared.clusters_to_free.ClustersToFreeEntry.{ClustersToFreeEntry}
 use Rattle.qcow2_alloc.specs.declared.error.ImageError.{ImageError}
@@ -44,7 +44,7 @@ use Rattle.qcow2_image.proofs.Invalidate.Pinned.{held_pinned, some_pinned}
 use Rattle.qcow2_image.proofs.Invalidate.Reading.{begins_over}
 use Rattle.qcow2_image.proofs.Map.Loading.{caches_moved}
 use Rattle.qcow2_image.specs.ImageInvariant.{HasL1Table, ImageInvariant}
-use Rattle.qcow2_image.specs.UnseenSteps.{UnseenStep}
+use Rattle.qcow2_image.specs.InternalSteps.{InternalStep}
 use Rattle.qcow2_image.specs.declared.image.Qcow2.{Qcow2}
 use Rattle.qcow2_image.specs.declared.prepared.Prepared.{Prepared}
 
@@ -57,7 +57,7 @@ module _ {S : Type 0} (h : HeaderFields) (p : Pending) (v : StorageView) (caches
     | inr same ↦ same o refl ∙ ap (λ (b : Bytes). b o) rest
   ])
 
-  pub dropped_unseen : v.is_honest → order_of caches' ≡ order_of caches → UnseenCacheStep h p v caches v caches'
+  pub dropped_unseen : v.is_honest → order_of caches' ≡ order_of caches → InternalCacheStep h p v caches v caches'
   dropped_unseen honest order = record {
     honest = honest;
     sound = off.sound p (subst (λ (k : Bytes). CrashInvariant h (order_of caches') p (byte_at v.contents) k) (rest ∙ sym rests_still)
@@ -68,9 +68,9 @@ module _ {S : Type 0} (h : HeaderFields) (p : Pending) (v : StorageView) (caches
   }
 
 -- the tables in memory give way to others that are those on the storage too
-module _ {S F : Type 0} (view : S → StorageView) (backing : F → BackingView) (p : Pending) (a b : Qcow2 S F) (out : List (Option Prepared)) (step : UnseenStep view backing p p a b out) where
+module _ {S F : Type 0} (view : S → StorageView) (backing : F → BackingView) (p : Pending) (a b : Qcow2 S F) (out : List (Option Prepared)) (step : InternalStep view backing p p a b out) where
   pub with_tables : (table : EntryTableView) (allocator : Option Allocator) → HasL1Table view backing b.file table → IfSome allocator (IsAllocatorOf view b.file) → leaked_by allocator ≡ leaked_in b
-      → UnseenStep view backing p p a (record b { l1_table = table; allocator = allocator }) out
+      → InternalStep view backing p p a (record b { l1_table = table; allocator = allocator }) out
   with_tables table allocator l1 reftable leaks = record {
     sound = record {
       works = step.sound.works;
@@ -102,10 +102,10 @@ module _ {S F : Type 0} (view : S → StorageView) (backing : F → BackingView)
   abbrev pub dropped : Qcow2 S F
   dropped = record image { file = record image.file { caches = caches'; free_list = list' } }
 
-  pub dropped_moved : UnseenStep view backing p p image dropped out
+  pub dropped_moved : InternalStep view backing p p image dropped out
   dropped_moved =
       let stay = dropped_unseen image.file.header.fields p (view_in view image.file) image.file.caches caches' sound.file.caches rest.written off sound.file.honest order in
-      subst (λ (l : List ClustersToFreeEntry). UnseenStep view backing p p image (record image { file = record image.file { caches = caches'; free_list = l } }) out) (rest.freed ∙ sym none)
+      subst (λ (l : List ClustersToFreeEntry). InternalStep view backing p p image (record image { file = record image.file { caches = caches'; free_list = l } }) out) (rest.freed ∙ sym none)
       (caches_moved view backing image out p sound image.file.storage caches' stay room pins)
 
   pub rests_there : IsAtRest view dropped
@@ -227,9 +227,9 @@ behind_dropped {v = v} is same keeps = record {
 }
 
 -- both kinds of tables are dropped, and the allocator begins anew
-pub anew_moved : {S F : Type 0} (view : S → StorageView) (backing : F → BackingView) (p : Pending) (old mid : Qcow2 S F) (caches' : MetadataCaches S) (a a' : Allocator) (out : List (Option Prepared)) → UnseenStep view backing p p old mid out
-    → UnseenStep view backing p p mid (record mid { file = record mid.file { caches = caches' } }) out → mid.allocator ≡ Some a → SearchesAnew a a'
-    → UnseenStep view backing p p old (record mid { file = record mid.file { caches = caches' }; allocator = Some a' }) out
+pub anew_moved : {S F : Type 0} (view : S → StorageView) (backing : F → BackingView) (p : Pending) (old mid : Qcow2 S F) (caches' : MetadataCaches S) (a a' : Allocator) (out : List (Option Prepared)) → InternalStep view backing p p old mid out
+    → InternalStep view backing p p mid (record mid { file = record mid.file { caches = caches' } }) out → mid.allocator ≡ Some a → SearchesAnew a a'
+    → InternalStep view backing p p old (record mid { file = record mid.file { caches = caches' }; allocator = Some a' }) out
 anew_moved view backing p old mid caches' a a' out first second is anew =
     let last : Qcow2 _ _ = record mid { file = record mid.file { caches = caches' } } in
     let own : IsAllocatorOf view last.file a = subst (λ (x : Option Allocator). IfSome x (IsAllocatorOf view last.file)) is second.sound.reftable in

@@ -20,7 +20,7 @@ use Rattle.qcow2_alloc.specs.declared.allocation.Allocator.{Allocator}
 use Rattle.qcow2_alloc.specs.declared.image_file.ImageFile.{ImageFile}
 use Rattle.qcow2_alloc.specs.declared.image_storage.ImageStorage.{ImageStorage}
 use Rattle.qcow2_image.specs.ImageInvariant.{HasL1Table, ImageInvariant}
-use Rattle.qcow2_image.specs.UnseenSteps.{UnseenStep}
+use Rattle.qcow2_image.specs.InternalSteps.{InternalStep}
 use Rattle.qcow2_image.specs.Unwritten.{ContentsStayThroughout}
 use Rattle.qcow2_image.specs.declared.image.Qcow2.{Qcow2}
 use Rattle.qcow2_image.specs.declared.prepared.Prepared.{Prepared}
@@ -71,7 +71,7 @@ begins_over view file a a' anew own = anew_kept view file a a' anew own
 
 -- ---- a sound image whose storage was read
 module _ {S F : Type 0} (view : S → StorageView) (backing : F → BackingView) (image : Qcow2 S F) (out : List (Option Prepared)) (p : Pending) (sound : ImageInvariant view backing p image out) where
-  pub silent_moved : (storage' : ImageStorage S) → ContentsStayThroughout (view_in view image.file) (view (storage_of storage')) → UnseenStep view backing p p image (record image { file = record image.file { storage = storage' } }) out
+  pub silent_moved : (storage' : ImageStorage S) → ContentsStayThroughout (view_in view image.file) (view (storage_of storage')) → InternalStep view backing p p image (record image { file = record image.file { storage = storage' } }) out
   silent_moved storage' silent =
       let honest = sound.file.honest in
       still_moved view backing image out p sound storage' (silent.1.honest honest) (passes_if _ (λ c is. is ∙ sym (silent.0 honest)) silent.1) (silent.0 honest)

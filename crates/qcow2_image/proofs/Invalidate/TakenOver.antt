@@ -18,7 +18,7 @@ use Rattle.qcow2_image.specs.BehindHeader.{KeepsTablesBehind, NamesTablesBehind,
 use Rattle.qcow2_image.specs.Faults.{CountsImageFaults, TellsEach}
 use Rattle.qcow2_image.specs.ImageInvariant.{HasL1Table, ImageInvariant}
 use Rattle.qcow2_image.specs.Invalidated.{KeepsTables, ReadsTables, TakesTables, reftable_in}
-use Rattle.qcow2_image.specs.UnseenSteps.{UnseenStep}
+use Rattle.qcow2_image.specs.InternalSteps.{InternalStep}
 use Rattle.qcow2_image.specs.declared.image.Qcow2.{Qcow2}
 use Rattle.qcow2_image.specs.declared.prepared.Prepared.{Prepared}
 use Rattle.qcow2_image.proofs.Invalidate.Reading.{behind_silent, stays_over, takes_over}
@@ -57,7 +57,7 @@ module _ {S F : Type 0} (view : S → StorageView) (backing : F → BackingView)
   pub sound_named : (image : Qcow2 S F) (w : HeaderView) → w.fields ≡ image.file.header.fields → ImageInvariant view backing p image out → ImageInvariant view backing p (with_header image w) out
   sound_named image w same sound = subst (λ (x : HeaderView). ImageInvariant view backing p (with_header image x) out) (renumbered w image.file.header.fields same) (sound_same image w sound)
 
-  step_same : (a b : Qcow2 S F) (w w' : HeaderView) → UnseenStep view backing p p a b out → UnseenStep view backing p p (with_header a (record w { fields = a.file.header.fields })) (with_header b (record w' { fields = b.file.header.fields })) out
+  step_same : (a b : Qcow2 S F) (w w' : HeaderView) → InternalStep view backing p p a b out → InternalStep view backing p p (with_header a (record w { fields = a.file.header.fields })) (with_header b (record w' { fields = b.file.header.fields })) out
   step_same a b w w' step = record {
     sound = sound_same b w' step.sound;
     safe_step = step.safe_step;
@@ -69,13 +69,13 @@ module _ {S F : Type 0} (view : S → StorageView) (backing : F → BackingView)
     leaks = step.leaks;
   }
 
-  pub step_named : (a b : Qcow2 S F) (w w' : HeaderView) → w.fields ≡ a.file.header.fields → w'.fields ≡ b.file.header.fields → UnseenStep view backing p p a b out → UnseenStep view backing p p (with_header a w) (with_header b w') out
+  pub step_named : (a b : Qcow2 S F) (w w' : HeaderView) → w.fields ≡ a.file.header.fields → w'.fields ≡ b.file.header.fields → InternalStep view backing p p a b out → InternalStep view backing p p (with_header a w) (with_header b w') out
   step_named a b w w' same same' step =
-      subst (λ (x : HeaderView). UnseenStep view backing p p (with_header a x) (with_header b w') out) (renumbered w a.file.header.fields same)
-      (subst (λ (x : HeaderView). UnseenStep view backing p p (with_header a (record w { fields = a.file.header.fields })) (with_header b x) out) (renumbered w' b.file.header.fields same') (step_same a b w w' step))
+      subst (λ (x : HeaderView). InternalStep view backing p p (with_header a x) (with_header b w') out) (renumbered w a.file.header.fields same)
+      (subst (λ (x : HeaderView). InternalStep view backing p p (with_header a (record w { fields = a.file.header.fields })) (with_header b x) out) (renumbered w' b.file.header.fields same') (step_same a b w w' step))
 
   -- a part that began with these places in memory, which were those of the header that is put back, or takes them over
-  pub step_over : (old mid : Qcow2 S F) (w v : HeaderView) → w.fields ≡ old.file.header.fields → mid.file.header ≡ w → v.fields ≡ old.file.header.fields → UnseenStep view backing p p (with_header old w) mid out → UnseenStep view backing p p old (with_header mid v) out
+  pub step_over : (old mid : Qcow2 S F) (w v : HeaderView) → w.fields ≡ old.file.header.fields → mid.file.header ≡ w → v.fields ≡ old.file.header.fields → InternalStep view backing p p (with_header old w) mid out → InternalStep view backing p p old (with_header mid v) out
   step_over old mid w v same stays is step =
       step_named (with_header old w) mid old.file.header v (sym same) (is ∙ sym same ∙ ap (λ (x : HeaderView). x.fields) (sym stays)) step
 

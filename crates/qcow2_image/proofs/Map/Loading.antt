@@ -10,7 +10,7 @@ use Rattle.std.proofs.lemmas.List.{append-nil}
 use Rattle.qcow2_laws.specs.CrashInvariant.{Pending}
 use Rattle.qcow2_laws.specs.SafeSteps.{DriverState, StateInvariant}
 use Rattle.qcow2_disk.specs.Stops.{StopOkEverywhere}
-use Rattle.qcow2_laws.proofs.Unseen.{unseen_known}
+use Rattle.qcow2_laws.proofs.Internal.{unseen_known}
 use Rattle.qcow2_alloc.specs.declared.cache.MetadataCaches.{MetadataCaches}
 use Rattle.qcow2_alloc.specs.declared.image_storage.ImageStorage.{ImageStorage}
 use Rattle.qcow2_alloc.specs.declared.allocation.Allocator.{Allocator}
@@ -22,14 +22,14 @@ use Rattle.qcow2_metadata.specs.Tables.{CachedTable, known}
 use Rattle.qcow2_laws.proofs.Lists.{clean_known}
 use Rattle.qcow2_laws.specs.Caches.{AreNamedBlocks}
 use Rattle.image_access.specs.declared.error.StorageError.{StorageError}
-use Rattle.qcow2_alloc.specs.MetadataCaches.{l2_tables, refblocks, known_of, AreAllWritten, CacheInvariant, UnseenCacheStep}
+use Rattle.qcow2_alloc.specs.MetadataCaches.{l2_tables, refblocks, known_of, AreAllWritten, CacheInvariant, InternalCacheStep}
 use Rattle.qcow2_alloc.specs.ImageFile.{state_in, view_in, contents_in, known_in}
 use Rattle.qcow2_alloc.specs.KeptAllocators.{IsAllocatorOf}
 use Rattle.qcow2_alloc.proofs.KeptAllocators.{allocator_kept}
 use Rattle.qcow2_image.specs.declared.image.Qcow2.{Qcow2}
 use Rattle.qcow2_image.specs.declared.prepared.Prepared.{Prepared}
 use Rattle.qcow2_image.specs.ImageInvariant.{cluster_of, ImageInvariant}
-use Rattle.qcow2_image.specs.UnseenSteps.{UnseenStep}
+use Rattle.qcow2_image.specs.InternalSteps.{InternalStep}
 use Rattle.qcow2_image.proofs.Ready.{still_ready}
 use Rattle.qcow2_alloc.proofs.FileSteps.{cached_safe_throughout}
 use Rattle.qcow2_alloc.proofs.KeptTables.Turning.{safe_none, safe_keep}
@@ -48,7 +48,7 @@ module _ {S F : Type 0} (view : S → StorageView) (backing : F → BackingView)
   with_caches storage caches = record old { file = record old.file { storage = storage; caches = caches } }
 
   module _ (storage' : ImageStorage S) (caches' : MetadataCaches S)
-      (stay : UnseenCacheStep old.file.header.fields p (view_in view old.file) old.file.caches (view (storage_of storage')) caches') (room : CachesHaveRoom old.file.caches → CachesHaveRoom caches')
+      (stay : InternalCacheStep old.file.header.fields p (view_in view old.file) old.file.caches (view (storage_of storage')) caches') (room : CachesHaveRoom old.file.caches → CachesHaveRoom caches')
       (pins : (table : ℕ) → l2_pins caches' table ≡ l2_pins old.file.caches table) where
     allocator_still : (a : Option Allocator) → IfSome a (IsAllocatorOf view old.file) → IfSome a (IsAllocatorOf view (with_caches storage' caches').file)
     allocator_still = allocator_kept view old.file (with_caches storage' caches').file
@@ -63,7 +63,7 @@ module _ {S F : Type 0} (view : S → StorageView) (backing : F → BackingView)
     l1_still : (i : ℕ) → l1_entry old.file.header.fields (contents_in view (with_caches storage' caches').file) i ≡ l1_entry old.file.header.fields (contents_in view old.file) i
     l1_still i = same_l1 (state_in view old.file p) (state_in view (with_caches storage' caches').file p) sound.file.caches.kept.kept.crash_invariant stay.sound.kept.kept.crash_invariant refl stay.known i
 
-    pub caches_moved : UnseenStep view backing p p old (with_caches storage' caches') out
+    pub caches_moved : InternalStep view backing p p old (with_caches storage' caches') out
     caches_moved = record {
       sound = record {
         works = sound.works;
@@ -100,7 +100,7 @@ all_known h caches on_storage written = clean_known (cluster_size h) (l2_tables 
 -- ---- where nothing is loaded or written
 
 module _ {S : Type 0} (h : HeaderFields) (p : Pending) (caches caches' : MetadataCaches S) (tables : SameTables caches caches') where
-  stays_at : (v : StorageView) → v.is_honest → CacheInvariant h p caches (byte_at v.contents) → UnseenCacheStep h p v caches v caches'
+  stays_at : (v : StorageView) → v.is_honest → CacheInvariant h p caches (byte_at v.contents) → InternalCacheStep h p v caches v caches'
   stays_at v honest sound = record {
     honest = honest;
     sound = tables.sound h p (byte_at v.contents) sound;
@@ -109,8 +109,8 @@ module _ {S : Type 0} (h : HeaderFields) (p : Pending) (caches caches' : Metadat
     since = safe_none v (known_of h caches (byte_at v.contents));
   }
 
-  pub stays : (v v' : StorageView) → v' ≡ v → v.is_honest → CacheInvariant h p caches (byte_at v.contents) → UnseenCacheStep h p v caches v' caches'
-  stays v v' same honest sound = subst (λ (w : StorageView). UnseenCacheStep h p v caches w caches') (sym same) (stays_at v honest sound)
+  pub stays : (v v' : StorageView) → v' ≡ v → v.is_honest → CacheInvariant h p caches (byte_at v.contents) → InternalCacheStep h p v caches v' caches'
+  stays v v' same honest sound = subst (λ (w : StorageView). InternalCacheStep h p v caches w caches') (sym same) (stays_at v honest sound)
 
 -- what is so of an answer, of what follows of it
 pub if_ok : {A E : Type 0} {P Q : A → Type 0} (answer : Result A E) → ((x : A) → P x → Q x) → IfOk answer P → IfOk answer Q
@@ -125,7 +125,7 @@ if_ok_any (Err e) all = tt
 -- ---- where the contents stay, while time goes on
 
 module _ {S : Type 0} (h : HeaderFields) (p : Pending) (caches : MetadataCaches S) (v v' : StorageView) where
-  pub stays_still : v'.is_honest → EachMomentSince v v' (IsLeftBy v') → v'.contents ≡ v.contents → CacheInvariant h p caches (byte_at v.contents) → UnseenCacheStep h p v caches v' caches
+  pub stays_still : v'.is_honest → EachMomentSince v v' (IsLeftBy v') → v'.contents ≡ v.contents → CacheInvariant h p caches (byte_at v.contents) → InternalCacheStep h p v caches v' caches
   stays_still honest time same sound = record {
     honest = honest;
     sound = subst (λ c. CacheInvariant h p caches (byte_at c)) (sym same) sound;
@@ -136,10 +136,10 @@ module _ {S : Type 0} (h : HeaderFields) (p : Pending) (caches : MetadataCaches 
 
 module _ {S F : Type 0} (view : S → StorageView) (backing : F → BackingView) (image : Qcow2 S F) (out : List (Option Prepared)) (p : Pending) (sound : ImageInvariant view backing p image out) where
   pub still_moved : (storage' : ImageStorage S) → (view (storage_of storage')).is_honest → EachMomentSince (view_in view image.file) (view (storage_of storage')) (IsLeftBy (view (storage_of storage')))
-      → (view (storage_of storage')).contents ≡ (view_in view image.file).contents → UnseenStep view backing p p image (with_caches view backing image out p sound storage' image.file.caches) out
+      → (view (storage_of storage')).contents ≡ (view_in view image.file).contents → InternalStep view backing p p image (with_caches view backing image out p sound storage' image.file.caches) out
   still_moved storage' honest time same = caches_moved view backing image out p sound storage' image.file.caches
       (stays_still image.file.header.fields p image.file.caches (view_in view image.file) (view (storage_of storage')) honest time same sound.file.caches) (λ room. room) (λ table. refl)
 
   pub read_moved : {T : Type 0} {result : Result T StorageError} (storage' : ImageStorage S) → QuietCalls (view_in view image.file) (view (storage_of storage')) result → ContentsStay (view_in view image.file) (view (storage_of storage'))
-      → UnseenStep view backing p p image (with_caches view backing image out p sound storage' image.file.caches) out
+      → InternalStep view backing p p image (with_caches view backing image out p sound storage' image.file.caches) out
   read_moved storage' calls keeps = still_moved storage' (calls.honest sound.file.honest) calls.time (keeps sound.file.honest)

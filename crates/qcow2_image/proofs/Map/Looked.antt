@@ -37,7 +37,7 @@ use Rattle.qcow2_disk.specs.Found.{Kind, raw, indirect, zeros, special, eof, kin
 use Rattle.qcow2_image.specs.declared.mapping.Place.TheVariants.{Image, DataFile}
 use Rattle.qcow2_image.specs.declared.prepared.Prepared.{Prepared}
 use Rattle.qcow2_image.specs.MetAlone.{IsSpecial}
-use Rattle.qcow2_image.specs.UnseenSteps.{UnseenStep}
+use Rattle.qcow2_image.specs.InternalSteps.{InternalStep}
 use Rattle.qcow2_image.specs.Found.{found_kind, mapping_of, l1_index_of, AreAlikeBehind, IsAlikeTo, IsRunBehind, IsFoundInImage, IsFoundWhole, IsMappedAs}
 
 -- so many times a difference
@@ -230,7 +230,7 @@ module _ (h : HeaderFields) (place clusters : ℕ) (known known' : Bytes) (cover
   }
 
 -- what is found whole behind a step that no guest sees was found so before
-pub found_before : {S F : Type 0} (view : S → StorageView) (backing : F → BackingView) (old new : Qcow2 S F) (out : List (Option Prepared)) (p p' : Pending) (offset n : ℕ) (kind : MappingKind) → UnseenStep view backing p p' old new out
+pub found_before : {S F : Type 0} (view : S → StorageView) (backing : F → BackingView) (old new : Qcow2 S F) (out : List (Option Prepared)) (p p' : Pending) (offset n : ℕ) (kind : MappingKind) → InternalStep view backing p p' old new out
     → IsFoundWhole view new offset kind n → IsFoundWhole view old offset kind n
 found_before view backing old new out p p' offset n kind step whole =
     let h = old.file.header.fields in
@@ -240,7 +240,7 @@ found_before view backing old new out p p' offset n kind step whole =
     (subst (λ (x : HeaderFields). IsFoundOf x known (is_some new.backing) offset n (found_kind kind) n) step.unseen.header whole))
 
 -- and what was found whole before is found so behind it
-pub found_after : {S F : Type 0} (view : S → StorageView) (backing : F → BackingView) (old new : Qcow2 S F) (out : List (Option Prepared)) (p p' : Pending) (offset n : ℕ) (kind : MappingKind) → UnseenStep view backing p p' old new out
+pub found_after : {S F : Type 0} (view : S → StorageView) (backing : F → BackingView) (old new : Qcow2 S F) (out : List (Option Prepared)) (p p' : Pending) (offset n : ℕ) (kind : MappingKind) → InternalStep view backing p p' old new out
     → IsFoundWhole view old offset kind n → IsFoundWhole view new offset kind n
 found_after view backing old new out p p' offset n kind step whole =
     let h = old.file.header.fields in

@@ -9,7 +9,7 @@ use Rattle.qcow2_metadata.specs.declared.header.HeaderFields.{HeaderFields}
 use Rattle.qcow2_laws.specs.CrashInvariant.{Pending}
 use Rattle.qcow2_alloc.specs.declared.allocation.Allocator.{Allocator}
 use Rattle.qcow2_alloc.specs.declared.image_file.ImageFile.{ImageFile}
-use Rattle.qcow2_alloc.specs.ImageFile.{contents_in, known_in, HasReftable, UnseenFileStep}
+use Rattle.qcow2_alloc.specs.ImageFile.{contents_in, known_in, HasReftable, InternalFileStep}
 use Rattle.qcow2_alloc.specs.KeptAllocators.{IsAllocatorOf}
 use Rattle.qcow2_alloc.proofs.KeptAllocators.{allocator_kept}
 
@@ -29,5 +29,5 @@ module _ {S : Type 0} (view : S → StorageView) (old new : ImageFile S) where
   reftable_still header same counts = allocator_kept view old new (table_still header same) (λ k. let e = counts k in omega arith)
 
   -- a step of the file that leaves the same pending
-  pub allocator_moved : (p : Pending) → UnseenFileStep view p p old new → ((t : EntryTableView) → HasReftable view old t → HasReftable view new t) → (a : Option Allocator) → IfSome a (IsAllocatorOf view old) → IfSome a (IsAllocatorOf view new)
+  pub allocator_moved : (p : Pending) → InternalFileStep view p p old new → ((t : EntryTableView) → HasReftable view old t → HasReftable view new t) → (a : Option Allocator) → IfSome a (IsAllocatorOf view old) → IfSome a (IsAllocatorOf view new)
   allocator_moved p file_step table = allocator_kept view old new table (λ k. let e = file_step.counts k in omega arith)

@@ -18,7 +18,7 @@ use Rattle.qcow2_alloc.specs.ImageFile.{known_in}
 use Rattle.qcow2_alloc.specs.declared.error.ImageError.{ImageError}
 use Rattle.qcow2_alloc.specs.declared.error.ImageError.TheVariants as I
 use Rattle.qcow2_image.specs.Image.{has_noted_change}
-use Rattle.qcow2_image.specs.CallParts.{RefusedCall, UnseenCall}
+use Rattle.qcow2_image.specs.CallParts.{RefusedCall, InternalCall}
 use Rattle.qcow2_image.specs.Clearing.{ClearsPart, IsUnderMapping}
 use Rattle.qcow2_image.specs.declared.discarding.ClearMode.TheVariants.{KeptZeros}
 use Rattle.qcow2_image.specs.declared.image.Qcow2.{Qcow2}
@@ -205,7 +205,7 @@ module _ {S F : Type 0} (view : S → StorageView) (backing : F → BackingView)
 
   -- a part, and then clusters are freed, which no guest sees
   module _ (a b c : Qcow2 S F) (zeros from to : ℕ) (first : FillsPart view backing zeros from to a b out) where
-    pub fills_stays : UnseenCall view backing b c out → c.file.header ≡ b.file.header → FillsPart view backing zeros from to a c out
+    pub fills_stays : InternalCall view backing b c out → c.file.header ≡ b.file.header → FillsPart view backing zeros from to a c out
     fills_stays then same = record {
       works = works_then (abstract_of view backing a out) (abstract_of view backing b out) (abstract_of view backing c out) (given_by_zeros from to ∷ []) [] first.sound first.works (none_of _ _ (given_by_zeros from to ∷ []) then.works);
       sound = then.sound;

@@ -24,7 +24,7 @@ use Rattle.qcow2_alloc.specs.ImageFile.{known_in}
 use Rattle.qcow2_alloc.specs.declared.error.ImageError.{ImageError}
 use Rattle.qcow2_alloc.proofs.AllocationSteps.{handed_on}
 use Rattle.qcow2_image.specs.Backings.{HasPinnedMapping}
-use Rattle.qcow2_image.specs.CallParts.{UnseenCall}
+use Rattle.qcow2_image.specs.CallParts.{InternalCall}
 use Rattle.qcow2_image.specs.Clearing.{IsUnderMapping}
 use Rattle.qcow2_image.specs.Found.{l1_index_of}
 use Rattle.qcow2_image.specs.ImageInvariant.{ImageInvariant}
@@ -214,7 +214,7 @@ module _ {S F : Type 0} (view : S → StorageView) (backing : F → BackingView)
           omega (arith, parts, place, aligned, nameable, few, count)
 
   -- what filling behind the old end meets once the L1 table was made longer
-  pub met_behind : (old long : Qcow2 S F) (mode : PreallocateMode) (size from : ℕ) (e : ImageError) → UnseenCall view backing old long out → IsMetGrowing out mode from (rounded_up (cluster_size long.file.header.fields) size) long.file.header.fields (known_in view long.file) e
+  pub met_behind : (old long : Qcow2 S F) (mode : PreallocateMode) (size from : ℕ) (e : ImageError) → InternalCall view backing old long out → IsMetGrowing out mode from (rounded_up (cluster_size long.file.header.fields) size) long.file.header.fields (known_in view long.file) e
       → IsMetGrowing out mode from (rounded_up (cluster_size old.file.header.fields) size) old.file.header.fields (known_in view old.file) e
   met_behind old long mode size from e call met =
       let h = old.file.header.fields in

@@ -17,7 +17,7 @@ use Rattle.qcow2_alloc.proofs.KeptTables.Standing.{own_cluster}
 use Rattle.qcow2_alloc.specs.ImageFile.{contents_in, known_in}
 use Rattle.qcow2_image.specs.declared.image.Qcow2.{Qcow2}
 use Rattle.qcow2_image.specs.declared.prepared.Prepared.{Prepared}
-use Rattle.qcow2_image.specs.CallParts.{UnseenCall}
+use Rattle.qcow2_image.specs.CallParts.{InternalCall}
 use Rattle.qcow2_image.specs.Clearing.{IsUnderMapping}
 use Rattle.qcow2_image.specs.Found.{l1_index_of}
 use Rattle.qcow2_image.specs.Image.{size_of}
@@ -106,7 +106,7 @@ module _ {S F : Type 0} (view : S → StorageView) (backing : F → BackingView)
     never_two offset under row = never_with under.other under.place under.is_out under.other.table refl under.keeps_table (under.same_table ∙ row) (sound.ready (suc under.place) under.other under.is_out).mapped
 
   -- behind a longer L1 table
-  pub untaken_grown : (out : List (Option Prepared)) (old long : Qcow2 S F) (size : ℕ) (mode : PreallocateMode) → UnseenCall view backing old long out → GrownFree mode (size_of long) size long.file.header.fields (known_in view long.file) out
+  pub untaken_grown : (out : List (Option Prepared)) (old long : Qcow2 S F) (size : ℕ) (mode : PreallocateMode) → InternalCall view backing old long out → GrownFree mode (size_of long) size long.file.header.fields (known_in view long.file) out
       → GrownFree mode (size_of old) size old.file.header.fields (known_in view old.file) out
   untaken_grown out old long size mode call free hides =
       let h = old.file.header.fields in

@@ -26,11 +26,11 @@ use Rattle.qcow2_image.specs.declared.prepared.Prepared.{Prepared}
 use Rattle.qcow2_image.specs.declared.prepared.Share.{Share}
 use Rattle.qcow2_image.specs.declared.prepared.Share.TheVariants.{InPlace, New}
 use Rattle.qcow2_image.specs.ImageInvariant.{run_of, of_data, of_tables, to_free, listed_run, disk_of, pending_in, cluster_of, host_begin_of, IsNewAt, IsPending, IsReadyWith, ImageInvariant}
-use Rattle.qcow2_image.specs.CallParts.{UnseenCall}
+use Rattle.qcow2_image.specs.CallParts.{InternalCall}
 use Rattle.qcow2_image.specs.Ranges.{Ends, FindsBehind, IsSharedAt, MayGoOn, SharesAt, StandsBehind}
 use Rattle.qcow2_image.proofs.Call.Refused.{back_refused, image_step_stays}
 use Rattle.qcow2_image.proofs.Prepare.Gaining.{listed_after_same}
-use Rattle.qcow2_image.specs.UnseenSteps.{is_announced, pending_with_listed, IsFilled, UnseenFillingStep}
+use Rattle.qcow2_image.specs.InternalSteps.{is_announced, pending_with_listed, IsFilled, InternalFillingStep}
 use Rattle.qcow2_image.proofs.Prepare.Extending.{within_as}
 use Rattle.qcow2_image.proofs.Prepare.Filling.{image_step_none}
 use Rattle.qcow2_image.proofs.Shares.{place_in}
@@ -94,12 +94,12 @@ module _ {S F : Type 0} (view : S → StorageView) (backing : F → BackingView)
       (says (record { real = pending.named.real; place = pending.named.place; within = subst (λ j. j < entries_per_cluster h) (sym index) may.within }) (ap (λ c. c / entries_per_cluster h) same ∙ table_is))
 
   -- nothing changed
-  unseen_none : UnseenCall view backing old old out
-  unseen_none = image_step_stays view backing out old old sound (subst (λ q. UnseenFillingStep view backing (pending_in view backing old out) q old old out) (sym (listed_after_same view backing out (pending_in view backing old out) old old refl))
+  unseen_none : InternalCall view backing old old out
+  unseen_none = image_step_stays view backing out old old sound (subst (λ q. InternalFillingStep view backing (pending_in view backing old out) q old old out) (sym (listed_after_same view backing out (pending_in view backing old out) old old refl))
       (image_step_none view backing out old (pending_in view backing old out) sound))
 
   -- copied data elsewhere
-  pub ends_elsewhere : (place : ℕ) → cover h (known_in view old.file) (cluster_of h p + count) ≡ Data place true → (place ≡ p.offset + p.length → ⊥) → UnseenCall view backing old old out × Ends view old p
+  pub ends_elsewhere : (place : ℕ) → cover h (known_in view old.file) (cluster_of h p + count) ≡ Data place true → (place ≡ p.offset + p.length → ⊥) → InternalCall view backing old old out × Ends view old p
   ends_elsewhere place is other =
       let ends : Ends view old p = record {
         cluster = next_begins;

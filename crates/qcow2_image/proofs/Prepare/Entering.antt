@@ -14,11 +14,11 @@ use Rattle.qcow2_metadata.specs.TableBytes.{entry_at}
 use Rattle.qcow2_laws.specs.Changes.{one_at, with_new_tables, new_tables_to_old_tables}
 use Rattle.qcow2_laws.specs.CrashInvariant.{Pending}
 use Rattle.qcow2_laws.specs.SafeSteps.{SafeStep}
-use Rattle.qcow2_laws.specs.Unseen.{KeepsFormat}
+use Rattle.qcow2_laws.specs.Internal.{KeepsFormat}
 use Rattle.qcow2_laws.proofs.SafeSteps.{pending_safe_throughout}
 use Rattle.qcow2_laws.proofs.Steps.{pending_is_changed}
-use Rattle.qcow2_laws.proofs.Unseen.{unseen_known}
-use Rattle.qcow2_alloc.specs.Allocation.{run_at, taken_as, UnseenAllocatorGrowth, RefusedGrowth}
+use Rattle.qcow2_laws.proofs.Internal.{unseen_known}
+use Rattle.qcow2_alloc.specs.Allocation.{run_at, taken_as, InternalAllocatorGrowth, RefusedGrowth}
 use Rattle.qcow2_alloc.specs.declared.allocation.Allocator.{Allocator}
 use Rattle.qcow2_alloc.specs.CachePins.{KeepsPinsAndNotes}
 use Rattle.qcow2_alloc.specs.declared.image_file.ImageFile.{ImageFile}
@@ -37,7 +37,7 @@ use Rattle.qcow2_image.proofs.Open.Reftables.{reftable_still}
 use Rattle.qcow2_image.specs.declared.image.Qcow2.{Qcow2}
 use Rattle.qcow2_image.specs.declared.prepared.Prepared.{Prepared}
 use Rattle.qcow2_image.specs.NewTables.{SaysKnown, MayName, replacing, NamesNew, WritesNew, EntersTable}
-use Rattle.qcow2_image.specs.UnseenSteps.{InterruptedPart, NamesOwn, UnseenStep, RefusedStep, ListGrows, pending_with_listed}
+use Rattle.qcow2_image.specs.InternalSteps.{InterruptedPart, NamesOwn, InternalStep, RefusedStep, ListGrows, pending_with_listed}
 use Rattle.qcow2_image.specs.ImageInvariant.{of_data, of_tables, to_free, ImageInvariant}
 use Rattle.qcow2_image.proofs.Call.Called.{keeps_then}
 use Rattle.qcow2_image.proofs.Formats.{lists_grow, says_format}
@@ -61,17 +61,17 @@ one_taken p first = pending_same (taken_as false p (run_at first 1)) (with_new_t
 
 module _ {S F : Type 0} (view : S → StorageView) (backing : F → BackingView) (out : List (Option Prepared)) where
   -- nothing was done
-  pub keeps_none : (p : Pending) (image : Qcow2 S F) → ImageInvariant view backing p image out → UnseenStep view backing p p image image out
+  pub keeps_none : (p : Pending) (image : Qcow2 S F) → ImageInvariant view backing p image out → InternalStep view backing p p image image out
   keeps_none p image sound = still_moved view backing image out p sound image.file.storage sound.file.honest (passes_none (view_in view image.file) _) refl
 
   pub unlisted : (p : Pending) (old new : Qcow2 S F) → new.file.free_list ≡ old.file.free_list → p ≡ pending_with_listed p old new
   unlisted p old new same = sym (listed_after_same view backing out p old new same)
 
   -- where nothing more is to be freed
-  pub as_listed_after : (p : Pending) (old new : Qcow2 S F) → new.file.free_list ≡ old.file.free_list → UnseenStep view backing p p old new out → UnseenStep view backing p (pending_with_listed p old new) old new out
-  as_listed_after p old new same keeps = subst (λ (q : Pending). UnseenStep view backing p q old new out) (unlisted p old new same) keeps
+  pub as_listed_after : (p : Pending) (old new : Qcow2 S F) → new.file.free_list ≡ old.file.free_list → InternalStep view backing p p old new out → InternalStep view backing p (pending_with_listed p old new) old new out
+  as_listed_after p old new same keeps = subst (λ (q : Pending). InternalStep view backing p q old new out) (unlisted p old new same) keeps
 
-  pub interrupted_on : (p q : Pending) (a b c : Qcow2 S F) (e : ImageError) → UnseenStep view backing p q a b out → InterruptedPart view backing b c e → InterruptedPart view backing a c e
+  pub interrupted_on : (p q : Pending) (a b c : Qcow2 S F) (e : ImageError) → InternalStep view backing p q a b out → InterruptedPart view backing b c e → InterruptedPart view backing a c e
   interrupted_on p q a b c e first second = let on = second.interrupted in record { interrupted = record { fault = on.fault; noted = on.noted; since = safe_throughout_then view a.file b.file c.file first.since first.safe_step.known on.since }; leaks = second.leaks ∙ first.leaks }
 
   -- ---- images with the same L1 table
@@ -88,16 +88,16 @@ module _ {S F : Type 0} (view : S → StorageView) (backing : F → BackingView)
         (λ k. ap (λ (x : HeaderFields). r.old_tables k + table_in x k (host_offset (l1_entry b.file.header.fields (contents_in view b.file) index))) header ∙ ap (λ e. r.old_tables k + table_in a.file.header.fields k (host_offset e)) (same_l1 index))
         (λ k. refl) (λ k. refl)
 
-  pub says_still : (p q : Pending) (a b : Qcow2 S F) (index : ℕ) (t : L2TableView) → UnseenStep view backing p q a b out → SaysKnown a.file.header.fields (known_in view a.file) index t → SaysKnown b.file.header.fields (known_in view b.file) index t
+  pub says_still : (p q : Pending) (a b : Qcow2 S F) (index : ℕ) (t : L2TableView) → InternalStep view backing p q a b out → SaysKnown a.file.header.fields (known_in view a.file) index t → SaysKnown b.file.header.fields (known_in view b.file) index t
   says_still p q a b index t keeps says =
       says_format a.file.header.fields b.file.header.fields keeps.unseen.header (known_in view b.file) (contents_in view b.file) index t (record { format = says.format; says = λ g here. sym (keeps.unseen.covers g) ∙ says.says g here })
 
   -- ---- the bytes stand there, and then the entry is written
   pub written_so : (p : Pending) (a b c : Qcow2 S F) (index at : ℕ) (r : Result (Unit {0}) ImageError) → ImageInvariant view backing (with_new_tables p (one_at at)) a out → b.l1_table ≡ a.l1_table
-      → UnseenStep view backing (with_new_tables p (one_at at)) (with_new_tables p (one_at at)) a b out → NamesNew view backing p b c out index at r → WritesNew view backing p a c out index at r
+      → InternalStep view backing (with_new_tables p (one_at at)) (with_new_tables p (one_at at)) a b out → NamesNew view backing p b c out index at r → WritesNew view backing p a c out index at r
   written_so p a b c index at (Ok x) sound same first names =
       let q = with_new_tables p (one_at at) in (
-        subst (λ (r : Pending). UnseenStep view backing q r a c out) (replacing_same q q a b sound first.sound same p index first.unseen.header)
+        subst (λ (r : Pending). InternalStep view backing q r a c out) (replacing_same q q a b sound first.sound same p index first.unseen.header)
             (keeps_then view backing out a b c q q (replacing view p b index) (λ k h. h) first names.0),
         names.1,
       )
@@ -109,7 +109,7 @@ module _ {S F : Type 0} (view : S → StorageView) (backing : F → BackingView)
     abbrev relisted : Qcow2 S F
     relisted = record image { file = record image.file { free_list = list } }
 
-    pub keeps_listed : UnseenStep view backing p q image relisted out
+    pub keeps_listed : InternalStep view backing p q image relisted out
     keeps_listed = record {
       sound = record {
         works = sound.works;
@@ -140,7 +140,7 @@ module _ {S F : Type 0} (view : S → StorageView) (backing : F → BackingView)
   given_up p at = record p { old_tables = λ k. p.old_tables k + one_at at k }
 
   pub abandoned : (p : Pending) (at : ℕ) (image : Qcow2 S F) (list more : List ClustersToFreeEntry) → ImageInvariant view backing (with_new_tables p (one_at at)) image out → (is : list ≡ image.file.free_list ++ more)
-      → UnseenStep view backing (with_new_tables p (one_at at)) (given_up p at) image (record image { file = record image.file { free_list = list } }) out
+      → InternalStep view backing (with_new_tables p (one_at at)) (given_up p at) image (record image { file = record image.file { free_list = list } }) out
   abandoned p at image list more sound is =
       let q = with_new_tables p (one_at at) in
       let s = state_in view image.file q in
@@ -182,9 +182,9 @@ module _ {S F : Type 0} (view : S → StorageView) (backing : F → BackingView)
       | inr interrupted ↦ inr (record { interrupted = interrupted; leaks = leaks })
     ]
 
-    module _ (first n : ℕ) (one : n ≡ 1) (allocator_step : UnseenAllocatorGrowth view p old.file a file (taken_as false since (run_at first n))) (hint : NoFreeBelowHint view a file) where
-      pub keeps_taken : UnseenStep view backing p (with_new_tables since (one_at first)) old taken out
-      keeps_taken = subst (λ (q : Pending). UnseenStep view backing p q old taken out) (ap (λ m. taken_as false since (run_at first m)) one ∙ one_taken since first)
+    module _ (first n : ℕ) (one : n ≡ 1) (allocator_step : InternalAllocatorGrowth view p old.file a file (taken_as false since (run_at first n))) (hint : NoFreeBelowHint view a file) where
+      pub keeps_taken : InternalStep view backing p (with_new_tables since (one_at first)) old taken out
+      keeps_taken = subst (λ (q : Pending). InternalStep view backing p q old taken out) (ap (λ m. taken_as false since (run_at first m)) one ∙ one_taken since first)
           (file_moved_on view backing old out p (taken_as false since (run_at first n)) sound file (Some a) allocator_step.file_step (record { reftable = allocator_step.reftable; hint = hint }) leaks marks.pins (lists_grow old taken lists))
 
       may_taken : (index : ℕ) → MayName view old index → MayName view taken index
@@ -199,7 +199,7 @@ module _ {S F : Type 0} (view : S → StorageView) (backing : F → BackingView)
         table_entered x is =
             let q = with_new_tables since (one_at first) in
             let named : WritesNew view backing since taken new out index first (Ok x) = subst (WritesNew view backing since taken new out index first) is written in (
-              subst (λ (s : Pending). UnseenStep view backing p s old new out)
+              subst (λ (s : Pending). InternalStep view backing p s old new out)
                   (replacing_same p q old taken sound keeps_taken.sound refl since index keeps_taken.unseen.header ∙ ap (λ s. replacing view s old index) (listed_after_on view backing out p old taken new listed))
                   (keeps_then view backing out old taken new p q (replacing view since taken index) (λ k h. h) keeps_taken named.0),
               named.1,
@@ -212,7 +212,7 @@ module _ {S F : Type 0} (view : S → StorageView) (backing : F → BackingView)
             let refused : WritesNew view backing since taken new out index first (Err e) = subst (WritesNew view backing since taken new out index first) is written in
             elim refused [
               | inl keeps ↦ inl (
-                  subst (λ (s : Pending). UnseenStep view backing p s old (record new { file = record new.file { free_list = more } }) out)
+                  subst (λ (s : Pending). InternalStep view backing p s old (record new { file = record new.file { free_list = more } }) out)
                   (freed_table p first old taken (record new { file = record new.file { free_list = more } }) run (lists_grow old taken lists) at single kind (longer ∙ ap (λ l. l ++ run ∷ []) listed))
                   (keeps_then view backing out old new (record new { file = record new.file { free_list = more } }) p q (given_up since first) (λ k h. h) (keeps_then view backing out old taken new p q q (λ k h. h) keeps_taken keeps)
                   (abandoned since first new more (run ∷ []) keeps.sound longer)))

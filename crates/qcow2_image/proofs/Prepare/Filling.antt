@@ -35,12 +35,12 @@ use Rattle.qcow2_alloc.specs.ImageFile.{state_in, view_in, contents_in, known_in
 use Rattle.qcow2_image.specs.declared.image.Qcow2.{Qcow2}
 use Rattle.qcow2_image.specs.declared.prepared.Prepared.{Prepared}
 use Rattle.qcow2_image.specs.CallParts.{IsWriteOutcome, WritesBytes}
-use Rattle.qcow2_image.specs.UnseenSteps.{AreThere, UnseenStep, UnseenFillingStep, HoldsAll, IsInHeldCluster, SameHeld}
+use Rattle.qcow2_image.specs.InternalSteps.{AreThere, InternalStep, InternalFillingStep, HoldsAll, IsInHeldCluster, SameHeld}
 use Rattle.qcow2_metadata.specs.Cover.{cover}
 use Rattle.qcow2_metadata.specs.declared.l2_mapping.L2Mapping.{L2Mapping}
 use Rattle.qcow2_metadata.specs.declared.l2_mapping.L2Mapping.TheVariants.{Data, Zero, Compressed, Uncovered}
 use Rattle.qcow2_disk.specs.Alike.{IsAlike, IsAlikeRun}
-use Rattle.qcow2_laws.proofs.Unseen.{unseen_disk}
+use Rattle.qcow2_laws.proofs.Internal.{unseen_disk}
 use Rattle.qcow2_image.specs.ImageInvariant.{new_data_by, place_of, backing_bytes, disk_of, ImageInvariant}
 use Rattle.qcow2_image.proofs.Shares.{Standing, in_new, in_kept, kept_used, over_all_at, private_stands}
 use Rattle.qcow2_image.proofs.Call.Answered.{same_guest, same_slot, freeing_step_kept, still_seen}
@@ -74,7 +74,7 @@ written_or_not (Err I.Overflow) old changed new is = inl is
 written_or_not (Err (I.StillInUse tables)) old changed new is = inl is
 
 module _ {S F : Type 0} (view : S → StorageView) (backing : F → BackingView) (out : List (Option Prepared)) where
-  pub image_step_kept : (a b : Qcow2 S F) (p p' : Pending) → ImageInvariant view backing p a out → HoldsAll view backing p out → HoldsAll view backing p' out → UnseenStep view backing p p' a b out → UnseenFillingStep view backing p p' a b out
+  pub image_step_kept : (a b : Qcow2 S F) (p p' : Pending) → ImageInvariant view backing p a out → HoldsAll view backing p out → HoldsAll view backing p' out → InternalStep view backing p p' a b out → InternalFillingStep view backing p p' a b out
   image_step_kept a b p p' sound holds still keeps = record {
     sound = keeps.sound;
     safe_step = keeps.safe_step;
@@ -88,7 +88,7 @@ module _ {S F : Type 0} (view : S → StorageView) (backing : F → BackingView)
     leaks = keeps.leaks;
   }
 
-  pub image_step_none : (a : Qcow2 S F) (p : Pending) → ImageInvariant view backing p a out → UnseenFillingStep view backing p p a a out
+  pub image_step_none : (a : Qcow2 S F) (p : Pending) → ImageInvariant view backing p a out → InternalFillingStep view backing p p a a out
   image_step_none a p sound = record {
     sound = sound;
     safe_step = safe_step_none (state_in view a.file p) sound.file.caches.kept.kept.crash_invariant;
@@ -102,7 +102,7 @@ module _ {S F : Type 0} (view : S → StorageView) (backing : F → BackingView)
     leaks = refl;
   }
 
-  pub image_step_then : (a b c : Qcow2 S F) (p q r : Pending) → UnseenFillingStep view backing p q a b out → UnseenFillingStep view backing q r b c out → UnseenFillingStep view backing p r a c out
+  pub image_step_then : (a b c : Qcow2 S F) (p q r : Pending) → InternalFillingStep view backing p q a b out → InternalFillingStep view backing q r b c out → InternalFillingStep view backing p r a c out
   image_step_then a b c p q r first then = record {
     sound = then.sound;
     safe_step = safe_step_then (state_in view a.file p) (state_in view b.file q) (state_in view c.file r) nothing_given nothing_given [] [] first.safe_step then.safe_step;
@@ -117,7 +117,7 @@ module _ {S F : Type 0} (view : S → StorageView) (backing : F → BackingView)
   }
 
   -- clusters that are held have the same bytes where no guest sees a change
-  pub same_new_data : (a b : Qcow2 S F) (p : Pending) → ImageInvariant view backing p a out → UnseenStep view backing p p a b out → SameHeld view backing p a b
+  pub same_new_data : (a b : Qcow2 S F) (p : Pending) → ImageInvariant view backing p a out → InternalStep view backing p p a b out → SameHeld view backing p a b
   same_new_data a b p sound keeps o some =
       let before : contents_in view a.file o ≡ known_in view a.file o = sound.file.caches.kept.kept.crash_invariant.not_overlaid o (omega (arith, some)) in
       let here : 0 < p.new_data (o / cluster_size b.file.header.fields) = subst (λ n. 0 < p.new_data (o / n)) (sym (size_format a.file.header.fields b.file.header.fields keeps.unseen.header)) some in
@@ -173,7 +173,7 @@ module _ {S F : Type 0} (view : S → StorageView) (backing : F → BackingView)
         let none = unnamed.no_entry in
         absurd (omega arith)
 
-    image_step_written : UnseenFillingStep view backing p p old new out
+    image_step_written : InternalFillingStep view backing p p old new out
     image_step_written = record {
       sound = sound_written view backing old out sound storage at bytes is no_table (λ _. []) honest time apart.safe_step apart.unseen.covers;
       safe_step = apart.safe_step;
@@ -192,11 +192,11 @@ module _ {S F : Type 0} (view : S → StorageView) (backing : F → BackingView)
   -- whether the write is there or isn't
   module _ (old new : Qcow2 S F) (p : Pending) (sound : ImageInvariant view backing p old out) (cluster at : ℕ) (bytes : List ℕ) (own : IsInHeldCluster view backing p old out cluster at (length bytes)) (holds : HoldsAll view backing p out)
       (r : Result (Unit {0}) ImageError) (w : WritesBytes view old new at bytes r) where
-    still : (view_in view new.file).contents ≡ (view_in view old.file).contents → UnseenFillingStep view backing p p old (record old { file = record old.file { storage = new.file.storage } }) out
+    still : (view_in view new.file).contents ≡ (view_in view old.file).contents → InternalFillingStep view backing p p old (record old { file = record old.file { storage = new.file.storage } }) out
     still same = image_step_kept old (record old { file = record old.file { storage = new.file.storage } }) p p sound holds holds (still_moved view backing old out p sound new.file.storage (w.honest sound.file.honest) (w.time sound.file.honest) same)
 
-    pub image_step_data : UnseenFillingStep view backing p p old new out
-    image_step_data = subst (λ (image : Qcow2 S F). UnseenFillingStep view backing p p old image out) (sym w.rest)
+    pub image_step_data : InternalFillingStep view backing p p old new out
+    image_step_data = subst (λ (image : Qcow2 S F). InternalFillingStep view backing p p old image out) (sym w.rest)
         (⊎_elim still (λ (is : (view_in view new.file).contents ≡ overwritten (view_in view old.file).contents at bytes). image_step_written old p sound cluster at bytes own new.file.storage (w.honest sound.file.honest) (w.time sound.file.honest) is) (written_or_not r (view_in view old.file).contents (overwritten (view_in view old.file).contents at bytes) (view_in view new.file).contents (w.written sound.file.honest)))
 
 -- a range of the same length in an image of the same file
@@ -215,7 +215,7 @@ there_written view old new at bytes (Ok done) w honest = λ i lt. ap (λ c. byte
 there_written view old new at bytes (Err e) w honest = tt
 
 -- where no guest sees a change the disk is the same
-pub disk_kept : {S F : Type 0} (view : S → StorageView) (backing : F → BackingView) (old new : Qcow2 S F) (out : List (Option Prepared)) (p : Pending) → ImageInvariant view backing p old out → UnseenStep view backing p p old new out → disk_of view backing new ≡ disk_of view backing old
+pub disk_kept : {S F : Type 0} (view : S → StorageView) (backing : F → BackingView) (old new : Qcow2 S F) (out : List (Option Prepared)) (p : Pending) → ImageInvariant view backing p old out → InternalStep view backing p p old new out → disk_of view backing new ≡ disk_of view backing old
 disk_kept view backing old new out p sound keeps =
     unseen_disk (state_in view old.file p) (state_in view new.file p) sound.file.caches.kept.kept.crash_invariant sound.inside keeps.sound.file.caches.kept.kept.crash_invariant keeps.unseen (backing_bytes view backing new.backing)
     ∙ ap (λ (b : Bool × Bytes). disk (known_in view old.file) b.1) keeps.below

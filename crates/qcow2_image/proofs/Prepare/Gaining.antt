@@ -10,7 +10,7 @@ use Rattle.qcow2_laws.specs.CrashInvariant.{Pending}
 use Rattle.qcow2_laws.specs.SafeSteps.{SafeStep}
 use Rattle.qcow2_disk.specs.Disk.{Disk}
 use Rattle.qcow2_metadata.specs.Guest.{known_byte}
-use Rattle.qcow2_laws.specs.Unseen.{KeepsFormat}
+use Rattle.qcow2_laws.specs.Internal.{KeepsFormat}
 use Rattle.qcow2_laws.proofs.SafeSteps.{pending_safe_throughout}
 use Rattle.qcow2_laws.proofs.Steps.{pending_is_changed}
 use Rattle.qcow2_alloc.specs.Limits.{IsPastLimits}
@@ -22,7 +22,7 @@ use Rattle.qcow2_alloc.specs.declared.clusters_to_free.ClustersToFreeEntry.{Clus
 use Rattle.qcow2_alloc.specs.declared.error.ImageError.{ImageError}
 use Rattle.qcow2_alloc.specs.declared.image_file.ImageFile.{ImageFile}
 use Rattle.qcow2_alloc.specs.FreeList.{ListsTables, pending_then as since_listed}
-use Rattle.qcow2_alloc.specs.ImageFile.{state_in, view_in, contents_in, known_in, nothing_given, KeepsHeader, UnseenFileGrowth}
+use Rattle.qcow2_alloc.specs.ImageFile.{state_in, view_in, contents_in, known_in, nothing_given, KeepsHeader, InternalFileGrowth}
 use Rattle.qcow2_alloc.proofs.FileSteps.{pending_same}
 use Rattle.qcow2_alloc.proofs.ListedAfter.{header_format, listed_after_same as same_list}
 use Rattle.qcow2_alloc.proofs.Runs.{run_in}
@@ -33,7 +33,7 @@ use Rattle.qcow2_image.specs.declared.prepared.Prepared.{Prepared}
 use Rattle.qcow2_alloc.specs.LowestRuns.{IsUsed, NoFreeBelowHint, KeepsNoFreeBelowHint, BrokeOff}
 use Rattle.qcow2_alloc.proofs.FileInvariants.{file_invariant_of}
 use Rattle.qcow2_image.specs.Ranges.{TakesDataAt}
-use Rattle.qcow2_image.specs.UnseenSteps.{pending_with_listed, is_announced, IsFilled, UnseenFillingStep, RefusedFillingStep, HoldsAll, ListGrows, TakesData}
+use Rattle.qcow2_image.specs.InternalSteps.{pending_with_listed, is_announced, IsFilled, InternalFillingStep, RefusedFillingStep, HoldsAll, ListGrows, TakesData}
 use Rattle.qcow2_image.specs.ImageInvariant.{run_of, of_data, of_tables, to_free, new_data_by, over_all, disk_of, ImageInvariant}
 use Rattle.qcow2_image.proofs.Formats.{lists_grow}
 use Rattle.qcow2_image.proofs.Prepare.Filling.{image_step_kept, image_step_then}
@@ -62,7 +62,7 @@ module _ {S F : Type 0} (view : S → StorageView) (backing : F → BackingView)
     since = pending_with_listed p old taken
 
     -- from what is pending to what is
-    image_step_moved : (q : Pending) → HoldsAll view backing q out → UnseenFileGrowth view p q old.file file → IsAllocatorOf view file a → UnseenFillingStep view backing p q old taken out
+    image_step_moved : (q : Pending) → HoldsAll view backing q out → InternalFileGrowth view p q old.file file → IsAllocatorOf view file a → InternalFillingStep view backing p q old taken out
     image_step_moved q still file_step reftable = image_step_kept view backing out old taken p q sound holds still (file_moved_on view backing old out p q sound file (Some a) file_step reftable leaks marks.pins (lists_grow old taken lists))
 
     image_step_back : (e : ImageError) → RefusedGrowth view p old.file a file since e → NoFreeBelowHint view a file ⊎ BrokeOff file e → RefusedFillingStep view backing p old taken out e
@@ -78,7 +78,7 @@ module _ {S F : Type 0} (view : S → StorageView) (backing : F → BackingView)
         let allocator_step = is.2 in (
           count,
           is.1,
-          subst (λ f. UnseenFillingStep view backing p (with_new_data since f) old taken out) run
+          subst (λ f. InternalFillingStep view backing p (with_new_data since f) old taken out) run
               (image_step_moved (with_new_data since (run_at n.first_cluster 1)) (λ k. let h = holds k in omega arith)
               allocator_step.file_step (record { reftable = allocator_step.reftable; hint = hint })),
         )
@@ -92,7 +92,7 @@ module _ {S F : Type 0} (view : S → StorageView) (backing : F → BackingView)
           is.0,
           is.1,
           is.2,
-          subst (λ f. UnseenFillingStep view backing p (with_new_data since f) old taken out) run
+          subst (λ f. InternalFillingStep view backing p (with_new_data since f) old taken out) run
               (image_step_moved (with_new_data since (run_at cluster 1)) (λ k. let h = holds k in omega arith)
               is.3.file_step (record { reftable = is.3.reftable; hint = hint })),
         )
@@ -113,7 +113,7 @@ module _ {S F : Type 0} (view : S → StorageView) (backing : F → BackingView)
     safe_step : SafeStep (state_in view old.file new_data) (state_in view left.file after) nothing_given []
     safe_step = pending_is_changed.old_data (state_in view old.file new_data) (run_of n) sound.file.caches.kept.kept.crash_invariant (λ c. run_few n.first_cluster n.count c) (λ c some. omega arith)
 
-    pub image_step_handed_back : UnseenFillingStep view backing new_data after old left out
+    pub image_step_handed_back : InternalFillingStep view backing new_data after old left out
     image_step_handed_back = record {
       sound = record {
         works = sound.works;
@@ -162,16 +162,16 @@ module _ {S F : Type 0} (view : S → StorageView) (backing : F → BackingView)
       (λ k. refl)
 
   -- all of it
-  pub image_step_left : (start old : Qcow2 S F) (p : Pending) (n : ClustersToFreeEntry) (one : n.count ≡ 1) (kind : n.kind ≡ Kind.Data) → (image_step : UnseenFillingStep view backing p (with_new_data (pending_with_listed p start old) (run_of n)) start old out)
-      → let end = left old (pending_with_listed p start old) n one kind image_step.sound in UnseenFillingStep view backing p (pending_with_listed p start end) start end out
+  pub image_step_left : (start old : Qcow2 S F) (p : Pending) (n : ClustersToFreeEntry) (one : n.count ≡ 1) (kind : n.kind ≡ Kind.Data) → (image_step : InternalFillingStep view backing p (with_new_data (pending_with_listed p start old) (run_of n)) start old out)
+      → let end = left old (pending_with_listed p start old) n one kind image_step.sound in InternalFillingStep view backing p (pending_with_listed p start end) start end out
   image_step_left start old p n one kind image_step =
       let q = pending_with_listed p start old in
       let end = left old q n one kind image_step.sound in
-      subst (λ r. UnseenFillingStep view backing p r start end out) (after_is start old p n one kind image_step.sound image_step.list)
+      subst (λ r. InternalFillingStep view backing p r start end out) (after_is start old p n one kind image_step.sound image_step.list)
       (image_step_then view backing out start old end p (with_new_data q (run_of n)) (after old q n one kind image_step.sound) image_step (image_step_handed_back old q n one kind image_step.sound))
 
   -- ---- a cluster that was taken is new
-  module _ (old mid : Qcow2 S F) (p : Pending) (n : ClustersToFreeEntry) (one : n.count ≡ 1) (holds : HoldsAll view backing p out) (image_step : UnseenFillingStep view backing p (with_new_data (pending_with_listed p old mid) (run_of n)) old mid out) where
+  module _ (old mid : Qcow2 S F) (p : Pending) (n : ClustersToFreeEntry) (one : n.count ≡ 1) (holds : HoldsAll view backing p out) (image_step : InternalFillingStep view backing p (with_new_data (pending_with_listed p old mid) (run_of n)) old mid out) where
     pub taken_new_data : 0 < (with_new_data (pending_with_listed p old mid) (run_of n)).new_data n.first_cluster
     taken_new_data = let once = run_in n.first_cluster n.count n.first_cluster (omega arith) (omega (arith, one)) in omega arith
 

@@ -39,7 +39,7 @@ use Rattle.qcow2_image.specs.CallParts.{WritesBytes}
 use Rattle.qcow2_image.specs.CopyRange.{HasByte}
 use Rattle.qcow2_image.specs.Found.{l1_index_of}
 use Rattle.qcow2_image.specs.ImageInvariant.{backing_bytes, cluster_of, new_data_by, is_private, place_of, share_of, ImageInvariant}
-use Rattle.qcow2_image.specs.UnseenSteps.{HoldsAll, IsFilled, IsKeptAlone, UnseenFillingStep, is_announced}
+use Rattle.qcow2_image.specs.InternalSteps.{HoldsAll, IsFilled, IsKeptAlone, InternalFillingStep, is_announced}
 use Rattle.qcow2_image.proofs.Apart.{same_row}
 use Rattle.qcow2_image.proofs.Call.Answered.{same_guest, same_slot}
 use Rattle.qcow2_image.proofs.Inside.{names_inside}
@@ -127,7 +127,7 @@ module _ {S F : Type 0} (view : S → StorageView) (backing : F → BackingView)
       stays : contents_in view new.file place ≡ contents_in view old.file place
       stays = by_standing (private_stands view backing old out p sound j r there_is o private)
 
-    image_step_written : UnseenFillingStep view backing p p old new out
+    image_step_written : InternalFillingStep view backing p p old new out
     image_step_written = record {
       sound = sound_written view backing old out sound storage (host + at) bytes is no_table nothing_given honest time safe_step run.covers;
       safe_step = safe_step;
@@ -143,9 +143,9 @@ module _ {S F : Type 0} (view : S → StorageView) (backing : F → BackingView)
     }
 
   -- whether the write is there or isn't
-  pub image_step_zeros : (new : Qcow2 S F) (r : Result (Unit {0}) ImageError) → WritesBytes view old new (host + at) bytes r → UnseenFillingStep view backing p p old new out
+  pub image_step_zeros : (new : Qcow2 S F) (r : Result (Unit {0}) ImageError) → WritesBytes view old new (host + at) bytes r → InternalFillingStep view backing p p old new out
   image_step_zeros new r w =
-      subst (λ (image : Qcow2 S F). UnseenFillingStep view backing p p old image out) (sym w.rest)
+      subst (λ (image : Qcow2 S F). InternalFillingStep view backing p p old image out) (sym w.rest)
       (⊎_elim
       (λ (same : (view_in view new.file).contents ≡ (view_in view old.file).contents). image_step_kept view backing out old (record old { file = record old.file { storage = new.file.storage } }) p p sound holds holds
       (still_moved view backing old out p sound new.file.storage (w.honest sound.file.honest) (w.time sound.file.honest) same))
@@ -154,7 +154,7 @@ module _ {S F : Type 0} (view : S → StorageView) (backing : F → BackingView)
 
 -- so many zeros fill a part of it
 pub image_step_filled : {S F : Type 0} (view : S → StorageView) (backing : F → BackingView) (out : List (Option Prepared)) (old new : Qcow2 S F) (p : Pending) → ImageInvariant view backing p old out → HoldsAll view backing p out → (offset host at n : ℕ) → IsKeptAlone view backing old out offset host
-    → at + n ≤ cluster_size old.file.header.fields → (r : Result (Unit {0}) ImageError) → WritesBytes view old new (host + at) (replicate n 0) r → UnseenFillingStep view backing p p old new out
+    → at + n ≤ cluster_size old.file.header.fields → (r : Result (Unit {0}) ImageError) → WritesBytes view old new (host + at) (replicate n 0) r → InternalFillingStep view backing p p old new out
 image_step_filled view backing out old new p sound holds offset host at n is_kept fits r w =
     let zeros : List ℕ = replicate n 0 in
     let long = length-replicate {A = ℕ} n 0 in

@@ -29,7 +29,7 @@ use Rattle.qcow2_image.specs.Image.{number_of}
 use Rattle.qcow2_image.specs.CallParts.{IsReadied}
 use Rattle.qcow2_image.specs.ImageInvariant.{abstract_of, cluster_of, new_data_in, host_begin_of, is_private, meaning, of_data, of_tables, pending_in, pins_by, place_of, share_of, to_free, IsKeptAt, IsPending, IsReadyWith, ImageInvariant}
 use Rattle.qcow2_image.specs.Ranges.{BeginsInKept, MayGoOn, StandsBehind}
-use Rattle.qcow2_image.specs.UnseenSteps.{HoldsTable, IsFilled, IsKeptAlone, Pins, UnseenFillingStep}
+use Rattle.qcow2_image.specs.InternalSteps.{HoldsTable, IsFilled, IsKeptAlone, Pins, InternalFillingStep}
 use Rattle.qcow2_image.proofs.Apart.{pins_own}
 use Rattle.qcow2_image.proofs.Call.Slots.{over_all_two}
 use Rattle.qcow2_image.proofs.Prepare.Behind.{filled_there, host_is, next_cluster, table_is}
@@ -73,7 +73,7 @@ module _ {S F : Type 0} (view : S → StorageView) (backing : F → BackingView)
         absurd (omega (arith, mine, all, pins, unpinned)));
   }
 
-  module _ (mid : Qcow2 S F) (image_step : UnseenFillingStep view backing before before old mid out) (caches : mid.file.caches ≡ old.file.caches) (list : mid.file.free_list ≡ old.file.free_list) (like : Prepared) (one : like.shares.items ≡ Kept ∷ []) (reach : host ≤ greatest_offset) (k length : ℕ) (overwrite : Bool)
+  module _ (mid : Qcow2 S F) (image_step : InternalFillingStep view backing before before old mid out) (caches : mid.file.caches ≡ old.file.caches) (list : mid.file.free_list ≡ old.file.free_list) (like : Prepared) (one : like.shares.items ≡ Kept ∷ []) (reach : host ≤ greatest_offset) (k length : ℕ) (overwrite : Bool)
       (free : slice_get out k ≡ Some None) (filled : IsFilled view backing old mid (host / cluster_size old.file.header.fields) offset length overwrite) where
     abbrev hm : HeaderFields
     hm = mid.file.header.fields
@@ -188,7 +188,7 @@ module _ {S F : Type 0} (view : S → StorageView) (backing : F → BackingView)
     pub behind_alone : IsKeptAlone view backing old out (p.guest + p.length) host
     behind_alone = record { kept = kept; alone = alone_at }
 
-    module _ (new : Qcow2 S F) (image_step : UnseenFillingStep view backing behind behind old new out) (list : new.file.free_list ≡ old.file.free_list) (filled : IsFilled view backing old new (host / cluster_size h) (p.guest + p.length) (n - p.length) overwrite) where
+    module _ (new : Qcow2 S F) (image_step : InternalFillingStep view backing behind behind old new out) (list : new.file.free_list ≡ old.file.free_list) (filled : IsFilled view backing old new (host / cluster_size h) (p.guest + p.length) (n - p.length) overwrite) where
       abbrev hn : HeaderFields
       hn = new.file.header.fields
 

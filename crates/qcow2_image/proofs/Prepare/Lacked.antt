@@ -2,8 +2,8 @@
 use Rattle.qcow2_image.specs.Image.{ImageStays, IsBegun}
 use Rattle.qcow2_image.specs.ImageSteps.{ImageStep}
 use Rattle.qcow2_image.specs.Ranges.{TakesDataAt}
-use Rattle.qcow2_image.specs.UnseenSteps.{RefusedFillingStep, TakesData, UnseenFillingStep, pending_with_listed}
-use Rattle.qcow2_image.specs.Limits.{GoesTo, IfLimit, IsLimited, IsLimitedAmong, IsLimitedIn, IsLimitedTaking, IsLimitedUnseen, IsLimitedWith, LacksPlace, l1_clusters}
+use Rattle.qcow2_image.specs.InternalSteps.{RefusedFillingStep, TakesData, InternalFillingStep, pending_with_listed}
+use Rattle.qcow2_image.specs.Limits.{GoesTo, IfLimit, IsLimited, IsLimitedAmong, IsLimitedIn, IsLimitedTaking, IsLimitedInternal, IsLimitedWith, LacksPlace, l1_clusters}
 use Rattle.qcow2_image.proofs.Call.BehindHeader.{behind_begun, behind_then}
 use Rattle.qcow2_image.proofs.Call.ImageSteps.{step_none}
 use Rattle.std.proofs.Common.{◌≡◌, ◌⊎◌, inl, inr, ℕ, ◌+◌, ◌<◌, ◌≤◌, List, [], ◌∷◌, ◌++◌, Option, Some, Result, Ok, Err, refl, sym, ap, ◌∙◌, subst, arith}
@@ -26,7 +26,7 @@ use Rattle.qcow2_disk.specs.Calls.{EffectOnSound}
 use Rattle.qcow2_metadata.specs.Guest.{Value}
 use Rattle.qcow2_disk.specs.Stops.{GivenBytes, IsGiven}
 use Rattle.qcow2_disk.proofs.Compose.{TouchesLess, works_less, works_then}
-use Rattle.qcow2_image.specs.CallParts.{RefusedCall, UnseenCall}
+use Rattle.qcow2_image.specs.CallParts.{RefusedCall, InternalCall}
 use Rattle.qcow2_image.proofs.Call.Refused.{image_step_stays, stays_kept}
 use Rattle.qcow2_image.specs.declared.image.Qcow2.{Qcow2}
 use Rattle.qcow2_image.specs.declared.prepared.Prepared.{Prepared}
@@ -125,11 +125,11 @@ module _ {S F : Type 0} {view : S → StorageView} where
   limited_in_since goes keeps met = record { mid = met.mid; before = goes_then goes met.before; kept = keeps met.mid met.kept; offset = met.offset; below = met.below; limit = met.limit }
 
 module _ {S F : Type 0} {view : S → StorageView} {backing : F → BackingView} {end : ℕ} {old : Qcow2 S F} {out : List (Option Prepared)} where
-  called : (Keeps : Qcow2 S F → Type 0) → ((mid : Qcow2 S F) → Keeps mid → UnseenCall view backing old mid out) → IsLimitedIn view Keeps end old → IsLimitedAmong view backing [] end old out
+  called : (Keeps : Qcow2 S F → Type 0) → ((mid : Qcow2 S F) → Keeps mid → InternalCall view backing old mid out) → IsLimitedIn view Keeps end old → IsLimitedAmong view backing [] end old out
   called Keeps call met = record { mid = met.mid; now = out; before = met.before; few = omega arith; works = (call met.mid met.kept).works; sound = (call met.mid met.kept).sound; offset = met.offset; below = met.below; limit = met.limit }
 
   -- a part of a call that no guest sees
-  pub limited_unseen : ImageInvariant view backing (pending_in view backing old out) old out → IsLimitedUnseen view backing (pending_in view backing old out) end old out → IsLimitedAmong view backing [] end old out
+  pub limited_unseen : ImageInvariant view backing (pending_in view backing old out) old out → IsLimitedInternal view backing (pending_in view backing old out) end old out → IsLimitedAmong view backing [] end old out
   limited_unseen sound met = called _ (λ mid keeps. stays_kept view backing out old mid sound keeps) met
 
   -- one that took a cluster for data
@@ -195,7 +195,7 @@ module _ {S F : Type 0} {view : S → StorageView} {backing : F → BackingView}
   limited_upto upto met = limited_within (omega arith) upto met
 
   -- behind a part that no guest sees
-  pub limited_since : {near far : ℕ} {given : List GivenBytes} {old mid : Qcow2 S F} {out : List (Option Prepared)} → near ≤ far → GoesTo view old mid → UnseenCall view backing old mid out → IsLimited view backing given near mid out → IsLimited view backing given far old out
+  pub limited_since : {near far : ℕ} {given : List GivenBytes} {old mid : Qcow2 S F} {out : List (Option Prepared)} → near ≤ far → GoesTo view old mid → InternalCall view backing old mid out → IsLimited view backing given near mid out → IsLimited view backing given far old out
   limited_since {given = given} upto goes call met = limited_from (omega arith) upto goes call.sound (none_of _ _ given call.works) met
 
 -- ---- where clusters were refused
@@ -213,7 +213,7 @@ module _ {S F : Type 0} (view : S → StorageView) (Keeps : Qcow2 S F → Type 0
 
 module _ {S F : Type 0} (view : S → StorageView) (backing : F → BackingView) (out : List (Option Prepared)) (p : Pending) (old new : Qcow2 S F) where
   abbrev Fills : Type 0
-  Fills = UnseenFillingStep view backing p (pending_with_listed p old new) old new out
+  Fills = InternalFillingStep view backing p (pending_with_listed p old new) old new out
 
   -- an allocation that was refused left all sound, or broke off
   pub filling_left : (e : ImageError) → RefusedFillingStep view backing p old new out e → Fills ⊎ IsFault e

@@ -15,7 +15,7 @@ use Rattle.qcow2_metadata.specs.Header.{cluster_size}
 use Rattle.qcow2_metadata.specs.TableBytes.{HasPlace}
 use Rattle.qcow2_laws.specs.CrashInvariant.{Pending}
 use Rattle.qcow2_laws.specs.Guests.{table_at}
-use Rattle.qcow2_laws.specs.Unseen.{KeepsFormat}
+use Rattle.qcow2_laws.specs.Internal.{KeepsFormat}
 use Rattle.qcow2_laws.proofs.Places.{has_table}
 use Rattle.qcow2_alloc.specs.AsyncLruCache.{is_pinned, pinned}
 use Rattle.qcow2_alloc.specs.CachePins.{AreAllPinned, IsInUseOrFault}
@@ -31,7 +31,7 @@ use Rattle.qcow2_image.specs.ImageInvariant.{ImageInvariant}
 use Rattle.qcow2_image.specs.LongerTables.{RefusedMove}
 use Rattle.qcow2_image.specs.MetAlone.{IsMetLooking}
 use Rattle.qcow2_image.specs.NewTables.{IsFaultOrKeepsL1Table, IsFaultOrLacksTable, LacksTable, MayName, OwnsTable}
-use Rattle.qcow2_image.specs.UnseenSteps.{RefusedStep, pending_with_listed}
+use Rattle.qcow2_image.specs.InternalSteps.{RefusedStep, pending_with_listed}
 use Rattle.qcow2_image.proofs.Backings.{pinned_by}
 use Rattle.qcow2_image.proofs.Prepare.Entering.{may_still}
 

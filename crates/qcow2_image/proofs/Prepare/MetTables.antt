@@ -18,7 +18,7 @@ use Rattle.qcow2_alloc.specs.declared.error.ImageError.{ImageError}
 use Rattle.qcow2_alloc.specs.declared.image_storage.ImageStorage.{ImageStorage}
 use Rattle.qcow2_alloc.proofs.AllocationSteps.{handed_on}
 use Rattle.qcow2_image.specs.Backings.{HasPinnedMapping}
-use Rattle.qcow2_image.specs.CallParts.{RefusedCall, UnseenCall}
+use Rattle.qcow2_image.specs.CallParts.{RefusedCall, InternalCall}
 use Rattle.qcow2_image.specs.Clearing.{IsClearable}
 use Rattle.qcow2_image.specs.declared.discarding.ClearMode.{ClearMode}
 use Rattle.qcow2_image.specs.declared.image.Qcow2.{Qcow2}
@@ -28,7 +28,7 @@ use Rattle.qcow2_image.specs.ImageInvariant.{ImageInvariant, pending_in}
 use Rattle.qcow2_image.specs.L1Entries.{NeedsOverflowingL1Entry}
 use Rattle.qcow2_image.specs.MetAlone.{MayFailAlone, IsMetLooking}
 use Rattle.qcow2_image.specs.NewTables.{IsStored}
-use Rattle.qcow2_image.specs.UnseenSteps.{HoldsTable}
+use Rattle.qcow2_image.specs.InternalSteps.{HoldsTable}
 use Rattle.qcow2_image.proofs.Clear.Between.{fits_table}
 use Rattle.qcow2_image.proofs.Prepare.Lacking.{loads_looking}
 use Rattle.qcow2_image.proofs.Prepare.Placing.{holds, keeps_placed, keeps_stored, stands_there}
@@ -69,7 +69,7 @@ module _ {S F : Type 0} (view : S → StorageView) (backing : F → BackingView)
       subst (λ (v : L2TableView). PutRefusesBy (IsInUseOrFault old.file.caches) view storage old.file.caches (λ h. IsTableOf h v) v.cluster v.bytes v.is_modified r) put refuses h p placed.sound.file.honest placed.sound.file.caches placed.sound.file.named_blocks
       (record { bits = format.bits; zero_bit = format.zero_bit; external = format.external }) refl (holds view backing mid out p placed.sound still at some t.bytes (whole ∙ ap (λ n. 2 ^ n) format.bits) there)
 
-module _ {S F : Type 0} (view : S → StorageView) (backing : F → BackingView) (out : List (Option Prepared)) (old mid : Qcow2 S F) (how : ClearMode) (from to table : ℕ) (found : UnseenCall view backing old mid out) (held : HoldsTable view backing mid from table) where
+module _ {S F : Type 0} (view : S → StorageView) (backing : F → BackingView) (out : List (Option Prepared)) (old mid : Qcow2 S F) (how : ClearMode) (from to table : ℕ) (found : InternalCall view backing old mid out) (held : HoldsTable view backing mid from table) where
   -- the entries of a range that is clearable stand in the held table, and reading them is refused for a fault alone
   pub reading_fault : IsClearable old.file.header.fields how from to → from < to → (first n : ℕ) (e : ImageError) → first ≡ from / cluster_size mid.file.header.fields → n ≡ (to - from) / cluster_size mid.file.header.fields
       → ((q : Pending) (i : ℕ) → FileInvariant view q mid.file → mid.file.header.fields.incompatible ≡ 0 → IsEntryAt mid.file.header.fields (known_in view mid.file) i table (first % entries_per_cluster mid.file.header.fields) → first / entries_per_cluster mid.file.header.fields ≡ i

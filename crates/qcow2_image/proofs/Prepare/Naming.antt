@@ -29,7 +29,7 @@ use Rattle.qcow2_laws.specs.Guests.{table_at}
 use Rattle.qcow2_laws.specs.Caches.{AreClean, IsFreeAt, IsFreeOf, HasL2, HasOwnL2, HasBlock}
 use Rattle.qcow2_laws.specs.SafeSteps.{SafeStep}
 use Rattle.qcow2_laws.specs.Tops.{IsSameBut, IsSameOutside, WritesL1Entry, IsNewTable}
-use Rattle.qcow2_laws.specs.Unseen.{IsUnseen}
+use Rattle.qcow2_laws.specs.Internal.{IsInternal}
 use Rattle.qcow2_laws.proofs.Beside.{overwritten_but, l1_entry_beside}
 use Rattle.qcow2_laws.proofs.Blocks.{table_once}
 use Rattle.qcow2_laws.proofs.KeptSteps.{kept_beside}
@@ -39,7 +39,7 @@ use Rattle.qcow2_laws.proofs.Caches.{clean_counts, shared_covers}
 use Rattle.qcow2_laws.proofs.Places.{Sizes, cover_none}
 use Rattle.qcow2_laws.proofs.Shares.{shares, in_l1, l1_has, l1_reftable, table_has, block_has, count_stays}
 use Rattle.qcow2_laws.proofs.Steps.{table_is_named}
-use Rattle.qcow2_laws.proofs.Unseen.{unseen_l2_table}
+use Rattle.qcow2_laws.proofs.Internal.{unseen_l2_table}
 use Rattle.qcow2_laws.proofs.SafeSteps.{done_safe_throughout, write_safe_throughout}
 use Rattle.qcow2_metadata.specs.Tables.{CachedTable}
 use Rattle.qcow2_alloc.specs.declared.allocation.Allocator.{Allocator}
@@ -60,7 +60,7 @@ use Rattle.qcow2_alloc.proofs.FileInvariants.{file_invariant_of}
 use Rattle.qcow2_image.specs.declared.image.Qcow2.{Qcow2}
 use Rattle.qcow2_image.specs.declared.prepared.Prepared.{Prepared}
 use Rattle.qcow2_image.specs.NewTables.{SaysKnown, StandsReady, MayName, NamesCopied, replacing}
-use Rattle.qcow2_image.specs.UnseenSteps.{NamesOwn, KeepsCopied, UnseenStep}
+use Rattle.qcow2_image.specs.InternalSteps.{NamesOwn, KeepsCopied, InternalStep}
 use Rattle.qcow2_image.specs.ImageInvariant.{cluster_of, IsReadyWith, ImageInvariant, HasL1Table}
 use Rattle.qcow2_image.proofs.Prepare.Placing.{free_here}
 use Rattle.qcow2_image.proofs.Ready.{still_ready}
@@ -214,7 +214,7 @@ module _ {S F : Type 0} (view : S → StorageView) (backing : F → BackingView)
     safe_step = subst (λ (r : Pending). SafeStep (state_in view old.file q) (state_in view named.file r) nothing_given []) fewer
         (table_is_named.l2_table (state_in view old.file q) on_storage' (known_in view named.file) index entry sound.file.caches.kept.kept.crash_invariant writes new_table)
 
-    unseen : IsUnseen (state_in view old.file q) (state_in view named.file (replacing view p old index))
+    unseen : IsInternal (state_in view old.file q) (state_in view named.file (replacing view p old index))
     unseen = unseen_l2_table (state_in view old.file q) (state_in view named.file (replacing view p old index)) sound.file.caches.kept.kept.crash_invariant index entry refl writes new_table
 
     -- ---- the caches
@@ -331,7 +331,7 @@ module _ {S F : Type 0} (view : S → StorageView) (backing : F → BackingView)
     ready_named j r is_ready =
         still_ready h known on_storage (known_in view named.file) on_storage' r sound.file.caches.kept.kept.crash_invariant.same_top.l1 safe_step.sound.same_top.l1 own_stays (λ i. unseen.covers (cluster_of h r + i)) r.table is_ready
 
-    pub keeps_named : (view (storage_of storage)).is_honest → EachMomentSince (view_in view old.file) (view (storage_of storage)) (IsLeftBy (view (storage_of storage))) → UnseenStep view backing q (replacing view p old index) old named out
+    pub keeps_named : (view (storage_of storage)).is_honest → EachMomentSince (view_in view old.file) (view (storage_of storage)) (IsLeftBy (view (storage_of storage))) → InternalStep view backing q (replacing view p old index) old named out
     keeps_named honest time = record {
       sound = record {
         works = sound.works;
@@ -379,5 +379,5 @@ module _ {S F : Type 0} (view : S → StorageView) (backing : F → BackingView)
         write_safe_throughout {result = result} (view_in view old.file) (view (storage_of storage)) (state_in view old.file q) nothing_given [] (λ b. overwritten b (h.l1_offset + 8 * index) (to_be_bytes w64 entry)) calls changes
         sound.file.honest refl (λ is. (state_in view (record old.file { storage = storage }) (replacing view p old index), refl, safe_step storage is))
 
-    pub named_so : (x : Unit {0}) → result ≡ Ok x → UnseenStep view backing q (replacing view p old index) old (record old { file = record old.file { storage = storage }; l1_table = t' }) out × NamesCopied view (record old { file = record old.file { storage = storage }; l1_table = t' }) index at
+    pub named_so : (x : Unit {0}) → result ≡ Ok x → InternalStep view backing q (replacing view p old index) old (record old { file = record old.file { storage = storage }; l1_table = t' }) out × NamesCopied view (record old { file = record old.file { storage = storage }; l1_table = t' }) index at
     named_so x done = let is = rw done at (changes sound.file.honest) in (keeps_named storage is (calls.honest sound.file.honest) (calls.time sound.file.honest), names_copied storage is)

@@ -14,7 +14,7 @@ use Rattle.qcow2_disk.specs.Calls.{EffectOnSound, with_slot}
 use Rattle.qcow2_disk.specs.Disk.{Disk}
 use Rattle.qcow2_disk.specs.Found.{rest_of_table}
 use Rattle.qcow2_disk.specs.Mappings.{PreparedMapping, IsPrepared}
-use Rattle.qcow2_laws.specs.Unseen.{KeepsFormat}
+use Rattle.qcow2_laws.specs.Internal.{KeepsFormat}
 use Rattle.qcow2_disk.proofs.Compose.{works_then, stops_as}
 use Rattle.qcow2_alloc.specs.ImageFile.{contents_in, known_in, state_in, KeepsHeader}
 use Rattle.qcow2_alloc.proofs.ListedAfter.{header_format, header_then}
@@ -24,7 +24,7 @@ use Rattle.qcow2_image.specs.declared.prepared.Prepared.{Prepared}
 use Rattle.qcow2_image.specs.declared.prepared.Share.{Share}
 use Rattle.qcow2_image.specs.Image.{ImageStays}
 use Rattle.qcow2_image.specs.Calls.{Discards}
-use Rattle.qcow2_image.specs.CallParts.{IsReadied, RefusedCall, UnseenCall}
+use Rattle.qcow2_image.specs.CallParts.{IsReadied, RefusedCall, InternalCall}
 use Rattle.qcow2_image.specs.ImageInvariant.{cluster_of, pending_in, abstract_of, meaning, IsPending, IsReadyWith, ImageInvariant}
 use Rattle.qcow2_image.specs.Ranges.{BreaksOff, Ends, HasRoomForRange, IsExtended, IsFirst, IsLongerMapping, IsNext, EndsWithCluster, ReleasesOneMapping, MayGoOn}
 use Rattle.qcow2_image.specs.MovedTables.{MovesTables, CoversStay}
@@ -84,7 +84,7 @@ module _ {S F : Type 0} (view : S → StorageView) (backing : F → BackingView)
       }
 
   -- it is as it was
-  pub readied_still : UnseenCall view backing mid new out1 → IsReadied view backing start new out k p.guest n overwrite p
+  pub readied_still : InternalCall view backing mid new out1 → IsReadied view backing start new out k p.guest n overwrite p
   readied_still still =
       let at = get_set_same out k (Some p) None free in
       let both : Some (meaning view backing new p) ≡ Some (meaning view backing mid p) =
@@ -107,7 +107,7 @@ module _ {S F : Type 0} (view : S → StorageView) (backing : F → BackingView)
     same_out : slice_set (slice_set out k (Some p)) k None ≡ out
     same_out = set_set out k (Some p) None ∙ set_same out k None free
 
-    release_prepared_still : UnseenCall view backing mid new out1 → UnseenCall view backing start end out
+    release_prepared_still : InternalCall view backing mid new out1 → InternalCall view backing start end out
     release_prepared_still still =
         let done = gone out1 k (get_set_same out k (Some p) None free) in
         let answer = done.answer still.sound in
@@ -270,7 +270,7 @@ module _ {S F : Type 0} (view : S → StorageView) (backing : F → BackingView)
 
       -- or nothing can stand behind it
       pub so_far_ends : (new : Qcow2 S F) (start : Qcow2 S F) (out : List (Option Prepared)) (k : ℕ) → slice_get out k ≡ Some None → p.table ≡ Some table → IsReadied view backing start old out k p.guest n overwrite p
-          → (MayGoOn now.file.header.fields n table q → ImageInvariant view backing (pending_in view backing now (slice_set out k (Some q))) now (slice_set out k (Some q)) → UnseenCall view backing now new (slice_set out k (Some q)) × Ends view new q)
+          → (MayGoOn now.file.header.fields n table q → ImageInvariant view backing (pending_in view backing now (slice_set out k (Some q))) now (slice_set out k (Some q)) → InternalCall view backing now new (slice_set out k (Some q)) × Ends view new q)
           → IsReadied view backing start new out k q.guest n overwrite q × (q.length < n → Ends view new q)
       so_far_ends new start out k free under is found =
           let before = so.image_step start out k free under is in

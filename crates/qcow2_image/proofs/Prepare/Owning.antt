@@ -27,12 +27,12 @@ use Rattle.qcow2_alloc.specs.declared.image_storage.ImageStorage.{ImageStorage}
 use Rattle.qcow2_alloc.specs.CachePins.{l2_pins, CachesHaveRoom}
 use Rattle.qcow2_alloc.specs.ImageFile.{view_in, contents_in, known_in, state_in}
 use Rattle.qcow2_alloc.specs.ImageStorage.{storage_of}
-use Rattle.qcow2_alloc.specs.MetadataCaches.{l2_at, IsEntryAt, ShowsKnown, UnseenCacheStep}
+use Rattle.qcow2_alloc.specs.MetadataCaches.{l2_at, IsEntryAt, ShowsKnown, InternalCacheStep}
 use Rattle.qcow2_alloc.proofs.FileSteps.{pending_same}
 use Rattle.qcow2_image.specs.declared.image.Qcow2.{Qcow2}
 use Rattle.qcow2_image.specs.declared.prepared.Prepared.{Prepared}
 use Rattle.qcow2_image.specs.NewTables.{SaysKnown, MayName, NamesShared, NamesCopied, replacing, EntersTable, OwnsTable}
-use Rattle.qcow2_image.specs.UnseenSteps.{NamesOwn, UnseenStep, RefusedStep, pending_with_listed, HoldsTable}
+use Rattle.qcow2_image.specs.InternalSteps.{NamesOwn, InternalStep, RefusedStep, pending_with_listed, HoldsTable}
 use Rattle.qcow2_image.specs.Found.{l1_index_of}
 use Rattle.qcow2_image.specs.ImageInvariant.{ImageInvariant}
 use Rattle.qcow2_image.proofs.Call.Called.{keeps_then}
@@ -79,7 +79,7 @@ module _ {S F : Type 0} (view : S → StorageView) (backing : F → BackingView)
         (λ k. let e : table_in h k (table_at h (contents_in view old.file) index) ≡ 0 = cond-true _ _ _ (eq-eqb (table_at h (contents_in view old.file) index) 0 none) in omega (arith, e)) (λ k. refl) (λ k. refl)
 
     pub entered_owns : (new : Qcow2 S F) (r : Result ℕ ImageError) → EntersTable view backing p old new out index r → OwnsTable view backing p old new out index r
-    entered_owns new (Ok cluster) entered = (subst (λ (q : Pending). UnseenStep view backing p q old new out) (replaces_none (pending_with_listed p old new)) entered.0, entered.1)
+    entered_owns new (Ok cluster) entered = (subst (λ (q : Pending). InternalStep view backing p q old new out) (replaces_none (pending_with_listed p old new)) entered.0, entered.1)
     entered_owns new (Err e) left = left
 
   -- ---- where it is a table's own
@@ -98,8 +98,8 @@ module _ {S F : Type 0} (view : S → StorageView) (backing : F → BackingView)
     swapped_owns new cluster entry list is longer entered =
         let final : Qcow2 S F = record new { file = record new.file { free_list = list } } in
         let q = given_up view backing out (pending_with_listed p old new) former in
-        let first : UnseenStep view backing p q old new out = subst (λ (r : Pending). UnseenStep view backing p r old new out) (replaces_former (pending_with_listed p old new)) entered.0 in (
-          subst (λ (r : Pending). UnseenStep view backing p r old final out)
+        let first : InternalStep view backing p q old new out = subst (λ (r : Pending). InternalStep view backing p r old new out) (replaces_former (pending_with_listed p old new)) entered.0 in (
+          subst (λ (r : Pending). InternalStep view backing p r old final out)
               (freed_table view backing out p former old new final entry entered.0.list (ap (λ (e : ClustersToFreeEntry). e.first_cluster) is) (ap (λ (e : ClustersToFreeEntry). e.count) is) (ap (λ (e : ClustersToFreeEntry). e.kind) is) longer)
               (keeps_then view backing out old new final p q q (λ k some. some) first
               (keeps_listed view backing out q q new list (entry ∷ []) first.sound longer (safe_step_none (state_in view new.file q) first.sound.file.caches.kept.kept.crash_invariant))),
@@ -125,7 +125,7 @@ module _ {S F : Type 0} (view : S → StorageView) (backing : F → BackingView)
         })
 
   -- ---- after another part that frees nothing
-  module _ (mid : Qcow2 S F) (kept : UnseenStep view backing p p old mid out) (list : mid.file.free_list ≡ old.file.free_list) where
+  module _ (mid : Qcow2 S F) (kept : InternalStep view backing p p old mid out) (list : mid.file.free_list ≡ old.file.free_list) where
     pub shared_still : mid.l1_table ≡ old.l1_table → (former : ℕ) → NamesShared view old index former → NamesShared view mid index former
     shared_still same former shared =
         let e = same_l1 view backing out p p old mid sound kept.sound same index in
@@ -135,8 +135,8 @@ module _ {S F : Type 0} (view : S → StorageView) (backing : F → BackingView)
           may = λ own. shared.may (subst NamesOwn e own);
         }
 
-    pub followed : (new : Qcow2 S F) → UnseenStep view backing p (pending_with_listed p mid new) mid new out → UnseenStep view backing p (pending_with_listed p old new) old new out
-    followed new keeps = subst (λ (q : Pending). UnseenStep view backing p q old new out) (ap (λ l. pending_with_listed p (record old { file = record old.file { free_list = l } }) new) list) (keeps_then view backing out old mid new p p (pending_with_listed p mid new) (λ k some. some) kept keeps)
+    pub followed : (new : Qcow2 S F) → InternalStep view backing p (pending_with_listed p mid new) mid new out → InternalStep view backing p (pending_with_listed p old new) old new out
+    followed new keeps = subst (λ (q : Pending). InternalStep view backing p q old new out) (ap (λ l. pending_with_listed p (record old { file = record old.file { free_list = l } }) new) list) (keeps_then view backing out old mid new p p (pending_with_listed p mid new) (λ k some. some) kept keeps)
 
     pub left_then : (new : Qcow2 S F) (e : ImageError) → RefusedStep view backing p mid new out e → RefusedStep view backing p old new out e
     left_then new e left = elim left [ inl keeps ↦ inl (followed new keeps) | inr interrupted ↦ inr (interrupted_on view backing out p p old mid new e kept interrupted) ]
@@ -146,18 +146,18 @@ module _ {S F : Type 0} (view : S → StorageView) (backing : F → BackingView)
     owned_then new (Err e) left = left_then new e left
 
 -- ---- and then it is loaded
-module _ {S F : Type 0} (view : S → StorageView) (backing : F → BackingView) (out : List (Option Prepared)) (p : Pending) (old mid : Qcow2 S F) (offset cluster : ℕ) (owned : UnseenStep view backing p (pending_with_listed p old mid) old mid out) (storage : ImageStorage S) (caches : MetadataCaches S)
-    (stay : UnseenCacheStep mid.file.header.fields (pending_with_listed p old mid) (view_in view mid.file) mid.file.caches (view (storage_of storage)) caches) (room : CachesHaveRoom mid.file.caches → CachesHaveRoom caches) (pins : (t : ℕ) → l2_pins caches t ≡ l2_pins mid.file.caches t) where
+module _ {S F : Type 0} (view : S → StorageView) (backing : F → BackingView) (out : List (Option Prepared)) (p : Pending) (old mid : Qcow2 S F) (offset cluster : ℕ) (owned : InternalStep view backing p (pending_with_listed p old mid) old mid out) (storage : ImageStorage S) (caches : MetadataCaches S)
+    (stay : InternalCacheStep mid.file.header.fields (pending_with_listed p old mid) (view_in view mid.file) mid.file.caches (view (storage_of storage)) caches) (room : CachesHaveRoom mid.file.caches → CachesHaveRoom caches) (pins : (t : ℕ) → l2_pins caches t ≡ l2_pins mid.file.caches t) where
   abbrev q : Pending
   q = pending_with_listed p old mid
 
   abbrev loaded : Qcow2 S F
   loaded = with_caches view backing mid out q owned.sound storage caches
 
-  loads : UnseenStep view backing q q mid loaded out
+  loads : InternalStep view backing q q mid loaded out
   loads = caches_moved view backing mid out q owned.sound storage caches stay room pins
 
-  pub keeps_loaded : UnseenStep view backing p (pending_with_listed p old loaded) old loaded out
+  pub keeps_loaded : InternalStep view backing p (pending_with_listed p old loaded) old loaded out
   keeps_loaded = keeps_then view backing out old mid loaded p q q (λ k some. some) owned loads
 
   pub holds_table : NamesCopied view mid (l1_index_of old.file.header.fields offset) cluster → IsSome (l2_at caches cluster) → HoldsTable view backing loaded offset cluster

@@ -17,7 +17,7 @@ use Rattle.qcow2_alloc.specs.declared.allocation.Allocator.{Allocator}
 use Rattle.qcow2_alloc.specs.declared.image_storage.ImageStorage.{ImageStorage}
 use Rattle.qcow2_alloc.specs.ImageFile.{view_in, contents_in, state_in}
 use Rattle.qcow2_alloc.specs.ImageStorage.{storage_of}
-use Rattle.qcow2_alloc.specs.MetadataCaches.{order_of, l2_tables, refblocks, l2_at, HoldsKnown, UnseenCacheStep}
+use Rattle.qcow2_alloc.specs.MetadataCaches.{order_of, l2_tables, refblocks, l2_at, HoldsKnown, InternalCacheStep}
 use Rattle.qcow2_alloc.specs.Allocation.{StandAt}
 use Rattle.qcow2_alloc.specs.CachePins.{l2_pins, CachesHaveRoom}
 use Rattle.qcow2_alloc.specs.declared.cache.MetadataCaches.{MetadataCaches}
@@ -28,7 +28,7 @@ use Rattle.qcow2_image.proofs.Open.Reftables.{allocator_moved}
 use Rattle.qcow2_image.specs.declared.image.Qcow2.{Qcow2}
 use Rattle.qcow2_image.specs.declared.prepared.Prepared.{Prepared}
 use Rattle.qcow2_image.specs.NewTables.{IsStored, PlacesNewTable, StandsReady}
-use Rattle.qcow2_image.specs.UnseenSteps.{UnseenStep}
+use Rattle.qcow2_image.specs.InternalSteps.{InternalStep}
 use Rattle.qcow2_image.specs.ImageInvariant.{ImageInvariant}
 use Rattle.qcow2_image.proofs.Map.Loading.{caches_moved, with_caches}
 use Rattle.qcow2_image.proofs.Moving.{file_moved}
@@ -73,7 +73,7 @@ module _ {S F : Type 0} (view : S → StorageView) (backing : F → BackingView)
     reftable = allocator_moved view old.file placed.file p (file_step_rewritten view p old.file storage at bytes result sound.file free_here full writes calls)
         (reftable_rewritten view p old.file storage at bytes result sound.file free_here full writes calls)
 
-    pub keeps_placed : UnseenStep view backing p p old placed out
+    pub keeps_placed : InternalStep view backing p p old placed out
     keeps_placed = file_moved view backing old out p p sound placed.file old.allocator (file_step_rewritten view p old.file storage at bytes result sound.file free_here full writes calls) (reftable old.allocator sound.reftable) refl (λ t. refl) refl
 
     pub stands_there : (x : Unit {0}) → result ≡ Ok x → StandAt (contents_in view placed.file) (at * cluster_size h) bytes
@@ -98,13 +98,13 @@ module _ {S F : Type 0} (view : S → StorageView) (backing : F → BackingView)
       let there = known_there view p old.file at sound.file (free_here view backing old out p sound stored at some) in
       stands i (subst (λ n. i < n) (sym long) lt) ∙ sym (there (at * cluster_size h + i) (in_own h.cluster_bits at i lt))
 
-  module _ (storage : ImageStorage S) (caches : MetadataCaches S) (stays : UnseenCacheStep old.file.header.fields p (view_in view old.file) old.file.caches (view (storage_of storage)) caches) (room : CachesHaveRoom old.file.caches → CachesHaveRoom caches)
+  module _ (storage : ImageStorage S) (caches : MetadataCaches S) (stays : InternalCacheStep old.file.header.fields p (view_in view old.file) old.file.caches (view (storage_of storage)) caches) (room : CachesHaveRoom old.file.caches → CachesHaveRoom caches)
       (pins : (table : ℕ) → l2_pins caches table ≡ l2_pins old.file.caches table) (blocks : AreClean (refblocks old.file.caches) → AreClean (refblocks caches))
       (first : BlocksMayGo (order_of old.file.caches) (l2_tables old.file.caches) → BlocksMayGo (order_of caches) (l2_tables caches)) where
     abbrev pub put : Qcow2 S F
     put = with_caches view backing old out p sound storage caches
 
-    pub keeps_put : UnseenStep view backing p p old put out
+    pub keeps_put : InternalStep view backing p p old put out
     keeps_put = caches_moved view backing old out p sound storage caches stays room pins
 
     stored_put : IsStored view put
@@ -125,6 +125,6 @@ module _ {S F : Type 0} (view : S → StorageView) (backing : F → BackingView)
 
 -- it is placed, or it isn't
 pub places_when : {S F : Type 0} (view : S → StorageView) (backing : F → BackingView) (old new : Qcow2 S F) (out : List (Option Prepared)) (p : Pending) (at : ℕ) (bytes : List ℕ) (r : Result (Unit {0}) ImageError)
-    → UnseenStep view backing p p old new out → OnOk r (StandsReady view new at bytes) → PlacesNewTable view backing p old new out at bytes r
+    → InternalStep view backing p p old new out → OnOk r (StandsReady view new at bytes) → PlacesNewTable view backing p old new out at bytes r
 places_when view backing old new out p at _ (Ok x) keeps ready = (keeps, ready)
 places_when view backing old new out p at _ (Err e) keeps ready = keeps

@@ -28,7 +28,7 @@ use Rattle.qcow2_image.specs.declared.prepared.Prepared.{Prepared}
 use Rattle.qcow2_image.specs.declared.prepared.Share.{Share}
 use Rattle.qcow2_image.specs.Image.{number_of}
 use Rattle.qcow2_image.specs.CallParts.{IsReadied}
-use Rattle.qcow2_image.specs.UnseenSteps.{UnseenFillingStep, HoldsTable}
+use Rattle.qcow2_image.specs.InternalSteps.{InternalFillingStep, HoldsTable}
 use Rattle.qcow2_image.specs.ImageInvariant.{to_free, of_data, of_tables, new_data_by, pins_by, pins_of, over_all, pending_in, abstract_of, meaning, is_private, backing_bytes, IsShareAt, IsPending, IsReadyWith, ImageInvariant}
 use Rattle.qcow2_image.proofs.Call.Answered.{same_guest}
 use Rattle.qcow2_image.proofs.Moved.{format_file_step, format_stay}
@@ -71,7 +71,7 @@ pub record IsNowPending {S F : Type 0} (old : Qcow2 S F) (out : List (Option Pre
   pub surplus : q.surplus ≡ more
 
 module _ {S F : Type 0} (view : S → StorageView) (backing : F → BackingView) (old mid : Qcow2 S F) (out : List (Option Prepared)) (k : ℕ) (free : slice_get out k ≡ Some None) (q : Pending)
-    (image_step : UnseenFillingStep view backing (pending_in view backing old out) q old mid out) (offset table host : ℕ) (share : Share) (like : Prepared) (one : like.shares.items ≡ share ∷ []) (holds : HoldsTable view backing mid offset table) (unpinned : l2_pins mid.file.caches table ≡ 0)
+    (image_step : InternalFillingStep view backing (pending_in view backing old out) q old mid out) (offset table host : ℕ) (share : Share) (like : Prepared) (one : like.shares.items ≡ share ∷ []) (holds : HoldsTable view backing mid offset table) (unpinned : l2_pins mid.file.caches table ≡ 0)
     (stands : IsShareAt mid.file.header.fields (known_in view mid.file) (contents_in view mid.file) (mapping_at mid.file.header.fields (number_of mid) table offset host like) 0 share)
     (caches : MetadataCaches S) (tables : SameTables mid.file.caches caches) (pins : (c : ℕ) → l2_pins caches c ≡ l2_pins mid.file.caches c + pins_of (Some table) c)
     (is : IsNowPending mid out (mapping_at mid.file.header.fields (number_of mid) table offset host like) q (pending_in view backing old out).surplus) where

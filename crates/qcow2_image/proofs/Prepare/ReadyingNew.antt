@@ -32,7 +32,7 @@ use Rattle.qcow2_alloc.specs.declared.clusters_to_free.ClustersToFreeEntry.{Clus
 use Rattle.qcow2_image.specs.Found.{l1_index_of, l2_index_of}
 use Rattle.qcow2_image.specs.Image.{number_of}
 use Rattle.qcow2_image.specs.CallParts.{IsReadied}
-use Rattle.qcow2_image.specs.UnseenSteps.{is_announced, IsFilled, UnseenFillingStep, RefusedFillingStep, HoldsAll, HoldsTable, IsGained, UnseenStep, Pins, SameHeld, pending_with_listed}
+use Rattle.qcow2_image.specs.InternalSteps.{is_announced, IsFilled, InternalFillingStep, RefusedFillingStep, HoldsAll, HoldsTable, IsGained, InternalStep, Pins, SameHeld, pending_with_listed}
 use Rattle.qcow2_image.specs.ImageInvariant.{run_of, to_free, of_data, of_tables, new_data_in, listed_run, disk_of, pending_in, abstract_of, meaning, is_entered, is_private, cluster_of, host_begin_of, place_of, IsNewAt, IsShareAt, ImageInvariant}
 use Rattle.qcow2_image.proofs.Shares.{place_in, private_shared}
 use Rattle.qcow2_image.proofs.Formats.{entry_at_format, l1_shared}
@@ -109,7 +109,7 @@ first_stands view backing old p offset table guest bits cluster first found here
 
 module _ {S F : Type 0} (view : S → StorageView) (backing : F → BackingView) (out : List (Option Prepared)) where
   -- a table that is held and marked copied is named as before
-  pub holds_still : (old new : Qcow2 S F) (p q : Pending) (offset table : ℕ) → ImageInvariant view backing p old out → UnseenFillingStep view backing p q old new out → HoldsTable view backing old offset table → IsSome (l2_at new.file.caches table) → HoldsTable view backing new offset table
+  pub holds_still : (old new : Qcow2 S F) (p q : Pending) (offset table : ℕ) → ImageInvariant view backing p old out → InternalFillingStep view backing p q old new out → HoldsTable view backing old offset table → IsSome (l2_at new.file.caches table) → HoldsTable view backing new offset table
   holds_still old new p q offset table sound image_step holds new_data =
       let h = old.file.header.fields in
       let on_storage = contents_in view new.file in
@@ -130,7 +130,7 @@ module _ {S F : Type 0} (view : S → StorageView) (backing : F → BackingView)
 
   -- a refusal that changed nothing
   pub back_none : (old : Qcow2 S F) (p : Pending) → ImageInvariant view backing p old out → (e : ImageError) → RefusedFillingStep view backing p old old out e
-  back_none old p sound e = inl (subst (λ q. UnseenFillingStep view backing p q old old out) (sym (listed_after_same view backing out p old old refl)) (image_step_none view backing out old p sound))
+  back_none old p sound e = inl (subst (λ q. InternalFillingStep view backing p q old old out) (sym (listed_after_same view backing out p old old refl)) (image_step_none view backing out old p sound))
 
   -- nothing of a share in place is private
   never_private : (image : Qcow2 S F) (p : Prepared) → p.shares.items ≡ InPlace ∷ [] → (o : ℕ) → IsTrue (is_private view backing image p o) → ⊥
@@ -162,7 +162,7 @@ module _ {S F : Type 0} (view : S → StorageView) (backing : F → BackingView)
   module _ (old filled mid : Qcow2 S F) (n : ClustersToFreeEntry) (mapping : L2Mapping) (reach : IsInReach mapping) (other : is_copied_data mapping ≡ false) (taken old_data : List ClustersToFreeEntry) (taken_is : taken ≡ n ∷ []) (old_data_is : old_data ≡ listed_run (named_run old.file.header.fields.cluster_bits mapping)) (like : Prepared) (one : like.shares.items ≡ New taken old_data ∷ []) (k offset length table host : ℕ) (overwrite : Bool) (free : slice_get out k ≡ Some None) (sound : ImageInvariant view backing (pending_in view backing old out) old out)
       (holds : HoldsTable view backing old offset table) (unpinned : l2_pins old.file.caches table ≡ 0) (covered : cover old.file.header.fields (known_in view old.file) (offset / cluster_size old.file.header.fields) ≡ mapping)
       (gained : IsGained view backing (pending_in view backing old out) old filled out offset length overwrite mapping n) (nameable : IsHostCluster old.file.header.fields.cluster_bits n.first_cluster)
-      (keeps : UnseenStep view backing (with_new_data (pending_with_listed (pending_in view backing old out) old filled) (run_of n)) (with_new_data (pending_with_listed (pending_in view backing old out) old filled) (run_of n)) filled mid out)
+      (keeps : InternalStep view backing (with_new_data (pending_with_listed (pending_in view backing old out) old filled) (run_of n)) (with_new_data (pending_with_listed (pending_in view backing old out) old filled) (run_of n)) filled mid out)
       (list : mid.file.free_list ≡ filled.file.free_list) (found : IsSome (l2_at mid.file.caches table)) (host_is : host ≡ n.first_cluster * cluster_size mid.file.header.fields)
       (same : SameHeld view backing (with_new_data (pending_with_listed (pending_in view backing old out) old filled) (run_of n)) filled mid) where
     abbrev before : Pending
@@ -174,7 +174,7 @@ module _ {S F : Type 0} (view : S → StorageView) (backing : F → BackingView)
     all_new_data : HoldsAll view backing before out
     all_new_data c = omega arith
 
-    pub image_step_on : UnseenFillingStep view backing before q old mid out
+    pub image_step_on : InternalFillingStep view backing before q old mid out
     image_step_on = image_step_then view backing out old filled mid before q q gained.image_step
         (image_step_kept view backing out filled mid q q gained.image_step.sound (still_holds view backing out old filled before n gained.one all_new_data gained.image_step) (still_holds view backing out old filled before n gained.one all_new_data gained.image_step) keeps)
 

@@ -10,9 +10,9 @@ use Rattle.qcow2_alloc.specs.MetadataCaches.{order_of, l2_tables, refblocks}
 use Rattle.qcow2_image.specs.declared.image.Qcow2.{Qcow2}
 use Rattle.qcow2_image.specs.declared.prepared.Prepared.{Prepared}
 use Rattle.qcow2_image.specs.NewTables.{Stores}
-use Rattle.qcow2_image.specs.UnseenSteps.{UnseenStep}
+use Rattle.qcow2_image.specs.InternalSteps.{InternalStep}
 
-module _ {S F : Type 0} (view : S → StorageView) (backing : F → BackingView) (old new : Qcow2 S F) (out : List (Option Prepared)) (p : Pending) (keeps : UnseenStep view backing p p old new out) where
+module _ {S F : Type 0} (view : S → StorageView) (backing : F → BackingView) (old new : Qcow2 S F) (out : List (Option Prepared)) (p : Pending) (keeps : InternalStep view backing p p old new out) where
   pub stores_counts : (r : Result (Unit {0}) ImageError) → OnOk r (AreClean (refblocks new.file.caches)) → OnOk r (BlocksMayGo (order_of new.file.caches) (l2_tables new.file.caches)) → Stores view backing p old new out r
   stores_counts (Ok x) counts first = (keeps, record { counts = counts; first = first })
   stores_counts (Err e) counts first = keeps

@@ -20,7 +20,7 @@ use Rattle.qcow2_image.specs.declared.image.Qcow2.{Qcow2}
 use Rattle.qcow2_image.specs.declared.prepared.Prepared.{Prepared}
 use Rattle.qcow2_image.specs.Found.{l1_index_of}
 use Rattle.qcow2_image.specs.Preparing.{IsPlaceOf, IsTaken}
-use Rattle.qcow2_image.specs.UnseenSteps.{HoldsTable}
+use Rattle.qcow2_image.specs.InternalSteps.{HoldsTable}
 use Rattle.qcow2_image.specs.ImageInvariant.{over_all, pins_by, pins_of, IsPending, IsReadyWith, ImageInvariant}
 
 -- what follows of what is so of a refusal

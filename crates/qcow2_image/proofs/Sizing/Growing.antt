@@ -20,7 +20,7 @@ use Rattle.qcow2_alloc.specs.declared.error.ImageError.{ImageError}
 use Rattle.qcow2_alloc.specs.declared.error.ImageError.TheVariants as I
 use Rattle.qcow2_alloc.specs.ImageError.{IsFault as IsFaultOfTables}
 use Rattle.qcow2_alloc.specs.ImageFile.{state_in, view_in}
-use Rattle.qcow2_image.specs.CallParts.{RefusedCall, UnseenCall}
+use Rattle.qcow2_image.specs.CallParts.{RefusedCall, InternalCall}
 use Rattle.qcow2_image.specs.Calls.{refusal_of}
 use Rattle.qcow2_image.specs.Clearing.{setting_of}
 use Rattle.qcow2_alloc.proofs.PlacedBlocks.{file_sizes}
@@ -41,7 +41,7 @@ use Rattle.qcow2_image.proofs.Sizing.Shrinking.{of_fault}
 use Rattle.qcow2_image.proofs.Sizing.Tails.{works_asking}
 
 -- behind a part that no guest sees, what is given past the end is the same
-pub given_growing : {S F : Type 0} (view : S → StorageView) (backing : F → BackingView) (out : List (Option Prepared)) (old mid : Qcow2 S F) (size : ℕ) (mode : PreallocateMode) → UnseenCall view backing old mid out
+pub given_growing : {S F : Type 0} (view : S → StorageView) (backing : F → BackingView) (out : List (Option Prepared)) (old mid : Qcow2 S F) (size : ℕ) (mode : PreallocateMode) → InternalCall view backing old mid out
     → all_given_by_growing view backing mid size mode ≡ all_given_by_grow view backing old size mode
 given_growing view backing out old mid size mode call =
     ap (λ s. given_by_grow s (disk_of view backing mid) size mode) call.works.setting ∙ ap (λ (g : Guest). given_by_grow (setting_of view backing old) g.disk size mode) call.same
@@ -70,7 +70,7 @@ module _ {S F : Type 0} (view : S → StorageView) (backing : F → BackingView)
       }
 
   -- ---- the L1 table was refused
-  module _ (begun mid : Qcow2 S F) (e : ImageError) (marked : Bool) (first : (out : List (Option Prepared)) → ImageInvariant view backing (pending_in view backing old out) old out → UnseenCall view backing old begun out)
+  module _ (begun mid : Qcow2 S F) (e : ImageError) (marked : Bool) (first : (out : List (Option Prepared)) → ImageInvariant view backing (pending_in view backing old out) old out → InternalCall view backing old begun out)
       (left : (out : List (Option Prepared)) → ImageInvariant view backing (pending_in view backing begun out) begun out → RefusedCall view backing begun mid out e) where
     pub unchanged_not : number_of mid ≡ number_of old → MayMark e (is_failed mid) marked → (e ≡ I.Memory → IsTrue (has_noted_change mid) → IsTrue marked) → (out : List (Option Prepared)) → RefusesUnchanged view backing old (record mid { is_failed = marked }) out e
     unchanged_not number marks memory out =
@@ -91,8 +91,8 @@ module _ {S F : Type 0} (view : S → StorageView) (backing : F → BackingView)
         ]
 
   -- ---- it was made, and zeros were put behind the end
-  module _ (mid : Qcow2 S F) (longer : (out : List (Option Prepared)) → ImageInvariant view backing (pending_in view backing old out) old out → UnseenCall view backing old mid out) where
-    module _ (out : List (Option Prepared)) (call : UnseenCall view backing old mid out) where
+  module _ (mid : Qcow2 S F) (longer : (out : List (Option Prepared)) → ImageInvariant view backing (pending_in view backing old out) old out → InternalCall view backing old mid out) where
+    module _ (out : List (Option Prepared)) (call : InternalCall view backing old mid out) where
       setting_is : setting_of view backing mid ≡ setting_of view backing old
       setting_is = call.works.setting
 
@@ -254,7 +254,7 @@ module _ {S F : Type 0} (view : S → StorageView) (backing : F → BackingView)
 
 -- the L1 table has an entry for the last byte
 module _ {S F : Type 0} (view : S → StorageView) (backing : F → BackingView) (out : List (Option Prepared)) where
-  pub reaches_lengthened : (begun mid : Qcow2 S F) (size : ℕ) → UnseenCall view backing begun mid out → l1_index_of begun.file.header.fields (size - 1) < entry_count mid.l1_table → ReachesSize (with_size mid.file.header.fields size)
+  pub reaches_lengthened : (begun mid : Qcow2 S F) (size : ℕ) → InternalCall view backing begun mid out → l1_index_of begun.file.header.fields (size - 1) < entry_count mid.l1_table → ReachesSize (with_size mid.file.header.fields size)
   reaches_lengthened begun mid size call lt =
       let h = mid.file.header.fields in
       let same : l1_index_of begun.file.header.fields (size - 1) ≡ l1_index_of mid.file.header.fields (size - 1) = sym (ap (λ (x : HeaderFields). l1_index_of x (size - 1)) call.header) in

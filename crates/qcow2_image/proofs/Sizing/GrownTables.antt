@@ -26,7 +26,7 @@ use Rattle.qcow2_alloc.specs.declared.error.ImageError.TheVariants as I
 use Rattle.qcow2_alloc.specs.ImageError.{IsFault as IsFaultOfTables}
 use Rattle.qcow2_alloc.specs.ImageFile.{known_in}
 use Rattle.qcow2_alloc.proofs.PlacedBlocks.{file_sizes}
-use Rattle.qcow2_image.specs.CallParts.{UnseenCall}
+use Rattle.qcow2_image.specs.CallParts.{InternalCall}
 use Rattle.qcow2_image.specs.declared.image.Qcow2.{Qcow2}
 use Rattle.qcow2_image.specs.declared.prepared.Prepared.{Prepared}
 use Rattle.qcow2_image.specs.Growing.{ReachesSize, SameFormat}
@@ -125,20 +125,20 @@ module _ {S F : Type 0} (view : S → StorageView) (backing : F → BackingView)
   abbrev pub Leaves : Qcow2 S F → Qcow2 S F → ℕ → PreallocateMode → Type 0
   Leaves old new size mode = GrownCovers mode (size_of old) size old.file.header.fields (known_in view old.file) new.file.header.fields (known_in view new.file)
 
-  pub leaves_filled : (old long filled new : Qcow2 S F) (size : ℕ) (mode : PreallocateMode) → UnseenCall view backing old long out → FillsGrown view backing size mode long filled out
+  pub leaves_filled : (old long filled new : Qcow2 S F) (size : ℕ) (mode : PreallocateMode) → InternalCall view backing old long out → FillsGrown view backing size mode long filled out
       → CoversStay filled.file.header.fields (known_in view filled.file) new.file.header.fields (known_in view new.file) → Leaves old new size mode
   leaves_filled old long filled new size mode call fills stay =
       grown_between mode size old.file.header.fields (known_in view old.file) long.file.header.fields (known_in view long.file) filled.file.header.fields (known_in view filled.file) new.file.header.fields (known_in view new.file)
       call.header call.covers fills.covers stay
 
   -- the size may be refused
-  pub leaves_sized : (old long filled new : Qcow2 S F) (size : ℕ) (mode : PreallocateMode) (r : Result (Unit {0}) ImageError) → UnseenCall view backing old long out → FillsGrown view backing size mode long filled out → WritesSize view backing filled new out size r
+  pub leaves_sized : (old long filled new : Qcow2 S F) (size : ℕ) (mode : PreallocateMode) (r : Result (Unit {0}) ImageError) → InternalCall view backing old long out → FillsGrown view backing size mode long filled out → WritesSize view backing filled new out size r
       → OnOk r (Leaves old new size mode)
   leaves_sized old long filled new size mode (Ok x) call fills sets = leaves_filled old long filled new size mode call fills sets.covers
   leaves_sized old long filled new size mode (Err e) call fills refused = tt
 
   -- a table that is prepared is one of the range, by the header of the call's begin
-  pub taken_behind : (old long filled : Qcow2 S F) (size : ℕ) (mode : PreallocateMode) (e : ImageError) → UnseenCall view backing old long out → RefusedGrown view backing size mode long filled out e
+  pub taken_behind : (old long filled : Qcow2 S F) (size : ℕ) (mode : PreallocateMode) (e : ImageError) → InternalCall view backing old long out → RefusedGrown view backing size mode long filled out e
       → e ≡ I.TablePrepared → (shows_old mode ≡ false) × IsUnderMappingIn old.file.header.fields (size_of old) (boundary_in old size) out
   taken_behind old long filled size mode e call refused is =
       let d = disk_of view backing long in
@@ -161,7 +161,7 @@ module _ {S F : Type 0} (view : S → StorageView) (backing : F → BackingView)
   }
 
   -- ---- the entries can't tell zeros
-  pub refuses_version : (old long filled : Qcow2 S F) (e : ImageError) (marked : Bool) → is_failed old ≡ false → UnseenCall view backing old long out → filled ≡ long → e ≡ I.Version → number_of filled ≡ number_of old → MayMark e (is_failed filled) marked
+  pub refuses_version : (old long filled : Qcow2 S F) (e : ImageError) (marked : Bool) → is_failed old ≡ false → InternalCall view backing old long out → filled ≡ long → e ≡ I.Version → number_of filled ≡ number_of old → MayMark e (is_failed filled) marked
       → RefusesUnchanged view backing old (record filled { is_failed = marked }) out e
   refuses_version old long filled e marked usable call same is number marks =
-      refuses_left view backing out old usable filled marked number e marks (λ want. absurd (let no : I.Version ≡ I.Memory = sym is ∙ want in cc)) (λ sound. inl (subst (λ (image : Qcow2 S F). UnseenCall view backing old image out) (sym same) call))
+      refuses_left view backing out old usable filled marked number e marks (λ want. absurd (let no : I.Version ≡ I.Memory = sym is ∙ want in cc)) (λ sound. inl (subst (λ (image : Qcow2 S F). InternalCall view backing old image out) (sym same) call))

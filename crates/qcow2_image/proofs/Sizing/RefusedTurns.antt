@@ -10,7 +10,7 @@ use Rattle.qcow2_disk.proofs.Compose.{works_then}
 use Rattle.qcow2_alloc.specs.declared.error.ImageError.{ImageError}
 use Rattle.qcow2_alloc.specs.declared.error.ImageError.TheVariants as I
 use Rattle.qcow2_alloc.specs.ImageError.{IsFault as IsFaultOfTables}
-use Rattle.qcow2_image.specs.CallParts.{UnseenCall}
+use Rattle.qcow2_image.specs.CallParts.{InternalCall}
 use Rattle.qcow2_image.specs.Calls.{refusal_of}
 use Rattle.qcow2_image.specs.declared.image.Qcow2.{Qcow2}
 use Rattle.qcow2_image.specs.declared.prepared.Prepared.{Prepared}
@@ -60,7 +60,7 @@ module _ {S F : Type 0} (view : S → StorageView) (backing : F → BackingView)
 
     module _ (last : ImageError) (marks : MarksRefused old new last)
         (ends : (out : List (Option Prepared)) → ImageInvariant view backing (pending_in view backing mid out) mid out
-        → UnseenCall view backing mid new out ⊎ RefusedEffect (abstract_of view backing mid out) (abstract_of view backing new out) [] [] (refusal_of last) (IsSame (abstract_of view backing mid out) (abstract_of view backing new out))) where
+        → InternalCall view backing mid new out ⊎ RefusedEffect (abstract_of view backing mid out) (abstract_of view backing new out) [] [] (refusal_of last) (IsSame (abstract_of view backing mid out) (abstract_of view backing new out))) where
       module _ (out : List (Option Prepared)) where
         abbrev v : AbstractImage
         v = abstract_of view backing old out
@@ -71,11 +71,11 @@ module _ {S F : Type 0} (view : S → StorageView) (backing : F → BackingView)
         abbrev w : AbstractImage
         w = abstract_of view backing new out
 
-        ends_works : UnseenCall view backing mid new out ⊎ RefusedEffect m w [] [] (refusal_of last) (IsSame m w) → m.is_sound → EffectOnSound m w [] []
+        ends_works : InternalCall view backing mid new out ⊎ RefusedEffect m w [] [] (refusal_of last) (IsSame m w) → m.is_sound → EffectOnSound m w [] []
         ends_works (inl call) sound = call.works
         ends_works (inr refused) sound = refused.acts.works sound
 
-        ends_answer : UnseenCall view backing mid new out ⊎ RefusedEffect m w [] [] (refusal_of last) (IsSame m w) → m.is_sound → (w.is_sound × IsSame m w) ⊎ (IsRefusalByFault (refusal_of last) × IsTrue (is_failed new))
+        ends_answer : InternalCall view backing mid new out ⊎ RefusedEffect m w [] [] (refusal_of last) (IsSame m w) → m.is_sound → (w.is_sound × IsSame m w) ⊎ (IsRefusalByFault (refusal_of last) × IsTrue (is_failed new))
         ends_answer (inl call) sound = inl (call.sound, call.same)
         ends_answer (inr refused) sound = refused.answer sound
 

@@ -21,7 +21,7 @@ use Rattle.qcow2_alloc.specs.declared.error.ImageError.TheVariants as I
 use Rattle.qcow2_alloc.specs.ImageError.{IsFault as IsFaultOfTables}
 use Rattle.qcow2_alloc.specs.ImageFile.{state_in, view_in}
 use Rattle.qcow2_image.specs.Backings.{HasPinnedMapping}
-use Rattle.qcow2_image.specs.CallParts.{UnseenCall}
+use Rattle.qcow2_image.specs.CallParts.{InternalCall}
 use Rattle.qcow2_image.specs.Calls.{refusal_of}
 use Rattle.qcow2_image.specs.Clearing.{setting_of}
 use Rattle.qcow2_image.specs.declared.image.Qcow2.{Qcow2}
@@ -89,7 +89,7 @@ module _ {S F : Type 0} (view : S → StorageView) (backing : F → BackingView)
     pub so_far : (out : List (Option Prepared)) → ImageInvariant view backing (pending_in view backing old out) old out → UncoversPart view backing size at old now out × IsShrinkEnd (cluster_size old.file.header.fields) (size_of old) size at
 
   pub begun_call : (old begun : Qcow2 S F) → ((out : List (Option Prepared)) → ImageInvariant view backing (pending_in view backing old out) old out → Quietly view backing out old begun)
-      → (out : List (Option Prepared)) → ImageInvariant view backing (pending_in view backing old out) old out → UnseenCall view backing old begun out
+      → (out : List (Option Prepared)) → ImageInvariant view backing (pending_in view backing old out) old out → InternalCall view backing old begun out
   begun_call old begun quiet out sound = stays_kept view backing out old begun sound (listed view backing out old begun (quiet out) sound)
 
   pub none_so_far : (old begun : Qcow2 S F) (size end : ℕ) → IsSameImage old begun → is_failed begun ≡ is_failed old → end ≡ size_of old → size < size_of old

@@ -21,13 +21,13 @@ use Rattle.qcow2_disk.specs.Stops.{SafeThroughout}
 use Rattle.qcow2_laws.specs.CrashInvariant.{Pending}
 use Rattle.qcow2_laws.specs.SafeSteps.{SafeStep}
 use Rattle.qcow2_laws.specs.Tops.{WritesHeader, resized_places}
-use Rattle.qcow2_laws.specs.Unseen.{SameUsedBytes, used_by_guests}
+use Rattle.qcow2_laws.specs.Internal.{SameUsedBytes, used_by_guests}
 use Rattle.qcow2_laws.proofs.Guests.{own_data_of}
 use Rattle.qcow2_laws.proofs.Headers.{header_elsewhere, header_fixed, header_l1, header_known_l1, header_known_covers, header_known_counts}
 use Rattle.qcow2_laws.proofs.Mixes.{tied}
 use Rattle.qcow2_laws.proofs.SafeSteps.{step_safe_throughout}
 use Rattle.qcow2_laws.proofs.Steps.{header_is_written}
-use Rattle.qcow2_laws.proofs.Unseen.{known_header, named_some, table_bytes}
+use Rattle.qcow2_laws.proofs.Internal.{known_header, named_some, table_bytes}
 use Rattle.qcow2_laws.proofs.Values.{guest_value-same, size_is, value_is}
 use Rattle.qcow2_alloc.specs.declared.allocation.Allocator.{Allocator}
 use Rattle.qcow2_alloc.specs.declared.error.ImageError.TheVariants as I
@@ -39,7 +39,7 @@ use Rattle.qcow2_alloc.specs.MetadataCaches.{known_of, order_of}
 use Rattle.qcow2_alloc.proofs.Numbers.{size_writes}
 use Rattle.qcow2_alloc.specs.KeptAllocators.{IsAllocatorOf}
 use Rattle.qcow2_alloc.proofs.KeptAllocators.{allocator_kept}
-use Rattle.qcow2_image.specs.CallParts.{UnseenCall}
+use Rattle.qcow2_image.specs.CallParts.{InternalCall}
 use Rattle.qcow2_image.specs.declared.image.Qcow2.{Qcow2}
 use Rattle.qcow2_image.specs.declared.prepared.Prepared.{Prepared}
 use Rattle.qcow2_image.specs.declared.prepared.Share.{Share}
@@ -48,7 +48,7 @@ use Rattle.qcow2_image.specs.Growing.{Extends, Resizes}
 use Rattle.qcow2_image.specs.ImageInvariant.{ImageInvariant, IsReadyWith, IsShareAt, abstract_of, backing_bytes, cluster_of, disk_of, is_private, meaning, pending_in, place_of}
 use Rattle.qcow2_image.specs.MovedTables.{CoversStay}
 use Rattle.qcow2_image.specs.Resizing.{MayStand, SetsSize, WritesSize}
-use Rattle.qcow2_image.specs.UnseenSteps.{HoldsAll}
+use Rattle.qcow2_image.specs.InternalSteps.{HoldsAll}
 use Rattle.qcow2_image.proofs.Call.Answered.{same_guest, same_mapping}
 use Rattle.qcow2_image.proofs.Call.Called.{listed}
 use Rattle.qcow2_image.proofs.Call.Refused.{stays_kept}
@@ -277,7 +277,7 @@ module _ {S F : Type 0} (view : S → StorageView) (backing : F → BackingView)
       };
     }
 
-    unsized_stays : EachMomentSince (view_in view old.file) (view (storage_of storage)) (IsLeftBy (view (storage_of storage))) → (view (storage_of storage)).contents ≡ (view_in view old.file).contents → UnseenCall view backing old unsized out
+    unsized_stays : EachMomentSince (view_in view old.file) (view (storage_of storage)) (IsLeftBy (view (storage_of storage))) → (view (storage_of storage)).contents ≡ (view_in view old.file).contents → InternalCall view backing old unsized out
     unsized_stays time same =
         stays_kept view backing out old unsized sound (listed view backing out old unsized (λ s. record { keeps = still_moved view backing old out q s storage honest time same; list = refl }) sound)
 
@@ -302,7 +302,7 @@ module _ {S F : Type 0} (view : S → StorageView) (backing : F → BackingView)
     size_is_refused SE.Fault done new is = inr (subst (λ (a : Qcow2 S F). MayStand view backing old a out size I.Storage) (sym is) (unsized_fails storage (calls.honest sound.file.honest) since))
     size_is_refused SE.Memory done new is =
         let contents = rw done at (changes sound.file.honest) in
-        inl (subst (λ (a : Qcow2 S F). UnseenCall view backing old a out) (sym is) (unsized_stays storage (calls.honest sound.file.honest) (calls.time sound.file.honest) contents))
+        inl (subst (λ (a : Qcow2 S F). InternalCall view backing old a out) (sym is) (unsized_stays storage (calls.honest sound.file.honest) (calls.time sound.file.honest) contents))
 
 -- ---- while no mapping is out, whatever is pending
 module _ {S F : Type 0} (view : S → StorageView) (backing : F → BackingView) (p : Pending) (old : Qcow2 S F) (sound : ImageInvariant view backing p old []) (size : ℕ) (fits : size < 2 ^ 64) (storage : ImageStorage S) (result : Result (Unit {0}) StorageError) (asked : S)

@@ -20,7 +20,7 @@ use Rattle.qcow2_disk.proofs.ForUsers.{laid_inside, laid_outside}
 use Rattle.qcow2_disk.proofs.Stops.{asked_more}
 use Rattle.qcow2_laws.proofs.Places.{div_mono}
 use Rattle.qcow2_alloc.specs.ImageFile.{known_in}
-use Rattle.qcow2_image.specs.CallParts.{UnseenCall}
+use Rattle.qcow2_image.specs.CallParts.{InternalCall}
 use Rattle.qcow2_image.specs.declared.image.Qcow2.{Qcow2}
 use Rattle.qcow2_image.specs.declared.prepared.Prepared.{Prepared}
 use Rattle.qcow2_image.specs.Clearing.{ClearsImageCovers, setting_of}
@@ -252,7 +252,7 @@ works_asking old new gs asked w = record {
 -- ---- parts
 module _ {S F : Type 0} (view : S → StorageView) (backing : F → BackingView) (out : List (Option Prepared)) where
   -- nothing is uncovered yet
-  pub uncovers_none : (size : ℕ) (old new : Qcow2 S F) → UnseenCall view backing old new out → UncoversPart view backing size size old new out
+  pub uncovers_none : (size : ℕ) (old new : Qcow2 S F) → InternalCall view backing old new out → UncoversPart view backing size size old new out
   uncovers_none size old new call =
       let v = abstract_of view backing old out in
       let none : boundary_in old size - boundary_in old size ≡ 0 = omega arith in

@@ -10,12 +10,12 @@ use Rattle.qcow2_alloc.specs.ImageFile.{view_in}
 use Rattle.qcow2_alloc.specs.ImageStorage.{changes_of}
 use Rattle.qcow2_image.specs.declared.image.Qcow2.{Qcow2}
 use Rattle.qcow2_image.specs.declared.prepared.Prepared.{Prepared}
-use Rattle.qcow2_image.specs.CallParts.{IsWriteOutcome, UnseenCall}
+use Rattle.qcow2_image.specs.CallParts.{IsWriteOutcome, InternalCall}
 use Rattle.qcow2_image.specs.Image.{IsBegun, storage_of_image}
 use Rattle.qcow2_image.specs.ImageInvariant.{ImageInvariant, abstract_of, pending_in}
 use Rattle.qcow2_image.specs.Noted.{PutsOnce}
 use Rattle.qcow2_image.specs.Prepared.{offset_of, table_of}
-use Rattle.qcow2_image.specs.UnseenSteps.{UnseenFillingStep, UnseenStep}
+use Rattle.qcow2_image.specs.InternalSteps.{InternalFillingStep, InternalStep}
 use Rattle.qcow2_laws.specs.CrashInvariant.{Pending}
 use Rattle.qcow2_image.proofs.Call.Called.{Quietly, listed}
 use Rattle.qcow2_image.proofs.Call.Refused.{image_step_stays, stays_kept, stays_then}
@@ -23,14 +23,14 @@ use Rattle.qcow2_image.proofs.Prepare.Filling.{image_step_none}
 use Rattle.qcow2_image.proofs.Prepare.Gaining.{listed_after_same}
 
 -- a call that changes nothing
-pub unseen_none : {S F : Type 0} (view : S → StorageView) (backing : F → BackingView) (image : Qcow2 S F) (out : List (Option Prepared)) → ImageInvariant view backing (pending_in view backing image out) image out → UnseenCall view backing image image out
+pub unseen_none : {S F : Type 0} (view : S → StorageView) (backing : F → BackingView) (image : Qcow2 S F) (out : List (Option Prepared)) → ImageInvariant view backing (pending_in view backing image out) image out → InternalCall view backing image image out
 unseen_none view backing image out sound =
     let p = pending_in view backing image out in
-    image_step_stays view backing out image image sound (subst (λ q. UnseenFillingStep view backing p q image image out) (sym (listed_after_same view backing out p image image refl)) (image_step_none view backing out image p sound))
+    image_step_stays view backing out image image sound (subst (λ q. InternalFillingStep view backing p q image image out) (sym (listed_after_same view backing out p image image refl)) (image_step_none view backing out image p sound))
 
 -- a part that keeps what is known, and lists nothing
 pub checked_unseen : {S F : Type 0} (view : S → StorageView) (backing : F → BackingView) (old now : Qcow2 S F) (out : List (Option Prepared))
-    → ((p : Pending) (out : List (Option Prepared)) → ImageInvariant view backing p old out → UnseenStep view backing p p old now out) → now.file.free_list ≡ old.file.free_list → ImageInvariant view backing (pending_in view backing old out) old out → UnseenCall view backing old now out
+    → ((p : Pending) (out : List (Option Prepared)) → ImageInvariant view backing p old out → InternalStep view backing p p old now out) → now.file.free_list ≡ old.file.free_list → ImageInvariant view backing (pending_in view backing old out) old out → InternalCall view backing old now out
 checked_unseen view backing old now out keeps list sound =
     let quiet : Quietly view backing out old now = record { keeps = keeps (pending_in view backing old out) out sound; list = list } in
     stays_kept view backing out old now sound (listed view backing out old now (λ _. quiet) sound)
@@ -61,11 +61,11 @@ outcome_none (I.StillInUse tables) old changed = refl
 
 module _ {S F : Type 0} (view : S → StorageView) (backing : F → BackingView) (p : Prepared) (at : ℕ) (bytes : List ℕ) where
   -- what no guest sees of a part, on a sound image
-  abbrev IsUnseen : Qcow2 S F → Qcow2 S F → Type 0
-  IsUnseen old now = (out : List (Option Prepared)) → (abstract_of view backing old out).is_sound → UnseenCall view backing old now out
+  abbrev IsInternal : Qcow2 S F → Qcow2 S F → Type 0
+  IsInternal old now = (out : List (Option Prepared)) → (abstract_of view backing old out).is_sound → InternalCall view backing old now out
 
   -- a put that is refused before its bytes are written, and one of no bytes
-  pub put_unwritten : (old now : Qcow2 S F) (e : ImageError) → ((view_in view old.file).is_honest → (view_in view now.file).is_honest) → (IsSome (table_of p) → now ≡ old) → IsUnseen old now → PutsOnce view backing p at bytes old now (Err e)
+  pub put_unwritten : (old now : Qcow2 S F) (e : ImageError) → ((view_in view old.file).is_honest → (view_in view now.file).is_honest) → (IsSome (table_of p) → now ≡ old) → IsInternal old now → PutsOnce view backing p at bytes old now (Err e)
   put_unwritten old now e honest idle unseen = record {
     before = now;
     honest = honest;
@@ -90,7 +90,7 @@ module _ {S F : Type 0} (view : S → StorageView) (backing : F → BackingView)
   }
 
   -- a call of one part that puts them, whose end is marked
-  pub put_in_call : (old begun is new : Qcow2 S F) (r : Result (Unit {0}) ImageError) → IsBegun old begun → IsUnseen old begun → PutsOnce view backing p at bytes begun is r → (failed : Bool) → new ≡ record is { is_failed = failed } → PutsOnce view backing p at bytes old new r
+  pub put_in_call : (old begun is new : Qcow2 S F) (r : Result (Unit {0}) ImageError) → IsBegun old begun → IsInternal old begun → PutsOnce view backing p at bytes begun is r → (failed : Bool) → new ≡ record is { is_failed = failed } → PutsOnce view backing p at bytes old new r
   put_in_call old begun is new r begins quiet puts failed marked =
       subst (λ (i : Qcow2 S F). PutsOnce view backing p at bytes old i r) (sym marked) (record {
         before = puts.before;

@@ -11,7 +11,7 @@ use Rattle.qcow2_metadata.specs.Header.{cluster_size}
 use Rattle.qcow2_metadata.specs.RefBlock.{RefBlockView}
 use Rattle.qcow2_laws.specs.Caches.{BlocksMayGo}
 use Rattle.qcow2_laws.specs.CrashInvariant.{Pending}
-use Rattle.qcow2_alloc.specs.Allocation.{placing, HasPlaceFor, StandAt, UnseenAllocatorStep, WritesBlock}
+use Rattle.qcow2_alloc.specs.Allocation.{placing, HasPlaceFor, StandAt, InternalAllocatorStep, WritesBlock}
 use Rattle.qcow2_alloc.specs.ImageError.{of_storage, IsFault}
 use Rattle.qcow2_alloc.specs.declared.cache.MetadataCaches.{MetadataCaches}
 use Rattle.qcow2_alloc.specs.declared.image_storage.ImageStorage.{ImageStorage}
@@ -45,7 +45,7 @@ module _ {S : Type 0} (view : S → StorageView) (d : Bool) (p : Pending) (range
   abbrev flushed : ImageFile S
   flushed = record old { storage = storage; caches = caches }
 
-  counted : UnseenAllocatorStep view q old t flushed q
+  counted : InternalAllocatorStep view q old t flushed q
   counted = allocator_step_cached view q old t storage caches sound (keeps h q sound.sound.honest sound.sound.caches) marks
 
   module _ (asked : S) (after : ImageStorage S) (block : RefBlockView) (result : Result (Unit {0}) StorageError) (first : BlocksMayGo (order_of caches) (l2_tables caches)) (place : HasPlaceFor d h t.reftable range at)
@@ -70,7 +70,7 @@ module _ {S : Type 0} (view : S → StorageView) (d : Bool) (p : Pending) (range
     calls_now = subst (λ s. Calls (view s) (view (storage_of after)) result) same calls
 
     -- all is as sound as before, in either case
-    still : UnseenAllocatorStep view q old t done q
+    still : InternalAllocatorStep view q old t done q
     still = record {
       file_step = file_step_then view q q q old flushed done (λ k some. some) counted.file_step (file_step_rewritten view q flushed after at block.bytes result counted.file_step.sound free long writes calls_now);
       reftable = reftable_rewritten view q flushed after at block.bytes result counted.file_step.sound free long writes calls_now t.reftable counted.reftable;
@@ -82,7 +82,7 @@ module _ {S : Type 0} (view : S → StorageView) (d : Bool) (p : Pending) (range
         sym (ap (λ l. byte_at l (at * cluster_size h + i)) now ∙ byte_at-overwritten (view (storage_of storage)).contents (at * cluster_size h) block.bytes i lt)
 
 -- the answer at the end
-finish : {S : Type 0} (view : S → StorageView) (q : Pending) (old new : ImageFile S) (t : Allocator) (block : RefBlockView) (at : ℕ) (result : Result (Unit {0}) ImageError) → UnseenAllocatorStep view q old t new q → IfErr result IsFault
+finish : {S : Type 0} (view : S → StorageView) (q : Pending) (old new : ImageFile S) (t : Allocator) (block : RefBlockView) (at : ℕ) (result : Result (Unit {0}) ImageError) → InternalAllocatorStep view q old t new q → IfErr result IsFault
     → OnOk result (BlocksMayGo (order_of new.caches) (l2_tables new.caches)) → OnOk result (rb_at new.caches at ≡ Some (cleared_rb block))
     → (BlocksMayGo (order_of new.caches) (l2_tables new.caches) → StandAt (contents_in view new) (at * cluster_size new.header.fields) block.bytes) → WritesBlock view q old t new block at result
 finish view q old new t block at (Ok _) allocator_step faults first new_data stands = (allocator_step, record { new_data = new_data; stands = stands first })

@@ -1,6 +1,6 @@
 use Rattle.std.proofs.Common.{sym, ap, ◌∙◌, inl, inr, refl, subst, ◌<◌}
 use Rattle.qcow2_alloc.specs.declared.clusters_to_free.ClustersToFreeEntry.{ClustersToFreeEntry}
-use Rattle.qcow2_alloc.specs.Allocation.{run_at, taken_as, is_data, UnseenAllocatorGrowth}
+use Rattle.qcow2_alloc.specs.Allocation.{run_at, taken_as, is_data, InternalAllocatorGrowth}
 use Rattle.qcow2_alloc.specs.FreeList.{pending_then}
 use Rattle.qcow2_alloc.specs.LowestRuns.{IsLowestRun, IsUsed}
 use Rattle.qcow2_alloc.proofs.AllocationSteps.{of_equal, on_none}
@@ -17,7 +17,7 @@ returns-in-Ok-lowest_run-clause-sound g c = λ p sound may.
       takes = let first = ap (λ (r : ClustersToFreeEntry). r.first_cluster) c.placed_at.ensures ∙ c.new-in-Ok-lowest_run.ensures in (
         ap (λ (r : ClustersToFreeEntry). r.count) c.placed_at.ensures ∙ ap (λ (r : ClustersToFreeEntry). r.count) c.in-Ok.ensures,
         ap (λ (r : ClustersToFreeEntry). r.kind) c.placed_at.ensures ∙ ap (λ (r : ClustersToFreeEntry). r.kind) c.in-Ok.ensures,
-        of_equal (λ f n. UnseenAllocatorGrowth g.S.Storage.view p c.args.file.now c.lowest_run.new.self c.lowest_run.new.file (taken_as (is_data c.args.kind) (pending_then p c.args.file.now.free_list c.lowest_run.new.file.free_list) (run_at f n))) c.placed_at.result.first_cluster c.in-Ok-lowest_run.first c.args.count c.value.result first (sym c.value.ensures)
+        of_equal (λ f n. InternalAllocatorGrowth g.S.Storage.view p c.args.file.now c.lowest_run.new.self c.lowest_run.new.file (taken_as (is_data c.args.kind) (pending_then p c.args.file.now.free_list c.lowest_run.new.file.free_list) (run_at f n))) c.placed_at.result.first_cluster c.in-Ok-lowest_run.first c.args.count c.value.result first (sym c.value.ensures)
             ((c.in-Ok-lowest_run.ensures.sound p (is_data c.args.kind) sound may).takes),
       );
       uses = (c.in-Ok-lowest_run.ensures.sound p (is_data c.args.kind) sound may).uses;
@@ -31,7 +31,7 @@ returns-in-Ok-lowest_run-clause-sound g c = λ p sound may.
 pub returns-in_default-clause-sound : goal.returns-in_default-clause-sound
 returns-in_default-clause-sound g c = λ p sound may.
     record {
-      takes = inl (subst (λ (r : Pending). UnseenAllocatorGrowth g.S.Storage.view p c.args.file.now c.args.self.now c.args.file.now r) (sym (listed_after_same p c.args.file.now.free_list c.args.file.now.free_list refl)) (on_none g.S.Storage.view p c.args.file.now c.args.self.now sound));
+      takes = inl (subst (λ (r : Pending). InternalAllocatorGrowth g.S.Storage.view p c.args.file.now c.args.self.now c.args.file.now r) (sym (listed_after_same p c.args.file.now.free_list c.args.file.now.free_list refl)) (on_none g.S.Storage.view p c.args.file.now c.args.self.now sound));
       uses = tt;
       hint = λ hint. inl hint;
       lowest = λ _. tt;

@@ -2,7 +2,7 @@ use Rattle.std.proofs.Common.{◌≡◌, ◌≢◌, ◌⊎◌, inl, inr, refl, s
 use Rattle.qcow2_laws.specs.CrashInvariant.{Pending}
 use Rattle.qcow2_alloc.specs.declared.clusters_to_free.ClusterKind.TheVariants.{Data}
 use Rattle.qcow2_alloc.specs.declared.image_file.ImageFile.{ImageFile}
-use Rattle.qcow2_alloc.specs.Allocation.{UnseenAllocatorGrowth, Allocates}
+use Rattle.qcow2_alloc.specs.Allocation.{InternalAllocatorGrowth, Allocates}
 use Rattle.qcow2_alloc.specs.FreeList.{pending_then, run_of}
 use Rattle.qcow2_alloc.specs.LowestRuns.{KeepsNoFreeBelowHint, IsUsed, StaysUsed}
 use Rattle.qcow2_alloc.proofs.Hints.{hint_stays, ok_as, passed_still}
@@ -71,7 +71,7 @@ returns-in_err-l2_depends_on_rb-clause-sound g c = λ p sound.
     record {
       found = record {
         takes = handed_on (Allocates g.S.Storage.view p c.args.file.now c.args.self.now file (pending_then p c.args.file.now.free_list c.args.file.now.free_list) Data c.args.count) c.from_residual.result c.in_err-l2_depends_on_rb.field-0.0 c.from_residual.ensures
-            (inl (subst (λ (r : Pending). UnseenAllocatorGrowth g.S.Storage.view p c.args.file.now c.args.self.now file r) (sym (listed_after_same p c.args.file.now.free_list c.args.file.now.free_list refl)) (on_of g.S.Storage.view p p c.args.file.now file c.args.self.now one)));
+            (inl (subst (λ (r : Pending). InternalAllocatorGrowth g.S.Storage.view p c.args.file.now c.args.self.now file r) (sym (listed_after_same p c.args.file.now.free_list c.args.file.now.free_list refl)) (on_of g.S.Storage.view p p c.args.file.now file c.args.self.now one)));
         uses = on_no_ok _ c.from_residual.result c.in_err-l2_depends_on_rb.field-0.0 c.from_residual.ensures;
         hint = λ hint. handed_on (KeepsNoFreeBelowHint g.S.Storage.view c.args.self.now file) c.from_residual.result c.in_err-l2_depends_on_rb.field-0.0 c.from_residual.ensures (inl (hint_stays g.S.Storage.view p c.args.file.now file c.args.self.now c.args.self.now one (passed_still c.args.self.now) hint));
         lowest = λ hint. if_no_ok _ c.from_residual.result c.in_err-l2_depends_on_rb.field-0.0 c.from_residual.ensures;

@@ -4,7 +4,7 @@ use Rattle.qcow2_laws.specs.Changes.{one_at}
 use Rattle.qcow2_laws.specs.CrashInvariant.{Pending}
 use Rattle.qcow2_alloc.specs.declared.clusters_to_free.ClustersToFreeEntry.{ClustersToFreeEntry}
 use Rattle.qcow2_alloc.specs.declared.image_file.ImageFile.{ImageFile}
-use Rattle.qcow2_alloc.specs.Allocation.{taken_as, UnseenAllocatorGrowth, AllocatesAt}
+use Rattle.qcow2_alloc.specs.Allocation.{taken_as, InternalAllocatorGrowth, AllocatesAt}
 use Rattle.qcow2_alloc.specs.FreeList.{pending_then}
 use Rattle.qcow2_alloc.specs.LowestRuns.{IsUsed, KeepsNoFreeBelowHint, StaysUsed}
 use Rattle.qcow2_metadata.specs.Header.{counts_per_block}
@@ -112,7 +112,7 @@ returns-then-at-eq0-clause-sound g c = λ p sound.
     let one = allocator_step_cached g.S.Storage.view p c.args.file.now c.args.self.now c.l2_depends_on_rb.new.storage c.l2_depends_on_rb.new.self sound (c.l2_depends_on_rb.ensures.sound.keeps c.args.file.now.header.fields p sound.sound.honest sound.sound.caches) c.l2_depends_on_rb.ensures.step.marks.pins in
     let known = (c.l2_depends_on_rb.ensures.sound.keeps c.args.file.now.header.fields p sound.sound.honest sound.sound.caches).known in
     record {
-      takes = subst (λ (r : Pending). UnseenAllocatorGrowth g.S.Storage.view p c.args.file.now c.args.self.now file r) (sym (listed_after_same p c.args.file.now.free_list c.args.file.now.free_list refl)) (on_of g.S.Storage.view p p c.args.file.now file c.args.self.now one);
+      takes = subst (λ (r : Pending). InternalAllocatorGrowth g.S.Storage.view p c.args.file.now c.args.self.now file r) (sym (listed_after_same p c.args.file.now.free_list c.args.file.now.free_list refl)) (on_of g.S.Storage.view p p c.args.file.now file c.args.self.now one);
       leaks = refl;
       listed = lists_used_none g.S.Storage.view c.args.file.now file refl;
       made = let alone = alone_none g.S.Storage.view c.args.file.now file refl known in
@@ -136,7 +136,7 @@ returns-then-not-is_nameable-clause-sound g c = λ p sound.
     let one = allocator_step_cached g.S.Storage.view p c.args.file.now c.args.self.now c.l2_depends_on_rb.new.storage c.l2_depends_on_rb.new.self sound (c.l2_depends_on_rb.ensures.sound.keeps c.args.file.now.header.fields p sound.sound.honest sound.sound.caches) c.l2_depends_on_rb.ensures.step.marks.pins in
     let known = (c.l2_depends_on_rb.ensures.sound.keeps c.args.file.now.header.fields p sound.sound.honest sound.sound.caches).known in
     record {
-      takes = subst (λ (r : Pending). UnseenAllocatorGrowth g.S.Storage.view p c.args.file.now c.args.self.now file r) (sym (listed_after_same p c.args.file.now.free_list c.args.file.now.free_list refl)) (on_of g.S.Storage.view p p c.args.file.now file c.args.self.now one);
+      takes = subst (λ (r : Pending). InternalAllocatorGrowth g.S.Storage.view p c.args.file.now c.args.self.now file r) (sym (listed_after_same p c.args.file.now.free_list c.args.file.now.free_list refl)) (on_of g.S.Storage.view p p c.args.file.now file c.args.self.now one);
       leaks = refl;
       listed = lists_used_none g.S.Storage.view c.args.file.now file refl;
       made = let alone = alone_none g.S.Storage.view c.args.file.now file refl known in
@@ -156,7 +156,7 @@ returns-then-range-clause-sound g c = λ p sound.
     let one = allocator_step_cached g.S.Storage.view p c.args.file.now c.args.self.now c.l2_depends_on_rb.new.storage c.l2_depends_on_rb.new.self sound (c.l2_depends_on_rb.ensures.sound.keeps c.args.file.now.header.fields p sound.sound.honest sound.sound.caches) c.l2_depends_on_rb.ensures.step.marks.pins in
     let known = (c.l2_depends_on_rb.ensures.sound.keeps c.args.file.now.header.fields p sound.sound.honest sound.sound.caches).known in
     record {
-      takes = subst (λ (r : Pending). UnseenAllocatorGrowth g.S.Storage.view p c.args.file.now c.args.self.now file r) (sym (listed_after_same p c.args.file.now.free_list c.args.file.now.free_list refl)) (on_of g.S.Storage.view p p c.args.file.now file c.args.self.now one);
+      takes = subst (λ (r : Pending). InternalAllocatorGrowth g.S.Storage.view p c.args.file.now c.args.self.now file r) (sym (listed_after_same p c.args.file.now.free_list c.args.file.now.free_list refl)) (on_of g.S.Storage.view p p c.args.file.now file c.args.self.now one);
       leaks = refl;
       listed = lists_used_none g.S.Storage.view c.args.file.now file refl;
       made = let alone = alone_none g.S.Storage.view c.args.file.now file refl known in
@@ -200,7 +200,7 @@ returns-in_err-l2_depends_on_rb-clause-sound g c = λ p sound.
     let one = allocator_step_cached g.S.Storage.view p c.args.file.now c.args.self.now c.l2_depends_on_rb.new.storage c.l2_depends_on_rb.new.self sound (c.l2_depends_on_rb.ensures.sound.keeps c.args.file.now.header.fields p sound.sound.honest sound.sound.caches) c.l2_depends_on_rb.ensures.step.marks.pins in
     record {
       takes = handed_on (AllocatesAt g.S.Storage.view p c.args.file.now c.args.self.now file (pending_then p c.args.file.now.free_list c.args.file.now.free_list) c.args.cluster) c.from_residual.result c.in_err-l2_depends_on_rb.field-0.0 c.from_residual.ensures
-          (inl (subst (λ (r : Pending). UnseenAllocatorGrowth g.S.Storage.view p c.args.file.now c.args.self.now file r) (sym (listed_after_same p c.args.file.now.free_list c.args.file.now.free_list refl)) (on_of g.S.Storage.view p p c.args.file.now file c.args.self.now one)));
+          (inl (subst (λ (r : Pending). InternalAllocatorGrowth g.S.Storage.view p c.args.file.now c.args.self.now file r) (sym (listed_after_same p c.args.file.now.free_list c.args.file.now.free_list refl)) (on_of g.S.Storage.view p p c.args.file.now file c.args.self.now one)));
       leaks = refl;
       listed = lists_used_none g.S.Storage.view c.args.file.now file refl;
       made = let known = (c.l2_depends_on_rb.ensures.sound.keeps c.args.file.now.header.fields p sound.sound.honest sound.sound.caches).known in
@@ -222,7 +222,7 @@ returns-in_default-clause-sound g c = λ p sound.
     let file : ImageFile g.row.S.Denot = record c.args.file.now { storage = c.l2_depends_on_rb.new.storage; caches = c.l2_depends_on_rb.new.self } in
     let one = allocator_step_cached g.S.Storage.view p c.args.file.now c.args.self.now c.l2_depends_on_rb.new.storage c.l2_depends_on_rb.new.self sound (c.l2_depends_on_rb.ensures.sound.keeps c.args.file.now.header.fields p sound.sound.honest sound.sound.caches) c.l2_depends_on_rb.ensures.step.marks.pins in
     record {
-      takes = inl (subst (λ (r : Pending). UnseenAllocatorGrowth g.S.Storage.view p c.args.file.now c.args.self.now file r) (sym (listed_after_same p c.args.file.now.free_list c.args.file.now.free_list refl)) (on_of g.S.Storage.view p p c.args.file.now file c.args.self.now one));
+      takes = inl (subst (λ (r : Pending). InternalAllocatorGrowth g.S.Storage.view p c.args.file.now c.args.self.now file r) (sym (listed_after_same p c.args.file.now.free_list c.args.file.now.free_list refl)) (on_of g.S.Storage.view p p c.args.file.now file c.args.self.now one));
       leaks = refl;
       listed = lists_used_none g.S.Storage.view c.args.file.now file refl;
       made = let known = (c.l2_depends_on_rb.ensures.sound.keeps c.args.file.now.header.fields p sound.sound.honest sound.sound.caches).known in
@@ -274,7 +274,7 @@ returns-in-Ok-true-clause-sound g c = λ p sound.
         ap (λ (r : ClustersToFreeEntry). r.first_cluster) (c.in-Ok.ensures ∙ c.data-entry.ensures),
         ap (λ (r : ClustersToFreeEntry). r.count) (c.in-Ok.ensures ∙ c.data-entry.ensures) ∙ c.new.ensures,
         ap (λ (r : ClustersToFreeEntry). r.kind) (c.in-Ok.ensures ∙ c.data-entry.ensures),
-        subst (λ (r : Pending). UnseenAllocatorGrowth g.S.Storage.view p c.args.file.now c.take.new.self c.take.new.file r)
+        subst (λ (r : Pending). InternalAllocatorGrowth g.S.Storage.view p c.args.file.now c.take.new.self c.take.new.file r)
             (ap (λ n. taken_as true (pending_then p c.args.file.now.free_list c.take.new.file.free_list) (one_at n)) c.value.ensures ∙ taken_alone true (pending_then p c.args.file.now.free_list c.take.new.file.free_list) c.args.cluster) taken,
       );
       leaks = (c.take.ensures.sound p false now tt).leaks;

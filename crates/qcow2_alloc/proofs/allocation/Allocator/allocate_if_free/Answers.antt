@@ -3,7 +3,7 @@ use Rattle.qcow2_metadata.specs.Entries.{block_offset}
 use Rattle.qcow2_metadata.specs.Header.{counts_per_block}
 use Rattle.qcow2_metadata.specs.TableBytes.{entry_at}
 use Rattle.qcow2_laws.specs.CrashInvariant.{Pending}
-use Rattle.qcow2_alloc.specs.Allocation.{UnseenAllocatorStep}
+use Rattle.qcow2_alloc.specs.Allocation.{InternalAllocatorStep}
 use Rattle.qcow2_alloc.specs.Rooms.{lacks}
 use Rattle.qcow2_alloc.proofs.AllocationSteps.{allocator_step_none, still_sound}
 use Rattle.qcow2_alloc.proofs.Rooms.{one_none, free_taken}
@@ -16,7 +16,7 @@ pub returns-then-lacks_block-clause-sound : goal.returns-then-lacks_block-clause
 returns-then-lacks_block-clause-sound g c = λ p sound.
     let t = c.args.self.now.reftable in
     let none = ap (λ n. lacks t (c.args.cluster / n)) c.requires.counts ∙ sym c.lacks_block.ensures ∙ c.if-lacks_block.true in
-    subst (λ (r : Pending). UnseenAllocatorStep g.S.Storage.view p c.args.file.now c.args.self.now c.args.file.now r) (sym (one_none c.args.file.now.header.fields t p c.args.cluster none))
+    subst (λ (r : Pending). InternalAllocatorStep g.S.Storage.view p c.args.file.now c.args.self.now c.args.file.now r) (sym (one_none c.args.file.now.header.fields t p c.args.cluster none))
     (allocator_step_none g.S.Storage.view p c.args.file.now c.args.self.now sound)
 
 pub returns-in-Ok-clause-sound : goal.returns-in-Ok-clause-sound

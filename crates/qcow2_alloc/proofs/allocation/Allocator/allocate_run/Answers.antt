@@ -5,7 +5,7 @@ use Rattle.qcow2_laws.specs.CrashInvariant.{Pending}
 use Rattle.qcow2_alloc.specs.declared.allocation.Allocator.{Allocator}
 use Rattle.qcow2_alloc.specs.declared.error.ImageError.{ImageError}
 use Rattle.qcow2_alloc.specs.declared.image_file.ImageFile.{ImageFile}
-use Rattle.qcow2_alloc.specs.Allocation.{run_at, taken_as, UnseenAllocatorGrowth, RefusedGrowth, GivesBackAs, SameLeaks}
+use Rattle.qcow2_alloc.specs.Allocation.{run_at, taken_as, InternalAllocatorGrowth, RefusedGrowth, GivesBackAs, SameLeaks}
 use Rattle.qcow2_alloc.specs.FreeList.{pending_then, ListsTables}
 use Rattle.qcow2_alloc.specs.ImageFile.{IsFault}
 use Rattle.qcow2_alloc.proofs.AllocationSteps.{handed_on, of_equal, may_still, on_none, is_sound_on, still_as}
@@ -30,14 +30,14 @@ no_more n none = elim (cases_lt 0 n) [ inl some ↦ absurd (none some) | inr zer
 
 -- a fault breaks off, or comes before anything was taken
 ends_run : {S : Type 0} (view : S → StorageView) (d : Bool) (p : Pending) (from n : ℕ) (a b c : ImageFile S) (t t' : Allocator) (e : ImageError) (first : ListsTables a.free_list b.free_list) (then : ListsTables b.free_list c.free_list)
-    → UnseenAllocatorGrowth view p a t b (taken_as d (pending_then p a.free_list b.free_list) (run_at from n)) → (0 < n → IsTrue c.caches.is_changed) → IsFault e
+    → InternalAllocatorGrowth view p a t b (taken_as d (pending_then p a.free_list b.free_list) (run_at from n)) → (0 < n → IsTrue c.caches.is_changed) → IsFault e
     → RefusedGrowth view (taken_as d (pending_then p a.free_list b.free_list) (run_at from n)) b t' c (pending_then (taken_as d (pending_then p a.free_list b.free_list) (run_at from n)) b.free_list c.free_list) e
     → RefusedGrowth view p a t' c (pending_then p a.free_list c.free_list) e
 ends_run view d p from n a b c t t' e first then before noted fault leaves = elim (cases_lt 0 n) [
   | inl some ↦ inr (ends_taken view d p (run_at from n) a b c t t' first then e before fault (noted some) _ leaves)
   | inr none ↦
       let same = taken_none d (pending_then p a.free_list b.free_list) from n (omega arith) in
-      then_leaves view p a b c t t' first then (subst (λ (r : Pending). UnseenAllocatorGrowth view p a t b r) same before) e (subst (λ (r : Pending). RefusedGrowth view r b t' c (pending_then r b.free_list c.free_list) e) same leaves)
+      then_leaves view p a b c t t' first then (subst (λ (r : Pending). InternalAllocatorGrowth view p a t b r) same before) e (subst (λ (r : Pending). RefusedGrowth view r b t' c (pending_then r b.free_list c.free_list) e) same leaves)
 ]
 
 -- what was taken is taken still, after a call that takes nothing
@@ -45,7 +45,7 @@ module _ {S : Type 0} (view : S → StorageView) (p : Pending) (d : Bool) (a b c
   abbrev so_far : Pending
   so_far = taken_as d (pending_then p a.free_list b.free_list) (run_at first n)
 
-  still_so_far : ListsTables a.free_list b.free_list → ListsTables b.free_list c.free_list → TakenSoFar view p d t0 a t b first n → UnseenAllocatorGrowth view so_far b t' c (pending_then so_far b.free_list c.free_list)
+  still_so_far : ListsTables a.free_list b.free_list → ListsTables b.free_list c.free_list → TakenSoFar view p d t0 a t b first n → InternalAllocatorGrowth view so_far b t' c (pending_then so_far b.free_list c.free_list)
       → SameLeaks t t' → ((k : ℕ) → IsUsed view b k → IsUsed view c k) → (NoFreeBelowHint view t b → NoFreeBelowHint view t' c) → TakenSoFar view p d t0 a t' c first n
   still_so_far lists then so step leaks uses hint = record {
     taken = still_taken view d p (run_at first n) a b c t t' lists then so.taken step;
@@ -74,7 +74,7 @@ taking-init g c = record {
   faults = refl;
   noted = λ some. absurd (omega (arith, some));
   sound = λ p d sound may. record {
-    taken = subst (λ (r : Pending). UnseenAllocatorGrowth g.S.Storage.view p c.args.file.now c.args.self.now c.args.file.now r)
+    taken = subst (λ (r : Pending). InternalAllocatorGrowth g.S.Storage.view p c.args.file.now c.args.self.now c.args.file.now r)
         (sym (taken_none d (pending_then p c.args.file.now.free_list c.args.file.now.free_list) c.args.first 0 refl ∙ listed_after_same p c.args.file.now.free_list c.args.file.now.free_list refl)) (on_none g.S.Storage.view p c.args.file.now c.args.self.now sound);
     leaks = refl;
     uses = λ k used. used;
@@ -192,7 +192,7 @@ returns-in-Ok-false-clause-sound g c = λ p d sound may.
     record {
       takes = (
         (λ all. absurd (let lt = c.taking-test.true in omega arith)),
-        (λ _. subst (λ (r : Pending). UnseenAllocatorGrowth view p a c.give_back.new.self c.give_back.new.file r) (ap (pending_then p a.free_list) (sym c.give_back.ensures.step.list)) (back.sound p r d a (λ k some. some) there.taken noted)),
+        (λ _. subst (λ (r : Pending). InternalAllocatorGrowth view p a c.give_back.new.self c.give_back.new.file r) (ap (pending_then p a.free_list) (sym c.give_back.ensures.step.list)) (back.sound p r d a (λ k some. some) there.taken noted)),
       );
       leaks = back.leaks r d now ∙ there.leaks;
       uses = λ k used. back.kept r d now k (no_more (run_at first n k) (λ some. so.free k some used)) (there.uses k used);
@@ -247,7 +247,7 @@ returns-in-Err-clause-sound g c = λ p d sound may.
           let left = w.give_back-then-not-is_fault.new.file in
           let t' = w.give_back-then-not-is_fault.new.self in
           of_equal (λ x f. TakesRunSoundly view p d c.args.self.now a x f first c.args.n (Err c.in-Err.refusal)) c.if-not-is_fault.self t' c.if-not-is_fault.file left w.self-is w.file-is (record {
-            takes = inl (subst (λ (r : Pending). UnseenAllocatorGrowth view p a t' left r) (ap (pending_then p a.free_list) (sym w.give_back-then-not-is_fault.ensures.step.list)) (back.sound p r d a (λ k some. some) there.taken noted));
+            takes = inl (subst (λ (r : Pending). InternalAllocatorGrowth view p a t' left r) (ap (pending_then p a.free_list) (sym w.give_back-then-not-is_fault.ensures.step.list)) (back.sound p r d a (λ k some. some) there.taken noted));
             leaks = back.leaks r d now ∙ there.leaks;
             uses = inl (λ k used. back.kept r d now k (no_more (run_at first n k) (λ some. so.free k some used)) (there.uses k used));
             used = λ hint. tt;
@@ -276,7 +276,7 @@ returns-clause-sound g c = λ p d sound may.
     let all : c.taking.taken ≡ c.args.n = let le = c.taking.auto.taken-end in let past = c.taking-test.false in omega arith in
     record {
       takes = (
-        (λ _. subst (λ n. UnseenAllocatorGrowth g.S.Storage.view p c.args.file.now c.taking.self c.taking.file (taken_as d (pending_then p c.args.file.now.free_list c.taking.file.free_list) (run_at c.args.first n))) all so.taken),
+        (λ _. subst (λ n. InternalAllocatorGrowth g.S.Storage.view p c.args.file.now c.taking.self c.taking.file (taken_as d (pending_then p c.args.file.now.free_list c.taking.file.free_list) (run_at c.args.first n))) all so.taken),
         (λ other. absurd (other refl)),
       );
       leaks = so.leaks;

@@ -8,7 +8,7 @@ use Rattle.qcow2_metadata.specs.L2Mapping.{greatest_offset}
 use Rattle.qcow2_laws.specs.CrashInvariant.{Pending}
 use Rattle.qcow2_alloc.specs.declared.error.ImageError.{ImageError}
 use Rattle.qcow2_alloc.specs.declared.image_file.ImageFile.{ImageFile}
-use Rattle.qcow2_alloc.specs.Allocation.{NamesLacking, UnseenAllocatorStep}
+use Rattle.qcow2_alloc.specs.Allocation.{NamesLacking, InternalAllocatorStep}
 use Rattle.qcow2_alloc.specs.Growing.{IsCloneOf}
 use Rattle.qcow2_alloc.specs.GrownTables.{with_run, EntersReftable, NamesReftable}
 use Rattle.qcow2_alloc.specs.ImageFile.{AllocatorInvariant, KeepsHeader}
@@ -92,7 +92,7 @@ returns-clause-sound g c = λ p sound clone whole.
     let n = room_length c.in_ok-room.room in
     let q : Pending = with_run p c.args.file.now.header.fields c.args.self.now.reftable first n in
     let b : ImageFile g.row.S.Denot = c.allocate_room.new.file in
-    let room : UnseenAllocatorStep view p a c.allocate_room.new.self b q = (c.in_ok-room.ensures.sound p sound).takes in
+    let room : InternalAllocatorStep view p a c.allocate_room.new.self b q = (c.in_ok-room.ensures.sound p sound).takes in
     let now = is_sound_now view p (with_run p b.header.fields t first n) a b u (room_now view p a b c.write_reftable.new.file u c.write_reftable.new.self t first n c.allocate_room.ensures.step.header room) in
     let same = c.allocate_room.ensures.reftable in
     let longer : IsLonger b.header.fields c.allocate_room.new.self.reftable c.args.table c.in_ok-room.room.clusters = clone_is_longer view (with_run p b.header.fields t first n) b u.reftable c.args.table c.in_ok-room.room.clusters now.sound now.reftable (subst (λ (x : EntryTableView). IsCloneOf x c.args.table) (sym same) clone)

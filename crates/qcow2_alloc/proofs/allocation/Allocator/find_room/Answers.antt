@@ -4,7 +4,7 @@ use Rattle.std.specs.Prelude.{IfErr}
 use Rattle.qcow2_metadata.specs.EntryTable.{EntryTableView}
 use Rattle.qcow2_metadata.specs.Header.{HeaderView, counts_per_block}
 use Rattle.qcow2_laws.specs.CrashInvariant.{Pending}
-use Rattle.qcow2_alloc.specs.Allocation.{UnseenAllocatorStep}
+use Rattle.qcow2_alloc.specs.Allocation.{InternalAllocatorStep}
 use Rattle.qcow2_alloc.specs.GrownTables.{with_run}
 use Rattle.qcow2_alloc.specs.declared.error.ImageError.{ImageError}
 use Rattle.qcow2_alloc.specs.declared.free_room.Room.{Room}
@@ -54,7 +54,7 @@ search-preserved g c = record {
       let t_same : c.search.self.reftable ≡ c.reserve_room.new.self.reftable = ap (λ a. a.reftable) (sym c.reserve_room.ensures.same) in
       let same = run_of_same p c.search.file.header.fields c.search.file.header.fields c.search.self.reftable c.reserve_room.new.self.reftable c.search.first c.in_ok-reach.reach.taken c.in_ok-reach.reach.taken refl t_same refl in
       let noted = noted_of_same c.search.file.header.fields c.search.self.reftable c.reserve_room.new.self.reftable c.search.first c.in_ok-reach.reach.taken c.reserve_room.new.file.caches.is_changed t_same c.in_ok-reach.ensures.reach.noted in
-      let back = ((c.in_ok-leave_run.ensures.sound p c.search.file (sym c.reserve_room.ensures.step.header) (subst (λ (r : Pending). UnseenAllocatorStep view p c.search.file c.reserve_room.new.self c.reserve_room.new.file r) same reached)).gives noted) in
+      let back = ((c.in_ok-leave_run.ensures.sound p c.search.file (sym c.reserve_room.ensures.step.header) (subst (λ (r : Pending). InternalAllocatorStep view p c.search.file c.reserve_room.new.self c.reserve_room.new.file r) same reached)).gives noted) in
       let mid = allocator_step_then view p p c.args.file.now c.search.file c.leave_run.new.file c.search.self c.leave_run.new.self before back in
       let there = is_sound_now view p p c.args.file.now c.leave_run.new.file c.leave_run.new.self mid in
       hint_stays view p c.leave_run.new.file c.next_free_in_range.new.file c.leave_run.new.self c.leave_run.new.self (c.in_ok-first.ensures.sound p there).0 (passed_still c.leave_run.new.self)
@@ -66,7 +66,7 @@ search-preserved g c = record {
       let t_same : c.search.self.reftable ≡ c.reserve_room.new.self.reftable = ap (λ a. a.reftable) (sym c.reserve_room.ensures.same) in
       let same = run_of_same p c.search.file.header.fields c.search.file.header.fields c.search.self.reftable c.reserve_room.new.self.reftable c.search.first c.in_ok-reach.reach.taken c.in_ok-reach.reach.taken refl t_same refl in
       let noted = noted_of_same c.search.file.header.fields c.search.self.reftable c.reserve_room.new.self.reftable c.search.first c.in_ok-reach.reach.taken c.reserve_room.new.file.caches.is_changed t_same c.in_ok-reach.ensures.reach.noted in
-      let back = ((c.in_ok-leave_run.ensures.sound p c.search.file (sym c.reserve_room.ensures.step.header) (subst (λ (r : Pending). UnseenAllocatorStep view p c.search.file c.reserve_room.new.self c.reserve_room.new.file r) same reached)).gives noted) in
+      let back = ((c.in_ok-leave_run.ensures.sound p c.search.file (sym c.reserve_room.ensures.step.header) (subst (λ (r : Pending). InternalAllocatorStep view p c.search.file c.reserve_room.new.self c.reserve_room.new.file r) same reached)).gives noted) in
       let mid = allocator_step_then view p p c.args.file.now c.search.file c.leave_run.new.file c.search.self c.leave_run.new.self before back in
       let there = is_sound_now view p p c.args.file.now c.leave_run.new.file c.leave_run.new.self mid in
       allocator_step_then view p p c.args.file.now c.leave_run.new.file c.next_free_in_range.new.file c.leave_run.new.self c.leave_run.new.self mid (c.in_ok-first.ensures.sound p there).0;
@@ -76,7 +76,7 @@ search-preserved g c = record {
       let reached = (c.in_ok-reach.ensures.sound p (is_sound_now view p p c.args.file.now c.search.file c.search.self before)).reaches in
       let t_same : c.search.self.reftable ≡ c.reserve_room.new.self.reftable = ap (λ a. a.reftable) (sym c.reserve_room.ensures.same) in
       let same = run_of_same p c.search.file.header.fields c.search.file.header.fields c.search.self.reftable c.reserve_room.new.self.reftable c.search.first c.in_ok-reach.reach.taken c.in_ok-reach.reach.taken refl t_same refl in
-      (c.leave_run.ensures.sound p c.search.file (sym c.reserve_room.ensures.step.header) (subst (λ (r : Pending). UnseenAllocatorStep view p c.search.file c.reserve_room.new.self c.reserve_room.new.file r) same reached)).leaks
+      (c.leave_run.ensures.sound p c.search.file (sym c.reserve_room.ensures.step.header) (subst (λ (r : Pending). InternalAllocatorStep view p c.search.file c.reserve_room.new.self c.reserve_room.new.file r) same reached)).leaks
       ∙ ap (λ (a : Allocator). a.leaked_clusters) c.reserve_room.ensures.same ∙ c.search.invariant.leaks p sound;
   full = λ p sound hint.
       let view = g.S.Storage.view in
@@ -90,7 +90,7 @@ search-preserved g c = record {
       let t_same : c.search.self.reftable ≡ c.reserve_room.new.self.reftable = ap (λ a. a.reftable) (sym c.reserve_room.ensures.same) in
       let same = run_of_same p c.search.file.header.fields c.search.file.header.fields c.search.self.reftable c.reserve_room.new.self.reftable first taken taken refl t_same refl in
       let noted = noted_of_same c.search.file.header.fields c.search.self.reftable c.reserve_room.new.self.reftable first taken c.reserve_room.new.file.caches.is_changed t_same c.in_ok-reach.ensures.reach.noted in
-      let run = subst (λ (r : Pending). UnseenAllocatorStep view p c.search.file c.reserve_room.new.self c.reserve_room.new.file r) same reached in
+      let run = subst (λ (r : Pending). InternalAllocatorStep view p c.search.file c.reserve_room.new.self c.reserve_room.new.file r) same reached in
       let back = ((c.in_ok-leave_run.ensures.sound p c.search.file (sym c.reserve_room.ensures.step.header) run).gives noted) in
       let opened_same = λ (n : ℕ). ap (λ (h : HeaderView). opened c.search.self.reftable (counts_per_block h.fields) first n) c.search.invariant.step.header ∙ ap (λ (x : EntryTableView). opened x per first n) c.search.invariant.reftable in
       let mid = allocator_step_then view p p c.args.file.now c.search.file c.leave_run.new.file c.search.self c.leave_run.new.self before back in
@@ -173,11 +173,11 @@ returns-in_err-leave_run-clause-sound g c = λ p sound.
     let t_same : c.search.self.reftable ≡ c.reserve_room.new.self.reftable = ap (λ a. a.reftable) (sym c.reserve_room.ensures.same) in
     let same = run_of_same p c.search.file.header.fields c.search.file.header.fields c.search.self.reftable c.reserve_room.new.self.reftable c.search.first c.in_ok-reach.reach.taken c.in_ok-reach.reach.taken refl t_same refl in
     let noted = noted_of_same c.search.file.header.fields c.search.self.reftable c.reserve_room.new.self.reftable c.search.first c.in_ok-reach.reach.taken c.reserve_room.new.file.caches.is_changed t_same c.in_ok-reach.ensures.reach.noted in
-    let back = ((c.in_err-leave_run.ensures.sound p c.search.file (sym c.reserve_room.ensures.step.header) (subst (λ (r : Pending). UnseenAllocatorStep view p c.search.file c.reserve_room.new.self c.reserve_room.new.file r) same reached)).gives noted) in
+    let back = ((c.in_err-leave_run.ensures.sound p c.search.file (sym c.reserve_room.ensures.step.header) (subst (λ (r : Pending). InternalAllocatorStep view p c.search.file c.reserve_room.new.self c.reserve_room.new.file r) same reached)).gives noted) in
     record {
       takes = handed_on (TakesRoom view p c.args.file.now c.leave_run.new.self c.leave_run.new.file c.args.self.now.reftable) c.from_residual-in_err-leave_run.result c.in_err-leave_run.field-0.0 c.from_residual-in_err-leave_run.ensures
           (leaves_then view p c.args.file.now c.search.file c.leave_run.new.file c.leave_run.new.self c.in_err-leave_run.field-0.0 before.file_step back.1);
-      leaks = (c.leave_run.ensures.sound p c.search.file (sym c.reserve_room.ensures.step.header) (subst (λ (r : Pending). UnseenAllocatorStep view p c.search.file c.reserve_room.new.self c.reserve_room.new.file r) same reached)).leaks
+      leaks = (c.leave_run.ensures.sound p c.search.file (sym c.reserve_room.ensures.step.header) (subst (λ (r : Pending). InternalAllocatorStep view p c.search.file c.reserve_room.new.self c.reserve_room.new.file r) same reached)).leaks
           ∙ ap (λ (a : Allocator). a.leaked_clusters) c.reserve_room.ensures.same ∙ c.search.invariant.leaks p sound;
       lowest = λ _. if_no_ok _ c.from_residual-in_err-leave_run.result c.in_err-leave_run.field-0.0 c.from_residual-in_err-leave_run.ensures;
       limit = λ hint. handed_on (λ (r : Result Room ImageError). IfErr r (IsFaultOr (HasNoRoomBelow (IsUsed view c.leave_run.new.file) c.leave_run.new.file.header.fields (λ k. 0) c.args.self.now.reftable c.args.clusters c.args.end))) c.from_residual-in_err-leave_run.result c.in_err-leave_run.field-0.0 c.from_residual-in_err-leave_run.ensures
@@ -192,13 +192,13 @@ returns-in_err-first-clause-sound g c = λ p sound.
     let t_same : c.search.self.reftable ≡ c.reserve_room.new.self.reftable = ap (λ a. a.reftable) (sym c.reserve_room.ensures.same) in
     let same = run_of_same p c.search.file.header.fields c.search.file.header.fields c.search.self.reftable c.reserve_room.new.self.reftable c.search.first c.in_ok-reach.reach.taken c.in_ok-reach.reach.taken refl t_same refl in
     let noted = noted_of_same c.search.file.header.fields c.search.self.reftable c.reserve_room.new.self.reftable c.search.first c.in_ok-reach.reach.taken c.reserve_room.new.file.caches.is_changed t_same c.in_ok-reach.ensures.reach.noted in
-    let back = ((c.in_ok-leave_run.ensures.sound p c.search.file (sym c.reserve_room.ensures.step.header) (subst (λ (r : Pending). UnseenAllocatorStep view p c.search.file c.reserve_room.new.self c.reserve_room.new.file r) same reached)).gives noted) in
+    let back = ((c.in_ok-leave_run.ensures.sound p c.search.file (sym c.reserve_room.ensures.step.header) (subst (λ (r : Pending). InternalAllocatorStep view p c.search.file c.reserve_room.new.self c.reserve_room.new.file r) same reached)).gives noted) in
     let mid = allocator_step_then view p p c.args.file.now c.search.file c.leave_run.new.file c.search.self c.leave_run.new.self before back in
     let there = is_sound_now view p p c.args.file.now c.leave_run.new.file c.leave_run.new.self mid in
     record {
       takes = handed_on (TakesRoom view p c.args.file.now c.leave_run.new.self c.next_free_in_range.new.file c.args.self.now.reftable) c.from_residual-in_err-first.result c.in_err-first.field-0.0 c.from_residual-in_err-first.ensures
           (leaves_then view p c.args.file.now c.leave_run.new.file c.next_free_in_range.new.file c.leave_run.new.self c.in_err-first.field-0.0 mid.file_step (c.in_err-first.ensures.sound p there).1);
-      leaks = (c.leave_run.ensures.sound p c.search.file (sym c.reserve_room.ensures.step.header) (subst (λ (r : Pending). UnseenAllocatorStep view p c.search.file c.reserve_room.new.self c.reserve_room.new.file r) same reached)).leaks
+      leaks = (c.leave_run.ensures.sound p c.search.file (sym c.reserve_room.ensures.step.header) (subst (λ (r : Pending). InternalAllocatorStep view p c.search.file c.reserve_room.new.self c.reserve_room.new.file r) same reached)).leaks
           ∙ ap (λ (a : Allocator). a.leaked_clusters) c.reserve_room.ensures.same ∙ c.search.invariant.leaks p sound;
       lowest = λ _. if_no_ok _ c.from_residual-in_err-first.result c.in_err-first.field-0.0 c.from_residual-in_err-first.ensures;
       limit = λ hint. handed_on (λ (r : Result Room ImageError). IfErr r (IsFaultOr (HasNoRoomBelow (IsUsed view c.next_free_in_range.new.file) c.next_free_in_range.new.file.header.fields (λ k. 0) c.args.self.now.reftable c.args.clusters c.args.end))) c.from_residual-in_err-first.result c.in_err-first.field-0.0 c.from_residual-in_err-first.ensures
@@ -229,7 +229,7 @@ returns-then-reach-clusters-clause-sound g c = λ p sound.
           let h = c.args.file.now.header.fields in
           let same = run_of_same p c.search.file.header.fields h c.search.self.reftable t c.search.first c.in_ok-reach.reach.taken (c.in_ok-reach.reach.blocks + c.args.clusters) (ap (λ x. x.fields) c.search.invariant.step.header) c.search.invariant.reftable c.if-reach-clusters.true in
           allocator_step_then view p (with_run p h t c.search.first (c.in_ok-reach.reach.blocks + c.args.clusters)) c.args.file.now c.search.file c.reserve_room.new.file c.search.self c.reserve_room.new.self before
-          (subst (λ (r : Pending). UnseenAllocatorStep view p c.search.file c.reserve_room.new.self c.reserve_room.new.file r) same reached);
+          (subst (λ (r : Pending). InternalAllocatorStep view p c.search.file c.reserve_room.new.self c.reserve_room.new.file r) same reached);
       leaks = ap (λ (a : Allocator). a.leaked_clusters) c.reserve_room.ensures.same ∙ c.search.invariant.leaks p sound;
       lowest = λ hint. let now = is_sound_now view p p c.args.file.now c.search.file c.search.self before in
           let reached = (c.in_ok-reach.ensures.sound p now).reaches in

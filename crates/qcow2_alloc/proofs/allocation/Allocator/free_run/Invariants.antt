@@ -1,6 +1,6 @@
 use Rattle.std.proofs.Common.{◌≡◌, ◌≤◌, [], ◌∷◌}
 use Rattle.qcow2_laws.specs.CrashInvariant.{Pending}
-use Rattle.qcow2_alloc.specs.Allocation.{listed_as, MayFree, SameLeaks, UnseenAllocatorStep}
+use Rattle.qcow2_alloc.specs.Allocation.{listed_as, MayFree, SameLeaks, InternalAllocatorStep}
 use Rattle.qcow2_alloc.specs.Faults.{faults_of}
 use Rattle.qcow2_alloc.specs.FreeList.{run_of}
 use Rattle.qcow2_alloc.specs.ImageFile.{AllocatorInvariant}
@@ -17,7 +17,7 @@ invariant-freeing g l = record {
   step : TableStep g.S.Storage.view l.fn.self.reftable l.fn.file l.self.reftable l.file;
   kind : l.run.kind ≡ l.fn.run.kind;
   sound : (p : Pending) → AllocatorInvariant g.S.Storage.view l.fn.self (listed_as l.fn.run.kind p (run_of l.fn.run)) l.fn.file → MayFree l.fn.run.kind l.fn.file
-      → UnseenAllocatorStep g.S.Storage.view (listed_as l.fn.run.kind p (run_of l.fn.run)) l.fn.file l.self l.file (listed_as l.fn.run.kind p (run_of l.run));
+      → InternalAllocatorStep g.S.Storage.view (listed_as l.fn.run.kind p (run_of l.fn.run)) l.fn.file l.self l.file (listed_as l.fn.run.kind p (run_of l.run));
   hint : (p : Pending) → AllocatorInvariant g.S.Storage.view l.fn.self (listed_as l.fn.run.kind p (run_of l.fn.run)) l.fn.file → MayFree l.fn.run.kind l.fn.file → NoFreeBelowHint g.S.Storage.view l.fn.self l.fn.file → NoFreeBelowHint g.S.Storage.view l.self l.file;
   grows : l.fn.self.leaked_clusters ≤ l.self.leaked_clusters;
   unaligned : LeaksUnaligned l.fn.file.header.fields l.fn.self.reftable l.fn.self l.self (l.fn.run ∷ []) (l.run ∷ []);

@@ -1,7 +1,7 @@
 use Rattle.std.proofs.Common.{◌≡◌, ◌++◌, ◌∷◌, [], Ok, Err, refl, sym, ap, ◌∙◌, subst, append_assoc, arith}
 use Rattle.qcow2_metadata.specs.Header.{HeaderView}
 use Rattle.qcow2_laws.specs.CrashInvariant.{Pending}
-use Rattle.qcow2_alloc.specs.Allocation.{Listed, UnseenAllocatorStep, Frees}
+use Rattle.qcow2_alloc.specs.Allocation.{Listed, InternalAllocatorStep, Frees}
 use Rattle.qcow2_alloc.specs.FreeList.{with_listed, but}
 use Rattle.qcow2_alloc.specs.LowestRuns.{KeepsNoFreeBelowHint}
 use Rattle.qcow2_alloc.proofs.AllocationSteps.{handed_on, may_lower_still, is_sound_now}
@@ -55,7 +55,7 @@ returns-clause-sound g c = λ p sound may.
     record {
       gives = let q : Pending = with_listed p (c.args.file.now.free_list ++ c.args.taken.now) in
           let same : c.freeing.taken ≡ c.next_pending.new.self = (c.in_default.ensures.none refl).0 ∙ sym (c.in_default.ensures.none refl).1 in
-          subst (λ l. UnseenAllocatorStep g.S.Storage.view q c.args.file.now c.freeing.self c.freeing.file (with_listed p (c.freeing.file.free_list ++ l))) same (c.freeing.invariant.sound p sound may);
+          subst (λ l. InternalAllocatorStep g.S.Storage.view q c.args.file.now c.freeing.self c.freeing.file (with_listed p (c.freeing.file.free_list ++ l))) same (c.freeing.invariant.sound p sound may);
       leaks = c.freeing.invariant.leaks p sound may;
       hint = λ hint. c.freeing.invariant.hint p sound may hint;
     }

@@ -1,8 +1,8 @@
 use Rattle.std.proofs.Common.{◌≡◌, ◌+◌, ◌-◌, ◌<◌, inr, refl, sym, ◌∙◌, subst, arith}
 use Rattle.qcow2_laws.specs.Changes.{one_at}
 use Rattle.qcow2_laws.specs.CrashInvariant.{Pending}
-use Rattle.qcow2_alloc.specs.Allocation.{run_at, taken_as, Taken, UnseenAllocatorGrowth, GivesBackAs}
-use Rattle.qcow2_alloc.specs.ImageFile.{AllocatorInvariant, UnseenFileGrowth}
+use Rattle.qcow2_alloc.specs.Allocation.{run_at, taken_as, Taken, InternalAllocatorGrowth, GivesBackAs}
+use Rattle.qcow2_alloc.specs.ImageFile.{AllocatorInvariant, InternalFileGrowth}
 use Rattle.qcow2_alloc.specs.LowestRuns.{KeepsNoFreeBelowHint, KeepsUsedBut}
 use Rattle.qcow2_alloc.proofs.FileSteps.{file_step_on, on_then, on_interrupted_after}
 use Rattle.qcow2_alloc.proofs.AllocationSteps.{handed_on, is_sound_now}
@@ -12,7 +12,7 @@ use Rattle.qcow2_alloc.proofs.Steps.{fails_ok, fails_on, fails_since, table_step
 use Rattle.qcow2_alloc.proofs.allocation.Allocator.give_back.Goals as goal
 
 pub returns-then-n-eq0-clause-sound : goal.returns-then-n-eq0-clause-sound
-returns-then-n-eq0-clause-sound g c = λ p p' d start new_data b noted. subst (λ (r : Pending). UnseenAllocatorGrowth g.S.Storage.view p start c.args.self.now c.args.file.now r) (taken_none d p' c.args.first c.args.n c.if-n-eq0.true) b
+returns-then-n-eq0-clause-sound g c = λ p p' d start new_data b noted. subst (λ (r : Pending). InternalAllocatorGrowth g.S.Storage.view p start c.args.self.now c.args.file.now r) (taken_none d p' c.args.first c.args.n c.if-n-eq0.true) b
 
 pub lowering-init : goal.lowering-init
 lowering-init g c = record {
@@ -21,7 +21,7 @@ lowering-init g c = record {
   reftable = refl;
   sound = λ p p' d start new_data b.
       let whole : c.args.n ≡ c.args.first + c.args.n - c.args.first = omega arith in
-      let file_step = subst (λ m. UnseenFileGrowth g.S.Storage.view p (taken_as d p' (run_at c.args.first m)) start c.args.file.now) whole b.file_step in
+      let file_step = subst (λ m. InternalFileGrowth g.S.Storage.view p (taken_as d p' (run_at c.args.first m)) start c.args.file.now) whole b.file_step in
       record { file_step = file_step; reftable = b.reftable };
   leaks = λ p d sound. refl;
   hint = λ p d sound hint. hint;
@@ -35,7 +35,7 @@ returns-in_err-lower-clause-sound g c = λ p p' d start new_data b noted.
     let one = c.lowering.invariant.sound p p' d start new_data b in
     let q : Pending = (taken_as d p' (run_at (c.lowering.cluster + 1) ((c.args.first + c.args.n) - (c.lowering.cluster + 1)))) in
     let same = taken_first d p' c.lowering.cluster (c.args.first + c.args.n) c.lowering-test.true in
-    let moved = subst (λ (r : Pending). UnseenFileGrowth g.S.Storage.view p r start c.lowering.file) (sym same) one.file_step in
+    let moved = subst (λ (r : Pending). InternalFileGrowth g.S.Storage.view p r start c.lowering.file) (sym same) one.file_step in
     let low = (c.in_err-lower.ensures.sound q (Taken d) (record { sound = moved.sound; reftable = one.reftable }) tt).gives in
     handed_on (GivesBackAs g.S.Storage.view p start c.lower.new.self c.lower.new.file p') c.from_residual.result c.in_err-lower.field-0.0 c.from_residual.ensures (
       low.0,
@@ -52,7 +52,7 @@ lowering-preserved g c = record {
       let one = c.lowering.invariant.sound p p' d start new_data b in
       let q : Pending = (taken_as d p' (run_at (c.lowering.cluster + 1) ((c.args.first + c.args.n) - (c.lowering.cluster + 1)))) in
       let same = taken_first d p' c.lowering.cluster (c.args.first + c.args.n) c.lowering-test.true in
-      let moved = subst (λ (r : Pending). UnseenFileGrowth g.S.Storage.view p r start c.lowering.file) (sym same) one.file_step in
+      let moved = subst (λ (r : Pending). InternalFileGrowth g.S.Storage.view p r start c.lowering.file) (sym same) one.file_step in
       let low = (c.in_ok-lower.ensures.sound q (Taken d) (record { sound = moved.sound; reftable = one.reftable }) tt).gives in
       record {
         file_step = on_then g.S.Storage.view p (taken_as d q (one_at c.lowering.cluster)) q start c.lowering.file c.lower.new.file
@@ -84,7 +84,7 @@ lowering-preserved g c = record {
 
 pub returns-clause-sound : goal.returns-clause-sound
 returns-clause-sound g c = λ p p' d start new_data b noted.
-    subst (λ (r : Pending). UnseenAllocatorGrowth g.S.Storage.view p start c.lowering.self c.lowering.file r)
+    subst (λ (r : Pending). InternalAllocatorGrowth g.S.Storage.view p start c.lowering.self c.lowering.file r)
     (taken_none d p' c.lowering.cluster ((c.args.first + c.args.n) - c.lowering.cluster) (let past = c.lowering-test.false in omega arith)) (c.lowering.invariant.sound p p' d start new_data b)
 
 pub returns-in_err-lower-clause-hint : goal.returns-in_err-lower-clause-hint

@@ -5,7 +5,7 @@ use Rattle.qcow2_metadata.specs.EntryTable.{entry_count}
 use Rattle.qcow2_metadata.specs.Header.{HeaderView, counts_per_block, entries_per_cluster}
 use Rattle.qcow2_laws.specs.CrashInvariant.{Pending}
 use Rattle.qcow2_alloc.specs.declared.clusters_to_free.ClustersToFreeEntry.{ClustersToFreeEntry}
-use Rattle.qcow2_alloc.specs.Allocation.{UnseenAllocatorGrowth, RefusedGrowth, GrowsTable}
+use Rattle.qcow2_alloc.specs.Allocation.{InternalAllocatorGrowth, RefusedGrowth, GrowsTable}
 use Rattle.qcow2_alloc.specs.declared.error.ImageError.{ImageError}
 use Rattle.qcow2_alloc.specs.FreeList.{pending_then}
 use Rattle.qcow2_alloc.specs.Growing.{IsLeastLength, IsLongEnough}
@@ -62,7 +62,7 @@ returns-in-Ok-clause-sound g c = λ p sound.
           let old = c.args.file.now in
           let allocator_step = (c.in-Ok.ensures.sound p sound c.in_ok-table.ensures.entries c.in_ok-table.ensures.length.enough.whole).enters in
           let run = rw sound.reftable.cluster at c.in_ok-former.ensures.run in
-          subst (λ (l : List ClustersToFreeEntry). UnseenAllocatorGrowth view p old c.enter_reftable.new.self (record c.enter_reftable.new.file { free_list = l }) (pending_then p old.free_list l)) (sym list)
+          subst (λ (l : List ClustersToFreeEntry). InternalAllocatorGrowth view p old c.enter_reftable.new.self (record c.enter_reftable.new.file { free_list = l }) (pending_then p old.free_list l)) (sym list)
           (grown view p old c.enter_reftable.new.file c.enter_reftable.new.self c.args.self.now.reftable _ c.in_ok-former.former sound.sound sound.reftable c.in_ok-former.ensures.is_table sound.reftable.cluster run allocator_step old.free_list);
       leaks = c.enter_reftable.ensures.leaks p sound;
       made = let clone = c.in_ok-table.ensures.entries in
@@ -108,7 +108,7 @@ returns-in_err-table-clause-sound g c = λ p sound.
     record {
       grows = let same = sym (listed_after_same p old.free_list old.free_list refl) in
           handed_on (GrowsTable g.S.Storage.view p old c.args.self.now old (pending_then p old.free_list old.free_list)) c.from_residual.result c.in_err-table.field-0.0 c.from_residual.ensures
-          (inl (subst (λ (q : Pending). UnseenAllocatorGrowth g.S.Storage.view p old c.args.self.now old q) same (on_none g.S.Storage.view p old c.args.self.now sound)));
+          (inl (subst (λ (q : Pending). InternalAllocatorGrowth g.S.Storage.view p old c.args.self.now old q) same (on_none g.S.Storage.view p old c.args.self.now sound)));
       leaks = refl;
       made = handed_on (AllocatesOnly g.S.Storage.view (λ done k. 0) (IsAllocatedMetadata c.args.file.now.header.fields c.args.self.now.reftable c.args.self.now.reftable) c.args.file.now c.args.file.now) c.from_residual.result c.in_err-table.field-0.0 c.from_residual.ensures (inl ((λ k used. inl used), λ k. omega arith));
       uses = handed_on (KeepsUsed g.S.Storage.view c.args.file.now c.args.file.now) c.from_residual.result c.in_err-table.field-0.0 c.from_residual.ensures (inl (λ k used. used));
@@ -127,7 +127,7 @@ returns-in_err-former-clause-sound g c = λ p sound.
       grows = let old = c.args.file.now in
           let same = sym (listed_after_same p old.free_list old.free_list refl) in
           handed_on (GrowsTable g.S.Storage.view p old c.args.self.now old (pending_then p old.free_list old.free_list)) c.from_residual-in_err-former.result c.in_err-former.field-0.0 c.from_residual-in_err-former.ensures
-          (inl (subst (λ (q : Pending). UnseenAllocatorGrowth g.S.Storage.view p old c.args.self.now old q) same (on_none g.S.Storage.view p old c.args.self.now sound)));
+          (inl (subst (λ (q : Pending). InternalAllocatorGrowth g.S.Storage.view p old c.args.self.now old q) same (on_none g.S.Storage.view p old c.args.self.now sound)));
       leaks = refl;
       made = handed_on (AllocatesOnly g.S.Storage.view (λ done k. 0) (IsAllocatedMetadata c.args.file.now.header.fields c.args.self.now.reftable c.args.self.now.reftable) c.args.file.now c.args.file.now) c.from_residual-in_err-former.result c.in_err-former.field-0.0 c.from_residual-in_err-former.ensures (inl ((λ k used. inl used), λ k. omega arith));
       uses = handed_on (KeepsUsed g.S.Storage.view c.args.file.now c.args.file.now) c.from_residual-in_err-former.result c.in_err-former.field-0.0 c.from_residual-in_err-former.ensures (inl (λ k used. used));

@@ -2,7 +2,7 @@ use Rattle.std.proofs.Common.{◌≡◌, inl, inr, ◌+◌, ◌-◌, ◌/◌, �
 use Rattle.qcow2_metadata.specs.Header.{counts_per_block}
 use Rattle.qcow2_laws.specs.Changes.{one_at}
 use Rattle.qcow2_laws.specs.CrashInvariant.{Pending}
-use Rattle.qcow2_alloc.specs.Allocation.{Taken, taken_as, UnseenAllocatorStep, GivesBack}
+use Rattle.qcow2_alloc.specs.Allocation.{Taken, taken_as, InternalAllocatorStep, GivesBack}
 use Rattle.qcow2_alloc.specs.LowestRuns.{IsUsed}
 use Rattle.qcow2_alloc.specs.GrownTables.{with_run}
 use Rattle.qcow2_alloc.specs.Rooms.{lacks}
@@ -24,7 +24,7 @@ leaving-init g c = record {
   counts = c.rb_bits-bits.ensures.counts;
   sound = λ p start same b.
       let whole : c.args.n ≡ c.args.first + c.args.n - c.args.first = omega arith in
-      subst (λ m. UnseenAllocatorStep g.S.Storage.view p start c.args.self.now c.args.file.now (with_run p start.header.fields c.args.self.now.reftable c.args.first m)) whole b;
+      subst (λ m. InternalAllocatorStep g.S.Storage.view p start c.args.self.now c.args.file.now (with_run p start.header.fields c.args.self.now.reftable c.args.first m)) whole b;
   leaks = λ p start same b. refl;
   kept = λ p start same b k none used. used;
 }
@@ -49,7 +49,7 @@ leaving-preserved g c =
             ap (λ x. lacks t (at / counts_per_block x.fields)) same ∙ ap (λ n. lacks t (at / n)) c.leaving.invariant.counts ∙ ap (λ x. lacks x (at / 2 ^ c.rb_bits-bits.result)) (sym c.leaving.invariant.reftable)
             ∙ sym c.lacks_block.ensures ∙ w.if-not-lacks_block.true in
             let low = (w.in_ok-lower.ensures.sound (with_run p start.header.fields t (at + 1) (end - (at + 1))) (Taken false) (owed_now view p t at end start c.leaving.file w.lower.new.file c.leaving.self w.lower.new.self c.leaving-test.true has before) tt).gives in
-            of_equal (λ a f. UnseenAllocatorStep view p start a f (with_run p start.header.fields t (at + 1) (end - (at + 1)))) c.if-not-lacks_block.self w.lower.new.self c.if-not-lacks_block.file w.lower.new.file w.self-is w.file-is
+            of_equal (λ a f. InternalAllocatorStep view p start a f (with_run p start.header.fields t (at + 1) (end - (at + 1)))) c.if-not-lacks_block.self w.lower.new.self c.if-not-lacks_block.file w.lower.new.file w.self-is w.file-is
             (left_one view p t at end start c.leaving.file w.lower.new.file c.leaving.self w.lower.new.self c.leaving-test.true has before low);
         leaks = λ p start same b.
             let before = c.leaving.invariant.sound p start same b in
@@ -82,7 +82,7 @@ leaving-preserved g c =
             let none : lacks t (at / counts_per_block start.header.fields) ≡ true =
             ap (λ x. lacks t (at / counts_per_block x.fields)) same ∙ ap (λ n. lacks t (at / n)) c.leaving.invariant.counts ∙ ap (λ x. lacks x (at / 2 ^ c.rb_bits-bits.result)) (sym c.leaving.invariant.reftable)
             ∙ sym c.lacks_block.ensures ∙ w.if-not-lacks_block.false in
-            of_equal (λ a f. UnseenAllocatorStep view p start a f (with_run p start.header.fields t (at + 1) (end - (at + 1)))) c.if-not-lacks_block.self c.leaving.self c.if-not-lacks_block.file c.leaving.file w.self-is w.file-is
+            of_equal (λ a f. InternalAllocatorStep view p start a f (with_run p start.header.fields t (at + 1) (end - (at + 1)))) c.if-not-lacks_block.self c.leaving.self c.if-not-lacks_block.file c.leaving.file w.self-is w.file-is
             (left_none view p t at end start c.leaving.file c.leaving.self c.leaving-test.true none before);
         leaks = λ p start same b. ap (λ a. a.leaked_clusters) w.self-is ∙ c.leaving.invariant.leaks p start same b;
         kept = λ p start same b k none used. subst (λ f. IsUsed view f k) (sym w.file-is) (c.leaving.invariant.kept p start same b k none used);
@@ -132,7 +132,7 @@ returns-in_err-lower-clause-sound g c = λ p start same b.
 pub returns-clause-sound : goal.returns-clause-sound
 returns-clause-sound g c = λ p start same b.
     record {
-      gives = λ noted. subst (λ (r : Pending). UnseenAllocatorStep g.S.Storage.view p start c.leaving.self c.leaving.file r)
+      gives = λ noted. subst (λ (r : Pending). InternalAllocatorStep g.S.Storage.view p start c.leaving.self c.leaving.file r)
           (run_past start.header.fields c.args.self.now.reftable p c.leaving.cluster (c.args.first + c.args.n) (let past = c.leaving-test.false in omega arith)) (c.leaving.invariant.sound p start same b);
       leaks = c.leaving.invariant.leaks p start same b;
       kept = c.leaving.invariant.kept p start same b;

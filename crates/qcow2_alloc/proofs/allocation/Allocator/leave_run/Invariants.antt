@@ -1,7 +1,7 @@
 use Rattle.std.proofs.Common.{◌≡◌, ℕ, ◌+◌, ◌-◌, ◌^◌}
 use Rattle.qcow2_metadata.specs.Header.{counts_per_block}
 use Rattle.qcow2_laws.specs.CrashInvariant.{Pending}
-use Rattle.qcow2_alloc.specs.Allocation.{run_at, SameLeaks, UnseenAllocatorStep}
+use Rattle.qcow2_alloc.specs.Allocation.{run_at, SameLeaks, InternalAllocatorStep}
 use Rattle.qcow2_alloc.specs.Faults.{faults_of}
 use Rattle.qcow2_alloc.specs.GrownTables.{with_run}
 use Rattle.qcow2_alloc.specs.declared.image_file.ImageFile.{ImageFile}
@@ -17,9 +17,9 @@ invariant-leaving g l = record {
   reftable : l.self.reftable ≡ l.fn.self.reftable;
   first : SearchStays l.fn.self l.self;
   counts : counts_per_block l.fn.file.header.fields ≡ 2 ^ l.bits;
-  sound : (p : Pending) (start : ImageFile g.row.S.Denot) → start.header ≡ l.fn.file.header → UnseenAllocatorStep g.S.Storage.view p start l.fn.self l.fn.file (with_run p start.header.fields l.fn.self.reftable l.fn.first l.fn.n)
-      → UnseenAllocatorStep g.S.Storage.view p start l.self l.file (with_run p start.header.fields l.fn.self.reftable l.cluster (l.fn.first + l.fn.n - l.cluster));
-  leaks : (p : Pending) (start : ImageFile g.row.S.Denot) → start.header ≡ l.fn.file.header → UnseenAllocatorStep g.S.Storage.view p start l.fn.self l.fn.file (with_run p start.header.fields l.fn.self.reftable l.fn.first l.fn.n) → SameLeaks l.fn.self l.self;
-  kept : (p : Pending) (start : ImageFile g.row.S.Denot) → start.header ≡ l.fn.file.header → UnseenAllocatorStep g.S.Storage.view p start l.fn.self l.fn.file (with_run p start.header.fields l.fn.self.reftable l.fn.first l.fn.n)
+  sound : (p : Pending) (start : ImageFile g.row.S.Denot) → start.header ≡ l.fn.file.header → InternalAllocatorStep g.S.Storage.view p start l.fn.self l.fn.file (with_run p start.header.fields l.fn.self.reftable l.fn.first l.fn.n)
+      → InternalAllocatorStep g.S.Storage.view p start l.self l.file (with_run p start.header.fields l.fn.self.reftable l.cluster (l.fn.first + l.fn.n - l.cluster));
+  leaks : (p : Pending) (start : ImageFile g.row.S.Denot) → start.header ≡ l.fn.file.header → InternalAllocatorStep g.S.Storage.view p start l.fn.self l.fn.file (with_run p start.header.fields l.fn.self.reftable l.fn.first l.fn.n) → SameLeaks l.fn.self l.self;
+  kept : (p : Pending) (start : ImageFile g.row.S.Denot) → start.header ≡ l.fn.file.header → InternalAllocatorStep g.S.Storage.view p start l.fn.self l.fn.file (with_run p start.header.fields l.fn.self.reftable l.fn.first l.fn.n)
       → (k : ℕ) → run_at l.fn.first l.fn.n k ≡ 0 → IsUsed g.S.Storage.view l.fn.file k → IsUsed g.S.Storage.view l.file k;
 }

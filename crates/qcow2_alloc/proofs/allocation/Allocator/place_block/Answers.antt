@@ -17,7 +17,7 @@ use Rattle.qcow2_alloc.specs.declared.allocation.Allocator.{Allocator}
 use Rattle.qcow2_alloc.specs.declared.error.ImageError.{ImageError}
 use Rattle.qcow2_alloc.specs.declared.image_storage.ImageStorage.{ImageStorage}
 use Rattle.qcow2_alloc.specs.declared.image_file.ImageFile.{ImageFile}
-use Rattle.qcow2_alloc.specs.Allocation.{placing, first_counts, HasPlaceFor, RefblockAt, UnseenAllocatorStep, HoldsBlock, PlacesBlock}
+use Rattle.qcow2_alloc.specs.Allocation.{placing, first_counts, HasPlaceFor, RefblockAt, InternalAllocatorStep, HoldsBlock, PlacesBlock}
 use Rattle.qcow2_alloc.specs.ImageError.{of_storage, IsFault}
 use Rattle.qcow2_alloc.specs.ImageFile.{view_in, AllocatorInvariant}
 use Rattle.qcow2_alloc.specs.ImageStorage.{storage_of, is_changed_of}
@@ -42,7 +42,7 @@ returns-in_err-write_block-clause-sound g c = λ p sound place.
 
 -- the last step: the entry is written, or is not
 module _ {S : Type 0} (view : S → StorageView) (d : Bool) (p : Pending) (range at : ℕ) (old file : ImageFile S) (t : Allocator) (t' : EntryTableView) (storage : ImageStorage S) (asked : S) (block : RefBlockView)
-    (result : Result (Unit {0}) StorageError) (before : UnseenAllocatorStep view (placing d p at) old t file (placing d p at) × HoldsBlock view (placing d p at) old t file block at) (counted : AreClean (refblocks file.caches)) (first : BlocksMayGo (order_of file.caches) (l2_tables file.caches))
+    (result : Result (Unit {0}) StorageError) (before : InternalAllocatorStep view (placing d p at) old t file (placing d p at) × HoldsBlock view (placing d p at) old t file block at) (counted : AreClean (refblocks file.caches)) (first : BlocksMayGo (order_of file.caches) (l2_tables file.caches))
     (place : HasPlaceFor d file.header.fields t.reftable range at) (within : range < entry_count t.reftable)
     (rest : t' ≡ record t.reftable { bytes = t'.bytes }) (enters : ChangesEntry t.reftable.bytes t'.bytes range (at * 2 ^ t.reftable.cluster_bits)) (offset : block_offset (entry_at t'.bytes range) ≡ at * 2 ^ t.reftable.cluster_bits)
     (fits : entry_at t'.bytes range < 2 ^ 64) (whole : IsRefBlock block) (format : IsBlockOf file.header.fields block) (counts : (i : ℕ) → count_at block i ≡ first_counts d i) (same : asked ≡ storage_of file.storage)
@@ -93,7 +93,7 @@ module _ {S : Type 0} (view : S → StorageView) (d : Bool) (p : Pending) (range
     })),
   )
 
-  is_placed : (x : Unit {0}) → result ≡ Ok x → UnseenAllocatorStep view q old (record t { reftable = t' }) named p × RefblockAt view named range (Some at)
+  is_placed : (x : Unit {0}) → result ≡ Ok x → InternalAllocatorStep view q old (record t { reftable = t' }) named p × RefblockAt view named range (Some at)
   is_placed x done =
       let so = named_so view d p range at file t.reftable t' block now.sound now.reftable counted first there within rest entered at_place fits whole format counts new_data before.1.stands storage result calls_now changes x done in
       let some : 0 < at * cluster_size h = real view d p range at file t.reftable t' block now.sound now.reftable counted first there within rest entered at_place fits whole format counts new_data before.1.stands in (

@@ -9,7 +9,7 @@ use Rattle.qcow2_laws.specs.Caches.{AreClean}
 use Rattle.qcow2_laws.specs.Tops.{IsSameOutside}
 use Rattle.qcow2_metadata.specs.Bytes.{one_if}
 use Rattle.qcow2_metadata.specs.TableBytes.{ChangesEntry, HasPlace}
-use Rattle.qcow2_alloc.specs.Allocation.{run_at, NamesLacking, StandAt, UnseenAllocatorStep}
+use Rattle.qcow2_alloc.specs.Allocation.{run_at, NamesLacking, StandAt, InternalAllocatorStep}
 use Rattle.qcow2_alloc.specs.GrownTables.{with_run}
 use Rattle.qcow2_alloc.specs.ImageFile.{contents_in}
 use Rattle.qcow2_alloc.specs.MetadataCaches.{l2_tables, refblocks, rb_at}
@@ -139,7 +139,7 @@ placing-preserved g c =
             let gone = ap (λ m. rb_at w.write_new_block.new.file.caches m) (sym at_same) ∙ wrote.3 in
             let others = λ (k : ℕ) (other : k ≡ c.placing.at → ⊥). w.write_new_block.ensures.others k (λ e. other (e ∙ at_same)) in
             let open_here = sym opens_at ∙ w.if-opens_range.true in
-            of_three (λ f x m. UnseenAllocatorStep view q old a f q × EntersSo h t c.args.table.now x first (m - first) (c.placing.cluster + 1) × Counting h (contents_in view f) t x first n × ((k : ℕ) → 0 < run_at first (m - first) k → rb_at f.caches k ≡ None))
+            of_three (λ f x m. InternalAllocatorStep view q old a f q × EntersSo h t c.args.table.now x first (m - first) (c.placing.cluster + 1) × Counting h (contents_in view f) t x first n × ((k : ℕ) → 0 < run_at first (m - first) k → rb_at f.caches k ≡ None))
             c.if-opens_range.file w.write_new_block.new.file c.if-opens_range.table w.enter_refblock.new.self c.if-opens_range.at (c.placing.at + 1) w.file-is w.table-is w.at-is (
               allocator_step_then view q q old c.placing.file w.write_new_block.new.file a a before.0 wrote.0,
               room_enters view h sizes t c.args.table.now c.placing.table w.enter_refblock.new.self c.placing.file w.write_new_block.new.file first n c.placing.at c.placing.cluster c.rb_bits-bits.result w.in_ok-block.block
@@ -168,7 +168,7 @@ placing-preserved g c =
             let q = with_run p c.args.file.now.header.fields c.args.self.now.reftable c.args.room.first (room_length c.args.room) in
             let before = inv.sound p sound may longer in
             let sizes = file_sizes view q old sound.sound in
-            of_three (λ f x m. UnseenAllocatorStep view q old a f q × EntersSo h t c.args.table.now x first (m - first) (c.placing.cluster + 1) × Counting h (contents_in view f) t x first n × ((k : ℕ) → 0 < run_at first (m - first) k → rb_at f.caches k ≡ None))
+            of_three (λ f x m. InternalAllocatorStep view q old a f q × EntersSo h t c.args.table.now x first (m - first) (c.placing.cluster + 1) × Counting h (contents_in view f) t x first n × ((k : ℕ) → 0 < run_at first (m - first) k → rb_at f.caches k ≡ None))
             c.if-opens_range.file c.placing.file c.if-opens_range.table c.placing.table c.if-opens_range.at c.placing.at w.file-is w.table-is w.at-is
             (before.0, enters_none h t c.args.table.now c.placing.table first (c.placing.at - first) c.placing.cluster from sizes.counts before.1 (sym opens_at ∙ w.if-opens_range.false), before.2, before.3);
       }

@@ -2,7 +2,7 @@ use Rattle.std.proofs.Common.{◌≡◌, ℕ, ◌+◌, ◌-◌, ◌^◌, ◌<◌
 use Rattle.qcow2_metadata.specs.Header.{counts_per_block}
 use Rattle.qcow2_laws.specs.Caches.{AreClean, BlocksMayGo}
 use Rattle.qcow2_laws.specs.CrashInvariant.{Pending}
-use Rattle.qcow2_alloc.specs.Allocation.{run_at, NamesLacking, UnseenAllocatorStep}
+use Rattle.qcow2_alloc.specs.Allocation.{run_at, NamesLacking, InternalAllocatorStep}
 use Rattle.qcow2_alloc.specs.Faults.{faults_of}
 use Rattle.qcow2_alloc.specs.GrownTables.{with_run}
 use Rattle.qcow2_alloc.specs.ImageFile.{contents_in, AllocatorInvariant}
@@ -30,7 +30,7 @@ invariant-placing g l = record {
   placed : l.at - l.fn.room.first ≡ opened l.fn.self.reftable (counts_per_block l.fn.file.header.fields) l.fn.room.first (l.cluster - l.fn.room.first);
   sound : (p : Pending) → AllocatorInvariant g.S.Storage.view l.fn.self (with_run p l.fn.file.header.fields l.fn.self.reftable l.fn.room.first (room_length l.fn.room)) l.fn.file
       → BlocksMayGo (order_of l.fn.file.caches) (l2_tables l.fn.file.caches) → IsLonger l.fn.file.header.fields l.fn.self.reftable l.fn.table l.fn.room.clusters
-      → UnseenAllocatorStep g.S.Storage.view (with_run p l.fn.file.header.fields l.fn.self.reftable l.fn.room.first (room_length l.fn.room)) l.fn.file l.fn.self l.file (with_run p l.fn.file.header.fields l.fn.self.reftable l.fn.room.first (room_length l.fn.room))
+      → InternalAllocatorStep g.S.Storage.view (with_run p l.fn.file.header.fields l.fn.self.reftable l.fn.room.first (room_length l.fn.room)) l.fn.file l.fn.self l.file (with_run p l.fn.file.header.fields l.fn.self.reftable l.fn.room.first (room_length l.fn.room))
       × EntersSo l.fn.file.header.fields l.fn.self.reftable l.fn.table l.table l.fn.room.first (l.at - l.fn.room.first) l.cluster
       × Counting l.fn.file.header.fields (contents_in g.S.Storage.view l.file) l.fn.self.reftable l.table l.fn.room.first (room_length l.fn.room)
       × ((c : ℕ) → 0 < run_at l.fn.room.first (l.at - l.fn.room.first) c → rb_at l.file.caches c ≡ None);

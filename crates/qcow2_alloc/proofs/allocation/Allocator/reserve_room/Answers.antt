@@ -1,7 +1,7 @@
 use Rattle.std.proofs.Common.{false, ◌≡◌, inl, ◌+◌, ◌/◌, ◌^◌, refl, sym, ap, ◌∙◌, subst, arith}
 use Rattle.qcow2_metadata.specs.Header.{counts_per_block}
 use Rattle.qcow2_laws.specs.CrashInvariant.{Pending}
-use Rattle.qcow2_alloc.specs.Allocation.{UnseenAllocatorStep}
+use Rattle.qcow2_alloc.specs.Allocation.{InternalAllocatorStep}
 use Rattle.qcow2_alloc.specs.GrownTables.{counted_run, with_run}
 use Rattle.qcow2_alloc.specs.Rooms.{lacks, opens, ReachesRoom}
 use Rattle.qcow2_alloc.proofs.AllocationSteps.{handed_on, allocator_step_none, is_sound_now}
@@ -20,7 +20,7 @@ reaching-init g c = record {
   counts = c.rb_bits-bits.ensures.counts;
   bits = let high = c.rb_bits-bits.ensures.high in omega (arith, high);
   sound = λ p sound.
-      subst (λ (r : Pending). UnseenAllocatorStep g.S.Storage.view p c.args.file.now c.args.self.now c.args.file.now r)
+      subst (λ (r : Pending). InternalAllocatorStep g.S.Storage.view p c.args.file.now c.args.self.now c.args.file.now r)
       (sym (run_none c.args.file.now.header.fields c.args.self.now.reftable p c.args.first 0 (λ k. counted_few c.args.file.now.header.fields c.args.self.now.reftable c.args.first 0 k refl)))
       (allocator_step_none g.S.Storage.view p c.args.file.now c.args.self.now sound);
   noted = inl (λ k. counted_few c.args.file.now.header.fields c.args.self.now.reftable c.args.first 0 k refl);

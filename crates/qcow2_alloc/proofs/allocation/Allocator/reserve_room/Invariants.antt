@@ -1,7 +1,7 @@
 use Rattle.std.proofs.Common.{◌≡◌, ◌⊎◌, ℕ, ◌+◌, ◌-◌, ◌^◌, ◌<◌, ◌≤◌, IsTrue}
 use Rattle.qcow2_metadata.specs.Header.{counts_per_block}
 use Rattle.qcow2_laws.specs.CrashInvariant.{Pending}
-use Rattle.qcow2_alloc.specs.Allocation.{UnseenAllocatorStep}
+use Rattle.qcow2_alloc.specs.Allocation.{InternalAllocatorStep}
 use Rattle.qcow2_alloc.specs.Faults.{faults_of}
 use Rattle.qcow2_alloc.specs.GrownTables.{counted_run, with_run}
 use Rattle.qcow2_alloc.specs.ImageFile.{AllocatorInvariant}
@@ -17,7 +17,7 @@ invariant-reaching g l = record {
   same : l.self ≡ l.fn.self;
   counts : counts_per_block l.fn.file.header.fields ≡ 2 ^ l.bits;
   bits : l.bits < 64;
-  sound : (p : Pending) → AllocatorInvariant g.S.Storage.view l.fn.self p l.fn.file → UnseenAllocatorStep g.S.Storage.view p l.fn.file l.self l.file (with_run p l.fn.file.header.fields l.fn.self.reftable l.fn.first l.taken);
+  sound : (p : Pending) → AllocatorInvariant g.S.Storage.view l.fn.self p l.fn.file → InternalAllocatorStep g.S.Storage.view p l.fn.file l.self l.file (with_run p l.fn.file.header.fields l.fn.self.reftable l.fn.first l.taken);
   noted : ((k : ℕ) → counted_run l.fn.file.header.fields l.fn.self.reftable l.fn.first l.taken k ≡ 0) ⊎ IsTrue l.file.caches.is_changed;
   blocks : l.blocks ≡ opened l.fn.self.reftable (counts_per_block l.fn.file.header.fields) l.fn.first l.taken;
   within : l.fn.first + l.taken ≤ l.fn.end;

@@ -1,7 +1,7 @@
 use Rattle.std.proofs.Common.{◌≡◌, ◌-◌, ◌*◌, ◌<◌, ◌≤◌}
 use Rattle.qcow2_metadata.specs.Header.{counts_per_block}
 use Rattle.qcow2_laws.specs.CrashInvariant.{Pending}
-use Rattle.qcow2_alloc.specs.Allocation.{KeepsEntries, SameLeaks, UnseenAllocatorStep}
+use Rattle.qcow2_alloc.specs.Allocation.{KeepsEntries, SameLeaks, InternalAllocatorStep}
 use Rattle.qcow2_alloc.specs.Faults.{faults_of}
 use Rattle.qcow2_alloc.specs.ImageFile.{AllocatorInvariant}
 use Rattle.qcow2_alloc.specs.LowestRuns.{NoFreeBelowHint}
@@ -16,7 +16,7 @@ invariant-search g l = record {
   entries : KeepsEntries (λ k. l.fn.end ≤ k * counts_per_block l.fn.file.header.fields) l.fn.self.reftable l.self.reftable;
   above : 0 < l.self.first_free_cluster;
   leaks : SameLeaks l.fn.self l.self;
-  sound : (p : Pending) → AllocatorInvariant g.S.Storage.view l.fn.self p l.fn.file → UnseenAllocatorStep g.S.Storage.view p l.fn.file l.self l.file p;
+  sound : (p : Pending) → AllocatorInvariant g.S.Storage.view l.fn.self p l.fn.file → InternalAllocatorStep g.S.Storage.view p l.fn.file l.self l.file p;
   hint : (p : Pending) → AllocatorInvariant g.S.Storage.view l.fn.self p l.fn.file → NoFreeBelowHint g.S.Storage.view l.fn.self l.fn.file → NoFreeBelowHint g.S.Storage.view l.self l.file;
 }
 

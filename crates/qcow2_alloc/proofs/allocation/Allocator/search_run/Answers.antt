@@ -5,7 +5,7 @@ use Rattle.qcow2_laws.specs.CrashInvariant.{Pending}
 use Rattle.qcow2_alloc.specs.LowestRuns.{KeepsNoFreeBelowHint, IsUsed}
 use Rattle.qcow2_alloc.specs.declared.allocation.Allocator.{Allocator}
 use Rattle.qcow2_alloc.proofs.Hints.{hint_header, lowest_behind, lowest_first, lowest_passed, lowest_stays, not_broken, used_stays}
-use Rattle.qcow2_alloc.specs.Allocation.{LacksBlock, run_at, UnseenAllocatorGrowth, TakesSomeRun, RefusedGrowth}
+use Rattle.qcow2_alloc.specs.Allocation.{LacksBlock, run_at, InternalAllocatorGrowth, TakesSomeRun, RefusedGrowth}
 use Rattle.qcow2_alloc.specs.FreeList.{pending_then}
 use Rattle.qcow2_alloc.proofs.AllocationSteps.{handed_on, may_still, on_none, on_of, leaves_as, is_sound_on}
 use Rattle.qcow2_alloc.proofs.ListedAfter.{lists_same, lists_then, listed_after_same, then_none, then_taken, then_leaves, header_bits}
@@ -33,7 +33,7 @@ search-init g c = record {
   faults = refl;
   step = step_none;
   sound = λ p sound.
-      subst (λ (r : Pending). UnseenAllocatorGrowth g.S.Storage.view p c.args.file.now (record c.args.self.now { first_free_cluster = c.max-self.result }) c.args.file.now r) (sym (listed_after_same p c.args.file.now.free_list c.args.file.now.free_list refl))
+      subst (λ (r : Pending). InternalAllocatorGrowth g.S.Storage.view p c.args.file.now (record c.args.self.now { first_free_cluster = c.max-self.result }) c.args.file.now r) (sym (listed_after_same p c.args.file.now.free_list c.args.file.now.free_list refl))
       (on_none g.S.Storage.view p c.args.file.now (record c.args.self.now { first_free_cluster = c.max-self.result }) (record { sound = sound.sound; reftable = sound.reftable }));
   above = let first = c.max-self.ensures in omega (arith, first);
   behind = let first = c.max-self.ensures in omega (arith, first);
@@ -62,7 +62,7 @@ search-preserved g c = record {
       let r : Pending = pending_then p c.args.file.now.free_list c.try_run.new.file.free_list in
       let there = is_sound_on g.S.Storage.view p r c.args.file.now c.try_run.new.file c.try_run.new.self mid in
       then_none g.S.Storage.view p c.args.file.now c.try_run.new.file c.next_free_from.new.file c.try_run.new.self c.next_free_from.new.self lists (lists_same c.try_run.new.file.free_list c.next_free_from.new.file.free_list c.next_free_from.ensures.step.list) mid
-      (subst (λ (s : Pending). UnseenAllocatorGrowth g.S.Storage.view r c.try_run.new.file c.next_free_from.new.self c.next_free_from.new.file s) (sym (listed_after_same r c.try_run.new.file.free_list c.next_free_from.new.file.free_list c.next_free_from.ensures.step.list))
+      (subst (λ (s : Pending). InternalAllocatorGrowth g.S.Storage.view r c.try_run.new.file c.next_free_from.new.self c.next_free_from.new.file s) (sym (listed_after_same r c.try_run.new.file.free_list c.next_free_from.new.file.free_list c.next_free_from.ensures.step.list))
       (on_of g.S.Storage.view r r c.try_run.new.file c.next_free_from.new.file c.next_free_from.new.self (c.in_ok-first.ensures.sound r there).0));
   leaks = λ p sound.
       let q : Pending = pending_then p c.args.file.now.free_list c.search.file.free_list in

@@ -1,6 +1,6 @@
 use Rattle.std.proofs.Common.{◌+◌, inr, refl, sym, subst, arith}
 use Rattle.qcow2_laws.specs.CrashInvariant.{Pending}
-use Rattle.qcow2_alloc.specs.Allocation.{UnseenAllocatorGrowth}
+use Rattle.qcow2_alloc.specs.Allocation.{InternalAllocatorGrowth}
 use Rattle.qcow2_alloc.proofs.AllocationSteps.{on_none}
 use Rattle.qcow2_alloc.proofs.ListedAfter.{listed_after_same}
 use Rattle.qcow2_alloc.proofs.Steps.{fails_ok, step_none}
@@ -18,7 +18,7 @@ returns-then-room-n-clause-sound g c = λ p d sound may.
     record {
       takes = (
         λ all. absurd (omega (arith, less, all)),
-        λ some. subst (λ (r : Pending). UnseenAllocatorGrowth g.S.Storage.view p c.args.file.now c.args.self.now c.args.file.now r) (sym (listed_after_same p c.args.file.now.free_list c.args.file.now.free_list refl)) (on_none g.S.Storage.view p c.args.file.now c.args.self.now sound),
+        λ some. subst (λ (r : Pending). InternalAllocatorGrowth g.S.Storage.view p c.args.file.now c.args.self.now c.args.file.now r) (sym (listed_after_same p c.args.file.now.free_list c.args.file.now.free_list refl)) (on_none g.S.Storage.view p c.args.file.now c.args.self.now sound),
       );
       leaks = refl;
       uses = λ k used. used;

@@ -1,5 +1,5 @@
 use Rattle.qcow2_image.proofs.Prepare.Lacked.{goes_step, limits_left, left_taken}
-use Rattle.qcow2_image.specs.UnseenSteps.{UnseenFillingStep, pending_with_listed}
+use Rattle.qcow2_image.specs.InternalSteps.{InternalFillingStep, pending_with_listed}
 use Rattle.std.proofs.Common.{◌≡◌, subst, refl, rules, arith, inl}
 use Rattle.std.specs.Prelude.{IfSome, Some, IfErr}
 use Rattle.qcow2_alloc.specs.Allocation.{Allocates}
@@ -52,7 +52,7 @@ returns-clause-limit g c = λ p out sound holds.
     let new = record old { file = file; allocator = Some c.allocate_data.new.self } in
     let one : c.new.result ≡ 1 = c.new.ensures in
     let own = subst (λ x. IfSome x (IsAllocatorOf view old.file)) c.in-Some.is sound.reftable in
-    limits_left view (λ mid. UnseenFillingStep view g.F.BackingDisk.backing p (pending_with_listed p old mid) old mid out) old new c.allocate_data.result
+    limits_left view (λ mid. InternalFillingStep view g.F.BackingDisk.backing p (pending_with_listed p old mid) old mid out) old new c.allocate_data.result
     (left_taken view g.F.BackingDisk.backing out p old new c.allocate_data.result (returns-clause-takes g c p out sound holds)) (goes_step (returns-clause-step g c))
     (λ full. record { allocator = c.allocate_data.new.self; is = refl; lacks = inl (1, inl refl, full) })
     (subst (λ n. IfErr c.allocate_data.result (IsFaultOr (HasNoPlace (IsUsed view file) file.header.fields c.allocate_data.new.self n))) one

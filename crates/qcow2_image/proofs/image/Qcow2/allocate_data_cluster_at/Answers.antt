@@ -1,5 +1,5 @@
 use Rattle.qcow2_image.proofs.Prepare.Lacked.{goes_step, limits_left, left_taken_at, cause_within}
-use Rattle.qcow2_image.specs.UnseenSteps.{UnseenFillingStep, pending_with_listed}
+use Rattle.qcow2_image.specs.InternalSteps.{InternalFillingStep, pending_with_listed}
 use Rattle.qcow2_metadata.specs.Header.{counts_per_block, HeaderView}
 use Rattle.std.proofs.Common.{ap, sym, subst, refl, rules, ◌/◌, ◌<◌, inr}
 use Rattle.std.specs.Prelude.{IfSome, Some, ◌^◌}
@@ -48,7 +48,7 @@ returns-clause-limit g c = λ p out sound holds.
     let own = subst (λ x. IfSome x (IsAllocatorOf view old.file)) c.in-Some.is sound.reftable in
     let took = c.allocate_data_at.ensures.sound p (record { sound = sound.file; reftable = own.reftable }) in
     let h = ap (λ (v : HeaderView). counts_per_block v.fields) c.allocate_data_at.ensures.step.header in
-    limits_left view (λ mid. UnseenFillingStep view g.F.BackingDisk.backing p (pending_with_listed p old mid) old mid out) old new c.allocate_data_at.result
+    limits_left view (λ mid. InternalFillingStep view g.F.BackingDisk.backing p (pending_with_listed p old mid) old mid out) old new c.allocate_data_at.result
     (left_taken_at view g.F.BackingDisk.backing out p old new c.args.cluster c.allocate_data_at.result (returns-clause-takes g c p out sound holds)) (goes_step (returns-clause-step g c))
     (λ cant. record { allocator = c.allocate_data_at.new.self; is = refl; lacks = inr (c.args.cluster, subst (λ n. c.args.cluster / n < 2 ^ 20) (sym h) cant.1, cant.0) })
     (cause_within _ _ c.allocate_data_at.result (took.limit own.hint) took.within)

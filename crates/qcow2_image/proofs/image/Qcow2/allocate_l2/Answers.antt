@@ -3,7 +3,7 @@ use Rattle.qcow2_alloc.proofs.Steps.{told_of}
 use Rattle.qcow2_image.proofs.image.Qcow2.allocate_l2.Goals as goal
 use Rattle.std.proofs.Common.{refl, sym, ◌∙◌, subst, ◌<◌, inl, inr, ap, arith, rules}
 use Rattle.std.specs.Prelude.{Err, IfSome, Some, false}
-use Rattle.qcow2_alloc.specs.Allocation.{run_at, taken_as, UnseenAllocatorGrowth}
+use Rattle.qcow2_alloc.specs.Allocation.{run_at, taken_as, InternalAllocatorGrowth}
 use Rattle.qcow2_alloc.specs.FreeList.{pending_then}
 use Rattle.qcow2_alloc.specs.KeptAllocators.{IsAllocatorOf}
 use Rattle.qcow2_alloc.proofs.AllocationSteps.{handed_on}
@@ -41,7 +41,7 @@ returns-in-Ok-clause-sound g c = λ p out sound may says.
     let took = found.takes in
     let hint = found.hint own.hint in
     let since = pending_then p old.file.free_list file.free_list in
-    let allocator_step = subst (λ n. UnseenAllocatorGrowth view p old.file a file (taken_as false since (run_at n c.new.result))) (sym c.cluster-cluster.ensures) took.2 in
+    let allocator_step = subst (λ n. InternalAllocatorGrowth view p old.file a file (taken_as false since (run_at n c.new.result))) (sym c.cluster-cluster.ensures) took.2 in
     record {
       met = search rules;
       limit = search rules;
@@ -66,7 +66,7 @@ returns-in-Err-clause-sound g c = λ p out sound may says.
     let took = found.takes in
     let hint = found.hint own.hint in
     let since = pending_then p old.file.free_list file.free_list in
-    let allocator_step = subst (λ n. UnseenAllocatorGrowth view p old.file a file (taken_as false since (run_at n c.new.result))) (sym c.cluster-cluster.ensures) took.2 in
+    let allocator_step = subst (λ n. InternalAllocatorGrowth view p old.file a file (taken_as false since (run_at n c.new.result))) (sym c.cluster-cluster.ensures) took.2 in
     let keeps = keeps_taken view below out p old sound file a marks list leaks c.cluster-cluster.result c.new.result c.new.ensures allocator_step hint in
     let known = says_still view below out p (with_new_tables since (one_at c.cluster-cluster.result)) old taken c.args.index c.args.table keeps says in
     let host = subst (λ n. IsHostCluster n c.cluster-cluster.result) (sym (ap (λ (v : HeaderView). v.fields.cluster_bits) c.allocate_meta.ensures.step.header))

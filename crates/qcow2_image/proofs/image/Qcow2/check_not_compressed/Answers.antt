@@ -1,6 +1,6 @@
 use Rattle.std.proofs.Common.{◌≡◌, ◌⊎◌, inl, sym, ◌∙◌, subst, is_some}
 use Rattle.qcow2_disk.specs.Found.{IsCompressedAt, IsFoundIn, IsFound as IsFoundOf}
-use Rattle.qcow2_laws.proofs.Unseen.{known_header}
+use Rattle.qcow2_laws.proofs.Internal.{known_header}
 use Rattle.qcow2_alloc.specs.ImageFile.{known_in, state_in}
 use Rattle.qcow2_image.specs.Found.{found_kind}
 use Rattle.qcow2_image.proofs.Map.Special.{found_special, found_plain}

@@ -8,7 +8,7 @@ use Rattle.std.specs.Prelude.{Ok, Err, IfErr, IfOk, IsTrue, Result}
 use Rattle.qcow2_alloc.specs.declared.error.ImageError.TheVariants.{Memory, TablePrepared}
 use Rattle.qcow2_image.specs.Backings.{HasPinnedMapping}
 use Rattle.qcow2_image.specs.NewTables.{IsFaultOrLacksTable}
-use Rattle.qcow2_image.specs.CallParts.{RefusedCall, EndsFreeing, UnseenCall}
+use Rattle.qcow2_image.specs.CallParts.{RefusedCall, EndsFreeing, InternalCall}
 use Rattle.qcow2_image.specs.Clearing.{Clears, ClearsOrRefuses, IsUnderMapping, RefusesClearing, from_in, to_in}
 use Rattle.qcow2_image.specs.declared.image.Qcow2.{Qcow2}
 use Rattle.qcow2_image.specs.Image.{is_failed, has_noted_change}
@@ -99,7 +99,7 @@ returns-in_err-mark_failure-clause-fails g c =
     let number = c.clear_between-cleared.ensures.step.stays.image.number ∙ c.begin.ensures.stays.image.number in
     let may = subst (λ (r : Result _ _). MayMarkBy r (is_failed entries) marked) done (may_mark c.clear_between-cleared.new.self c.mark_failure.new.self c.clear_between-cleared.result c.mark_failure.ensures.marks) in
     let memory = subst (λ (r : Result _ _). IfErr r (λ x. x ≡ Memory → IsTrue (has_noted_change entries) → IsTrue marked)) done (marks_memory c.clear_between-cleared.new.self c.mark_failure.new.self c.clear_between-cleared.new.self c.clear_between-cleared.result c.mark_failure.ensures.marks (ap (λ (i : Qcow2 _ _). i.file) c.mark_failure.ensures.rest)) in
-    let refuses : (out : _) → UnseenCall view below old begun out → RefusedCall view below begun entries out e = λ out call. subst (ClearsOrRefuses view below how c.in_ok-from.from c.in_ok-from.to begun entries out) done (c.clear_between-cleared.ensures.clears out call.sound (b.whole out call)) in
+    let refuses : (out : _) → InternalCall view below old begun out → RefusedCall view below begun entries out e = λ out call. subst (ClearsOrRefuses view below how c.in_ok-from.from c.in_ok-from.to begun entries out) done (c.clear_between-cleared.ensures.clears out call.sound (b.whole out call)) in
     let bad : Result (Unit {0}) ImageError = Err e in
     handed_on (λ (r : Result (ℕ × ℕ) ImageError). FailsToClear view below how old new offset n r) c.from_residual-in_err-mark_failure.result e c.from_residual-in_err-mark_failure.ensures (record {
       early = not_early view below old how offset n c.check_clear.result c.check_clear.ensures.refusal c.in_ok-from.from c.in_ok-from.to c.in_ok-from.was new (Err e);
@@ -147,7 +147,7 @@ returns-in_err-mark_failure-clause-sound g c =
     let number = c.clear_between-cleared.ensures.step.stays.image.number ∙ c.begin.ensures.stays.image.number in
     let may = subst (λ (r : Result _ _). MayMarkBy r (is_failed entries) marked) done (may_mark c.clear_between-cleared.new.self c.mark_failure.new.self c.clear_between-cleared.result c.mark_failure.ensures.marks) in
     let memory = subst (λ (r : Result _ _). IfErr r (λ x. x ≡ Memory → IsTrue (has_noted_change entries) → IsTrue marked)) done (marks_memory c.clear_between-cleared.new.self c.mark_failure.new.self c.clear_between-cleared.new.self c.clear_between-cleared.result c.mark_failure.ensures.marks (ap (λ (i : Qcow2 _ _). i.file) c.mark_failure.ensures.rest)) in
-    let refuses : (out : _) → UnseenCall view below old begun out → RefusedCall view below begun entries out e = λ out call. subst (ClearsOrRefuses view below how c.in_ok-from.from c.in_ok-from.to begun entries out) done (c.clear_between-cleared.ensures.clears out call.sound (b.whole out call)) in
+    let refuses : (out : _) → InternalCall view below old begun out → RefusedCall view below begun entries out e = λ out call. subst (ClearsOrRefuses view below how c.in_ok-from.from c.in_ok-from.to begun entries out) done (c.clear_between-cleared.ensures.clears out call.sound (b.whole out call)) in
     let some : from_in c.args.self.now c.args.offset c.args.length < to_in c.args.self.now c.args.offset c.args.length = let is = b.first_is in let ends = b.last_is in omega (arith, c.if-to-from.false, is, ends) in
     handed_on (λ (r : Result (ℕ × ℕ) ImageError). ClearsSoundly view below how old c.mark_failure.new.self offset n r) c.from_residual-in_err-mark_failure.result e c.from_residual-in_err-mark_failure.ensures (record {
       range = tt;

@@ -10,7 +10,7 @@ use Rattle.qcow2_image.specs.Calls.{Commits, refusal_of}
 use Rattle.qcow2_image.specs.Image.{is_failed}
 use Rattle.std.proofs.lemmas.List.{append-nil}
 use Rattle.qcow2_alloc.specs.ImageFile.{contents_in, known_in}
-use Rattle.qcow2_image.specs.UnseenSteps.{freed_by}
+use Rattle.qcow2_image.specs.InternalSteps.{freed_by}
 use Rattle.qcow2_image.specs.ImageInvariant.{IsReadyWith, abstract_of, pending_in}
 use Rattle.qcow2_image.proofs.Call.Marked.{may_mark_refused}
 use Rattle.qcow2_image.proofs.Call.CallOutcomes.{is_fault, outcome}

@@ -11,7 +11,7 @@ use Rattle.qcow2_alloc.proofs.AllocationSteps.{handed_on}
 use Rattle.qcow2_alloc.proofs.KeptMarks.{notes_of_marks, notes_then}
 use Rattle.qcow2_image.specs.Image.{leaked_by}
 use Rattle.qcow2_image.specs.Invalidated.{IsReasonAgainstReading}
-use Rattle.qcow2_image.specs.UnseenSteps.{UnseenStep}
+use Rattle.qcow2_image.specs.InternalSteps.{InternalStep}
 use Rattle.qcow2_image.specs.declared.image.Qcow2.{Qcow2}
 use Rattle.qcow2_image.proofs.Call.BehindHeader.{behind_by, behind_tables, behind_then}
 use Rattle.qcow2_image.proofs.Call.Called.{keeps_then}
@@ -74,7 +74,7 @@ returns-in-Some-clause-keeps g c = λ rest p out sound.
     let first = dropped_moved view below old c.invalidate_l2.new.self list empty l2.taken l2.step.order l2.step.marks.room l2.step.marks.pins rest p out sound in
     let there = rests_there view below old c.invalidate_l2.new.self list empty l2.taken l2.step.order l2.step.marks.room l2.step.marks.pins rest p out sound in
     let second = dropped_moved view below mid caches list empty rb.taken rb.marks.order rb.marks.pins.room rb.marks.pins.pins there p out first.sound in
-    subst (λ (f : ImageFile _). UnseenStep view below p p old (record old { file = f; allocator = Some a' }) out) (sym rb.rest)
+    subst (λ (f : ImageFile _). InternalStep view below p p old (record old { file = f; allocator = Some a' }) out) (sym rb.rest)
     (anew_moved view below p old mid caches c.in-Some.allocator a' out first second c.in-Some.is rb.anew)
 
 pub returns-clause-step : goal.returns-clause-step

@@ -3,7 +3,7 @@ use Rattle.qcow2_image.proofs.image.Qcow2.ensure_cached_l2.Goals as goal
 use Rattle.std.proofs.Common.{ap, inl, ◌∙◌, sym, rules}
 use Rattle.qcow2_alloc.proofs.AllocationSteps.{handed_on}
 use Rattle.qcow2_image.specs.declared.image.Qcow2.{Qcow2}
-use Rattle.qcow2_image.specs.UnseenSteps.{Ensures, pending_with_listed}
+use Rattle.qcow2_image.specs.InternalSteps.{Ensures, pending_with_listed}
 use Rattle.qcow2_image.proofs.Map.Loading.{with_caches}
 use Rattle.qcow2_image.proofs.Prepare.Owning.{refused, keeps_loaded, holds_table}
 use Rattle.std.specs.Prelude.{IfErr}

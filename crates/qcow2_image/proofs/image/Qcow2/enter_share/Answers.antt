@@ -4,7 +4,7 @@ use Rattle.std.proofs.lemmas.Option.{slice_get_read}
 use Rattle.qcow2_metadata.specs.Header.{cluster_size}
 use Rattle.qcow2_image.specs.Found.{l2_index_of}
 use Rattle.qcow2_image.specs.ImageInvariant.{is_entered}
-use Rattle.qcow2_image.specs.UnseenSteps.{EntersCluster}
+use Rattle.qcow2_image.specs.InternalSteps.{EntersCluster}
 use Rattle.qcow2_image.proofs.image.Qcow2.enter_share.Goals as goal
 
 pub returns-clause-enters : goal.returns-clause-enters

@@ -3,7 +3,7 @@ use Rattle.qcow2_disk.specs.Calls.{AnsweredEffect, RefusedEffect, IsSame}
 use Rattle.qcow2_disk.specs.AbstractImages.{guest_of}
 use Rattle.qcow2_image.specs.declared.image.Qcow2.{Qcow2}
 use Rattle.qcow2_disk.specs.Found.{IsFoundIn, IsFound as IsFoundOf}
-use Rattle.qcow2_laws.proofs.Unseen.{known_header}
+use Rattle.qcow2_laws.proofs.Internal.{known_header}
 use Rattle.qcow2_alloc.specs.ImageFile.{known_in, state_in}
 use Rattle.qcow2_image.specs.Found.{IsFoundInImage, found_kind}
 use Rattle.qcow2_image.specs.Image.{is_failed, size_of}

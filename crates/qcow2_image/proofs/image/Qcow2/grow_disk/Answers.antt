@@ -13,7 +13,7 @@ use Rattle.qcow2_metadata.specs.Header.{with_size, cluster_size, rounded_up}
 use Rattle.qcow2_alloc.specs.declared.error.ImageError.TheVariants.{Memory, Version}
 use Rattle.qcow2_alloc.specs.ImageError.{IsFault}
 use Rattle.qcow2_alloc.specs.ImageStorage.{is_changed_of}
-use Rattle.qcow2_image.specs.CallParts.{UnseenCall}
+use Rattle.qcow2_image.specs.CallParts.{InternalCall}
 use Rattle.qcow2_image.specs.declared.image.Qcow2.{Qcow2}
 use Rattle.qcow2_image.specs.Found.{l1_index_of}
 use Rattle.qcow2_image.specs.Growing.{ReachesSize}
@@ -82,9 +82,9 @@ returns-in_err-mark_fault-clause-sees g c =
     let made : c.renew_l1_table-longer.result ≡ Ok c.in_ok-mark_failure.field-0 = sym c.mark_failure.ensures.answer ∙ c.in_ok-mark_failure.was in
     let kept = subst (λ (r : Result _ _). MayMarkBy r (is_failed mid) (is_failed long)) made (may_mark c.renew_l1_table-longer.new.self c.mark_failure.new.self c.renew_l1_table-longer.result c.mark_failure.ensures.marks) in
     let same : c.mark_failure.new.self ≡ c.renew_l1_table-longer.new.self = c.mark_failure.ensures.rest ∙ ap (λ f. record mid { is_failed = f }) kept in
-    let longer : (out : _) → ImageInvariant view below (pending_in view below old out) old out → UnseenCall view below old c.mark_failure.new.self out = λ out sound.
+    let longer : (out : _) → ImageInvariant view below (pending_in view below old out) old out → InternalCall view below old c.mark_failure.new.self out = λ out sound.
     let call = first out sound in
-    subst (λ (image : Qcow2 _ _). UnseenCall view below old image out) (sym same) (stays_then view below out old begun mid call (subst (MakesEntry view below begun mid out) made (c.renew_l1_table-longer.ensures.makes out call.sound))) in
+    subst (λ (image : Qcow2 _ _). InternalCall view below old image out) (sym same) (stays_then view below out old begun mid call (subst (MakesEntry view below begun mid out) made (c.renew_l1_table-longer.ensures.makes out call.sound))) in
     let filled = c.fill_grown-filled.new.self in
     let e = c.in_err-mark_fault.field-0.0 in
     let marked = is_failed c.mark_fault.new.self in
@@ -109,9 +109,9 @@ returns-clause-sees g c =
     let made : c.renew_l1_table-longer.result ≡ Ok c.in_ok-mark_failure.field-0 = sym c.mark_failure.ensures.answer ∙ c.in_ok-mark_failure.was in
     let kept = subst (λ (r : Result _ _). MayMarkBy r (is_failed mid) (is_failed long)) made (may_mark c.renew_l1_table-longer.new.self c.mark_failure.new.self c.renew_l1_table-longer.result c.mark_failure.ensures.marks) in
     let same : c.mark_failure.new.self ≡ c.renew_l1_table-longer.new.self = c.mark_failure.ensures.rest ∙ ap (λ f. record mid { is_failed = f }) kept in
-    let longer : (out : _) → ImageInvariant view below (pending_in view below old out) old out → UnseenCall view below old c.mark_failure.new.self out = λ out sound.
+    let longer : (out : _) → ImageInvariant view below (pending_in view below old out) old out → InternalCall view below old c.mark_failure.new.self out = λ out sound.
     let call = first out sound in
-    subst (λ (image : Qcow2 _ _). UnseenCall view below old image out) (sym same) (stays_then view below out old begun mid call (subst (MakesEntry view below begun mid out) made (c.renew_l1_table-longer.ensures.makes out call.sound))) in
+    subst (λ (image : Qcow2 _ _). InternalCall view below old image out) (sym same) (stays_then view below out old begun mid call (subst (MakesEntry view below begun mid out) made (c.renew_l1_table-longer.ensures.makes out call.sound))) in
     let numbered = c.mark_failure.ensures.image.number ∙ c.renew_l1_table-longer.ensures.step.stays.image.number ∙ c.begin.ensures.stays.image.number in
     let put : c.fill_grown-filled.result ≡ Ok c.in_ok-mark_fault.field-0 = sym c.mark_fault.ensures.answer ∙ c.in_ok-mark_fault.was in
     let whole : c.mark_fault.new.self ≡ c.fill_grown-filled.new.self = subst (λ (r : Result _ _). OnOk r (c.mark_fault.new.self ≡ c.fill_grown-filled.new.self)) put c.mark_fault.ensures.same in
@@ -248,7 +248,7 @@ returns-in_err-mark_fault-clause-sound g c = λ out sound.
     let same : c.mark_failure.new.self ≡ c.renew_l1_table-longer.new.self = c.mark_failure.ensures.rest ∙ ap (λ f. record mid { is_failed = f }) kept in
     let begins = first out sound in
     let lengthens = subst (MakesEntry view below begun mid out) made (c.renew_l1_table-longer.ensures.makes out begins.sound) in
-    let call : UnseenCall view below old c.mark_failure.new.self out = subst (λ (image : Qcow2 _ _). UnseenCall view below old image out) (sym same) (stays_then view below out old begun mid begins lengthens) in
+    let call : InternalCall view below old c.mark_failure.new.self out = subst (λ (image : Qcow2 _ _). InternalCall view below old image out) (sym same) (stays_then view below out old begun mid begins lengthens) in
     let length = subst (λ (r : Result _ _). OnOk r (entry_count mid.l1_table ≡ max (entry_count begun.l1_table) (l1_index_of begun.file.header.fields (c.args.size - 1) + 1))) made c.renew_l1_table-longer.ensures.length in
     let empty : HasNothingToFree c.mark_failure.new.self = subst (λ (i : Qcow2 _ _). HasNothingToFree i) (sym same) (subst (λ (r : Result _ _). OnOk r (HasNothingToFree mid)) made c.renew_l1_table-longer.ensures.emptied) in
     let filled = c.fill_grown-filled.new.self in
@@ -273,9 +273,9 @@ returns-in_err-mark_fault-clause-sound g c = λ out sound.
           let end = ap (λ n. rounded_up n c.args.size) (same_size old.file.header.fields long.file.header.fields call.header) in
           let goes = subst (λ (image : Qcow2 _ _). GoesTo view old image) (sym same) (goes_then (goes_begun c.begin.ensures.stays c.begin.ensures.begun) (goes_step c.renew_l1_table-longer.ensures.step)) in
           hands_limit c.from_residual-in_err-mark_fault.result e c.from_residual-in_err-mark_fault.ensures (λ is. limited_since (omega (arith, end)) goes call (subst (λ given. IsLimited view below given (rounded_up (cluster_size long.file.header.fields) c.args.size) long out) (given_growing view below out old long c.args.size c.args.mode call) (refused.limit is)));
-      last = let longer : (out : _) → ImageInvariant view below (pending_in view below old out) old out → UnseenCall view below old c.mark_failure.new.self out = λ out sound.
+      last = let longer : (out : _) → ImageInvariant view below (pending_in view below old out) old out → InternalCall view below old c.mark_failure.new.self out = λ out sound.
           let call = first out sound in
-          subst (λ (image : Qcow2 _ _). UnseenCall view below old image out) (sym same) (stays_then view below out old begun mid call (subst (MakesEntry view below begun mid out) made (c.renew_l1_table-longer.ensures.makes out call.sound))) in
+          subst (λ (image : Qcow2 _ _). InternalCall view below old image out) (sym same) (stays_then view below out old begun mid call (subst (MakesEntry view below begun mid out) made (c.renew_l1_table-longer.ensures.makes out call.sound))) in
           let numbered = c.mark_failure.ensures.image.number ∙ c.renew_l1_table-longer.ensures.step.stays.image.number ∙ c.begin.ensures.stays.image.number in
           subst (λ (image : Qcow2 _ _). WritesSizeLast view below old image) (sym c.mark_fault.ensures.rest)
           (last_in_part view below old c.args.size c.args.mode c.requires.usable c.requires.larger long longer filled e marked
@@ -317,7 +317,7 @@ returns-clause-sound g c = λ out sound.
     let same : c.mark_failure.new.self ≡ c.renew_l1_table-longer.new.self = c.mark_failure.ensures.rest ∙ ap (λ f. record mid { is_failed = f }) kept in
     let begins = first out sound in
     let lengthens = subst (MakesEntry view below begun mid out) made (c.renew_l1_table-longer.ensures.makes out begins.sound) in
-    let call : UnseenCall view below old c.mark_failure.new.self out = subst (λ (image : Qcow2 _ _). UnseenCall view below old image out) (sym same) (stays_then view below out old begun mid begins lengthens) in
+    let call : InternalCall view below old c.mark_failure.new.self out = subst (λ (image : Qcow2 _ _). InternalCall view below old image out) (sym same) (stays_then view below out old begun mid begins lengthens) in
     let filled = c.fill_grown-filled.new.self in
     let put : c.fill_grown-filled.result ≡ Ok c.in_ok-mark_fault.field-0 = sym c.mark_fault.ensures.answer ∙ c.in_ok-mark_fault.was in
     let whole : c.mark_fault.new.self ≡ c.fill_grown-filled.new.self = subst (λ (r : Result _ _). OnOk r (c.mark_fault.new.self ≡ c.fill_grown-filled.new.self)) put c.mark_fault.ensures.same in
@@ -333,9 +333,9 @@ returns-clause-sound g c = λ out sound.
           (if_err c.write_size-written.result (λ e fault. inl (inl (inl (inl fault)))) c.write_size-written.ensures.fails.cause);
       limit = unlimited_all c.mark_fault-2.result _
           (subst (λ (r : Result _ _). IfErr r IsUnlimited) (sym c.mark_fault-2.ensures.answer) (faults_unlimited c.write_size-written.result c.write_size-written.ensures.fails.cause));
-      last = let longer : (out : _) → ImageInvariant view below (pending_in view below old out) old out → UnseenCall view below old c.mark_failure.new.self out = λ out sound.
+      last = let longer : (out : _) → ImageInvariant view below (pending_in view below old out) old out → InternalCall view below old c.mark_failure.new.self out = λ out sound.
           let call = first out sound in
-          subst (λ (image : Qcow2 _ _). UnseenCall view below old image out) (sym same) (stays_then view below out old begun mid call (subst (MakesEntry view below begun mid out) made (c.renew_l1_table-longer.ensures.makes out call.sound))) in
+          subst (λ (image : Qcow2 _ _). InternalCall view below old image out) (sym same) (stays_then view below out old begun mid call (subst (MakesEntry view below begun mid out) made (c.renew_l1_table-longer.ensures.makes out call.sound))) in
           let numbered = c.mark_failure.ensures.image.number ∙ c.renew_l1_table-longer.ensures.step.stays.image.number ∙ c.begin.ensures.stays.image.number in
           let fills : (out : _) → ImageInvariant view below (pending_in view below long out) long out → FillsGrown view below c.args.size c.args.mode long c.mark_fault.new.self out = λ out sound.
           subst (λ (image : Qcow2 _ _). FillsGrown view below c.args.size c.args.mode long image out) (sym whole)

@@ -1,7 +1,7 @@
 use Rattle.qcow2_alloc.proofs.AllocationSteps.{handed_on}
 use Rattle.qcow2_image.specs.declared.image.Qcow2.{Qcow2}
 use Rattle.qcow2_image.specs.Growing.{Resizes}
-use Rattle.qcow2_image.specs.UnseenSteps.{pending_with_listed}
+use Rattle.qcow2_image.specs.InternalSteps.{pending_with_listed}
 use Rattle.std.proofs.Common.{◌≡◌, ◌+◌, arith, [], inl, inr, refl, ap, ◌∙◌, ◌-◌, ◌/◌, ◌^◌, ◌≤◌}
 use Rattle.qcow2_image.specs.Found.{l1_index_of}
 use Rattle.qcow2_image.proofs.Prepare.Lacked.{faults_or_limit, faults_unlimited, hands_either, hands_limit, unlimited_all, limited_in_upto, other_limit}

@@ -8,7 +8,7 @@ use Rattle.qcow2_laws.specs.Changes.{with_new_data}
 use Rattle.qcow2_laws.proofs.Formats.{cover_format, size_format}
 use Rattle.qcow2_alloc.specs.ImageFile.{known_in}
 use Rattle.qcow2_image.specs.declared.image.Qcow2.{Qcow2}
-use Rattle.qcow2_image.specs.UnseenSteps.{UnseenFillingStep, RefusedFillingStep, pending_with_listed}
+use Rattle.qcow2_image.specs.InternalSteps.{InternalFillingStep, RefusedFillingStep, pending_with_listed}
 use Rattle.qcow2_image.specs.ImageInvariant.{run_of, new_data_by, over_all}
 use Rattle.qcow2_image.proofs.Prepare.Gaining.{listed_after_on, image_step_left, taken_new_data, taken_unused, still_holds, filled_as}
 use Rattle.qcow2_image.proofs.Prepare.Filling.{image_step_then}
@@ -37,7 +37,7 @@ returns-in-Ok-clause-gains g c = λ p out sound holds.
       one = took.0;
       kind = took.1;
       unused = unused;
-      image_step = subst (λ q. UnseenFillingStep view below p (with_new_data q (run_of n)) old new out) (listed_after_on view below out p old mid new c.fill_cluster.ensures.list)
+      image_step = subst (λ q. InternalFillingStep view below p (with_new_data q (run_of n)) old new out) (listed_after_on view below out p old mid new c.fill_cluster.ensures.list)
           (image_step_then view below out old mid new p new_data new_data took.2 (c.fill_cluster.ensures.image_step new_data out took.2.sound (still_holds view below out old mid p n took.0 holds took.2) some free));
       filled = λ covered.
           let h = old.file.header.fields in
@@ -61,7 +61,7 @@ returns-in-Err-clause-gains g c = λ p out sound holds.
     let some : 0 < new_data.new_data c.cluster.result = subst (λ k. 0 < new_data.new_data k) (sym c.cluster.ensures) (taken_new_data view below out old mid p n took.0 holds took.2) in
     let free : over_all new_data_by out c.cluster.result ≡ 0 = ap (over_all new_data_by out) c.cluster.ensures ∙ taken_unused view below out old mid p n took.0 holds took.2 in
     let filled = image_step_then view below out old mid new p new_data new_data took.2 (c.fill_cluster.ensures.image_step new_data out took.2.sound (still_holds view below out old mid p n took.0 holds took.2) some free) in
-    let gone = subst (λ q. UnseenFillingStep view below p (with_new_data q (run_of n)) old new out) (listed_after_on view below out p old mid new c.fill_cluster.ensures.list) filled in
+    let gone = subst (λ q. InternalFillingStep view below p (with_new_data q (run_of n)) old new out) (listed_after_on view below out p old mid new c.fill_cluster.ensures.list) filled in
     subst (λ (image : Qcow2 _ _). RefusedFillingStep view below p old image out c.in-Err.refusal) (sym c.hand_back.ensures)
     (inl (image_step_left view below out old new p n took.0 took.1 gone))
 

@@ -8,7 +8,7 @@ use Rattle.qcow2_laws.proofs.Formats.{cover_format, size_format}
 use Rattle.qcow2_alloc.specs.ImageFile.{known_in}
 use Rattle.qcow2_image.specs.declared.image.Qcow2.{Qcow2}
 use Rattle.qcow2_image.specs.Ranges.{TakesDataAt}
-use Rattle.qcow2_image.specs.UnseenSteps.{UnseenFillingStep, RefusedFillingStep, IsGained, pending_with_listed}
+use Rattle.qcow2_image.specs.InternalSteps.{InternalFillingStep, RefusedFillingStep, IsGained, pending_with_listed}
 use Rattle.qcow2_image.specs.ImageInvariant.{run_of, new_data_by, over_all}
 use Rattle.qcow2_image.proofs.Prepare.Gaining.{listed_after_on, image_step_left, taken_new_data, taken_unused, still_holds, filled_as}
 use Rattle.qcow2_image.proofs.Prepare.Filling.{image_step_then}
@@ -64,7 +64,7 @@ returns-in-Ok-clause-sound g c = λ p out sound holds.
         one = took.1;
         kind = took.2;
         unused = unused;
-        image_step = subst (λ q. UnseenFillingStep view below p (with_new_data q (run_of n)) old new out) (listed_after_on view below out p old mid new c.fill_cluster.ensures.list)
+        image_step = subst (λ q. InternalFillingStep view below p (with_new_data q (run_of n)) old new out) (listed_after_on view below out p old mid new c.fill_cluster.ensures.list)
             (image_step_then view below out old mid new p new_data new_data took.3 (c.fill_cluster.ensures.image_step new_data out took.3.sound (still_holds view below out old mid p n took.1 holds took.3) some free));
         filled = λ covered.
             let h = old.file.header.fields in
@@ -92,7 +92,7 @@ returns-in-Err-clause-sound g c = λ p out sound holds.
     let hm = mid.file.header.fields in
     let filled = image_step_then view below out old mid new p new_data new_data took.3 (c.fill_cluster.ensures.image_step new_data out took.3.sound (still_holds view below out old mid p n took.1 holds took.3) some free) in
     let offset = c.args.offset in
-    let gone = subst (λ q. UnseenFillingStep view below p (with_new_data q (run_of n)) old new out) (listed_after_on view below out p old mid new c.fill_cluster.ensures.list) filled in
+    let gone = subst (λ q. InternalFillingStep view below p (with_new_data q (run_of n)) old new out) (listed_after_on view below out p old mid new c.fill_cluster.ensures.list) filled in
     record {
       does = subst (λ (image : Qcow2 _ _). RefusedFillingStep view below p old image out c.in-Err.refusal) (sym c.hand_back.ensures)
           (inl (image_step_left view below out old new p n took.1 took.2 gone));

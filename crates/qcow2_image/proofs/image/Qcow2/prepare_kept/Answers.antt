@@ -7,7 +7,7 @@ use Rattle.qcow2_image.specs.declared.prepared.Share.{Share}
 use Rattle.qcow2_image.specs.CallParts.{IsReadied, Readies}
 use Rattle.qcow2_image.specs.ImageInvariant.{pending_in}
 use Rattle.qcow2_image.specs.Ranges.{IsFirst}
-use Rattle.qcow2_image.specs.UnseenSteps.{UnseenFillingStep}
+use Rattle.qcow2_image.specs.InternalSteps.{InternalFillingStep}
 use Rattle.qcow2_image.proofs.Prepare.Gaining.{listed_after_same}
 use Rattle.qcow2_image.proofs.Prepare.KeptShares.{first_alone, readied_kept}
 use Rattle.qcow2_alloc.proofs.KeptMarks.{notes_then}
@@ -27,7 +27,7 @@ returns-in_err-fill_kept-clause-readies g c = λ out sound holds unpinned covere
     let image_step = c.fill_kept.ensures.image_step p out sound (λ x. omega arith) (first_alone view below out old sound c.args.offset c.args.table c.args.host holds unpinned covered) in
     let list = ap (λ (image : Qcow2 _ _). image.file.free_list) c.fill_kept.ensures.rest in
     handed_on (λ r. Readies view below old new out c.args.offset c.args.length c.args.overwrite r) c.from_residual.result c.in_err-fill_kept.field-0.0 c.from_residual.ensures
-    (inl (subst (λ q. UnseenFillingStep view below p q old new out) (sym (listed_after_same view below out p old new list)) image_step))
+    (inl (subst (λ q. InternalFillingStep view below p q old new out) (sym (listed_after_same view below out p old new list)) image_step))
 
 pub returns-clause-readies : goal.returns-clause-readies
 returns-clause-readies g c = λ out sound holds unpinned covered k free.

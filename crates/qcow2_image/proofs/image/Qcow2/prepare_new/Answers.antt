@@ -3,7 +3,7 @@ use Rattle.qcow2_image.proofs.image.Qcow2.prepare_new.Goals as goal
 use Rattle.std.proofs.Common.{rules, ◌≡◌, ◌≤◌, ◌-◌, ◌*◌, ◌%◌, ◌^◌, ◌++◌, [], ◌∷◌, inl, refl, sym, ap, ◌∙◌, subst, arith, List, length, ◌+◌}
 use Rattle.qcow2_metadata.specs.declared.header.HeaderFields.{HeaderFields}
 use Rattle.qcow2_metadata.specs.Header.{cluster_size, HeaderView}
-use Rattle.qcow2_laws.specs.Unseen.{KeepsFormat}
+use Rattle.qcow2_laws.specs.Internal.{KeepsFormat}
 use Rattle.qcow2_alloc.proofs.ListedAfter.{header_format}
 use Rattle.qcow2_laws.specs.Changes.{with_new_data}
 use Rattle.qcow2_alloc.proofs.AllocationSteps.{handed_on}
@@ -12,7 +12,7 @@ use Rattle.qcow2_image.specs.declared.prepared.Prepared.{Prepared}
 use Rattle.qcow2_image.specs.CallParts.{Readies, IsReadied}
 use Rattle.qcow2_image.specs.declared.prepared.Share.{Share}
 use Rattle.qcow2_image.specs.Ranges.{IsFirst}
-use Rattle.qcow2_image.specs.UnseenSteps.{RefusedFillingStep, UnseenFillingStep, HoldsAll, pending_with_listed}
+use Rattle.qcow2_image.specs.InternalSteps.{RefusedFillingStep, InternalFillingStep, HoldsAll, pending_with_listed}
 use Rattle.qcow2_image.specs.ImageInvariant.{run_of, pending_in}
 use Rattle.qcow2_image.proofs.Prepare.Gaining.{listed_after_on, image_step_left, still_holds}
 use Rattle.qcow2_image.proofs.Prepare.Filling.{image_step_kept, image_step_then}
@@ -135,7 +135,7 @@ returns-in-Err-clause-sound g c = λ out sound holds.
       readies = λ unpinned covered. let new_data = with_new_data (pending_with_listed p old filled) (run_of n) in
           let still = still_holds view below out old filled p n gained.one all_new_data gained.image_step in
           let loaded = image_step_then view below out old filled mid p new_data new_data gained.image_step (image_step_kept view below out filled mid new_data new_data gained.image_step.sound still still (c.in-Err.ensures.keeps new_data out gained.image_step.sound)) in
-          let gone = subst (λ q. UnseenFillingStep view below p (with_new_data q (run_of n)) old mid out) (listed_after_on view below out p old filled mid c.in-Err.ensures.list) loaded in
+          let gone = subst (λ q. InternalFillingStep view below p (with_new_data q (run_of n)) old mid out) (listed_after_on view below out p old filled mid c.in-Err.ensures.list) loaded in
           subst (λ (image : Qcow2 _ _). RefusedFillingStep view below p old image out c.in-Err.refusal) (sym c.hand_back-in-Err.ensures)
           (inl (image_step_left view below out old mid p n gained.one gained.kind gone));
       met = let place = subst (λ b. HasPlace b c.args.table) (sym (ap (λ (v : HeaderView). v.fields.cluster_bits) c.new_cluster.ensures.header))

@@ -14,7 +14,7 @@ use Rattle.qcow2_image.specs.BehindHeader.{TablesBehindHeader}
 use Rattle.qcow2_image.specs.Image.{leaked_by}
 use Rattle.qcow2_image.specs.ImageInvariant.{HasL1Table}
 use Rattle.qcow2_image.specs.Invalidated.{ReadsTables}
-use Rattle.qcow2_image.specs.UnseenSteps.{UnseenStep}
+use Rattle.qcow2_image.specs.InternalSteps.{InternalStep}
 use Rattle.qcow2_image.specs.Unwritten.{ContentsStayThroughout}
 use Rattle.qcow2_image.specs.declared.image.Qcow2.{Qcow2}
 use Rattle.qcow2_image.proofs.Map.Quiet.{kept_throughout}
@@ -31,7 +31,7 @@ returns-in_err-table-clause-keeps g c = λ p out sound.
     let mid = c.load_l1_table.new.file in
     let honest = sound.file.honest in
     let silent = kept_throughout (view_in view old.file) (view_in view mid) l1.time l1.same honest in
-    subst (λ (f : ImageFile _). UnseenStep view below p p old (record old { file = f }) out) (sym l1.rest) (silent_moved view below old out p sound mid.storage silent)
+    subst (λ (f : ImageFile _). InternalStep view below p p old (record old { file = f }) out) (sym l1.rest) (silent_moved view below old out p sound mid.storage silent)
 
 pub returns-in_default-clause-step : goal.returns-in_default-clause-step
 returns-in_default-clause-step g c =
@@ -56,7 +56,7 @@ returns-in_default-clause-keeps g c = λ p out sound.
     let read = silent_moved view below old out p sound mid.storage (kept_throughout (view_in view old.file) (view_in view mid) l1.time l1.same honest) in
     let now : Qcow2 _ _ = record old { file = record old.file { storage = mid.storage } } in
     let has = subst (λ (f : ImageFile _). HasL1Table view below f table) l1.rest (c.in_ok-table.ensures.table honest) in
-    subst (λ (f : ImageFile _). UnseenStep view below p p old (record old { file = f; l1_table = table }) out) (sym l1.rest) (with_tables view below p old now out read table old.allocator has read.sound.reftable refl)
+    subst (λ (f : ImageFile _). InternalStep view below p p old (record old { file = f; l1_table = table }) out) (sym l1.rest) (with_tables view below p old now out read table old.allocator has read.sound.reftable refl)
 
 pub returns-in_err-load_anew-clause-step : goal.returns-in_err-load_anew-clause-step
 returns-in_err-load_anew-clause-step g c =
@@ -94,7 +94,7 @@ returns-in_err-load_anew-clause-keeps g c = λ p out sound.
     let read = silent_moved view below old out p sound last.storage (through honest) in
     let now : Qcow2 _ _ = record old { file = record old.file { storage = last.storage } } in
     let own = subst (λ (x : Option Allocator). IfSome x (IsAllocatorOf view now.file)) (c.in-Some.is ∙ ap (λ (x : Allocator). Some x) (sym same)) read.sound.reftable in
-    subst (λ (f : ImageFile _). UnseenStep view below p p old (record old { file = f; allocator = Some a' }) out) (sym is)
+    subst (λ (f : ImageFile _). InternalStep view below p p old (record old { file = f; allocator = Some a' }) out) (sym is)
     (with_tables view below p old now out read old.l1_table (Some a') read.sound.l1_table own (anew.leaks ∙ sym (ap leaked_by c.in-Some.is)))
 
 pub returns-clause-step : goal.returns-clause-step
@@ -146,7 +146,7 @@ returns-clause-keeps g c = λ p out sound.
     let hint = subst (λ (f : ImageFile _). (p : Pending) → AllocatorInvariant view a p f → IsL1TableOf f.header.fields (contents_in view f) table → NoFreeBelowHint view a f → NoFreeBelowHint view c.spare_named.new.self f) is spared.sound p (record { sound = read.sound.file; reftable = own.reftable }) has_now.entries in
     let kept = spared_kept view now.file a c.spare_named.new.self spared.rest hint own in
     let leaks : leaked_by (Some c.spare_named.new.self) ≡ leaked_by old.allocator = ap (λ (x : Allocator). x.leaked_clusters) spared.rest ∙ anew.leaks ∙ sym (ap leaked_by c.in-Some.is) in
-    subst (λ (f : ImageFile _). UnseenStep view below p p old (record old { file = f; l1_table = table; allocator = Some c.spare_named.new.self }) out) (sym is) (with_tables view below p old now out read table (Some c.spare_named.new.self) has_now kept leaks)
+    subst (λ (f : ImageFile _). InternalStep view below p p old (record old { file = f; l1_table = table; allocator = Some c.spare_named.new.self }) out) (sym is) (with_tables view below p old now out read table (Some c.spare_named.new.self) has_now kept leaks)
 
 pub returns-clause-read : goal.returns-clause-read
 returns-clause-read g c = λ honest.

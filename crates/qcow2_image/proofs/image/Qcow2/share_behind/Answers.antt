@@ -8,7 +8,7 @@ use Rattle.qcow2_alloc.proofs.AllocationSteps.{handed_on}
 use Rattle.qcow2_alloc.specs.ImageFile.{known_in}
 use Rattle.qcow2_image.specs.declared.image.Qcow2.{Qcow2}
 use Rattle.qcow2_image.specs.Ranges.{FindsBehind, SharesAt}
-use Rattle.qcow2_image.specs.UnseenSteps.{IsFilled, IsKeptAlone, UnseenFillingStep}
+use Rattle.qcow2_image.specs.InternalSteps.{IsFilled, IsKeptAlone, InternalFillingStep}
 use Rattle.qcow2_image.proofs.Call.Refused.{back_refused}
 use Rattle.qcow2_image.proofs.Prepare.Gaining.{listed_after_same}
 use Rattle.qcow2_image.proofs.Prepare.KeptShares.{behind_alone, behind_kept}
@@ -88,7 +88,7 @@ returns-in_err-fill_kept-in-None-clause-sound g c = λ out k at may sound.
           let image_step = c.fill_kept.ensures.image_step before out sound (λ m. omega arith) (subst (λ x. IsKeptAlone view below old out x host) (sym c.in-Some.ensures.1) alone) in
           let list = ap (λ (image : Qcow2 _ _). image.file.free_list) c.fill_kept.ensures.rest in
           handed_on (λ r. FindsBehind view below old new out c.args.length c.args.overwrite c.args.prepared.now r) c.from_residual-in_err-fill_kept-in-None.result c.in_err-fill_kept-in-None.field-0.0 c.from_residual-in_err-fill_kept-in-None.ensures
-          (back_refused view below out old new c.in_err-fill_kept-in-None.field-0.0 sound (inl (subst (λ q. UnseenFillingStep view below before q old new out) (sym (listed_after_same view below out before old new list)) image_step)));
+          (back_refused view below out old new c.in_err-fill_kept-in-None.field-0.0 sound (inl (subst (λ q. InternalFillingStep view below before q old new out) (sym (listed_after_same view below out before old new list)) image_step)));
       met = let kept : cover h (known_in view old.file) ((p.guest + p.length) / cluster_size h) ≡ Zero (Some (c.in-Some-checked_add.host, true)) =
           ap (cover h (known_in view old.file)) (next_cluster view below old out k p at c.args.length c.args.table c.args.overwrite may sound) ∙ covered ∙ c.keeps.ensures.answer.0 c.if-keeps.true in
           hands_alone (IsCopiedCompressed h (cover h (known_in view old.file) ((p.guest + p.length) / cluster_size h)) (p.guest + p.length) (c.args.length - p.length) c.args.overwrite) ⊥ c.from_residual-in_err-fill_kept-in-None.result c.in_err-fill_kept-in-None.field-0.0 c.from_residual-in_err-fill_kept-in-None.ensures

@@ -11,7 +11,7 @@ use Rattle.qcow2_metadata.specs.TableBytes.{entry_at}
 use Rattle.qcow2_image.proofs.Prepare.Lacking.{lacks_past, not_within, owns_or_lacks}
 use Rattle.qcow2_image.proofs.Call.BehindHeader.{behind_first}
 use Rattle.qcow2_image.proofs.Prepare.Pinned.{whole_quotient}
-use Rattle.qcow2_image.specs.UnseenSteps.{NamesOwn}
+use Rattle.qcow2_image.specs.InternalSteps.{NamesOwn}
 
 pub returns-in_default-clause-quiet : goal.returns-in_default-clause-quiet
 returns-in_default-clause-quiet g c = λ own.

@@ -13,7 +13,7 @@ use Rattle.qcow2_image.proofs.Flush.Freeing.{all_listed, beside, freed_refused, 
 use Rattle.std.specs.Prelude.{IfErr, IsTrue, OnOk}
 use Rattle.qcow2_alloc.proofs.KeptTables.Turning.{always_ok}
 use Rattle.qcow2_image.specs.Found.{l1_index_of}
-use Rattle.qcow2_image.specs.UnseenSteps.{NamesOwn, pending_with_listed}
+use Rattle.qcow2_image.specs.InternalSteps.{NamesOwn, pending_with_listed}
 use Rattle.qcow2_image.proofs.Prepare.Owning.{left_alone}
 use Rattle.qcow2_image.proofs.Grow.Lengths.{own_after}
 use Rattle.qcow2_image.specs.NewTables.{IsFaultOrLacksTable}

@@ -3,7 +3,7 @@ use Rattle.qcow2_laws.specs.CrashInvariant.{Pending}
 use Rattle.qcow2_alloc.specs.FreeList.{with_listed}
 use Rattle.qcow2_alloc.specs.ImageFile.{contents_in}
 use Rattle.qcow2_alloc.proofs.AllocationSteps.{handed_on}
-use Rattle.qcow2_image.specs.UnseenSteps.{FreesListed}
+use Rattle.qcow2_image.specs.InternalSteps.{FreesListed}
 use Rattle.qcow2_image.proofs.Call.Called.{keeps_then}
 use Rattle.qcow2_image.proofs.Map.Loading.{with_caches, caches_moved, read_moved, all_known}
 use Rattle.qcow2_image.proofs.Flush.Freeing.{frees_any, freeing_step_on}

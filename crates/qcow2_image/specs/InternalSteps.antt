@@ -7,7 +7,7 @@ use Rattle.qcow2_metadata.specs.Entries.{l1_entry, host_offset, is_copied}
 use Rattle.qcow2_laws.specs.CrashInvariant.{Pending, SameCovers}
 use Rattle.qcow2_laws.specs.SafeSteps.{DriverState, SafeStep}
 use Rattle.qcow2_disk.specs.Stops.{SafeThroughout}
-use Rattle.qcow2_laws.specs.Unseen.{KeepsFormat, IsUnseen}
+use Rattle.qcow2_laws.specs.Internal.{KeepsFormat, IsInternal}
 use Rattle.qcow2_alloc.specs.BehindHeader.{KeepBehindHeader}
 use Rattle.qcow2_alloc.specs.declared.clusters_to_free.ClustersToFreeEntry.{ClustersToFreeEntry}
 use Rattle.qcow2_alloc.specs.declared.error.ImageError.{ImageError}
@@ -117,22 +117,22 @@ module _ {S F : Type 0} where
 
   module _ (view : S → StorageView) (backing : F → BackingView) where
     -- Guests don't see the step. The image is sound again, and a stop at any moment is as safe as before.
-    pub record UnseenStep (p p' : Pending) (old new : Qcow2 S F) (out : List (Option Prepared)) : Type 0 where
+    pub record InternalStep (p p' : Pending) (old new : Qcow2 S F) (out : List (Option Prepared)) : Type 0 where
       pub sound : ImageInvariant view backing p' new out
       pub safe_step : SafeStep (state_in view old.file p) (state_in view new.file p') nothing_given []
       pub since : SafeThroughout (view_in view old.file) (view_in view new.file) (known_in view old.file) nothing_given []
-      pub unseen : IsUnseen (state_in view old.file p) (state_in view new.file p')
+      pub unseen : IsInternal (state_in view old.file p) (state_in view new.file p')
       pub copied : KeepsCopied (state_in view old.file p) (state_in view new.file p')
       pub below : below_of view backing new.backing ≡ below_of view backing old.backing
       pub list : ListGrows old new
       pub leaks : leaked_in new ≡ leaked_in old
 
     -- Guests don't see the step, and the list of clusters to free may change in any way.
-    pub record UnseenFreeingStep (p p' : Pending) (old new : Qcow2 S F) (out : List (Option Prepared)) : Type 0 where
+    pub record InternalFreeingStep (p p' : Pending) (old new : Qcow2 S F) (out : List (Option Prepared)) : Type 0 where
       pub sound : ImageInvariant view backing p' new out
       pub safe_step : SafeStep (state_in view old.file p) (state_in view new.file p') nothing_given []
       pub since : SafeThroughout (view_in view old.file) (view_in view new.file) (known_in view old.file) nothing_given []
-      pub unseen : IsUnseen (state_in view old.file p) (state_in view new.file p')
+      pub unseen : IsInternal (state_in view old.file p) (state_in view new.file p')
       pub copied : KeepsCopied (state_in view old.file p) (state_in view new.file p')
       pub below : below_of view backing new.backing ≡ below_of view backing old.backing
       pub leaks : leaked_in new ≡ leaked_in old
@@ -144,7 +144,7 @@ module _ {S F : Type 0} where
 
     -- What a refused part leaves: a sound image with more clusters to free at most, or one that is about to fail.
     abbrev pub RefusedStep : Pending → Qcow2 S F → Qcow2 S F → List (Option Prepared) → ImageError → Type 0
-    RefusedStep p old new out e = UnseenStep p (pending_with_listed p old new) old new out ⊎ InterruptedPart old new e
+    RefusedStep p old new out e = InternalStep p (pending_with_listed p old new) old new out ⊎ InterruptedPart old new e
 
     -- The L2 table of the offset is cached, from this cluster, and its L1 entry is marked copied.
     pub record HoldsTable (image : Qcow2 S F) (offset table : ℕ) : Type 0 where
@@ -154,11 +154,11 @@ module _ {S F : Type 0} where
 
     -- A part makes sure that the L2 table of an offset is cached and marked copied. Guests don't see it.
     abbrev pub Ensures : Pending → Qcow2 S F → Qcow2 S F → List (Option Prepared) → ℕ → Result ℕ ImageError → Type 0
-    Ensures p old new out offset (Ok table) = UnseenStep p (pending_with_listed p old new) old new out × HoldsTable new offset table
+    Ensures p old new out offset (Ok table) = InternalStep p (pending_with_listed p old new) old new out × HoldsTable new offset table
     Ensures p old new out offset (Err e) = RefusedStep p old new out e
 
     -- Guests don't see the step, but it may write to clusters that none of these mappings has. The image is sound again.
-    pub record UnseenFillingStep (p p' : Pending) (old new : Qcow2 S F) (out : List (Option Prepared)) : Type 0 where
+    pub record InternalFillingStep (p p' : Pending) (old new : Qcow2 S F) (out : List (Option Prepared)) : Type 0 where
       pub sound : ImageInvariant view backing p' new out
       pub safe_step : SafeStep (state_in view old.file p) (state_in view new.file p') nothing_given []
       pub since : SafeThroughout (view_in view old.file) (view_in view new.file) (known_in view old.file) nothing_given []
@@ -179,12 +179,12 @@ module _ {S F : Type 0} where
 
     -- Clusters of the list are freed. Those on the list afterwards are still pending. Or a fault ended the step.
     abbrev pub FreesListed : Pending → Qcow2 S F → Qcow2 S F → List (Option Prepared) → Result (Unit {0}) ImageError → Type 0
-    FreesListed p old new out (Ok _) = UnseenFreeingStep (with_listed p old.file.free_list) (with_listed p new.file.free_list) old new out
-    FreesListed p old new out (Err e) = UnseenFreeingStep (with_listed p old.file.free_list) (with_listed p new.file.free_list) old new out ⊎ InterruptedStep old new e
+    FreesListed p old new out (Ok _) = InternalFreeingStep (with_listed p old.file.free_list) (with_listed p new.file.free_list) old new out
+    FreesListed p old new out (Err e) = InternalFreeingStep (with_listed p old.file.free_list) (with_listed p new.file.free_list) old new out ⊎ InterruptedStep old new e
 
     -- What a refused part leaves: a sound image with more clusters to free at most, or one that is about to fail.
     abbrev pub RefusedFillingStep : Pending → Qcow2 S F → Qcow2 S F → List (Option Prepared) → ImageError → Type 0
-    RefusedFillingStep p old new out e = UnseenFillingStep p (pending_with_listed p old new) old new out ⊎ InterruptedStep old new e
+    RefusedFillingStep p old new out e = InternalFillingStep p (pending_with_listed p old new) old new out ⊎ InterruptedStep old new e
 
     -- Clusters of new data have the same bytes.
     abbrev pub SameHeld : Pending → Qcow2 S F → Qcow2 S F → Type 0
@@ -217,7 +217,7 @@ module _ {S F : Type 0} where
 
     -- A cluster is allocated for data.
     abbrev pub TakesData : Pending → Qcow2 S F → Qcow2 S F → List (Option Prepared) → Result ClustersToFreeEntry ImageError → Type 0
-    TakesData p old new out (Ok n) = (n.count ≡ 1) × (n.kind ≡ Kind.Data) × UnseenFillingStep p (with_new_data (pending_with_listed p old new) (run_of n)) old new out
+    TakesData p old new out (Ok n) = (n.count ≡ 1) × (n.kind ≡ Kind.Data) × InternalFillingStep p (with_new_data (pending_with_listed p old new) (run_of n)) old new out
     TakesData p old new out (Err e) = RefusedFillingStep p old new out e
 
     -- A new cluster that no mapping has yet.
@@ -225,7 +225,7 @@ module _ {S F : Type 0} where
       pub one : n.count ≡ 1
       pub kind : n.kind ≡ Kind.Data
       pub unused : over_all new_data_by out n.first_cluster ≡ 0
-      pub image_step : UnseenFillingStep p (with_new_data (pending_with_listed p old new) (run_of n)) old new out
+      pub image_step : InternalFillingStep p (with_new_data (pending_with_listed p old new) (run_of n)) old new out
       pub filled : cover old.file.header.fields (known_in view old.file) (offset / cluster_size old.file.header.fields) ≡ mapping → IsFilled old new n.first_cluster offset length overwrite
 
     abbrev pub Gains : Pending → Qcow2 S F → Qcow2 S F → List (Option Prepared) → ℕ → ℕ → Bool → L2Mapping → Result ClustersToFreeEntry ImageError → Type 0

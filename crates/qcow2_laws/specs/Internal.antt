@@ -23,7 +23,7 @@ abbrev pub KeepsFormat : HeaderFields → HeaderFields → Type 0
 KeepsFormat h h' = h' ≡ with_reftable h h'.reftable_offset h'.reftable_clusters
 
 -- Guests cannot see the step: the header stays the same except for the pointer to the reftable, and so do all mappings and the bytes that guests use.
-pub record IsUnseen (old new : DriverState) : Type 0 where
+pub record IsInternal (old new : DriverState) : Type 0 where
   pub header : KeepsFormat old.header new.header
   pub covers : SameCovers old.header old.known new.known
   pub bytes : SameUsedBytes old new
@@ -37,7 +37,7 @@ abbrev pub SameUsedBytesBut : ℕ → DriverState → DriverState → Type 0
 SameUsedBytesBut c old new = (o : ℕ) → o / cluster_size old.header ≢ c → 0 < used_by_guests old (o / cluster_size old.header) → new.known o ≡ old.known o
 
 -- Guests cannot see the step, except in the bytes of cluster c.
-pub record IsUnseenBut (c : ℕ) (old new : DriverState) : Type 0 where
+pub record IsInternalBut (c : ℕ) (old new : DriverState) : Type 0 where
   pub header : KeepsFormat old.header new.header
   pub covers : SameCovers old.header old.known new.known
   pub bytes : SameUsedBytesBut c old new

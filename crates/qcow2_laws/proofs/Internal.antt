@@ -15,7 +15,7 @@ use Rattle.qcow2_laws.specs.Tops.{IsSameOutside, WritesL1Entry, IsNewTable, Writ
 use Rattle.qcow2_laws.specs.Writes.{IsUnnamed}
 use Rattle.qcow2_laws.specs.SafeSteps.{DriverState, StateInvariant}
 use Rattle.qcow2_laws.specs.Steps.{block_of}
-use Rattle.qcow2_laws.specs.Unseen.{used_by_guests, SameUsedBytes, KeepsFormat, IsUnseen, SameL1Table}
+use Rattle.qcow2_laws.specs.Internal.{used_by_guests, SameUsedBytes, KeepsFormat, IsInternal, SameL1Table}
 use Rattle.qcow2_laws.proofs.Places.{Sizes-from}
 use Rattle.qcow2_laws.proofs.Guests.{own_data_of, over_guests-same, guest_le, names_within}
 use Rattle.qcow2_laws.proofs.Formats.{format_refl, format_same, format_then, size_format, l1_format, covers_format, guests_format, value_format}
@@ -32,7 +32,7 @@ use Rattle.qcow2_laws.proofs.NewTables.{outside_eight, known_covers}
 named_same : (h : HeaderFields) (known known' : Bytes) (c : ℕ) → SameCovers h known known' → over_guests h (names h known c) ≡ over_guests h (names h known' c)
 named_same h known known' c covers = over_guests-same h (names h known c) (names h known' c) (λ g. ap (named_by_guest h c) (covers g))
 
-pub unseen_none : (s : DriverState) → IsUnseen s s
+pub unseen_none : (s : DriverState) → IsInternal s s
 unseen_none s = record { header = format_refl s.header; covers = λ g. refl; bytes = λ o some. refl }
 
 module _ (a b : DriverState) (header : KeepsFormat a.header b.header) (covers : SameCovers a.header a.known b.known) where
@@ -50,7 +50,7 @@ module _ (a b : DriverState) (header : KeepsFormat a.header b.header) (covers : 
       guests_format a.header b.header header b.known (o / cluster_size a.header) in
       subst (λ (n : ℕ). 0 < over_guests b.header (names b.header b.known (o / n)) + b.pending.new_data (o / n)) size (omega (arith, is, used))
 
-pub unseen_then : (a b c : DriverState) → IsUnseen a b → IsUnseen b c → ((k : ℕ) → 0 < a.pending.new_data k → 0 < b.pending.new_data k) → IsUnseen a c
+pub unseen_then : (a b c : DriverState) → IsInternal a b → IsInternal b c → ((k : ℕ) → 0 < a.pending.new_data k → 0 < b.pending.new_data k) → IsInternal a c
 unseen_then a b c first then new_data = record {
   header = format_then a.header b.header c.header first.header then.header;
   covers = covers_then a b first.header first.covers c then.covers;
@@ -64,7 +64,7 @@ pub l1_same_then : (a b c : DriverState) → KeepsFormat a.header b.header → S
 l1_same_then a b c header first then i = sym (l1_format a.header b.header header c.on_storage i) ∙ then i ∙ l1_format a.header b.header header b.on_storage i ∙ first i
 
 -- ---- the same is known
-pub unseen_known : (old new : DriverState) → new.header ≡ old.header → new.known ≡ old.known → IsUnseen old new
+pub unseen_known : (old new : DriverState) → new.header ≡ old.header → new.known ≡ old.known → IsInternal old new
 unseen_known old new header same = record {
   header = format_same old.header new.header header;
   covers = λ g. ap (λ (b : Bytes). cover old.header b g) (sym same);
@@ -99,7 +99,7 @@ module _ (old new : DriverState) (sound : StateInvariant old) where
 
   -- counts of one refblock change
   pub unseen_count : (c : ℕ) → new.header ≡ old.header → block_of old.header old.known c ≢ 0
-      → IsSameOutside (cluster_size old.header) (block_of old.header old.known c / cluster_size old.header) old.known new.known → IsUnseen old new
+      → IsSameOutside (cluster_size old.header) (block_of old.header old.known c / cluster_size old.header) old.known new.known → IsInternal old new
   unseen_count c header real outside =
       let table_refs : 0 < named_for_tables old.header old.on_storage (block_of old.header old.known c / cluster_size old.header) =
       let e = for_tables-top old.header old.on_storage old.known (block_of old.header old.known c / cluster_size old.header) sound.same_top in
@@ -122,7 +122,7 @@ module _ (old new : DriverState) (sound : StateInvariant old) where
   outside_same : (c : ℕ) (b b' : Bytes) → IsSameOutside (cluster_size old.header) c b b' → (k : ℕ) → k ≢ c → SameIn (cluster_size old.header) k b b'
   outside_same c b b' outside k other o in_k = outside o (λ e. other (sym in_k ∙ e))
 
-  pub unseen_refblock : (k entry : ℕ) → new.header ≡ old.header → WritesReftableEntry old.header old.on_storage old.known new.on_storage new.known k entry → IsUnseen old new × SameL1Table old new
+  pub unseen_refblock : (k entry : ℕ) → new.header ≡ old.header → WritesReftableEntry old.header old.on_storage old.known new.on_storage new.known k entry → IsInternal old new × SameL1Table old new
   unseen_refblock k entry header writes =
       let sizes = Sizes-from old.header old.on_storage sound.top.header_reads in
       let c = (old.header.reftable_offset + 8 * k) / cluster_size old.header in
@@ -142,7 +142,7 @@ module _ (old new : DriverState) (sound : StateInvariant old) where
       )
 
   pub unseen_l2_table : (i entry : ℕ) → new.header ≡ old.header → WritesL1Entry old.header old.on_storage old.known new.on_storage new.known i entry
-      → IsNewTable old.header old.direction old.pending old.on_storage old.known i entry → IsUnseen old new
+      → IsNewTable old.header old.direction old.pending old.on_storage old.known i entry → IsInternal old new
   unseen_l2_table i entry header writes table =
       let sizes = Sizes-from old.header old.on_storage sound.top.header_reads in
       let has = l1_has old.header i sizes sound.top.l1_aligned writes.within in
@@ -160,7 +160,7 @@ module _ (old new : DriverState) (sound : StateInvariant old) where
     tables_stay : (c : ℕ) → 0 < named_for_tables old.header old.on_storage c → SameIn (cluster_size old.header) c old.on_storage new.on_storage × SameIn (cluster_size old.header) c old.known new.known
     tables_stay c table_refs = elim (each c) [ inl same ↦ same | inr free ↦ absurd (omega (arith, table_refs, free.0.no_table)) ]
 
-    pub unseen_written : new.header ≡ old.header → IsUnseen old new × SameL1Table old new
+    pub unseen_written : new.header ≡ old.header → IsInternal old new × SameL1Table old new
     unseen_written header =
         let known_top = IsTop-top old.header old.on_storage old.known sound.same_top sound.top in (
           record {
@@ -206,5 +206,5 @@ module _ (old new : DriverState) (sound : StateInvariant old) where
         value_stays o (covers (o / cluster_size old.header)) (λ place some. bytes place (named_some (place / cluster_size old.header) (o / cluster_size old.header) some))) in
         λ j. record { size = size_stays j; value = value j }
 
-  pub unseen_disk : old.header.incompatible ≡ 0 → StateInvariant new → IsUnseen old new → (backing : Bytes) → disk new.known backing ≡ disk old.known backing
+  pub unseen_disk : old.header.incompatible ≡ 0 → StateInvariant new → IsInternal old new → (backing : Bytes) → disk new.known backing ≡ disk old.known backing
   unseen_disk inside sound' unseen backing = disk_stays inside sound' unseen.header backing unseen.covers (λ place some. unseen.bytes place (omega arith))
