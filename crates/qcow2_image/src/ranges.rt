@@ -214,7 +214,10 @@ impl<S: Storage, F: WrappedFormat<S>> Qcow2<S, F> {
     }
 
     // Allocates this cluster for data, if it can be.
-    fn allocate_data_cluster_at(&mut self, cluster: HostCluster) -> Result<Option<PendingClusters>, ImageError>
+    fn allocate_data_cluster_at(
+        &mut self,
+        cluster: HostCluster,
+    ) -> Result<Option<PendingClusters>, ImageError>
         requires writable { IsTrue (is_writable self.old) }
         ensures step { ImageStep S.view self.old self.new }
         ensures fails { ImageFails S.view F.backing self.old self.new result IsMet }

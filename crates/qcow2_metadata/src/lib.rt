@@ -10,9 +10,9 @@ mod l2_mapping;
 mod l2_table;
 mod limits;
 mod numbers;
+mod raw_tables;
 mod ref_block;
 mod ref_table;
-mod raw_tables;
 mod table_bytes;
 
 pub use error::MetadataError;
