@@ -45,7 +45,7 @@ module _ {S F : Type 0} (view : S → StorageView) (backing : F → BackingView)
       let found : IsFoundOf h known (is_some image.backing) at max (K.zeros explicit) n = subst (λ (h : HeaderFields). IsFoundOf h known (is_some image.backing) at max (K.zeros explicit) n) (header_is view backing image [] sound) is in
       elim (cases_lt at h.size) [
         | inl lies ↦ let run = found.run lies in
-            zero_shown (state_in view image.file (pending_in view backing image [])) sound.file.caches.kept.kept.crash_invariant at n run.longest.alike (is_some image.backing) (backing_bytes view backing image.backing)
+            zero_shown (state_in view image.file (pending_in view backing image [])) sound.file.caches.kept.kept.crash_invariant sound.inside at n run.longest.alike (is_some image.backing) (backing_bytes view backing image.backing)
             (cover h known (at / cluster_size h)) refl (none_below view backing image.backing) explicit run.kind_is i lt
         | inr past ↦ let never = (found.past past).0 in absurd cc
       ]
