@@ -8,6 +8,7 @@ from dataclasses import dataclass, field
 from functools import lru_cache
 
 import clauses
+import fields
 from promises import read
 
 LIST = "must-fail/wrong_bodies.md"
@@ -18,14 +19,15 @@ OF_A_TRAIT = re.compile(r"\btrait\b|\bfor\s+(?!<)")
 
 @dataclass(eq=False)
 class WrongBody:
-    """One wrong body: its name, its place in the list, the function that it is in, the clause that alone is to refuse it where one is named, or the call that does so by what it requires, and
-    what takes the place of what."""
+    """One wrong body: its name, its place in the list, the function that it is in, the clause that alone is to refuse it where one is named, and the field of its record where one is, or the
+    call that does so by what it requires, and what takes the place of what."""
 
     name: str
     number: int
     function: str = ""
     file: str = ""
     clause: str = ""
+    part: str = ""
     needs: str = ""
     pairs: list = field(default_factory=list)
 
@@ -104,8 +106,8 @@ def bodies_of(folder):
         word, _, rest = line.partition(" ")
         if word == "###":
             bodies.append(WrongBody(rest, len(bodies) + 1))
-        elif word in ("fn:", "file:", "clause:", "needs:"):
-            setattr(bodies[-1], {"fn:": "function"}.get(word, word[:-1]), rest)
+        elif word in ("fn:", "file:", "clause:", "field:", "needs:"):
+            setattr(bodies[-1], {"fn:": "function", "field:": "part"}.get(word, word[:-1]), rest)
         elif word == "old:":
             bodies[-1].pairs.append((rest, ""))
         elif word == "new:":
@@ -121,6 +123,7 @@ class Placed:
     function: str
     lines: range = range(0)
     proof: dict = field(default_factory=dict)
+    cut: fields.Cut | None = None
 
 
 def proof_of(function):
@@ -150,7 +153,11 @@ def placed(crate, folder, body):
     text = read(f"{folder}/{body.file}")
     function = f"{body.function}_wrong_{body.number}" if body.is_copied(text) else body.function
     it = Placed(body, function, proof=proof_files(crate, folder, body, function))
-    changed, it.proof = alone(text, body, it.proof) or (body.changed(text), it.proof)
+    kept = alone(text, body, it.proof)
+    changed, it.proof = kept or (body.changed(text), it.proof)
+    it.cut = fields.cut(crate, folder, changed, body.place(text), body.clause, body.part, it.proof) if kept and body.part else None
+    if it.cut:
+        changed, it.proof = it.cut.text, it.cut.proof
     where, first = body.lines(text), body.first(text)
     lines = changed.split("\n")
     lines[first] = lines[first].replace(f"fn {body.own_name()}", f"fn {function.rpartition('::')[2]}", 1)
@@ -172,4 +179,7 @@ def with_bodies(crate, folder, bodies):
             texts.update(it.proof)
             found.append(it)
         texts[file] = "\n".join(made + lines[at:])
+    for each in [it for it in found if it.cut]:
+        texts[each.body.file] = each.cut.imported(texts[each.body.file])
+        texts[each.cut.spec] = each.cut.stated(texts.get(each.cut.spec) or read(f"{folder}/{each.cut.spec}"))
     return texts, found

@@ -247,21 +247,28 @@ def nearly_full():
     checks.run("full", "fill 0 1048576 11", "fill 1048576 851968 11")
 
 
+def runs_with_a_refused_growth(full, given):
+    """Runs a script on copies of an image, each time with another growth refused: the number of the growth, the status, the answers, the number of the first one that is refused for want of
+    memory, or None, and whether there was such a growth."""
+    library = refuser()
+    for growth in range(1, 4000):
+        shutil.copy(full, "disk")
+        status, output, came = refusing(library, growth, ["run", "disk"], given)
+        answers = output.splitlines()
+        yield growth, status, answers, next((i for i, it in enumerate(answers) if it.startswith(MEMORY.strip())), None), came
+    raise AssertionError("more than 4,000 growths")
+
+
 def each_growth_of_calls_given_twice():
     """A call whose growth is refused changes nothing, and given again it is done: its answer and the file are as they are without. A call that takes or frees clusters may fail the
     image, where memory is asked for once a count has changed."""
-    library = refuser()
     nearly_full()
     shutil.copy("full", "disk")
     status, output = checks.qimg("run", "disk", given=GIVEN_TWICE)
     wanted, whole = output.splitlines(), contents("disk")
     equal((status, checks.number_at(whole, 56, 4) > 1), (0, True), "the calls, and whether the reftable grew")
     met = set()
-    for growth in range(1, 4000):
-        shutil.copy("full", "disk")
-        status, output, came = refusing(library, growth, ["run", "disk"], GIVEN_TWICE)
-        answers = output.splitlines()
-        refused = next((i for i, it in enumerate(answers) if it.startswith(MEMORY.strip())), None)
+    for growth, status, answers, refused, came in runs_with_a_refused_growth("full", GIVEN_TWICE):
         if refused is None:
             equal((status, answers, contents("disk") == whole), (0, wanted, True), f"at growth {growth}, where nothing was refused")
             # a call may do with less
@@ -285,7 +292,45 @@ def each_growth_of_calls_given_twice():
             continue
         answers[refused] = wanted[refused]
         equal((answers, contents("disk") == whole), (wanted, True), f"after growth {growth} in {word}")
-    raise AssertionError("more than 4,000 growths")
+
+
+# Every other cluster is freed, so that each is a free run of its own, and clusters of the runs are taken again.
+SCATTERED = [
+    "fill 65536 512 22", *(f"dany {at} 512" for at in range(512, 40960, 1024)), "flush", "dback 0 40960",
+    "fill 66048 512 33", "fill 69632 1536 44", "fill 512 512 55", "fill 73728 4096 66", "flush",
+]
+SCATTERED_TWICE = "".join(f"{line}\n" * 2 for line in SCATTERED).encode()
+
+
+def half_full():
+    """With counts of 64 bits a refblock counts 64 clusters, so the clusters that are freed lie in several ranges."""
+    create("half", 131072, 512, 64)
+    checks.run("half", "fill 0 65536 11")
+
+
+def each_growth_of_scattered_runs():
+    """Without memory for a run of free clusters its range is forgotten, and answers and the file are as they are with it. A call that is refused is done where it is given again, unless it
+    failed the image."""
+    half_full()
+    shutil.copy("half", "disk")
+    status, output = checks.qimg("run", "disk", given=SCATTERED_TWICE)
+    wanted, whole = output.splitlines(), contents("disk")
+    equal((status, set(wanted) <= {"ok", *(it for it in wanted if it.startswith("range "))}), (0, True), "the calls")
+    unseen, met = 0, set()
+    for growth, status, answers, refused, came in runs_with_a_refused_growth("half", SCATTERED_TWICE):
+        if refused is None:
+            equal((status, answers, contents("disk") == whole), (0, wanted, True), f"at growth {growth}, where nothing was refused")
+            if came:
+                unseen += 1
+                continue
+            equal((unseen > 0, met >= {"fill", "dany"}), (True, True), f"{unseen} growths that no answer shows, and the calls that were refused: {met}")
+            return
+        checks.consistent("disk")
+        if refused + 1 < len(answers):
+            met.add(SCATTERED[refused // 2].split()[0])
+        if refused + 1 < len(answers) and FAILED.strip() not in answers:
+            answers[refused] = wanted[refused]
+            equal((answers, contents("disk") == whole), (wanted, True), f"after growth {growth} in {SCATTERED[refused // 2]}")
 
 
 def with_a_short_table():
@@ -357,6 +402,7 @@ def main():
         a_line_that_has_no_room,
         each_growth_of_mixed_ranges,
         each_growth_of_calls_given_twice,
+        each_growth_of_scattered_runs,
         each_call_that_clears_the_autoclear_bits,
     ):
         every.run(check.__name__, check)

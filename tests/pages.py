@@ -21,9 +21,9 @@ NO_FILE = re.compile(r"\b(CRATE|NAME|PATH)\b|^(/|build/|out/|docs/interop/)")
 # the pages whose names are all names of this repository; the others name imago's, QEMU's and the format's too
 OF_THE_CODE = re.compile(r"README\.md|crates/.*|docs/(ARCHITECTURE|PROOFS|WRONG_BODIES|GUIDE|DRIVER)\.md")
 ROW = re.compile(r"^\|[^|]*\| `(\w+)` \| \[`(\w+)`\]\(\.\./crates/(\w+)/([^)]*)\) \| (?:`(\w+)`|.*) ?\|$", re.MULTILINE)
-# the files whose words build moments: those of storages, runs and calls, of steps, of an image's file and its caches, of creating, and of images that are only read
+# the files whose words build moments: those of storages, runs and calls, of steps, of an image's file and its caches, of creating, of larger disks, and of images that are only read
 WORDS_OF_MOMENTS = re.compile(r"""crates/(image_access/proofs/EachMomentSince|qcow2_disk/proofs/(Compose|RunSteps)|qcow2_laws/proofs/SafeSteps|qcow2_alloc/proofs/(FileSteps|HeaderClusters|KeptTables/\w+)
-    |qcow2_image/proofs/(Create/\w+|Invalidate/Reading|Map/Unmodified|Sizing/Noted))\.antt$""", re.VERBOSE)
+    |qcow2_image/proofs/(Create/\w+|Grow/GrownByParts|Invalidate/Reading|Map/Unmodified|Resize/RecordedChanges))\.antt$""", re.VERBOSE)
 # a record with its moments, one of `EachMomentSince`, and a record that is taken over with other contents
 MOMENT = re.compile(r"\b(moments|later) = |\brecord [^{}]*[\w)] \{[^{}]*\b(contents) = ")
 # a number in the words of a page, the file that has it, and how it is written there: # stands for the number

@@ -442,6 +442,17 @@ def images_that_may_not_be_taken_in():
     vets(2, ["it isn't consistent: qimg-tools check names 2 breaches", UNFIT])
 
 
+def a_hostile_image_in_little_memory():
+    """One file of a mebibyte names a full refblock in each of 131,072 entries of its reftable, so half a billion clusters are leaked."""
+    told("create", "-o", "cluster_size=512,refcount_bits=1", "disk", "1M")
+    put("disk", 40, (2050 * 512).to_bytes(8, "big") + (512).to_bytes(8, "big") + (2048).to_bytes(4, "big"))
+    put("disk", 512, (2049 * 512).to_bytes(8, "big") * 131072 + b"\xff" * 512 + bytes(512))
+    process = subprocess.Popen([TOOLS, "vet", "disk"], stdin=subprocess.DEVNULL, stdout=subprocess.DEVNULL)
+    ended, used = os.wait4(process.pid, 0)[1:]
+    process.returncode = os.waitstatus_to_exitcode(ended)
+    equal((process.returncode, used.ru_maxrss < 64 * 1024), (2, True), f"the status, and whether {used.ru_maxrss} KiB are few")
+
+
 def what_cannot_be_vetted():
     with open("disk", "wb") as it:
         it.write(bytes(1024))
@@ -828,7 +839,7 @@ def formats_that_are_given():
     told("create", "-f", "qcow2", "disk", "1M")
     for command in ("info", "check", "map"):
         equal(told(command, "-f", "qcow2", "disk"), told(command, "disk"), command)
-        equal(tools(command, "-f", "raw", "disk"), (1, "", "qimg-tools: raw: the only format here is qcow2\nqimg-tools --help tells the words\n"), command)
+        equal(tools(command, "-f", "raw", "disk"), (1, "", "qimg-tools: raw: the only format here is qcow2\nqimg-tools --help lists the options\n"), command)
 
 
 def parts_of_sectors():
@@ -987,6 +998,21 @@ def a_conversion_that_is_stopped():
     equal(contents("other"), bytes(65536), "the raw disk")
 
 
+def a_conversion_that_is_killed():
+    """The name has what it had, and what is left of the killed run is removed by the next one."""
+    with open("raw", "wb") as it:
+        it.write(b"\x11" * (1 << 20))
+    told("convert", "-O", "qcow2", "raw", "disk")
+    part = os.path.abspath(".other.qimg-part")
+    for words in (["-O", "qcow2", "raw", "other"], ["-O", "qcow2", "disk", "other"], ["disk", "other"]):
+        with open("other", "wb") as it:
+            it.write(BEFORE)
+        killed = subprocess.run(["strace", "-f", "-qq", "-o", "calls", "-P", part, "-e", "inject=pwrite64:signal=KILL:when=2", TOOLS, "convert", *words], capture_output=True, timeout=600)
+        equal((killed.returncode != 0, contents("other"), os.path.exists(part)), (True, BEFORE, True), f"{words} killed")
+        told("convert", *words)
+        equal((contents("other") != BEFORE, os.path.exists(part)), (True, False), f"{words} again")
+
+
 def a_full_device():
     create("disk", 65536, 512)
     with open("/dev/full", "wb") as full:
@@ -1004,7 +1030,7 @@ BAD_WORDS = [
     (["info", "--output"], "--output"), (["map"], "a file is missing"), (["check"], "a file is missing"), (["check", "-f", "raw", "disk"], "raw"), (["convert", "disk"], "a second word is missing"),
     (["convert", "a", "b", "c"], "c"), (["convert", "-O", "vmdk", "a", "b"], "vmdk"), (["create", "disk"], "a second word is missing"), (["create", "-o", "size=1", "disk", "1M"], "size=1"),
     (["create", "-o", "cluster_size=x", "disk", "1M"], "cluster_size=x"), (["create", "-o"], "-o"), (["create", "-O", "raw", "disk", "1M"], "-O"), (["Info", "disk"], "Info"), (["--help", "more"], "more"),
-    (["--version", "-p"], "-p"), (["create", "disk", "1x"], "1x"), (["convert", "-o", "cluster_size=4k", "-O", "raw", "a", "b"], "-o"), (["convert", "-o", "cluster_size=4k", "a", "b"], "-o"),
+    (["--version", "-p"], "-p"), (["create", "disk", "1x"], "1x"), (["create", "disk", "1.5G"], "1.5G"), (["convert", "-o", "cluster_size=4k", "-O", "raw", "a", "b"], "-o"), (["convert", "-o", "cluster_size=4k", "a", "b"], "-o"),
     (["info", "--frob", "disk"], "--frob"), (["vet"], "a file is missing"), (["vet", "--max-size", "x", "disk"], "x"), (["vet", "-o", "disk"], "-o"), (["resize", "disk"], "a second word is missing"),
     (["resize", "disk", "+"], "+"), (["resize", "--preallocation=some", "disk", "1M"], "--preallocation=some"), (["resize", "--shrink=1", "disk", "1M"], "--shrink=1"), (["resize", "-F", "raw", "disk", "1M"], "-F"),
     (["convert", "--verify=yes", "a", "b"], "--verify=yes"), (["convert", "-o", "preallocation=full", "-O", "qcow2", "a", "b"], "preallocation=full"), (["create", "--shrink", "disk", "1M"], "--shrink"),
@@ -1044,7 +1070,7 @@ def main():
     for check in (
         info_names_the_backing_file, control_characters_in_names, sizes_as_qemu_rounds_them, sizes_for_people, map_of_an_overlay, map_of_compressed_data, map_of_nothing, check_of_a_consistent_image, check_of_a_leak, check_of_a_missing_count, what_is_no_image,
         why_an_image_is_refused, check_names_each_breach, a_map_that_cannot_be_finished, formats_that_are_given, parts_of_sectors, the_file_that_failed, files_past_a_limit, a_device_that_is_too_small,
-        an_image_that_qemu_has_open, a_conversion_that_is_stopped, words_that_are_no_text,
+        an_image_that_qemu_has_open, a_conversion_that_is_stopped, a_conversion_that_is_killed, words_that_are_no_text, a_hostile_image_in_little_memory,
         info_of_what_is_not_read, images_without_errors, errors_beside_what_is_not_covered, images_that_may_be_taken_in, images_that_may_not_be_taken_in, what_cannot_be_vetted, comparisons, disks_that_cannot_be_compared,
         ranges_that_breaches_touch, ranges_of_unaligned_offsets, images_over_others, names_in_images_are_not_followed, layers_that_are_refused, a_layer_that_fails, thin_disks, a_disk_that_no_table_maps, sparse_raw_disks,
         overlays, sizes_of_disks, bytes_that_come_back, an_overlay_is_not_resized, preallocations, images_of_images, images_of_what_cannot_be_read, conversions_that_are_verified,

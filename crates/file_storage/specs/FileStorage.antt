@@ -1,4 +1,4 @@
--- The view of a storage over a file. Nothing is known of its bytes, so it is not honest in proofs. Its failures are counted, and the last error is kept.
+-- The view of a storage over a file. Nothing is known of the file's bytes, so the storage is not honest in proofs. Failures are counted, and the last error is kept.
 use Rattle.std.specs.Prelude.{◌≡◌, ◌≢◌, ℕ, Bool, [], codes, Option, None, Some, Result, Ok, Err}
 use Rattle.std.specs.declared.io.Error.{Error}
 use Rattle.image_access.specs.CallCount.{one_more}
@@ -26,12 +26,12 @@ view_of_file file = record {
   mem_align = 1;
 }
 
--- A call returns what the system returned: the value, or a fault for an error, which is kept.
+-- What a call returns: the system's value, or a fault for an error of the system, which is kept.
 abbrev pub Tells : {T : Type 0} → Result T Error → Result T StorageError → Option Error → Type 0
 Tells (Ok value) result kept = result ≡ Ok value
 Tells (Err e) result kept = (result ≡ Err Fault) × (kept ≡ Some e)
 
--- What each call returns. After a success nothing changed. After a fault the counter is higher by one, and some error is kept. No call is refused for lack of memory.
+-- How each call counts failures. After a success nothing changed. After a fault the counter is higher by one, and some error is kept. No call is refused for lack of memory.
 abbrev pub CountsFailures : {T : Type 0} → OpenFile → OpenFile → Result T StorageError → Type 0
 CountsFailures old new (Ok _) = new ≡ old
 CountsFailures old new (Err Fault) = (new.is_block_device ≡ old.is_block_device) × (new.faults ≡ one_more old.faults) × (new.last_error ≢ None)

@@ -32,7 +32,7 @@ abbrev pub LeavesNoneUnwritten : {T : Type 0} → Streamed → Streamed → Resu
 LeavesNoneUnwritten old new (Ok _) = IsFalse new.is_unwritten
 LeavesNoneUnwritten old new (Err _) = IsTrue new.is_unwritten → StaysHeld old new
 
--- Bytes are added behind those in memory, to be written at an offset.
+-- Bytes are added after those in memory, to be written at an offset.
 abbrev pub HoldsMore : Streamed → Streamed → ℕ → List ℕ → Type 0
 HoldsMore old new at bytes = (new ≡ record old { start = new.start; held = old.held ++ bytes; is_unwritten = true }) × (new.start + length old.held ≡ at) × (0 < length old.held → new.start ≡ old.start)
 
@@ -40,7 +40,7 @@ HoldsMore old new at bytes = (new ≡ record old { start = new.start; held = old
 abbrev pub HoldsAlone : Streamed → ℕ → List ℕ → Type 0
 HoldsAlone new at bytes = (new.held ≡ bytes) × (new.start ≡ at)
 
--- A write of bytes at an offset. After a success no bytes wait to be written, or these do, alone or behind those that waited. After a refusal none wait, or those that waited are still there.
+-- A write of bytes at an offset. After a success no bytes wait to be written, or these do, alone or after those that waited. After a refusal none wait, or those that waited are still there.
 abbrev pub WritesOrHolds : {T : Type 0} → Streamed → Streamed → ℕ → List ℕ → Result T StorageError → Type 0
 WritesOrHolds old new at bytes (Ok _) = IsTrue new.is_unwritten → HoldsAlone new at bytes ⊎ (IsTrue old.is_unwritten × HoldsMore old new at bytes)
 WritesOrHolds old new at bytes (Err _) = IsTrue new.is_unwritten → StaysHeld old new

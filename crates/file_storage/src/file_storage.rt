@@ -83,7 +83,7 @@ impl FileStorage {
         }
     }
 
-    // Refuses a change that ends behind the limit.
+    // Refuses a change that ends past the limit.
     fn require_room(&mut self, end: Option<u64>) -> Result<(), StorageError>
         ensures counts { CountsFailures self.old self.new result }
     {
@@ -91,7 +91,7 @@ impl FileStorage {
         self.told(answer)
     }
 
-    // Returns what the system returned. An error of the system is a fault: it is counted and kept.
+    // The result of a system call. An error of the system is a fault: it is counted and kept.
     fn told<T>(&mut self, answer: io::Result<T>) -> Result<T, StorageError>
         ensures tells { Tells answer result self.new.last_error }
         ensures counts { CountsFailures self.old self.new result }
@@ -107,7 +107,7 @@ impl FileStorage {
     }
 }
 
-// Reads from a file. Behind its end there are zeros, even at offsets that no file can reach.
+// Reads from a file. Past its end there are zeros, even at offsets that no file can reach.
 fn read_all(file: &File, at: u64, buf: &mut [u8]) -> io::Result<()> {
     let reachable = (i64::MAX as u64).saturating_sub(at);
     let within = usize::try_from(reachable)

@@ -7,7 +7,7 @@ use std::{fs, io};
 /// Where Linux lists the limits of this program.
 const LIST: &str = "/proc/self/limits";
 
-/// The begin of the line with the file size limit.
+/// The start of the line with the file size limit.
 const NAME: &str = "Max file size";
 
 /// The system's error number for a file that is too large.
@@ -32,7 +32,7 @@ fn fourth_number(line: &str) -> Option<u64> {
     line.split_ascii_whitespace().nth(3)?.parse().ok()
 }
 
-// Refuses a change that ends behind a limit. The system would kill a program that tries it.
+// Refuses a change that ends past a limit, since the system would kill a program that tries it.
 pub(crate) fn require_within(limit: u64, end: Option<u64>) -> io::Result<()>
     ensures { IsOk result ↔ IsSomeAnd end (λ e. e ≤ limit) }
 {

@@ -9,7 +9,7 @@ use std::{fs, io};
 /// Where the locks are listed.
 const LIST: &str = "/proc/locks";
 
-/// The first of the bytes that QEMU locks in an open file. Each stands for a permission that it uses or denies to others.
+/// The first of the bytes that QEMU locks in an open file. Each byte represents a permission that QEMU uses, or denies to others.
 const FIRST: u64 = 100;
 
 /// The last of these bytes.
@@ -34,7 +34,7 @@ struct Lock<'a> {
     last: &'a str,
 }
 
-// Refuses a file that a program has locked in this way, and names the program if the list does. Without a list, nothing is refused.
+// Refuses a file that a program has locked in this way, and names the program if the list does. If there is no list, nothing is refused.
 pub(crate) fn require_unlocked<R: Files + AllocGlobal>(
     rt: &R,
     file: &Metadata,

@@ -6,8 +6,8 @@ use std::io;
 use std::os::unix::fs::{FileTypeExt, MetadataExt};
 use std::rt::Files;
 
-/// Opens a file or block device for reading and writing. Refused with the system's error, and if another program
-/// has it open through this crate, or QEMU has.
+/// Opens a file or block device for reading and writing. Refused with the system's error, and if QEMU, or another program through this crate, has
+/// it open.
 pub fn open<R: Files<File = File> + AllocGlobal>(rt: &R, path: &str) -> io::Result<FileStorage> {
     storage_of(rt, open_old(rt, path)?, false)
 }

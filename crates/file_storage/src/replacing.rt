@@ -16,20 +16,19 @@ pub struct Replacement {
     part: Option<Part>,
 }
 
-/// A file beside the one whose name it will get.
+/// A temporary file in the folder of the file that it will replace.
 #[derive(Drop)]
 struct Part {
     path: PathBuf,
     name: PathBuf,
     identity: Identity,
-    // The old file, which is locked as long as it has the name.
+    // The old file, which stays locked until the new one has the name.
     old: Option<Opened>,
 }
 
-/// Opens an empty file that will replace the one with this name, if there is one. Until `finish` it has
-/// another name: for `NAME` it is `.NAME.qimg-part`, in the same folder. A file that a killed run left under that name is
-/// removed. A block device, and anything else that isn't a regular file, is opened itself. Refused as `create` is, and if the folder allows
-/// no new file.
+/// Opens an empty file that will replace the one with this name, if there is one. Until `finish` the new file has another name: `.NAME.qimg-part`
+/// for `NAME`, in the same folder. A file that a killed run left under that name is removed. A block device, and anything else that isn't a regular
+/// file, is opened itself. Refused as `create` is, and if the folder allows no new file.
 pub fn replace<R: Files<File = File> + AllocGlobal>(
     rt: &R,
     path: &str,
@@ -49,7 +48,7 @@ pub fn replace<R: Files<File = File> + AllocGlobal>(
 }
 
 impl Replacement {
-    /// Gives the file its name, after all of it is on its device. If that fails, the file is removed. A file that was opened itself is flushed.
+    /// Syncs the file, and gives it its name. If that fails, the file is removed. A file that was opened itself is flushed.
     pub fn finish<R: Files<File = File> + AllocGlobal>(
         self,
         rt: &R,
@@ -78,7 +77,7 @@ fn is_link<R: Files>(rt: &R, path: &str) -> bool {
     rt.symlink_metadata(path).is_ok()
 }
 
-// Opens the file beside a name, with the permissions of the old file.
+// Opens the temporary file for a name, with the permissions of the old file.
 fn open_part<R: Files<File = File> + AllocGlobal>(
     rt: &R,
     path: PathBuf,
@@ -105,7 +104,7 @@ fn open_part<R: Files<File = File> + AllocGlobal>(
     Ok((storage, Replacement { part: Some(part) }))
 }
 
-// The name beside another: `.NAME.qimg-part` for `NAME`.
+// The temporary file's name: `.NAME.qimg-part` for `NAME`.
 fn part_name(rt: &impl AllocGlobal, path: &PathBuf) -> Result<PathBuf, AllocError> {
     let path = path.as_path();
     let name = path.file_name().unwrap_or("");

@@ -21,8 +21,8 @@ const IN_A_ROW: u32 = 16;
 
 /// A storage over a file that is read or written from front to back. Sequential reads are answered from bytes that were read
 /// ahead. Adjacent writes are collected in memory, and written as one: before any other
-/// write, before each read, and before `size`, `flush` and `sync` return. So the file has the writes up to one of them, in order.
-/// Bytes that can't be written stay in memory, and each of these calls is a fault until they are written.
+/// write, before each read, and before `size`, `flush` and `sync` return. So at any time the file has the first writes, in order. Bytes that can't
+/// be written stay in memory, and each of these calls is a fault until they are written.
 #[derive(Drop)]
 pub struct StreamedFile {
     file: FileStorage,
@@ -69,8 +69,8 @@ impl StreamedFile {
         self.file.last_error()
     }
 
-    /// From now on, prints on standard output how much was read or written, in percent of the size that `size` or `resize` last
-    /// returned or set. It prints when one percent more is done. Errors of the output are ignored.
+    /// From now on, prints on standard output how much was read or written, in percent of the size that `size` or `resize` last returned or set, at
+    /// each further percent. Errors of the output are ignored.
     pub fn shows_progress(&mut self, output: Stdout)
         ensures same { self.new ≡ self.old }
     {
@@ -122,7 +122,7 @@ impl StreamedFile {
         if self.holds(at, bytes) {
             return Ok(());
         }
-        // What doesn't continue the bytes that wait comes after them.
+        // Bytes that don't continue the waiting ones are written after them.
         self.write_out()?;
         if self.holds(at, bytes) {
             return Ok(());
@@ -209,7 +209,7 @@ impl StreamedFile {
         self.file.read(at, buf)
     }
 
-    // Whether this read continues others, and enough of them.
+    // Whether this read continues enough other reads.
     fn is_expected(&mut self, at: u64, count: usize) -> bool
         ensures same { self.new ≡ self.old }
     {
@@ -309,7 +309,7 @@ impl Storage for StreamedFile {
         ensures written { LeavesNoneUnwritten self.old self.new result }
         ensures forgets { HoldsNoReads self.new }
     {
-        // A file that is cut gets no bytes of before.
+        // The waiting bytes are written before the size changes.
         self.forget();
         self.write_out()?;
         self.file.resize(size, how)?;
@@ -321,7 +321,7 @@ impl Storage for StreamedFile {
         ensures counts { CountsFailures self.old.file self.new.file result }
         ensures written { LeavesNoneUnwritten self.old self.new result }
     {
-        // The file has all that was written as it is flushed.
+        // When the file is flushed, it has everything that was written.
         self.write_out()?;
         self.file.flush()
     }
@@ -330,7 +330,7 @@ impl Storage for StreamedFile {
         ensures counts { CountsFailures self.old.file self.new.file result }
         ensures written { LeavesNoneUnwritten self.old self.new result }
     {
-        // The file has all that was written as it is synced.
+        // When the file is synced, it has everything that was written.
         self.write_out()?;
         self.file.sync()
     }
@@ -339,7 +339,7 @@ impl Storage for StreamedFile {
         ensures no_failure { IsOk result × (self.new.file ≡ self.old.file) }
         ensures forgets { ForgetsReads self.old self.new }
     {
-        // What was read ahead is asked anew.
+        // What was read ahead is read again.
         self.forget();
         self.file.invalidate_cache()
     }

@@ -7,7 +7,7 @@ use std::os::unix::fs::FileExt;
 /// Zeros that are written at a time.
 static ZEROS: [u8; 65536] = [0; 65536];
 
-// The size in bytes. For a block device only its end gives it.
+// The size in bytes. That of a block device is where its end is.
 pub(crate) fn size_of(mut file: &File) -> io::Result<u64> {
     file.seek(SeekFrom::End(0))
 }
@@ -23,7 +23,7 @@ pub(crate) fn write_zeros(file: &File, from: u64, to: u64) -> io::Result<()> {
     Ok(())
 }
 
-// Writes zeros that lie in the file. Behind its end the file grows, and is zero there. A block device can't grow.
+// Writes zeros to a file. If they end past its end, the file is extended, which adds zeros. A block device can't grow.
 pub(crate) fn write_or_grow(file: &File, from: u64, to: u64) -> io::Result<()> {
     let size = size_of(file)?;
     write_zeros(file, from, to.min(size))?;
@@ -33,8 +33,8 @@ pub(crate) fn write_or_grow(file: &File, from: u64, to: u64) -> io::Result<()> {
     Ok(())
 }
 
-// Cuts a file to a size, or extends it up to a limit. A file that has the size already is not touched: after a cut to no bytes, closing it writes
-// it to the device.
+// Cuts a file to a size, or extends it up to a limit. A file that already has the size is not touched, since closing a file that was cut to no
+// bytes writes it to the device.
 pub(crate) fn set_size(file: &File, size: u64, limit: u64) -> io::Result<()> {
     let before = size_of(file)?;
     if before == size {
@@ -46,7 +46,7 @@ pub(crate) fn set_size(file: &File, size: u64, limit: u64) -> io::Result<()> {
     file.set_len(size)
 }
 
-// Resizes a block device: its end stays, and bytes behind the given size become zeros.
+// Resizes a block device: its end stays, and bytes past the given size become zeros.
 pub(crate) fn fill_from(file: &File, size: u64) -> io::Result<()> {
     let end = size_of(file)?;
     if size > end {

@@ -111,7 +111,7 @@ fn an_overlay_is_merged(rt: HostRuntime) -> Result<(), Fail> {
     Ok(())
 }
 
-// What stands below is read until it is written over.
+// The bytes of the image below are read until they are overwritten.
 fn read_over(alloc: Global) -> Result<Vec<u8>, ImageError> {
     let storage = empty(alloc, 1)?.into_storage();
     let below = MemBacking::new(vec![in alloc; 0x55; 700]?);

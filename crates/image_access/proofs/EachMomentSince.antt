@@ -1,4 +1,4 @@
--- How the moments and the faults of several calls of a storage go together.
+-- How the moments and the fault counts of several storage calls compose.
 use Rattle.std.proofs.Common.{◌≡◌, ◌⊎◌, inl, inr, ⊎_elim, ℕ, ◌≤◌, List, Result, Ok, Err, sym, ◌∙◌, subst, arith}
 use Rattle.image_access.specs.declared.error.StorageError.{StorageError}
 use Rattle.image_access.specs.declared.error.StorageError.TheVariants.{Fault, Memory}

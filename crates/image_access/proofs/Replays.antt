@@ -1,4 +1,4 @@
--- The changes of a storage that keeps them, one after another.
+-- Replaying the changes that a storage recorded, one after another.
 use Rattle.std.proofs.Common.{◌≡◌, ℕ, zero, suc, ◌-◌, ◌≤◌, List, [], ◌∷◌, ◌++◌, length, take, is_some, if◌then◌else◌, refl, sym, ap, ◌∙◌, arith}
 use Prim.Native.Nat.compare
 use Rattle.std.proofs.Math.Seq.{take-nil}

@@ -38,7 +38,7 @@ counted c = record { made = one_more c.made; faults = c.faults; fails_in = c.fai
 abbrev pub faulted : Counted → Counted
 faulted c = record { made = one_more c.made; faults = one_more c.faults; fails_in = c.fails_in - 1; refuses_in = c.refuses_in - 1 }
 
--- The begin of a call: it is counted, and refused if it was chosen. A call that was chosen twice fails with a fault.
+-- The start of a call: it is counted, and refused if it was chosen. A call that was chosen twice fails with a fault.
 abbrev pub Begins : {T : Type 0} → Counted → Counted → Result T StorageError → Type 0
 Begins old new (Ok _) = (old.fails_in ≢ 1) × (old.refuses_in ≢ 1) × (new ≡ counted old)
 Begins old new (Err Fault) = (old.fails_in ≡ 1) × (new ≡ faulted old)

@@ -58,7 +58,7 @@ pub record Calls {T : Type 0} (old new : StorageView) (result : Result T Storage
   pub time : old.is_honest → EachMomentSince old new (IsLeftBy new)
   pub cause : HasCause old.faults new.faults result
 
--- What a call does that changes nothing: as above, and for every storage the moments are the old ones.
+-- What a call does that changes nothing: an honest storage stays honest, a fault is counted, and for every storage the moments are the old ones.
 pub record QuietCalls {T : Type 0} (old new : StorageView) (result : Result T StorageError) : Type 0 where
   pub honest : old.is_honest → new.is_honest
   pub time : EachMomentSince old new (IsLeftBy new)

@@ -49,7 +49,7 @@ Answers old new (Ok _) done = (old.calls.fails_in ≢ 1) × (old.calls.refuses_i
 Answers old new (Err Fault) done = (old.calls.fails_in ≡ 1) × (new ≡ record old { calls = faulted old.calls })
 Answers old new (Err Memory) done = (old.calls.fails_in ≢ 1) × (old.calls.refuses_in ≡ 1) × (new ≡ record old { calls = counted old.calls })
 
--- What a call does that makes a change: the same, but memory to record the change may run out at any time.
+-- What a call does that makes a change: it is counted, and refused if it was chosen. Memory to record the change may run out at any time.
 abbrev pub Adds : Trace → Trace → Result (Unit {0}) StorageError → Change → Type 0
 Adds old new (Ok _) change = (old.calls.fails_in ≢ 1) × (old.calls.refuses_in ≢ 1) × (new ≡ record (with_change old change) { calls = counted old.calls })
 Adds old new (Err Fault) change = (old.calls.fails_in ≡ 1) × (new ≡ record old { calls = faulted old.calls })

@@ -21,12 +21,12 @@ pub trait BackingDisk: Drop {
         ensures stays { Stays (backing self.old) (backing self.new) result };
 }
 
-/// A backing disk that may lie on storages of type `S`. A boxed one lists none.
+/// A backing disk that may use storages of type `S`. A boxed one lists none.
 pub trait WrappedFormat<S>: BackingDisk {
-    /// The storages that the disk lies on.
+    /// The storages that the disk uses.
     ghost dependencies: { Self → List S };
 
-    /// The storages that the disk lies on, in an order of its own. Refused if memory runs out.
+    /// The storages that the disk uses, in an order of its own. Refused if memory runs out.
     fn storage_dependencies(&self, alloc: Global) -> Result<Vec<&S>, AllocError>
         ensures listed { IfOk result (λ storages. map (λ s. s.now) storages.items ≡ dependencies self.now) };
 }

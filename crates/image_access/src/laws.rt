@@ -1,5 +1,4 @@
-//! Laws of contents and changes. The functions do nothing. A call of one puts its clauses among the facts of the
-//! caller's proof.
+//! Laws of contents and changes. The functions do nothing; calling one adds its clauses to the facts of the caller's proof.
 ghost use Rattle.std.specs.Prelude.{◌≡◌, ◌⊎◌, ◌+◌, ◌-◌, ◌<◌, ◌≤◌, List, ℕ, length, take, max};
 ghost use Rattle.image_access.specs.Changes.{replayed, up_to_write, write_offsets, HadSince};
 ghost use Rattle.image_access.specs.Contents.{stored_byte, bytes_at, resized, overwritten, zeroed};
@@ -30,7 +29,7 @@ pub fn zeroes_are_read()
     ensures { (contents : List ℕ) (at n offset : ℕ) → at ≤ offset → offset < at + n → stored_byte (zeroed contents at n) offset ≡ 0 }
 {}
 
-/// What a resize leaves: the new size, the old bytes below it, and zeros behind the old end.
+/// What a resize leaves: the new size, the old bytes below it, and zeros past the old end.
 #[tactic(auto, using(crate::proofs::Bytes::reads))]
 pub fn resizes_are_read()
     ensures size { (contents : List ℕ) (size : ℕ) → length (resized contents size) ≡ size }

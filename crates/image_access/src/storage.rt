@@ -4,10 +4,9 @@ ghost use Rattle.image_access.specs.Moments.{StorageView, ContentsStay, Changes,
 
 use crate::StorageError;
 
-/// Bytes that can be read, written and resized. Offsets, lengths and sizes are in bytes. Each write, zeroing and resize takes effect whole
-/// or not at all. A call is refused with `StorageError::Fault` only if the storage failed, which it counts, and with
-/// `StorageError::Memory` if memory ran out, and then nothing changed. A call of no bytes changes
-/// nothing, at any offset.
+/// Bytes that can be read, written and resized. Offsets, lengths and sizes are in bytes. Each write, zeroing and resize takes effect whole or not
+/// at all. A call is refused with `StorageError::Fault` only if the storage failed and counted a fault, and with `StorageError::Memory` if memory
+/// ran out, which changes nothing. A call of no bytes changes nothing, at any offset.
 pub trait Storage: Drop {
     /// The view of the storage in contracts.
     ghost view: { Self → StorageView };
@@ -34,7 +33,7 @@ pub trait Storage: Drop {
         ensures same { ContentsStay (view self.old) (view self.new) }
         ensures calls { QuietCalls (view self.old) (view self.new) result };
 
-    /// Writes bytes at an offset. A write behind the end extends the contents, with zeros in between.
+    /// Writes bytes at an offset. A write past the end extends the contents, with zeros in between.
     fn write(&mut self, at: u64, bytes: &[u8]) -> Result<(), StorageError>
         ensures written { Changes (view self.old) (view self.new) result (λ b. overwritten b at bytes.now) }
         ensures calls { Calls (view self.old) (view self.new) result };
@@ -54,12 +53,13 @@ pub trait Storage: Drop {
         ensures resized { Changes (view self.old) (view self.new) result (λ b. resized b size) }
         ensures calls { Calls (view self.old) (view self.new) result };
 
-    /// Hands everything that was written to the operating system, if the storage is a file. It survives the end of the program; it survives a power loss only after `sync`.
+    /// Hands everything that was written to the operating system, if the storage is a file. The bytes then survive the end of the program; they
+    /// survive a power loss only after `sync`.
     fn flush(&mut self) -> Result<(), StorageError>
         ensures same { ContentsStay (view self.old) (view self.new) }
         ensures calls { QuietCalls (view self.old) (view self.new) result };
 
-    /// Returns when everything that was written would survive a power loss.
+    /// Returns once everything that was written would survive a power loss.
     fn sync(&mut self) -> Result<(), StorageError>
         ensures same { ContentsStay (view self.old) (view self.new) }
         ensures calls { QuietCalls (view self.old) (view self.new) result };
@@ -85,7 +85,7 @@ pub trait Storage: Drop {
 pub enum StoragePreallocate {
     /// Allocates nothing.
     None,
-    /// The added bytes are zero, in the quickest way.
+    /// Makes them zero in the quickest way.
     Zero,
     /// Allocates space, without writing to it.
     Allocate,
@@ -102,9 +102,9 @@ pub enum PreallocateMode {
     Zero,
     /// The added bytes are zero, and the image has clusters for them.
     FormatAllocate,
-    /// The same, and the storage has allocated space for these clusters.
+    /// The added bytes are zero, the image has clusters for them, and the storage has allocated space for these clusters.
     FullAllocate,
-    /// The same, and zeros are written to all of these clusters.
+    /// The added bytes are zero, the image has clusters for them, and zeros are written to all of these clusters.
     WriteData,
 }
 

@@ -88,8 +88,8 @@ impl TraceStorage {
             .collect(alloc)
     }
 
-    /// The contents right after the first `writes` writes and zeroings, with the resizes before the last of them; or after all changes, if there
-    /// were fewer. Refused if memory runs out.
+    /// The contents right after the first `writes` writes and zeroings, with the resizes before the last of them; after all changes, if there were
+    /// fewer. Refused if memory runs out.
     pub fn after(&self, alloc: Global, writes: usize) -> Result<Vec<u8>, AllocError>
         ensures { IfOk result (λ bytes. bytes.items ≡ replayed self.now.start (up_to_write writes self.now.changes)) }
     {

@@ -1,4 +1,4 @@
--- What requests do, and nothing behind it.
+-- What requests do, and that they do nothing else.
 use Rattle.std.proofs.Common.{inl, inr, ℕ, ◌+◌, ◌<◌, List, length, refl, ◌∙◌, arith}
 use Rattle.nbd_protocol.specs.declared.request.Command.{Command}
 use Rattle.nbd_protocol.specs.declared.request.Command.TheVariants as C
@@ -36,7 +36,7 @@ may_write offset bytes a b w = record {
 write_start : (offset : ℕ) (bytes : List ℕ) (a : DeviceView) → MayWrite offset bytes a a
 write_start offset bytes a = record { beside = record { size = refl; unit = refl; values = λ o lt out. refl }; within = λ i lt here. inl refl }
 
--- what stays behind it is still done
+-- what stays after it is still done
 pub does_stays : (command : Command) (r : Request) (payload : List ℕ) (a b c : DeviceView) → Does command r payload a b → Stays b c → Does command r payload a c
 does_stays C.Read r payload a b c d s = stays_then a b c d s
 does_stays C.Write r payload a b c d s = writes_stays r.offset payload a b c d s

@@ -1,4 +1,4 @@
--- Runs of a disk, one more behind others.
+-- Appending one run of the disk to a list of runs.
 use Rattle.std.proofs.Common.{◌≡◌, ◌+◌, ◌<◌, ◌++◌, ◌∷◌, ℕ, [], List, subst, sym, arith}
 use Rattle.std.specs.Prelude.{IsTrue}
 use Rattle.nbd_protocol.specs.declared.replies.Extent.{Extent}

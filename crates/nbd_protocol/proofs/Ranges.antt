@@ -1,4 +1,4 @@
--- Ranges of a device that are zeroed, written and discarded one after the other.
+-- Ranges of a device that are zeroed, written and discarded one after another.
 use Rattle.std.proofs.Common.{◌≡◌, ◌⊎◌, inl, inr, ℕ, ◌+◌, ◌-◌, ◌<◌, ◌≤◌, List, length, refl, sym, ap, subst, ◌∙◌, take, arith}
 use Rattle.std.specs.Prelude.{All, Some, slice_index}
 use Rattle.std.proofs.lemmas.Bool.{cases_lt}
@@ -28,7 +28,7 @@ zeroes_start at a = record {
   within = λ o lt low high. absurd (omega arith);
 }
 
--- one range behind the other
+-- one range after the other
 pub zeroes_join : (from mid to : ℕ) (a b c : DeviceView) → Zeroes from mid a b → Zeroes mid to b c → from ≤ mid → mid ≤ to → Zeroes from to a c
 zeroes_join from mid to a b c z y low high = record {
   beside = record {

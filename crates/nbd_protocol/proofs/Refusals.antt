@@ -1,4 +1,4 @@
--- Why calls in turn, and the requests above them, are refused.
+-- Why several calls one after another, and the requests that make them, are refused.
 use Rattle.std.proofs.Common.{◌≡◌, ◌∙◌, ap, ℕ, ◌≤◌, Bool, true, false, Some, None, Result, Ok, Err, refl, subst, sym, arith}
 use Rattle.std.specs.Prelude.{◌&&◌, ◌||◌, not, IfErr, IfSome, IsErrOf, IsTrue, OnOk, nat_lt, if◌then◌else◌}
 use Rattle.std.specs.Result.{IsErrAnd}

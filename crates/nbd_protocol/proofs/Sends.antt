@@ -1,4 +1,4 @@
--- What a writer holds behind several writes.
+-- What a writer has received after several writes.
 use Rattle.std.proofs.Common.{ℕ, ◌++◌, List, Option, Some, None, ap, ◌∙◌, append_assoc}
 use Rattle.std.specs.Io.KnownBytes.{Appends, Keeps}
 

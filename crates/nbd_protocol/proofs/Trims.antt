@@ -1,4 +1,4 @@
--- Whole units that are cleared, one part of a range after the other.
+-- Clearing whole units of a range, one part after another.
 use Rattle.std.proofs.Common.{◌≡◌, inl, inr, ℕ, ◌+◌, ◌*◌, ◌/◌, ◌%◌, ◌<◌, ◌≤◌, refl, subst, ◌∙◌, add-mul, div-add-mod', one-mul, arith}
 use Rattle.std.proofs.lemmas.Bool.{cases_lt}
 use Rattle.std.proofs.lemmas.Nat.{le-div, mul-le}
@@ -10,7 +10,7 @@ trims_start from to a = record { size = refl; unit = refl; values = λ o lt. inl
 pub trims_of_stays : (from to : ℕ) (a b : DeviceView) → Stays a b → Trims from to a b
 trims_of_stays from to a b s = record { size = s.size; unit = s.unit; values = λ o lt. inl (s.values o lt (inr (omega arith))) }
 
--- a unit that begins behind a boundary does so as a whole
+-- a unit that begins after a boundary does so as a whole
 starts_in : (u low o : ℕ) → 0 < u → low % u ≡ 0 → low ≤ o → low ≤ o / u * u
 starts_in u low o some begins le =
     let is : low / u * u + low % u ≡ low = div-add-mod' low u in

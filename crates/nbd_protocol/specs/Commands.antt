@@ -43,13 +43,13 @@ persists r = r.flags.durable || is_flush r.command
 abbrev pub most : ℕ
 most = 33554432
 
--- The error for a range that ends behind the disk.
+-- The error for a range that ends past the end of the disk.
 abbrev pub past_end : Command → Errno
 past_end C.Write = E.NoSpace
 past_end C.WriteZeroes = E.NoSpace
 past_end command = E.Invalid
 
--- Why a request to a disk of this size is refused before anything is done. In this order: an unknown flag, a change of a read-only disk, a range that ends behind the disk, or a meaningless request.
+-- Why a request to a disk of this size is refused before anything is done. In this order: an unknown flag, a change of a read-only disk, a range that ends past the end of the disk, or a meaningless request.
 abbrev pub refuses : (read_only : Bool) → (size : ℕ) → (meaningless : Bool) → Request → Option Errno
 refuses read_only size meaningless r =
     if r.flags.unknown then Some E.Invalid else if changes r.command && read_only then Some E.NotPermitted
@@ -108,7 +108,7 @@ MayDo C.Trim r payload = Trims r.offset (end_of r)
 MayDo C.WriteZeroes r payload = MayZero r.offset (end_of r)
 MayDo command r payload = Stays
 
--- FLUSH, and every request with FUA, end with a flush and then a sync.
+-- FLUSH, and every request with FUA, ends with a flush and then a sync.
 abbrev pub PersistsLast : {D : Type 0} → (Flushed Synced : D → D → Type 0) → D → Type 0
 PersistsLast {D} Flushed Synced new = (before : D) × Persists Flushed Synced before new
 

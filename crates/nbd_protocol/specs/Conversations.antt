@@ -22,7 +22,7 @@ way_of allocation C.Write = W.Payload
 way_of allocation C.BlockStatus = if allocation then W.Runs else W.Status
 way_of allocation command = W.Status
 
--- The length of the payload behind a request.
+-- The length of the payload after a request.
 abbrev pub payload_count : Command → ℕ → ℕ
 payload_count C.Write n = n
 payload_count command n = 0
@@ -123,14 +123,14 @@ module _ {D : Type 0} (view : D → DeviceView) (Flushed Synced : D → D → Ty
       pub talked : Talked allocation reader reader_at writer writer_at old at
       pub last : ((new ≡ at) × (writer' ≡ writer_at)) ⊎ ((e : Exchange) × Exchanges allocation e at new)
 
-    -- One request is handled: its payload is read, and it is answered. Or its payload can't be read, and nothing is done or written.
+    -- One request is handled: its payload is read and it is answered; or its payload can't be read, and nothing is done or written.
     abbrev pub Deals : {E : Type 0} → Way → Request → (reader reader' : R) → (writer writer' : W) → (old new : D) → Result (Unit {0}) E → Type 0
     Deals by r reader reader' writer writer' old new result =
         ((payload : List ℕ) × (length payload ≡ payload_length r) × Consumes (remaining reader) (remaining reader') payload
         × Says contents writer writer' result (λ reply. Answered r payload reply old new by))
         ⊎ (OnOk result ⊥ × (new ≡ old) × (writer' ≡ writer))
 
--- The negotiation succeeded: what was read and written in it, whether replies are structured, whether BLOCK_STATUS was negotiated, and the conversation behind it.
+-- The negotiation succeeded: what was read and written in it, whether replies are structured, whether BLOCK_STATUS was negotiated, and the conversation after it.
 pub record Served {D R W : Type 0} (view : D → DeviceView) (Flushed Synced : D → D → Type 0) (remaining : R → Option (List ℕ)) (contents : W → Option (List ℕ)) (reader : R) (writer writer' : W) (old new : D) : Type 0 where
   pub begun : R
   pub greeted : W

@@ -12,7 +12,7 @@ pub record DeviceView : Type 1 where
   -- A call failed in a way that no later call can repair.
   pub is_failed : Bool
   pub is_read_only : Bool
-  -- the size in bytes
+  -- The size in bytes.
   pub size : ℕ
   -- The byte at an offset, or none if it can't be read.
   pub value : ℕ → Option ℕ

@@ -19,7 +19,7 @@ header_in bytes = do
   n ← number_at w32 option.1
   if magic.0 == 5280542401877725268 then Some (record { option = option.0; length = n.0 }) else None
 
--- The data of INFO and GO: the name of an export, and the number of information requests behind it.
+-- The data of INFO and GO: the name of an export, and the number of information requests after it.
 unfoldable pub name_in : List ℕ → Option (List ℕ)
 name_in bytes = do
   name ← string_at bytes

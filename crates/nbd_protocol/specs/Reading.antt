@@ -7,11 +7,11 @@ abbrev pub ◌>>=◌ : {A B : Type 0} → Option A → (A → Option B) → Opti
 (Some x) >>= f = f x
 None >>= f = None
 
--- A number, and the bytes behind it.
+-- A number, and the bytes after it.
 abbrev pub number_at : Width → List ℕ → Option (ℕ × List ℕ)
 number_at w bytes = if nat_lt (length bytes) (byte_len w) then None else Some (from_be_bytes w (take (byte_len w) bytes), drop (byte_len w) bytes)
 
--- A string with its length of four bytes before it, and the bytes behind it.
+-- A string with its length of four bytes before it, and the bytes after it.
 unfoldable pub string_at : List ℕ → Option (List ℕ × List ℕ)
 string_at bytes = do
   n ← number_at w32 bytes

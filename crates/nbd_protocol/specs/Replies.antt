@@ -10,11 +10,11 @@ use Rattle.nbd_protocol.specs.declared.replies.Extent.{Extent}
 unfoldable pub simple_reply : (error cookie : ℕ) → List ℕ
 simple_reply error cookie = to_be_bytes w32 1732535960 ++ to_be_bytes w32 error ++ to_be_bytes w64 cookie
 
--- The begin of the only chunk of a structured reply: a magic number, the flag of the last chunk, and its kind.
+-- The start of the only chunk of a structured reply: a magic number, the flag of the last chunk, and its kind.
 unfoldable pub chunk_start : ℕ → List ℕ
 chunk_start kind = to_be_bytes w32 1720595439 ++ to_be_bytes w16 1 ++ to_be_bytes w16 kind
 
--- The header of a chunk: its begin, the cookie, and the length of the payload.
+-- The header of a chunk: its start, the cookie, and the length of the payload.
 unfoldable pub chunk_head : (kind cookie n : ℕ) → List ℕ
 chunk_head kind cookie n = chunk_start kind ++ to_be_bytes w64 cookie ++ to_be_bytes w32 n
 

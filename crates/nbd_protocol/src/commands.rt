@@ -40,7 +40,7 @@ fn changes(command: Command) -> bool
     )
 }
 
-// The error for a range that ends behind the disk.
+// The error for a range that ends past the end of the disk.
 fn past_end(command: Command) -> Errno
     ensures { result ≡ past_end command }
 {
@@ -59,7 +59,7 @@ fn is_done(command: Command) -> bool
     )
 }
 
-// Whether the range of a request ends behind the disk.
+// Whether the range of a request ends past the end of the disk.
 fn passes(request: &Request, size: u64) -> bool
     ensures { result ≡ nat_lt size (end_of request.now) }
 {
@@ -95,7 +95,7 @@ fn refusal(read_only: bool, size: u64, meaningless: bool, request: &Request) -> 
     None
 }
 
-/// Refuses a request that has an unknown flag, changes a read-only disk, has a range that ends behind the disk, or is meaningless.
+/// Refuses a request that has an unknown flag, changes a read-only disk, has a range that ends past the end of the disk, or is meaningless.
 pub(crate) fn check<D: Device>(
     device: &D,
     request: &Request,
@@ -185,7 +185,7 @@ fn write_zeros<D: Device>(
     Ok(())
 }
 
-// Makes a range read as zeros, from its begin on: whole units are zeroed, and the bytes between them are written. Returns up to where.
+// Makes a range read as zeros, from its start on: whole units are zeroed, and the bytes between them are written. Returns up to where.
 fn zero_units<D: Device>(
     device: &mut D,
     zeros: &[u8],

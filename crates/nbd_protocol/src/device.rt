@@ -14,9 +14,9 @@ pub enum Errno {
     Io,
     /// 12: an allocation of memory failed.
     NoMemory,
-    /// 22: the request is invalid, or its range ends behind the disk.
+    /// 22: the request is invalid, or its range ends past the end of the disk.
     Invalid,
-    /// 28: there is no room left, or a write ends behind the disk.
+    /// 28: there is no room left, or a write ends past the end of the disk.
     NoSpace,
     /// 95: the device doesn't support this.
     NotSupported,
@@ -116,8 +116,8 @@ pub trait Device {
     /// Whether `discard` and `zero` can do anything.
     fn can_clear(&self) -> bool;
 
-    /// Zeroes whole units of a range, such as clusters, and releases their space. Returns the offset of the first one and the number of bytes that were
-    /// zeroed: the first whole units of the range, and 0 if it has none.
+    /// Zeroes whole units of a range, such as clusters, and releases their space. Returns the offset of the first unit and the number of bytes that
+    /// were zeroed: those of the first whole units of the range, 0 if it has none.
     fn discard(&mut self, offset: u64, length: u64) -> Result<(u64, u64), Errno>
         ensures step { IsSameDevice (view self.old) (view self.new) }
         ensures fails { Fails (view self.old) (RefusesToChange (view self.old) (offset + length)) result }
@@ -149,7 +149,7 @@ pub trait Device {
         ensures sound { Acts (view self.old) (view self.new) (λ done. Stays (view self.old) (view self.new))
             (Stays (view self.old) (view self.new)) result };
 
-    /// Returns when everything that was flushed would survive a power loss.
+    /// Returns once everything that was flushed would survive a power loss.
     fn sync(&mut self) -> Result<(), Errno>
         ensures step { IsSameDevice (view self.old) (view self.new) }
         ensures fails { Fails (view self.old) IsFault result }

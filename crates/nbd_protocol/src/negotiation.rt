@@ -200,7 +200,7 @@ fn list(out: &mut Vec<u8>, option: u32, data: &[u8]) -> Result<(), AllocError> {
     push_reply(out, option, ACK, &[])
 }
 
-// Appends the size of the export and of its requests, and returns whether it is the one that is asked for.
+// Appends the size of the export and the limits of its requests, and returns whether the export is the requested one.
 fn inform(out: &mut Vec<u8>, option: u32, data: &[u8], export: Export) -> Result<bool, AllocError> {
     match export_name(data) {
         None => {

@@ -56,7 +56,7 @@ pub(crate) fn kind_of(number: u32) -> Kind
     }
 }
 
-/// Reads the header of an option; None if the bytes are none.
+/// Reads the header of an option; None if the bytes are no such header.
 #[tactic(auto, unfolding(crate::specs::Options::header_in))]
 pub(crate) fn option_header(bytes: &[u8]) -> Option<OptionHeader>
     ensures { result ≡ header_in bytes.now }

@@ -73,7 +73,7 @@ fn flags_of(bits: u16) -> Flags
     }
 }
 
-/// Reads a request; None if the bytes are none.
+/// Reads a request; None if the bytes are no request.
 #[tactic(auto, unfolding(crate::specs::Requests::request_in))]
 pub(crate) fn decode(bytes: &[u8]) -> Option<Request>
     ensures { result ≡ request_in bytes.now }

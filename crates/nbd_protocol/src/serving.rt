@@ -179,7 +179,7 @@ fn answer_write<R: Read, W: Write, D: Device>(
         → Deals D.view D.Flushed D.Synced structured R.remaining W.contents Payload request.now
         reader.old reader.new writer.old writer.new device.old device.new result }
 {
-    let taken = take_payload(reader, request.length, &mut room.payload)?;
+    let taken = read_payload(reader, request.length, &mut room.payload)?;
     if taken {
         return answer(
             writer,
@@ -196,7 +196,7 @@ fn answer_write<R: Read, W: Write, D: Device>(
 
 // Reads the payload of a write, and returns whether there was memory for it; if not, it is skipped. A payload that is too long is
 // refused, and nothing of it is read.
-fn take_payload<R: Read>(reader: &mut R, count: u32, buffer: &mut Vec<u8>) -> io::Result<bool>
+fn read_payload<R: Read>(reader: &mut R, count: u32, buffer: &mut Vec<u8>) -> io::Result<bool>
     ensures bounded { length buffer.new.items ≤ 33554432 ⊎ (buffer.new.items ≡ buffer.old.items) }
     ensures taken { IfOk result (λ taken. taken ≡ true → (length buffer.new.items ≡ count)
         × Consumes (R.remaining reader.old) (R.remaining reader.new) buffer.new.items) }

@@ -87,7 +87,7 @@ const OLD_REPLIES: [u8; 170] = [
     103, 68, 102, 152, 0, 0, 0, 0, 0, 0, 0, 0, 0, 0, 0, 9, 0, 0,
 ];
 
-/// A disk in memory, whose calls can be told to fail.
+/// A disk in memory, whose calls can be made to fail.
 #[derive(Drop)]
 struct MemDevice {
     bytes: Vec<u8>,

@@ -1,4 +1,4 @@
--- Runs of numbers, by what begins at each number.
+-- Runs of numbers, as a map from the number at which each begins.
 use Rattle.std.proofs.Common.{◌≡◌, ◌≢◌, ◌⊎◌, inl, inr, ℕ, ◌+◌, ◌-◌, ◌<◌, ◌≤◌, ◌^◌, List, Bool, true, false, IsTrue, IsFalse, Option, Some, None, sym, ap, ◌∙◌, subst, refl, arith}
 use Rattle.std.proofs.lemmas.Bool.{cases_eq, cases_lt}
 use Rattle.std.proofs.lemmas.Grind.{common_steps}
@@ -14,18 +14,6 @@ some_is o a b is is' = cc
 
 pub not_both : (o : Option ℕ) (a : ℕ) → o ≡ Some a → o ≡ None → ⊥
 not_both o a is none = let bad : Some a ≡ None = sym is ∙ none in cc
-
-pub none_by : (o : Option ℕ) → ((m : ℕ) → o ≡ Some m → ⊥) → o ≡ None
-none_by None never = refl
-none_by (Some m) never = absurd (never m refl)
-
--- nothing begins within a run but its first number
-pub none_within : (at : ℕ → Option ℕ) → AreApart at → (first n k : ℕ) → at first ≡ Some n → first < k → k < first + n → at k ≡ None
-none_within at lie first n k run from below = none_by (at k) (λ m is. let le = lie.apart first n k m run is from in omega (arith, le, below))
-
--- nothing begins at a number that isn't free
-pub none_here : (at : ℕ → Option ℕ) → AreApart at → (k : ℕ) → (LiesIn at k → ⊥) → at k ≡ None
-none_here at lie k never = none_by (at k) (λ m is. let some = lie.some k m is in never (record { first = k; n = m; run = is; from = omega arith; below = omega (arith, some) }))
 
 -- a number is in no run where the last one that begins at it or before it ends before it
 pub not_in : (at : ℕ → Option ℕ) → AreApart at → (first n k : ℕ) → at first ≡ Some n → first ≤ k → (k - first < n → ⊥) → ((q m : ℕ) → at q ≡ Some m → q ≤ k → q ≤ first) → LiesIn at k → ⊥
@@ -52,7 +40,7 @@ module _ (at at' : ℕ → Option ℕ) (first n : ℕ) (lie : AreApart at) (some
     | inr other ↦ inr (other, sym (others s other) ∙ is)
   ]
 
-  -- one that was there lies before the new one, or behind it
+  -- one that was there lies before the new one, or after it
   beside : (s m : ℕ) → at s ≡ Some m → (s + m ≤ first) ⊎ (first + n ≤ s)
   beside s m is = elim (cases_lt s first) [
     | inl before ↦ elim (cases_lt first (s + m)) [
@@ -87,9 +75,6 @@ module _ (at at' : ℕ → Option ℕ) (first n : ℕ) (lie : AreApart at) (some
     ];
   }
 
-  pub added_free : (k : ℕ) → first ≤ k → k < first + n → LiesIn at' k
-  added_free k from below = record { first = first; n = n; run = put; from = from; below = below }
-
   pub added_stays : (k : ℕ) → LiesIn at k → LiesIn at' k
   added_stays k is = record {
     first = is.first;
@@ -110,7 +95,7 @@ module _ (at at' : ℕ → Option ℕ) (first n : ℕ) (lie : AreApart at) (some
 module _ (at at' : ℕ → Option ℕ) (first n low high left right : ℕ) (lie : AreApart at) (run : at first ≡ Some n) (from : first ≤ low) (in_order : low ≤ high) (past : first < high)
     (left_is : first + left ≡ low) (right_is : high + right ≡ first + n) (before : 0 < left → at' first ≡ Some left) (none : left ≡ 0 → at' first ≡ None)
     (behind : 0 < right → at' high ≡ Some right) (last : right ≡ 0 → at' high ≡ at high) (others : (k : ℕ) → k ≢ first → k ≢ high → at' k ≡ at k) where
-  -- each run was there, or is what is left before the lost numbers, or what is left behind them
+  -- each run was there, or is what is left before the lost numbers, or what is left after them
   left_over : (s m : ℕ) → at' s ≡ Some m → ((s ≡ first) × (m ≡ left) × (0 < m)) ⊎ (((s ≡ high) × (m ≡ right) × (0 < m)) ⊎ ((s ≢ first) × (at s ≡ Some m)))
   left_over s m is = elim (cases_eq s first) [
     | inl same ↦ elim (cases_eq left 0) [
@@ -130,14 +115,14 @@ module _ (at at' : ℕ → Option ℕ) (first n low high left right : ℕ) (lie 
     ]
   ]
 
-  -- an old run beside the cut one lies before it, or behind it
+  -- an old run beside the cut one lies before it, or after it
   away : (s m : ℕ) → s ≢ first → at s ≡ Some m → (s + m ≤ first) ⊎ (first + n ≤ s)
   away s m other is = elim (cases_lt s first) [
     | inl less ↦ inl (lie.apart s m first n is run less)
     | inr not_less ↦ inr (lie.apart first n s m run is (omega (arith, not_less, other)))
   ]
 
-  -- where a run of now lies: within the old one, before the lost numbers or behind them; or it is an old one beside it
+  -- where a run of now lies: within the old one, before the lost numbers or after them; or it is an old one beside it
   placed : (s m : ℕ) → at' s ≡ Some m → (0 < m) × (s + m < 2 ^ 64) × (((s + m ≤ low) × (s ≡ first)) ⊎ (((s ≡ high) × (s + m ≤ first + n)) ⊎ (((s + m ≤ first) ⊎ (first + n ≤ s)) × (at s ≡ Some m) × (s ≢ first))))
   placed s m is =
       let near = lie.near first n run in
@@ -269,7 +254,7 @@ module _ (at at' : ℕ → Option ℕ) (first behind number : ℕ) (lie : AreApa
   high : number + 1 + behind < 2 ^ 64
   high = elim right [ inl none ↦ omega (arith, none, near) | inr some ↦ lie.near (number + 1) behind some.1 ]
 
-  -- an old run that isn't joined lies before the new one, or behind it
+  -- an old run that isn't joined lies before the new one, or after it
   apart_from : (s m : ℕ) → s ≢ first → ((s ≡ number + 1) × (0 < behind) → ⊥) → at s ≡ Some m → (s + m ≤ first) ⊎ (number + 1 + behind ≤ s)
   apart_from s m other unjoined is =
       let more = lie.some s m is in

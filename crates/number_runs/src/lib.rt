@@ -93,7 +93,7 @@ fn find(runs: &BTreeMap<u64, u64>, most: usize, number: u64) -> Option<(u64, u64
     }
 }
 
-// The first run that begins at a number or behind it.
+// The first run that begins at a number or after it.
 fn find_from(runs: &BTreeMap<u64, u64>, number: u64) -> Option<(u64, u64)>
     ensures run { IfSome result (λ run. run_at runs.now.entries run.0 ≡ Some run.1) }
     ensures from { IfSome result (λ run. number ≤ run.0) }
@@ -106,12 +106,12 @@ fn find_from(runs: &BTreeMap<u64, u64>, number: u64) -> Option<(u64, u64)>
     }
 }
 
-// Removes the numbers from `low` up to, not including, `high` from a run. False if there is no room for the rest behind them, and then nothing changed.
+// Removes the numbers from `low` up to, not including, `high` from a run. False if there is no room for the rest after them, and then nothing
+// changed.
 fn cut(runs: &mut BTreeMap<u64, u64>, most: usize, run: (u64, u64), low: u64, high: u64) -> bool
     requires kept { AreKept runs.old.entries most }
     requires run { run_at runs.old.entries run.0 ≡ Some run.1 }
-    requires from { run.0 ≤ low }
-    requires in_order { low ≤ high }
+    requires order { (run.0 ≤ low) × (low ≤ high) }
     requires past { run.0 < high }
     requires below { high ≤ run.0 + run.1 }
     ensures kept { AreKept runs.new.entries most }
@@ -143,7 +143,7 @@ fn part(runs: &mut BTreeMap<u64, u64>, most: usize, at: u64) -> bool
     first == at || cut(runs, most, (first, n), at, at)
 }
 
-// Removes all runs that begin at a number or behind it, and before an end.
+// Removes all runs that begin at a number or after it, and before an end.
 fn drop_between(runs: &mut BTreeMap<u64, u64>, most: usize, first: u64, end: u64)
     requires kept { AreKept runs.old.entries most }
     requires begins { IsParted runs.old.entries first }
@@ -159,7 +159,7 @@ fn drop_between(runs: &mut BTreeMap<u64, u64>, most: usize, first: u64, end: u64
     }
 }
 
-// The begin of the run that ends right before a number; or the number itself, if no run does or joining is not asked for.
+// The first number of the run that ends right before a number. The number itself, if no run does or joining is not asked for.
 fn begin_before(runs: &BTreeMap<u64, u64>, most: usize, number: u64, joins: bool) -> u64
     requires kept { AreKept runs.now.entries most }
     requires out { IsIn runs.now.entries number → ⊥ }
@@ -257,7 +257,7 @@ impl NumberRuns {
         cut(&mut self.runs, self.most, (first, n), number, number + 1)
     }
 
-    /// Adds a number. It joins the run before it and the one behind it, if that is asked for. False if there is no room for a run,
+    /// Adds a number. It joins the run before it and the one after it, if that is asked for. False if there is no room for a run,
     /// and for the greatest number; then nothing changed.
     pub fn give(&mut self, number: u64, joins_before: bool, joins_behind: bool) -> bool
         ensures given { IsTrue result → Adds self.old self.new number 1 }

@@ -65,7 +65,7 @@ fn make(runs: &mut NumberRuns, numbers: &mut [bool], at: u64) -> bool {
     }
 }
 
-// How many numbers the runs and the list tell apart.
+// How many numbers are only in the runs or only in the list.
 fn differing(runs: &NumberRuns, numbers: &[bool]) -> usize {
     (0..NUMBERS + 8)
         .filter(|number| runs.run_of(*number).is_some() != is_in(numbers, *number))

@@ -1,10 +1,10 @@
--- The failures that a conversion of a whole file counts: of the image's storage, which is opened with no disk below, and of the raw disk.
+-- The failures that a conversion of a whole file counts: of the image's storage, where the image is opened without a backing disk, and of the raw disk.
 use Rattle.std.proofs.Common.{◌≡◌, ℕ, inl, inr, Option, Some, None, Result, Ok, Err, IsErr, IsErrAnd, refl, sym, ap, ◌∙◌, subst, arith}
 use Rattle.image_access.specs.Backing.{BackingView}
 use Rattle.image_access.specs.Moments.{StorageView, HasCause, Rose}
 use Rattle.image_access.specs.declared.error.StorageError.{StorageError}
 use Rattle.image_access.specs.declared.error.StorageError.TheVariants as S
-use Rattle.qcow2_alloc.specs.Faults.{FaultsTold}
+use Rattle.qcow2_alloc.specs.Faults.{FaultsReported}
 use Rattle.qcow2_alloc.specs.ImageError.{of_storage}
 use Rattle.qcow2_alloc.specs.declared.error.ImageError.{ImageError}
 use Rattle.qcow2_alloc.specs.declared.error.ImageError.TheVariants as I
@@ -23,7 +23,7 @@ raw_refused {A} {T} n before now answer x cause is = by x (subst (λ r. HasCause
   by S.Memory cause = record { no_fewer = omega arith; raw = cause.no_fewer; rose = λ is. absurd cc; told = λ other. (refl, cause.told (λ bad. cc)) }
 
 -- the image's storage alone was asked, behind the raw disk, and it refused
-pub image_refused : {T : Type 0} (before mid now raw_before raw_now : ℕ) (e : ImageError) → mid ≡ before → raw_now ≡ raw_before → FaultsTold {T = T} mid now (Err e) → CountsBoth {T = T} before now raw_before raw_now (Err e)
+pub image_refused : {T : Type 0} (before mid now raw_before raw_now : ℕ) (e : ImageError) → mid ≡ before → raw_now ≡ raw_before → FaultsReported {T = T} mid now (Err e) → CountsBoth {T = T} before now raw_before raw_now (Err e)
 image_refused before mid now raw_before raw_now e same raw told = record {
   no_fewer = omega (arith, same, told.no_fewer);
   raw = omega (arith, raw);

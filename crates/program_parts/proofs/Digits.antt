@@ -1,4 +1,4 @@
--- What `parse` answers for a word of digits alone.
+-- What `parse` returns for a word of decimal digits.
 use Rattle.std.proofs.Common.{◌≡◌, ◌<◌, ◌^◌, ℕ, List, [], ◌∷◌, length, true, Result, Ok, Err, ap, refl, ◌∙◌, arith}
 use Rattle.std.specs.Char.{is_ascii_digit}
 use Rattle.std.specs.List.{list_all}

@@ -1,4 +1,4 @@
--- A raw disk that was made of an image.
+-- A raw disk that was made from an image.
 use Rattle.std.proofs.Common.{◌≡◌, ⊎_elim, inl, ℕ, List, [], refl, sym, ap, ◌∙◌, subst, Result, Ok, Err, IfOk, false}
 use Rattle.std.specs.Option.{is_some}
 use Rattle.image_access.specs.Backing.{BackingView}
@@ -18,7 +18,7 @@ use Rattle.qcow2_image.specs.Image.{storage_of_image}
 use Rattle.qcow2_image.specs.ImageInvariant.{abstract_of}
 use Rattle.qcow2_image.specs.Opened.{OpensAtOnce}
 use Rattle.qcow2_disk.proofs.HeaderRest.{header_rest_same}
-use Rattle.qcow2_image.proofs.Free.{whole}
+use Rattle.qcow2_image.proofs.Images.Free.{whole}
 use Rattle.qcow2_image.proofs.Map.Unmodified.{quiet_still}
 use Rattle.qcow2_session.specs.Conversions.{IsRawOf, Exports, IsUnchanged}
 use Rattle.program_parts.specs.Conversions.{IsExport, KeepsDisk, disk_alone, zeros_below}

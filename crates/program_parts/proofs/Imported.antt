@@ -1,4 +1,4 @@
--- An image that was made of a raw disk.
+-- An image that was made from a raw disk.
 use Rattle.std.proofs.Common.{◌≡◌, ℕ, List, [], refl, sym, ap, ◌∙◌, subst, Option, None, Some, false, Result, Ok, Err, IfOk}
 use Rattle.std.specs.Prelude.{IsTrue}
 use Rattle.std.specs.Option.{is_some}
@@ -19,7 +19,7 @@ use Rattle.qcow2_image.specs.Growing.{KeepsSurplus, SameFormat}
 use Rattle.qcow2_image.specs.Image.{HasNothingToFree, IsSameImage, is_writable, storage_of_image}
 use Rattle.qcow2_image.specs.ImageInvariant.{abstract_of, backing_bytes}
 use Rattle.qcow2_image.proofs.Create.Leaks.{no_leaks_flushed}
-use Rattle.qcow2_image.proofs.Free.{whole}
+use Rattle.qcow2_image.proofs.Images.Free.{whole}
 use Rattle.qcow2_session.specs.Conversions.{IsRawOf, Imports}
 use Rattle.program_parts.specs.Conversions.{IsImageMade, IsImageOf, IsImageOfSize, zeros_below}
 

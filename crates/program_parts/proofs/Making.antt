@@ -1,4 +1,4 @@
--- What a stop may leave while an image is made of a raw disk.
+-- What a stop may leave while an image is made from a raw disk.
 use Rattle.std.proofs.Common.{◌≡◌, ◌⊎◌, ◌^◌, inl, inr, ⊎_elim, ℕ, List, [], ◌∷◌, refl, sym, ap, ◌∙◌, subst, Result, Ok, Err}
 use Rattle.image_access.specs.Backing.{BackingView}
 use Rattle.image_access.specs.Moments.{StorageView, EachMomentSince}

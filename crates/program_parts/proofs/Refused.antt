@@ -1,4 +1,4 @@
--- Why an image isn't made of a raw disk, and a raw disk not of an image.
+-- Why an image is not made from a raw disk, and why a raw disk is not made from an image.
 use Rattle.std.proofs.Common.{◌≡◌, ◌≢◌, ◌⊎◌, inl, inr, ⊎_elim, ℕ, ◌+◌, ◌≤◌, ◌^◌, List, [], None, Result, Ok, Err, refl, sym, ap, ◌∙◌, subst, true, false, arith}
 use Rattle.std.specs.Prelude.{IfErr, IsErrAnd, IsTrue, Option, length, option_map, unwrap_or}
 use Rattle.std.specs.String.{string_bytes}
@@ -21,9 +21,9 @@ use Rattle.qcow2_alloc.specs.declared.error.ImageError.TheVariants as I
 use Rattle.qcow2_image.specs.Created.{IsAllowed, IsCreated, IsReasonNotToCreateOpen, allocates_over, backing_format_in, backing_name_in}
 use Rattle.qcow2_image.specs.Image.{IsSameImage, is_writable, size_of, storage_of_image}
 use Rattle.qcow2_image.specs.ImageInvariant.{abstract_of, pending_in}
-use Rattle.qcow2_image.specs.MetAlone.{HasCompressedIn, IsMetReadingRange}
+use Rattle.qcow2_image.specs.MayFail.{HasCompressedIn, MayFailReadingRange}
 use Rattle.qcow2_image.specs.Opened.{NeedsAnother}
-use Rattle.qcow2_image.specs.Readable.{HeaderSuits, IsRefusedRightly, OpensRightly}
+use Rattle.qcow2_image.specs.Readable.{HeaderSuits, IsJustifiedRefusal, OpensRightly}
 use Rattle.qcow2_image.specs.Refusals.{passes, refuse_if, refuses_to_read}
 use Rattle.qcow2_image.specs.declared.builder.NoBacking.{NoBacking}
 use Rattle.qcow2_image.specs.declared.builder.Qcow2CreateBuilder.{Qcow2CreateBuilder}
@@ -31,10 +31,10 @@ use Rattle.qcow2_image.specs.declared.image.Missing.TheVariants as M
 use Rattle.qcow2_image.specs.declared.image.Qcow2.{Qcow2}
 use Rattle.qcow2_image.proofs.Create.Causes.{faults_met, opening_reasons}
 use Rattle.qcow2_image.proofs.Create.Faults.{none_prepared}
-use Rattle.qcow2_image.proofs.Sizes.{sound_is_usable}
-use Rattle.qcow2_session.specs.Conversions.{IsMetImporting}
+use Rattle.qcow2_image.proofs.Images.Sizes.{sound_is_usable}
+use Rattle.qcow2_session.specs.Conversions.{MayFailImporting}
 use Rattle.qcow2_session.specs.Sessions.{IsOfReading}
-use Rattle.program_parts.specs.Conversions.{IsImageOfSize, IsLayout, IsMetExporting, IsMetOnceCreated, IsMetReadingDisk, IsRefusedUntouched, IsUnopened, OpensToExport, asked_for}
+use Rattle.program_parts.specs.Conversions.{IsImageOfSize, IsLayout, MayFailExporting, MayFailOnceCreated, MayFailReadingDisk, IsRefusedUntouched, IsUnopened, OpensToExport, asked_for}
 
 -- what is so where a call was refused
 pub of_err : {A E : Type 0} (P : E → Type 0) (r : Result A E) (e : E) → r ≡ Err e → IfErr r P → P e
@@ -99,12 +99,12 @@ not_refused {A} r x reason was told = absurd (by (sym was ∙ told.0)) where
   by same = cc
 
 -- opening that is refused for another reason than a file is refused as where none is missing
-none_missing : (contents : List ℕ) (e : ImageError) → ¬ NeedsAnother contents → IsRefusedRightly contents true M.OtherFiles e → IsRefusedRightly contents true M.Nothing e
+none_missing : (contents : List ℕ) (e : ImageError) → ¬ NeedsAnother contents → IsJustifiedRefusal contents true M.OtherFiles e → IsJustifiedRefusal contents true M.Nothing e
 none_missing contents e alone = by e where
   suits : HeaderSuits contents true M.OtherFiles → HeaderSuits contents true M.Nothing
   suits so = record { reads = so.reads; on_clusters = so.on_clusters; needs_none = λ needs. absurd (let bad : false ≡ true = needs.needs in cc) }
 
-  by : (e : ImageError) → IsRefusedRightly contents true M.OtherFiles e → IsRefusedRightly contents true M.Nothing e
+  by : (e : ImageError) → IsJustifiedRefusal contents true M.OtherFiles e → IsJustifiedRefusal contents true M.Nothing e
   by I.Metadata why = ⊎_elim (λ ill. inl ill) (λ table. inr (suits table.0, table.1)) why
   by I.Limit why = ⊎_elim (λ past. inl past) (λ table. inr (suits table.0, table.1)) why
   by I.UnalignedTable why = why
@@ -120,7 +120,7 @@ opening_refused {S} view builder storage refused unnamed made rightly =
     let why = none_missing (view storage).contents refused.1 (made.alone unnamed) (rightly.1 made.honest) in
     let result : Result (Qcow2 S NoBacking) (S × ImageError) = Err refused in
     opening_reasons builder view storage result made
-    (λ is. absurd (no_truth (subst (λ (e : ImageError). IsRefusedRightly (view storage).contents true M.Nothing e) is why).1.needs), λ honest. why)
+    (λ is. absurd (no_truth (subst (λ (e : ImageError). IsJustifiedRefusal (view storage).contents true M.Nothing e) is why).1.needs), λ honest. why)
   where
     no_truth : false ≡ true → ⊥
     no_truth bad = cc
@@ -138,37 +138,37 @@ module _ {S F : Type 0} (view : S → StorageView) (backing : F → BackingView)
     pub header_is : image.file.header.fields ≡ header (byte_at contents)
     header_is = sym (known_header (state_in view image.file (pending_in view backing image [])) opened.sound.file.caches.kept.kept.crash_invariant) ∙ ap header known_is
 
-    met_disk : (e : ImageError) → IsMetReadingRange [] 0 (size_of image) image.file.header.fields (known_in view image.file) e → IsMetReadingDisk (byte_at contents) e
-    met_disk e met =
-        let headed = subst (λ (h : HeaderFields). IsMetReadingRange [] 0 h.size h (known_in view image.file) e) header_is met in
+    met_disk : (e : ImageError) → MayFailReadingRange [] 0 (size_of image) image.file.header.fields (known_in view image.file) e → MayFailReadingDisk (byte_at contents) e
+    met_disk e may_fail =
+        let headed = subst (λ (h : HeaderFields). MayFailReadingRange [] 0 h.size h (known_in view image.file) e) header_is may_fail in
         let h = header (byte_at contents) in
-        ⊎_elim (λ looking. ⊎_elim (λ fault. inl fault) (λ held. absurd (none_prepared held.1)) looking) (λ some. inr some) (subst (λ (b : Bytes). IsMetReadingRange [] 0 h.size h b e) known_is headed)
+        ⊎_elim (λ looking. ⊎_elim (λ fault. inl fault) (λ held. absurd (none_prepared held.1)) looking) (λ some. inr some) (subst (λ (b : Bytes). MayFailReadingRange [] 0 h.size h b e) known_is headed)
 
-    pub met_disks : {A : Type 0} (r : Result A ImageError) → IfErr r (IsMetReadingRange [] 0 (size_of image) image.file.header.fields (known_in view image.file)) → IfErr r (IsMetReadingDisk (byte_at contents))
-    met_disks r met = err_then r met_disk met
+    pub met_disks : {A : Type 0} (r : Result A ImageError) → IfErr r (MayFailReadingRange [] 0 (size_of image) image.file.header.fields (known_in view image.file)) → IfErr r (MayFailReadingDisk (byte_at contents))
+    met_disks r may_fail = err_then r met_disk may_fail
 
 -- an import of a raw disk of the image's size
 pub met_importing : {A : Type 0} {n m : ℕ} (P : ImageError → Type 0) (r : Result A ImageError) (e : ImageError) → r ≡ Err e → n ≡ m → IfErr r (λ x. x ≡ I.InvalidOption → n ≢ m) → IfErr r (λ x. (x ≡ I.InvalidOption) ⊎ P x) → P e
-met_importing {A} {n} {m} P r e is same option met =
-    ⊎_elim (λ bad. absurd (of_err (λ x. x ≡ I.InvalidOption → n ≢ m) r e is option bad same)) (λ p. p) (of_err (λ x. (x ≡ I.InvalidOption) ⊎ P x) r e is met)
+met_importing {A} {n} {m} P r e is same option may_fail =
+    ⊎_elim (λ bad. absurd (of_err (λ x. x ≡ I.InvalidOption → n ≢ m) r e is option bad same)) (λ p. p) (of_err (λ x. (x ≡ I.InvalidOption) ⊎ P x) r e is may_fail)
 
 -- the image that was created is handed back then
 pub met_once_created : {S A : Type 0} (view : S → StorageView) (n : ℕ) (old new : Qcow2 S NoBacking) (storage : S) (r : Result A ImageError) → storage ≡ storage_of_image new → size_of old ≡ n → IsTrue (is_writable old) → IsSameImage old new
-    → IsImageOfSize n (byte_at (view (storage_of_image new)).contents) → IfErr r (IsMetImporting view 0 (size_of old) new []) → IfErr r (IsMetOnceCreated view n storage)
-met_once_created view n old new storage r is size writable same stands = err_then r (λ e met. record {
+    → IsImageOfSize n (byte_at (view (storage_of_image new)).contents) → IfErr r (MayFailImporting view 0 (size_of old) new []) → IfErr r (MayFailOnceCreated view n storage)
+met_once_created view n old new storage r is size writable same stands = err_then r (λ e may_fail. record {
   left = new;
   is_left = sym is;
   writable = subst IsTrue (sym same.writable) writable;
   stands = subst (λ s. IsImageOfSize n (byte_at (view s).contents)) (sym is) stands;
-  met = subst (λ k. IsMetImporting view 0 k new [] e) size met;
+  may_fail = subst (λ k. MayFailImporting view 0 k new [] e) size may_fail;
 })
 
 -- ---- a raw disk of an image
 pub met_exporting : {R A B : Type 0} (contents : List ℕ) (old new : R) (copied : Result B ImageError) (told : Result A ImageError) → OpensToExport contents → IfErr told (λ e. (copied ≡ Err e) ⊎ IsFault e) → IfErr copied IsOfReading
-    → (IsConsistent (byte_at contents) → IfErr copied (IsMetReadingDisk (byte_at contents))) → IfErr told (λ e. IsUnopened contents old new e ⊎ IsMetExporting contents e)
-met_exporting contents old new copied (Ok n) opens cause reading met = tt
-met_exporting contents old new copied (Err e) opens cause reading met = inr (record {
+    → (IsConsistent (byte_at contents) → IfErr copied (MayFailReadingDisk (byte_at contents))) → IfErr told (λ e. IsUnopened contents old new e ⊎ MayFailExporting contents e)
+met_exporting contents old new copied (Ok n) opens cause reading may_fail = tt
+met_exporting contents old new copied (Err e) opens cause reading may_fail = inr (record {
   opens = opens;
   of_reading = ⊎_elim (λ is. of_err IsOfReading copied e is reading) (λ fault. inl (faults_met {T = ℕ} (Err e) fault)) cause;
-  met = λ consistent. ⊎_elim (λ is. of_err (IsMetReadingDisk (byte_at contents)) copied e is (met consistent)) (λ fault. inl fault) cause;
+  may_fail = λ consistent. ⊎_elim (λ is. of_err (MayFailReadingDisk (byte_at contents)) copied e is (may_fail consistent)) (λ fault. inl fault) cause;
 })

@@ -1,4 +1,4 @@
--- Lines of a list that are printed one after the other.
+-- Printing the lines of a list, one after another.
 use Rattle.std.proofs.Common.{◌≡◌, ℕ, List, [], Option, subst}
 use Rattle.std.specs.Io.KnownBytes.{Appends}
 use Rattle.qcow2_metadata.specs.Bytes.{Bytes}

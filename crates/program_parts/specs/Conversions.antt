@@ -10,8 +10,8 @@ use Rattle.qcow2_disk.specs.Stops.{checkpoint_at, LeavesKept}
 use Rattle.qcow2_laws.specs.Opened.{HasNoLeaks}
 use Rattle.qcow2_image.specs.Created.{begins_image, IsAllowed, IsReasonNotToCreateOpen}
 use Rattle.qcow2_image.specs.Image.{is_writable, storage_of_image}
-use Rattle.qcow2_image.specs.MetAlone.{HasCompressedIn}
-use Rattle.qcow2_image.specs.Readable.{IsReadable, IsRefusedRightly}
+use Rattle.qcow2_image.specs.MayFail.{HasCompressedIn}
+use Rattle.qcow2_image.specs.Readable.{IsReadable, IsJustifiedRefusal}
 use Rattle.qcow2_image.specs.declared.builder.NoBacking.{NoBacking}
 use Rattle.qcow2_image.specs.declared.builder.Qcow2CreateBuilder.{Qcow2CreateBuilder}
 use Rattle.qcow2_image.specs.declared.image.Missing.TheVariants as Missing
@@ -19,7 +19,7 @@ use Rattle.qcow2_image.specs.declared.image.Qcow2.{Qcow2}
 use Rattle.qcow2_alloc.specs.ImageError.{IsFault}
 use Rattle.qcow2_alloc.specs.declared.error.ImageError.{ImageError}
 use Rattle.qcow2_alloc.specs.declared.error.ImageError.TheVariants.{Compressed, Storage}
-use Rattle.qcow2_session.specs.Conversions.{IsMetImporting, IsRawOf}
+use Rattle.qcow2_session.specs.Conversions.{MayFailImporting, IsRawOf}
 use Rattle.qcow2_session.specs.Sessions.{IsOfReading}
 
 -- Without a backing disk, unmapped clusters show zeros.
@@ -94,16 +94,16 @@ abbrev pub IsRefusedUntouched : {S : Type 0} → ImageError → S → S × Resul
 IsRefusedUntouched reason storage answer = (answer.0 ≡ storage) × IsErrAnd answer.1 (λ e. (e ≡ reason) ⊎ IsFault e)
 
 -- The storage that is returned holds a consistent image of size n, and copying the raw disk into it was refused for this reason.
-pub record IsMetOnceCreated {S : Type 0} (view : S → StorageView) (n : ℕ) (storage : S) (e : ImageError) : Type 0 where
+pub record MayFailOnceCreated {S : Type 0} (view : S → StorageView) (n : ℕ) (storage : S) (e : ImageError) : Type 0 where
   pub left : Qcow2 S NoBacking
   pub is_left : storage_of_image left ≡ storage
   pub writable : IsTrue (is_writable left)
   pub stands : IsImageOfSize n (byte_at (view storage).contents)
-  pub met : IsMetImporting view 0 n left [] e
+  pub may_fail : MayFailImporting view 0 n left [] e
 
 -- Why the image is not made, if the raw disk keeps its size: it is not created and opened, or copying into it is refused.
 abbrev pub IsReasonNotToMake : {S : Type 0} → (S → StorageView) → Qcow2CreateBuilder S → S → ImageError → Type 0
-IsReasonNotToMake view builder storage e = IsReasonNotToCreateOpen view builder (storage, e) ⊎ IsMetOnceCreated view builder.size storage e
+IsReasonNotToMake view builder storage e = IsReasonNotToCreateOpen view builder (storage, e) ⊎ MayFailOnceCreated view builder.size storage e
 
 -- ---- why a raw disk is not made from an image
 
@@ -113,14 +113,14 @@ OpensToExport contents = IsReadable contents false Missing.OtherFiles
 
 -- Opening is refused for this reason, and the target of the disk is unchanged.
 abbrev pub IsUnopened : {R : Type 0} → List ℕ → (old new : R) → ImageError → Type 0
-IsUnopened contents old new e = IsRefusedRightly contents false Missing.OtherFiles e × (new ≡ old)
+IsUnopened contents old new e = IsJustifiedRefusal contents false Missing.OtherFiles e × (new ≡ old)
 
 -- Why reading the whole disk of a consistent image is refused: a fault of one of the storages; or 7, if some guest cluster of it is compressed.
-abbrev pub IsMetReadingDisk : Bytes → ImageError → Type 0
-IsMetReadingDisk b e = IsFault e ⊎ ((e ≡ Compressed) × HasCompressedIn 0 (header b).size (header b) b)
+abbrev pub MayFailReadingDisk : Bytes → ImageError → Type 0
+MayFailReadingDisk b e = IsFault e ⊎ ((e ≡ Compressed) × HasCompressedIn 0 (header b).size (header b) b)
 
 -- The image was opened, and exporting its disk was refused for this reason. For an image that is not consistent, any refusal of a read is possible.
-pub record IsMetExporting (contents : List ℕ) (e : ImageError) : Type 0 where
+pub record MayFailExporting (contents : List ℕ) (e : ImageError) : Type 0 where
   pub opens : OpensToExport contents
   pub of_reading : IsOfReading e
-  pub met : IsConsistent (byte_at contents) → IsMetReadingDisk (byte_at contents) e
+  pub may_fail : IsConsistent (byte_at contents) → MayFailReadingDisk (byte_at contents) e

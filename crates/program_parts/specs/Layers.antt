@@ -1,4 +1,4 @@
--- What contracts see of an image's disk over others.
+-- The view of an image's disk over others in contracts.
 use Rattle.std.specs.Prelude.{ℕ, ◌<◌, ◌≤◌, ◌≡◌, ◌==◌, List, [], length, Option, codes, option_map, slice_get, if◌then◌else◌}
 use Rattle.image_access.specs.Moments.{StorageView}
 use Rattle.qcow2_image.specs.Image.{storage_of_image}
@@ -8,18 +8,18 @@ use Rattle.program_parts.specs.Disks.{SeenDisk, raw_disk}
 use Rattle.program_parts.specs.declared.layers.Shown.{Shown}
 use Rattle.program_parts.specs.declared.layers.Shown.TheVariants.{Here, Below}
 
--- images from the top down, and a raw disk below them all where there is one
+-- Images from the top down, and a raw disk below them all if there is one.
 pub record Stack (S : Type 0) : Type 0 where
   pub images : List (Qcow2 S NoBacking)
   pub base : Option S
-  -- the place of the layer that was read last
+  -- The place of the layer that was read last.
   pub last : ℕ
 
--- the storage of the layer at a place
+-- The storage of the layer at a place.
 abbrev pub storage_at : {S : Type 0} → Stack S → ℕ → Option S
 storage_at stack place = if place == length stack.images then stack.base else option_map storage_of_image (slice_get stack.images place)
 
--- one byte or more of these are shown, by an image itself or by what is below it
+-- One byte or more of the range is shown, by an image itself or by what is below it.
 abbrev pub IsShown : ℕ → Shown → Type 0
 IsShown all (Here n) = (0 < n) × (n ≤ all)
 IsShown all (Below n) = (0 < n) × (n ≤ all)

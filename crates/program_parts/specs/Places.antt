@@ -33,7 +33,7 @@ pub record GetsName (bytes : List ℕ) (old new : NameView) : Type 0 where
   pub holds : new.holds ≡ Some bytes
   pub held : new.held ≡ old.holds ∷ old.held
 
--- The file got the name. If that was refused, it may have got it all the same.
+-- The file got the name. If that was refused, the file may have got the name nevertheless.
 abbrev pub Renames : {E : Type 0} → Result (Unit {0}) E → List ℕ → NameView → NameView → Type 0
 Renames (Ok _) bytes old new = GetsName bytes old new
 Renames (Err _) bytes old new = StaysNamed old new ⊎ GetsName bytes old new

@@ -13,9 +13,9 @@ ghost use Rattle.qcow2_image.specs.Opened.{NeedsAnother};
 ghost use Rattle.qcow2_alloc.specs.ImageError.{IsFault};
 ghost use Rattle.qcow2_alloc.specs.declared.error.ImageError.TheVariants.{InvalidOption, Limit};
 ghost use Rattle.qcow2_alloc.specs.Quiet.{IsQuiet};
-ghost use Rattle.qcow2_session.specs.Conversions.{Imports, IsLeft, IsMetImporting, IsOfImporting};
+ghost use Rattle.qcow2_session.specs.Conversions.{Imports, IsLeft, MayFailImporting, IsOfImporting};
 ghost use Rattle.program_parts.specs.Conversions.{CountsBoth, CountsBytes, IsImageMade, IsImageOfSize, IsLayout};
-ghost use Rattle.program_parts.specs.Conversions.{IsMetExporting, IsReasonNotToMake, IsRefusedUntouched};
+ghost use Rattle.program_parts.specs.Conversions.{MayFailExporting, IsReasonNotToMake, IsRefusedUntouched};
 ghost use Rattle.program_parts.specs.Conversions.{IsStopOfMaking, IsUnopened};
 ghost use Rattle.program_parts.specs.Conversions.{IsExport, KeepsDisk, OpensToExport, asked_for};
 
@@ -27,9 +27,9 @@ use std::alloc::Global;
 
 /// Makes an image with the bytes of a raw disk, with this cluster size in bytes and this refcount width in bits, and returns its storage
 /// and the number of bytes.
-/// Refused 5 (invalid option) for sizes or widths that images don't have, and then nothing was written. Refused
-/// 13 (limit), 14 (memory) and 15 (storage) if the work meets them. A raw disk that has another size at the end is refused 5 too, and then the
-/// image is complete. If the storage returns other bytes than were written, other refusals are possible.
+/// Refused 5 (invalid option) for sizes or widths that images don't have, and then nothing was written. May be refused 13 (limit), 14 (memory) or
+/// 15 (storage) during the work. A raw disk that has another size at the end is refused 5 too; then the image is complete. If the storage returns
+/// other bytes than were written, other refusals are possible.
 pub fn make_image<R: Storage, S: Storage>(
     alloc: Global,
     raw: &mut R,
@@ -93,9 +93,9 @@ fn fill<R: Storage, S: Storage, F: WrappedFormat<S>>(
     ensures stands { (n : ℕ) → IsOpened (abstract_of S.view F.backing image.old [])
         → IsImageOfSize n (byte_at (S.view (storage_of_image image.old)).contents)
         → IsImageOfSize n (byte_at (S.view (storage_of_image image.new)).contents) }
-    ensures met { (R.view raw.old).is_honest → length (R.view raw.old).contents ≡ size_of image.old
+    ensures may_fail { (R.view raw.old).is_honest → length (R.view raw.old).contents ≡ size_of image.old
         → IsOpened (abstract_of S.view F.backing image.old [])
-        → IfErr result (IsMetImporting S.view 0 (size_of image.old) image.new []) }
+        → IfErr result (MayFailImporting S.view 0 (size_of image.old) image.new []) }
     ensures faults { ConversionCounts S.view F.backing image.old image.new (R.view raw.old).faults (R.view raw.new).faults result }
 {
     let count = to_qcow2(alloc, raw, image)?;
@@ -106,7 +106,7 @@ fn fill<R: Storage, S: Storage, F: WrappedFormat<S>>(
 }
 
 /// The size of an image's disk in bytes, by its header. The image is only read. Refused 19 (metadata) and 13 (limit) for an unreadable header,
-/// and 14 (memory) and 15 (storage) if the work meets them.
+/// and 14 (memory) or 15 (storage) during the work.
 pub fn disk_size<S: Storage>(alloc: Global, storage: &mut S) -> Result<u64, ImageError>
     ensures size { (S.view storage.old).is_honest
         → IfOk result (λ n. n ≡ (header (byte_at (S.view storage.old).contents)).size) }
@@ -117,8 +117,8 @@ pub fn disk_size<S: Storage>(alloc: Global, storage: &mut S) -> Result<u64, Imag
 }
 
 /// Makes a raw disk from an image, which is only read and never written, and returns the image's storage and the number of bytes.
-/// An image that doesn't open alone is refused as by `open_alone`: 19 (metadata), 13 (limit), 4 (unaligned table), 12 (dependency). The
-/// raw disk stays unchanged then. Refused 4, 7 (compressed), 14 (memory) and 15 (storage) if the work meets them.
+/// An image that doesn't open alone is refused as by `open_alone`: 19 (metadata), 13 (limit), 4 (unaligned table), 12 (dependency). The raw disk
+/// then stays unchanged. May be refused 4, 7 (compressed), 14 (memory) or 15 (storage) during the work.
 pub fn make_raw_disk<S: Storage, R: Storage>(
     alloc: Global,
     storage: S,
@@ -134,7 +134,7 @@ pub fn make_raw_disk<S: Storage, R: Storage>(
         → IsErrAnd result.1 (IsUnopened (S.view storage).contents raw.old raw.new) }
     ensures cause { (S.view storage).is_honest
         → IfErr result.1 (λ e. IsUnopened (S.view storage).contents raw.old raw.new e
-        ⊎ IsMetExporting (S.view storage).contents e) }
+        ⊎ MayFailExporting (S.view storage).contents e) }
     ensures quiet { (S.view storage).is_honest → IsQuiet (S.view storage) (S.view result.0) }
     ensures faults { CountsBoth (S.view storage).faults (S.view result.0).faults (R.view raw.old).faults (R.view raw.new).faults result.1 }
 {

@@ -42,7 +42,7 @@ impl<D: DiskReader> DiskStorage<D> {
         Err(StorageError::Fault)
     }
 
-    fn told<T>(&mut self, answer: Result<T, ImageError>) -> Result<T, StorageError>
+    fn refusal_to_report<T>(&mut self, answer: Result<T, ImageError>) -> Result<T, StorageError>
         ensures cause { HasCause self.old.faults self.new.faults result }
     {
         match answer {
@@ -74,7 +74,7 @@ impl<D: DiskReader> Storage for DiskStorage<D> {
 
     fn size(&mut self) -> Result<u64, StorageError> {
         let answer = self.disk.byte_count();
-        self.told(answer)
+        self.refusal_to_report(answer)
     }
 
     fn read(&mut self, at: u64, buf: &mut [u8]) -> Result<(), StorageError> {
@@ -83,7 +83,7 @@ impl<D: DiskReader> Storage for DiskStorage<D> {
         let (within, beyond) = buf.split_at_mut(within.min(buf.len()));
         beyond.fill(0);
         let answer = self.disk.read_bytes(at, within);
-        self.told(answer)
+        self.refusal_to_report(answer)
     }
 
     fn write(&mut self, _at: u64, _bytes: &[u8]) -> Result<(), StorageError> {

@@ -34,8 +34,8 @@ impl Vetted {
 
 /// Decides whether an image with a disk of at most `max_size` bytes may be accepted. It may be if it is consistent (so it needs no key, no data
 /// file and no repair, and has no snapshots) and names no backing file. Only the bytes of the image are read, and no name in
-/// them is followed. Refused 19 (metadata) and 13 (limit) for an unreadable header, L1 table or reftable, and
-/// 14 (memory) and 15 (storage) if the work meets them.
+/// them is followed. Refused 19 (metadata) and 13 (limit) for an unreadable header, L1 table or reftable, and 14 (memory) or 15 (storage) during
+/// the work.
 pub fn vet<S: Storage>(alloc: Global, storage: &mut S, max_size: u64) -> Result<Vetted, ImageError>
     ensures vetted { (S.view storage.old).is_honest
         → IfOk result (IsVetted (byte_at (S.view storage.old).contents) max_size) }

@@ -1,4 +1,4 @@
--- Ranges of counts whose refblock begins at a cluster, and those whose refblock doesn't.
+-- Ranges whose refblock is aligned, and those whose refblock is not.
 use Rattle.std.proofs.Common.{◌≡◌, ℕ, ◌*◌, ◌/◌, ◌%◌, ◌^◌, sym, ap, ◌∙◌, subst}
 use Rattle.std.proofs.Math.Nat.{mul-mod_left}
 use Rattle.qcow2_metadata.specs.Entries.{block_offset}

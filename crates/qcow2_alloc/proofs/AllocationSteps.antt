@@ -1,4 +1,4 @@
--- Loading refblocks, and taking and giving back one cluster.
+-- Loading refblocks, and allocating and freeing one cluster.
 use Rattle.std.proofs.Common.{◌≡◌, ◌≢◌, inl, inr, refl, ℕ, ◌+◌, ◌*◌, ◌/◌, ◌%◌, ◌^◌, ◌<◌, ◌≤◌, Bool, true, false, List, length, Option, Some, None, Result, Ok, Err, IsErr, IsErrAnd, IsSome, IsTrue, sym, ap, ◌∙◌, subst, mul-pos, arith}
 use Rattle.std.specs.Option.{is_some}
 use Rattle.std.proofs.lemmas.Bool.{cases_eq}
@@ -21,13 +21,13 @@ use Rattle.qcow2_alloc.specs.declared.image_file.ImageFile.{ImageFile}
 use Rattle.qcow2_alloc.specs.declared.clusters_to_free.ClusterKind.{ClusterKind}
 use Rattle.qcow2_alloc.specs.declared.clusters_to_free.ClusterKind.TheVariants.{Data, Metadata}
 use Rattle.qcow2_alloc.specs.declared.clusters_to_free.ClustersToFreeEntry.{ClustersToFreeEntry}
-use Rattle.qcow2_alloc.specs.Allocation.{run_at, is_data, taken_as, Owed, Taken, Listed, owed_as, MayTake, MayLower, HasNone, NamesBlock, NamesBehindHeader, KeepsRefblocks, NamesLacking, KeepsEntries, KeepsNamed, RefblockAt, InternalAllocatorStep, InternalAllocatorGrowth, PlacesBlock, GetsBlock, RefusedGrowth, TakesOne, TakesCluster, Allocates}
+use Rattle.qcow2_alloc.specs.Allocation.{run_at, is_data, taken_as, Owed, Taken, Listed, owed_as, MayAllocate, MayDecrement, HasNone, NamesBlock, NamesBehindHeader, KeepsRefblocks, NamesLacking, KeepsEntries, KeepsNamed, RefblockAt, InternalAllocatorStep, InternalAllocatorGrowth, PlacesBlock, GetsBlock, RefusedGrowth, AllocatesGiven, AllocatesCluster, Allocates}
 use Rattle.qcow2_alloc.specs.CachePins.{KeepsPinsAndNotes}
 use Rattle.qcow2_alloc.specs.ImageFile.{view_in, contents_in, known_in, FileInvariant, AllocatorInvariant, HasReftable, RefusedFileStep}
 use Rattle.image_access.specs.declared.error.StorageError.{StorageError}
 use Rattle.image_access.specs.declared.error.StorageError.TheVariants.{Fault, Memory}
 use Rattle.qcow2_alloc.specs.ImageError.{of_storage, IsFault}
-use Rattle.qcow2_alloc.specs.MetadataCaches.{order_of, rb_at, IsCountedAt, RaisesCount, LowersCount, InternalCacheStep}
+use Rattle.qcow2_alloc.specs.MetadataCaches.{order_of, rb_at, IsCountedAt, IncrementsCount, DecrementsCount, InternalCacheStep}
 use Rattle.qcow2_alloc.specs.declared.image_storage.ImageStorage.{ImageStorage}
 use Rattle.qcow2_alloc.specs.ImageStorage.{storage_of}
 use Rattle.qcow2_alloc.proofs.KeptTables.Standing.{own_cluster}
@@ -43,11 +43,11 @@ handed_on P (Err x) e is holds = subst (λ y. P (Err y)) (sym is.1) holds
 pub of_equal : {A B : Type 0} (P : A → B → Type 0) (a a' : A) (b b' : B) → a ≡ a' → b ≡ b' → P a' b' → P a b
 of_equal P a a' b b' same_a same_b holds = subst (λ x. P x b) (sym same_a) (subst (P a') (sym same_b) holds)
 
-pub may_still : {S : Type 0} (d : Bool) (a b : ImageFile S) → order_of b.caches ≡ order_of a.caches → MayTake d a → MayTake d b
+pub may_still : {S : Type 0} (d : Bool) (a b : ImageFile S) → order_of b.caches ≡ order_of a.caches → MayAllocate d a → MayAllocate d b
 may_still true a b same may = same ∙ may
 may_still false a b same may = tt
 
-pub may_lower_still : {S : Type 0} (owed : Owed) (a b : ImageFile S) → order_of b.caches ≡ order_of a.caches → MayLower owed a → MayLower owed b
+pub may_lower_still : {S : Type 0} (owed : Owed) (a b : ImageFile S) → order_of b.caches ≡ order_of a.caches → MayDecrement owed a → MayDecrement owed b
 may_lower_still (Taken d) a b same may = tt
 may_lower_still (Listed Data) a b same may = same ∙ may
 may_lower_still (Listed Metadata) a b same may = tt
@@ -222,7 +222,7 @@ module _ {S : Type 0} (view : S → StorageView) where
 
   -- a cluster that is taken, or is in use, after a step
   pub takes_on : (p q : Pending) (a b c : ImageFile S) (t t' t'' : Allocator) (d : Bool) (cluster : ℕ) (taken : Bool) → ((k : ℕ) → 0 < p.new_data k → 0 < q.new_data k) → t''.reftable ≡ t'.reftable
-      → InternalAllocatorGrowth view p a t b q → TakesOne view q b t' c d cluster (Ok taken) → TakesCluster view p a t'' c q d cluster (Ok taken)
+      → InternalAllocatorGrowth view p a t b q → AllocatesGiven view q b t' c d cluster (Ok taken) → AllocatesCluster view p a t'' c q d cluster (Ok taken)
   takes_on p q a b c t t' t'' d cluster true new_data same first second =
       on_as p (taken_as d q (one_at cluster)) a c t' t'' same (allocator_step_on p q (taken_as d q (one_at cluster)) a b c t t' new_data first (on_of q (taken_as d q (one_at cluster)) b c t' second))
   takes_on p q a b c t t' t'' d cluster false new_data same first second = on_as p q a c t' t'' same (allocator_step_on p q q a b c t t' new_data first (on_of q q b c t' second))
@@ -235,8 +235,8 @@ module _ {S : Type 0} (view : S → StorageView) where
   -- a refblock that was placed in a cluster that was taken for it, and that was noted
   pub gets_taken : (p : Pending) (a b c : ImageFile S) (t t' : Allocator) (range at : ℕ) (result : Result (Unit {0}) ImageError) → InternalAllocatorStep view p a t b (taken_as false p (one_at at)) → IsTrue c.caches.is_changed
       → PlacesBlock view (taken_as false p (one_at at)) b t' c p range at result → GetsBlock view p a t' c result
-  gets_taken p a b c t t' range at (Ok _) first noted placed = record { file_step = file_step_then view p (taken_as false p (one_at at)) p a b c (λ k some. some) first.file_step placed.0.file_step; reftable = placed.0.reftable }
-  gets_taken p a b c t t' range at (Err e) first noted placed = inr (interrupted_after view p (taken_as false p (one_at at)) a b c t' e first.file_step placed.0 noted placed.1)
+  gets_taken p a b c t t' range at (Ok _) first recorded placed = record { file_step = file_step_then view p (taken_as false p (one_at at)) p a b c (λ k some. some) first.file_step placed.0.file_step; reftable = placed.0.reftable }
+  gets_taken p a b c t t' range at (Err e) first recorded placed = inr (interrupted_after view p (taken_as false p (one_at at)) a b c t' e first.file_step placed.0 recorded placed.1)
 
   -- a refblock that was placed
   pub gets_placed : (p : Pending) (old new : ImageFile S) (t : Allocator) (range at : ℕ) (result : Result (Unit {0}) ImageError) → PlacesBlock view p old t new p range at result → GetsBlock view p old t new result
@@ -288,7 +288,7 @@ module _ {S : Type 0} (view : S → StorageView) where
   -- ---- one cluster
   module _ (p : Pending) (a b : ImageFile S) (t : Allocator) (first : InternalAllocatorStep view p a t b p) (cluster block index : ℕ) (at : IsCountedAt b.header.fields (known_in view b) cluster block index)
       (caches : MetadataCaches S) (turned : order_of caches ≡ order_of b.caches) (marks : KeepsPinsAndNotes b.caches caches) where
-    pub taken_one : (d : Bool) → MayTake d a → order_of b.caches ≡ order_of a.caches → count b.header.fields (known_in view b) cluster ≡ 0 → RaisesCount b.caches caches block index
+    pub taken_one : (d : Bool) → MayAllocate d a → order_of b.caches ≡ order_of a.caches → count b.header.fields (known_in view b) cluster ≡ 0 → IncrementsCount b.caches caches block index
         → InternalAllocatorStep view p a t (record b { caches = caches }) (taken_as d p (one_at cluster))
     taken_one d may same free raises =
         let made = raises b.header.fields p (contents_in view b) cluster first.file_step.sound.caches at free in record {
@@ -297,7 +297,7 @@ module _ {S : Type 0} (view : S → StorageView) where
           reftable = reftable_counted view p b caches cluster first.file_step.sound marks turned t.reftable first.reftable;
         }
 
-    pub given_one : (owed : Owed) (q : Pending) → MayLower owed b → p ≡ owed_as owed q (one_at cluster) → LowersCount b.caches caches block index → InternalAllocatorStep view p a t (record b { caches = caches }) q
+    pub given_one : (owed : Owed) (q : Pending) → MayDecrement owed b → p ≡ owed_as owed q (one_at cluster) → DecrementsCount b.caches caches block index → InternalAllocatorStep view p a t (record b { caches = caches }) q
     given_one owed q may owes lowers =
         let made = lowers b.header.fields p (contents_in view b) cluster first.file_step.sound.caches at in record {
           file_step = file_step_then view p p q a b (record b { caches = caches }) (λ k some. some) first.file_step (file_step_lowered view p b caches cluster first.file_step.sound marks turned q made owed may owes);

@@ -1,4 +1,4 @@
--- What a cache's call leaves of a measure of its store that steps never lower, and that a fault raises.
+-- What a cache call leaves of a measure of its store that steps never lower and faults increase.
 use Rattle.std.proofs.Common.{◌≡◌, ◌≤◌, ℕ, Bool, true, false, List, [], ◌∷◌, Option, Some, None, Result, Ok, Err, ⊎_elim, ap, sym, ◌∙◌, subst, arith}
 use Rattle.std.specs.Option.{option_or}
 use Rattle.image_access.specs.Moments.{Rose}

@@ -1,4 +1,4 @@
--- What calls of the caches do to their marks.
+-- What calls of the caches do to pins and recorded changes.
 use Rattle.std.proofs.Common.{◌≡◌, ℕ, ◌+◌, ◌-◌, ◌^◌, ◌<◌, Bool, true, false, cond, eqb, nat_lt, List, [], ◌∷◌, map, Option, Some, None, IsTrue, refl, sym, ap, ◌∙◌, subst}
 use Rattle.std.specs.Cmp.{nat_eq_equiv}
 use Rattle.std.specs.Option.{option_map, option_map_or}

@@ -1,4 +1,4 @@
--- One step of the caches after another, and what one call of a cache is to them.
+-- How steps of the caches compose, and how one cache call is such a step.
 use Rattle.std.proofs.Common.{◌≡◌, ◌≢◌, ℕ, Bool, true, eqb, List, Option, Some, Result, Ok, Err, IsErr, IsErrAnd, IsSome, refl, sym, ◌∙◌, subst}
 use Rattle.std.specs.Option.{IfSome, IsNone}
 use Rattle.std.specs.Map.{keys_of, lookup, lookup_entry, remove_entry}
@@ -31,7 +31,7 @@ use Rattle.qcow2_alloc.specs.MetadataCaches.{order, order_of, l2_tables, refbloc
 use Rattle.qcow2_alloc.specs.Steps.{err_of, FailsFor}
 use Rattle.qcow2_alloc.specs.TableCaches.{l2_steps, rb_steps}
 use Rattle.qcow2_alloc.proofs.CachePins.{marks_none, marks_tables, marks_blocks}
-use Rattle.qcow2_alloc.proofs.Faults.{CacheTells, cache_told}
+use Rattle.qcow2_alloc.proofs.Faults.{CacheReports, cache_told}
 use Rattle.qcow2_alloc.proofs.KeptMarks.{kept_marks_none, kept_marks_then, marks_of_both}
 use Rattle.qcow2_alloc.proofs.KeptTables.AllWritten.{written_none, written_then, written_turned, tables_flushed_written, blocks_flushed_written, table_got_written, block_got_written}
 use Rattle.qcow2_alloc.proofs.KeptTables.ApartCalls.{apart_none, apart_then, apart_turned, tables_flushed_apart, blocks_flushed_apart, table_got_apart, block_got_apart, table_kept_apart, block_kept_apart}
@@ -41,7 +41,7 @@ use Rattle.qcow2_alloc.proofs.KeptTables.Clean.{blocks_go, tables_go}
 use Rattle.qcow2_alloc.proofs.KeptTables.Fetching.{table_got, block_got}
 use Rattle.qcow2_alloc.proofs.KeptTables.Flushing.{tables_flushed, blocks_flushed}
 use Rattle.qcow2_alloc.proofs.KeptTables.InOrder.{order_none, order_then, tables_in_order, blocks_in_order, table_got_in_order, block_got_in_order, table_put_in_order, block_put_in_order}
-use Rattle.qcow2_alloc.proofs.KeptTables.Turning.{keep_none, keep_then, keep_turned}
+use Rattle.qcow2_alloc.proofs.KeptTables.Switching.{keep_none, keep_then, keep_turned}
 use Rattle.qcow2_alloc.proofs.KeptTables.Putting.{table_kept}
 use Rattle.qcow2_alloc.proofs.KeptTables.PuttingBlocks.{block_kept}
 use Rattle.qcow2_alloc.proofs.Outcomes.{on_err, on_no_ok}
@@ -138,9 +138,9 @@ pub rb_not_l2 : Order.RbDependsOnL2 ≢ Order.L2DependsOnRb
 rb_not_l2 bad = absurd cc
 
 -- ---- why a call of a cache is refused, which `?` hands on
-pub fails_cache : {T A : Type 0} {before now : ℕ} (answer : Result A (CacheError ℕ MetadataError)) (e : CacheError ℕ MetadataError) (r : Result T ImageError) → CacheTells before now answer → answer ≡ Err e → IsErr r × IsErrAnd r (λ x. x ≡ of_cache e)
+pub fails_cache : {T A : Type 0} {before now : ℕ} (answer : Result A (CacheError ℕ MetadataError)) (e : CacheError ℕ MetadataError) (r : Result T ImageError) → CacheReports before now answer → answer ≡ Err e → IsErr r × IsErrAnd r (λ x. x ≡ of_cache e)
     → FailsFor before now (err_of r) IsOfTables
-fails_cache {before = before} {now = now} answer e r tells is on = fails_of r (cache_told before now answer e r tells is on) (given_err r (of_cache e) IsOfTables on (cache_of_tables e))
+fails_cache {before = before} {now = now} answer e r reports is on = fails_of r (cache_told before now answer e r reports is on) (given_err r (of_cache e) IsOfTables on (cache_of_tables e))
 
 -- ---- a call of one cache
 abbrev seen_by : {S : Type 0} → (S → StorageView) → ImageStorage S → StorageView
@@ -219,8 +219,8 @@ module _ {S : Type 0} (view : S → StorageView) (old new : ImageStorage S) (cac
 
 -- ---- putting in
 -- What is refused changes nothing known.
-pub puts_refused : {S : Type 0} {view : S → StorageView} {old new : ImageStorage S} {caches caches' : MetadataCaches S} {IsFit : HeaderFields → Type 0} {place : Option ℕ} {bytes : List ℕ} {is_modified : Bool} {Lays LaysApart : Type 0}
-    (r : Result (Unit {0}) ImageError) (e : ImageError) → IsErr r × IsErrAnd r (λ x. x ≡ e) → KeepsSoundly view old caches new caches' → PutsSoundly view IsFit place bytes is_modified Lays LaysApart old caches new caches' r
+pub puts_refused : {S : Type 0} {view : S → StorageView} {old new : ImageStorage S} {caches caches' : MetadataCaches S} {IsFit : HeaderFields → Type 0} {place : Option ℕ} {bytes : List ℕ} {is_modified : Bool} {Overlays OverlaysApart : Type 0}
+    (r : Result (Unit {0}) ImageError) (e : ImageError) → IsErr r × IsErrAnd r (λ x. x ≡ e) → KeepsSoundly view old caches new caches' → PutsSoundly view IsFit place bytes is_modified Overlays OverlaysApart old caches new caches' r
 puts_refused r e on kept = record {
   keeps = λ h p honest sound fits clean holds. kept.keeps h p honest sound;
   laid = on_no_ok _ r e on;

@@ -1,4 +1,6 @@
 -- Facts about the entries of a cache.
+pub mod Cases
+pub mod Each
 pub mod FirstPinned
 pub mod Flushing
 pub mod Evictions

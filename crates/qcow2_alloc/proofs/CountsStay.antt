@@ -1,4 +1,4 @@
--- Counts over steps of an image's file: they change with what is pending, and rise where a refblock is named.
+-- Refcounts over steps of an image's file: they change with what is pending, and rise when a refblock gets its reference.
 use Rattle.std.proofs.Common.{◌≡◌, ◌≢◌, inl, inr, ℕ, ◌+◌, ◌≤◌, ◌==◌, ap, arith}
 use Rattle.std.proofs.lemmas.Bool.{cases_eq, cond-true, eq-eqb}
 use Rattle.qcow2_metadata.specs.Bytes.{Bytes}

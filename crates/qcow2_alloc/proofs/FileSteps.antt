@@ -1,4 +1,4 @@
--- Steps of an image's file, one after another: calls of its caches, and counts that change. What a stop may leave on the way is built here, and in the words of `qcow2_laws`.
+-- Steps of an image's file, one after another: calls of its caches, and refcounts that change. The moments on the way are built here, and from the definitions of `qcow2_laws`.
 use Rattle.std.proofs.lemmas.Bool.{or_right, cases_eq, eq-eqb, ne_eqb, cond-true, cond-false}
 use Rattle.std.proofs.Common.{◌≡◌, inl, inr, ℕ, ◌+◌, ◌/◌, ◌<◌, ◌≤◌, ◌==◌, Bool, true, false, cond, [], IsTrue, refl, sym, ap, ◌∙◌, subst, arith}
 use mathlib.Core.Path.{fun_ext}
@@ -26,7 +26,7 @@ use Rattle.qcow2_alloc.specs.declared.cache.MetadataCaches.{MetadataCaches}
 use Rattle.qcow2_alloc.specs.declared.error.ImageError.{ImageError}
 use Rattle.qcow2_alloc.specs.declared.image_file.ImageFile.{ImageFile}
 use Rattle.qcow2_alloc.specs.declared.image_storage.ImageStorage.{ImageStorage}
-use Rattle.qcow2_alloc.specs.Allocation.{taken_as, listed_as, Owed, Taken, Listed, owed_as, MayTake, MayLower}
+use Rattle.qcow2_alloc.specs.Allocation.{taken_as, listed_as, Owed, Taken, Listed, owed_as, MayAllocate, MayDecrement}
 use Rattle.qcow2_alloc.specs.declared.clusters_to_free.ClusterKind.TheVariants.{Data, Metadata}
 use Rattle.qcow2_alloc.specs.CachePins.{KeepsPinsAndNotes}
 use Rattle.qcow2_alloc.specs.ImageFile.{nothing_given, pending_at, view_in, contents_in, known_in, state_in, FileInvariant, HasReftable, InternalFileStep, InternalFileGrowth, InterruptedFileStep, RefusedFileStep, IsFault}
@@ -120,16 +120,16 @@ module _ {S : Type 0} (view : S → StorageView) where
   }
 
   pub on_interrupted : (p q : Pending) (a b c : ImageFile S) (e : ImageError) → InternalFileGrowth view p q a b → InterruptedFileStep view b c e → InterruptedFileStep view a c e
-  on_interrupted p q a b c e first second = record { fault = second.fault; noted = second.noted; since = safe_throughout_then a b c first.since first.safe_step.known second.since }
+  on_interrupted p q a b c e first second = record { fault = second.fault; recorded = second.recorded; since = safe_throughout_then a b c first.since first.safe_step.known second.since }
 
   pub interrupted_then : (p q : Pending) (a b c : ImageFile S) (e : ImageError) → Moved p q a b → InterruptedFileStep view b c e → InterruptedFileStep view a c e
-  interrupted_then p q a b c e first second = record { fault = second.fault; noted = second.noted; since = safe_throughout_then a b c first.since first.safe_step.known second.since }
+  interrupted_then p q a b c e first second = record { fault = second.fault; recorded = second.recorded; since = safe_throughout_then a b c first.since first.safe_step.known second.since }
 
   -- a fault after a change that was noted breaks off
   pub on_interrupted_after : (p q : Pending) (a b c : ImageFile S) (t : Allocator) (e : ImageError) → InternalFileGrowth view p q a b → IsFault e → IsTrue c.caches.is_changed → RefusedFileStep view q b t c e → InterruptedFileStep view a c e
-  on_interrupted_after p q a b c t e first fault noted second = record {
+  on_interrupted_after p q a b c t e first fault recorded second = record {
     fault = fault;
-    noted = λ _. or_right (is_changed_of c.storage) c.caches.is_changed noted;
+    recorded = λ _. or_right (is_changed_of c.storage) c.caches.is_changed recorded;
     since = elim second [
       | inl sound ↦ safe_throughout_then a b c first.since first.safe_step.known sound.0.since
       | inr interrupted ↦ safe_throughout_then a b c first.since first.safe_step.known interrupted.since
@@ -137,7 +137,7 @@ module _ {S : Type 0} (view : S → StorageView) where
   }
 
   pub interrupted_after : (p q : Pending) (a b c : ImageFile S) (t : Allocator) (e : ImageError) → Moved p q a b → IsFault e → IsTrue c.caches.is_changed → RefusedFileStep view q b t c e → InterruptedFileStep view a c e
-  interrupted_after p q a b c t e first fault noted second = on_interrupted_after p q a b c t e (file_step_on p q a b first) fault noted second
+  interrupted_after p q a b c t e first fault recorded second = on_interrupted_after p q a b c t e (file_step_on p q a b first) fault recorded second
 
   -- a refusal after a step that left the same pending
   pub leaves_then : (p : Pending) (a b c : ImageFile S) (t : Allocator) (e : ImageError) → Moved p p a b → RefusedFileStep view p b t c e → RefusedFileStep view p a t c e
@@ -217,7 +217,7 @@ module _ {S : Type 0} (view : S → StorageView) where
           (unnamed_free_rb h (order_of file.caches) p (l2_tables file.caches) (refblocks file.caches) (contents_in view file) kept sound.named_blocks c none o in_c))
 
       -- a cluster is taken
-      pub file_step_raised : (d : Bool) → MayTake d file → Moved p (taken_as d p (one_at c)) file counted
+      pub file_step_raised : (d : Bool) → MayAllocate d file → Moved p (taken_as d p (one_at c)) file counted
       file_step_raised true may = raised_as (with_new_data p (one_at c)) (λ k. refl) (count_is_changed.data_allocated (state_in view file p) now_known c sound.caches.kept.kept.crash_invariant may made.change not_overlaid)
       file_step_raised false may = raised_as (with_new_tables p (one_at c)) (λ k. refl) (count_is_changed.table_allocated (state_in view file p) now_known c sound.caches.kept.kept.crash_invariant made.change)
 
@@ -247,7 +247,7 @@ module _ {S : Type 0} (view : S → StorageView) where
             known = λ backing m ok known_ok. second.known backing m (first.on_storage backing m ok known_ok) (first.known backing m ok known_ok);
           })
 
-      pub file_step_lowered : (owed : Owed) → MayLower owed file → p ≡ owed_as owed q (one_at c) → Moved p q file counted
+      pub file_step_lowered : (owed : Owed) → MayDecrement owed file → p ≡ owed_as owed q (one_at c) → Moved p q file counted
       file_step_lowered (Taken true) may taken =
           let new_data : p.new_data c ≡ q.new_data c + one_at c c = ap (λ (r : Pending). r.new_data c) taken in
           let own = one_here c in

@@ -1,4 +1,4 @@
--- Bytes are written to clusters of an image's file that nothing names, and that aren't held.
+-- Writing bytes to clusters of an image's file that have no reference and no cached table.
 use Rattle.std.proofs.Common.{◌≡◌, ◌⊎◌, inl, inr, ℕ, [], refl, sym, ◌∙◌}
 use Rattle.image_access.specs.Moments.{StorageView, EachMomentSince, IsLeftBy}
 use Rattle.qcow2_metadata.specs.Bytes.{byte_at}

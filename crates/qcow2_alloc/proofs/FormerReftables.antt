@@ -1,4 +1,4 @@
--- Reftables that gave way to longer ones, and whose clusters are listed to be freed.
+-- Reftables that were replaced by longer ones, and whose clusters are listed to be freed.
 use Rattle.std.proofs.Common.{◌≡◌, ℕ, ◌+◌, ◌-◌, ◌*◌, ◌/◌, ◌%◌, ◌^◌, ◌<◌, ◌≤◌, List, [], ◌∷◌, ◌++◌, length, Some, refl, sym, ap, ◌∙◌, subst, append_assoc, arith}
 use Rattle.std.proofs.lemmas.List.{append-nil}
 use Rattle.qcow2_metadata.specs.EntryTable.{EntryTableView, entry_count, IsRefTable}

@@ -1,5 +1,5 @@
--- Working off the list of clusters that are to be freed.
-use Rattle.std.proofs.Common.{◌≡◌, ◌≢◌, inl, inr, ℕ, ◌+◌, ◌-◌, ◌*◌, ◌/◌, ◌^◌, ◌<◌, ◌≤◌, Bool, true, false, cond, List, [], ◌∷◌, ◌++◌, append_assoc, append-nil, Result, Ok, Err, OnOk, refl, sym, ap, ◌∙◌, subst, arith}
+-- Processing the list of clusters to free.
+use Rattle.std.proofs.Common.{◌≡◌, ◌≢◌, inl, inr, ℕ, ◌+◌, ◌-◌, ◌*◌, ◌/◌, ◌^◌, ◌<◌, ◌≤◌, Bool, true, false, cond, List, [], ◌∷◌, ◌++◌, append-nil, Result, Ok, Err, OnOk, refl, sym, ap, ◌∙◌, subst, arith}
 use Rattle.std.proofs.lemmas.Bool.{cases_lt}
 use Rattle.image_access.specs.Moments.{StorageView}
 use Rattle.qcow2_metadata.specs.declared.header.HeaderFields.{HeaderFields}
@@ -31,11 +31,6 @@ use Rattle.qcow2_alloc.proofs.FileInvariants.{file_invariant_of}
 listed_more : (kind : ClusterKind) (p : Pending) (m n o : ℕ → ℕ) → ((k : ℕ) → m k + n k ≡ o k) → listed_as kind (listed_as kind p m) n ≡ listed_as kind p o
 listed_more Data p m n o sum = pending_same (listed_as Data (listed_as Data p m) n) (listed_as Data p o) (λ k. refl) (λ k. refl) (λ k. refl) (λ k. let s = sum k in omega arith) (λ k. refl)
 listed_more Metadata p m n o sum = pending_same (listed_as Metadata (listed_as Metadata p m) n) (listed_as Metadata p o) (λ k. refl) (λ k. refl) (λ k. let s = sum k in omega arith) (λ k. refl) (λ k. refl)
-
--- what is held stays, whatever is listed
-pub listed_new_data : (kind : ClusterKind) (p : Pending) (m n : ℕ → ℕ) (k : ℕ) → 0 < (listed_as kind p m).new_data k → 0 < (listed_as kind p n).new_data k
-listed_new_data Data p m n k some = some
-listed_new_data Metadata p m n k some = some
 
 -- a run without its first cluster
 abbrev pub behind_first : ClustersToFreeEntry → ClusterKind → Pending → Pending
@@ -81,11 +76,6 @@ pub with_both : (p : Pending) (es fs : List ClustersToFreeEntry) → with_listed
 with_both p es fs = pending_same (with_listed (with_listed p fs) es) (with_listed p (es ++ fs)) (λ k. refl) (λ k. refl)
     (λ k. let more = free_more of_tables es fs k in omega (arith, more)) (λ k. let more = free_more of_data es fs k in omega (arith, more)) (λ k. refl)
 
--- the first of those that are taken follows on what is listed, and the rest is pending beside
-pub with_first : (p : Pending) (list taken rest : List ClustersToFreeEntry) (e : ClustersToFreeEntry) → taken ≡ e ∷ rest → with_listed (with_listed p rest) (list ++ e ∷ []) ≡ with_listed p (list ++ taken)
-with_first p list taken rest e is =
-    with_both p (list ++ e ∷ []) rest ∙ ap (with_listed p) (append_assoc list (e ∷ []) rest ∙ ap (λ l. list ++ l) (sym is))
-
 pub but_first : (kind : ClusterKind) (e : ClustersToFreeEntry) (es : List ClustersToFreeEntry) → but kind (e ∷ []) ++ but kind es ≡ but kind (e ∷ es)
 but_first kind e es = elim (is_same e.kind kind) as (λ (b : Bool). (cond b [] (e ∷ [])) ++ but kind es ≡ cond b (but kind es) (e ∷ but kind es)) [ true ↦ refl | false ↦ refl ]
 
@@ -104,10 +94,6 @@ but_same kind es e is = but_more kind es (e ∷ []) ∙ ap (λ x. but kind es ++
     gone : (kind : ClusterKind) → but kind es ++ cond (is_same kind kind) [] (e ∷ []) ≡ but kind es
     gone Data = append-nil (but Data es)
     gone Metadata = append-nil (but Metadata es)
-
-pub but_step : (kind : ClusterKind) (new list taken rest : List ClustersToFreeEntry) (e : ClustersToFreeEntry) → taken ≡ e ∷ rest → but kind new ≡ but kind (list ++ e ∷ []) → but kind (new ++ rest) ≡ but kind (list ++ taken)
-but_step kind new list taken rest e is same =
-    but_more kind new rest ∙ ap (λ l. l ++ but kind rest) same ∙ sym (but_more kind (list ++ e ∷ []) rest) ∙ ap (but kind) (append_assoc list (e ∷ []) rest ∙ ap (λ l. list ++ l) (sym is))
 
 -- without data and without metadata there is nothing left
 pub but_both : (es : List ClustersToFreeEntry) → but Data (but Metadata es) ≡ []
@@ -193,7 +179,7 @@ module _ {S : Type 0} (view : S → StorageView) where
     frees.0,
     elim frees.1 [
       | inl left ↦ inl (subst (λ (r : Pending). InternalAllocatorStep view r a t (record b { free_list = m }) q') before (subst (λ (r : Pending). InternalAllocatorStep view p a t (record b { free_list = m }) r) after (allocator_step_to p q a b t m (allocator_step_from p q a b t l left))))
-      | inr interrupted ↦ inr (record { fault = interrupted.fault; noted = interrupted.noted; since = interrupted.since })
+      | inr interrupted ↦ inr (record { fault = interrupted.fault; recorded = interrupted.recorded; since = interrupted.since })
     ],
   )
 
@@ -206,18 +192,6 @@ module _ {S : Type 0} (view : S → StorageView) where
       | inr interrupted ↦ inr (interrupted_then view p q a b c e first.file_step interrupted)
     ],
   )
-
-  -- ---- the first of the entries that are taken
-  module _ (p : Pending) (taken rest : List ClustersToFreeEntry) (e : ClustersToFreeEntry) (is : taken ≡ e ∷ rest) where
-    pub entry_sound : (b : ImageFile S) (t : Allocator) → AllocatorInvariant view t (with_listed p (b.free_list ++ taken)) b → AllocatorInvariant view t (with_listed (with_listed p rest) (b.free_list ++ e ∷ [])) b
-    entry_sound b t sound = subst (λ (r : Pending). AllocatorInvariant view t r b) (sym (with_first p b.free_list taken rest e is)) sound
-
-    pub entry_eviction : (q : Pending) (a b c : ImageFile S) (t t' : Allocator) (result : Result (Unit {0}) ImageError) → ((k : ℕ) → 0 < q.new_data k → 0 < p.new_data k) → InternalAllocatorStep view q a t b (with_listed p (b.free_list ++ taken))
-        → Frees view (with_listed (with_listed p rest) (b.free_list ++ e ∷ [])) b t' c (with_listed (with_listed p rest) c.free_list) result → Frees view q a t' c (with_listed p (c.free_list ++ rest)) result
-    entry_eviction q a b c t t' result new_data first second =
-        frees_then q (with_listed p (b.free_list ++ taken)) (with_listed p (c.free_list ++ rest)) a b c t t' result new_data first
-        (frees_as (with_listed (with_listed p rest) (b.free_list ++ e ∷ [])) (with_listed p (b.free_list ++ taken)) (with_listed (with_listed p rest) c.free_list) (with_listed p (c.free_list ++ rest))
-        b c t' b.free_list c.free_list result (with_first p b.free_list taken rest e is) (with_both p c.free_list rest) second)
 
   -- ---- a run
   module _ (kind : ClusterKind) (p : Pending) (run : ClustersToFreeEntry) (some : 0 < run.count) where

@@ -1,4 +1,4 @@
--- Where a search for room went on, there was none: a cluster of each room is in use.
+-- A search for room continues only if there is none: a cluster of each room that it passed is in use.
 use Rattle.std.proofs.Common.{◌≡◌, inl, inr, ℕ, zero, suc, ◌+◌, ◌-◌, ◌*◌, ◌/◌, ◌<◌, ◌≤◌, Bool, true, false, refl, sym, ap, ◌∙◌, subst, arith, Result, Ok, Err, Some}
 use Rattle.std.proofs.lemmas.Bool.{cases_lt}
 use Rattle.std.proofs.lemmas.Bool.Decides.{nat_tests}

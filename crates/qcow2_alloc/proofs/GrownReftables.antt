@@ -1,4 +1,5 @@
--- A reftable is made longer: in memory, then where there is room for it, and the former one is listed to be freed.
+-- Replacing the reftable by a longer one: in memory, then at a place with room, and the old one is listed to be freed.
+use Rattle.qcow2_alloc.specs.LowestRuns.{KeepsUsed}
 use Rattle.std.proofs.Common.{◌≡◌, ◌⊎◌, inl, IsTrue, ℕ, ◌+◌, ◌-◌, ◌*◌, ◌/◌, ◌%◌, ◌^◌, ◌==◌, List, length, [], ◌∷◌, ◌++◌, Some, Result, Ok, Err, refl, sym, ap, ◌∙◌, subst, arith}
 use Rattle.std.specs.Prelude.{IfErr}
 use Rattle.std.proofs.lemmas.Bool.{cond-true, eq-eqb}
@@ -25,7 +26,6 @@ use Rattle.qcow2_alloc.specs.Growing.{IsCloneOf}
 use Rattle.qcow2_alloc.specs.GrownTables.{named_by_reftable_entries, counted_run, with_run, without_reftable, NamesReftable, EntersReftable}
 use Rattle.qcow2_alloc.specs.ImageFile.{FileInvariant, HasReftable, RefusedFileStep}
 use Rattle.qcow2_alloc.specs.Limits.{IsFaultOr}
-use Rattle.qcow2_alloc.specs.LowestRuns.{KeepsUsed}
 use Rattle.qcow2_alloc.specs.Rooms.{IsLonger}
 use Rattle.qcow2_alloc.proofs.AllocationSteps.{on_of, allocator_step_on, leaves_as}
 use Rattle.qcow2_alloc.proofs.FileSteps.{pending_same}
@@ -93,11 +93,11 @@ module _ {S : Type 0} (view : S → StorageView) (p : Pending) (a b c : ImageFil
 
   -- ---- there was room for it
   pub entered : (result : Result (Unit {0}) ImageError) → ((k : ℕ) → counted_run a.header.fields t first n k ≡ 0) ⊎ IsTrue c.caches.is_changed → NamesReftable view (with_run p b.header.fields t first n) p b u' c result → EntersReftable view p a u' c result
-  entered (Ok done) noted names =
+  entered (Ok done) recorded names =
       allocator_step_on view p (with_run p b.header.fields t first n) (without_reftable p a.header.fields) a b c u u' (λ k some. some) (on_of view p (with_run p b.header.fields t first n) a b u room_now)
       (subst (λ (h : HeaderFields). InternalAllocatorGrowth view (with_run p b.header.fields t first n) b u' c (without_reftable p h)) fields names)
-  entered (Err e) noted names =
-      leaves_as view p a c u' e (ends_room view p t first n a b c u u' e room noted names.0 (subst (λ (h : HeaderFields). RefusedFileStep view (with_run p h t first n) b u' c e) fields names.1))
+  entered (Err e) recorded names =
+      leaves_as view p a c u' e (ends_room view p t first n a b c u u' e room recorded names.0 (subst (λ (h : HeaderFields). RefusedFileStep view (with_run p h t first n) b u' c e) fields names.1))
 
   pub uses_entered : (result : Result (Unit {0}) ImageError) → KeepsUsed view b c result → KeepsUsed view a c result
   uses_entered result uses = uses_then view a b c result (λ k used. used_stays view p (with_run p a.header.fields t first n) a b u k room (omega arith) used) uses

@@ -19,7 +19,7 @@ use Rattle.qcow2_laws.proofs.Places.{Sizes, reftable-same, block_count-moved, in
 use Rattle.qcow2_laws.proofs.Shares.{reftable_has}
 use Rattle.qcow2_laws.proofs.Sums.{sum_below-same}
 use Rattle.qcow2_alloc.specs.declared.image_file.ImageFile.{ImageFile}
-use Rattle.qcow2_alloc.specs.Allocation.{run_at, StandAt, HasNone}
+use Rattle.qcow2_alloc.specs.Allocation.{run_at, HasBytesAt, HasNone}
 use Rattle.qcow2_alloc.specs.GrownTables.{counted_run, with_run, named_by_reftable_entries, StandsGrown}
 use Rattle.qcow2_alloc.specs.ImageFile.{contents_in, known_in, FileInvariant, HasReftable}
 use Rattle.qcow2_alloc.specs.MetadataCaches.{order_of, l2_tables, refblocks}
@@ -65,7 +65,7 @@ run_of_clusters h first n c some =
     ap (λ f. run_at f ((n * cluster_size h + cluster_size h - 1) / cluster_size h) c) (own_cluster h.cluster_bits first) ∙ ap (λ k. run_at first k c) (whole_clusters n (cluster_size h) some)
 
 -- ---- entries of a table whose bytes stand there
-stands_entry : (b : Bytes) (place n : ℕ) (bytes : List ℕ) → length bytes ≡ 8 * n → StandAt b place bytes → (i : ℕ) → entry_at bytes i ≡ cond (nat_lt i n) (number_at b (place + 8 * i) 8) 0
+stands_entry : (b : Bytes) (place n : ℕ) (bytes : List ℕ) → length bytes ≡ 8 * n → HasBytesAt b place bytes → (i : ℕ) → entry_at bytes i ≡ cond (nat_lt i n) (number_at b (place + 8 * i) 8) 0
 unfolding l2_entry
 stands_entry b place n bytes whole stands i = elim (cases_lt i n) [
   | inl within ↦
@@ -76,7 +76,7 @@ stands_entry b place n bytes whole stands i = elim (cases_lt i n) [
   | inr past ↦ entry_at_past bytes i (omega arith) ∙ sym (cond-false _ _ _ (le-ltb i n past))
 ]
 
-pub reftable_stands : (h : HeaderFields) (b : Bytes) (place : ℕ) (t : EntryTableView) → length t.bytes % 8 ≡ 0 → NamesRefTable h place (entry_count t) → StandAt b place t.bytes → IsRefTableOf h b t
+pub reftable_stands : (h : HeaderFields) (b : Bytes) (place : ℕ) (t : EntryTableView) → length t.bytes % 8 ≡ 0 → NamesRefTable h place (entry_count t) → HasBytesAt b place t.bytes → IsRefTableOf h b t
 unfolding reftable_entry
 reftable_stands h b place t whole names stands = λ i. rw (names.0, names.1) (stands_entry b place (entry_count t) t.bytes (omega arith) stands i)
 

@@ -1,4 +1,4 @@
--- What is written behind cluster 0 leaves its bytes alone.
+-- Writes past cluster 0 leave the bytes of cluster 0 the same.
 use Rattle.std.proofs.Common.{◌≡◌, ◌⊎◌, inl, inr, ℕ, ◌*◌, ◌/◌, ◌^◌, ◌<◌, ◌≤◌, false, true, List, Option, Some, None, Result, IsSome, refl, sym, ap, ◌∙◌, arith}
 use Rattle.std.specs.Prelude.{IfSome}
 use Rattle.std.proofs.lemmas.Nat.{div-add-mod', mod_below, mul-le, pow_pos}
@@ -8,6 +8,8 @@ use Rattle.image_access.specs.declared.error.StorageError.{StorageError}
 use Rattle.image_access.proofs.Bytes.{byte_at-overwritten_below}
 use Rattle.image_access.proofs.EachMomentSince.{passes_none, passes_on, passes_if, whole_or_nothing}
 use Rattle.qcow2_metadata.specs.Bytes.{byte_at}
+use Rattle.qcow2_alloc.specs.ImageStorage.{storage_of, WritesPlaced}
+use Rattle.qcow2_alloc.specs.declared.image_storage.ImageStorage.{ImageStorage}
 use Rattle.qcow2_alloc.specs.HeaderClusters.{IsInHeaderCluster, SameAt, BytesStay, KeepsHeaderCluster}
 
 -- a byte of cluster 0 lies below each other cluster
@@ -63,10 +65,11 @@ module _ (IsKept : ℕ → Type 0) where
       call_keeps old new result calls honest (above_kept old.contents new.contents at bytes above (whole_or_nothing result old.contents (overwritten old.contents at bytes) new.contents (written honest)))
 
 -- a table that is written to another cluster
-pub placed_elsewhere : {T : Type 0} (bits : ℕ) (cluster : Option ℕ) (bytes : List ℕ) (old new : StorageView) (result : Result T StorageError) → IsSome cluster → IfSome cluster (λ c. 0 < c)
-    → IfSome cluster (λ c. Changes old new result (λ b. overwritten b (c * 2 ^ bits) bytes)) → Calls old new result → KeepsHeaderCluster bits old new
-placed_elsewhere bits None bytes old new result some above written calls = absurd (let e : false ≡ true = some in cc)
-placed_elsewhere bits (Some c) bytes old new result some above written calls = wrote_above (IsInHeaderCluster bits) old new result (c * 2 ^ bits) bytes (λ o in_first. below_others bits c o above in_first) written calls
+pub placed_elsewhere : {S : Type 0} {view : S → StorageView} {old new : ImageStorage S} {result : Result (Unit {0}) StorageError} (bits : ℕ) (bytes : List ℕ) (cluster : Option ℕ) → IsSome cluster → IfSome cluster (λ c. 0 < c)
+    → WritesPlaced view old new cluster result (λ c b. overwritten b (c * 2 ^ bits) bytes) → KeepsHeaderCluster bits (view (storage_of old)) (view (storage_of new))
+placed_elsewhere bits bytes None some above writes = absurd (let e : false ≡ true = some in cc)
+placed_elsewhere {S} {view} {old} {new} {result} bits bytes (Some c) some above writes =
+    wrote_above (IsInHeaderCluster bits) (view (storage_of old)) (view (storage_of new)) result (c * 2 ^ bits) bytes (λ o in_first. below_others bits c o above in_first) writes.written writes.calls
 
 pub header_cluster_none : (bits : ℕ) (now : StorageView) → KeepsHeaderCluster bits now now
 header_cluster_none bits now = λ honest. bytes_stay (IsInHeaderCluster bits) now

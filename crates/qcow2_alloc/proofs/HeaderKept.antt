@@ -1,4 +1,4 @@
--- Numbers of the header are written, beside whatever tables are cached: what is kept of the caches is kept with the header that has them.
+-- Header numbers are written, whatever tables are cached: the caches' invariant holds with the new header.
 use Rattle.std.proofs.Common.{◌≡◌, ◌≢◌, ◌⊎◌, inl, inr, ℕ, ◌+◌, ◌/◌, ◌<◌, refl, sym, ap, ◌∙◌, subst, arith}
 use Rattle.image_access.specs.Moments.{StorageView}
 use Rattle.qcow2_metadata.specs.Bytes.{Bytes}

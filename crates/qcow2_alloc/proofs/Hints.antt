@@ -1,4 +1,4 @@
--- The first free cluster of an allocator over its steps: what is in use stays in use, but for what is given back.
+-- The first free cluster of an allocator over its steps: clusters in use stay in use, except those that are freed.
 use Rattle.std.proofs.Common.{◌≡◌, ◌≢◌, ◌⊎◌, inl, inr, ℕ, ◌==◌, IsTrue, IsSome, ◌+◌, ◌*◌, ◌/◌, ◌<◌, ◌≤◌, Bool, true, false, Some, None, Result, Ok, Err, sym, ap, ◌∙◌, subst, refl, arith}
 use Rattle.std.specs.Prelude.{OnOk}
 use Rattle.std.proofs.lemmas.Bool.{cases_eq, cases_lt}
@@ -19,12 +19,12 @@ use Rattle.qcow2_alloc.specs.declared.allocation.Allocator.{Allocator}
 use Rattle.qcow2_alloc.specs.declared.clusters_to_free.ClusterKind.TheVariants.{Data, Metadata}
 use Rattle.qcow2_alloc.specs.declared.error.ImageError.{ImageError}
 use Rattle.qcow2_alloc.specs.declared.image_file.ImageFile.{ImageFile}
-use Rattle.qcow2_alloc.specs.Allocation.{run_at, taken_as, Owed, Taken, Listed, owed_as, HasNone, RefblockAt, InternalAllocatorStep, GetsBlock, LowersOne, PlacesBlock, TakesOne}
+use Rattle.qcow2_alloc.specs.Allocation.{run_at, taken_as, Owed, Taken, Listed, owed_as, HasNone, RefblockAt, InternalAllocatorStep, GetsBlock, DecrementsOne, PlacesBlock, AllocatesGiven}
 use Rattle.qcow2_alloc.specs.ImageFile.{pending_at, contents_in, known_in, FileInvariant, HasReftable, RefusedFileStep, IsFault}
 use Rattle.qcow2_alloc.specs.MetadataCaches.{rb_at}
 use Rattle.qcow2_alloc.specs.declared.cache.MetadataCaches.{MetadataCaches}
 use Rattle.std.proofs.lemmas.Bool.Decides.{nat_tests}
-use Rattle.qcow2_alloc.specs.LowestRuns.{IsPassed, SearchStays, IsUsed, IsLowestRun, NoFreeBelowHint, KeepsNoFreeBelowHint, KeepsUsed, BrokeOff}
+use Rattle.qcow2_alloc.specs.LowestRuns.{IsPassed, SearchStays, IsUsed, IsLowestRun, NoFreeBelowHint, KeepsNoFreeBelowHint, BrokeOff, KeepsUsed}
 use Rattle.qcow2_alloc.specs.UsedCounts.{AreUsed}
 use Rattle.qcow2_alloc.proofs.FileSteps.{one_here}
 use Rattle.qcow2_alloc.proofs.Runs.{none_there, run_in}
@@ -131,14 +131,14 @@ module _ {S : Type 0} (view : S → StorageView) where
   pub hint_refused : (p : Pending) (a b : ImageFile S) (t t' : Allocator) (e : ImageError) → ((k : ℕ) → IsPassed t' k → IsPassed t k) → RefusedFileStep view p a t' b e → NoFreeBelowHint view t a → NoFreeBelowHint view t' b ⊎ BrokeOff b e
   hint_refused p a b t t' e same leaves hint = elim leaves [
     | inl sound ↦ inl (hint_stays p a b t t' (record { file_step = sound.0; reftable = sound.1 }) same hint)
-    | inr interrupted ↦ inr (interrupted.fault, interrupted.noted)
+    | inr interrupted ↦ inr (interrupted.fault, interrupted.recorded)
   ]
 
   -- ---- what was in use is in use
   pub uses_refused : (p : Pending) (a b : ImageFile S) (t : Allocator) (e : ImageError) → RefusedFileStep view p a t b e → ((k : ℕ) → IsUsed view a k → IsUsed view b k) ⊎ BrokeOff b e
   uses_refused p a b t e leaves = elim leaves [
     | inl sound ↦ inl (λ k used. used_stays p p a b t k (record { file_step = sound.0; reftable = sound.1 }) (omega arith) used)
-    | inr interrupted ↦ inr (interrupted.fault, interrupted.noted)
+    | inr interrupted ↦ inr (interrupted.fault, interrupted.recorded)
   ]
 
   pub uses_got : (p : Pending) (a b : ImageFile S) (t : Allocator) (result : Result (Unit {0}) ImageError) → GetsBlock view p a t b result → KeepsUsed view a b result
@@ -149,7 +149,7 @@ module _ {S : Type 0} (view : S → StorageView) where
   uses_then a b c (Ok done) first second = λ k used. second k (first k used)
   uses_then a b c (Err e) first second = elim second [ inl kept ↦ inl (λ k used. kept k (first k used)) | inr interruption ↦ inr interruption ]
 
-  pub uses_raised : (p : Pending) (d : Bool) (cluster : ℕ) (a b : ImageFile S) (t : Allocator) (taken : Bool) → TakesOne view p a t b d cluster (Ok taken) → (k : ℕ) → IsUsed view a k → IsUsed view b k
+  pub uses_raised : (p : Pending) (d : Bool) (cluster : ℕ) (a b : ImageFile S) (t : Allocator) (taken : Bool) → AllocatesGiven view p a t b d cluster (Ok taken) → (k : ℕ) → IsUsed view a k → IsUsed view b k
   uses_raised p d cluster a b t true takes k used = used_stays p (taken_as d p (one_at cluster)) a b t k takes (let more = taken_pending d p (one_at cluster) k in omega (arith, more)) used
   uses_raised p d cluster a b t false takes k used = used_stays p p a b t k takes (omega arith) used
 
@@ -244,16 +244,16 @@ module _ {S : Type 0} (view : S → StorageView) where
   hint_got p old new t t' (Err e) same gets hint = hint_refused p old new t t' e same gets hint
 
   -- a cluster was taken, or is in use
-  pub hint_raised : (p : Pending) (d : Bool) (cluster : ℕ) (old new : ImageFile S) (t t' : Allocator) (taken : Bool) → ((k : ℕ) → IsPassed t' k → IsPassed t k) → TakesOne view p old t' new d cluster (Ok taken) → NoFreeBelowHint view t old → NoFreeBelowHint view t' new
+  pub hint_raised : (p : Pending) (d : Bool) (cluster : ℕ) (old new : ImageFile S) (t t' : Allocator) (taken : Bool) → ((k : ℕ) → IsPassed t' k → IsPassed t k) → AllocatesGiven view p old t' new d cluster (Ok taken) → NoFreeBelowHint view t old → NoFreeBelowHint view t' new
   hint_raised p d cluster old new t t' true same takes hint = hint_taken p d (one_at cluster) old new t t' takes same hint
   hint_raised p d cluster old new t t' false same takes hint = hint_stays p old new t t' takes same hint
 
-  pub raised_used : (p : Pending) (d : Bool) (cluster : ℕ) (old new : ImageFile S) (t : Allocator) (taken : Bool) → TakesOne view p old t new d cluster (Ok taken) → (taken ≡ false → IsUsed view new cluster) → IsUsed view new cluster
+  pub raised_used : (p : Pending) (d : Bool) (cluster : ℕ) (old new : ImageFile S) (t : Allocator) (taken : Bool) → AllocatesGiven view p old t new d cluster (Ok taken) → (taken ≡ false → IsUsed view new cluster) → IsUsed view new cluster
   raised_used p d cluster old new t true takes used = taken_used p d (one_at cluster) old new t cluster takes (let own = one_here cluster in omega (arith, own))
   raised_used p d cluster old new t false takes used = used refl
 
   -- a count fell
-  pub lowered_so : (p p' : Pending) (old new : ImageFile S) (t : Allocator) (made : Bool) → IsTrue made → LowersOne view p old t new p' (Ok made) → InternalAllocatorStep view p old t new p'
+  pub lowered_so : (p p' : Pending) (old new : ImageFile S) (t : Allocator) (made : Bool) → IsTrue made → DecrementsOne view p old t new p' (Ok made) → InternalAllocatorStep view p old t new p'
   lowered_so p p' old new t true so lowers = lowers
   lowered_so p p' old new t false so lowers = absurd lowers
 
@@ -267,8 +267,8 @@ module _ {S : Type 0} (view : S → StorageView) where
   -- a count was lowered, which is noted where it came to 0
   pub hint_lowered : (owed : Owed) (p : Pending) (cluster : ℕ) (old new : ImageFile S) (t t' : Allocator) → InternalAllocatorStep view (owed_as owed p (one_at cluster)) old t' new p → ((k : ℕ) → IsPassed t' k → IsPassed t k)
       → (count new.header.fields (known_in view new) cluster ≡ 0 → IsPassed t' cluster → ⊥) → NoFreeBelowHint view t old → NoFreeBelowHint view t' new
-  hint_lowered owed p cluster old new t t' allocator_step fewer noted hint k passed = elim (cases_eq k cluster) [
-    | inl same ↦ λ zero. noted (subst (λ n. count new.header.fields (known_in view new) n ≡ 0) same zero) (subst (IsPassed t') same passed)
+  hint_lowered owed p cluster old new t t' allocator_step fewer recorded hint k passed = elim (cases_eq k cluster) [
+    | inl same ↦ λ zero. recorded (subst (λ n. count new.header.fields (known_in view new) n ≡ 0) same zero) (subst (IsPassed t') same passed)
     | inr other ↦
         let none = none_there cluster k other in
         let pending = owed_pending owed p (one_at cluster) k in

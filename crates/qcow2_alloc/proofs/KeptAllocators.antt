@@ -1,4 +1,4 @@
--- An allocator stays one of its file, over steps and where a call is refused.
+-- An allocator still belongs to its file after steps, and after refused calls.
 use Rattle.std.proofs.Common.{◌≡◌, ◌⊎◌, inl, inr, subst, sym, ℕ, ◌≤◌, List, Option, Some, None, arith}
 use Rattle.std.specs.Prelude.{IfSome}
 use Rattle.image_access.specs.Moments.{StorageView}
@@ -44,7 +44,7 @@ module _ {S : Type 0} (view : S → StorageView) where
   pub refused_kept : (p q : Pending) (a b : ImageFile S) (t : Allocator) (e : ImageError) → RefusedGrowth view p a t b q e → NoFreeBelowHint view t b ⊎ BrokeOff b e → (InternalFileGrowth view p q a b × IsAllocatorOf view b t) ⊎ InterruptedFileStep view a b e
   refused_kept p q a b t e leaves hint = elim hint [
     | inl kept ↦ elim leaves [ inl grows ↦ inl (grows.file_step, record { reftable = grows.reftable; hint = kept }) | inr interrupted ↦ inr interrupted ]
-    | inr interruption ↦ inr (elim leaves [ inl grows ↦ record { fault = interruption.0; noted = interruption.1; since = grows.file_step.since } | inr interrupted ↦ interrupted ])
+    | inr interruption ↦ inr (elim leaves [ inl grows ↦ record { fault = interruption.0; recorded = interruption.1; since = grows.file_step.since } | inr interrupted ↦ interrupted ])
   ]
 
   -- so did one that frees

@@ -1,10 +1,10 @@
--- One step after another keeps the marks of an image's file.
+-- Steps one after another keep the marks of an image's file.
 use Rattle.std.proofs.Common.{◌≡◌, ℕ, List, Option, Some, None, IsSome, Result, refl, sym, ◌∙◌, subst}
 use Rattle.std.specs.Option.{IfSome}
 use Rattle.image_access.specs.Moments.{StorageView, Calls, Changes}
 use Rattle.image_access.specs.declared.error.StorageError.{StorageError}
 use Rattle.qcow2_alloc.specs.CachePins.{KeepsPinsAndNotes}
-use Rattle.qcow2_alloc.specs.ImageStorage.{storage_of, NotesWrite, SameNotes}
+use Rattle.qcow2_alloc.specs.ImageStorage.{storage_of, RecordsWrite, SameNotes}
 use Rattle.qcow2_alloc.specs.CountedChanges.{counts_none, counts_then}
 use Rattle.qcow2_alloc.specs.KeptMarks.{KeepMarks, KeepNotes}
 use Rattle.qcow2_alloc.specs.KeptNotes.{KeepsNotes, kept_same, kept_then}
@@ -32,13 +32,13 @@ module _ {S : Type 0} {view : S → StorageView} where
   marks_of_both pins order notes = record { pins = pins; order = order; notes = notes }
 
   -- a write that the storage was told of before
-  module _ (before mid now : ImageStorage S) (r : Result (Unit {0}) StorageError) (same : storage_of mid ≡ storage_of before) (noted : SameNotes before mid) where
-    pub told_kept : (changed : List ℕ) → Changes (view (storage_of mid)) (view (storage_of now)) r (λ _. changed) → Calls (view (storage_of mid)) (view (storage_of now)) r → NotesWrite mid now r → KeepsNotes view before now
-    told_kept changed changes calls notes = kept_told before mid now same noted (write_kept mid now r changed changes calls notes)
+  module _ (before mid now : ImageStorage S) (r : Result (Unit {0}) StorageError) (same : storage_of mid ≡ storage_of before) (recorded : SameNotes before mid) where
+    pub told_kept : (changed : List ℕ) → Changes (view (storage_of mid)) (view (storage_of now)) r (λ _. changed) → Calls (view (storage_of mid)) (view (storage_of now)) r → RecordsWrite mid now r → KeepsNotes view before now
+    told_kept changed changes calls notes = kept_told before mid now same recorded (write_kept mid now r changed changes calls notes)
 
     -- of a table that has a place
     pub placed_kept : (place : Option ℕ) (changed : ℕ → List ℕ) → IsSome place → IfSome place (λ k. Changes (view (storage_of mid)) (view (storage_of now)) r (λ _. changed k)) → Calls (view (storage_of mid)) (view (storage_of now)) r
-        → NotesWrite mid now r → KeepsNotes view before now
+        → RecordsWrite mid now r → KeepsNotes view before now
     placed_kept None changed placed changes calls notes = absurd cc
     placed_kept (Some k) changed placed changes calls notes = told_kept (changed k) changes calls notes
 

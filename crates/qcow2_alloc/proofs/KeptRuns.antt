@@ -1,13 +1,12 @@
--- The runs of clusters that an allocator keeps: a search passes over no other clusters than before, or than are in use.
+-- The free runs that an allocator remembers: a search passes over no clusters but those that it passed before, and those in use.
 use Rattle.std.proofs.Common.{◌≡◌, ◌⊎◌, inl, inr, ℕ, ◌+◌, ◌-◌, ◌<◌, ◌≤◌, List, Bool, true, false, IsTrue, IsFalse, Option, Some, None, Result, Ok, Err, ap, subst, sym, refl, ◌∙◌, arith}
-use Rattle.std.specs.Prelude.{IfOk, IfSome, IsErr, IsErrAnd}
+use Rattle.std.specs.Prelude.{IfSome, IsErr, IsErrAnd}
 use Rattle.std.proofs.lemmas.Bool.Decides.{nat_tests}
-use Rattle.qcow2_metadata.specs.declared.header.HeaderFields.{HeaderFields}
 use Rattle.qcow2_laws.specs.CrashInvariant.{Pending}
 use Rattle.qcow2_alloc.specs.declared.cache.MetadataCaches.{MetadataCaches}
 use Rattle.qcow2_alloc.specs.declared.error.ImageError.{ImageError}
 use Rattle.qcow2_alloc.specs.ImageFile.{AllocatorInvariant, HasReftable}
-use Rattle.qcow2_alloc.specs.UsedCounts.{passed_hint, GoesFar, GoesFarIn, IsFoundUsed, PassesKnown, PassesUsed, SparedStayOut, TellsUsed}
+use Rattle.qcow2_alloc.specs.UsedCounts.{passed_hint, IsFoundUsed, SparedStayOut, ReportsUsed, AddsFree}
 use Rattle.qcow2_alloc.proofs.Outcomes.{never}
 use Rattle.image_access.specs.Moments.{StorageView}
 use Rattle.std.proofs.lemmas.Bool.{cases_eq, cases_lt}
@@ -64,16 +63,6 @@ module _ {S : Type 0} (view : S → StorageView) where
   pub hint_kept : (file : ImageFile S) (t t' : Allocator) (IsMore : ℕ → Type 0) → KeepsRuns t t' IsMore → ((k : ℕ) → IsMore k → IsUsed view file k) → NoFreeBelowHint view t file → NoFreeBelowHint view t' file
   hint_kept file t t' IsMore kept used hint k passed = elim (passed_kept t t' IsMore kept k passed) [ inl was ↦ hint k was | inr more ↦ used k more ]
 
-  -- what the counts tell is so whatever was kept
-  pub known_of_used : (p : Pending) (t0 : Allocator) (a b : ImageFile S) (t : Allocator) (from : ℕ) (result : Result ℕ ImageError) → PassesUsed view p a t b from result → PassesKnown view p t0 a t b from result
-  known_of_used p t0 a b t from (Ok next) passes = (passes.0, λ hint. passes.1)
-  known_of_used p t0 a b t from (Err e) passes = passes
-
--- a search that goes far by the counts goes far
-pub far_by_counts : {S : Type 0} (h : HeaderFields) (t : Allocator) (caches : MetadataCaches S) (cluster : ℕ) (result : Result ℕ ImageError) → IfOk result (GoesFar h t.reftable caches cluster) → IfOk result (GoesFarIn h t caches cluster)
-far_by_counts h t caches cluster (Ok next) far = inl far
-far_by_counts h t caches cluster (Err e) far = tt
-
 -- where it was refused the search stands where it stood
 pub stood_still : (hint from : ℕ) (result : Result ℕ ImageError) (e : ImageError) → IsErr result × IsErrAnd result (λ x. x ≡ e) → hint ≡ passed_hint hint from result
 stood_still hint from (Ok next) e refused = absurd (never refused.0)
@@ -87,9 +76,19 @@ stayed hint from next other = grind (arith, nat_tests, other)
 
 -- ---- reading the counts of a range
 
--- the free runs alone change, from step to step
-pub free_rest : (a b c : Allocator) → b ≡ record a { free = b.free } → c ≡ record b { free = c.free } → c ≡ record a { free = c.free }
-free_rest a b c one two = two ∙ ap (λ (x : Allocator). record x { free = c.free }) one
+-- free runs are added, and then more of them
+pub adds_none : (t : Allocator) → AddsFree t t
+adds_none t = record { rest = refl; stays = λ k is. is; spared = λ k is. inl is }
+
+pub adds_then : (a b c : Allocator) → AddsFree a b → AddsFree b c → AddsFree a c
+adds_then a b c one two = record {
+  rest = two.rest ∙ ap (λ (x : Allocator). record x { free = c.free }) one.rest;
+  stays = λ k is. two.stays k (one.stays k is);
+  spared = λ k is. elim (two.spared k is) [
+    | inl was ↦ one.spared k was
+    | inr out ↦ inr (λ spared. out (subst (λ (runs : List (ℕ × ℕ)). IsIn runs k) (sym (ap (λ (t : Allocator). t.named) one.rest)) spared))
+  ];
+}
 
 -- both kinds of runs do
 pub runs_rest : (a b c : Allocator) → b ≡ record a { free = b.free } → c ≡ record b { read = c.read } → c ≡ record a { read = c.read; free = c.free }
@@ -99,12 +98,12 @@ runs_rest a b c one two = two ∙ ap (λ (x : Allocator). record x { read = c.re
 pub found_as : {S : Type 0} (t t' : Allocator) (caches caches' : MetadataCaches S) (block first end k : ℕ) → t.named ≡ t'.named → caches ≡ caches' → IsFoundUsed t caches block first end k → IsFoundUsed t' caches' block first end k
 found_as t t' caches caches' block first end k named same found = elim found [
   | inl spared ↦ inl (subst (λ (runs : List (ℕ × ℕ)). IsIn runs k) named spared)
-  | inr tells ↦ inr (tells.0, tells.1, subst (λ (x : MetadataCaches _). TellsUsed x block (k - first) 1) same tells.2)
+  | inr reports ↦ inr (reports.0, reports.1, subst (λ (x : MetadataCaches _). ReportsUsed x block (k - first) 1) same reports.2)
 ]
 
 -- so many counts above 0 are each one above 0
-pub one_used : {S : Type 0} (caches : MetadataCaches S) (block first at used k : ℕ) → first ≤ at → at ≤ k → k < at + used → TellsUsed caches block (at - first) used → TellsUsed caches block (k - first) 1
-one_used caches block first at used k low from below tells = λ h p on_storage c i sound counted above within. tells h p on_storage c i sound counted (omega (arith, low, from, above)) (omega (arith, low, from, below, within))
+pub one_used : {S : Type 0} (caches : MetadataCaches S) (block first at used k : ℕ) → first ≤ at → at ≤ k → k < at + used → ReportsUsed caches block (at - first) used → ReportsUsed caches block (k - first) 1
+one_used caches block first at used k low from below reports = λ h p on_storage c i sound counted above within. reports h p on_storage c i sound counted (omega (arith, low, from, above)) (omega (arith, low, from, below, within))
 
 -- numbers that are joined stay added
 pub adds_joined : (old mid new last : List (ℕ × ℕ)) (first n : ℕ) → Adds old mid first n → SameNumbers mid new → SameNumbers new last → Adds old last first n

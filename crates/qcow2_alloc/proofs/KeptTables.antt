@@ -17,9 +17,10 @@ pub mod Changing
 pub mod Clean
 pub mod Counting
 pub mod Mapping
-pub mod Turning
+pub mod Switching
 pub mod Standing
 pub mod BlocksNamed
+pub mod Places
 pub mod Causes
 pub mod Beside
 pub mod Named

@@ -19,6 +19,7 @@ pub mod KeptRuns
 pub mod KeptAllocators
 pub mod Freeing
 pub mod ListedAfter
+pub mod FreedLists
 pub mod MadeClusters
 pub mod Leaks
 pub mod UnalignedLeaks
@@ -30,6 +31,7 @@ pub mod Numbers
 pub mod GrownTables
 pub mod NamedReftables
 pub mod RunBlocks
+pub mod NewRefblocks
 pub mod RoomWrites
 pub mod PlacedRooms
 pub mod RoomSteps
@@ -43,7 +45,7 @@ pub mod HeaderClusters
 pub mod SparedClusters
 pub mod SparedHeaders
 pub mod KeptNotes
-pub mod MetFaults
+pub mod RecordedFaults
 pub mod KeptMarks
 pub mod Steps
 pub mod CacheSteps

@@ -1,4 +1,4 @@
--- Why an allocation is refused where it is no fault.
+-- Why an allocation is refused, other than by a fault.
 use Rattle.std.proofs.Common.{◌≡◌, inl, inr, ℕ, ◌<◌, ◌≤◌, Result, Ok, Err, ap, sym, ◌∙◌, subst, arith, ◌*◌, ◌^◌, Option, IsSome, refl, ◌/◌, ◌+◌, ◌⊎◌, Bool, true, false, IsTrue, ◌↔◌}
 use Rattle.std.specs.Prelude.{IfErr}
 use Rattle.image_access.specs.Moments.{StorageView}
@@ -19,7 +19,7 @@ use Rattle.qcow2_alloc.specs.LowestRuns.{IsUsed, IsLowestRun}
 use Rattle.qcow2_alloc.specs.Growing.{IsLeastLength}
 use Rattle.qcow2_alloc.specs.Rooms.{opened}
 use Rattle.qcow2_alloc.proofs.ListedAfter.{header_counts}
-use Rattle.qcow2_alloc.specs.Limits.{IsFaultOr, nameable_clusters, IsFull, CantGrow, CantCount, HasNoPlace}
+use Rattle.qcow2_alloc.specs.Limits.{IsFaultOr, nameable_clusters, IsFull, CantGrow, CantCount}
 
 -- another cause that follows from the one
 pub cause_as : (A B : Type 0) (e : ImageError) → (A → B) → IsFaultOr A e → IsFaultOr B e
@@ -35,7 +35,7 @@ fault_or (Err e) Cause fault = inl fault
 
 -- what a test says that failed
 pub not_below : (n m : ℕ) (b : Bool) → IsTrue b ↔ (n < m) → b ≡ false → m ≤ n
-not_below n m b tells not = elim (cases_lt n m) [ inl below ↦ absurd (let so = tells.1 below in let bad : true ≡ false = sym so ∙ not in cc) | inr above ↦ omega (arith, above) ]
+not_below n m b reports not = elim (cases_lt n m) [ inl below ↦ absurd (let so = reports.1 below in let bad : true ≡ false = sym so ∙ not in cc) | inr above ↦ omega (arith, above) ]
 
 -- what can be named below the end of a longer run can be named
 pub host_below : (bits c k : ℕ) → c ≤ k → IsHostCluster bits k → IsHostCluster bits c
@@ -74,31 +74,6 @@ GrowsNot h Busy t index =
 
 grows_not_still : (h : HeaderFields) (A B : ℕ → Type 0) (t : EntryTableView) (index : ℕ) → ((k : ℕ) → A k → B k) → GrowsNot h A t index → GrowsNot h B t index
 grows_not_still h A B t index to not length small least end low high first n some is within = let at = not length small least end low high first n some is within in (at.0, at.1, at.2, to at.0 at.3)
-
--- more clusters in use keep each cause, of an allocator with the same reftable
-module _ (A B : ℕ → Type 0) (h : HeaderFields) (more : (k : ℕ) → A k → B k) where
-  pub full_more : (n : ℕ) → IsFull A h n → IsFull B h n
-  full_more n full start within = let at = full start within in (at.0, at.1, at.2, more at.0 at.3)
-
-  pub lowest_more : (first n : ℕ) → IsLowestRun A first n → IsLowestRun B first n
-  lowest_more first n lowest start below = let at = lowest start below in (at.0, at.1, at.2, at.3, more at.0 at.4)
-
-  pub count_more : (taken taken' : ℕ → ℕ) (a b : Allocator) (cluster : ℕ) → b.reftable ≡ a.reftable → ((k : ℕ) → 0 < taken k → B k ⊎ (0 < taken' k)) → CantCount A h taken a cluster → CantCount B h taken' b cluster
-  count_more taken taken' a b cluster same took cant =
-      let busy : (k : ℕ) → A k ⊎ (0 < taken k) → B k ⊎ (0 < taken' k) = λ k was. elim was [ inl used ↦ inl (more k used) | inr before ↦ took k before ] in
-      let now = grows_not_still h (λ k. A k ⊎ (0 < taken k)) (λ k. B k ⊎ (0 < taken' k)) a.reftable (cluster / counts_per_block h) busy cant.1 in
-      subst (λ (t : EntryTableView). (entry_count t ≤ cluster / counts_per_block h) × GrowsNot h (λ k. B k ⊎ (0 < taken' k)) t (cluster / counts_per_block h)) (sym same) (cant.0, now)
-
-  pub place_more : (a b : Allocator) (n : ℕ) → b.reftable ≡ a.reftable → HasNoPlace A h a n → HasNoPlace B h b n
-  place_more a b n same none = elim none [
-    | inl full ↦ inl (full_more n full)
-    | inr run ↦ let behind = run.3 in inr (
-      run.0,
-      run.1,
-      lowest_more run.0 n run.2,
-      (behind.0, behind.1, count_more (run_at run.0 behind.0) (run_at run.0 behind.0) a b (run.0 + behind.0) same (λ k took. inr took) behind.2),
-    )
-  ]
 
 module _ {S : Type 0} (view : S → StorageView) (a b : ImageFile S) (t t' : Allocator) where
   -- a reftable that couldn't grow, as it is said of a cluster's count

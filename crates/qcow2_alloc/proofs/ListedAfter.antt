@@ -1,4 +1,4 @@
--- What a longer reftable changes besides itself: the header points to it, and the clusters of the old one are listed. And what follows from several such steps.
+-- What replacing the reftable changes besides the table: the header points to the longer one, and the clusters of the old one are listed. What several such steps change.
 use Rattle.qcow2_alloc.specs.ImageStorage.{is_changed_of}
 use Rattle.std.proofs.lemmas.Bool.{or_right}
 use Rattle.std.proofs.Common.{◌≡◌, ℕ, ◌+◌, ◌<◌, Bool, true, false, List, [], ◌++◌, append_assoc, append-nil, Result, Ok, Err, IsTrue, inl, inr, refl, sym, ap, ◌∙◌, subst, arith}
@@ -112,9 +112,9 @@ module _ {S : Type 0} (view : S → StorageView) (d : Bool) (p : Pending) (n : �
 
   -- a fault after a change that was noted breaks off
   pub ends_taken : (e : ImageError) → InternalAllocatorGrowth view p a t b so_far → IsFault e → IsTrue c.caches.is_changed → (r : Pending) → RefusedGrowth view so_far b t' c r e → InterruptedFileStep view a c e
-  ends_taken e before fault noted r step = record {
+  ends_taken e before fault recorded r step = record {
     fault = fault;
-    noted = λ _. or_right (is_changed_of c.storage) c.caches.is_changed noted;
+    recorded = λ _. or_right (is_changed_of c.storage) c.caches.is_changed recorded;
     since = elim step [
       | inl sound ↦ safe_throughout_then view a b c before.file_step.since before.file_step.safe_step.known sound.file_step.since
       | inr interrupted ↦ safe_throughout_then view a b c before.file_step.since before.file_step.safe_step.known interrupted.since

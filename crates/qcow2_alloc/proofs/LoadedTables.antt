@@ -1,4 +1,4 @@
--- A table is loaded where it reads, and else refused for that.
+-- A table is loaded if it is readable, and otherwise refused for that.
 use Rattle.std.proofs.Common.{◌≡◌, inl, inr, ℕ, ◌+◌, ◌*◌, ◌<◌, ◌≤◌, ◌^◌, List, Result, Err, sym, subst, arith}
 use Rattle.std.proofs.lemmas.Bool.{cases_lt}
 use Rattle.image_access.specs.Contents.{bytes_at}

@@ -355,7 +355,7 @@ module _ {S : Type 0} (view : S → StorageView) (p : Pending) (old new : ImageF
   )
   made_run kind count (Err e) takes = elim takes [
     | inl growth ↦ inl (made_none growth, counts_none growth)
-    | inr interrupted ↦ inr (interrupted.fault, interrupted.noted)
+    | inr interrupted ↦ inr (interrupted.fault, interrupted.recorded)
   ]
 
   -- what was listed was in use
@@ -390,7 +390,7 @@ module _ {S : Type 0} (view : S → StorageView) (p : Pending) (old new : ImageF
     pub made_refused : (e : ImageError) → RefusedGrowth view p old allocator' new q e → AllocatesOnly view run_in Made old new (Err e)
     made_refused e leaves = elim leaves [
       | inl growth ↦ inl (made_alone growth, counts_none growth)
-      | inr interrupted ↦ inr (interrupted.fault, interrupted.noted)
+      | inr interrupted ↦ inr (interrupted.fault, interrupted.recorded)
     ]
 
     -- a cluster that can't be taken was in use, or was made on the way
@@ -431,7 +431,7 @@ module _ {S : Type 0} (view : S → StorageView) (p : Pending) (old new : ImageF
           let counts = counted view p p old new allocator.reftable allocator'.reftable sound.sound sound.reftable growth.file_step growth.reftable k refl (omega (arith, many)) (λ range has. ap (λ (t : EntryTableView). entry_at t.bytes range) kept) in
           omega (arith, listed, counts),
     )
-    | inr interrupted ↦ inr (interrupted.fault, interrupted.noted)
+    | inr interrupted ↦ inr (interrupted.fault, interrupted.recorded)
   ]
 
 -- it began before, where as much was counted, and with another storage and other caches alone

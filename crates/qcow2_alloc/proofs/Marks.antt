@@ -1,4 +1,4 @@
--- Marked keys by their numbers, which rise, and how many there are.
+-- Marked keys by their rising numbers, and how many there are.
 use Rattle.std.proofs.Common.{◌≡◌, ◌≢◌, ℕ, zero, suc, ◌+◌, ◌<◌, ◌≤◌, Bool, true, false, cond, eqb, ltb, ltb-true, ltb-false, lt-ltb, eqb-true, eq-eqb, ne_eqb, List, [], ◌∷◌, length, get_or, insert, remove, slice_get, Option, Some, None, is_some, refl, sym, ap, ◌∙◌, arith}
 use Rattle.std.proofs.lemmas.Option.{none-some, same_Some}
 use Rattle.std.specs.List.Sorted.{IsPartitionPoint, IsNonDecreasingBy}

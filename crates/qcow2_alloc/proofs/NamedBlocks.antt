@@ -38,7 +38,7 @@ use Rattle.qcow2_laws.proofs.Steps.{table_is_named}
 use Rattle.qcow2_laws.proofs.Internal.{unseen_refblock}
 use Rattle.qcow2_alloc.specs.declared.image_file.ImageFile.{ImageFile}
 use Rattle.qcow2_alloc.specs.declared.image_storage.ImageStorage.{ImageStorage}
-use Rattle.qcow2_alloc.specs.Allocation.{placing, first_counts, HasPlaceFor, StandsFirst, StandAt}
+use Rattle.qcow2_alloc.specs.Allocation.{placing, first_counts, HasPlaceFor, StandsFirst, HasBytesAt}
 use Rattle.qcow2_alloc.specs.ImageFile.{nothing_given, view_in, contents_in, known_in, state_in, FileInvariant, HasReftable, InternalFileStep}
 use Rattle.qcow2_alloc.specs.ImageStorage.{storage_of}
 use Rattle.qcow2_alloc.specs.KeptTables.{AreLoaded}
@@ -98,7 +98,7 @@ module _ {S : Type 0} (view : S → StorageView) (d : Bool) (p : Pending) (range
     (within : range < entry_count t) (same : t' ≡ record t { bytes = t'.bytes }) (enters : ChangesEntry t.bytes t'.bytes range (at * cluster_size file.header.fields))
     (offset : block_offset (entry_at t'.bytes range) ≡ at * cluster_size file.header.fields) (fits : entry_at t'.bytes range < 2 ^ 64)
     (whole : IsRefBlock block) (format : IsBlockOf file.header.fields block) (counts : (i : ℕ) → count_at block i ≡ first_counts d i)
-    (new_data : (v : RefBlockView) × (rb_at file.caches at ≡ Some v) × (v.bytes ≡ block.bytes)) (stands : StandAt (contents_in view file) (at * cluster_size file.header.fields) block.bytes) where
+    (new_data : (v : RefBlockView) × (rb_at file.caches at ≡ Some v) × (v.bytes ≡ block.bytes)) (stands : HasBytesAt (contents_in view file) (at * cluster_size file.header.fields) block.bytes) where
   abbrev h : HeaderFields
   h = file.header.fields
 

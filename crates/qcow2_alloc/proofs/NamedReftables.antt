@@ -1,4 +1,4 @@
--- The header is written to name a longer reftable, which is the allocator's own then.
+-- The header's pointer to a longer reftable is written, and the allocator uses that table from then on.
 use Rattle.std.proofs.Common.{◌≡◌, ◌≢◌, ◌⊎◌, inl, inr, ℕ, ◌+◌, ◌-◌, ◌*◌, ◌/◌, ◌^◌, ◌<◌, ◌≤◌, List, [], length, Some, Result, Ok, IsTrue, refl, sym, ap, ◌∙◌, subst, arith}
 use Rattle.std.proofs.Math.Nat.{mul-le-mul_left}
 use Rattle.std.proofs.lemmas.Bool.{cases_eq, or_left}
@@ -275,7 +275,7 @@ module _ {S : Type 0} (view : S → StorageView) (p : Pending) (first blocks clu
     lasts = lasts_named view p first blocks clusters file allocator.reftable t sound.sound sound.reftable ready is_table result (storage_of storage) changes calls_now
 
     pub interrupted_named : IsTrue (is_changed_of storage) → (e : ImageError) → IsFault e → InterruptedFileStep view file written_file e
-    interrupted_named changed e fault = record { fault = fault; noted = λ _. or_left (is_changed_of storage) file.caches.is_changed changed; since = lasts }
+    interrupted_named changed e fault = record { fault = fault; recorded = λ _. or_left (is_changed_of storage) file.caches.is_changed changed; since = lasts }
 
     module _ (x : Unit {0}) (done : result ≡ Ok x) where
       abbrev after : ImageFile S

@@ -38,11 +38,6 @@ handed_unaligned r e on is = handed_on (λ x. IsErrOf x I.UnalignedTable) r e on
 pub entries_none : (P : ℕ → Type 0) (t : EntryTableView) → KeepsEntries P t t
 entries_none P t = record { cluster = refl; bits = refl; count = refl; others = λ k stays. refl; behind = behind_none t }
 
--- another reason, where it is refused for one
-pub why_as : {A : Type 0} (Why Other : ImageError → Type 0) (r : Result A ImageError) → ((e : ImageError) → Why e → Other e) → IsErrAnd r Why → IsErrAnd r Other
-why_as Why Other (Ok x) to why = absurd why
-why_as Why Other (Err e) to why = to e why
-
 -- what holds whatever is answered
 pub on_ok : {A : Type 0} (P : Type 0) (r : Result A ImageError) → P → OnOk r P
 on_ok P (Ok x) holds = holds

@@ -1,4 +1,4 @@
--- A refblock is placed: its bytes are written to a cluster that nothing names, and then a reftable entry names it.
+-- A refblock is placed: its bytes are written to a cluster without references, and then a reftable entry names it.
 use Rattle.std.proofs.Common.{◌≡◌, ◌≢◌, ◌⊎◌, inl, inr, ℕ, ◌+◌, ◌-◌, ◌*◌, ◌/◌, ◌%◌, ◌^◌, ◌<◌, ◌≤◌, Bool, true, false, List, length, Option, Some, Result, sym, ap, ◌∙◌, subst, arith}
 use Rattle.std.proofs.lemmas.Bool.{cases_eq, cases_lt}
 use Rattle.std.proofs.lemmas.Nat.{div-mul-add, mod-mul-add}
@@ -26,7 +26,7 @@ use Rattle.qcow2_laws.proofs.Steps.{data_is_written}
 use Rattle.qcow2_alloc.specs.declared.cache.MetadataCaches.{MetadataCaches}
 use Rattle.qcow2_alloc.specs.declared.image_file.ImageFile.{ImageFile}
 use Rattle.qcow2_alloc.specs.declared.image_storage.ImageStorage.{ImageStorage}
-use Rattle.qcow2_alloc.specs.Allocation.{placing, HasPlaceFor, StandAt}
+use Rattle.qcow2_alloc.specs.Allocation.{placing, HasPlaceFor, HasBytesAt}
 use Rattle.qcow2_alloc.specs.ImageFile.{view_in, contents_in, known_in, state_in, FileInvariant, HasReftable, InternalFileStep}
 use Rattle.qcow2_alloc.specs.ImageStorage.{storage_of}
 use Rattle.qcow2_alloc.specs.MetadataCaches.{order_of, l2_tables, refblocks, HoldsKnown, InternalCacheStep}
@@ -149,7 +149,7 @@ module _ {S : Type 0} (view : S → StorageView) where
   -- ---- and then it is put into its cache
   module _ (d : Bool) (p : Pending) (range at : ℕ) (file : ImageFile S) (t : EntryTableView) (sound : FileInvariant view (placing d p at) file) (has : HasReftable view file t)
       (may : BlocksMayGo (order_of file.caches) (l2_tables file.caches)) (place : HasPlaceFor d file.header.fields t range at) (block : RefBlockView) (fits : IsBlockOf file.header.fields block)
-      (long : length block.bytes ≡ cluster_size file.header.fields) (stands : StandAt (contents_in view file) (at * cluster_size file.header.fields) block.bytes) where
+      (long : length block.bytes ≡ cluster_size file.header.fields) (stands : HasBytesAt (contents_in view file) (at * cluster_size file.header.fields) block.bytes) where
     pub holds_known : HoldsKnown file.header.fields file.caches (contents_in view file) block.bytes at
     holds_known i lt =
         stands i (subst (λ n. i < n) (sym long) lt)
@@ -160,7 +160,7 @@ module _ {S : Type 0} (view : S → StorageView) where
       put = record file { storage = storage; caches = caches }
 
       -- its bytes stand there still
-      pub still_stands : BlocksMayGo (order_of caches) (l2_tables caches) → StandAt (contents_in view put) (at * cluster_size file.header.fields) block.bytes
+      pub still_stands : BlocksMayGo (order_of caches) (l2_tables caches) → HasBytesAt (contents_in view put) (at * cluster_size file.header.fields) block.bytes
       still_stands may' i lt =
           let file_step = file_step_cached view (placing d p at) file storage caches sound stays marks in
           let has' = reftable_cached view (placing d p at) file storage caches sound stays t has in

@@ -1,4 +1,4 @@
--- Refblocks are entered in a longer reftable one after another, each in the next cluster of a room, while they are written there.
+-- The refblocks of a room are written to its clusters one after another, and entered in a longer reftable.
 use Rattle.std.proofs.Common.{◌≡◌, ◌≢◌, ◌⊎◌, inl, inr, ℕ, ◌+◌, ◌-◌, ◌*◌, ◌/◌, ◌%◌, ◌^◌, ◌<◌, ◌≤◌, ◌==◌, true, false, refl, sym, ap, ◌∙◌, subst, arith}
 use Rattle.std.proofs.lemmas.Bool.{cases_Bool, cases_eq, cases_lt, eq-eqb, ne_eqb, cond-true}
 use Rattle.std.proofs.lemmas.Nat.{div-add-mod', div-mul-add, mod_below, pow_pos}
@@ -17,7 +17,7 @@ use Rattle.qcow2_metadata.specs.TableBytes.{entry_at, ChangesEntry}
 use Rattle.qcow2_metadata.specs.Consistent.{IsAligned}
 use Rattle.qcow2_laws.specs.Changes.{one_at}
 use Rattle.qcow2_laws.proofs.Sums.{sum_below-change}
-use Rattle.qcow2_alloc.specs.Allocation.{run_at, StandAt, HasNone}
+use Rattle.qcow2_alloc.specs.Allocation.{run_at, HasBytesAt, HasNone}
 use Rattle.qcow2_alloc.specs.TableCaches.{IsBlockOf}
 use Rattle.qcow2_alloc.specs.GrownTables.{named_by_reftable_entries}
 use Rattle.qcow2_alloc.specs.Rooms.{lacks, opens, CountsRun}
@@ -210,7 +210,7 @@ Counting h b old t first n =
 module _ (h : HeaderFields) (sizes : Sizes h) (b b' : Bytes) (old t0 t t' : EntryTableView) (first placed cluster n range : ℕ) (enters : EntersSo h old t0 t first placed cluster) (before : Counting h b old t first n)
     (outside : IsSameOutside (cluster_size h) (first + placed) b b') (others : (k : ℕ) → k ≢ range → entry_at t'.bytes k ≡ entry_at t.bytes k)
     (offset : block_offset (entry_at t'.bytes range) ≡ (first + placed) * cluster_size h) (block : RefBlockView) (whole : IsRefBlock block) (format : IsBlockOf h block)
-    (counts : CountsRun h block (range * counts_per_block h) first n) (stands : StandAt b' ((first + placed) * cluster_size h) block.bytes) where
+    (counts : CountsRun h block (range * counts_per_block h) first n) (stands : HasBytesAt b' ((first + placed) * cluster_size h) block.bytes) where
   -- the one that is written now
   count_here : (c : ℕ) → c / counts_per_block h ≡ range → block_count b' (count_width h) (block_offset (entry_at t'.bytes (c / counts_per_block h))) (c % counts_per_block h) ≡ run_at first n c
   count_here c here =

@@ -1,4 +1,4 @@
--- One refblock more of a room is written and entered.
+-- One more refblock of a room is written and entered.
 use Rattle.std.proofs.Common.{◌≡◌, inl, inr, ℕ, ◌+◌, ◌-◌, ◌*◌, ◌/◌, ◌%◌, ◌^◌, ◌<◌, ◌≤◌, Bool, true, List, None, Ok, Err, refl, sym, ap, ◌∙◌, subst, arith}
 use Rattle.std.proofs.lemmas.Bool.{cases_eq, cases_lt, cond-false, le-ltb}
 use Rattle.std.proofs.Math.Nat.{mul-mod_left, mul-le-mul_left}
@@ -20,11 +20,11 @@ use Rattle.qcow2_laws.specs.Tops.{IsSameOutside}
 use Rattle.qcow2_alloc.specs.declared.allocation.Allocator.{Allocator}
 use Rattle.qcow2_alloc.specs.declared.error.ImageError.{ImageError}
 use Rattle.qcow2_alloc.specs.declared.image_file.ImageFile.{ImageFile}
-use Rattle.qcow2_alloc.specs.Allocation.{run_at, StandAt, InternalAllocatorStep}
+use Rattle.qcow2_alloc.specs.Allocation.{run_at, HasBytesAt, InternalAllocatorStep}
 use Rattle.qcow2_alloc.specs.GrownTables.{with_run}
 use Rattle.qcow2_alloc.specs.ImageFile.{contents_in, IsFault, FileInvariant, AllocatorInvariant, HasReftable, RefusedFileStep}
 use Rattle.qcow2_alloc.specs.MetadataCaches.{order_of, l2_tables, rb_at}
-use Rattle.qcow2_alloc.specs.Rooms.{opens, opened, CountsRun, WritesTo}
+use Rattle.qcow2_alloc.specs.Rooms.{opens, opened, CountsRun}
 use Rattle.qcow2_alloc.specs.TableCaches.{IsBlockOf}
 use Rattle.qcow2_laws.proofs.Places.{Sizes}
 use Rattle.qcow2_alloc.proofs.PlacedRooms.{EntersSo, Counting, enters_more, counting_more}
@@ -58,31 +58,6 @@ pub counts_as : (h h' : HeaderFields) (block : RefBlockView) (begin begin' first
 counts_as h h' block begin begin' first n n' same_header same same_length counts =
     subst (λ (k : HeaderFields). CountsRun k block begin' first n') same_header (subst (λ m. CountsRun h block m first n') same (subst (λ m. CountsRun h block begin first m) same_length counts))
 
--- no refblock is cached for one cluster more
-pub uncached_more : {S : Type 0} (old new : ImageFile S) (first placed : ℕ) → ((c : ℕ) → (c ≡ first + placed → ⊥) → rb_at new.caches c ≡ rb_at old.caches c) → rb_at new.caches (first + placed) ≡ None
-    → ((c : ℕ) → 0 < run_at first placed c → rb_at old.caches c ≡ None) → (c : ℕ) → 0 < run_at first (placed + 1) c → rb_at new.caches c ≡ None
-uncached_more old new first placed others gone before c some = elim (cases_eq c (first + placed)) [
-  | inl here ↦ ap (λ k. rb_at new.caches k) here ∙ gone
-  | inr other ↦ others c other ∙ before c (let last = run_last first placed c in let none = none_there (first + placed) c other in omega (arith, some, last, none))
-]
-
-module _ {S : Type 0} (view : S → StorageView) (p : Pending) (first n : ℕ) (a : Allocator) (f f' : ImageFile S) (cluster : ℕ) (block : RefBlockView) where
-  -- what a write of a refblock says, with the header that the file has all along
-  module _ (h : HeaderFields) (same : f.header.fields ≡ h) where
-    pub wrote_err : (e : ImageError) → (AllocatorInvariant view a (with_run p f.header.fields a.reftable first n) f → IsBlockOf f.header.fields block → WritesTo view (with_run p f.header.fields a.reftable first n) f a f' cluster block.bytes (Err e))
-        → AllocatorInvariant view a (with_run p h a.reftable first n) f → IsBlockOf f.header.fields block → IsFault e × RefusedFileStep view (with_run p h a.reftable first n) f a f' e
-    wrote_err e clause sound fits =
-        subst (λ (k : HeaderFields). AllocatorInvariant view a (with_run p k a.reftable first n) f → IsFault e × RefusedFileStep view (with_run p k a.reftable first n) f a f' e) same (λ s. clause s fits) sound
-
-    pub wrote_ok : (x : Unit {0}) → (AllocatorInvariant view a (with_run p f.header.fields a.reftable first n) f → IsBlockOf f.header.fields block → WritesTo view (with_run p f.header.fields a.reftable first n) f a f' cluster block.bytes (Ok x))
-        → AllocatorInvariant view a (with_run p h a.reftable first n) f → IsBlockOf f.header.fields block
-        → InternalAllocatorStep view (with_run p h a.reftable first n) f a f' (with_run p h a.reftable first n) × StandAt (contents_in view f') (cluster * cluster_size h) block.bytes × IsSameOutside (cluster_size h) cluster (contents_in view f) (contents_in view f')
-        × (rb_at f'.caches cluster ≡ None)
-    wrote_ok x clause sound fits =
-        subst (λ (k : HeaderFields). AllocatorInvariant view a (with_run p k a.reftable first n) f
-        → InternalAllocatorStep view (with_run p k a.reftable first n) f a f' (with_run p k a.reftable first n) × StandAt (contents_in view f') (cluster * cluster_size k) block.bytes × IsSameOutside (cluster_size k) cluster (contents_in view f) (contents_in view f')
-        × (rb_at f'.caches cluster ≡ None)) same (λ s. let w = clause s fits in (w.allocator_step, w.stands, w.outside, w.gone)) sound
-
 -- what may be written still may
 pub may_go : {S : Type 0} (old new : ImageFile S) → order_of new.caches ≡ order_of old.caches → l2_tables new.caches ≡ l2_tables old.caches → BlocksMayGo (order_of old.caches) (l2_tables old.caches) → BlocksMayGo (order_of new.caches) (l2_tables new.caches)
 may_go old new order tables may = subst (λ (ts : List CachedTable). BlocksMayGo (order_of new.caches) ts) (sym tables) (subst (λ (d : Direction). BlocksMayGo d (l2_tables old.caches)) (sym order) may)
@@ -114,14 +89,13 @@ run_within first n c some = elim (cases_lt c first) [
   | inr from ↦ elim (cases_lt c (first + n)) [ inl lt ↦ (from, lt) | inr past ↦ absurd (let none = run_after first n c past in omega (arith, some, none)) ]
 ]
 
-module _ {S : Type 0} (view : S → StorageView) (h : HeaderFields) (sizes : Sizes h) (old t0 t t' : EntryTableView) (f f' : ImageFile S) (first n at cluster bits : ℕ) (block : RefBlockView)
+module _ (h : HeaderFields) (sizes : Sizes h) (old t0 t t' : EntryTableView) (b b' : Bytes) (first n at cluster bits : ℕ) (block : RefBlockView)
     (first_some : 0 < first) (low : first ≤ at) (from : first ≤ cluster) (per : counts_per_block h ≡ 2 ^ bits) (t_bits : t.cluster_bits ≡ h.cluster_bits) (entries : (k : ℕ) → entry_at t0.bytes k ≡ entry_at old.bytes k)
     (open_here : opens old (counts_per_block h) first cluster ≡ true) (within : cluster / counts_per_block h < entry_count t)
     (enters : ChangesEntry t.bytes t'.bytes (cluster / 2 ^ bits) (at * 2 ^ t.cluster_bits)) (offset : block_offset (entry_at t'.bytes (cluster / 2 ^ bits)) ≡ at * 2 ^ t.cluster_bits)
-    (before : EntersSo h old t0 t first (at - first) cluster) (counting : Counting h (contents_in view f) old t first n) (uncached : (c : ℕ) → 0 < run_at first (at - first) c → rb_at f.caches c ≡ None)
+    (before : EntersSo h old t0 t first (at - first) cluster) (counting : Counting h b old t first n)
     (whole : IsRefBlock block) (format : IsBlockOf h block) (counts : CountsRun h block (cluster / 2 ^ bits * 2 ^ bits) first n)
-    (stands : StandAt (contents_in view f') (at * cluster_size h) block.bytes) (outside : IsSameOutside (cluster_size h) at (contents_in view f) (contents_in view f'))
-    (gone : rb_at f'.caches at ≡ None) (others : (c : ℕ) → (c ≡ at → ⊥) → rb_at f'.caches c ≡ rb_at f.caches c) where
+    (stands : HasBytesAt b' (at * cluster_size h) block.bytes) (outside : IsSameOutside (cluster_size h) at b b') where
   at_is : at ≡ first + (at - first)
   at_is = omega (arith, low)
 
@@ -143,14 +117,9 @@ module _ {S : Type 0} (view : S → StorageView) (h : HeaderFields) (sizes : Siz
   pub room_enters : EntersSo h old t0 t' first (at + 1 - first) (cluster + 1)
   room_enters = subst (λ m. EntersSo h old t0 t' first m (cluster + 1)) next_is (enters_more h old t0 t first (at - first) cluster from sizes.counts before t' first_some entries open_here within enters_here offset_here)
 
-  pub room_counts : Counting h (contents_in view f') old t' first n
+  pub room_counts : Counting h b' old t' first n
   room_counts =
-      counting_more h sizes (contents_in view f) (contents_in view f') old t0 t t' first (at - first) cluster n (cluster / counts_per_block h) before counting
-      (subst (λ k. IsSameOutside (cluster_size h) k (contents_in view f) (contents_in view f')) at_is outside) enters_here.others offset_here block whole format
+      counting_more h sizes b b' old t0 t t' first (at - first) cluster n (cluster / counts_per_block h) before counting
+      (subst (λ k. IsSameOutside (cluster_size h) k b b') at_is outside) enters_here.others offset_here block whole format
       (counts_as h h block (cluster / 2 ^ bits * 2 ^ bits) (cluster / counts_per_block h * counts_per_block h) first n n refl (ap (λ k. cluster / k * k) (sym per)) refl counts)
-      (subst (λ k. StandAt (contents_in view f') (k * cluster_size h) block.bytes) at_is stands)
-
-  pub room_uncached : (c : ℕ) → 0 < run_at first (at + 1 - first) c → rb_at f'.caches c ≡ None
-  room_uncached =
-      subst (λ m. (c : ℕ) → 0 < run_at first m c → rb_at f'.caches c ≡ None) next_is
-      (uncached_more f f' first (at - first) (λ c other. others c (λ e. other (e ∙ at_is))) (ap (λ k. rb_at f'.caches k) (sym at_is) ∙ gone) uncached)
+      (subst (λ k. HasBytesAt b' (k * cluster_size h) block.bytes) at_is stands)

@@ -1,4 +1,5 @@
--- A longer reftable is written behind its refblocks, and is ready then.
+-- A longer reftable is written after its refblocks, and is then ready.
+use Rattle.qcow2_alloc.specs.LowestRuns.{KeepsUsed}
 use Rattle.std.proofs.Common.{◌≡◌, ℕ, ◌+◌, ◌*◌, ◌/◌, ◌%◌, ◌<◌, ◌≤◌, List, Option, None, Some, Result, Ok, Err, refl, sym, ap, ◌∙◌, subst, arith, inl, inr}
 use Rattle.std.specs.Option.{option_map}
 use Rattle.std.proofs.lemmas.Nat.{mod_below}
@@ -17,9 +18,8 @@ use Rattle.qcow2_alloc.specs.declared.cache.MetadataCaches.{MetadataCaches}
 use Rattle.qcow2_alloc.specs.declared.error.ImageError.{ImageError}
 use Rattle.qcow2_alloc.specs.declared.image_file.ImageFile.{ImageFile}
 use Rattle.qcow2_alloc.specs.declared.image_storage.ImageStorage.{ImageStorage}
-use Rattle.qcow2_alloc.specs.Allocation.{run_at, StandAt, InternalAllocatorStep, InternalAllocatorGrowth}
+use Rattle.qcow2_alloc.specs.Allocation.{run_at, HasBytesAt, InternalAllocatorStep, InternalAllocatorGrowth}
 use Rattle.qcow2_alloc.specs.GrownTables.{with_run, without_reftable, IsGrown, StandsGrown, NamesReftable}
-use Rattle.qcow2_alloc.specs.LowestRuns.{KeepsUsed}
 use Rattle.qcow2_alloc.proofs.Hints.{used_stays}
 use Rattle.qcow2_alloc.proofs.AllocationSteps.{on_of, allocator_step_on, allocator_step_cached}
 use Rattle.qcow2_alloc.proofs.PlacedBlocks.{known_there}
@@ -96,20 +96,20 @@ module _ {S : Type 0} (view : S → StorageView) (p : Pending) (first n : ℕ) (
 
   pub table_ok : (x : Unit {0}) → (AllocatorInvariant view a (with_run p f.header.fields a.reftable first n) f → WritesTable view (with_run p f.header.fields a.reftable first n) f a f' cluster clusters bytes (Ok x))
       → AllocatorInvariant view a (with_run p h a.reftable first n) f
-      → InternalAllocatorStep view (with_run p h a.reftable first n) f a f' (with_run p h a.reftable first n) × StandAt (contents_in view f') (cluster * cluster_size h) bytes
+      → InternalAllocatorStep view (with_run p h a.reftable first n) f a f' (with_run p h a.reftable first n) × HasBytesAt (contents_in view f') (cluster * cluster_size h) bytes
       × ((c : ℕ) → run_at cluster clusters c ≡ 0 → SameIn (cluster_size h) c (contents_in view f) (contents_in view f'))
   table_ok x clause sound =
       subst (λ (k : HeaderFields). AllocatorInvariant view a (with_run p k a.reftable first n) f
-      → InternalAllocatorStep view (with_run p k a.reftable first n) f a f' (with_run p k a.reftable first n) × StandAt (contents_in view f') (cluster * cluster_size k) bytes
+      → InternalAllocatorStep view (with_run p k a.reftable first n) f a f' (with_run p k a.reftable first n) × HasBytesAt (contents_in view f') (cluster * cluster_size k) bytes
       × ((c : ℕ) → run_at cluster clusters c ≡ 0 → SameIn (cluster_size k) c (contents_in view f) (contents_in view f'))) same (λ s. let w = clause s in (w.allocator_step, w.stands, w.outside)) sound
 
 -- all of it stands ready
 pub stands_ready : {S : Type 0} (view : S → StorageView) (file : ImageFile S) (h : HeaderFields) (old t : EntryTableView) (first blocks clusters : ℕ) → h ≡ file.header.fields → IsGrown h old t first blocks clusters
-    → StandAt (contents_in view file) ((first + blocks) * cluster_size h) t.bytes → Counting h (contents_in view file) old t first (blocks + clusters) → AreClean (refblocks file.caches) → BlocksMayGo (order_of file.caches) (l2_tables file.caches)
+    → HasBytesAt (contents_in view file) ((first + blocks) * cluster_size h) t.bytes → Counting h (contents_in view file) old t first (blocks + clusters) → AreClean (refblocks file.caches) → BlocksMayGo (order_of file.caches) (l2_tables file.caches)
     → ((c : ℕ) → 0 < run_at first blocks c → rb_at file.caches c ≡ None) → StandsGrown view file old t first blocks clusters
 stands_ready view file h old t first blocks clusters same grown stands counts clean may uncached = record {
   grown = subst (λ (k : HeaderFields). IsGrown k old t first blocks clusters) same grown;
-  stands = subst (λ (k : HeaderFields). StandAt (contents_in view file) ((first + blocks) * cluster_size k) t.bytes) same stands;
+  stands = subst (λ (k : HeaderFields). HasBytesAt (contents_in view file) ((first + blocks) * cluster_size k) t.bytes) same stands;
   counts = subst (λ (k : HeaderFields). Counting k (contents_in view file) old t first (blocks + clusters)) same counts;
   clean = clean;
   may = may;

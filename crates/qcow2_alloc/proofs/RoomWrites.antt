@@ -1,4 +1,4 @@
--- Bytes are written to clusters of a run that nothing names.
+-- Bytes are written to clusters of a run that have no references.
 use Rattle.std.proofs.Common.{◌≡◌, ◌⊎◌, inl, inr, ℕ, ◌+◌, ◌*◌, ◌/◌, ◌<◌, ◌≤◌, Bool, true, false, IsTrue, IsFalse, List, length, Some, None, Result, Ok, Err, ◌^◌, refl, sym, ap, ◌∙◌, subst, arith}
 use mathlib.Core.Path.{fun_ext}
 use Rattle.std.proofs.lemmas.Bool.{cases_eq, cases_lt, ne_eqb, cond-false}
@@ -30,18 +30,18 @@ use Rattle.qcow2_alloc.specs.declared.allocation.Allocator.{Allocator}
 use Rattle.qcow2_alloc.specs.declared.cache.MetadataCaches.{MetadataCaches}
 use Rattle.qcow2_alloc.specs.declared.image_file.ImageFile.{ImageFile}
 use Rattle.qcow2_alloc.specs.declared.image_storage.ImageStorage.{ImageStorage}
-use Rattle.qcow2_alloc.specs.Allocation.{run_at, StandAt, InternalAllocatorStep}
+use Rattle.qcow2_alloc.specs.Allocation.{run_at, HasBytesAt, InternalAllocatorStep}
 use Rattle.qcow2_alloc.specs.CachePins.{KeepsPinsAndNotes}
 use Rattle.qcow2_alloc.specs.GrownTables.{counted_run, with_run}
 use Rattle.qcow2_alloc.specs.ImageFile.{view_in, contents_in, known_in, state_in, FileInvariant, AllocatorInvariant, HasReftable}
 use Rattle.qcow2_alloc.specs.ImageStorage.{storage_of}
-use Rattle.qcow2_alloc.specs.MetadataCaches.{order_of, l2_tables, rb_at, known_of, InternalCacheStep, TakesBlock}
+use Rattle.qcow2_alloc.specs.MetadataCaches.{order_of, l2_tables, rb_at, known_of, InternalCacheStep, AllocatesBlock}
 use Rattle.qcow2_alloc.specs.ImageError.{of_storage}
-use Rattle.qcow2_alloc.specs.Rooms.{WritesTo, WritesTable}
+use Rattle.qcow2_alloc.specs.Rooms.{WritesTable}
 use Rattle.qcow2_alloc.specs.TableCaches.{IsBlockOf}
 use Rattle.qcow2_alloc.proofs.AllocationSteps.{fault_of_storage, allocator_step_cached, allocator_step_then, is_sound_now}
 use Rattle.qcow2_alloc.proofs.FileWrites.{file_step_written, reftable_written}
-use Rattle.qcow2_alloc.proofs.KeptTables.Turning.{safe_none, stay_none}
+use Rattle.qcow2_alloc.proofs.KeptTables.Switching.{safe_none, stay_none}
 use Rattle.qcow2_alloc.proofs.Runs.{run_in, run_before, run_after}
 use Rattle.qcow2_alloc.proofs.PlacedBlocks.{IsFree, has_none, covers_written, known_there, file_step_rewritten, reftable_rewritten, write_as, outside_cluster}
 
@@ -74,7 +74,7 @@ module _ {S : Type 0} (view : S → StorageView) where
     abbrev on_storage : Bytes
     on_storage = contents_in view file
 
-    stays_as : (known : known_of h caches on_storage ≡ known_in view file) → TakesBlock file.caches caches cluster → InternalCacheStep h q (view_in view file) file.caches (view_in view file) caches
+    stays_as : (known : known_of h caches on_storage ≡ known_in view file) → AllocatesBlock file.caches caches cluster → InternalCacheStep h q (view_in view file) file.caches (view_in view file) caches
     stays_as known takes =
         let off = takes h q on_storage sound.caches in
         let crash_invariant = subst (λ (d : Direction). CrashInvariant h d q on_storage (known_in view file)) (sym order) sound.caches.kept.kept.crash_invariant in
@@ -86,7 +86,7 @@ module _ {S : Type 0} (view : S → StorageView) where
           since = safe_none (view_in view file) (known_in view file);
         }
 
-    removed_stays : (taken : Bool) → (IsFalse taken → caches ≡ file.caches) → (IsTrue taken → TakesBlock file.caches caches cluster) → InternalCacheStep h q (view_in view file) file.caches (view_in view file) caches
+    pub removed_stays : (taken : Bool) → (IsFalse taken → caches ≡ file.caches) → (IsTrue taken → AllocatesBlock file.caches caches cluster) → InternalCacheStep h q (view_in view file) file.caches (view_in view file) caches
     removed_stays true same takes =
         let off = takes refl h q on_storage sound.caches in
         let there = known_there view q file cluster sound free in
@@ -97,83 +97,9 @@ module _ {S : Type 0} (view : S → StorageView) where
     removed_stays false same takes =
         subst (λ (c : MetadataCaches S). InternalCacheStep h q (view_in view file) file.caches (view_in view file) c) (sym (same refl)) (stay_none view h q file.storage file.caches sound.honest sound.caches)
 
-    pub allocator_step_removed : (a : Allocator) → HasReftable view file a.reftable → (taken : Bool) → (IsFalse taken → caches ≡ file.caches) → (IsTrue taken → TakesBlock file.caches caches cluster) → KeepsPinsAndNotes file.caches caches
+    pub allocator_step_removed : (a : Allocator) → HasReftable view file a.reftable → (taken : Bool) → (IsFalse taken → caches ≡ file.caches) → (IsTrue taken → AllocatesBlock file.caches caches cluster) → KeepsPinsAndNotes file.caches caches
         → InternalAllocatorStep view q file a (record file { caches = caches }) q
     allocator_step_removed a has taken same takes marks = allocator_step_cached view q file a file.storage caches (record { sound = sound; reftable = has }) (removed_stays taken same takes) marks
-
-  -- ---- the bytes of a refblock are written to its cluster
-  module _ (q : Pending) (file : ImageFile S) (a : Allocator) (storage : ImageStorage S) (at : ℕ) (bytes : List ℕ) (result : Result (Unit {0}) StorageError) (sound : AllocatorInvariant view a q file) (free : IsFree view q file at)
-      (long : length bytes ≡ cluster_size file.header.fields)
-      (writes : Changes (view_in view file) (view (storage_of storage)) result (λ b. overwritten b (at * cluster_size file.header.fields) bytes))
-      (calls : Calls (view_in view file) (view (storage_of storage)) result) where
-    abbrev written : ImageFile S
-    written = record file { storage = storage }
-
-    pub allocator_step_rewritten : InternalAllocatorStep view q file a written q
-    allocator_step_rewritten = record { file_step = file_step_rewritten view q file storage at bytes result sound.sound free long writes calls; reftable = reftable_rewritten view q file storage at bytes result sound.sound free long writes calls a.reftable sound.reftable }
-
-    pub stands_written : (x : Unit {0}) → result ≡ Ok x → StandAt (contents_in view written) (at * cluster_size file.header.fields) bytes
-    stands_written x ok i lt =
-        let now = rw ok at (writes sound.sound.honest) in
-        sym (ap (λ (l : List ℕ). byte_at l (at * cluster_size file.header.fields + i)) now ∙ byte_at-overwritten (view_in view file).contents (at * cluster_size file.header.fields) bytes i lt)
-
-    pub outside_written : (x : Unit {0}) → result ≡ Ok x → IsSameOutside (cluster_size file.header.fields) at (contents_in view file) (contents_in view written)
-    outside_written x ok o other =
-        let now = rw ok at (writes sound.sound.honest) in
-        overwritten_but (view_in view file).contents (at * cluster_size file.header.fields) bytes o
-        (subst (λ n. (o < at * cluster_size file.header.fields) ⊎ (at * cluster_size file.header.fields + n ≤ o)) (sym long) (outside_cluster file.header.fields.cluster_bits at o other))
-        ∙ ap (λ (l : List ℕ). byte_at l o) (sym now)
-
-  -- ---- both, one after the other
-  module _ (p : Pending) (first n : ℕ) (file : ImageFile S) (a : Allocator) (caches : MetadataCaches S) (cluster : ℕ) (taken : Bool) (sound : AllocatorInvariant view a (with_run p file.header.fields a.reftable first n) file)
-      (may : BlocksMayGo (order_of file.caches) (l2_tables file.caches)) (some : 0 < run_at first n cluster) (order : order_of caches ≡ order_of file.caches) (tables : l2_tables caches ≡ l2_tables file.caches) (marks : KeepsPinsAndNotes file.caches caches)
-      (same : IsFalse taken → caches ≡ file.caches) (takes : IsTrue taken → TakesBlock file.caches caches cluster)
-      (asked : S) (after : ImageStorage S) (block : RefBlockView) (result : Result (Unit {0}) StorageError) (fits : IsBlockOf file.header.fields block) (is : block.cluster ≡ Some cluster) (whole : length block.bytes ≡ 2 ^ block.cluster_bits)
-      (asked_same : asked ≡ storage_of file.storage)
-      (written : IfSome block.cluster (λ k. Changes (view asked) (view (storage_of after)) result (λ b. overwritten b (k * 2 ^ block.cluster_bits) block.bytes))) (calls : Calls (view asked) (view (storage_of after)) result) where
-    abbrev run_pending : Pending
-    run_pending = with_run p file.header.fields a.reftable first n
-
-    abbrev forgot : ImageFile S
-    forgot = record file { caches = caches }
-
-    abbrev block_written : ImageFile S
-    block_written = record forgot { storage = after }
-
-    one : InternalAllocatorStep view run_pending file a forgot run_pending
-    one = allocator_step_removed run_pending file caches cluster sound.sound (free_in_run p first n file a.reftable sound.sound sound.reftable may cluster some) order a sound.reftable taken same takes marks
-
-    may_still : BlocksMayGo (order_of caches) (l2_tables caches)
-    may_still = subst (λ (ts : List CachedTable). BlocksMayGo (order_of caches) ts) (sym tables) (subst (λ (d : Direction). BlocksMayGo d (l2_tables file.caches)) (sym order) may)
-
-    free_still : IsFree view run_pending forgot cluster
-    free_still = free_in_run p first n forgot a.reftable one.file_step.sound one.reftable may_still cluster some
-
-    long : length block.bytes ≡ cluster_size file.header.fields
-    long = whole ∙ ap (λ b. 2 ^ b) fits.bits
-
-    writes : Changes (view_in view forgot) (view (storage_of after)) result (λ b. overwritten b (cluster * cluster_size file.header.fields) block.bytes)
-    writes = write_as view (storage_of file.storage) asked (storage_of after) cluster block.cluster block.cluster_bits file.header.fields.cluster_bits block.bytes result asked_same is fits.bits written
-
-    calls_now : Calls (view_in view forgot) (view (storage_of after)) result
-    calls_now = subst (λ (s : S). Calls (view s) (view (storage_of after)) result) asked_same calls
-
-    now : AllocatorInvariant view a run_pending forgot
-    now = is_sound_now view run_pending run_pending file forgot a one
-
-    pub allocator_step_block : InternalAllocatorStep view run_pending file a block_written run_pending
-    allocator_step_block = allocator_step_then view run_pending run_pending file forgot block_written a a one (allocator_step_rewritten run_pending forgot a after cluster block.bytes result now free_still long writes calls_now)
-
-    pub block_refused : (e : StorageError) → WritesTo view run_pending file a block_written cluster block.bytes (Err (of_storage e))
-    block_refused e = (fault_of_storage e, inl (allocator_step_block.file_step, allocator_step_block.reftable))
-
-    pub block_stands : (x : Unit {0}) → result ≡ Ok x → rb_at caches cluster ≡ None → WritesTo view run_pending file a block_written cluster block.bytes (Ok x)
-    block_stands x ok gone = record {
-      allocator_step = allocator_step_block;
-      stands = stands_written run_pending forgot a after cluster block.bytes result now free_still long writes calls_now x ok;
-      outside = outside_written run_pending forgot a after cluster block.bytes result now free_still long writes calls_now x ok;
-      gone = gone;
-    }
 
   -- ---- a table is written to clusters of a run
   module _ (p : Pending) (first n : ℕ) (file : ImageFile S) (a : Allocator) (sound : AllocatorInvariant view a (with_run p file.header.fields a.reftable first n) file) (may : BlocksMayGo (order_of file.caches) (l2_tables file.caches))

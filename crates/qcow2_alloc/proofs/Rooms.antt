@@ -1,4 +1,4 @@
--- Runs of clusters of which those are taken whose ranges have refblocks.
+-- Runs in which the clusters are allocated whose ranges have refblocks.
 use Rattle.std.proofs.Common.{◌≡◌, ◌⊎◌, inl, inr, ℕ, suc, ◌+◌, ◌-◌, ◌/◌, ◌<◌, ◌≤◌, Bool, true, false, IsTrue, Ok, refl, sym, ap, ◌∙◌, subst, arith}
 use Rattle.std.proofs.lemmas.Bool.{cases_Bool, cases_eq, cases_lt, cond-true, cond-false}
 use Rattle.std.specs.Int.{from_bool}
@@ -12,10 +12,10 @@ use Rattle.qcow2_laws.specs.CrashInvariant.{Pending}
 use Rattle.qcow2_alloc.specs.declared.allocation.Allocator.{Allocator}
 use Rattle.qcow2_alloc.specs.declared.error.ImageError.{ImageError}
 use Rattle.qcow2_alloc.specs.declared.image_file.ImageFile.{ImageFile}
-use Rattle.qcow2_alloc.specs.Allocation.{run_at, InternalAllocatorStep, TakesOne}
+use Rattle.qcow2_alloc.specs.Allocation.{run_at, InternalAllocatorStep, AllocatesGiven}
 use Rattle.qcow2_alloc.specs.GrownTables.{counted_run, with_run}
 use Rattle.qcow2_alloc.specs.ImageFile.{IsFault, AllocatorInvariant, RefusedFileStep}
-use Rattle.qcow2_alloc.specs.Rooms.{lacks, counted_one, opens, opened, TakesFree}
+use Rattle.qcow2_alloc.specs.Rooms.{lacks, counted_one, opens, opened, AllocatesFree}
 use Rattle.qcow2_alloc.proofs.FileSteps.{pending_same, file_step_then, leaves_then, interrupted_after}
 use Rattle.qcow2_alloc.proofs.AllocationSteps.{allocator_step_more, is_sound_now}
 use Rattle.qcow2_alloc.proofs.Runs.{run_in, run_before, run_after, run_first, run_last, none_there}
@@ -136,21 +136,21 @@ run_of_same p h h' t t' first n n' same_header same same_length =
     ap (λ (k : HeaderFields). with_run p k t first n) same_header ∙ ap (λ (x : EntryTableView). with_run p h' x first n) same ∙ ap (with_run p h' t' first) same_length
 
 pub noted_of_same : (h : HeaderFields) (t t' : EntryTableView) (first n : ℕ) (changed : Bool) → t ≡ t' → ((k : ℕ) → counted_run h t first n k ≡ 0) ⊎ IsTrue changed → ((k : ℕ) → counted_run h t' first n k ≡ 0) ⊎ IsTrue changed
-noted_of_same h t t' first n changed same noted = subst (λ (x : EntryTableView). ((k : ℕ) → counted_run h x first n k ≡ 0) ⊎ IsTrue changed) same noted
+noted_of_same h t t' first n changed same recorded = subst (λ (x : EntryTableView). ((k : ℕ) → counted_run h x first n k ≡ 0) ⊎ IsTrue changed) same recorded
 
 pub noted_of_room : (h h' : HeaderFields) (t t' : EntryTableView) (first n n' : ℕ) (changed : Bool) → h ≡ h' → t ≡ t' → n ≡ n' → ((k : ℕ) → counted_run h t first n k ≡ 0) ⊎ IsTrue changed → ((k : ℕ) → counted_run h' t' first n' k ≡ 0) ⊎ IsTrue changed
-noted_of_room h h' t t' first n n' changed same_header same_table same_length noted =
+noted_of_room h h' t t' first n n' changed same_header same_table same_length recorded =
     subst (λ m. ((k : ℕ) → counted_run h' t' first m k ≡ 0) ⊎ IsTrue changed) same_length
-    (subst (λ (x : HeaderFields). ((k : ℕ) → counted_run x t' first n k ≡ 0) ⊎ IsTrue changed) same_header (noted_of_same h t t' first n changed same_table noted))
+    (subst (λ (x : HeaderFields). ((k : ℕ) → counted_run x t' first n k ≡ 0) ⊎ IsTrue changed) same_header (noted_of_same h t t' first n changed same_table recorded))
 
 -- ---- whether a change was noted
-module _ (h : HeaderFields) (t : EntryTableView) (first n : ℕ) (was now : Bool) (stays : IsTrue was → IsTrue now) (noted : ((k : ℕ) → counted_run h t first n k ≡ 0) ⊎ IsTrue was) where
+module _ (h : HeaderFields) (t : EntryTableView) (first n : ℕ) (was now : Bool) (stays : IsTrue was → IsTrue now) (recorded : ((k : ℕ) → counted_run h t first n k ≡ 0) ⊎ IsTrue was) where
   pub still_noted : ((k : ℕ) → counted_run h t first n k ≡ 0) ⊎ IsTrue now
-  still_noted = elim noted [ inl none ↦ inl none | inr some ↦ inr (stays some) ]
+  still_noted = elim recorded [ inl none ↦ inl none | inr some ↦ inr (stays some) ]
 
   pub noted_more : (lacks t ((first + n) / counts_per_block h) ≡ false → IsTrue now) → ((k : ℕ) → counted_run h t first (n + 1) k ≡ 0) ⊎ IsTrue now
   noted_more anew = elim (cases_Bool (lacks t ((first + n) / counts_per_block h))) [
-    | inl out ↦ elim noted [
+    | inl out ↦ elim recorded [
       | inl none ↦ inl (λ k.
           let zero : counted_one h t (first + n) k ≡ 0 = cond-true {A = ℕ} (lacks t ((first + n) / counts_per_block h)) 0 (one_at (first + n) k) out in
           let sum = counted_last h t first n k in
@@ -164,14 +164,14 @@ module _ (h : HeaderFields) (t : EntryTableView) (first n : ℕ) (was now : Bool
 module _ {S : Type 0} (view : S → StorageView) where
   -- a cluster that was counted, or is in use
   pub free_taken : (p : Pending) (old new : ImageFile S) (a : Allocator) (t : EntryTableView) (cluster : ℕ) (taken : Bool) → lacks t (cluster / counts_per_block old.header.fields) ≡ false
-      → TakesOne view p old a new false cluster (Ok taken) → TakesFree view p old a new t cluster (Ok taken)
+      → AllocatesGiven view p old a new false cluster (Ok taken) → AllocatesFree view p old a new t cluster (Ok taken)
   free_taken p old new a t cluster true has takes = subst (λ (r : Pending). InternalAllocatorStep view p old a new r) (sym (one_taken old.header.fields t p cluster has)) takes
   free_taken p old new a t cluster false has takes = takes
 
   -- a fault breaks off, or comes before anything was counted
   pub ends_room : (p : Pending) (t : EntryTableView) (first n : ℕ) (a b c : ImageFile S) (u u' : Allocator) (e : ImageError) → InternalAllocatorStep view p a u b (with_run p a.header.fields t first n)
       → ((k : ℕ) → counted_run a.header.fields t first n k ≡ 0) ⊎ IsTrue c.caches.is_changed → IsFault e → RefusedFileStep view (with_run p a.header.fields t first n) b u' c e → RefusedFileStep view p a u' c e
-  ends_room p t first n a b c u u' e before noted fault leaves = elim noted [
+  ends_room p t first n a b c u u' e before recorded fault leaves = elim recorded [
     | inl none ↦
         let same = run_none a.header.fields t p first n none in
         leaves_then view p a b c u' e (subst (λ (r : Pending). InternalAllocatorStep view p a u b r) same before).file_step (subst (λ (r : Pending). RefusedFileStep view r b u' c e) same leaves)
@@ -180,7 +180,7 @@ module _ {S : Type 0} (view : S → StorageView) where
 
   -- one cluster more of a run is taken
   pub run_taken : (p : Pending) (t t' : EntryTableView) (first n : ℕ) (a b c : ImageFile S) (u u' : Allocator) (taken : Bool) → b.header.fields ≡ a.header.fields → t' ≡ t → InternalAllocatorStep view p a u b (with_run p a.header.fields t first n) → taken ≡ true
-      → TakesFree view (with_run p a.header.fields t first n) b u' c t' (first + n) (Ok taken) → InternalAllocatorStep view p a u' c (with_run p a.header.fields t first (n + 1))
+      → AllocatesFree view (with_run p a.header.fields t first n) b u' c t' (first + n) (Ok taken) → InternalAllocatorStep view p a u' c (with_run p a.header.fields t first (n + 1))
   run_taken p t t' first n a b c u u' false same_header same before is takes = absurd (let bad : false ≡ true = is in cc)
   run_taken p t t' first n a b c u u' true same_header same before is takes =
       let h = a.header.fields in
@@ -190,7 +190,7 @@ module _ {S : Type 0} (view : S → StorageView) where
 
   -- so it isn't
   pub run_not_taken : (p : Pending) (t : EntryTableView) (first n cluster : ℕ) (a b c : ImageFile S) (u u' : Allocator) (t' : EntryTableView) (taken : Bool) → InternalAllocatorStep view p a u b (with_run p a.header.fields t first n) → taken ≡ false
-      → TakesFree view (with_run p a.header.fields t first n) b u' c t' cluster (Ok taken) → InternalAllocatorStep view p a u' c (with_run p a.header.fields t first n)
+      → AllocatesFree view (with_run p a.header.fields t first n) b u' c t' cluster (Ok taken) → InternalAllocatorStep view p a u' c (with_run p a.header.fields t first n)
   run_not_taken p t first n cluster a b c u u' t' true before is takes = absurd (let bad : true ≡ false = is in cc)
   run_not_taken p t first n cluster a b c u u' t' false before is takes = allocator_step_more view false p (counted_run a.header.fields t first n) (with_run p a.header.fields t first n) a b c u u' before takes
 
@@ -214,7 +214,7 @@ module _ {S : Type 0} (view : S → StorageView) where
 
     pub left_fault : (first n : ℕ) (e : ImageError) → first ≤ at → at < first + n → ((k : ℕ) → counted_run start.header.fields t first n k ≡ 0) ⊎ IsTrue f.caches.is_changed
         → IsFault e × RefusedFileStep view (with_new_tables rest (one_at at)) b u' f e → IsFault e × RefusedFileStep view p start u' f e
-    left_fault first n e low high noted back = elim noted [
+    left_fault first n e low high recorded back = elim recorded [
       | inl none ↦ let one = counted_in start.header.fields t first n at has in let in_run = run_in first n at low high in let zero = none at in absurd (omega (arith, one, in_run, zero))
       | inr changed ↦ (back.0, inr (interrupted_after view p (with_new_tables rest (one_at at)) start b f u' e owing.file_step back.0 changed back.1))
     ]

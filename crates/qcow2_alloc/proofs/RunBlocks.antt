@@ -1,4 +1,4 @@
--- Refblocks whose counts are those of a run.
+-- Refblocks whose refcounts are those of a run.
 use Rattle.std.proofs.Common.{◌≡◌, inl, inr, ℕ, zero, suc, ◌+◌, ◌-◌, ◌^◌, ◌<◌, ◌≤◌, Bool, true, false, IsTrue, IsFalse, refl, sym, ap, ◌∙◌, subst, arith}
 use Rattle.std.proofs.lemmas.Bool.{cases_eq}
 use Rattle.std.proofs.lemmas.Nat.{pow_pos}
@@ -23,6 +23,10 @@ raised_kept old new true at count unchanged same counted =
       ap (λ (b : RefBlockView). b.refcount_order) e,
       λ whole. subst IsRefBlock (sym e) (record { whole = (counted refl).as_long ∙ whole.whole; bits = whole.bits; order = whole.order; placed = whole.placed }),
     )
+
+pub raised_modified : (old new : RefBlockView) (done : Bool) → (IsFalse done → new ≡ old) → (IsTrue done → new ≡ record old { bytes = new.bytes; is_modified = true }) → old.is_modified ≡ true → new.is_modified ≡ true
+raised_modified old new false unchanged same modified = ap (λ (b : RefBlockView). b.is_modified) (unchanged refl) ∙ modified
+raised_modified old new true unchanged same modified = ap (λ (b : RefBlockView). b.is_modified) (same refl)
 
 -- the count of the next cluster rises
 pub counts_next : (old new : RefBlockView) (done : Bool) (low begin at : ℕ) → low ≤ at → begin ≤ at → ((i : ℕ) → count_at old i ≡ run_at low (at - low) (begin + i)) → (IsFalse done → count_at old (at - begin) + 1 ≡ count_limit old)

@@ -1,4 +1,4 @@
--- Clusters that are spared: one after the other, and what they are on a sound image.
+-- Sparing clusters one after another, and which these are on a sound image.
 use Rattle.std.proofs.Common.{◌≡◌, ◌≢◌, ◌⊎◌, inl, inr, ℕ, ◌+◌, ◌-◌, ◌*◌, ◌/◌, ◌^◌, ◌<◌, ◌≤◌, Bool, true, false, Option, Some, None, List, IsTrue, IsFalse, sym, ap, ◌∙◌, subst, refl, arith}
 use Rattle.std.specs.Prelude.{IfSome, IsNone}
 use Rattle.std.specs.Option.{is_some}

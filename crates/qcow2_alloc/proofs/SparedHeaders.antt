@@ -1,4 +1,4 @@
--- Calls on an image's file that leave cluster 0 alone, one after another.
+-- Calls on an image's file that keep cluster 0, one after another.
 use Rattle.std.proofs.Common.{◌≡◌, ◌⊎◌, inl, inr, ℕ, zero, suc, ◌+◌, ◌*◌, ◌^◌, ◌<◌, ◌≤◌, List, Option, Some, None, Result, IsSome, refl, sym, ap, ◌∙◌, subst, arith}
 use Rattle.std.specs.Prelude.{IfSome}
 use Rattle.image_access.specs.Contents.{overwritten}

@@ -1,4 +1,4 @@
--- One step of the allocator after another, and refusals that are handed on.
+-- Steps of the allocator one after another, and refusals that are passed on.
 use Rattle.std.proofs.Common.{◌≡◌, ◌≢◌, ℕ, List, Option, Some, None, Result, Ok, Err, IsErr, IsErrAnd, refl, sym, ap, ◌∙◌, subst, arith}
 use Rattle.std.specs.Prelude.{IfErr}
 use Rattle.image_access.specs.Moments.{StorageView, HasCause}
@@ -8,8 +8,9 @@ use Rattle.qcow2_metadata.specs.declared.error.MetadataError.{MetadataError}
 use Rattle.qcow2_metadata.specs.declared.error.MetadataError.TheVariants as M
 use Rattle.qcow2_metadata.specs.MetadataError.{storage_result}
 use Rattle.qcow2_metadata.specs.EntryTable.{EntryTableView}
-use Rattle.qcow2_alloc.specs.Faults.{FaultsTold}
+use Rattle.qcow2_alloc.specs.Faults.{FaultsReported}
 use Rattle.qcow2_alloc.specs.CachePins.{KeepsPinsAndNotes}
+use Rattle.qcow2_alloc.specs.CacheSteps.{HeldStep}
 use Rattle.qcow2_alloc.specs.FreeList.{ReplacesReftable, OldReftablesQueued}
 use Rattle.qcow2_alloc.specs.HeaderClusters.{KeepsHeaderCluster}
 use Rattle.qcow2_alloc.specs.ImageFile.{view_in}
@@ -28,7 +29,7 @@ use Rattle.qcow2_alloc.proofs.AllocationSteps.{handed_on, named_then}
 use Rattle.qcow2_alloc.proofs.CachePins.{marks_then}
 use Rattle.qcow2_alloc.proofs.FormerReftables.{former_none, former_same, former_then}
 use Rattle.qcow2_alloc.proofs.HeaderClusters.{header_cluster_none, header_cluster_then}
-use Rattle.qcow2_alloc.proofs.KeptMarks.{kept_marks_none, kept_marks_then}
+use Rattle.qcow2_alloc.proofs.KeptMarks.{kept_marks_none, kept_marks_then, marks_of_caches}
 use Rattle.qcow2_alloc.proofs.ListedAfter.{header_same, header_then, lists_none, lists_same, lists_then}
 use Rattle.qcow2_alloc.proofs.Outcomes.{entries_none}
 use Rattle.qcow2_alloc.proofs.SparedHeaders.{spares_none, spares_then, spares_less, spares_cached, spares_listed, spares_parts, spares_tables}
@@ -58,6 +59,9 @@ module _ {S : Type 0} {view : S → StorageView} where
 
   pub table_step_tables : {t : EntryTableView} {f : ImageFile S} {caches : MetadataCaches S} → KeepMarks view f.storage f.caches f.storage caches → KeepBehindHeader f.caches caches → TableStep view t f t (record f { caches = caches })
   table_step_tables {t} {f} {caches} marks keep = record { header = refl; list = refl; named = entries_none _ t; marks = marks; header_cluster = spares_tables t f caches keep }
+
+  pub table_step_dropped : {t : EntryTableView} {a b : ImageFile S} → b ≡ record a { caches = b.caches } → HeldStep a.caches b.caches → TableStep view t a t b
+  table_step_dropped {t} {a} {b} same held = table_step_as refl same (table_step_tables (marks_of_caches held.marks held.order) held.header_cluster)
 
   -- ---- of a part of a call, which leaves the reftable
   pub part_none : {bits : ℕ} {f : ImageFile S} → PartStep view bits f f
@@ -218,17 +222,13 @@ pub fails_still : {Refuses : ImageError → Type 0} {before mid now : ℕ} {e : 
 fails_still {Refuses} {before} {mid} {now} {e} fails same = subst (λ n. FailsFor before n e Refuses) (sym same) fails
 
 -- to and from the clauses `storage_faults` and `cause`
-pub fails_of : {T : Type 0} {Refuses : ImageError → Type 0} {before now : ℕ} (r : Result T ImageError) → FaultsTold before now r → IfErr r Refuses → FailsFor before now (err_of r) Refuses
+pub fails_of : {T : Type 0} {Refuses : ImageError → Type 0} {before now : ℕ} (r : Result T ImageError) → FaultsReported before now r → IfErr r Refuses → FailsFor before now (err_of r) Refuses
 fails_of (Ok x) told cause = fails_ok told.told
 fails_of {T} (Err e) told cause = record { no_fewer = told.no_fewer; rose = λ is. told.rose (let same : e ≡ I.Storage = cc in ap Err same); told = told.told; cause = cause }
 
-pub told_of : {T : Type 0} {Refuses : ImageError → Type 0} {before now : ℕ} (r : Result T ImageError) → FailsFor before now (err_of r) Refuses → FaultsTold before now r
+pub told_of : {T : Type 0} {Refuses : ImageError → Type 0} {before now : ℕ} (r : Result T ImageError) → FailsFor before now (err_of r) Refuses → FaultsReported before now r
 told_of (Ok x) fails = record { no_fewer = fails.no_fewer; rose = λ bad. absurd cc; told = fails.told }
 told_of (Err e) fails = record { no_fewer = fails.no_fewer; rose = λ is. fails.rose (let same : e ≡ I.Storage = cc in ap Some same); told = fails.told }
-
-pub cause_of : {T : Type 0} {Refuses : ImageError → Type 0} {before now : ℕ} (r : Result T ImageError) → FailsFor before now (err_of r) Refuses → IfErr r Refuses
-cause_of (Ok x) fails = tt
-cause_of (Err e) fails = fails.cause
 
 -- ---- refusals of the layers below
 -- what the storage is told before a write leaves the number of its faults

@@ -139,10 +139,6 @@ module _ {K : Type 0} {eq : K → K → Bool} (laws : IsEquivalence eq) where
       | Some k ↦ λ h. let low = found_below (eq k) next n us a.fall (a.held n k h) in absurd (omega (arith, low, from))
     ] refl
 
-    -- a key is found under its number alone
-    found_once : (key k : K) (n m : ℕ) → lookup (eq key) us ≡ Some n → lookup (eq k) us ≡ Some m → eq k key ≡ true → m ≡ n
-    found_once key k n m h g same = same_Some m n (sym g ∙ finds_same k key same us ∙ h)
-
     -- the key that goes to the front, as it is held
     abbrev pub held_as : K → K
     held_as key = option_map_or (λ (e : K × ℕ). e.0) (lookup_entry (eq key) us) key
@@ -398,9 +394,6 @@ module _ {K : Type 0} (at : ℕ → Option K) (us : List (K × ℕ)) where
         seen = rw (so_far.seen, gone.0, gone.1) refl;
       }
 
-  pub numbering_ends : (left : List (K × ℕ)) (anew : List (K × Bool)) → left ≡ [] → IsNumbering at us left anew → anew ≡ marks_of at us
-  numbering_ends left anew is so_far = so_far.seen ∙ ap (marks_of at) (sym (so_far.split ∙ ap (λ l. l ++ so_far.done) is))
-
 -- ---- a key comes to the front with its mark
 
 module _ {K : Type 0} where
@@ -429,10 +422,6 @@ module _ {K : Type 0} where
         | true ↦ λ t. ap (λ (x : K × Bool). x.1) (sym (same_Some u e (rw t at g))) ∙ same_Some u.1 b (rw t at h)
         | false ↦ λ t. value_found test us b e (rw t at h) (rw t at g)
       ]) refl
-
-  pub mark_missing : (at : ℕ → Option K) (test : K → Bool) (us : List (K × ℕ)) (b : Bool) → None ≡ lookup test us → marks_of at us ≡ cond b (set_value test (marks_of at us) true) (marks_of at us)
-  mark_missing at test us true h = sym (set_none test (marks_of at us) true (sym (mark_is_none at test us h)))
-  mark_missing at test us false h = refl
 
 -- ---- room for the marks
 

@@ -1,5 +1,5 @@
 -- What the allocator's calls allocate and free, and what they leave of an image's file.
-use Rattle.std.specs.Prelude.{ℕ, ◌+◌, ◌*◌, ◌/◌, ◌%◌, ◌^◌, ◌<◌, ◌≤◌, ◌≡◌, ◌≢◌, ◌⊎◌, ◌&&◌, nat_le, nat_lt, Bool, true, false, List, length, Option, Some, None, Result, Ok, Err, IsSome, IsTrue, if◌then◌else◌}
+use Rattle.std.specs.Prelude.{ℕ, ◌+◌, ◌*◌, ◌%◌, ◌^◌, ◌<◌, ◌≤◌, ◌≡◌, ◌≢◌, ◌⊎◌, ◌&&◌, nat_le, nat_lt, Bool, true, false, List, length, Option, Some, None, Result, Ok, Err, IsSome, IsTrue, if◌then◌else◌}
 use Rattle.image_access.specs.Moments.{StorageView}
 use Rattle.qcow2_metadata.specs.declared.header.HeaderFields.{HeaderFields}
 use Rattle.qcow2_metadata.specs.Bytes.{Bytes, byte_at}
@@ -21,7 +21,6 @@ use Rattle.qcow2_alloc.specs.declared.clusters_to_free.ClusterKind.{ClusterKind}
 use Rattle.qcow2_alloc.specs.declared.clusters_to_free.ClusterKind.TheVariants.{Data, Metadata}
 use Rattle.qcow2_alloc.specs.declared.clusters_to_free.ClustersToFreeEntry.{ClustersToFreeEntry}
 use Rattle.qcow2_alloc.specs.declared.error.ImageError.{ImageError}
-use Rattle.qcow2_alloc.specs.declared.error.ImageError.TheVariants.{UnalignedTable, Limit}
 use Rattle.qcow2_alloc.specs.declared.image_file.ImageFile.{ImageFile}
 
 -- 1 if cluster k is one of the n clusters from `first` on, otherwise 0.
@@ -71,8 +70,8 @@ StandsFirst true h range at = at ≡ range * counts_per_block h
 StandsFirst false h range at = Unit {0}
 
 -- These bytes are at this offset.
-abbrev pub StandAt : Bytes → ℕ → List ℕ → Type 0
-StandAt b place bytes = (i : ℕ) → i < length bytes → byte_at bytes i ≡ b (place + i)
+abbrev pub HasBytesAt : Bytes → ℕ → List ℕ → Type 0
+HasBytesAt b place bytes = (i : ℕ) → i < length bytes → byte_at bytes i ≡ b (place + i)
 
 -- The reftable has no refblock for the range.
 abbrev pub HasNone : EntryTableView → ℕ → Type 0
@@ -94,10 +93,6 @@ pub record LacksFirst (h : HeaderFields) (reftable : EntryTableView) (cluster : 
   pub some : 0 < entry_count reftable
   pub first : cluster < counts_per_block h
 
--- The cluster's range cannot have a refblock: its entry is not aligned; or it is the first range, whose refblock would lie in the header's cluster.
-abbrev pub LacksBlock : HeaderFields → EntryTableView → ℕ → ImageError → Type 0
-LacksBlock h reftable cluster e = (IsUnaligned h reftable (cluster / counts_per_block h) × (e ≡ UnalignedTable)) ⊎ (LacksFirst h reftable cluster × (e ≡ Limit))
-
 -- The range has no refblock, and this cluster may hold it.
 pub record HasPlaceFor (counts_itself : Bool) (h : HeaderFields) (reftable : EntryTableView) (range at : ℕ) : Type 0 where
   pub none : HasNone reftable range
@@ -111,7 +106,7 @@ pub record CanName (cluster_bits : ℕ) (reftable : EntryTableView) (range at : 
   pub nameable : IsHostCluster reftable.cluster_bits at
   pub nameable_here : IsHostCluster cluster_bits at
 
--- No refblock moves to cluster 0: each reftable entry stays the same, or gets a refblock behind cluster 0.
+-- No refblock moves to cluster 0: each reftable entry stays the same, or gets a refblock past cluster 0.
 pub record NamesBehindHeader (old new : EntryTableView) : Type 0 where
   pub bits : new.cluster_bits ≡ old.cluster_bits
   pub each : (k : ℕ) → (entry_at new.bytes k ≡ entry_at old.bytes k) ⊎ (2 ^ old.cluster_bits ≤ block_offset (entry_at new.bytes k))
@@ -139,18 +134,18 @@ KeepsNamed old new = KeepsEntries (λ k. HasNone old k → ⊥) old new
 
 module _ {S : Type 0} where
   -- Data clusters are allocated only while refblocks are written before L2 tables.
-  abbrev pub MayTake : Bool → ImageFile S → Type 0
-  MayTake true file = order_of file.caches ≡ L2DependsOnRb
-  MayTake false file = Unit {0}
+  abbrev pub MayAllocate : Bool → ImageFile S → Type 0
+  MayAllocate true file = order_of file.caches ≡ L2DependsOnRb
+  MayAllocate false file = Unit {0}
 
   -- Old data are freed only while L2 tables are written before refblocks.
   abbrev pub MayFree : ClusterKind → ImageFile S → Type 0
   MayFree Data file = order_of file.caches ≡ RbDependsOnL2
   MayFree Metadata file = Unit {0}
 
-  abbrev pub MayLower : Owed → ImageFile S → Type 0
-  MayLower (Taken is_data) file = Unit {0}
-  MayLower (Listed kind) file = MayFree kind file
+  abbrev pub MayDecrement : Owed → ImageFile S → Type 0
+  MayDecrement (Taken is_data) file = Unit {0}
+  MayDecrement (Listed kind) file = MayFree kind file
 
   module _ (view : S → StorageView) where
     -- The refblock of a range is cached, from this cluster; or the range has none.
@@ -179,7 +174,7 @@ module _ {S : Type 0} where
       -- A refblock is in its cluster and in its cache.
       pub record HoldsBlock (block : RefBlockView) (at : ℕ) : Type 0 where
         pub new_data : rb_at new.caches at ≡ Some (cleared_rb block)
-        pub stands : StandAt (contents_in view new) (at * cluster_size new.header.fields) block.bytes
+        pub stands : HasBytesAt (contents_in view new) (at * cluster_size new.header.fields) block.bytes
 
       -- A refblock is written, and is in its cache.
       abbrev pub WritesBlock : RefBlockView → ℕ → Result (Unit {0}) ImageError → Type 0
@@ -197,16 +192,16 @@ module _ {S : Type 0} where
       GetsBlock (Err e) = RefusedFileStep view p old allocator' new e
 
       -- A cluster is allocated for a table, or there is no free one.
-      abbrev pub TakesLowest : Result (Option ℕ) ImageError → Type 0
-      TakesLowest (Ok (Some at)) = InternalAllocatorStep (taken_as false p (one_at at))
-      TakesLowest (Ok None) = InternalAllocatorStep p
-      TakesLowest (Err e) = RefusedFileStep view p old allocator' new e
+      abbrev pub AllocatesLowest : Result (Option ℕ) ImageError → Type 0
+      AllocatesLowest (Ok (Some at)) = InternalAllocatorStep (taken_as false p (one_at at))
+      AllocatesLowest (Ok None) = InternalAllocatorStep p
+      AllocatesLowest (Err e) = RefusedFileStep view p old allocator' new e
 
       -- A cluster is allocated, or it is in use.
-      abbrev pub TakesOne : Bool → ℕ → Result Bool ImageError → Type 0
-      TakesOne is_data cluster (Ok true) = InternalAllocatorStep (taken_as is_data p (one_at cluster))
-      TakesOne is_data cluster (Ok false) = InternalAllocatorStep p
-      TakesOne is_data cluster (Err e) = RefusedFileStep view p old allocator' new e
+      abbrev pub AllocatesGiven : Bool → ℕ → Result Bool ImageError → Type 0
+      AllocatesGiven is_data cluster (Ok true) = InternalAllocatorStep (taken_as is_data p (one_at cluster))
+      AllocatesGiven is_data cluster (Ok false) = InternalAllocatorStep p
+      AllocatesGiven is_data cluster (Err e) = RefusedFileStep view p old allocator' new e
 
       -- ---- steps in which the reftable may grow; p' is what is pending then, without what is allocated
 
@@ -214,26 +209,26 @@ module _ {S : Type 0} where
       abbrev pub RefusedGrowth : Pending → ImageError → Type 0
       RefusedGrowth p' e = InternalAllocatorGrowth p' ⊎ InterruptedFileStep view old new e
 
-      -- The reftable is longer then, or the same.
+      -- The reftable is longer afterwards, or the same.
       abbrev pub GrowsTable : Pending → Result (Unit {0}) ImageError → Type 0
       GrowsTable p' (Ok _) = InternalAllocatorGrowth p'
       GrowsTable p' (Err e) = RefusedGrowth p' e
 
       -- A cluster is allocated, or it is in use.
-      abbrev pub TakesCluster : Pending → Bool → ℕ → Result Bool ImageError → Type 0
-      TakesCluster p' is_data cluster (Ok true) = InternalAllocatorGrowth (taken_as is_data p' (one_at cluster))
-      TakesCluster p' is_data cluster (Ok false) = InternalAllocatorGrowth p'
-      TakesCluster p' is_data cluster (Err e) = RefusedGrowth p' e
+      abbrev pub AllocatesCluster : Pending → Bool → ℕ → Result Bool ImageError → Type 0
+      AllocatesCluster p' is_data cluster (Ok true) = InternalAllocatorGrowth (taken_as is_data p' (one_at cluster))
+      AllocatesCluster p' is_data cluster (Ok false) = InternalAllocatorGrowth p'
+      AllocatesCluster p' is_data cluster (Err e) = RefusedGrowth p' e
 
       -- The n clusters of a run are allocated, or none if one of them is in use.
-      abbrev pub TakesRun : Pending → Bool → ℕ → ℕ → Result ℕ ImageError → Type 0
-      TakesRun p' is_data first n (Ok taken) = (taken ≡ n → InternalAllocatorGrowth (taken_as is_data p' (run_at first n))) × (taken ≢ n → InternalAllocatorGrowth p')
-      TakesRun p' is_data first n (Err e) = RefusedGrowth p' e
+      abbrev pub AllocatesRun : Pending → Bool → ℕ → ℕ → Result ℕ ImageError → Type 0
+      AllocatesRun p' is_data first n (Ok taken) = (taken ≡ n → InternalAllocatorGrowth (taken_as is_data p' (run_at first n))) × (taken ≢ n → InternalAllocatorGrowth p')
+      AllocatesRun p' is_data first n (Err e) = RefusedGrowth p' e
 
       -- Some run of n clusters is allocated.
-      abbrev pub TakesSomeRun : Pending → Bool → ℕ → Result ℕ ImageError → Type 0
-      TakesSomeRun p' is_data n (Ok first) = InternalAllocatorGrowth (taken_as is_data p' (run_at first n))
-      TakesSomeRun p' is_data n (Err e) = RefusedGrowth p' e
+      abbrev pub AllocatesSomeRun : Pending → Bool → ℕ → Result ℕ ImageError → Type 0
+      AllocatesSomeRun p' is_data n (Ok first) = InternalAllocatorGrowth (taken_as is_data p' (run_at first n))
+      AllocatesSomeRun p' is_data n (Err e) = RefusedGrowth p' e
 
       -- An allocation returns a run of n clusters of this kind, which are allocated now. If it is refused, at most the list to be freed has changed, or a fault interrupted it.
       abbrev pub Allocates : Pending → ClusterKind → ℕ → Result ClustersToFreeEntry ImageError → Type 0
@@ -254,17 +249,17 @@ module _ {S : Type 0} where
       -- ----
 
       -- A pending cluster gets its refcount decremented.
-      abbrev pub LowersOne : Pending → Result Bool ImageError → Type 0
-      LowersOne p' (Ok true) = InternalAllocatorStep p'
-      LowersOne p' (Ok false) = ⊥
-      LowersOne p' (Err e) = IsFault e × RefusedFileStep view p old allocator' new e
+      abbrev pub DecrementsOne : Pending → Result Bool ImageError → Type 0
+      DecrementsOne p' (Ok true) = InternalAllocatorStep p'
+      DecrementsOne p' (Ok false) = ⊥
+      DecrementsOne p' (Err e) = IsFault e × RefusedFileStep view p old allocator' new e
 
       -- Pending clusters are freed.
       abbrev pub GivesBack : Pending → Result (Unit {0}) ImageError → Type 0
       GivesBack p' (Ok _) = InternalAllocatorStep p'
       GivesBack p' (Err e) = IsFault e × RefusedFileStep view p old allocator' new e
 
-      -- Clusters are freed, and this is pending then. A fault may stop it at some point.
+      -- Clusters are freed, and p' is pending afterwards. A fault may end this at some point.
       abbrev pub Frees : Pending → Result (Unit {0}) ImageError → Type 0
       Frees p' (Ok _) = InternalAllocatorStep p'
       Frees p' (Err e) = IsFault e × (InternalAllocatorStep p' ⊎ InterruptedFileStep view old new e)

@@ -64,7 +64,7 @@ module _ {S : Type 0} where
     pub blocks : AreNoMore (cluster_size h) (refblocks caches) (refblocks caches')
     pub since : AreFlushedSince h old caches new
 
-  -- A modified table is laid over the known contents, if the caches still have no cluster in common. No other table is modified that was not.
+  -- A modified table is overlaid on the known contents, if the caches still have no cluster in common. No other table is modified that was not.
   pub record KnownUnder (h : HeaderFields) (old : StorageView) (caches : MetadataCaches S) (new : StorageView) (caches' : MetadataCaches S) (t : CachedTable) (l2s rbs : List CachedTable) : Type 0 where
     pub honest : new.is_honest
     pub l2_bits : caches'.l2.backend.header.fields.cluster_bits ≡ h.cluster_bits
@@ -78,15 +78,15 @@ module _ {S : Type 0} where
   pub record KeepsKnownApart (view : S → StorageView) (old : ImageStorage S) (caches : MetadataCaches S) (new : ImageStorage S) (caches' : MetadataCaches S) : Type 0 where
     pub stays : (h : HeaderFields) → (view (storage_of old)).is_honest → NoClusterDirtyInBoth h caches → KnownStays h (view (storage_of old)) caches (view (storage_of new)) caches'
 
-  -- An L2 table that is inserted is laid over the known contents.
-  abbrev pub LaysTableApart : (S → StorageView) → ImageStorage S → MetadataCaches S → ImageStorage S → MetadataCaches S → L2TableView → Type 0
-  LaysTableApart view old caches new caches' t =
+  -- An L2 table that is inserted is overlaid on the known contents.
+  abbrev pub OverlaysTableApart : (S → StorageView) → ImageStorage S → MetadataCaches S → ImageStorage S → MetadataCaches S → L2TableView → Type 0
+  OverlaysTableApart view old caches new caches' t =
       (h : HeaderFields) → (view (storage_of old)).is_honest → NoClusterDirtyInBoth h caches
       → IfSome t.cluster (λ cluster. KnownUnder h (view (storage_of old)) caches (view (storage_of new)) caches' (table_put h cluster t.bytes t.is_modified) (table_put h cluster t.bytes t.is_modified ∷ l2_tables caches) (refblocks caches))
 
-  -- A refblock that is inserted is laid over the known contents.
-  abbrev pub LaysBlockApart : (S → StorageView) → ImageStorage S → MetadataCaches S → ImageStorage S → MetadataCaches S → RefBlockView → Type 0
-  LaysBlockApart view old caches new caches' b =
+  -- A refblock that is inserted is overlaid on the known contents.
+  abbrev pub OverlaysBlockApart : (S → StorageView) → ImageStorage S → MetadataCaches S → ImageStorage S → MetadataCaches S → RefBlockView → Type 0
+  OverlaysBlockApart view old caches new caches' b =
       (h : HeaderFields) → (view (storage_of old)).is_honest → NoClusterDirtyInBoth h caches
       → IfSome b.cluster (λ cluster. KnownUnder h (view (storage_of old)) caches (view (storage_of new)) caches' (table_put h cluster b.bytes b.is_modified) (l2_tables caches) (table_put h cluster b.bytes b.is_modified ∷ refblocks caches))
 
@@ -101,8 +101,8 @@ module _ {S : Type 0} where
     pub blocks : AreNoMore (cluster_size h) (refblocks caches) (refblocks caches')
 
   -- What dropping tables does to such caches.
-  abbrev pub TakesOffApart : Type 0 → MetadataCaches S → MetadataCaches S → Type 0
-  TakesOffApart Unmodified caches caches' = (h : HeaderFields) (on_storage : Bytes) → NoClusterDirtyInBoth h caches → KnownWithout Unmodified h caches caches' on_storage
+  abbrev pub EvictsTableApart : Type 0 → MetadataCaches S → MetadataCaches S → Type 0
+  EvictsTableApart Unmodified caches caches' = (h : HeaderFields) (on_storage : Bytes) → NoClusterDirtyInBoth h caches → KnownWithout Unmodified h caches caches' on_storage
 
   -- The refblock of a cluster is dropped. The known contents are the same outside of its cluster. In it they are those on the storage, if the refblock was modified.
   pub record KnownWithoutBlock (h : HeaderFields) (caches caches' : MetadataCaches S) (on_storage : Bytes) (cluster : ℕ) : Type 0 where
@@ -110,8 +110,8 @@ module _ {S : Type 0} where
     pub outside : IsSameOutside (cluster_size h) cluster (known_of h caches on_storage) (known_of h caches' on_storage)
     pub stands : IfSome (rb_at caches cluster) (λ b. b.is_modified ≡ true → SameIn (cluster_size h) cluster (known_of h caches' on_storage) on_storage)
 
-  abbrev pub TakesBlockApart : MetadataCaches S → MetadataCaches S → ℕ → Type 0
-  TakesBlockApart caches caches' cluster = (h : HeaderFields) (on_storage : Bytes) → NoClusterDirtyInBoth h caches → KnownWithoutBlock h caches caches' on_storage cluster
+  abbrev pub AllocatesBlockApart : MetadataCaches S → MetadataCaches S → ℕ → Type 0
+  AllocatesBlockApart caches caches' cluster = (h : HeaderFields) (on_storage : Bytes) → NoClusterDirtyInBoth h caches → KnownWithoutBlock h caches caches' on_storage cluster
 
   -- ---- a cached table that is changed
 

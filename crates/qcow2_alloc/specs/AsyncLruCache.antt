@@ -51,7 +51,7 @@ module _ {K V : Type 0} (test : K → Bool) (es : List (K × Slot V)) where
   abbrev pub can_remove : Bool
   can_remove = option_map_or (λ s. not (nat_lt 0 s.pins)) (lookup test es) false
 
-  -- The number of pins of the key's entry.
+  -- The number of pins of the key's entry, 0 if it has none.
   abbrev pub pins_at : ℕ
   pins_at = option_map_or (λ s. s.pins) (lookup test es) 0
 

@@ -33,7 +33,7 @@ pub record IsLawful {S K V E : Type 0} (steps : Steps S K V E) (eq : K → K →
   pub failed_load_keeps : (s t : S) (k : K) (e : E) → steps.load_failed s k e t → is_honest s → is_honest t × KeepsBytes stored s t
   -- A successful flush leaves the value unmodified, with the same bytes.
   pub flush_cleans : (s t : S) (k : K) (v w : V) → steps.flushed s k v w t → (is_modified w ≡ false) × (bytes w ≡ bytes v)
-  -- On an honest store the bytes of a modified value are then under the key, and no others changed.
+  -- After a successful flush on an honest store, the bytes of a modified value are under the key, and no others changed.
   pub flush_writes : (s t : S) (k : K) (v w : V) → steps.flushed s k v w t → is_honest s
       → is_honest t × ((j : K) → stored t j ≡ cond (eq k j) (value_laid_over is_modified bytes v (stored s j)) (stored s j))
   -- On an honest store a failed flush changes at most the bytes under the key, and only for a modified value.
@@ -41,7 +41,7 @@ pub record IsLawful {S K V E : Type 0} (steps : Steps S K V E) (eq : K → K →
       → is_honest t × (is_modified v ≡ false → KeepsBytes stored s t) × ((j : K) → eq k j ≡ false → stored t j ≡ stored s j)
 
 module _ {S K V : Type 0} (eq : K → K → Bool) (is_modified : V → Bool) (bytes : V → List ℕ) (stored : S → K → List ℕ) where
-  -- The known bytes under a key: those of the store with the cached value laid over.
+  -- The known bytes under a key: those of the store with the cached value overlaid.
   abbrev pub known_under_key : S → List (K × Slot V) → K → List ℕ
   known_under_key s es j = option_map_or (λ slot. value_laid_over is_modified bytes slot.value (stored s j)) (lookup (eq j) es) (stored s j)
 
@@ -51,7 +51,7 @@ module _ {S K V : Type 0} (eq : K → K → Bool) (is_modified : V → Bool) (by
       pub honest : is_honest s → is_honest t
       pub stays : is_honest s → (j : K) → known_under_key t fs j ≡ known_under_key s es j
 
-    -- On an honest store an inserted value is laid over the known bytes under its key.
-    pub record LaysOver (k : K) (v : V) (s : S) (es : List (K × Slot V)) (t : S) (fs : List (K × Slot V)) : Type 0 where
+    -- On an honest store an inserted value is overlaid on the known bytes under its key.
+    pub record OverlaysBytes (k : K) (v : V) (s : S) (es : List (K × Slot V)) (t : S) (fs : List (K × Slot V)) : Type 0 where
       pub honest : is_honest s → is_honest t
       pub laid : is_honest s → (j : K) → known_under_key t fs j ≡ cond (eq k j) (value_laid_over is_modified bytes v (known_under_key s es j)) (known_under_key s es j)

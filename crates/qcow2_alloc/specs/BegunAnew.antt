@@ -8,7 +8,7 @@ use Rattle.qcow2_alloc.specs.LowestRuns.{IsPassed}
 use Rattle.qcow2_alloc.specs.declared.allocation.Allocator.{Allocator}
 use Rattle.qcow2_alloc.specs.declared.image_file.ImageFile.{ImageFile}
 
--- The search for free clusters starts at cluster 0, and spares no clusters yet. The reftable is the one on an honest storage, and lies behind cluster 0 if the header says so.
+-- The search for free clusters starts at cluster 0, and no cluster is spared yet. The reftable is the one on an honest storage, and lies past cluster 0 if the header says so.
 pub record BeginsAnew {S : Type 0} (view : S → StorageView) (old new : ImageFile S) (allocator : Allocator) : Type 0 where
   pub first : allocator.first_free_cluster ≡ 0
   pub passed : (k : ℕ) → ¬ IsPassed allocator k

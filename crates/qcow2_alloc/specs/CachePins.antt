@@ -61,7 +61,7 @@ module _ {S : Type 0} where
   abbrev pub IsInUseOrFault : MetadataCaches S → ImageError → Type 0
   IsInUseOrFault caches e = ((e ≡ I.InUse) × AreAllPinned caches) ⊎ IsFault e
 
--- What invalidating a cache returns, and leaves of its entries. If none is pinned, none is left. If there was no memory for the answer, all are left. Otherwise the pinned ones are left,
+-- What invalidating a cache returns, and leaves of its entries. If none is pinned, none is left. If there was no memory for the list of keys, all are left. Otherwise the pinned ones are left,
 -- and their clusters are returned.
 abbrev pub LeavesPinned : {V : Type 0} → List (ℕ × Slot V) → Result (Unit {0}) ImageError → List (ℕ × Slot V) → Type 0
 LeavesPinned es (Ok _) fs = (pinned es ≡ []) × (fs ≡ [])

@@ -10,11 +10,11 @@ use Rattle.qcow2_metadata.specs.declared.header.HeaderFields.{HeaderFields}
 use Rattle.qcow2_laws.specs.Caches.{AreClean, AreNamedBlocks, BlocksMayGo, TablesMayGo}
 use Rattle.qcow2_laws.specs.Clusters.{Direction, Neither, L2DependsOnRb, RbDependsOnL2}
 use Rattle.qcow2_laws.specs.CrashInvariant.{Pending, CrashInvariant}
-use Rattle.qcow2_alloc.specs.ApartCaches.{KeepsKnownApart, ChangesBlockApart, LaysBlockApart, LaysTableApart, TakesBlockApart}
+use Rattle.qcow2_alloc.specs.ApartCaches.{KeepsKnownApart, ChangesBlockApart, OverlaysBlockApart, OverlaysTableApart, AllocatesBlockApart}
 use Rattle.qcow2_alloc.specs.CachePins.{l2_pins, CachesHaveRoom, KeepsPinsAndNotes}
 use Rattle.qcow2_alloc.specs.KeptMarks.{KeepMarks}
 use Rattle.qcow2_alloc.specs.KeptNotes.{KeepsNotes}
-use Rattle.qcow2_alloc.specs.MetadataCaches.{order_of, l2_at, rb_at, l2_tables, refblocks, known_of, AreAllWritten, CacheInvariant, KeepSound, LaysBlock, LaysTable, LowersCount, LowersSome, PutRefusesBy, InsertKeeps, RaisesCount, RaisesZero, RefusesBy, TakesBlock, WritesInOrder}
+use Rattle.qcow2_alloc.specs.MetadataCaches.{order_of, l2_at, rb_at, l2_tables, refblocks, known_of, AreAllWritten, CacheInvariant, KeepSound, OverlaysBlock, OverlaysTable, DecrementsCount, DecrementsSome, PutRefusesBy, InsertKeeps, IncrementsCount, IncrementsZero, RefusesBy, RefusesBlocksBy, AllocatesBlock, WritesInOrder}
 use Rattle.qcow2_alloc.specs.Quiet.{KeepAllWritten, OthersStayHeld, WritesNothing, GetsBlockQuietly, GetsTableQuietly, PutsBlockQuietly, PutsTableQuietly}
 use Rattle.qcow2_alloc.specs.SparedHeaders.{LeaveHeaderCluster, CachesSpareHeader, KeepBehindHeader}
 use Rattle.qcow2_alloc.specs.TableCaches.{IsBlockOf, IsTableOf}
@@ -98,7 +98,7 @@ module _ {S : Type 0} (view : S → StorageView) where
     pub quiet : MayGo caches → WritesNothing view old new
 
   -- The order of writes becomes `to`. If it was `from`, the tables of one kind are written first. Only that can be refused, and then the order stays the same.
-  pub record TurnsOrder {A : Type 0} (to from : Direction) (tables : MetadataCaches S → List CachedTable) (others : MetadataCaches S → A) (MayGo : MetadataCaches S → Type 0) (old : ImageStorage S) (caches : MetadataCaches S) (new : ImageStorage S) (caches' : MetadataCaches S) (result : Result (Unit {0}) ImageError) : Type 0 where
+  pub record SwitchesOrder {A : Type 0} (to from : Direction) (tables : MetadataCaches S → List CachedTable) (others : MetadataCaches S → A) (MayGo : MetadataCaches S → Type 0) (old : ImageStorage S) (caches : MetadataCaches S) (new : ImageStorage S) (caches' : MetadataCaches S) (result : Result (Unit {0}) ImageError) : Type 0 where
     pub order : OnOk result (order_of caches' ≡ to)
     pub refused : OnErr result (order_of caches' ≡ order_of caches)
     pub turned : OnErr result (order_of caches ≡ from)
@@ -117,16 +117,19 @@ module _ {S : Type 0} (view : S → StorageView) where
 
   -- ---- loading and inserting
 
-  -- The causes of refusals over an honest storage, on sound caches: of a load for a cluster that has a place, of inserting an L2 table, and of inserting a refblock.
+  -- The causes of refusals over an honest storage, on sound caches: of loading an L2 table and a refblock for a cluster that has a place, and of inserting an L2 table and a refblock.
   module _ (IsCause : ImageError → Type 0) (old : ImageStorage S) (caches : MetadataCaches S) where
     abbrev pub LoadRefusesBy : ℕ → Result (Unit {0}) ImageError → Type 0
     LoadRefusesBy cluster result = (h : HeaderFields) → HasPlace h.cluster_bits cluster → RefusesBy IsCause view old caches h result
 
+    abbrev pub LoadRbRefusesBy : ℕ → Result (Unit {0}) ImageError → Type 0
+    LoadRbRefusesBy cluster result = (h : HeaderFields) → HasPlace h.cluster_bits cluster → RefusesBlocksBy IsCause view old caches h result
+
     abbrev pub PutL2RefusesBy : L2TableView → Result (Unit {0}) ImageError → Type 0
     PutL2RefusesBy t result = PutRefusesBy IsCause view old caches (λ h. IsTableOf h t) t.cluster t.bytes t.is_modified result
 
-    abbrev pub PutRbRefusesBy : RefBlockView → Result (Unit {0}) ImageError → Type 0
-    PutRbRefusesBy b result = PutRefusesBy IsCause view old caches (λ h. IsBlockOf h b) b.cluster b.bytes b.is_modified result
+    abbrev pub PutRbRefusesBy : Result (Unit {0}) ImageError → Type 0
+    PutRbRefusesBy result = (h : HeaderFields) → RefusesBlocksBy IsCause view old caches h result
 
   -- The table of a cluster is cached. The others of its kind that are still cached are unchanged; the other kind changes only if it must be written first.
   pub record GetsTable {V B : Type 0} (at : MetadataCaches S → ℕ → Option V) (others : MetadataCaches S → B) (asks : Direction) (Quietly : MetadataCaches S → ℕ → Type 0) (cluster : ℕ) (old : ImageStorage S) (caches : MetadataCaches S) (new : ImageStorage S) (caches' : MetadataCaches S) (result : Result (Unit {0}) ImageError) : Type 0 where
@@ -142,11 +145,11 @@ module _ {S : Type 0} (view : S → StorageView) where
     pub others_stay : order_of caches ≢ asks → others caches' ≡ others caches
     pub quiet : IfSome place (λ cluster. Quietly caches cluster → WritesNothing view old new)
 
-  -- Inserting a table into sound caches, or into caches without a common modified cluster, over an honest storage. An unmodified table keeps the known contents, and a modified one is laid over them. A refused insertion keeps them.
-  pub record PutsSoundly (IsFit : HeaderFields → Type 0) (place : Option ℕ) (bytes : List ℕ) (is_modified : Bool) (Lays LaysApart : Type 0) (old : ImageStorage S) (caches : MetadataCaches S) (new : ImageStorage S) (caches' : MetadataCaches S) (result : Result (Unit {0}) ImageError) : Type 0 where
+  -- Inserting a table into sound caches, or into caches without a common modified cluster, over an honest storage. An unmodified table keeps the known contents, and a modified one is overlaid on them. A refused insertion keeps them.
+  pub record PutsSoundly (IsFit : HeaderFields → Type 0) (place : Option ℕ) (bytes : List ℕ) (is_modified : Bool) (Overlays OverlaysApart : Type 0) (old : ImageStorage S) (caches : MetadataCaches S) (new : ImageStorage S) (caches' : MetadataCaches S) (result : Result (Unit {0}) ImageError) : Type 0 where
     pub keeps : InsertKeeps view old caches new caches' IsFit place bytes is_modified
-    pub laid : OnOk result Lays
-    pub laid_apart : OnOk result LaysApart
+    pub laid : OnOk result Overlays
+    pub laid_apart : OnOk result OverlaysApart
     pub refused : OnErr result (KeepSound view old caches new caches')
     pub apart : OnErr result (KeepsKnownApart view old caches new caches')
     pub ordered : WritesInOrder view old caches new
@@ -160,8 +163,8 @@ module _ {S : Type 0} (view : S → StorageView) where
       abbrev pub MakesWayForL2 : Type 0
       MakesWayForL2 = MakesWay (λ c. c.l2) (λ c. c.rb) L2DependsOnRb TablesGo old caches new caches' result
 
-      abbrev pub TurnsToRb : Type 0
-      TurnsToRb = TurnsOrder L2DependsOnRb RbDependsOnL2 l2_tables (λ c. c.rb) BlocksGo old caches new caches' result
+      abbrev pub SwitchesToRb : Type 0
+      SwitchesToRb = SwitchesOrder L2DependsOnRb RbDependsOnL2 l2_tables (λ c. c.rb) BlocksGo old caches new caches' result
 
       abbrev pub GetsL2 : ℕ → Type 0
       GetsL2 cluster = GetsTable l2_at (λ c. c.rb) L2DependsOnRb GetsTableQuietly cluster old caches new caches' result
@@ -171,7 +174,7 @@ module _ {S : Type 0} (view : S → StorageView) where
 
       abbrev pub PutsL2Soundly : L2TableView → Type 0
       PutsL2Soundly t =
-          PutsSoundly (λ h. IsTableOf h t) t.cluster t.bytes t.is_modified (LaysTable view old caches new caches' t) (LaysTableApart view old caches new caches' t) old caches new caches' result
+          PutsSoundly (λ h. IsTableOf h t) t.cluster t.bytes t.is_modified (OverlaysTable view old caches new caches' t) (OverlaysTableApart view old caches new caches' t) old caches new caches' result
 
       -- ---- for refblocks
       abbrev pub FlushesRb : Type 0
@@ -180,8 +183,8 @@ module _ {S : Type 0} (view : S → StorageView) where
       abbrev pub MakesWayForRb : Type 0
       MakesWayForRb = MakesWay (λ c. c.rb) (λ c. c.l2) RbDependsOnL2 BlocksGo old caches new caches' result
 
-      abbrev pub TurnsToL2 : Type 0
-      TurnsToL2 = TurnsOrder RbDependsOnL2 L2DependsOnRb refblocks (λ c. c.l2) TablesGo old caches new caches' result
+      abbrev pub SwitchesToL2 : Type 0
+      SwitchesToL2 = SwitchesOrder RbDependsOnL2 L2DependsOnRb refblocks (λ c. c.l2) TablesGo old caches new caches' result
 
       abbrev pub GetsRb : ℕ → Type 0
       GetsRb cluster = GetsTable rb_at (λ c. c.l2) RbDependsOnL2 GetsBlockQuietly cluster old caches new caches' result
@@ -191,17 +194,17 @@ module _ {S : Type 0} (view : S → StorageView) where
 
       abbrev pub PutsRbSoundly : RefBlockView → Type 0
       PutsRbSoundly b =
-          PutsSoundly (λ h. IsBlockOf h b) b.cluster b.bytes b.is_modified (LaysBlock view old caches new caches' b) (LaysBlockApart view old caches new caches' b) old caches new caches' result
+          PutsSoundly (λ h. IsBlockOf h b) b.cluster b.bytes b.is_modified (OverlaysBlock view old caches new caches' b) (OverlaysBlockApart view old caches new caches' b) old caches new caches' result
 
 module _ {S : Type 0} where
-  -- After an L2 table is inserted: if all refblocks were written they still are, and so are L2 tables if this one is unmodified. So a kind that could be written first still can.
+  -- After an L2 table is inserted: if all refblocks were written, they still are; if all L2 tables were written and this one is unmodified, they still are. So a kind that could be written first still can.
   pub record KeepsL2Written (is_modified : Bool) (caches caches' : MetadataCaches S) : Type 0 where
     pub clean : AreClean (l2_tables caches) → IsFalse is_modified → AreClean (l2_tables caches')
     pub blocks : AreClean (refblocks caches) → AreClean (refblocks caches')
     pub first : BlocksGo caches → IsFalse is_modified → BlocksGo caches'
     pub may_go : TablesGo caches → TablesGo caches'
 
-  -- After a refblock is inserted: if all refblocks were written they still are, if this one is unmodified. Refblocks that could be written first still can.
+  -- After a refblock is inserted: if all refblocks were written and this one is unmodified, they still are. Refblocks that could be written first still can.
   pub record KeepsRbWritten (is_modified : Bool) (caches caches' : MetadataCaches S) (result : Result (Unit {0}) ImageError) : Type 0 where
     pub clean : AreClean (refblocks caches) → IsFalse is_modified → OnOk result (AreClean (refblocks caches'))
     pub first : BlocksGo caches → OnOk result (BlocksGo caches')
@@ -210,25 +213,25 @@ module _ {S : Type 0} where
   abbrev pub KeepsBlocks : ImageStorage S → MetadataCaches S → ImageStorage S → MetadataCaches S → Type 0
   KeepsBlocks old caches new caches' = (new ≡ old) × ((c : ℕ) → rb_at caches' c ≡ rb_at caches c)
 
-  -- If the answer is true, the refblock of a cluster was dropped. On sound caches without a pinned refblock it is not cached afterwards in any case.
+  -- If the call returns true, the refblock of a cluster was dropped. On sound caches without a pinned refblock it is not cached afterwards in any case.
   pub record RemovesBlock (caches caches' : MetadataCaches S) (cluster : ℕ) (result : Bool) : Type 0 where
-    pub taken : IsTrue result → TakesBlock caches caches' cluster
-    pub taken_apart : IsTrue result → TakesBlockApart caches caches' cluster
+    pub taken : IsTrue result → AllocatesBlock caches caches' cluster
+    pub taken_apart : IsTrue result → AllocatesBlockApart caches caches' cluster
     pub gone : (h : HeaderFields) (p : Pending) (on_storage : Bytes) → CacheInvariant h p caches on_storage → CachesHaveRoom caches → rb_at caches' cluster ≡ None
     pub clean : AreClean (refblocks caches) → AreClean (refblocks caches')
 
-  -- If the answer is true, a refcount of a cached refblock was changed. On sound caches that fails only at the end of its range.
+  -- If the call returns true, a refcount of a cached refblock was changed. On sound caches it returns false only at the end of a refcount's range.
   pub record ChangesCountSoundly (Counts Makes : Type 0) (caches caches' : MetadataCaches S) (cluster : ℕ) (result : Bool) : Type 0 where
     pub counted : IsTrue result → Counts
     pub made : Makes
     pub apart : ChangesBlockApart caches caches' cluster
 
   module _ (caches caches' : MetadataCaches S) (cluster index : ℕ) (result : Bool) where
-    abbrev pub RaisesSoundly : Type 0
-    RaisesSoundly = ChangesCountSoundly (RaisesCount caches caches' cluster index) (RaisesZero caches cluster index result) caches caches' cluster result
+    abbrev pub IncrementsSoundly : Type 0
+    IncrementsSoundly = ChangesCountSoundly (IncrementsCount caches caches' cluster index) (IncrementsZero caches cluster index result) caches caches' cluster result
 
-    abbrev pub LowersSoundly : Type 0
-    LowersSoundly = ChangesCountSoundly (LowersCount caches caches' cluster index) (LowersSome caches cluster index result) caches caches' cluster result
+    abbrev pub DecrementsSoundly : Type 0
+    DecrementsSoundly = ChangesCountSoundly (DecrementsCount caches caches' cluster index) (DecrementsSome caches cluster index result) caches caches' cluster result
 
   -- Empty caches of an image with this header, with room for this many L2 tables and refblocks.
   pub record AreNewCaches (h : HeaderFields) (l2_entries rb_entries : ℕ) (caches : MetadataCaches S) : Type 0 where

@@ -6,8 +6,8 @@ use Rattle.qcow2_alloc.specs.declared.error.ImageError.{ImageError}
 use Rattle.qcow2_alloc.specs.declared.error.ImageError.TheVariants.{Storage}
 use Rattle.qcow2_alloc.specs.declared.image_storage.ImageStorage.{ImageStorage}
 
--- No call lowers the number of faults. If it is refused with an I/O error, the number rose, or is the greatest u64. Otherwise the number stays the same: every fault is reported.
-pub record FaultsTold {T : Type 0} (before now : ℕ) (result : Result T ImageError) : Type 0 where
+-- The number of faults never falls. If a call is refused with an I/O error, the number rose, or is the greatest u64. Otherwise the number stays the same: every fault is reported.
+pub record FaultsReported {T : Type 0} (before now : ℕ) (result : Result T ImageError) : Type 0 where
   pub no_fewer : before ≤ now
   pub rose : IsErrOf result Storage → Rose before now
   pub told : UnlessErr result Storage (now ≡ before)
@@ -19,4 +19,4 @@ module _ {S : Type 0} (view : S → StorageView) where
 
   -- A call is refused with an I/O error exactly if it counted one.
   abbrev pub CountsFaults : {T : Type 0} → ImageStorage S → ImageStorage S → Result T ImageError → Type 0
-  CountsFaults old new result = FaultsTold (faults_of old) (faults_of new) result
+  CountsFaults old new result = FaultsReported (faults_of old) (faults_of new) result

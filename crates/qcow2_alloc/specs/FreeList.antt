@@ -48,7 +48,7 @@ abbrev pub but : ClusterKind → List ClustersToFreeEntry → List ClustersToFre
 but kind [] = []
 but kind (e ∷ es) = if is_same e.kind kind then but kind es else e ∷ but kind es
 
--- Data are taken off the list only after all tables are.
+-- Data clusters leave the list only after all clusters of tables.
 abbrev pub GoOffInOrder : List ClustersToFreeEntry → List ClustersToFreeEntry → Type 0
 GoOffInOrder old new = (but Kind.Data new ≡ []) ⊎ (but Kind.Metadata new ≡ but Kind.Metadata old)
 
@@ -68,7 +68,7 @@ pub record IsRunOfTable (t : EntryTableView) (e : ClustersToFreeEntry) : Type 0 
   pub placed : t.cluster ≡ Some cluster
   pub run : e ≡ metadata_entry cluster ((8 * entry_count t + 2 ^ t.cluster_bits - 1) / 2 ^ t.cluster_bits)
 
--- The entries of a reftable fill whole clusters, which lie behind the header's.
+-- The entries of a reftable fill whole clusters, which lie past the header's.
 pub record FillsClusters (t : EntryTableView) : Type 0 where
   pub whole : entry_count t % (2 ^ t.cluster_bits / 8) ≡ 0
   pub elsewhere : IfSome t.cluster (λ c. 0 < c)

@@ -11,7 +11,7 @@ use Rattle.qcow2_metadata.specs.TableBytes.{entry_at}
 use Rattle.qcow2_laws.specs.Caches.{AreClean, BlocksMayGo}
 use Rattle.qcow2_laws.specs.Changes.{with_new_tables}
 use Rattle.qcow2_laws.specs.CrashInvariant.{Pending}
-use Rattle.qcow2_alloc.specs.Allocation.{run_at, StandAt, HasNone, InternalAllocatorGrowth, RefusedGrowth}
+use Rattle.qcow2_alloc.specs.Allocation.{run_at, HasBytesAt, HasNone, InternalAllocatorGrowth, RefusedGrowth}
 use Rattle.qcow2_alloc.specs.ImageFile.{contents_in, IsFault, RefusedFileStep}
 use Rattle.qcow2_alloc.specs.MetadataCaches.{order_of, l2_tables, refblocks, rb_at}
 use Rattle.qcow2_alloc.specs.declared.allocation.Allocator.{Allocator}
@@ -34,7 +34,7 @@ with_run p h t first n = with_new_tables p (counted_run h t first n)
 abbrev pub without_reftable : Pending → HeaderFields → Pending
 without_reftable p h = record p { old_tables = λ c. p.old_tables c + reftable_at h c }
 
--- The table has the header's cluster size, and lies behind cluster 0 if it has a place.
+-- The table has the header's cluster size, and lies past cluster 0 if it has a place.
 pub record StandsBehind (h : HeaderFields) (table : EntryTableView) : Type 0 where
   pub bits : table.cluster_bits ≡ h.cluster_bits
   pub elsewhere : IfSome table.cluster (λ cluster. 0 < cluster)
@@ -43,7 +43,7 @@ pub record StandsBehind (h : HeaderFields) (table : EntryTableView) : Type 0 whe
 abbrev pub named_by_reftable_entries : HeaderFields → EntryTableView → ℕ → ℕ
 named_by_reftable_entries h t c = sum_below (entry_count t) (λ k. table_in h c (block_offset (entry_at t.bytes k)))
 
--- A longer reftable has the old entries and refblocks in `blocks` clusters from `first` on. It lies in the clusters behind them, and has entries for all of these.
+-- A longer reftable has the old entries and refblocks in `blocks` clusters from `first` on. It lies in the clusters after them, and has entries for all of these.
 pub record IsGrown (h : HeaderFields) (old t : EntryTableView) (first blocks clusters : ℕ) : Type 0 where
   pub cluster : t.cluster ≡ Some (first + blocks)
   pub bits : t.cluster_bits ≡ h.cluster_bits
@@ -55,10 +55,10 @@ pub record IsGrown (h : HeaderFields) (old t : EntryTableView) (first blocks clu
   pub covered : (c : ℕ) → 0 < run_at first (blocks + clusters) c → block_offset (entry_at t.bytes (c / counts_per_block h)) ≢ 0
 
 module _ {S : Type 0} (view : S → StorageView) where
-  -- The longer reftable is on the storage, and so are the new refblocks, which count exactly these clusters. All other refcounts are on the storage too, and no new refblock is cached.
+  -- The longer reftable is on the storage, with the new refblocks, which count exactly these clusters. All other refcounts are on the storage too, and no new refblock is cached.
   pub record StandsGrown (file : ImageFile S) (old t : EntryTableView) (first blocks clusters : ℕ) : Type 0 where
     pub grown : IsGrown file.header.fields old t first blocks clusters
-    pub stands : StandAt (contents_in view file) ((first + blocks) * cluster_size file.header.fields) t.bytes
+    pub stands : HasBytesAt (contents_in view file) ((first + blocks) * cluster_size file.header.fields) t.bytes
     pub counts : (c : ℕ) → HasNone old (c / counts_per_block file.header.fields) → block_offset (entry_at t.bytes (c / counts_per_block file.header.fields)) ≢ 0
         → block_count (contents_in view file) (count_width file.header.fields) (block_offset (entry_at t.bytes (c / counts_per_block file.header.fields))) (c % counts_per_block file.header.fields)
         ≡ run_at first (blocks + clusters) c

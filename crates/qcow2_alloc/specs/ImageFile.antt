@@ -42,7 +42,7 @@ module _ {S : Type 0} where
     abbrev pub contents_in : ImageFile S → Bytes
     contents_in file = byte_at (view_in file).contents
 
-    -- The known contents: the storage with the modified tables laid over.
+    -- The known contents: the storage with the modified tables overlaid.
     abbrev pub known_in : ImageFile S → Bytes
     known_in file = known_of file.header.fields file.caches (contents_in file)
 
@@ -76,7 +76,7 @@ module _ {S : Type 0} where
       pub since : SafeThroughout (view_in old) (view_in new) (known_in old) nothing_given []
       pub unseen : IsInternal (state_in old p) (state_in new p')
       pub l1_table : SameL1Table (state_in old p) (state_in new p')
-      -- Each refcount changes with what is pending. It may rise more if a refblock gets its reference.
+      -- Each refcount changes with what is pending. A refcount may rise more if a refblock gets its reference.
       pub counts : (k : ℕ) → count old.header.fields (known_in old) k + pending_at p' k ≤ count new.header.fields (known_in new) k + pending_at p k
 
     -- A step in which the reftable may move: its old clusters lose their references, and keep their refcounts.
@@ -90,7 +90,7 @@ module _ {S : Type 0} where
     -- A fault interrupted the step. If memory ran out, a change was recorded. A stop at any moment is as safe as before.
     pub record InterruptedFileStep (old new : ImageFile S) (e : ImageError) : Type 0 where
       pub fault : IsFault e
-      pub noted : e ≡ I.Memory → IsTrue (has_noted new)
+      pub recorded : e ≡ I.Memory → IsTrue (has_noted new)
       pub since : SafeThroughout (view_in old) (view_in new) (known_in old) nothing_given []
 
     -- What a refused call leaves of a sound file with its allocator: all as sound as before, or a step that a fault interrupted.

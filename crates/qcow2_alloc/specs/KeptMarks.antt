@@ -38,8 +38,8 @@ module _ {S : Type 0} where
   HaveRisen changes file = Rose changes.0 (changes_of file.storage) ⊎ Rose changes.1 file.caches.changes
 
   -- If a counter rose, a change is recorded. Otherwise no further change is recorded, and all else is the same.
-  pub record NotesSince (changes : ℕ × ℕ) (old new : ImageFile S) : Type 0 where
+  pub record RecordsSince (changes : ℕ × ℕ) (old new : ImageFile S) : Type 0 where
     pub rest : new ≡ record old { storage = record old.storage { is_changed = is_changed_of new.storage } }
     pub kept : IsTrue (is_changed_of old.storage) → IsTrue (is_changed_of new.storage)
-    pub noted : HaveRisen changes old → IsTrue (is_changed_of new.storage)
+    pub recorded : HaveRisen changes old → IsTrue (is_changed_of new.storage)
     pub why : IsTrue (is_changed_of new.storage) → IsTrue (is_changed_of old.storage) ⊎ HaveRisen changes old

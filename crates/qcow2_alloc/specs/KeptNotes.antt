@@ -13,7 +13,7 @@ pub record KeepsNotes {S : Type 0} (view : S → StorageView) (old new : ImageSt
   pub contents : ¬ IsTrue (is_changed_of new) → ContentsStay (view (storage_of old)) (view (storage_of new))
 
 module _ {S : Type 0} {view : S → StorageView} where
-  -- No call at all, and one call after another.
+  -- Recorded changes are kept by no call at all, and by one call after another.
   pub kept_same : (s : ImageStorage S) → KeepsNotes view s s
   kept_same s = record { honest = λ h. h; changes = counts_none (is_changed_of s) (changes_of s); contents = λ none honest. refl }
 
@@ -21,5 +21,5 @@ module _ {S : Type 0} {view : S → StorageView} where
   kept_then s t u first then = record {
     honest = λ h. then.honest (first.honest h);
     changes = counts_then (is_changed_of s) (is_changed_of t) (is_changed_of u) (changes_of s) (changes_of t) (changes_of u) first.changes then.changes;
-    contents = λ none honest. then.contents none (first.honest honest) ∙ first.contents (λ n. none (then.changes.noted n)) honest;
+    contents = λ none honest. then.contents none (first.honest honest) ∙ first.contents (λ n. none (then.changes.recorded n)) honest;
   }

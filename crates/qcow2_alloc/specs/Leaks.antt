@@ -17,7 +17,7 @@ use Rattle.qcow2_alloc.specs.declared.cache.MetadataCaches.{MetadataCaches}
 use Rattle.qcow2_alloc.specs.declared.error.ImageError.{ImageError}
 use Rattle.qcow2_alloc.specs.declared.image_file.ImageFile.{ImageFile}
 
--- One cluster more is leaked. The counter stops at the greatest u64.
+-- One more cluster is leaked. The counter stops at the greatest u64.
 abbrev pub LeaksOne : Allocator → Allocator → Type 0
 LeaksOne old new = new.leaked_clusters ≡ min (old.leaked_clusters + 1) (2 ^ 64 - 1)
 
@@ -30,14 +30,14 @@ abbrev pub unaligned_below : HeaderFields → EntryTableView → List ClustersTo
 unaligned_below h reftable list zero = 0
 unaligned_below h reftable list (suc n) = unaligned_below h reftable list n + (if is_unaligned h reftable (n / counts_per_block h) then listed_at list n else 0)
 
--- A cluster that is taken off the list is leaked if its reftable entry is not aligned. At least as many clusters are leaked as are taken off for this reason, up to the greatest u64.
+-- A cluster that leaves the list is leaked if its reftable entry is not aligned. At least as many clusters are leaked as leave the list for this reason, up to the greatest u64.
 abbrev pub LeaksUnaligned : HeaderFields → EntryTableView → Allocator → Allocator → List ClustersToFreeEntry → List ClustersToFreeEntry → Type 0
 LeaksUnaligned h reftable old new list list' =
     (n : ℕ) → n ≤ 2 ^ 64 → min (old.leaked_clusters + unaligned_below h reftable list n) (2 ^ 64 - 1) ≤ new.leaked_clusters + unaligned_below h reftable list' n
 
 module _ {S : Type 0} where
   -- The refcount of the cluster in its cached refblock was above 0, and is one less.
-  pub record IsLowered (file : ImageFile S) (cluster : ℕ) : Type 0 where
+  pub record IsDecremented (file : ImageFile S) (cluster : ℕ) : Type 0 where
     pub before : MetadataCaches S
     pub at : ℕ
     pub block : RefBlockView
@@ -46,12 +46,12 @@ module _ {S : Type 0} where
     pub falls : SetsCount before file.caches at (cluster % counts_per_block file.header.fields) block (count_at block (cluster % counts_per_block file.header.fields) - 1)
 
   -- Whether a refcount was decremented. No cluster is leaked by this.
-  abbrev pub TriesToLower : ImageFile S → ℕ → Result Bool ImageError → Type 0
-  TriesToLower file cluster (Ok true) = IsLowered file cluster
-  TriesToLower file cluster (Ok false) = Unit {0}
-  TriesToLower file cluster (Err e) = Unit {0}
+  abbrev pub TriesToDecrement : ImageFile S → ℕ → Result Bool ImageError → Type 0
+  TriesToDecrement file cluster (Ok true) = IsDecremented file cluster
+  TriesToDecrement file cluster (Ok false) = Unit {0}
+  TriesToDecrement file cluster (Err e) = Unit {0}
 
   -- A refcount is decremented, or one cluster more is leaked. Only a fault ends the call before.
-  abbrev pub LowersOrLeaks : Allocator → Allocator → ImageFile S → ℕ → Result (Unit {0}) ImageError → Type 0
-  LowersOrLeaks old new file cluster (Ok _) = (SameLeaks old new × IsLowered file cluster) ⊎ LeaksOne old new
-  LowersOrLeaks old new file cluster (Err e) = SameLeaks old new × IsFault e
+  abbrev pub DecrementsOrLeaks : Allocator → Allocator → ImageFile S → ℕ → Result (Unit {0}) ImageError → Type 0
+  DecrementsOrLeaks old new file cluster (Ok _) = (SameLeaks old new × IsDecremented file cluster) ⊎ LeaksOne old new
+  DecrementsOrLeaks old new file cluster (Err e) = SameLeaks old new × IsFault e

@@ -25,10 +25,8 @@ pub mod Allocation
 pub mod LowestRuns
 pub mod UsedCounts
 pub mod KeptAllocators
-pub mod SoundAllocators
 pub mod FreeList
 pub mod MadeClusters
-pub mod TurnedCaches
 pub mod Growing
 pub mod Leaks
 pub mod GrownTables
@@ -36,13 +34,14 @@ pub mod Rooms
 pub mod Limits
 pub mod LoadedTables
 pub mod Faults
-pub mod MetFaults
+pub mod RecordedFaults
 pub mod WriteKinds
 pub mod HeaderClusters
 pub mod SparedClusters
 pub mod SparedHeaders
 pub mod CacheSteps
 pub mod Steps
+pub mod FreeSteps
 pub mod BegunAnew
 pub mod Uses
 pub mod TableCache

@@ -41,12 +41,12 @@ module _ (used : ℕ → Type 0) (h : HeaderFields) where
   abbrev pub HasNoRoomFor : (ℕ → ℕ) → EntryTableView → ℕ → Type 0
   HasNoRoomFor taken t length = (end : ℕ) → end ≤ length * counts_per_block h → end ≤ nameable_clusters h → HasNoRoomBelow taken t (length / entries_per_cluster h) end
 
-  -- Every lower room for so many clusters of a reftable, below an end, has a cluster in use that does not belong to this one.
+  -- Every lower room for this many clusters of a reftable, below an end, has a cluster in use that does not belong to this room.
   abbrev pub IsLowestRoom : EntryTableView → ℕ → ℕ → ℕ → Type 0
   IsLowestRoom t clusters end room =
       (first n : ℕ) → 0 < first → first < room → n ≡ opened t (counts_per_block h) first n + clusters → first + n ≤ end → (k : ℕ) × (first ≤ k) × (k < first + n) × (k < room) × used k
 
-  -- A longer reftable lies behind the refblocks that its room lacked. The room is the lowest one, below the clusters that the table has entries for and those that entries can hold.
+  -- A longer reftable lies after the refblocks that its room lacked. The room is the lowest one, below the clusters that the table has entries for and those that entries can hold.
   pub record LiesLowest (old new : EntryTableView) : Type 0 where
     pub first : ℕ
     pub blocks : ℕ

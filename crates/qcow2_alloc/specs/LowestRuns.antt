@@ -1,4 +1,4 @@
--- An allocation takes the lowest free run.
+-- An allocation returns the lowest free run.
 use Rattle.std.specs.Prelude.{ℕ, ◌+◌, ◌<◌, ◌≤◌, ◌≡◌, ◌≢◌, ◌⊎◌, Result, Ok, Err, IsTrue}
 use Rattle.image_access.specs.Moments.{StorageView}
 use Rattle.number_runs.specs.NumberRuns.{IsIn}

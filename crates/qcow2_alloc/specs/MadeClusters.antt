@@ -40,7 +40,7 @@ listed_at (e ∷ es) cluster = run_of e cluster + listed_at es cluster
 abbrev pub IsListedSince : List ClustersToFreeEntry → List ClustersToFreeEntry → ℕ → Type 0
 IsListedSince old new cluster = listed_at old cluster < listed_at new cluster
 
--- The cluster was allocated for a refblock or a reftable, possibly for a reftable that was replaced again, and is on the list then.
+-- The cluster was allocated for a refblock or a reftable. If it was for a reftable that was replaced again, the cluster is on the list to be freed.
 abbrev pub IsMadeInTurn : HeaderFields → EntryTableView → EntryTableView → List ClustersToFreeEntry → List ClustersToFreeEntry → ℕ → Type 0
 IsMadeInTurn h old new list list' cluster = IsAllocatedMetadata h old new cluster ⊎ IsListedSince list list' cluster
 
@@ -58,7 +58,7 @@ module _ {S : Type 0} (view : S → StorageView) where
   abbrev pub CountsListed : ImageFile S → ImageFile S → Type 0
   CountsListed old new = (k : ℕ) → count old.header.fields (known_in view old) k + listed_at new.free_list k ≤ count new.header.fields (known_in view new) k + listed_at old.free_list k + reftable_at old.header.fields k
 
-  -- Every cluster in use was in use before, or is in the call's answer, or was allocated for metadata; and listed clusters are counted. This may fail if a fault interrupted the call.
+  -- Every cluster in use was in use before, or is in the run that the call returns, or was allocated for metadata; and listed clusters are counted. This is not claimed if a fault interrupted the call.
   abbrev pub AllocatesOnly : {A : Type 0} → (A → ℕ → ℕ) → (ℕ → Type 0) → ImageFile S → ImageFile S → Result A ImageError → Type 0
   AllocatesOnly taken Made old new (Ok answer) = ((k : ℕ) → IsUsed view new k → IsUsed view old k ⊎ (0 < taken answer k) ⊎ Made k) × CountsListed old new
   AllocatesOnly taken Made old new (Err e) = (((k : ℕ) → IsUsed view new k → IsUsed view old k ⊎ Made k) × CountsListed old new) ⊎ BrokeOff new e

@@ -9,7 +9,7 @@ use Rattle.qcow2_metadata.specs.Cover.{entry_cover}
 use Rattle.qcow2_metadata.specs.L2Mapping.{IsHostCluster, old_data_run}
 use Rattle.qcow2_metadata.specs.L2Table.{L2TableView, copied_entry, zero_entry, copied_host}
 use Rattle.qcow2_metadata.specs.RefBlock.{RefBlockView}
-use Rattle.qcow2_metadata.specs.TableBytes.{entry_at}
+use Rattle.qcow2_metadata.specs.TableBytes.{HasPlace, entry_at}
 use Rattle.qcow2_metadata.specs.Tables.{CachedTable, known}
 use Rattle.qcow2_laws.specs.Clusters as Order
 use Rattle.qcow2_laws.specs.CrashInvariant.{Pending, CrashInvariant, IsPartly}
@@ -85,7 +85,7 @@ module _ {S : Type 0} where
   abbrev pub rb_at : MetadataCaches S → ℕ → Option RefBlockView
   rb_at caches cluster = value_at (λ k. cluster == k) caches.rb.entries
 
-  -- The known contents: the bytes of the storage with the modified tables laid over.
+  -- The known contents: the bytes of the storage with the modified tables overlaid.
   abbrev pub known_of : HeaderFields → MetadataCaches S → Bytes → Bytes
   known_of h caches on_storage = known_bytes (cluster_size h) (l2_tables caches) (refblocks caches) on_storage
 
@@ -139,6 +139,20 @@ module _ {S : Type 0} where
   RefusesBy IsCause view old caches h result =
       (p : Pending) → (view (storage_of old)).is_honest → CacheInvariant h p caches (byte_at (view (storage_of old)).contents) → AreNamedBlocks h (refblocks caches) (byte_at (view (storage_of old)).contents) → IfErr result IsCause
 
+  -- The same of a call that writes only L2 tables. The refblocks may be new ones.
+  abbrev pub RefusesTablesBy : (ImageError → Type 0) → (S → StorageView) → ImageStorage S → MetadataCaches S → HeaderFields → Result (Unit {0}) ImageError → Type 0
+  RefusesTablesBy IsCause view old caches h result =
+      (p : Pending) → (view (storage_of old)).is_honest → CacheInvariant h p caches (byte_at (view (storage_of old)).contents) → IfErr result IsCause
+
+  -- The offset of each modified refblock fits 64 bits.
+  abbrev pub HavePlaces : HeaderFields → MetadataCaches S → Type 0
+  HavePlaces h caches = (c : ℕ) → IfSome (rb_at caches c) (λ b. b.is_modified ≡ true → HasPlace h.cluster_bits c)
+
+  -- The same of a call that writes refblocks, which may be new ones.
+  abbrev pub RefusesBlocksBy : (ImageError → Type 0) → (S → StorageView) → ImageStorage S → MetadataCaches S → HeaderFields → Result (Unit {0}) ImageError → Type 0
+  RefusesBlocksBy IsCause view old caches h result =
+      (p : Pending) → (view (storage_of old)).is_honest → CacheInvariant h p caches (byte_at (view (storage_of old)).contents) → HavePlaces h caches → IfErr result IsCause
+
   -- Inserting a table as in `InsertKeeps` is refused only for such a cause.
   abbrev pub PutRefusesBy : (ImageError → Type 0) → (S → StorageView) → ImageStorage S → MetadataCaches S → (HeaderFields → Type 0) → Option ℕ → List ℕ → Bool → Result (Unit {0}) ImageError → Type 0
   PutRefusesBy IsCause view old caches IsFitFor cluster bytes is_modified result =
@@ -154,32 +168,36 @@ module _ {S : Type 0} where
     pub sound : (p : Pending) → CrashInvariant h (order_of caches') p on_storage (known_of h caches' on_storage) → CacheInvariant h p caches' on_storage
 
   -- A refcount of the cached refblock rises from 0 to 1.
-  abbrev pub RaisesCount : MetadataCaches S → MetadataCaches S → ℕ → ℕ → Type 0
-  RaisesCount caches caches' block index =
+  abbrev pub IncrementsCount : MetadataCaches S → MetadataCaches S → ℕ → ℕ → Type 0
+  IncrementsCount caches caches' block index =
       (h : HeaderFields) (p : Pending) (on_storage : Bytes) (c : ℕ) → CacheInvariant h p caches on_storage → IsCountedAt h (known_of h caches on_storage) c block index → count h (known_of h caches on_storage) c ≡ 0
       → Made (CountRises h (known_of h caches on_storage) (known_of h caches' on_storage) c) h caches caches' on_storage
 
   -- A refcount of the cached refblock falls by one.
-  abbrev pub LowersCount : MetadataCaches S → MetadataCaches S → ℕ → ℕ → Type 0
-  LowersCount caches caches' block index =
+  abbrev pub DecrementsCount : MetadataCaches S → MetadataCaches S → ℕ → ℕ → Type 0
+  DecrementsCount caches caches' block index =
       (h : HeaderFields) (p : Pending) (on_storage : Bytes) (c : ℕ) → CacheInvariant h p caches on_storage → IsCountedAt h (known_of h caches on_storage) c block index
       → Made (CountFalls h (known_of h caches on_storage) (known_of h caches' on_storage) c) h caches caches' on_storage
 
   -- The refcount is 0 exactly if this is true, provided that the refblock is cached.
-  abbrev pub TellsZero : MetadataCaches S → ℕ → ℕ → Bool → Type 0
-  TellsZero caches block index is_zero =
+  abbrev pub ReportsZero : MetadataCaches S → ℕ → ℕ → Bool → Type 0
+  ReportsZero caches block index is_zero =
       (h : HeaderFields) (p : Pending) (on_storage : Bytes) (c : ℕ) → CacheInvariant h p caches on_storage → IsCountedAt h (known_of h caches on_storage) c block index → IsSome (rb_at caches block)
       → is_zero ≡ (count h (known_of h caches on_storage) c == 0)
 
+  -- On sound caches a refcount in a cached refblock is n.
+  abbrev pub ReportsCount : MetadataCaches S → ℕ → ℕ → ℕ → Type 0
+  ReportsCount caches block index n = (h : HeaderFields) (p : Pending) (on_storage : Bytes) (c : ℕ) → CacheInvariant h p caches on_storage → IsCountedAt h (known_of h caches on_storage) c block index → count h (known_of h caches on_storage) c ≡ n
+
   -- On sound caches a refcount of 0 in a cached refblock is incremented.
-  abbrev pub RaisesZero : MetadataCaches S → ℕ → ℕ → Bool → Type 0
-  RaisesZero caches block index made =
+  abbrev pub IncrementsZero : MetadataCaches S → ℕ → ℕ → Bool → Type 0
+  IncrementsZero caches block index made =
       (h : HeaderFields) (p : Pending) (on_storage : Bytes) (c : ℕ) → CacheInvariant h p caches on_storage → IsCountedAt h (known_of h caches on_storage) c block index → IsSome (rb_at caches block)
       → count h (known_of h caches on_storage) c ≡ 0 → IsTrue made
 
   -- On sound caches a refcount above 0 in a cached refblock is decremented.
-  abbrev pub LowersSome : MetadataCaches S → ℕ → ℕ → Bool → Type 0
-  LowersSome caches block index made =
+  abbrev pub DecrementsSome : MetadataCaches S → ℕ → ℕ → Bool → Type 0
+  DecrementsSome caches block index made =
       (h : HeaderFields) (p : Pending) (on_storage : Bytes) (c : ℕ) → CacheInvariant h p caches on_storage → IsCountedAt h (known_of h caches on_storage) c block index → IsSome (rb_at caches block)
       → count h (known_of h caches on_storage) c ≢ 0 → IsTrue made
 
@@ -212,13 +230,13 @@ module _ {S : Type 0} where
       → MadeEntry h caches caches' on_storage i index 0 answer
 
   -- A change of the entry is recorded.
-  abbrev pub NotesHeld : MetadataCaches S → MetadataCaches S → ℕ → ℕ → Type 0
-  NotesHeld caches caches' table index =
+  abbrev pub RecordsHeld : MetadataCaches S → MetadataCaches S → ℕ → ℕ → Type 0
+  RecordsHeld caches caches' table index =
       (h : HeaderFields) (p : Pending) (on_storage : Bytes) (i : ℕ) → CacheInvariant h p caches on_storage → IsEntryAt h (known_of h caches on_storage) i table index → IsSome (l2_at caches table) → IsTrue caches'.is_changed
 
   -- A change of the entry is recorded, when it is mapped.
-  abbrev pub NotesEntry : MetadataCaches S → MetadataCaches S → ℕ → ℕ → ℕ → Type 0
-  NotesEntry caches caches' table index host =
+  abbrev pub RecordsEntry : MetadataCaches S → MetadataCaches S → ℕ → ℕ → ℕ → Type 0
+  RecordsEntry caches caches' table index host =
       (h : HeaderFields) (p : Pending) (on_storage : Bytes) (i : ℕ) → CacheInvariant h p caches on_storage → IsEntryAt h (known_of h caches on_storage) i table index → IsSome (l2_at caches table) → IsHostCluster h.cluster_bits host
       → IsTrue caches'.is_changed
 
@@ -229,7 +247,7 @@ module _ {S : Type 0} where
 
   -- ---- tables that are dropped without being written
 
-  -- Each cluster has its known bytes or those on the storage, and the known ones if no dropped table was modified. No refblock is new that was not. The caches are sound again,
+  -- Each cluster has its known bytes or those on the storage, and the known ones if no dropped table was modified. No refblock becomes new. The caches are sound again,
   -- with any pending clusters that keep the order of writes.
   pub record Evict (Unmodified : Type 0) (h : HeaderFields) (caches caches' : MetadataCaches S) (on_storage : Bytes) : Type 0 where
     pub known : IsPartly (cluster_size h) on_storage (known_of h caches on_storage) (known_of h caches' on_storage)
@@ -238,8 +256,8 @@ module _ {S : Type 0} where
     pub sound : (p : Pending) → CrashInvariant h (order_of caches') p on_storage (known_of h caches' on_storage) → CacheInvariant h p caches' on_storage
 
   -- What dropping tables does to sound caches.
-  abbrev pub TakesOff : Type 0 → MetadataCaches S → MetadataCaches S → Type 0
-  TakesOff Unmodified caches caches' = (h : HeaderFields) (p : Pending) (on_storage : Bytes) → CacheInvariant h p caches on_storage → Evict Unmodified h caches caches' on_storage
+  abbrev pub EvictsTable : Type 0 → MetadataCaches S → MetadataCaches S → Type 0
+  EvictsTable Unmodified caches caches' = (h : HeaderFields) (p : Pending) (on_storage : Bytes) → CacheInvariant h p caches on_storage → Evict Unmodified h caches caches' on_storage
 
   -- The refblock of a cluster is dropped: it is not cached any more, and the known contents outside of its cluster are the same.
   pub record TakenFrom (h : HeaderFields) (caches caches' : MetadataCaches S) (on_storage : Bytes) (cluster : ℕ) : Type 0 where
@@ -247,12 +265,12 @@ module _ {S : Type 0} where
     pub outside : IsSameOutside (cluster_size h) cluster (known_of h caches on_storage) (known_of h caches' on_storage)
     pub gone : rb_at caches' cluster ≡ None
 
-  abbrev pub TakesBlock : MetadataCaches S → MetadataCaches S → ℕ → Type 0
-  TakesBlock caches caches' cluster = (h : HeaderFields) (p : Pending) (on_storage : Bytes) → CacheInvariant h p caches on_storage → TakenFrom h caches caches' on_storage cluster
+  abbrev pub AllocatesBlock : MetadataCaches S → MetadataCaches S → ℕ → Type 0
+  AllocatesBlock caches caches' cluster = (h : HeaderFields) (p : Pending) (on_storage : Bytes) → CacheInvariant h p caches on_storage → TakenFrom h caches caches' on_storage cluster
 
   -- ---- a modified table is inserted
 
-  -- The table is laid over the known contents, and nothing else changes. At every moment a stop is as safe as before. If `Stands` holds and the order of writes is kept, the caches are
+  -- The table is overlaid on the known contents, and nothing else changes. At every moment a stop is as safe as before. If `Stands` holds and the order of writes is kept, the caches are
   -- sound again, with any pending clusters. If `IsNamed` holds, no refblock is new that was not.
   pub record Overlay (Stands : Bytes → Bytes → Type 0) (IsNamed : Bytes → Type 0) (h : HeaderFields) (old : StorageView) (caches : MetadataCaches S) (new : StorageView) (caches' : MetadataCaches S) (t : CachedTable) : Type 0 where
     pub honest : new.is_honest
@@ -263,14 +281,14 @@ module _ {S : Type 0} where
         → CacheInvariant h p caches' (byte_at new.contents)
 
   -- An L2 table is inserted. Its L1 entry is marked copied, and no refblock is new.
-  abbrev pub LaysTable : (S → StorageView) → ImageStorage S → MetadataCaches S → ImageStorage S → MetadataCaches S → L2TableView → Type 0
-  LaysTable view old caches new caches' t =
+  abbrev pub OverlaysTable : (S → StorageView) → ImageStorage S → MetadataCaches S → ImageStorage S → MetadataCaches S → L2TableView → Type 0
+  OverlaysTable view old caches new caches' t =
       (h : HeaderFields) (p : Pending) → (view (storage_of old)).is_honest → CacheInvariant h p caches (byte_at (view (storage_of old)).contents) → IsTableOf h t → t.is_modified ≡ true
       → IfSome t.cluster (λ cluster. Overlay (λ on_storage known. AreNamedBlocks h (refblocks caches') on_storage × HasOwnL2 h on_storage cluster) (λ on_storage. Unit {0}) h (view (storage_of old)) caches (view (storage_of new)) caches' (laid_at h cluster t.bytes))
 
   -- A refblock is inserted. The reftable names it, or nothing names its cluster, and no modified L2 table lies there.
-  abbrev pub LaysBlock : (S → StorageView) → ImageStorage S → MetadataCaches S → ImageStorage S → MetadataCaches S → RefBlockView → Type 0
-  LaysBlock view old caches new caches' b =
+  abbrev pub OverlaysBlock : (S → StorageView) → ImageStorage S → MetadataCaches S → ImageStorage S → MetadataCaches S → RefBlockView → Type 0
+  OverlaysBlock view old caches new caches' b =
       (h : HeaderFields) (p : Pending) → (view (storage_of old)).is_honest → CacheInvariant h p caches (byte_at (view (storage_of old)).contents) → IsBlockOf h b → b.is_modified ≡ true
       → IfSome b.cluster (λ cluster. IsFreeOf (cluster_size h) (l2_tables caches) cluster
       → Overlay (λ on_storage known. HasBlock h on_storage cluster ⊎ IsUnnamed h on_storage known cluster) (λ on_storage. HasBlock h on_storage cluster) h (view (storage_of old)) caches (view (storage_of new)) caches' (laid_at h cluster b.bytes))

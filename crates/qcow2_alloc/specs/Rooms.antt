@@ -1,8 +1,8 @@
 -- Room for a longer reftable: a run of free clusters for the table and for the refblocks that it needs.
-use Rattle.std.specs.Prelude.{ℕ, ◌+◌, ◌*◌, ◌/◌, ◌%◌, ◌^◌, ◌<◌, ◌≤◌, ◌≡◌, ◌≢◌, ◌⊎◌, ◌==◌, ◌&&◌, ◌||◌, Bool, IsTrue, true, false, List, length, Some, None, Result, Ok, Err, if◌then◌else◌}
+use Rattle.std.specs.Prelude.{ℕ, ◌+◌, ◌*◌, ◌/◌, ◌%◌, ◌^◌, ◌<◌, ◌≤◌, ◌≡◌, ◌≢◌, ◌⊎◌, ◌==◌, ◌&&◌, ◌||◌, Bool, IsTrue, true, false, List, [], length, Some, None, Result, Ok, Err, if◌then◌else◌}
 use Rattle.image_access.specs.Moments.{StorageView}
 use Rattle.qcow2_metadata.specs.declared.header.HeaderFields.{HeaderFields}
-use Rattle.qcow2_metadata.specs.Bytes.{sum_below, one_if}
+use Rattle.qcow2_metadata.specs.Bytes.{Bytes, sum_below, one_if}
 use Rattle.qcow2_metadata.specs.Header.{cluster_size, counts_per_block, count_width}
 use Rattle.qcow2_metadata.specs.Entries.{block_offset, block_count}
 use Rattle.qcow2_metadata.specs.EntryTable.{EntryTableView, entry_count}
@@ -10,12 +10,18 @@ use Rattle.qcow2_metadata.specs.L2Mapping.{greatest_offset}
 use Rattle.qcow2_metadata.specs.RefBlock.{RefBlockView, count_at}
 use Rattle.qcow2_metadata.specs.TableBytes.{entry_at}
 use Rattle.qcow2_laws.specs.Changes.{one_at, with_new_tables}
-use Rattle.qcow2_laws.specs.CrashInvariant.{Pending, SameIn}
+use Rattle.qcow2_disk.specs.Stops.{SafeThroughout}
+use Rattle.qcow2_laws.specs.Caches.{AreClean, AreNamedBlocks, BlocksMayGo}
+use Rattle.qcow2_laws.specs.CrashInvariant.{Pending, SameCounts, SameIn}
+use Rattle.qcow2_laws.specs.Internal.{IsInternal, SameL1Table}
+use Rattle.qcow2_laws.specs.SafeSteps.{SafeStep}
 use Rattle.qcow2_laws.specs.Tops.{IsSameOutside}
-use Rattle.qcow2_alloc.specs.Allocation.{run_at, StandAt, HasNone, NamesLacking, InternalAllocatorStep}
+use Rattle.qcow2_laws.specs.Writes.{IsUnnamed}
+use Rattle.qcow2_alloc.specs.Allocation.{run_at, HasBytesAt, HasNone, NamesLacking, InternalAllocatorStep}
 use Rattle.qcow2_alloc.specs.GrownTables.{counted_run, with_run, named_by_reftable_entries, IsGrown}
-use Rattle.qcow2_alloc.specs.ImageFile.{contents_in, IsFault, RefusedFileStep}
-use Rattle.qcow2_alloc.specs.MetadataCaches.{rb_at}
+use Rattle.qcow2_alloc.specs.CachePins.{CachesHaveRoom}
+use Rattle.qcow2_alloc.specs.ImageFile.{nothing_given, view_in, contents_in, known_in, state_in, IsFault, HasReftable, RefusedFileStep}
+use Rattle.qcow2_alloc.specs.MetadataCaches.{order_of, l2_tables, refblocks, rb_at, CacheInvariant, HavePlaces}
 use Rattle.qcow2_alloc.specs.declared.allocation.Allocator.{Allocator}
 use Rattle.qcow2_alloc.specs.declared.error.ImageError.{ImageError}
 use Rattle.qcow2_alloc.specs.declared.free_room.Reach.{Reach}
@@ -44,10 +50,10 @@ room_length room = room.blocks + room.clusters
 
 module _ {S : Type 0} (view : S → StorageView) (p : Pending) (old : ImageFile S) (allocator' : Allocator) (new : ImageFile S) where
   -- A cluster is allocated, if its range has a refblock; or it is in use.
-  abbrev pub TakesFree : EntryTableView → ℕ → Result Bool ImageError → Type 0
-  TakesFree t cluster (Ok true) = InternalAllocatorStep view p old allocator' new (with_new_tables p (counted_one old.header.fields t cluster))
-  TakesFree t cluster (Ok false) = InternalAllocatorStep view p old allocator' new p
-  TakesFree t cluster (Err e) = IsFault e × RefusedFileStep view p old allocator' new e
+  abbrev pub AllocatesFree : EntryTableView → ℕ → Result Bool ImageError → Type 0
+  AllocatesFree t cluster (Ok true) = InternalAllocatorStep view p old allocator' new (with_new_tables p (counted_one old.header.fields t cluster))
+  AllocatesFree t cluster (Ok false) = InternalAllocatorStep view p old allocator' new p
+  AllocatesFree t cluster (Err e) = IsFault e × RefusedFileStep view p old allocator' new e
 
   -- This many clusters from `first` on are allocated.
   abbrev pub ReachesRoom : EntryTableView → ℕ → Result Reach ImageError → Type 0
@@ -55,9 +61,9 @@ module _ {S : Type 0} (view : S → StorageView) (p : Pending) (old : ImageFile 
   ReachesRoom t first (Err e) = IsFault e × RefusedFileStep view p old allocator' new e
 
   -- The clusters of a room are allocated.
-  abbrev pub TakesRoom : EntryTableView → Result Room ImageError → Type 0
-  TakesRoom t (Ok room) = InternalAllocatorStep view p old allocator' new (with_run p old.header.fields t room.first (room_length room))
-  TakesRoom t (Err e) = RefusedFileStep view p old allocator' new e
+  abbrev pub AllocatesRoom : EntryTableView → Result Room ImageError → Type 0
+  AllocatesRoom t (Ok room) = InternalAllocatorStep view p old allocator' new (with_run p old.header.fields t room.first (room_length room))
+  AllocatesRoom t (Err e) = RefusedFileStep view p old allocator' new e
 
 -- A longer reftable in memory has the same entries, and needs this many clusters.
 pub record IsLonger (h : HeaderFields) (old t : EntryTableView) (clusters : ℕ) : Type 0 where
@@ -67,7 +73,7 @@ pub record IsLonger (h : HeaderFields) (old t : EntryTableView) (clusters : ℕ)
   pub entries : (k : ℕ) → entry_at t.bytes k ≡ entry_at old.bytes k
   pub named : (c : ℕ) → named_by_reftable_entries h t c ≡ named_by_reftable_entries h old c
 
--- Refcount i of the refblock, that of cluster `begin` + i, is 1 for the n clusters from `first` on, and 0 for all others.
+-- Refcount i of the refblock, which is that of cluster `begin` + i, is 1 for the n clusters from `first` on, and 0 for all others.
 abbrev pub CountsRun : HeaderFields → RefBlockView → ℕ → ℕ → ℕ → Type 0
 CountsRun h block begin first n = (i : ℕ) → i < counts_per_block h → count_at block i ≡ run_at first n (begin + i)
 
@@ -92,54 +98,104 @@ module _ {S : Type 0} (h : HeaderFields) (reftable : EntryTableView) where
     pub below : room.first + room_length room ≤ end
     pub clusters : room.clusters ≡ n
     pub blocks : room.blocks ≡ opened reftable (counts_per_block h) room.first (room_length room)
-    pub noted : ((k : ℕ) → counted_run h reftable room.first (room_length room) k ≡ 0) ⊎ IsTrue new.caches.is_changed
+    pub recorded : ((k : ℕ) → counted_run h reftable room.first (room_length room) k ≡ 0) ⊎ IsTrue new.caches.is_changed
 
-  -- Clusters from `first` on were allocated until there was room for so many clusters of a reftable, or one was in use, or the end came.
+  -- Clusters from `first` on were allocated until there was room for this many clusters of a reftable, or one was in use, or the end came.
   pub record IsReach (first clusters end : ℕ) (new : ImageFile S) (reach : Reach) : Type 0 where
     pub within : first + reach.taken ≤ end
     pub few : reach.blocks ≤ reach.taken
     pub blocks : reach.blocks ≡ opened reftable (counts_per_block h) first reach.taken
     pub short : reach.taken ≢ reach.blocks + clusters → (n : ℕ) → n ≤ reach.taken → n < opened reftable (counts_per_block h) first n + clusters
-    pub noted : ((k : ℕ) → counted_run h reftable first reach.taken k ≡ 0) ⊎ IsTrue new.caches.is_changed
+    pub recorded : ((k : ℕ) → counted_run h reftable first reach.taken k ≡ 0) ⊎ IsTrue new.caches.is_changed
 
 -- The reftable, placed at this cluster.
 abbrev pub placed_at : EntryTableView → ℕ → EntryTableView
 placed_at t cluster = record t { cluster = Some cluster }
 
+-- The refblocks that a reftable lacks and another one has count exactly these clusters.
+abbrev pub CountNew : HeaderFields → Bytes → EntryTableView → EntryTableView → ℕ → ℕ → Type 0
+CountNew h b old t first n =
+    (c : ℕ) → HasNone old (c / counts_per_block h) → block_offset (entry_at t.bytes (c / counts_per_block h)) ≢ 0
+    → block_count b (count_width h) (block_offset (entry_at t.bytes (c / counts_per_block h))) (c % counts_per_block h) ≡ run_at first n c
+
 module _ {S : Type 0} (view : S → StorageView) where
-  -- The new refblocks are on the storage, and count exactly these clusters.
-  abbrev pub StandCounting : ImageFile S → EntryTableView → EntryTableView → ℕ → ℕ → Type 0
-  StandCounting file old t first n =
-      (c : ℕ) → HasNone old (c / counts_per_block file.header.fields) → block_offset (entry_at t.bytes (c / counts_per_block file.header.fields)) ≢ 0
-      → block_count (contents_in view file) (count_width file.header.fields) (block_offset (entry_at t.bytes (c / counts_per_block file.header.fields))) (c % counts_per_block file.header.fields) ≡ run_at first n c
+  -- Nothing names a cluster of the run, and it holds no new data.
+  abbrev pub AreFree : Pending → ImageFile S → ℕ → ℕ → Type 0
+  AreFree q file first n = (c : ℕ) → 0 < run_at first n c → IsUnnamed file.header.fields (contents_in view file) (known_in view file) c × (q.new_data c ≡ 0)
 
   module _ (q : Pending) (old : ImageFile S) (allocator : Allocator) (new : ImageFile S) where
-    -- These bytes are in a cluster that no cached refblock has. Nothing else changes on the storage.
-    pub record StandsIn (cluster : ℕ) (bytes : List ℕ) : Type 0 where
-      pub allocator_step : InternalAllocatorStep view q old allocator new q
-      pub stands : StandAt (contents_in view new) (cluster * cluster_size old.header.fields) bytes
-      pub outside : IsSameOutside (cluster_size old.header.fields) cluster (contents_in view old) (contents_in view new)
-      pub gone : rb_at new.caches cluster ≡ None
+    -- A step that guests don't see. Refblocks may be cached in the clusters of a run, which nothing names; then a change is recorded.
+    pub record InternalNewBlocks (first n : ℕ) : Type 0 where
+      pub honest : (view_in view new).is_honest
+      pub caches : CacheInvariant new.header.fields q new.caches (contents_in view new)
+      pub room : CachesHaveRoom new.caches
+      pub reftable : HasReftable view new allocator.reftable
+      pub safe_step : SafeStep (state_in view old q) (state_in view new q) nothing_given []
+      pub since : SafeThroughout (view_in view old) (view_in view new) (known_in view old) nothing_given []
+      pub unseen : IsInternal (state_in view old q) (state_in view new q)
+      pub l1_table : SameL1Table (state_in view old q) (state_in view new q)
+      pub counts : SameCounts new.header.fields (known_in view old) (known_in view new)
+      pub free : AreFree q new first n
+      pub named : AreNamedBlocks new.header.fields (refblocks new.caches) (contents_in view new) ⊎ IsTrue new.caches.is_changed
 
-    abbrev pub WritesTo : ℕ → List ℕ → Result (Unit {0}) ImageError → Type 0
-    WritesTo cluster bytes (Ok _) = StandsIn cluster bytes
-    WritesTo cluster bytes (Err e) = IsFault e × RefusedFileStep view q old allocator new e
+    -- The same of a refused call.
+    abbrev pub RefusedNewBlocks : ℕ → ℕ → ImageError → Type 0
+    RefusedNewBlocks first n e = IsFault e × InternalNewBlocks first n
 
-    -- The refblocks that a reftable lacks are in the first clusters of the room, and a longer one has entries for them.
+    -- One more refblock is cached in a cluster of the run, with these bytes, and nothing else of what is known changes.
+    pub record HasCachedBlock (before : ImageFile S) (first n cluster : ℕ) (bytes : List ℕ) : Type 0 where
+      pub blocks : InternalNewBlocks first n
+      pub places : HavePlaces new.header.fields new.caches
+      pub stands : HasBytesAt (known_in view new) (cluster * cluster_size new.header.fields) bytes
+      pub outside : IsSameOutside (cluster_size new.header.fields) cluster (known_in view before) (known_in view new)
+
+    abbrev pub CachesBlock : ImageFile S → ℕ → ℕ → ℕ → List ℕ → Result (Unit {0}) ImageError → Type 0
+    CachesBlock before first n cluster bytes (Ok _) = HasCachedBlock before first n cluster bytes
+    CachesBlock before first n cluster bytes (Err e) = RefusedNewBlocks first n e
+
+    -- A refblock may come to the front of the cache. Nothing changes of what is known.
+    pub record HasFetched (before : ImageFile S) (first n : ℕ) : Type 0 where
+      pub blocks : InternalNewBlocks first n
+      pub places : HavePlaces new.header.fields new.caches
+      pub known : known_in view new ≡ known_in view before
+
+    abbrev pub FetchesBlock : ImageFile S → ℕ → ℕ → Result (Unit {0}) ImageError → Type 0
+    FetchesBlock before first n (Ok _) = HasFetched before first n
+    FetchesBlock before first n (Err e) = RefusedNewBlocks first n e
+
+    -- The refblocks that a reftable lacks are cached for the first clusters of the room, and a longer one has entries for them.
+    pub record HasCached (before after : EntryTableView) (room : Room) : Type 0 where
+      pub blocks : InternalNewBlocks room.first (room_length room)
+      pub places : HavePlaces new.header.fields new.caches
+      pub grown : IsGrown old.header.fields before (placed_at after (room.first + room.blocks)) room.first room.blocks room.clusters
+      pub counts : CountNew new.header.fields (known_in view new) before after room.first (room_length room)
+
+    abbrev pub CachesBlocks : EntryTableView → EntryTableView → Room → Result (Unit {0}) ImageError → Type 0
+    CachesBlocks before after room (Ok _) = HasCached before after room
+    CachesBlocks before after room (Err e) = RefusedNewBlocks room.first (room_length room) e
+
+    -- The refblocks that a reftable lacks are in the first clusters of the room, and a longer one has entries for them. No modified refblock is cached.
     pub record HasPlaced (before after : EntryTableView) (room : Room) : Type 0 where
       pub allocator_step : InternalAllocatorStep view q old allocator new q
+      pub free : AreFree q new room.first (room_length room)
       pub grown : IsGrown old.header.fields before (placed_at after (room.first + room.blocks)) room.first room.blocks room.clusters
-      pub counts : StandCounting new before after room.first (room_length room)
-      pub uncached : (c : ℕ) → 0 < run_at room.first room.blocks c → rb_at new.caches c ≡ None
+      pub counts : CountNew new.header.fields (contents_in view new) before after room.first (room_length room)
+      pub clean : AreClean (refblocks new.caches)
+      pub may : BlocksMayGo (order_of new.caches) (l2_tables new.caches)
 
     abbrev pub PlacesBlocks : EntryTableView → EntryTableView → Room → Result (Unit {0}) ImageError → Type 0
     PlacesBlocks before after room (Ok _) = HasPlaced before after room
-    PlacesBlocks before after room (Err e) = IsFault e × RefusedFileStep view q old allocator new e
+    PlacesBlocks before after room (Err e) = RefusedNewBlocks room.first (room_length room) e
+
+    -- No refblock is cached any more for the n clusters from `first` on.
+    pub record HasDropped (first n : ℕ) : Type 0 where
+      pub allocator_step : InternalAllocatorStep view q old allocator new q
+      pub uncached : (c : ℕ) → 0 < run_at first n c → rb_at new.caches c ≡ None
 
     -- The table is in these clusters, and nothing else changes on the storage.
     pub record StandsFrom (cluster clusters : ℕ) (bytes : List ℕ) : Type 0 where
       pub allocator_step : InternalAllocatorStep view q old allocator new q
-      pub stands : StandAt (contents_in view new) (cluster * cluster_size old.header.fields) bytes
+      pub stands : HasBytesAt (contents_in view new) (cluster * cluster_size old.header.fields) bytes
       pub outside : (c : ℕ) → run_at cluster clusters c ≡ 0 → SameIn (cluster_size old.header.fields) c (contents_in view old) (contents_in view new)
 
     abbrev pub WritesTable : ℕ → ℕ → List ℕ → Result (Unit {0}) ImageError → Type 0

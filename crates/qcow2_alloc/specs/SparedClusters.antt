@@ -1,4 +1,4 @@
--- Spared clusters, which no allocation takes: those that the header, the reftable and the L1 table refer to.
+-- Spared clusters, which are never allocated: those that the header, the reftable and the L1 table refer to.
 use Rattle.std.specs.Prelude.{ℕ, ◌+◌, ◌-◌, ◌*◌, ◌/◌, ◌<◌, ◌≤◌, ◌≡◌, ◌≢◌, ◌⊎◌, Bool, IsTrue, List}
 use Rattle.number_runs.specs.NumberRuns.{IsIn}
 use Rattle.qcow2_metadata.specs.Entries.{block_offset, host_offset}

@@ -1,4 +1,4 @@
--- What calls of the caches and of the allocator leave of the header's cluster, cluster 0, whatever the image contains.
+-- What calls of the caches and of the allocator keep of the header's cluster, cluster 0, whatever the image contains.
 use Rattle.std.specs.Prelude.{ℕ, ◌<◌, ◌≡◌, ◌⊎◌, Some}
 use Rattle.image_access.specs.Moments.{StorageView}
 use Rattle.qcow2_metadata.specs.EntryTable.{EntryTableView, entry_count}
@@ -11,7 +11,7 @@ use Rattle.qcow2_alloc.specs.declared.cache.MetadataCaches.{MetadataCaches}
 use Rattle.qcow2_alloc.specs.declared.image_file.ImageFile.{ImageFile}
 use Rattle.qcow2_alloc.specs.declared.image_storage.ImageStorage.{ImageStorage}
 
--- The header's pointer to the reftable leads behind cluster 0, if the reftable has clusters.
+-- The header's pointer to the reftable leads past cluster 0, if the reftable has clusters.
 abbrev pub NamesReftableBehind : HeaderFields → Type 0
 NamesReftableBehind h = (h.reftable_clusters ≡ 0) ⊎ (0 < h.reftable_offset)
 

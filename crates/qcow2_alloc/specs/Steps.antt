@@ -1,12 +1,12 @@
 -- What each call of the allocator leaves of the image's file, whatever it contains, and why the call is refused.
-use Rattle.std.specs.Prelude.{◌≡◌, ◌≢◌, ℕ, ◌+◌, ◌*◌, ◌/◌, ◌%◌, ◌^◌, ◌<◌, ◌≤◌, ◌⊎◌, Bool, false, Option, Some, None, IsSome, IfSome, IsNone, IsTrue, Result, Ok, Err, IfOk, IfErr, OnOk}
+use Rattle.std.specs.Prelude.{◌≡◌, ◌≢◌, ℕ, ◌+◌, ◌*◌, ◌/◌, ◌%◌, ◌^◌, ◌<◌, ◌≤◌, ◌⊎◌, Bool, Option, Some, None, IsSome, IfSome, IsNone, IsTrue, Result, Ok, Err, IfOk, IfErr, OnOk, false}
 use Rattle.image_access.specs.Moments.{StorageView, ContentsStay, EachMomentSince, IsLeftBy, Rose}
 use Rattle.qcow2_metadata.specs.EntryTable.{EntryTableView, entry_count}
 use Rattle.qcow2_metadata.specs.Header.{counts_per_block, entries_per_cluster}
 use Rattle.qcow2_metadata.specs.L2Mapping.{IsHostCluster}
 use Rattle.qcow2_metadata.specs.declared.header.HeaderFields.{HeaderFields}
 use Rattle.qcow2_laws.specs.CrashInvariant.{Pending}
-use Rattle.qcow2_alloc.specs.Allocation.{Allocates, AllocatesAt, GivesBack, GrowsTable, GetsBlock, HasNone, KeepsEntries, KeepsNamed, NamesBlock, NamesLacking, SameLeaks, TakesCluster, TakesOne, TakesRun, InternalAllocatorGrowth, run_at, taken_as}
+use Rattle.qcow2_alloc.specs.Allocation.{Allocates, AllocatesAt, GivesBack, GrowsTable, GetsBlock, HasNone, KeepsEntries, KeepsNamed, NamesBlock, NamesLacking, SameLeaks, AllocatesCluster, AllocatesGiven, AllocatesRun, InternalAllocatorGrowth, run_at, taken_as}
 use Rattle.qcow2_alloc.specs.CachePins.{KeepsPinsAndNotes}
 use Rattle.qcow2_alloc.specs.Faults.{faults_of}
 use Rattle.qcow2_alloc.specs.FreeList.{pending_then, run_of, FillsClusters, ReplacesReftable, ListsTables, OldReftablesQueued}
@@ -17,10 +17,10 @@ use Rattle.qcow2_alloc.specs.ImageFile.{has_noted, view_in, HasReftable, KeepsHe
 use Rattle.qcow2_alloc.specs.KeptMarks.{KeepsMarks}
 use Rattle.qcow2_alloc.specs.KeptNotes.{KeepsNotes}
 use Rattle.qcow2_alloc.specs.Limits.{CantCount, CantCountRun, CantGrow, HasNoPlace, HasNoRoomBelow, HasNoRoomFor, IsLowestRoom, IsPastLimits, LiesLowest, IsFaultOr, nameable_clusters}
-use Rattle.qcow2_alloc.specs.LowestRuns.{IsLowestRun, IsPassed, IsUsed, KeepsNoFreeBelowHint, KeepsUsed, NoFreeBelowHint, StaysUsed}
+use Rattle.qcow2_alloc.specs.LowestRuns.{IsLowestRun, IsPassed, IsUsed, KeepsNoFreeBelowHint, NoFreeBelowHint, StaysUsed, KeepsUsed}
 use Rattle.qcow2_alloc.specs.MadeClusters.{run_in, IsMadeInTurn, IsAllocatedMetadata, ListsUsed, AllocatesOnly}
 use Rattle.qcow2_alloc.specs.MetadataCaches.{rb_at}
-use Rattle.qcow2_alloc.specs.Rooms.{ReachesRoom, TakesRoom}
+use Rattle.qcow2_alloc.specs.Rooms.{ReachesRoom, AllocatesRoom}
 use Rattle.qcow2_alloc.specs.SparedHeaders.{LeaveHeaderCluster, KeepBehindHeader, NamesReftableBehind, SparesHeader, PreservesHeaderButPointer, StandsBehindHeader}
 use Rattle.qcow2_alloc.specs.declared.allocation.Allocator.{Allocator}
 use Rattle.qcow2_alloc.specs.declared.cache.MetadataCaches.{MetadataCaches}
@@ -59,7 +59,7 @@ module _ {S : Type 0} (view : S → StorageView) where
 
   -- ---- what stays the same
 
-  -- The header and the list to be freed stay the same, and so do these entries of the reftable. Marks are kept, and cluster 0 stays the same.
+  -- The header, the list to be freed and these entries of the reftable stay the same. Marks are kept, and cluster 0 stays the same.
   pub record TableStepBy (Keeps : EntryTableView → EntryTableView → Type 0) (reftable : EntryTableView) (old : ImageFile S) (reftable' : EntryTableView) (new : ImageFile S) : Type 0 where
     pub header : new.header ≡ old.header
     pub list : new.free_list ≡ old.free_list
@@ -95,7 +95,7 @@ module _ {S : Type 0} (view : S → StorageView) where
     pub pins : KeepsPinsAndNotes old.caches new.caches
     pub notes : KeepsNotes view old.storage new.storage
 
-  -- Marks are kept. The reftable may be replaced by a longer one: the header then points to it, and the clusters of the old one are listed. Otherwise the header and the list stay the same, and so does cluster 0.
+  -- Marks are kept. The reftable may be replaced by a longer one: the header then points to it, and the clusters of the old one are listed. Otherwise the header, the list and cluster 0 stay the same.
   pub record FileStepBy (Keeps : ImageFile S → ImageFile S → Type 0) (reftable : EntryTableView) (old : ImageFile S) (reftable' : EntryTableView) (new : ImageFile S) : Type 0 where
     pub header : KeepsHeader old.header new.header
     pub list : ListsTables old.free_list new.free_list
@@ -111,7 +111,7 @@ module _ {S : Type 0} (view : S → StorageView) where
   abbrev pub DataStep : EntryTableView → ImageFile S → EntryTableView → ImageFile S → Type 0
   DataStep = FileStepBy KeepsMarksInTurn
 
-  -- Marks are kept, and the header's pointer to the reftable may change. Otherwise the header stays the same, and so does cluster 0 if the table may get the pointer. The list stays the same.
+  -- Marks are kept, and the header's pointer to the reftable may change. The rest of the header and the list stay the same, and cluster 0 does if the table may get the pointer.
   pub record PointerStepTo (IsToName : Type 0) (reftable : EntryTableView) (old : ImageFile S) (reftable' : EntryTableView) (new : ImageFile S) : Type 0 where
     pub header : KeepsHeader old.header new.header
     pub list : new.free_list ≡ old.free_list
@@ -122,8 +122,8 @@ module _ {S : Type 0} (view : S → StorageView) where
   abbrev pub PointerStep : EntryTableView → ImageFile S → EntryTableView → ImageFile S → Type 0
   PointerStep = PointerStepTo (Unit {0})
 
-  -- Marks are kept. If the call succeeds, the reftable is replaced by a longer one: the header points to it, and the clusters of the old one are listed. Otherwise the header and the list stay the same,
-  -- and so does cluster 0.
+  -- Marks are kept. If the call succeeds, the reftable is replaced by a longer one: the header points to it, and the clusters of the old one are listed. Otherwise the header, the list
+  -- and cluster 0 stay the same.
   pub record GrowthStep (reftable : EntryTableView) (old : ImageFile S) (reftable' : EntryTableView) (new : ImageFile S) (result : Result (Unit {0}) ImageError) : Type 0 where
     pub header : KeepsHeader old.header new.header
     pub list : ListsTables old.free_list new.free_list
@@ -131,7 +131,7 @@ module _ {S : Type 0} (view : S → StorageView) where
     pub marks : KeepsMarks view old new
     pub header_cluster : PreservesHeaderButPointer view reftable old reftable' new
 
-  -- Marks are kept, the header and the reftable stay the same, and so does cluster 0. The list to be freed may change.
+  -- Marks are kept, and the header, the reftable and cluster 0 stay the same. The list to be freed may change.
   pub record FreeStepBy (Keeps : ImageFile S → ImageFile S → Type 0) (table : EntryTableView) (old : ImageFile S) (table' : EntryTableView) (new : ImageFile S) : Type 0 where
     pub header : new.header ≡ old.header
     pub reftable : table' ≡ table
@@ -148,14 +148,14 @@ module _ {S : Type 0} (view : S → StorageView) where
 
   -- ---- how an allocator begins
 
-  -- The file is only read: everything but the storage stays the same, and so do the contents of the storage.
+  -- The file is only read: everything but the storage stays the same, and the storage has the same contents.
   pub record ReadsFile (old new : ImageFile S) : Type 0 where
     pub rest : new ≡ record old { storage = new.storage }
     pub honest : (view_in view old).is_honest → (view_in view new).is_honest
     pub same : ContentsStay (view_in view old) (view_in view new)
     pub time : EachMomentSince (view_in view old) (view_in view new) (IsLeftBy (view_in view new))
 
-  -- The search for free clusters starts at cluster 0, spares no clusters yet, and none is leaked. The reftable is the one on an honest storage, and lies behind cluster 0 if the header says so.
+  -- The search for free clusters starts at cluster 0, and no cluster is spared or leaked yet. The reftable is the one on an honest storage, and lies past cluster 0 if the header says so.
   pub record BeginsFrom (old new : ImageFile S) (allocator : Allocator) : Type 0 where
     pub first : allocator.first_free_cluster ≡ 0
     pub passed : (k : ℕ) → ¬ IsPassed allocator k
@@ -167,8 +167,8 @@ module _ {S : Type 0} (view : S → StorageView) where
   -- ---- on a sound image
 
   -- A cluster is allocated, or it is in use.
-  pub record TakesOneSoundly (p : Pending) (is_data : Bool) (allocator : Allocator) (old : ImageFile S) (allocator' : Allocator) (new : ImageFile S) (cluster : ℕ) (result : Result Bool ImageError) : Type 0 where
-    pub takes : TakesOne view p old allocator' new is_data cluster result
+  pub record AllocatesGivenSoundly (p : Pending) (is_data : Bool) (allocator : Allocator) (old : ImageFile S) (allocator' : Allocator) (new : ImageFile S) (cluster : ℕ) (result : Result Bool ImageError) : Type 0 where
+    pub takes : AllocatesGiven view p old allocator' new is_data cluster result
     pub fault : IfErr result IsFault
     pub used : NoFreeBelowHint view allocator old → (HasNone allocator.reftable (cluster / counts_per_block old.header.fields) → ⊥) → IfOk result (λ taken. taken ≡ false → IsUsed view new cluster)
     pub free : IfOk result (λ taken. IsTrue taken → ¬ IsUsed view old cluster)
@@ -185,8 +185,8 @@ module _ {S : Type 0} (view : S → StorageView) where
     pub fault : cluster / counts_per_block old.header.fields < entry_count allocator.reftable → IsHostCluster old.header.fields.cluster_bits cluster → IfErr result IsFault
 
   -- A cluster is allocated, or it is in use. Its range may get a refblock first, and the reftable an entry.
-  pub record TakesSoundly (p : Pending) (is_data : Bool) (allocator : Allocator) (old : ImageFile S) (allocator' : Allocator) (new : ImageFile S) (cluster : ℕ) (result : Result Bool ImageError) : Type 0 where
-    pub takes : TakesCluster view p old allocator' new (pending_then p old.free_list new.free_list) is_data cluster result
+  pub record AllocatesClusterSoundly (p : Pending) (is_data : Bool) (allocator : Allocator) (old : ImageFile S) (allocator' : Allocator) (new : ImageFile S) (cluster : ℕ) (result : Result Bool ImageError) : Type 0 where
+    pub takes : AllocatesCluster view p old allocator' new (pending_then p old.free_list new.free_list) is_data cluster result
     pub leaks : SameLeaks allocator allocator'
     pub listed : ListsUsed view old new
     pub uses : KeepsUsed view old new result
@@ -204,8 +204,8 @@ module _ {S : Type 0} (view : S → StorageView) where
     pub hint : NoFreeBelowHint view allocator old → NoFreeBelowHint view allocator' new
 
   -- The n clusters of a run are allocated, or none if one of them is in use.
-  pub record TakesRunSoundly (p : Pending) (is_data : Bool) (allocator : Allocator) (old : ImageFile S) (allocator' : Allocator) (new : ImageFile S) (first n : ℕ) (result : Result ℕ ImageError) : Type 0 where
-    pub takes : TakesRun view p old allocator' new (pending_then p old.free_list new.free_list) is_data first n result
+  pub record AllocatesRunSoundly (p : Pending) (is_data : Bool) (allocator : Allocator) (old : ImageFile S) (allocator' : Allocator) (new : ImageFile S) (first n : ℕ) (result : Result ℕ ImageError) : Type 0 where
+    pub takes : AllocatesRun view p old allocator' new (pending_then p old.free_list new.free_list) is_data first n result
     pub leaks : SameLeaks allocator allocator'
     pub uses : KeepsUsed view old new result
     pub used : NoFreeBelowHint view allocator old → IfOk result (λ taken. taken ≢ n → IsUsed view new (first + taken))
@@ -213,16 +213,16 @@ module _ {S : Type 0} (view : S → StorageView) where
     pub limit : NoFreeBelowHint view allocator old → first + n ≤ nameable_clusters old.header.fields → IfErr result (IsFaultOr (CantCountRun (IsUsed view new) new.header.fields allocator' first n))
 
   -- The lowest free run of n clusters is allocated, and the result says where it begins; or there is none.
-  pub record TakesLowestSoundly {A : Type 0} (Takes : Type 0) (first_of : A → ℕ) (n : ℕ) (allocator : Allocator) (old : ImageFile S) (allocator' : Allocator) (new : ImageFile S) (result : Result A ImageError) : Type 0 where
+  pub record AllocatesLowestSoundly {A : Type 0} (Takes : Type 0) (first_of : A → ℕ) (n : ℕ) (allocator : Allocator) (old : ImageFile S) (allocator' : Allocator) (new : ImageFile S) (result : Result A ImageError) : Type 0 where
     pub takes : Takes
     pub uses : OnOk result (StaysUsed view old new)
     pub hint : NoFreeBelowHint view allocator old → KeepsNoFreeBelowHint view allocator' new result
     pub lowest : NoFreeBelowHint view allocator old → IfOk result (λ run. IsLowestRun (IsUsed view new) (first_of run) n)
     pub limit : NoFreeBelowHint view allocator old → 0 < n → IfErr result (IsFaultOr (HasNoPlace (IsUsed view new) new.header.fields allocator' n))
 
-  -- A public allocation takes the lowest free run of n clusters, or there is none. No other cluster is allocated, except for refblocks and reftables, and none is leaked.
+  -- A public allocation returns the lowest free run of n clusters, or there is none. No other cluster is allocated, except for refblocks and reftables, and none is leaked.
   pub record AllocatesSoundly (p : Pending) (kind : ClusterKind) (n : ℕ) (allocator : Allocator) (old : ImageFile S) (allocator' : Allocator) (new : ImageFile S) (result : Result ClustersToFreeEntry ImageError) : Type 0 where
-    pub found : TakesLowestSoundly (Allocates view p old allocator' new (pending_then p old.free_list new.free_list) kind n result) (λ run. run.first_cluster) n allocator old allocator' new result
+    pub found : AllocatesLowestSoundly (Allocates view p old allocator' new (pending_then p old.free_list new.free_list) kind n result) (λ run. run.first_cluster) n allocator old allocator' new result
     pub leaks : SameLeaks allocator allocator'
     pub made : AllocatesOnly view run_of (IsMadeInTurn old.header.fields allocator.reftable allocator'.reftable old.free_list new.free_list) old new result
 
@@ -258,9 +258,9 @@ module _ {S : Type 0} (view : S → StorageView) where
     pub lowest : NoFreeBelowHint view allocator old → OnOk result (LiesLowest (IsUsed view new) new.header.fields allocator.reftable allocator'.reftable)
     pub limit : NoFreeBelowHint view allocator old → IfErr result (IsFaultOr ((allocator'.reftable ≡ allocator.reftable) × CantGrow (IsUsed view new) new.header.fields (λ k. 0) allocator.reftable index))
 
-  -- The first room for so many clusters of a reftable, below an end, is allocated; or there is none.
-  pub record TakesRoomSoundly (p : Pending) (clusters end : ℕ) (allocator : Allocator) (old : ImageFile S) (allocator' : Allocator) (new : ImageFile S) (result : Result Room ImageError) : Type 0 where
-    pub takes : TakesRoom view p old allocator' new allocator.reftable result
+  -- The first room for this many clusters of a reftable, below an end, is allocated; or there is none.
+  pub record AllocatesRoomSoundly (p : Pending) (clusters end : ℕ) (allocator : Allocator) (old : ImageFile S) (allocator' : Allocator) (new : ImageFile S) (result : Result Room ImageError) : Type 0 where
+    pub takes : AllocatesRoom view p old allocator' new allocator.reftable result
     pub leaks : SameLeaks allocator allocator'
     pub lowest : NoFreeBelowHint view allocator old → IfOk result (λ room. IsLowestRoom (IsUsed view new) new.header.fields allocator.reftable clusters end room.first)
     pub limit : NoFreeBelowHint view allocator old → IfErr result (IsFaultOr (HasNoRoomBelow (IsUsed view new) new.header.fields (λ k. 0) allocator.reftable clusters end))
@@ -303,24 +303,24 @@ pub record FindsBlock {S : Type 0} (h : HeaderFields) (reftable : EntryTableView
 module _ {S : Type 0} where
   -- ---- what a call does to the reftable
 
-  -- The reftable has an entry of this index, no more entries than that needs, and lies behind cluster 0. A change is recorded.
+  -- The reftable has an entry of this index, no more entries than that needs, and lies past cluster 0. A change is recorded.
   pub record HasGrown (h : HeaderFields) (index : ℕ) (reftable reftable' : EntryTableView) (new : ImageFile S) : Type 0 where
     pub length : IsLeastLength (entry_count reftable) index (entries_per_cluster h) (counts_per_block h) (entry_count reftable')
     pub elsewhere : IfSome reftable'.cluster (λ c. 0 < c)
-    pub noted : IsTrue (has_noted new)
+    pub recorded : IsTrue (has_noted new)
 
   -- The reftable is the given table, with refblocks that it lacked. A change is recorded.
   pub record HasEntered (reftable table reftable' : EntryTableView) (new : ImageFile S) : Type 0 where
     pub count : entry_count reftable' ≡ entry_count table
     pub lacking : NamesLacking reftable table reftable'
-    pub noted : IsTrue (has_noted new)
+    pub recorded : IsTrue (has_noted new)
 
-  -- The reftable is the given table. If it has whole clusters, it fills them, and it lies behind cluster 0.
+  -- The reftable is the given table. If it has whole clusters, it fills them, and it lies past cluster 0.
   pub record EntersTable (h : HeaderFields) (reftable table reftable' : EntryTableView) (new : ImageFile S) : Type 0 where
     pub entered : HasEntered reftable table reftable' new
     pub fills : entry_count table % entries_per_cluster h ≡ 0 → FillsClusters reftable'
 
-  -- The reftable lies in the room, behind its refblocks.
+  -- The reftable lies in the room, after its refblocks.
   pub record EntersRoom (reftable table reftable' : EntryTableView) (room : Room) (new : ImageFile S) : Type 0 where
     pub entered : HasEntered reftable table reftable' new
     pub place : reftable'.cluster ≡ Some (room.first + room.blocks)

@@ -29,10 +29,9 @@ failure_of (Err (StillInUse _)) = None
 failure_of (Err Memory) = None
 
 module _ {B K V : Type 0} (eq : K → K → Bool) where
-  -- What a change of the value under a key returns and leaves.
-  abbrev pub ChangesValue : {A : Type 0} → (V → A → V → Type 0) → K → Slot V → Cache B K V → Option A → Cache B K V → Type 0
-  ChangesValue applied key s old (Some a) new = (w : V) × applied s.value a w × (new ≡ with_entries old (set_at (eq key) old.entries w))
-  ChangesValue applied key s old None new = ⊥
+  -- What a change of the value v under a key returns and leaves.
+  abbrev pub ChangesValue : {A : Type 0} → (V → Option A → V → Type 0) → K → V → Cache B K V → Option A → Cache B K V → Type 0
+  ChangesValue applied key v old answer new = (w : V) × applied v answer w × (new ≡ with_entries old (set_at (eq key) old.entries w))
 
   -- What a flush of the entry under a key leaves there, and its error. The entry has the value and pins s.
   pub record FlushesAt {S E : Type 0} (steps : Steps S K V E) (key : K) (s : Slot V) (store : S) (old : Cache B K V) (failure : Option E) (after : S) (new : Cache B K V) : Type 0 where

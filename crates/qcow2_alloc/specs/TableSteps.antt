@@ -25,7 +25,7 @@ module _ {S V : Type 0} (view : S → StorageView) (cluster_bits : ℕ) (bytes :
   abbrev pub place_of_cluster : ℕ → ℕ
   place_of_cluster k = k * 2 ^ cluster_bits
 
-  -- Loading gives an unmodified table with the bytes of its cluster.
+  -- Loading returns an unmodified table with the bytes of its cluster.
   pub record LoadsTable (s : S) (k : ℕ) (v : V) (t : S) : Type 0 where
     pub unmodified : is_modified v ≡ false
     pub fits : IsFit v

@@ -15,7 +15,7 @@ use Rattle.qcow2_alloc.specs.ImageError.{IsFault}
 use Rattle.qcow2_alloc.specs.ImageFile.{RefusedFileStep}
 use Rattle.qcow2_alloc.specs.LowestRuns.{IsCovered, IsUsed, NoFreeBelowHint}
 use Rattle.qcow2_alloc.specs.TableCaches.{IsBlockOf}
-use Rattle.qcow2_alloc.specs.MetadataCaches.{known_of, rb_at, CacheInvariant, IsCountedAt, TellsZero}
+use Rattle.qcow2_alloc.specs.MetadataCaches.{known_of, rb_at, CacheInvariant, IsCountedAt, ReportsZero}
 use Rattle.qcow2_alloc.specs.declared.allocation.Allocator.{Allocator}
 use Rattle.qcow2_alloc.specs.declared.cache.MetadataCaches.{MetadataCaches}
 use Rattle.qcow2_alloc.specs.declared.error.ImageError.{ImageError}
@@ -35,16 +35,22 @@ pub record MovesOn (old new : Allocator) (from : ℕ) (result : Result ℕ Image
 abbrev pub SparedStayOut : Allocator → Allocator → Type 0
 SparedStayOut old new = (k : ℕ) → IsIn new.free k → IsIn old.free k ⊎ (IsIn old.named k → ⊥)
 
+-- Clusters that are not spared are added to the free runs. Nothing else of the allocator changes.
+pub record AddsFree (old new : Allocator) : Type 0 where
+  pub rest : new ≡ record old { free = new.free }
+  pub stays : (k : ℕ) → IsIn old.free k → IsIn new.free k
+  pub spared : SparedStayOut old new
+
 module _ {S : Type 0} where
   -- On sound caches, the n refcounts from this index on of a cached refblock are above 0.
-  abbrev pub TellsUsed : MetadataCaches S → ℕ → ℕ → ℕ → Type 0
-  TellsUsed caches block index n =
+  abbrev pub ReportsUsed : MetadataCaches S → ℕ → ℕ → ℕ → Type 0
+  ReportsUsed caches block index n =
       (h : HeaderFields) (p : Pending) (on_storage : Bytes) (c i : ℕ) → CacheInvariant h p caches on_storage → IsCountedAt h (known_of h caches on_storage) c block i → index ≤ i → i < index + n
       → count h (known_of h caches on_storage) c ≢ 0
 
   -- The n refcounts from this index on of a cached refblock are above 0. The next one is 0, or the refblock ends there.
-  abbrev pub TellsFirstFree : MetadataCaches S → ℕ → ℕ → ℕ → Type 0
-  TellsFirstFree caches block index n = IfSome (rb_at caches block) (λ b. index ≤ counts_of b → IsFirstZero b index (index + n))
+  abbrev pub ReportsFirstFree : MetadataCaches S → ℕ → ℕ → ℕ → Type 0
+  ReportsFirstFree caches block index n = IfSome (rb_at caches block) (λ b. index ≤ counts_of b → IsFirstZero b index (index + n))
 
   -- The refblock of the cluster's range is cached, and the refcount of `next` in it is 0, or the refblock is not one of such an image.
   abbrev pub IsHeldFree : HeaderFields → EntryTableView → MetadataCaches S → ℕ → ℕ → Type 0
@@ -52,20 +58,20 @@ module _ {S : Type 0} where
       (block : ℕ) × (b : RefBlockView) × NamesBlock h reftable (cluster / counts_per_block h) (Some block) × (rb_at caches block ≡ Some b) × (IsBlockOf h b → count_at b (next % counts_per_block h) ≡ 0)
 
   -- A search that started at a cluster continues at another: at the same one if its range has no refblock, where a range begins, or at a refcount of 0.
-  abbrev pub GoesFar : HeaderFields → EntryTableView → MetadataCaches S → ℕ → ℕ → Type 0
-  GoesFar h reftable caches cluster next = ((next ≡ cluster) × HasNone reftable (cluster / counts_per_block h)) ⊎ (next % counts_per_block h ≡ 0) ⊎ IsHeldFree h reftable caches cluster next
+  abbrev pub SearchContinuesAt : HeaderFields → EntryTableView → MetadataCaches S → ℕ → ℕ → Type 0
+  SearchContinuesAt h reftable caches cluster next = ((next ≡ cluster) × HasNone reftable (cluster / counts_per_block h)) ⊎ (next % counts_per_block h ≡ 0) ⊎ IsHeldFree h reftable caches cluster next
 
-  -- A search that started at a cluster continues at another: as far as the refcounts allow, or at one that is not remembered as in use.
-  abbrev pub GoesFarIn : HeaderFields → Allocator → MetadataCaches S → ℕ → ℕ → Type 0
-  GoesFarIn h allocator caches cluster next = GoesFar h allocator.reftable caches cluster next ⊎ (IsCovered allocator next → ⊥)
+  -- A search that started at a cluster continues at another: where the refcounts allow, or at one that is not remembered as in use.
+  abbrev pub SearchContinuesIn : HeaderFields → Allocator → MetadataCaches S → ℕ → ℕ → Type 0
+  SearchContinuesIn h allocator caches cluster next = SearchContinuesAt h allocator.reftable caches cluster next ⊎ (IsCovered allocator next → ⊥)
 
   -- The cluster is spared, or it lies in a range and its refcount in a cached refblock is above 0.
   abbrev pub IsFoundUsed : Allocator → MetadataCaches S → ℕ → ℕ → ℕ → ℕ → Type 0
-  IsFoundUsed allocator caches block first end k = IsIn allocator.named k ⊎ ((first ≤ k) × (k < end) × TellsUsed caches block (k - first) 1)
+  IsFoundUsed allocator caches block first end k = IsIn allocator.named k ⊎ ((first ≤ k) × (k < end) × ReportsUsed caches block (k - first) 1)
 
   -- The clusters from `at` up to `end` have refcount 0 in a cached refblock of the range that begins at `first`.
   abbrev pub AreFoundFree : MetadataCaches S → ℕ → ℕ → ℕ → ℕ → Type 0
-  AreFoundFree caches block first at end = (k : ℕ) → at ≤ k → k < end → TellsZero caches block (k - first) true
+  AreFoundFree caches block first at end = (k : ℕ) → at ≤ k → k < end → ReportsZero caches block (k - first) true
 
   module _ (view : S → StorageView) where
     -- The clusters between two are in use.
@@ -81,8 +87,3 @@ module _ {S : Type 0} where
     abbrev pub PassesKnown : Pending → Allocator → ImageFile S → Allocator → ImageFile S → ℕ → Result ℕ ImageError → Type 0
     PassesKnown p allocator old allocator' new from (Ok next) = InternalAllocatorStep view p old allocator' new p × (NoFreeBelowHint view allocator old → AreUsed new from next)
     PassesKnown p allocator old allocator' new from (Err e) = IsFault e × RefusedFileStep view p old allocator' new e
-
-    -- A search that started at one cluster continues at another, and all clusters between them are in use; or a fault ended it.
-    abbrev pub PassesUsed : Pending → ImageFile S → Allocator → ImageFile S → ℕ → Result ℕ ImageError → Type 0
-    PassesUsed p old allocator' new from (Ok next) = InternalAllocatorStep view p old allocator' new p × AreUsed new from next
-    PassesUsed p old allocator' new from (Err e) = IsFault e × RefusedFileStep view p old allocator' new e

@@ -70,7 +70,7 @@ module _ {K : Type 0} where
   first_marked [] = None
   first_marked (u ∷ us) = cond u.1 (Some u.0) (first_marked us)
 
-  -- The keys behind the one that passes the test.
+  -- The keys after the one that passes the test.
   abbrev pub behind : {X : Type 0} → (K → Bool) → List (K × X) → List (K × X)
   behind test [] = []
   behind test (u ∷ us) = cond (test u.0) us (behind test us)

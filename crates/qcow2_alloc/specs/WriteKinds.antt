@@ -1,4 +1,4 @@
--- The kind of the next writes, as the image's storage was told.
+-- The kind of the next writes, as it was set at the image's storage.
 use Rattle.std.specs.Prelude.{◌≡◌}
 use Rattle.qcow2_alloc.specs.declared.image_storage.ImageStorage.{ImageStorage}
 use Rattle.qcow2_alloc.specs.declared.image_storage.WriteKind.TheVariants.{Data, RefBlock, L2Table, Other}
@@ -6,17 +6,17 @@ use Rattle.qcow2_alloc.specs.ImageStorage.{kind_of}
 
 module _ {S : Type 0} where
   -- Bytes of a guest, also copied and zeroed ones.
-  abbrev pub IsToldData : ImageStorage S → Type 0
-  IsToldData s = kind_of s ≡ Data
+  abbrev pub HasDataKind : ImageStorage S → Type 0
+  HasDataKind s = kind_of s ≡ Data
 
   -- An L2 table of the cache.
-  abbrev pub IsToldL2Table : ImageStorage S → Type 0
-  IsToldL2Table s = kind_of s ≡ L2Table
+  abbrev pub HasL2TableKind : ImageStorage S → Type 0
+  HasL2TableKind s = kind_of s ≡ L2Table
 
   -- A refblock of the cache.
-  abbrev pub IsToldRefBlock : ImageStorage S → Type 0
-  IsToldRefBlock s = kind_of s ≡ RefBlock
+  abbrev pub HasRefBlockKind : ImageStorage S → Type 0
+  HasRefBlockKind s = kind_of s ≡ RefBlock
 
   -- Everything else: the bytes of a new table, an entry of the L1 table or the reftable, the header or a field of it, and emptying the storage.
-  abbrev pub IsToldOther : ImageStorage S → Type 0
-  IsToldOther s = kind_of s ≡ Other
+  abbrev pub HasOtherKind : ImageStorage S → Type 0
+  HasOtherKind s = kind_of s ≡ Other

@@ -2,10 +2,10 @@
 ghost use Rattle.std.specs.Prelude.{◌≡◌, false, ◌+◌, ◌-◌, ◌^◌, ◌<◌, ◌≤◌, Bool, IfOk, OnOk, OnErr, IsSome, IsTrue, MatchResult};
 ghost use Rattle.qcow2_laws.specs.Clusters.{L2DependsOnRb};
 ghost use Rattle.qcow2_laws.specs.CrashInvariant.{Pending};
-ghost use Rattle.qcow2_alloc.specs.Allocation.{MayTake, TakesSomeRun, is_data, Allocates, SameLeaks};
+ghost use Rattle.qcow2_alloc.specs.Allocation.{MayAllocate, AllocatesSomeRun, is_data, Allocates, SameLeaks};
 ghost use Rattle.qcow2_alloc.specs.FreeList.{pending_then};
-ghost use Rattle.qcow2_alloc.specs.Steps.{Fails, FileStep, TakesSoundly, TakesRunSoundly, DataStep, AllocatesAtSoundly};
-ghost use Rattle.qcow2_alloc.specs.Steps.{AllocatesSoundly, BeginsFrom, ReadsFile, TakesLowestSoundly};
+ghost use Rattle.qcow2_alloc.specs.Steps.{Fails, FileStep, AllocatesClusterSoundly, AllocatesRunSoundly, DataStep, AllocatesAtSoundly};
+ghost use Rattle.qcow2_alloc.specs.Steps.{AllocatesSoundly, BeginsFrom, ReadsFile, AllocatesLowestSoundly};
 ghost use Rattle.qcow2_alloc.specs.ImageError.{IsOfTables};
 ghost use Rattle.qcow2_alloc.specs.ImageFile.{view_in, contents_in, AllocatorInvariant};
 ghost use Rattle.qcow2_alloc.specs.LoadedTables.{IsReasonAgainstReftable, ReftableReads};
@@ -42,7 +42,7 @@ pub struct Allocator {
 #[tactic(auto, using(crate::proofs::TableErrors::storage_of_tables, crate::proofs::TableErrors::metadata_of_tables, crate::proofs::TableErrors::cache_of_tables))]
 impl Allocator {
     /// Loads the reftable. Refused 4 (unaligned table) if its offset is not aligned, 13 (limit) if it would end past 64 bits,
-    /// 19 (metadata) if an entry has a reserved bit, and 14 (memory) and 15 (storage) if the work meets them.
+    /// 19 (metadata) if an entry has a reserved bit, and 14 (memory) or 15 (storage) during the work.
     pub fn new<S: Storage>(file: &mut ImageFile<S>) -> Result<Allocator, ImageError>
         ensures step { ReadsFile S.view file.old file.new }
         ensures fails { Fails S.view file.old.storage file.new.storage result IsOfTables }
@@ -50,7 +50,7 @@ impl Allocator {
             → MatchResult result (λ allocator. ReftableReads file.old.header.fields (contents_in S.view file.old))
             (IsReasonAgainstReftable file.old.header.fields (contents_in S.view file.old)) }
         ensures begins { IfOk result (BeginsFrom S.view file.old file.new) }
-        ensures unnoted { SameNotes file.old.storage file.new.storage }
+        ensures unrecorded { SameNotes file.old.storage file.new.storage }
     {
         let bits = file.header.cluster_bits();
         let Some(cluster) = file.header.reftable_offset().checked_cluster(bits) else {
@@ -72,10 +72,10 @@ impl Allocator {
     }
 
     /// Loads the reftable again, and starts the search for free clusters at cluster 0 again. The count of leaked clusters stays the same. Refused
-    /// as `new` is, and then the allocator stays the same.
+    /// as `new` is; the allocator is then unchanged.
     pub fn load_anew<S: Storage>(&mut self, file: &mut ImageFile<S>) -> Result<(), ImageError>
         ensures step { ReadsFile S.view file.old file.new }
-        ensures unnoted { SameNotes file.old.storage file.new.storage }
+        ensures unrecorded { SameNotes file.old.storage file.new.storage }
         ensures fails { Fails S.view file.old.storage file.new.storage result IsOfTables }
         ensures why { (view_in S.view file.old).is_honest
             → MatchResult result (λ done. ReftableReads file.old.header.fields (contents_in S.view file.old))
@@ -106,15 +106,15 @@ impl Allocator {
 
     /// Allocates the lowest free run of `count` clusters for metadata. The count must be at least 1.
     /// Refused 13 (limit) if there is no such run up to the greatest host offset, for no clusters, or if there is no room for a refblock or a
-    /// longer reftable that is needed. Refused 4 (unaligned table) if the entry of a needed refblock is not aligned. Refused
-    /// 8 (everything is in use) by a cache without room for a refblock, and 14 (memory) and 15 (storage) if the work meets them.
+    /// longer reftable that is needed. Refused 4 (unaligned table) if the entry of a needed refblock is not aligned, 8 (everything is in use) if
+    /// the cache has no room for a refblock, and 14 (memory) or 15 (storage) during the work.
     pub fn allocate_meta<S: Storage>(
         &mut self,
         file: &mut ImageFile<S>,
         count: ClusterCount,
     ) -> Result<PendingClusters, ImageError>
         ensures step { FileStep S.view self.old.reftable file.old self.new.reftable file.new }
-        ensures noted { OnOk result (IsTrue file.new.caches.is_changed) }
+        ensures recorded { OnOk result (IsTrue file.new.caches.is_changed) }
         ensures sound { (p : Pending) → AllocatorInvariant S.view self.old p file.old
             → AllocatesSoundly S.view p ClusterKind.Metadata count self.old file.old self.new file.new result }
         ensures nameable { IfOk result (λ p. IsHostCluster file.old.header.fields.cluster_bits p.first_cluster) }
@@ -133,7 +133,7 @@ impl Allocator {
     ) -> Result<PendingClusters, ImageError>
         ensures step { DataStep S.view self.old.reftable file.old self.new.reftable file.new }
         ensures order { OnOk result (order_of file.new.caches ≡ L2DependsOnRb) }
-        ensures noted { OnOk result (IsTrue file.new.caches.is_changed) }
+        ensures recorded { OnOk result (IsTrue file.new.caches.is_changed) }
         ensures sound { (p : Pending) → AllocatorInvariant S.view self.old p file.old
             → AllocatesSoundly S.view p ClusterKind.Data count self.old file.old self.new file.new result }
         ensures nameable { IfOk result (λ p. IsHostCluster file.old.header.fields.cluster_bits p.first_cluster) }
@@ -144,7 +144,7 @@ impl Allocator {
         self.allocate(file, count, ClusterKind::Data)
     }
 
-    /// Allocates exactly this cluster for data. None if it is cluster 0, is in use, or passes a limit: the greatest offset of a host
+    /// Allocates exactly this cluster for data. None if the cluster is 0, is in use, or passes a limit: the greatest offset of a host
     /// cluster, or the last entry that a reftable may have. From then on refblocks are written before L2 tables. Refused as
     /// `allocate_meta` is, with 13 (limit) if there is no room for a refblock or a longer reftable.
     pub fn allocate_data_at<S: Storage>(
@@ -154,7 +154,7 @@ impl Allocator {
     ) -> Result<Option<PendingClusters>, ImageError>
         ensures step { DataStep S.view self.old.reftable file.old self.new.reftable file.new }
         ensures order { OnOk result (order_of file.new.caches ≡ L2DependsOnRb) }
-        ensures noted { IfOk result (λ run. IsSome run → IsTrue file.new.caches.is_changed) }
+        ensures recorded { IfOk result (λ run. IsSome run → IsTrue file.new.caches.is_changed) }
         ensures sound { (p : Pending) → AllocatorInvariant S.view self.old p file.old
             → AllocatesAtSoundly S.view p cluster self.old file.old self.new file.new result }
         ensures nameable { IfOk result (λ run. IsSome run → IsHostCluster file.old.header.fields.cluster_bits cluster) }
@@ -177,7 +177,7 @@ impl Allocator {
         let Ok(pending) = ClustersToFreeList::pending_guard(file.alloc, entry) else {
             return Err(ImageError::Memory);
         };
-        match self.take(file, cluster.value()) {
+        match self.allocate_cluster(file, cluster.value()) {
             Ok(true) => Ok(Some(pending)),
             Ok(false) => {
                 pending.make_persistent();
@@ -198,9 +198,9 @@ impl Allocator {
         kind: ClusterKind,
     ) -> Result<PendingClusters, ImageError>
         ensures step { FileStep S.view self.old.reftable file.old self.new.reftable file.new }
-        ensures noted { OnOk result (IsTrue file.new.caches.is_changed) }
-        ensures sound { (p : Pending) → AllocatorInvariant S.view self.old p file.old → MayTake (is_data kind) file.old
-            → TakesLowestSoundly S.view
+        ensures recorded { OnOk result (IsTrue file.new.caches.is_changed) }
+        ensures sound { (p : Pending) → AllocatorInvariant S.view self.old p file.old → MayAllocate (is_data kind) file.old
+            → AllocatesLowestSoundly S.view
             (Allocates S.view p file.old self.new file.new
             (pending_then p file.old.free_list file.new.free_list) kind count result)
             (λ run. run.first_cluster) count self.old file.old self.new file.new result }
@@ -229,10 +229,10 @@ impl Allocator {
     // Allocates the lowest free run of n clusters below the greatest offset. Cluster 0 is the header's, whatever its refcount is.
     fn lowest_run<S: Storage>(&mut self, file: &mut ImageFile<S>, n: u64) -> Result<u64, ImageError>
         ensures step { FileStep S.view self.old.reftable file.old self.new.reftable file.new }
-        ensures noted { OnOk result (IsTrue file.new.caches.is_changed) }
+        ensures recorded { OnOk result (IsTrue file.new.caches.is_changed) }
         ensures sound { (p : Pending) (is_data : Bool) → AllocatorInvariant S.view self.old p file.old
-            → MayTake is_data file.old → TakesLowestSoundly S.view
-            (TakesSomeRun S.view p file.old self.new file.new
+            → MayAllocate is_data file.old → AllocatesLowestSoundly S.view
+            (AllocatesSomeRun S.view p file.old self.new file.new
             (pending_then p file.old.free_list file.new.free_list) is_data n result)
             (λ first. first) n self.old file.old self.new file.new result }
         ensures nameable { IfOk result (λ first. IsHostCluster file.old.header.fields.cluster_bits first) }
@@ -247,10 +247,10 @@ impl Allocator {
     // Allocates the lowest free run from the first free cluster on.
     fn search_run<S: Storage>(&mut self, file: &mut ImageFile<S>, n: u64) -> Result<u64, ImageError>
         ensures step { FileStep S.view self.old.reftable file.old self.new.reftable file.new }
-        ensures noted { OnOk result (IsTrue file.new.caches.is_changed) }
+        ensures recorded { OnOk result (IsTrue file.new.caches.is_changed) }
         ensures sound { (p : Pending) (is_data : Bool) → AllocatorInvariant S.view self.old p file.old
-            → MayTake is_data file.old → TakesLowestSoundly S.view
-            (TakesSomeRun S.view p file.old self.new file.new
+            → MayAllocate is_data file.old → AllocatesLowestSoundly S.view
+            (AllocatesSomeRun S.view p file.old self.new file.new
             (pending_then p file.old.free_list file.new.free_list) is_data n result)
             (λ first. first) n self.old file.old self.new file.new result }
         ensures nameable { IfOk result (λ first. IsHostCluster file.old.header.fields.cluster_bits first) }
@@ -271,8 +271,8 @@ impl Allocator {
         Err(ImageError::Limit)
     }
 
-    // Allocates the n clusters from `first` on, as `allocate_run` does. If `room_from` finds one that is remembered as in use, none is allocated,
-    // and the result is how many lie before it.
+    // Allocates the n clusters from `first` on, as `allocate_run` does. If `room_from` finds a cluster that is remembered as in use, none is
+    // allocated, and the result is the number of clusters before it.
     fn try_run<S: Storage>(
         &mut self,
         file: &mut ImageFile<S>,
@@ -284,9 +284,9 @@ impl Allocator {
         ensures step { FileStep S.view self.old.reftable file.old self.new.reftable file.new }
         ensures fails { Fails S.view file.old.storage file.new.storage result IsOfTables }
         ensures sound { (p : Pending) (is_data : Bool) → AllocatorInvariant S.view self.old p file.old
-            → MayTake is_data file.old
-            → TakesRunSoundly S.view p is_data self.old file.old self.new file.new first n result }
-        ensures noted { IfOk result (λ taken. taken ≡ n → 0 < n → IsTrue file.new.caches.is_changed) }
+            → MayAllocate is_data file.old
+            → AllocatesRunSoundly S.view p is_data self.old file.old self.new file.new first n result }
+        ensures recorded { IfOk result (λ taken. taken ≡ n → 0 < n → IsTrue file.new.caches.is_changed) }
         ensures within { IfOk result (λ taken. taken ≤ n) }
     {
         let room = self.room_from(first, n);
@@ -296,7 +296,7 @@ impl Allocator {
         self.allocate_run(file, first, n)
     }
 
-    // Allocates the n clusters from `first` on. Returns n, or how many lie before one that is in use; those are freed again.
+    // Allocates the n clusters from `first` on, and returns n. If one is in use, those before it are freed again, and the result is their number.
     fn allocate_run<S: Storage>(
         &mut self,
         file: &mut ImageFile<S>,
@@ -308,13 +308,13 @@ impl Allocator {
         ensures step { FileStep S.view self.old.reftable file.old self.new.reftable file.new }
         ensures fails { Fails S.view file.old.storage file.new.storage result IsOfTables }
         ensures sound { (p : Pending) (is_data : Bool) → AllocatorInvariant S.view self.old p file.old
-            → MayTake is_data file.old
-            → TakesRunSoundly S.view p is_data self.old file.old self.new file.new first n result }
-        ensures noted { IfOk result (λ taken. taken ≡ n → 0 < n → IsTrue file.new.caches.is_changed) }
+            → MayAllocate is_data file.old
+            → AllocatesRunSoundly S.view p is_data self.old file.old self.new file.new first n result }
+        ensures recorded { IfOk result (λ taken. taken ≡ n → 0 < n → IsTrue file.new.caches.is_changed) }
         ensures within { IfOk result (λ taken. taken ≤ n) }
     {
         'taking: for taken in 0..n {
-            match self.take(file, first + taken) {
+            match self.allocate_cluster(file, first + taken) {
                 Ok(true) => {}
                 Ok(false) => {
                     self.give_back(file, first, taken)?;
@@ -331,8 +331,8 @@ impl Allocator {
         Ok(n)
     }
 
-    // Allocates a cluster if its refcount is 0. Makes the refblock that this needs, and a longer reftable if that needs one.
-    fn take<S: Storage>(
+    // Allocates a cluster if its refcount is 0. If its refcount has no refblock, makes one, and a longer reftable if that has no entry for it.
+    fn allocate_cluster<S: Storage>(
         &mut self,
         file: &mut ImageFile<S>,
         cluster: u64,
@@ -342,13 +342,13 @@ impl Allocator {
         ensures step { FileStep S.view self.old.reftable file.old self.new.reftable file.new }
         ensures fails { Fails S.view file.old.storage file.new.storage result IsOfTables }
         ensures sound { (p : Pending) (is_data : Bool) → AllocatorInvariant S.view self.old p file.old
-            → MayTake is_data file.old
-            → TakesSoundly S.view p is_data self.old file.old self.new file.new cluster result }
-        ensures noted { IfOk result (λ taken. IsTrue taken → IsTrue file.new.caches.is_changed) }
+            → MayAllocate is_data file.old
+            → AllocatesClusterSoundly S.view p is_data self.old file.old self.new file.new cluster result }
+        ensures recorded { IfOk result (λ taken. IsTrue taken → IsTrue file.new.caches.is_changed) }
     {
         self.ensure_refblock(file, cluster)?;
-        let taken = self.raise(file, cluster)?;
-        self.note_used(cluster, taken, file.header.rb_bits());
+        let taken = self.increment_refcount(file, cluster)?;
+        self.record_used(cluster, taken, file.header.rb_bits());
         if cluster == self.first_free_cluster {
             self.first_free_cluster = cluster + 1;
         }

@@ -7,7 +7,7 @@ ghost use Rattle.lru.specs.LruCache.{promoted};
 ghost use Rattle.qcow2_alloc.specs.AsyncLruCache.{cache_of, with_entries, value_at, is_pinned, can_pin, pin_at};
 ghost use Rattle.qcow2_alloc.specs.AsyncLruCache.{can_unpin, unpin_at, can_remove, oldest_free, pinned, pins_at};
 ghost use Rattle.qcow2_alloc.specs.AsyncLruCache.{IsInFront, KeepsOthers, OnlyOldestGoes, KeepsPins};
-ghost use Rattle.qcow2_alloc.specs.AsyncLruCacheBackend.{KeepsKnown, LaysOver};
+ghost use Rattle.qcow2_alloc.specs.AsyncLruCacheBackend.{KeepsKnown, OverlaysBytes};
 ghost use Rattle.qcow2_alloc.specs.CacheAnswers.{Invalidates, Flushes, FlushesKey, GetsNew, InsertsNew, Replaces};
 
 mod backend;
@@ -15,7 +15,7 @@ mod entries;
 mod error;
 mod slot;
 
-pub use backend::AsyncLruCacheBackend;
+pub use backend::{AsyncLruCacheBackend, CacheTypes, CachedValue};
 use entries::{
     evict_entry, evict_free, first_pinned, flush_all, flush_entry, insert_new, load_new,
     oldest_free, pinned_keys, replace_entry,
@@ -29,13 +29,13 @@ use std::marker::Model;
 
 /// A cache of at most `size` values, in the order of their use. A pinned value stays in the cache, and can be found.
 #[derive(Drop)]
-pub struct AsyncLruCache<B: AsyncLruCacheBackend> {
+pub struct AsyncLruCache<B: CacheTypes> {
     backend: B,
     size: usize,
     entries: LruCache<B::Key, Slot<B::Value>>,
 }
 
-impl<B: AsyncLruCacheBackend> Model for AsyncLruCache<B> {
+impl<B: CacheTypes> Model for AsyncLruCache<B> {
     ghost use Rattle.std.specs.Prelude.{◌≡◌, ◌≤◌, ◌^◌, ◌-◌, length};
     ghost use Rattle.qcow2_alloc.specs.AsyncLruCache.{Cache, cache_of};
 
@@ -96,7 +96,7 @@ impl<B: AsyncLruCacheBackend> AsyncLruCache<B> {
             × (B.steps self.old.backend).flushed store.old e.0 e.1.value w t) self.old.entries self.new.entries }
 
         // The bytes of the store, with the modified values laid over, stay the same.
-        ensures known { KeepsKnown B.Key.eq B.is_modified B.bytes
+        ensures known { KeepsKnown B.Key.eq B.Value.is_modified B.Value.bytes
             (B.stored self.old.backend) B.is_honest store.old self.old.entries store.new self.new.entries }
     {
         let _count = self.entries.len();
@@ -139,10 +139,10 @@ impl<B: AsyncLruCacheBackend> AsyncLruCache<B> {
 
         // The value is laid over the known bytes if it was taken. Otherwise they stay the same.
         ensures laid { IfSome value.old
-            (λ v. result ≡ Ok true → LaysOver B.Key.eq B.is_modified B.bytes
+            (λ v. result ≡ Ok true → OverlaysBytes B.Key.eq B.Value.is_modified B.Value.bytes
             (B.stored self.old.backend) B.is_honest key v store.old self.old.entries store.new self.new.entries) }
         ensures known { result ≢ Ok true
-            → KeepsKnown B.Key.eq B.is_modified B.bytes
+            → KeepsKnown B.Key.eq B.Value.is_modified B.Value.bytes
             (B.stored self.old.backend) B.is_honest store.old self.old.entries store.new self.new.entries }
     {
         let _count = self.entries.len();
@@ -234,7 +234,7 @@ impl<B: AsyncLruCacheBackend> AsyncLruCache<B> {
         ensures others { self.new ≡ with_entries self.old self.new.entries }
         ensures keeps { B.keeps store.old store.new }
         ensures pins { KeepsPins B.Key.eq self.old.entries self.new.entries }
-        ensures known { KeepsKnown B.Key.eq B.is_modified B.bytes
+        ensures known { KeepsKnown B.Key.eq B.Value.is_modified B.Value.bytes
             (B.stored self.old.backend) B.is_honest store.old self.old.entries store.new self.new.entries }
     {
         match flush_all(&self.backend, store, &mut self.entries) {
@@ -256,7 +256,7 @@ impl<B: AsyncLruCacheBackend> AsyncLruCache<B> {
             store.old self.old.entries result store.new self.new.entries) }
         ensures others { self.new ≡ with_entries self.old self.new.entries }
         ensures keeps { B.keeps store.old store.new }
-        ensures known { KeepsKnown B.Key.eq B.is_modified B.bytes
+        ensures known { KeepsKnown B.Key.eq B.Value.is_modified B.Value.bytes
             (B.stored self.old.backend) B.is_honest store.old self.old.entries store.new self.new.entries }
     {
         if !self.entries.contains(&key) {
@@ -338,8 +338,8 @@ impl<B: AsyncLruCacheBackend> AsyncLruCache<B> {
     pub fn peek_mut(&mut self, key: B::Key) -> Option<&mut B::Value>
         // The cache ends with the last value behind the result set under the key.
         ensures* writes_back { sem 𝓛 (LendsIf
-            (the_row B.row B.Key.row B.Value.row B.Error.row B.Store.row B.AsyncLruCacheBackend (record {})
-            (record { eq = B.Key.eq }) (record { hash_input = B.Key.hash_input })) B.Value.row self.entry result
+            (the_row B.row B.Key.row B.Value.row B.Error.row B.Store.row (record {}) (record { eq = B.Key.eq })
+            (record { hash_input = B.Key.hash_input }) B.Value.CachedValue) B.Value.row self.entry result
             (λ w. with_entries self.entry.now (set_at (B.Key.eq key) self.entry.now.entries w)) self.entry.now) }
         ensures distinct { IsDistinct B.Key.eq (keys_of self.old.entries) }
         ensures value { option_copied_mut result ≡ value_at (B.Key.eq key) self.old.entries }

@@ -1,26 +1,26 @@
 //! The caches of L2 tables and of refblocks, and which of them must be written first.
 ghost use Rattle.std.specs.Prelude.{◌≡◌, ◌⊎◌, ◌↔◌, ℕ, ◌+◌, ◌-◌, ◌^◌, ◌<◌, ◌≤◌, ◌==◌, IsSome, IsNone, IfSome};
 ghost use Rattle.std.specs.Prelude.{IfOk, IfErr, OnOk, IsTrue, IsFalse, false};
-ghost use Rattle.std.specs.Prelude.{option_copied};
+ghost use Rattle.std.specs.Prelude.{is_some, option_copied};
 ghost use Rattle.qcow2_metadata.specs.declared.header.HeaderFields.{HeaderFields};
 ghost use Rattle.qcow2_laws.specs.Caches.{IsFreeOf, AreClean};
 ghost use Rattle.qcow2_alloc.specs.ImageError.{IsOfTables, IsFault};
 ghost use Rattle.qcow2_alloc.specs.CountedChanges.{IsOneChange};
 ghost use Rattle.qcow2_alloc.specs.AsyncLruCache.{can_remove};
 ghost use Rattle.qcow2_alloc.specs.MetadataCaches.{l2_at, rb_at, l2_tables, refblocks};
-ghost use Rattle.qcow2_alloc.specs.MetadataCaches.{AreAllWritten, RefusesBy, TellsZero};
-ghost use Rattle.qcow2_alloc.specs.MetadataCaches.{MapsCachedEntry, ZeroesEntry, DiscardsEntry, NotesEntry};
-ghost use Rattle.qcow2_alloc.specs.MetadataCaches.{NotesHeld, ShowsKnown, TakesOff};
+ghost use Rattle.qcow2_alloc.specs.MetadataCaches.{AreAllWritten, RefusesBy, RefusesBlocksBy, RefusesTablesBy, ReportsZero, ReportsCount};
+ghost use Rattle.qcow2_alloc.specs.MetadataCaches.{MapsCachedEntry, ZeroesEntry, DiscardsEntry, RecordsEntry};
+ghost use Rattle.qcow2_alloc.specs.MetadataCaches.{RecordsHeld, ShowsKnown, EvictsTable};
 ghost use Rattle.qcow2_alloc.specs.CacheSteps.{CacheStep, TurnStep, KeepsSoundly, TablesGo, BlocksGo, FlushesL2, FlushesRb};
 ghost use Rattle.qcow2_alloc.specs.CacheSteps.{LoadStep, PutStep, HeldStep, GetsL2, GetsRb, PutsL2, PutsRb, PutsL2Soundly, PutsRbSoundly};
 ghost use Rattle.qcow2_alloc.specs.CacheSteps.{KeepsL2Written, KeepsRbWritten, KeepsBlocks, KeepsHeldBlocks, FlushesBlocks};
-ghost use Rattle.qcow2_alloc.specs.CacheSteps.{RemovesBlock, RaisesSoundly, LowersSoundly, AreNewCaches};
-ghost use Rattle.qcow2_alloc.specs.CacheSteps.{LoadRefusesBy, PutL2RefusesBy, PutRbRefusesBy, MakesWayForL2, MakesWayForRb, TurnsToRb, TurnsToL2};
+ghost use Rattle.qcow2_alloc.specs.CacheSteps.{RemovesBlock, IncrementsSoundly, DecrementsSoundly, AreNewCaches};
+ghost use Rattle.qcow2_alloc.specs.CacheSteps.{LoadRefusesBy, LoadRbRefusesBy, PutL2RefusesBy, PutRbRefusesBy, MakesWayForL2, MakesWayForRb, SwitchesToRb, SwitchesToL2};
 ghost use Rattle.qcow2_alloc.specs.Steps.{Fails};
-ghost use Rattle.qcow2_alloc.specs.ApartCaches.{ChangesTableApart, TakesOffApart};
+ghost use Rattle.qcow2_alloc.specs.ApartCaches.{ChangesTableApart, EvictsTableApart};
 ghost use Rattle.qcow2_metadata.specs.L2Table.{entries_of};
-ghost use Rattle.qcow2_alloc.specs.UsedCounts.{TellsUsed, TellsFirstFree};
-ghost use Rattle.qcow2_alloc.specs.TableChanges.{CountsMore, CountsLess, MapsHeldEntry, ZeroesHeldEntry, DiscardsHeldEntry};
+ghost use Rattle.qcow2_alloc.specs.UsedCounts.{ReportsUsed, ReportsFirstFree};
+ghost use Rattle.qcow2_alloc.specs.TableChanges.{CountsMore, CountsFirst, CountsLess, LeavesCount, MapsHeldEntry, ZeroesHeldEntry, DiscardsHeldEntry};
 ghost use Rattle.qcow2_alloc.specs.TableChanges.{LeavesEntry, CantMap};
 ghost use Rattle.qcow2_alloc.specs.CachePins.{l2_pins, CachesHaveRoom, SameTables, SetsPins};
 ghost use Rattle.qcow2_alloc.specs.CachePins.{IsInUseOrFault, LeavesPinned};
@@ -32,7 +32,7 @@ use crate::image_storage::one_more;
 use crate::table_cache::TableCache;
 use crate::{ImageError, ImageStorage};
 pub use backends::{L2CacheBackend, RefBlockCacheBackend};
-use changes::{DiscardEntry, Lower, MapEntry, NextZero, Raise, ZeroEntry};
+use changes::{Allocate, Decrement, DiscardEntry, Increment, MapEntry, NextZero, ZeroEntry};
 use image_access::Storage;
 use qcow2_metadata::{ClusterCount, Header, HostCluster, L2Table, RefBlock};
 use std::alloc::{AllocError, Global};
@@ -86,14 +86,14 @@ impl<S: Storage> MetadataCaches<S> {
     fn write_tables(&mut self, storage: &mut ImageStorage<S>) -> Result<(), ImageError>
         ensures step { CacheStep S.view storage.old self.old storage.new self.new }
         ensures fails { Fails S.view storage.old storage.new result IsOfTables }
-        ensures faults { (h : HeaderFields) → RefusesBy IsFault S.view storage.old self.old h result }
+        ensures faults { (h : HeaderFields) → RefusesTablesBy IsFault S.view storage.old self.old h result }
         ensures sound { TablesGo self.old → KeepsSoundly S.view storage.old self.old storage.new self.new }
         ensures flushes { FlushesL2 S.view storage.old self.old storage.new self.new result }
         ensures free { (size c : ℕ) → IsFreeOf size (l2_tables self.old) c → IsFreeOf size (l2_tables self.new) c }
     {
         storage.watch_faults();
         if let Err(refusal) = self.l2.flush(storage) {
-            return Err(storage.told(refusal.into()));
+            return Err(storage.refusal_to_report(refusal.into()));
         }
         Ok(())
     }
@@ -102,7 +102,7 @@ impl<S: Storage> MetadataCaches<S> {
     fn write_blocks(&mut self, storage: &mut ImageStorage<S>) -> Result<(), ImageError>
         ensures step { CacheStep S.view storage.old self.old storage.new self.new }
         ensures fails { Fails S.view storage.old storage.new result IsOfTables }
-        ensures faults { (h : HeaderFields) → RefusesBy IsFault S.view storage.old self.old h result }
+        ensures faults { (h : HeaderFields) → RefusesBlocksBy IsFault S.view storage.old self.old h result }
         ensures sound { BlocksGo self.old → KeepsSoundly S.view storage.old self.old storage.new self.new }
         ensures flushes { FlushesRb S.view storage.old self.old storage.new self.new result }
         ensures clean { AreClean (refblocks self.old) → AreClean (refblocks self.new) }
@@ -110,7 +110,7 @@ impl<S: Storage> MetadataCaches<S> {
     {
         storage.watch_faults();
         if let Err(refusal) = self.rb.flush(storage) {
-            return Err(storage.told(refusal.into()));
+            return Err(storage.refusal_to_report(refusal.into()));
         }
         Ok(())
     }
@@ -122,7 +122,7 @@ impl<S: Storage> MetadataCaches<S> {
         ensures fails { Fails S.view storage.old storage.new result IsOfTables }
         ensures faults { (h : HeaderFields) → RefusesBy IsFault S.view storage.old self.old h result }
         ensures sound { KeepsSoundly S.view storage.old self.old storage.new self.new }
-        ensures turns { TurnsToRb S.view storage.old self.old storage.new self.new result }
+        ensures turns { SwitchesToRb S.view storage.old self.old storage.new self.new result }
     {
         match self.direction {
             Direction::L2DependsOnRb => {}
@@ -142,7 +142,7 @@ impl<S: Storage> MetadataCaches<S> {
         ensures fails { Fails S.view storage.old storage.new result IsOfTables }
         ensures faults { (h : HeaderFields) → RefusesBy IsFault S.view storage.old self.old h result }
         ensures sound { KeepsSoundly S.view storage.old self.old storage.new self.new }
-        ensures turns { TurnsToL2 S.view storage.old self.old storage.new self.new result }
+        ensures turns { SwitchesToL2 S.view storage.old self.old storage.new self.new result }
     {
         match self.direction {
             Direction::RbDependsOnL2 => {}
@@ -180,7 +180,7 @@ impl<S: Storage> MetadataCaches<S> {
     pub fn flush_rb(&mut self, storage: &mut ImageStorage<S>) -> Result<(), ImageError>
         ensures step { CacheStep S.view storage.old self.old storage.new self.new }
         ensures fails { Fails S.view storage.old storage.new result IsOfTables }
-        ensures faults { (h : HeaderFields) → RefusesBy IsFault S.view storage.old self.old h result }
+        ensures faults { (h : HeaderFields) → RefusesBlocksBy IsFault S.view storage.old self.old h result }
         ensures sound { KeepsSoundly S.view storage.old self.old storage.new self.new }
         ensures flushes { FlushesBlocks S.view storage.old self.old storage.new self.new result }
     {
@@ -212,7 +212,7 @@ impl<S: Storage> MetadataCaches<S> {
     pub(crate) fn before_rb(&mut self, storage: &mut ImageStorage<S>) -> Result<(), ImageError>
         ensures step { CacheStep S.view storage.old self.old storage.new self.new }
         ensures fails { Fails S.view storage.old storage.new result IsOfTables }
-        ensures faults { (h : HeaderFields) → RefusesBy IsFault S.view storage.old self.old h result }
+        ensures faults { (h : HeaderFields) → RefusesTablesBy IsFault S.view storage.old self.old h result }
         ensures sound { KeepsSoundly S.view storage.old self.old storage.new self.new }
         ensures way { MakesWayForRb S.view storage.old self.old storage.new self.new result }
         ensures free { (size c : ℕ) → IsFreeOf size (l2_tables self.old) c → IsFreeOf size (l2_tables self.new) c }
@@ -255,7 +255,7 @@ impl<S: Storage> MetadataCaches<S> {
     ) -> Result<(), ImageError>
         ensures step { LoadStep S.view storage.old self.old storage.new self.new cluster }
         ensures fails { Fails S.view storage.old storage.new result IsOfTables }
-        ensures faults { CachesHaveRoom self.old → LoadRefusesBy S.view IsFault storage.old self.old cluster result }
+        ensures faults { CachesHaveRoom self.old → LoadRbRefusesBy S.view IsFault storage.old self.old cluster result }
         ensures sound { KeepsSoundly S.view storage.old self.old storage.new self.new }
         ensures gets { GetsRb S.view storage.old self.old storage.new self.new result cluster }
         ensures held { IsSome (rb_at self.old cluster) → KeepsBlocks storage.old self.old storage.new self.new }
@@ -307,7 +307,7 @@ impl<S: Storage> MetadataCaches<S> {
         requires { IsSome block.cluster }
         ensures step { PutStep S.view storage.old self.old storage.new self.new block.cluster }
         ensures fails { Fails S.view storage.old storage.new result IsOfTables }
-        ensures faults { CachesHaveRoom self.old → PutRbRefusesBy S.view IsFault storage.old self.old block result }
+        ensures faults { CachesHaveRoom self.old → PutRbRefusesBy S.view IsFault storage.old self.old result }
         ensures sound { PutsRbSoundly S.view storage.old self.old storage.new self.new result block }
         ensures puts { PutsRb S.view storage.old self.old storage.new self.new result block }
         ensures written { KeepsRbWritten block.is_modified self.old self.new result }
@@ -383,8 +383,8 @@ impl<S: Storage> MetadataCaches<S> {
         ensures cause { IfErr result IsOfTables }
         ensures left { LeavesPinned self.old.l2.entries result self.new.l2.entries }
         ensures blocks { refblocks self.new ≡ refblocks self.old }
-        ensures taken { TakesOff (AreClean (l2_tables self.old)) self.old self.new }
-        ensures taken_apart { TakesOffApart (AreClean (l2_tables self.old)) self.old self.new }
+        ensures taken { EvictsTable (AreClean (l2_tables self.old)) self.old self.new }
+        ensures taken_apart { EvictsTableApart (AreClean (l2_tables self.old)) self.old self.new }
     {
         self.l2.invalidate()?;
         Ok(())
@@ -397,8 +397,8 @@ impl<S: Storage> MetadataCaches<S> {
         ensures cause { IfErr result IsOfTables }
         ensures left { LeavesPinned self.old.rb.entries result self.new.rb.entries }
         ensures tables { l2_tables self.new ≡ l2_tables self.old }
-        ensures taken { TakesOff (AreClean (refblocks self.old)) self.old self.new }
-        ensures taken_apart { TakesOffApart (AreClean (refblocks self.old)) self.old self.new }
+        ensures taken { EvictsTable (AreClean (refblocks self.old)) self.old self.new }
+        ensures taken_apart { EvictsTableApart (AreClean (refblocks self.old)) self.old self.new }
     {
         self.rb.invalidate()?;
         Ok(())
@@ -420,7 +420,7 @@ impl<S: Storage> MetadataCaches<S> {
     }
 
     /// Starts to record anew whether a table is changed.
-    pub fn begin(&mut self)
+    pub fn begin_call(&mut self)
         ensures changed { IsFalse self.new.is_changed }
         ensures same { self.new ≡ record self.old { is_changed = false } }
         ensures tables { SameTables self.old self.new }
@@ -428,7 +428,17 @@ impl<S: Storage> MetadataCaches<S> {
         self.is_changed = false;
     }
 
-    /// Whether a table was changed since the last `begin`.
+    // Records a change of a table.
+    pub(crate) fn record_change(&mut self)
+        ensures step { HeldStep self.old self.new }
+        ensures recorded { IsOneChange self.new.is_changed self.old.changes self.new.changes }
+        ensures rest { self.new ≡ record self.old { is_changed = self.new.is_changed; changes = self.new.changes } }
+    {
+        self.is_changed = true;
+        self.changes = one_more(self.changes);
+    }
+
+    /// Whether a table was changed since the last `begin_call`.
     pub fn is_changed(&self) -> bool
         ensures { result ≡ self.now.is_changed }
     {
@@ -451,17 +461,12 @@ impl<S: Storage> MetadataCaches<S> {
     ) -> Option<(HostCluster, ClusterCount)>
         ensures step { HeldStep self.old self.new }
         ensures mapped { MapsCachedEntry self.old self.new cluster index host result }
-        ensures noted { NotesEntry self.old self.new cluster index host }
+        ensures recorded { RecordsEntry self.old self.new cluster index host }
         ensures entry { MapsHeldEntry self.old self.new cluster index host result }
         ensures apart { ChangesTableApart self.old self.new cluster }
         ensures refused { LeavesEntry self.old self.new cluster (CantMap index host) result }
     {
-        let table = self.l2.peek(cluster)?;
-        let bits = table.cluster_bits();
-        if index >= table.entries() || !host.is_nameable(bits) {
-            return None;
-        }
-        let old_data = self.l2.change(cluster, &MapEntry { index, host }).unwrap();
+        let old_data = self.l2.change(cluster, &MapEntry { index, host })?;
         self.is_changed = true;
         self.changes = one_more(self.changes);
         old_data
@@ -477,16 +482,12 @@ impl<S: Storage> MetadataCaches<S> {
     ) -> Option<(HostCluster, ClusterCount)>
         ensures step { HeldStep self.old self.new }
         ensures zeroed { ZeroesEntry self.old self.new cluster index keep result }
-        ensures noted { NotesHeld self.old self.new cluster index }
+        ensures recorded { RecordsHeld self.old self.new cluster index }
         ensures entry { ZeroesHeldEntry self.old self.new cluster index keep result }
         ensures apart { ChangesTableApart self.old self.new cluster }
         ensures refused { LeavesEntry self.old self.new cluster (λ t. entries_of t ≤ index) result }
     {
-        let table = self.l2.peek(cluster)?;
-        if index >= table.entries() {
-            return None;
-        }
-        let old_data = self.l2.change(cluster, &ZeroEntry { index, keep }).unwrap();
+        let old_data = self.l2.change(cluster, &ZeroEntry { index, keep })?;
         self.is_changed = true;
         self.changes = one_more(self.changes);
         old_data
@@ -500,66 +501,59 @@ impl<S: Storage> MetadataCaches<S> {
     ) -> Option<(HostCluster, ClusterCount)>
         ensures step { HeldStep self.old self.new }
         ensures discarded { DiscardsEntry self.old self.new cluster index result }
-        ensures noted { NotesHeld self.old self.new cluster index }
+        ensures recorded { RecordsHeld self.old self.new cluster index }
         ensures entry { DiscardsHeldEntry self.old self.new cluster index result }
         ensures apart { ChangesTableApart self.old self.new cluster }
         ensures refused { LeavesEntry self.old self.new cluster (λ t. entries_of t ≤ index) result }
     {
-        let table = self.l2.peek(cluster)?;
-        if index >= table.entries() {
-            return None;
-        }
-        let old_data = self.l2.change(cluster, &DiscardEntry { index }).unwrap();
+        let old_data = self.l2.change(cluster, &DiscardEntry { index })?;
         self.is_changed = true;
         self.changes = one_more(self.changes);
         old_data
     }
 
-    /// Whether a refcount of a cached refblock is 0.
-    pub fn rb_is_zero(&self, cluster: HostCluster, index: usize) -> bool
-        ensures { TellsZero self.now cluster index result }
-    {
-        match self.rb.peek(cluster) {
-            Some(block) => index < block.counts() && block.is_zero(index),
-            None => false,
-        }
-    }
-
     /// The number of refcounts above 0 in a cached refblock, from an index on up to the first one that is 0.
     pub fn rb_used_from(&mut self, cluster: HostCluster, index: usize) -> usize
-        ensures used { TellsUsed self.old cluster index result }
-        ensures first { TellsFirstFree self.old cluster index result }
+        ensures used { ReportsUsed self.old cluster index result }
+        ensures first { ReportsFirstFree self.old cluster index result }
         ensures same { self.new ≡ self.old }
     {
-        let Some(block) = self.rb.peek(cluster) else {
-            return 0;
-        };
-        if index > block.counts() {
-            return 0;
+        match self.rb.change(cluster, &NextZero { from: index }) {
+            Some(first) => first.saturating_sub(index),
+            None => 0,
         }
-        let first = self.rb.change(cluster, &NextZero { from: index }).unwrap();
-        first.saturating_sub(index)
     }
 
     /// Increments a refcount of a cached refblock. False if it is the greatest one.
     pub fn rb_increment(&mut self, cluster: HostCluster, index: usize) -> bool
         ensures step { HeldStep self.old self.new }
-        ensures sound { RaisesSoundly self.old self.new cluster index result }
+        ensures sound { IncrementsSoundly self.old self.new cluster index result }
         ensures counts { IfSome (rb_at self.old cluster) (λ b. CountsMore self.old self.new cluster index b result) }
-        ensures noted { IsTrue result → IsOneChange self.new.is_changed self.old.changes self.new.changes }
+        ensures recorded { IsTrue result → IsOneChange self.new.is_changed self.old.changes self.new.changes }
         ensures refused { IsFalse result → self.new ≡ self.old }
         ensures missing { IsNone (rb_at self.old cluster) → IsFalse result }
     {
-        let Some(block) = self.rb.peek(cluster) else {
+        let Some(()) = self.rb.change(cluster, &Increment { index }) else {
             return false;
         };
-        if index >= block.counts() {
+        self.is_changed = true;
+        self.changes = one_more(self.changes);
+        true
+    }
+
+    // Increments a refcount of 0 in a cached refblock. False if it is above 0.
+    pub(crate) fn rb_allocate(&mut self, cluster: HostCluster, index: usize) -> bool
+        ensures step { HeldStep self.old self.new }
+        ensures sound { IncrementsSoundly self.old self.new cluster index result }
+        ensures counts { IfSome (rb_at self.old cluster) (λ b. CountsFirst self.old self.new cluster index b result) }
+        ensures zero { ReportsZero self.old cluster index result }
+        ensures recorded { IsTrue result → IsOneChange self.new.is_changed self.old.changes self.new.changes }
+        ensures refused { IsFalse result → self.new ≡ self.old }
+        ensures missing { IsNone (rb_at self.old cluster) → IsFalse result }
+    {
+        let Some(()) = self.rb.change(cluster, &Allocate { index }) else {
             return false;
-        }
-        let raised = self.rb.change(cluster, &Raise { index }).unwrap();
-        if !raised {
-            return false;
-        }
+        };
         self.is_changed = true;
         self.changes = one_more(self.changes);
         true
@@ -568,25 +562,30 @@ impl<S: Storage> MetadataCaches<S> {
     /// Decrements a refcount of a cached refblock. False if it is 0.
     pub fn rb_decrement(&mut self, cluster: HostCluster, index: usize) -> bool
         ensures step { HeldStep self.old self.new }
-        ensures sound { LowersSoundly self.old self.new cluster index result }
+        ensures sound { DecrementsSoundly self.old self.new cluster index result }
         ensures counts { IfSome (rb_at self.old cluster) (λ b. CountsLess self.old self.new cluster index b result) }
-        ensures noted { IsTrue result → IsOneChange self.new.is_changed self.old.changes self.new.changes }
+        ensures recorded { IsTrue result → IsOneChange self.new.is_changed self.old.changes self.new.changes }
         ensures refused { IsFalse result → self.new ≡ self.old }
         ensures cached { IsTrue result → IsSome (rb_at self.new cluster) }
         ensures missing { IsNone (rb_at self.old cluster) → IsFalse result }
     {
-        let Some(block) = self.rb.peek(cluster) else {
-            return false;
-        };
-        if index >= block.counts() {
-            return false;
-        }
-        let lowered = self.rb.change(cluster, &Lower { index }).unwrap();
-        if !lowered {
-            return false;
-        }
+        self.rb_release(cluster, index).is_some()
+    }
+
+    // Decrements a refcount in a cached refblock, and returns the new one. None if it was 0.
+    pub(crate) fn rb_release(&mut self, cluster: HostCluster, index: usize) -> Option<u64>
+        ensures step { HeldStep self.old self.new }
+        ensures sound { DecrementsSoundly self.old self.new cluster index (is_some result) }
+        ensures counts { IfSome (rb_at self.old cluster) (λ b. LeavesCount self.old self.new cluster index b result) }
+        ensures left { IfSome result (ReportsCount self.new cluster index) }
+        ensures recorded { IsSome result → IsOneChange self.new.is_changed self.old.changes self.new.changes }
+        ensures refused { IsNone result → self.new ≡ self.old }
+        ensures cached { IsSome result → IsSome (rb_at self.new cluster) }
+        ensures missing { IsNone (rb_at self.old cluster) → IsNone result }
+    {
+        let left = self.rb.change(cluster, &Decrement { index })?;
         self.is_changed = true;
         self.changes = one_more(self.changes);
-        true
+        Some(left)
     }
 }

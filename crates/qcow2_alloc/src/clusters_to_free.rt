@@ -90,7 +90,7 @@ impl Model for ClustersToFreeList {
     ghost view = { λ l. reverse (entries_at l.newest) };
 }
 
-/// Clusters that are allocated and not referred to yet. They must be used up.
+/// Clusters that are allocated and not referred to yet. The value cannot be dropped: the clusters become permanent, or go back to a list.
 pub struct PendingClusters {
     node: Box<Node>,
 }
@@ -133,7 +133,7 @@ impl ClustersToFreeList {
         }
     }
 
-    /// Memory for a run of clusters that may go back to any list. Refused 14 (memory).
+    /// Memory for an entry of any list, with a run of clusters. Refused 14 (memory).
     pub fn pending_guard(
         alloc: Global,
         entry: ClustersToFreeEntry,
@@ -266,7 +266,7 @@ impl PendingClusters {
         self.node.entry.kind
     }
 
-    // Removes the first cluster from the run.
+    // Removes the first cluster of the run.
     pub(crate) fn drop_first(&mut self)
         ensures first { self.old.first_cluster + 1 < 2 ^ 64 → self.new.first_cluster ≡ self.old.first_cluster + 1 }
         ensures count { self.new.count ≡ self.old.count - 1 }

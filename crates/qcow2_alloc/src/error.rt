@@ -13,7 +13,7 @@ use std::io::ErrorKind;
 pub enum ImageError {
     /// 1 (read-only): the image was opened for reading.
     ReadOnly,
-    /// 2 (beyond size): the range is not empty and ends behind the disk's size.
+    /// 2 (beyond size): the range is not empty and ends past the disk's size.
     BeyondSize,
     /// 3 (version): the call needs version 3, and the image has version 2.
     Version,

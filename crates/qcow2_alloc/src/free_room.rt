@@ -7,8 +7,8 @@ ghost use Rattle.qcow2_alloc.specs.GrownTables.{with_run};
 ghost use Rattle.qcow2_alloc.specs.ImageError.{IsOfTables};
 ghost use Rattle.qcow2_alloc.specs.ImageFile.{AllocatorInvariant};
 ghost use Rattle.qcow2_alloc.specs.LowestRuns.{IsUsed, NoFreeBelowHint, SearchStays};
-ghost use Rattle.qcow2_alloc.specs.Rooms.{lacks, opens, IsReach, IsRoomBelow, TakesFree};
-ghost use Rattle.qcow2_alloc.specs.Steps.{Fails, TableStep, ReachesRoomSoundly, TakesRoomSoundly};
+ghost use Rattle.qcow2_alloc.specs.Rooms.{lacks, opens, IsReach, IsRoomBelow, AllocatesFree};
+ghost use Rattle.qcow2_alloc.specs.Steps.{Fails, TableStep, ReachesRoomSoundly, AllocatesRoomSoundly};
 ghost use Rattle.qcow2_alloc.specs.Steps.{LeavesSoundly};
 
 use crate::free_runs::range_around;
@@ -47,7 +47,7 @@ impl Allocator {
         ensures step { TableStep S.view self.old.reftable file.old self.new.reftable file.new }
         ensures fails { Fails S.view file.old.storage file.new.storage result IsOfTables }
         ensures sound { (p : Pending) → AllocatorInvariant S.view self.old p file.old
-            → TakesRoomSoundly S.view p clusters end self.old file.old self.new file.new result }
+            → AllocatesRoomSoundly S.view p clusters end self.old file.old self.new file.new result }
         ensures room { IfOk result (IsRoomBelow file.old.header.fields self.old.reftable clusters end file.new) }
         ensures reftable { self.new.reftable ≡ self.old.reftable }
         ensures first { SearchStays self.old self.new }
@@ -73,7 +73,7 @@ impl Allocator {
         ensures step { TableStep S.view self.old.reftable file.old self.new.reftable file.new }
         ensures fails { Fails S.view file.old.storage file.new.storage result IsOfTables }
         ensures sound { (p : Pending) → AllocatorInvariant S.view self.old p file.old
-            → TakesRoomSoundly S.view p clusters end self.old file.old self.new file.new result }
+            → AllocatesRoomSoundly S.view p clusters end self.old file.old self.new file.new result }
         ensures room { IfOk result (IsRoomBelow file.old.header.fields self.old.reftable clusters end file.new) }
         ensures reftable { self.new.reftable ≡ self.old.reftable }
         ensures first { SearchStays self.old self.new }
@@ -89,7 +89,7 @@ impl Allocator {
                 });
             }
             self.leave_run(file, first, reach.taken)?;
-            first = self.next_free_in_range(file, first + reach.taken + 1)?;
+            first = self.next_open(file, first + reach.taken + 1)?;
         }
         Err(ImageError::Limit)
     }
@@ -141,8 +141,8 @@ impl Allocator {
         ensures step { TableStep S.view self.old.reftable file.old self.new.reftable file.new }
         ensures same { self.new ≡ self.old }
         ensures sound { (p : Pending) → AllocatorInvariant S.view self.old p file.old
-            → TakesFree S.view p file.old self.new file.new self.old.reftable cluster result }
-        ensures noted { IfOk result (λ taken. IsTrue taken → lacks self.old.reftable (cluster / 2 ^ bits) ≡ false
+            → AllocatesFree S.view p file.old self.new file.new self.old.reftable cluster result }
+        ensures recorded { IfOk result (λ taken. IsTrue taken → lacks self.old.reftable (cluster / 2 ^ bits) ≡ false
             → IsTrue file.new.caches.is_changed) }
         ensures fails { Fails S.view file.old.storage file.new.storage result IsOfTables }
         ensures used { (p : Pending) → AllocatorInvariant S.view self.old p file.old
@@ -155,7 +155,7 @@ impl Allocator {
         if self.lacks_block(cluster >> bits) {
             return Ok(true);
         }
-        match self.raise(file, cluster) {
+        match self.increment_refcount(file, cluster) {
             Ok(taken) => Ok(taken),
             Err(refusal) => {
                 if refusal.is_fault() {
@@ -187,7 +187,7 @@ impl Allocator {
         let bits = file.header.rb_bits();
         'leaving: for cluster in first..first + n {
             if !self.lacks_block(cluster >> bits) {
-                self.lower(file, cluster)?;
+                self.decrement_or_leak(file, cluster)?;
             }
         }
         Ok(())

@@ -10,7 +10,7 @@ use qcow2_metadata::HostCluster;
 /// The greatest number of runs of free clusters, and of runs of clusters whose refcounts were read.
 pub(crate) const MOST_KNOWN: usize = 1 << 18;
 
-// The range of clusters that share a refblock with this one: the first of them, and the one behind the last.
+// The range of clusters that share a refblock with this one: the first of them, and the one after the last.
 pub(crate) fn range_around(cluster: u64, bits: u32) -> (u64, u64)
     requires { bits < 64 }
     ensures from { result.0 ≤ cluster }
@@ -79,7 +79,7 @@ impl Allocator {
 
     // Records that the cluster is free now. If its range was read, the cluster is added to a free run there, or the range is forgotten if
     // there is no room.
-    pub(crate) fn note_free(&mut self, cluster: u64, bits: u32)
+    pub(crate) fn record_free(&mut self, cluster: u64, bits: u32)
         requires { bits < 64 }
         ensures kept { KeepsRuns self.old self.new NoCluster }
         ensures open { IsCovered self.new cluster → ⊥ }
@@ -95,7 +95,7 @@ impl Allocator {
 
     // Records that the cluster is in use now, and removes it from its free run. The range is forgotten if the refcount was not 0 although
     // the cluster lay in a free run, or if there is no room to split the run.
-    pub(crate) fn note_used(&mut self, cluster: u64, was_free: bool, bits: u32)
+    pub(crate) fn record_used(&mut self, cluster: u64, was_free: bool, bits: u32)
         requires { bits < 64 }
         ensures kept { KeepsRuns self.old self.new (λ k. k ≡ cluster) }
         ensures gone { IsIn self.new.free cluster → ⊥ }

@@ -4,14 +4,15 @@ ghost use Rattle.qcow2_metadata.specs.Header.{counts_per_block};
 ghost use Rattle.qcow2_laws.specs.Changes.{one_at};
 ghost use Rattle.qcow2_laws.specs.CrashInvariant.{Pending};
 ghost use Rattle.qcow2_alloc.specs.Allocation.{run_at, taken_as, IsUnaligned, MayFree, Owed, listed_as, owed_as};
-ghost use Rattle.qcow2_alloc.specs.Allocation.{MayLower, SameLeaks, Frees, LowersOne, GivesBack, GivesBackRun};
+ghost use Rattle.qcow2_alloc.specs.Allocation.{MayDecrement, SameLeaks, Frees, DecrementsOne, GivesBack, GivesBackRun};
 ghost use Rattle.qcow2_alloc.specs.FreeList.{run_of, with_listed, but, GoOffInOrder};
-ghost use Rattle.qcow2_alloc.specs.Leaks.{LeaksOne, LeaksUnaligned, TriesToLower, LowersOrLeaks};
+ghost use Rattle.qcow2_alloc.specs.FreeSteps.{FreesListed};
+ghost use Rattle.qcow2_alloc.specs.Leaks.{LeaksOne, LeaksUnaligned, TriesToDecrement, DecrementsOrLeaks};
 ghost use Rattle.qcow2_alloc.specs.LowestRuns.{NoFreeBelowHint, KeepsNoFreeBelowHint, KeepsUsedBut};
 ghost use Rattle.qcow2_alloc.specs.LowestRuns.{IsPassed, SearchStays};
 ghost use Rattle.qcow2_alloc.specs.ImageError.{IsOfTables};
 ghost use Rattle.qcow2_alloc.specs.ImageFile.{AllocatorInvariant};
-ghost use Rattle.qcow2_alloc.specs.Steps.{Fails, FreeStep, FreeStepInTurn, TableStep, GivesSoundly};
+ghost use Rattle.qcow2_alloc.specs.Steps.{Fails, FreeStepInTurn, TableStep, GivesSoundly};
 
 use crate::{Allocator, ClusterKind, ImageError, ImageFile, PendingClusters, TakenClusters};
 use image_access::Storage;
@@ -46,13 +47,13 @@ impl Allocator {
             return Ok(());
         }
         'lowering: for cluster in first..first + n {
-            self.lower(file, cluster)?;
+            self.decrement_or_leak(file, cluster)?;
         }
         Ok(())
     }
 
     // Decrements the refcount of a cluster. If it cannot be decremented, the cluster is counted as leaked.
-    pub(crate) fn lower<S: Storage>(
+    pub(crate) fn decrement_or_leak<S: Storage>(
         &mut self,
         file: &mut ImageFile<S>,
         cluster: u64,
@@ -61,11 +62,11 @@ impl Allocator {
         ensures reftable { self.new.reftable ≡ self.old.reftable }
         ensures first { self.old.first_free_cluster ≤ cluster → SearchStays self.old self.new }
         ensures sound { (p : Pending) (owed : Owed)
-            → AllocatorInvariant S.view self.old (owed_as owed p (one_at cluster)) file.old → MayLower owed file.old
+            → AllocatorInvariant S.view self.old (owed_as owed p (one_at cluster)) file.old → MayDecrement owed file.old
             → GivesSoundly S.view
             (GivesBack S.view (owed_as owed p (one_at cluster)) file.old self.new file.new p result)
             self.old file.old self.new file.new result }
-        ensures or_leaks { LowersOrLeaks self.old self.new file.new cluster result }
+        ensures or_leaks { DecrementsOrLeaks self.old self.new file.new cluster result }
         ensures grows { self.old.leaked_clusters ≤ self.new.leaked_clusters }
         ensures fails { Fails S.view file.old.storage file.new.storage result IsOfTables }
         ensures unaligned { IsUnaligned file.old.header.fields self.old.reftable
@@ -116,19 +117,9 @@ impl Allocator {
         file: &mut ImageFile<S>,
         kind: ClusterKind,
     ) -> Result<(), ImageError>
-        ensures step { FreeStep S.view self.old.reftable file.old self.new.reftable file.new }
+        ensures frees { FreesListed S.view kind self.old file.old file.old.free_list
+            self.new file.new file.new.free_list result }
         ensures left { OnOk result (file.new.free_list ≡ but kind file.old.free_list) }
-        ensures others { but kind file.new.free_list ≡ but kind file.old.free_list }
-        ensures sound { (p : Pending) → AllocatorInvariant S.view self.old (with_listed p file.old.free_list) file.old
-            → MayFree kind file.old
-            → GivesSoundly S.view
-            (Frees S.view (with_listed p file.old.free_list) file.old self.new file.new
-            (with_listed p file.new.free_list) result)
-            self.old file.old self.new file.new result }
-        ensures grows { self.old.leaked_clusters ≤ self.new.leaked_clusters }
-        ensures fails { Fails S.view file.old.storage file.new.storage result IsOfTables }
-        ensures unaligned { LeaksUnaligned file.old.header.fields self.old.reftable self.old self.new
-            file.old.free_list file.new.free_list }
     {
         let mut taken = file.free_list.take();
         let done = self.free_taken(file, &mut taken, kind);
@@ -143,20 +134,10 @@ impl Allocator {
         taken: &mut TakenClusters,
         kind: ClusterKind,
     ) -> Result<(), ImageError>
-        ensures step { FreeStep S.view self.old.reftable file.old self.new.reftable file.new }
+        ensures frees { FreesListed S.view kind self.old file.old (file.old.free_list ++ taken.old)
+            self.new file.new (file.new.free_list ++ taken.new) result }
         ensures all { OnOk result (taken.new ≡ []) }
         ensures left { OnOk result (file.new.free_list ≡ file.old.free_list ++ but kind taken.old) }
-        ensures others { but kind (file.new.free_list ++ taken.new) ≡ but kind (file.old.free_list ++ taken.old) }
-        ensures sound { (p : Pending) → AllocatorInvariant S.view self.old
-            (with_listed p (file.old.free_list ++ taken.old)) file.old → MayFree kind file.old
-            → GivesSoundly S.view
-            (Frees S.view (with_listed p (file.old.free_list ++ taken.old)) file.old self.new file.new
-            (with_listed p (file.new.free_list ++ taken.new)) result)
-            self.old file.old self.new file.new result }
-        ensures grows { self.old.leaked_clusters ≤ self.new.leaked_clusters }
-        ensures fails { Fails S.view file.old.storage file.new.storage result IsOfTables }
-        ensures unaligned { LeaksUnaligned file.old.header.fields self.old.reftable self.old self.new
-            (file.old.free_list ++ taken.old) (file.new.free_list ++ taken.new) }
     {
         'freeing: while let Some(pending) = taken.next_pending() {
             self.free_or_list(file, pending, kind)?;
@@ -171,19 +152,9 @@ impl Allocator {
         pending: PendingClusters,
         kind: ClusterKind,
     ) -> Result<(), ImageError>
-        ensures step { FreeStep S.view self.old.reftable file.old self.new.reftable file.new }
+        ensures frees { FreesListed S.view kind self.old file.old (file.old.free_list ++ pending ∷ [])
+            self.new file.new file.new.free_list result }
         ensures left { OnOk result (file.new.free_list ≡ file.old.free_list ++ but kind (pending ∷ [])) }
-        ensures others { but kind file.new.free_list ≡ but kind (file.old.free_list ++ pending ∷ []) }
-        ensures sound { (p : Pending) → AllocatorInvariant S.view self.old
-            (with_listed p (file.old.free_list ++ pending ∷ [])) file.old → MayFree kind file.old
-            → GivesSoundly S.view
-            (Frees S.view (with_listed p (file.old.free_list ++ pending ∷ [])) file.old self.new file.new
-            (with_listed p file.new.free_list) result)
-            self.old file.old self.new file.new result }
-        ensures grows { self.old.leaked_clusters ≤ self.new.leaked_clusters }
-        ensures fails { Fails S.view file.old.storage file.new.storage result IsOfTables }
-        ensures unaligned { LeaksUnaligned file.old.header.fields self.old.reftable self.old self.new
-            (file.old.free_list ++ pending ∷ []) file.new.free_list }
     {
         if pending.kind() == kind {
             return self.free_entry(file, pending);
@@ -198,19 +169,9 @@ impl Allocator {
         file: &mut ImageFile<S>,
         pending: PendingClusters,
     ) -> Result<(), ImageError>
-        ensures step { FreeStep S.view self.old.reftable file.old self.new.reftable file.new }
+        ensures frees { FreesListed S.view pending.kind self.old file.old (file.old.free_list ++ pending ∷ [])
+            self.new file.new file.new.free_list result }
         ensures left { OnOk result (file.new.free_list ≡ file.old.free_list) }
-        ensures others { but pending.kind file.new.free_list ≡ but pending.kind file.old.free_list }
-        ensures sound { (p : Pending) → AllocatorInvariant S.view self.old
-            (with_listed p (file.old.free_list ++ pending ∷ [])) file.old → MayFree pending.kind file.old
-            → GivesSoundly S.view
-            (Frees S.view (with_listed p (file.old.free_list ++ pending ∷ [])) file.old self.new file.new
-            (with_listed p file.new.free_list) result)
-            self.old file.old self.new file.new result }
-        ensures grows { self.old.leaked_clusters ≤ self.new.leaked_clusters }
-        ensures fails { Fails S.view file.old.storage file.new.storage result IsOfTables }
-        ensures unaligned { LeaksUnaligned file.old.header.fields self.old.reftable self.old self.new
-            (file.old.free_list ++ pending ∷ []) file.new.free_list }
     {
         let mut run = pending;
         match self.free_run(file, &mut run) {
@@ -231,23 +192,14 @@ impl Allocator {
         file: &mut ImageFile<S>,
         run: &mut PendingClusters,
     ) -> Result<(), ImageError>
-        ensures step { TableStep S.view self.old.reftable file.old self.new.reftable file.new }
-        ensures reftable { self.new.reftable ≡ self.old.reftable }
+        ensures frees { FreesListed S.view run.old.kind self.old file.old (file.old.free_list ++ run.old ∷ [])
+            self.new file.new (file.old.free_list ++ run.new ∷ []) result }
+        ensures list { file.new.free_list ≡ file.old.free_list }
         ensures kind { run.new.kind ≡ run.old.kind }
         ensures all { OnOk result (run.new.count ≡ 0) }
-        ensures sound { (p : Pending) → AllocatorInvariant S.view self.old
-            (listed_as run.old.kind p (run_of run.old)) file.old → MayFree run.old.kind file.old
-            → GivesSoundly S.view
-            (Frees S.view (listed_as run.old.kind p (run_of run.old)) file.old self.new file.new
-            (listed_as run.old.kind p (run_of run.new)) result)
-            self.old file.old self.new file.new result }
-        ensures grows { self.old.leaked_clusters ≤ self.new.leaked_clusters }
-        ensures fails { Fails S.view file.old.storage file.new.storage result IsOfTables }
-        ensures unaligned { LeaksUnaligned file.old.header.fields self.old.reftable self.old self.new (run.old ∷ [])
-            (run.new ∷ []) }
     {
         'freeing: while run.count().value() > 0 {
-            self.lower(file, run.cluster().value())?;
+            self.decrement_or_leak(file, run.cluster().value())?;
             run.drop_first();
         }
         Ok(())
@@ -262,14 +214,14 @@ impl Allocator {
         ensures step { TableStep S.view self.old.reftable file.old self.new.reftable file.new }
         ensures reftable { self.new.reftable ≡ self.old.reftable }
         ensures leaked { self.new.leaked_clusters ≡ self.old.leaked_clusters }
-        ensures tries { TriesToLower file.new cluster result }
+        ensures tries { TriesToDecrement file.new cluster result }
         ensures first { self.old.first_free_cluster ≤ cluster → SearchStays self.old self.new }
         ensures sound { (p : Pending) (owed : Owed)
-            → AllocatorInvariant S.view self.old (owed_as owed p (one_at cluster)) file.old → MayLower owed file.old
-            → LowersOne S.view (owed_as owed p (one_at cluster)) file.old self.new file.new p result }
+            → AllocatorInvariant S.view self.old (owed_as owed p (one_at cluster)) file.old → MayDecrement owed file.old
+            → DecrementsOne S.view (owed_as owed p (one_at cluster)) file.old self.new file.new p result }
         ensures fails { Fails S.view file.old.storage file.new.storage result IsOfTables }
         ensures hint { (p : Pending) (owed : Owed)
-            → AllocatorInvariant S.view self.old (owed_as owed p (one_at cluster)) file.old → MayLower owed file.old
+            → AllocatorInvariant S.view self.old (owed_as owed p (one_at cluster)) file.old → MayDecrement owed file.old
             → NoFreeBelowHint S.view self.old file.old → KeepsNoFreeBelowHint S.view self.new file.new result }
         ensures unaligned { IsUnaligned file.old.header.fields self.old.reftable
             (cluster / counts_per_block file.old.header.fields) → IsErrOf result ImageError.UnalignedTable
@@ -280,14 +232,14 @@ impl Allocator {
             return Ok(false);
         };
         let index = HostCluster::new(cluster).rb_index(bits);
-        let lowered = file.caches.rb_decrement(block, index);
-        self.note_lowered(cluster, file.caches.rb_is_zero(block, index), bits);
-        Ok(lowered)
+        let left = file.caches.rb_release(block, index);
+        self.record_decrement(cluster, left.unwrap_or(0) == 0, bits);
+        Ok(left.is_some())
     }
 
     // A cluster whose refcount is 0 now may be allocated again, and is not spared any longer. If its range was read, it lies in a free run
     // now, or the range is forgotten.
-    fn note_lowered(&mut self, cluster: u64, is_free: bool, bits: u32)
+    fn record_decrement(&mut self, cluster: u64, is_free: bool, bits: u32)
         requires { bits < 64 }
         ensures reftable { self.new.reftable ≡ self.old.reftable }
         ensures leaked { self.new.leaked_clusters ≡ self.old.leaked_clusters }
@@ -299,7 +251,7 @@ impl Allocator {
         if is_free {
             self.first_free_cluster = self.first_free_cluster.min(cluster);
             self.spare_no_longer(cluster);
-            self.note_free(cluster, bits);
+            self.record_free(cluster, bits);
         }
     }
 }

@@ -23,10 +23,10 @@ impl<S: Storage> ImageFile<S> {
     ghost use Rattle.qcow2_alloc.specs.CachePins.{SameTables};
     ghost use Rattle.qcow2_alloc.specs.ImageStorage.{storage_of, changes_of, is_changed_of};
     ghost use Rattle.qcow2_alloc.specs.ImageFile.{has_noted};
-    ghost use Rattle.qcow2_alloc.specs.KeptMarks.{changes_in, NotesSince};
+    ghost use Rattle.qcow2_alloc.specs.KeptMarks.{changes_in, RecordsSince};
 
-    /// Starts to record anew whether anything changes.
-    pub fn begin(&mut self)
+    /// Begins a call: no change is recorded yet.
+    pub fn begin_call(&mut self)
         ensures header { self.new.header ≡ self.old.header }
         ensures storage { storage_of self.new.storage ≡ storage_of self.old.storage }
         ensures unchanged { is_changed_of self.new.storage ≡ false }
@@ -35,11 +35,11 @@ impl<S: Storage> ImageFile<S> {
         ensures tables { SameTables self.old.caches self.new.caches }
         ensures free_list { self.new.free_list ≡ self.old.free_list }
     {
-        self.storage.begin();
-        self.caches.begin();
+        self.storage.begin_call();
+        self.caches.begin_call();
     }
 
-    /// Whether the storage or a table was changed since the last `begin`.
+    /// Whether the storage or a table was changed since the last `begin_call`.
     pub fn is_changed(&self) -> bool
         ensures { result ≡ has_noted self.now }
     {
@@ -53,9 +53,9 @@ impl<S: Storage> ImageFile<S> {
         (self.storage.changes(), self.caches.changes())
     }
 
-    /// Records whether there was a change since these numbers of changes. If there was none, nothing is recorded.
+    /// Records a change, if there was one since these numbers of changes.
     pub fn record_change_since(&mut self, changes: (u64, u64))
-        ensures { NotesSince changes self.old self.new }
+        ensures { RecordsSince changes self.old self.new }
     {
         let (storage, tables) = changes;
         if storage.saturating_add(1) <= self.storage.changes()

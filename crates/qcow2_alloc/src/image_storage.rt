@@ -27,9 +27,9 @@ pub(crate) fn one_more(changes: u64) -> u64
     changes.saturating_add(1)
 }
 
-/// The image's storage. Its kind must be set before each write. Reads, the size and flushes go
-/// to the storage below. A write without a kind is refused 14 (memory), and changes nothing. Everything else is refused as the storage
-/// below refuses it: 15 (storage) for a fault, and 14 (memory) if memory runs out, and then nothing changed.
+/// The image's storage. The kind of a write must be set before it. Reads, the size and flushes go to the storage below. A write without a kind is
+/// refused 14 (memory), and changes nothing. Everything else is refused as the storage below refuses it: 15 (storage) for a fault, and 14 if memory
+/// runs out, which leaves the storage unchanged.
 #[derive(Drop)]
 pub struct ImageStorage<S: Storage> {
     storage: S,
@@ -40,7 +40,7 @@ pub struct ImageStorage<S: Storage> {
 }
 
 impl<S: Storage> ImageStorage<S> {
-    ghost use Rattle.qcow2_alloc.specs.ImageStorage.{storage_of, kind_of, is_changed_of, changes_of, met_fault_of, NotesFault, NotesWrite, SameNotes};
+    ghost use Rattle.qcow2_alloc.specs.ImageStorage.{storage_of, kind_of, is_changed_of, changes_of, met_fault_of, RecordsFault, RecordsWrite, SameNotes};
     ghost use Rattle.std.specs.Prelude.{true, false};
     ghost use Rattle.qcow2_alloc.specs.declared.error.ImageError.TheVariants.{Storage};
 
@@ -90,8 +90,8 @@ impl<S: Storage> ImageStorage<S> {
         self.kind = kind;
     }
 
-    /// Starts to record anew whether anything changes.
-    pub fn begin(&mut self)
+    /// Begins a call: no change is recorded yet.
+    pub fn begin_call(&mut self)
         ensures unchanged { is_changed_of self.new ≡ false }
         ensures changes { changes_of self.new ≡ changes_of self.old }
         ensures storage { storage_of self.new ≡ storage_of self.old }
@@ -99,7 +99,7 @@ impl<S: Storage> ImageStorage<S> {
         self.is_changed = false;
     }
 
-    /// Whether bytes were changed since the last `begin`, or may have been.
+    /// Whether bytes were changed since the last `begin_call`, or may have been.
     pub fn is_changed(&self) -> bool
         ensures { result ≡ is_changed_of self.now }
     {
@@ -114,11 +114,14 @@ impl<S: Storage> ImageStorage<S> {
     }
 
     // Records and counts a change that was made, or may have been. If memory ran out, there was none.
-    pub(crate) fn noted(&mut self, done: Result<(), StorageError>) -> Result<(), StorageError>
+    pub(crate) fn record_change(
+        &mut self,
+        done: Result<(), StorageError>,
+    ) -> Result<(), StorageError>
         ensures answer { result ≡ done }
         ensures storage { storage_of self.new ≡ storage_of self.old }
-        ensures changed { NotesWrite self.old self.new done }
-        ensures faults { NotesFault self.old self.new done }
+        ensures changed { RecordsWrite self.old self.new done }
+        ensures faults { RecordsFault self.old self.new done }
     {
         if let Err(StorageError::Fault) = &done {
             self.met_fault = true;
@@ -133,7 +136,7 @@ impl<S: Storage> ImageStorage<S> {
         done
     }
 
-    // Starts to record anew whether loading or writing a table fails.
+    // Begins to watch whether loading or writing a table fails: no failure is recorded yet.
     pub(crate) fn watch_faults(&mut self)
         ensures { self.new ≡ record self.old { met_fault = false } }
     {
@@ -141,14 +144,14 @@ impl<S: Storage> ImageStorage<S> {
     }
 
     // Records that loading a table failed.
-    pub(crate) fn note_fault(&mut self)
+    pub(crate) fn record_fault(&mut self)
         ensures { self.new ≡ record self.old { met_fault = true } }
     {
         self.met_fault = true;
     }
 
-    // The refusal to report: a failure that was recorded goes before.
-    pub(crate) fn told(&self, refusal: ImageError) -> ImageError
+    // The refusal to report: a recorded failure comes first.
+    pub(crate) fn refusal_to_report(&self, refusal: ImageError) -> ImageError
         ensures met { met_fault_of self.now ≡ true → result ≡ Storage }
         ensures unmet { met_fault_of self.now ≡ false → result ≡ refusal }
     {
@@ -163,7 +166,7 @@ impl<S: Storage> Storage for ImageStorage<S> {
     ghost use Rattle.std.specs.Prelude.{◌≡◌, length, IfOk, OnOk};
     ghost use Rattle.image_access.specs.Contents.{bytes_at, overwritten, resized, zeroed};
     ghost use Rattle.image_access.specs.Moments.{Calls, Changes, ContentsStay, QuietCalls};
-    ghost use Rattle.qcow2_alloc.specs.ImageStorage.{storage_of, IsRefusedUntold, NotesWrite, SameNotes};
+    ghost use Rattle.qcow2_alloc.specs.ImageStorage.{storage_of, IsRefusedUntold, SameNotes};
 
     ghost view = { λ s. S.view s.storage };
 
@@ -179,7 +182,7 @@ impl<S: Storage> Storage for ImageStorage<S> {
         ensures size { (S.view (storage_of self.old)).is_honest → IfOk result (λ size. size ≡ length (S.view (storage_of self.old)).contents) }
         ensures same { ContentsStay (S.view (storage_of self.old)) (S.view (storage_of self.new)) }
         ensures calls { QuietCalls (S.view (storage_of self.old)) (S.view (storage_of self.new)) result }
-        ensures unnoted { SameNotes self.old self.new }
+        ensures unrecorded { SameNotes self.old self.new }
     {
         self.storage.size()
     }
@@ -189,7 +192,7 @@ impl<S: Storage> Storage for ImageStorage<S> {
             → OnOk result (buf.new ≡ bytes_at (S.view (storage_of self.old)).contents at (length buf.old)) }
         ensures same { ContentsStay (S.view (storage_of self.old)) (S.view (storage_of self.new)) }
         ensures calls { QuietCalls (S.view (storage_of self.old)) (S.view (storage_of self.new)) result }
-        ensures unnoted { SameNotes self.old self.new }
+        ensures unrecorded { SameNotes self.old self.new }
     {
         self.storage.read(at, buf)
     }
@@ -198,7 +201,6 @@ impl<S: Storage> Storage for ImageStorage<S> {
     fn write(&mut self, at: u64, bytes: &[u8]) -> Result<(), StorageError>
         ensures written { Changes (S.view (storage_of self.old)) (S.view (storage_of self.new)) result (λ b. overwritten b at bytes.now) }
         ensures calls { Calls (S.view (storage_of self.old)) (S.view (storage_of self.new)) result }
-        ensures noted { NotesWrite self.old self.new result }
         ensures untold { IsRefusedUntold self.old self.new result }
     {
         let untold_write = StorageError::Memory;
@@ -209,7 +211,6 @@ impl<S: Storage> Storage for ImageStorage<S> {
     fn write_zeroes(&mut self, at: u64, length: u64) -> Result<(), StorageError>
         ensures zeroed { Changes (S.view (storage_of self.old)) (S.view (storage_of self.new)) result (λ b. zeroed b at length) }
         ensures calls { Calls (S.view (storage_of self.old)) (S.view (storage_of self.new)) result }
-        ensures noted { NotesWrite self.old self.new result }
         ensures untold { IsRefusedUntold self.old self.new result }
     {
         let untold_zeros = StorageError::Memory;
@@ -220,7 +221,6 @@ impl<S: Storage> Storage for ImageStorage<S> {
     fn write_allocated_zeroes(&mut self, at: u64, length: u64) -> Result<(), StorageError>
         ensures zeroed { Changes (S.view (storage_of self.old)) (S.view (storage_of self.new)) result (λ b. zeroed b at length) }
         ensures calls { Calls (S.view (storage_of self.old)) (S.view (storage_of self.new)) result }
-        ensures noted { NotesWrite self.old self.new result }
         ensures untold { IsRefusedUntold self.old self.new result }
     {
         let untold_allocated_zeros = StorageError::Memory;
@@ -231,7 +231,6 @@ impl<S: Storage> Storage for ImageStorage<S> {
     fn resize(&mut self, size: u64, preallocate: StoragePreallocate) -> Result<(), StorageError>
         ensures resized { Changes (S.view (storage_of self.old)) (S.view (storage_of self.new)) result (λ b. resized b size) }
         ensures calls { Calls (S.view (storage_of self.old)) (S.view (storage_of self.new)) result }
-        ensures noted { NotesWrite self.old self.new result }
         ensures untold { IsRefusedUntold self.old self.new result }
     {
         let untold_size = StorageError::Memory;
@@ -241,7 +240,7 @@ impl<S: Storage> Storage for ImageStorage<S> {
     fn flush(&mut self) -> Result<(), StorageError>
         ensures same { ContentsStay (S.view (storage_of self.old)) (S.view (storage_of self.new)) }
         ensures calls { QuietCalls (S.view (storage_of self.old)) (S.view (storage_of self.new)) result }
-        ensures unnoted { SameNotes self.old self.new }
+        ensures unrecorded { SameNotes self.old self.new }
     {
         self.storage.flush()
     }
@@ -249,7 +248,7 @@ impl<S: Storage> Storage for ImageStorage<S> {
     fn sync(&mut self) -> Result<(), StorageError>
         ensures same { ContentsStay (S.view (storage_of self.old)) (S.view (storage_of self.new)) }
         ensures calls { QuietCalls (S.view (storage_of self.old)) (S.view (storage_of self.new)) result }
-        ensures unnoted { SameNotes self.old self.new }
+        ensures unrecorded { SameNotes self.old self.new }
     {
         self.storage.sync()
     }
@@ -257,7 +256,7 @@ impl<S: Storage> Storage for ImageStorage<S> {
     fn invalidate_cache(&mut self) -> Result<(), StorageError>
         ensures same { ContentsStay (S.view (storage_of self.old)) (S.view (storage_of self.new)) }
         ensures calls { QuietCalls (S.view (storage_of self.old)) (S.view (storage_of self.new)) result }
-        ensures unnoted { SameNotes self.old self.new }
+        ensures unrecorded { SameNotes self.old self.new }
     {
         self.storage.invalidate_cache()
     }

@@ -2,13 +2,13 @@
 ghost use Rattle.std.specs.Prelude.{◌≡◌, ◌≢◌, ◌/◌, false, ℕ, ◌*◌, ◌^◌, ◌<◌, ◌≤◌, Bool, None, Some, Ok, IfSome, IfOk};
 ghost use Rattle.std.specs.Prelude.{IfErr, OnOk, IsErrOf, IsSome, IsTrue};
 ghost use Rattle.qcow2_laws.specs.CrashInvariant.{Pending};
-ghost use Rattle.qcow2_alloc.specs.Allocation.{placing, first_counts, CanName, HasPlaceFor, KeepsEntries, KeepsNamed, MayTake};
-ghost use Rattle.qcow2_alloc.specs.Allocation.{LoadsBlock, WritesBlock, PlacesBlock, IsUnaligned, HasNone, TakesLowest};
+ghost use Rattle.qcow2_alloc.specs.Allocation.{placing, first_counts, CanName, HasPlaceFor, KeepsEntries, KeepsNamed, MayAllocate};
+ghost use Rattle.qcow2_alloc.specs.Allocation.{LoadsBlock, WritesBlock, PlacesBlock, IsUnaligned, HasNone, AllocatesLowest};
 ghost use Rattle.qcow2_alloc.specs.Allocation.{SameLeaks};
 ghost use Rattle.qcow2_alloc.specs.KeptMarks.{KeepsMarks};
 ghost use Rattle.qcow2_alloc.specs.CachePins.{LeavesPinned};
 ghost use Rattle.qcow2_alloc.specs.SparedHeaders.{KeepBehindHeader};
-ghost use Rattle.qcow2_alloc.specs.Steps.{EnsuresSoundly, Fails, FindsBlock, GetsSoundly, TableStep, TakesOneSoundly};
+ghost use Rattle.qcow2_alloc.specs.Steps.{EnsuresSoundly, Fails, FindsBlock, GetsSoundly, TableStep, AllocatesGivenSoundly};
 ghost use Rattle.qcow2_alloc.specs.Steps.{BlockStep, FileStep, RangeStep, ReachesSoundly};
 ghost use Rattle.qcow2_alloc.specs.LowestRuns.{NoFreeBelowHint, KeepsNoFreeBelowHint, SearchesAnew, SearchStays};
 ghost use Rattle.number_runs.specs.NumberRuns.{IsIn};
@@ -16,12 +16,11 @@ ghost use Rattle.qcow2_alloc.specs.ImageError.{IsOfTables};
 ghost use Rattle.qcow2_alloc.specs.ImageFile.{has_noted, AllocatorInvariant};
 ghost use Rattle.qcow2_alloc.specs.ImageStorage.{is_changed_of};
 ghost use Rattle.qcow2_laws.specs.Caches.{AreClean, BlocksMayGo};
-ghost use Rattle.qcow2_alloc.specs.MetadataCaches.{order_of, l2_tables, refblocks, TakesOff};
+ghost use Rattle.qcow2_alloc.specs.MetadataCaches.{order_of, l2_tables, refblocks, EvictsTable};
 ghost use Rattle.qcow2_metadata.specs.L2Mapping.{IsHostCluster};
 ghost use Rattle.qcow2_metadata.specs.Header.{counts_per_block};
 ghost use Rattle.qcow2_metadata.specs.EntryTable.{entry_count};
 ghost use Rattle.qcow2_metadata.specs.RefBlock.{count_at, IsRefBlock};
-ghost use Rattle.qcow2_metadata.specs.TableBytes.{HasPlace};
 ghost use Rattle.qcow2_alloc.specs.TableCaches.{IsBlockOf};
 
 use crate::{Allocator, ImageError, ImageFile, WriteKind};
@@ -29,16 +28,9 @@ use image_access::Storage;
 use qcow2_metadata::{Header, HostCluster, RefBlock};
 use std::alloc::Global;
 
-// A refblock of refcounts 0. If it counts itself, the refcount of its range's first cluster is 1.
+// A refblock of refcounts 0, without a place. If it counts itself, the refcount of its range's first cluster is 1.
 #[tactic(auto, using(crate::proofs::TableErrors::metadata_of_tables))]
-fn new_block(
-    alloc: Global,
-    header: &Header,
-    cluster: HostCluster,
-    counts_itself: bool,
-) -> Result<RefBlock, ImageError>
-    requires { HasPlace header.now.fields.cluster_bits cluster }
-    ensures cluster { IfOk result (λ block. block.cluster ≡ Some cluster) }
+fn new_block(alloc: Global, header: &Header, counts_itself: bool) -> Result<RefBlock, ImageError>
     ensures format { IfOk result (IsBlockOf header.now.fields) }
     ensures whole { IfOk result IsRefBlock }
     ensures counts { IfOk result (λ block. (i : ℕ) → count_at block i ≡ first_counts counts_itself i) }
@@ -46,7 +38,6 @@ fn new_block(
     ensures cause { IfErr result IsOfTables }
 {
     let mut block = RefBlock::new_cleared(alloc, header)?;
-    block.set_cluster(cluster);
     if counts_itself && block.counts() > 0 {
         block.increment(0);
     }
@@ -66,12 +57,12 @@ fn write_block<S: Storage>(file: &mut ImageFile<S>, mut block: RefBlock) -> Resu
         → IsBlockOf file.old.header.fields block → block.cluster ≡ Some at
         → WritesBlock S.view (placing counts_itself p at) file.old allocator file.new block at result }
     ensures counted { OnOk result (AreClean (refblocks file.new.caches)) }
-    ensures noted { OnOk result (IsTrue (is_changed_of file.new.storage)) }
+    ensures recorded { OnOk result (IsTrue (is_changed_of file.new.storage)) }
     ensures first { OnOk result (BlocksMayGo (order_of file.new.caches) (l2_tables file.new.caches)) }
 {
     file.caches.flush_rb(&mut file.storage)?;
     file.storage.set_write_kind(WriteKind::Other);
-    file.storage.place_refblock(&block)?;
+    file.storage.write_new_refblock(&block)?;
     block.clear_modified();
     file.caches.rb_insert(&mut file.storage, block)
 }
@@ -89,7 +80,7 @@ impl Allocator {
         ensures tables { l2_tables file.new.caches ≡ l2_tables file.old.caches }
         ensures left { LeavesPinned file.old.caches.rb.entries result file.new.caches.rb.entries }
         ensures marks { KeepsMarks S.view file.old file.new }
-        ensures taken { TakesOff (AreClean (refblocks file.old.caches)) file.old.caches file.new.caches }
+        ensures taken { EvictsTable (AreClean (refblocks file.old.caches)) file.old.caches file.new.caches }
         ensures rest { file.new ≡ record file.old { caches = file.new.caches } }
         ensures header_cluster { KeepBehindHeader file.old.caches file.new.caches }
         ensures anew { SearchesAnew self.old self.new }
@@ -126,7 +117,7 @@ impl Allocator {
 
     // Increments a refcount of 0. False if it isn't 0, and for a spared cluster. Cluster 0 is the header's,
     // and is never counted here.
-    pub(crate) fn raise<S: Storage>(
+    pub(crate) fn increment_refcount<S: Storage>(
         &mut self,
         file: &mut ImageFile<S>,
         cluster: u64,
@@ -135,9 +126,9 @@ impl Allocator {
         ensures step { TableStep S.view self.old.reftable file.old self.new.reftable file.new }
         ensures fails { Fails S.view file.old.storage file.new.storage result IsOfTables }
         ensures sound { (p : Pending) (is_data : Bool) → AllocatorInvariant S.view self.old p file.old
-            → MayTake is_data file.old
-            → TakesOneSoundly S.view p is_data self.old file.old self.new file.new cluster result }
-        ensures noted { IfOk result (λ taken. IsTrue taken → IsTrue file.new.caches.is_changed) }
+            → MayAllocate is_data file.old
+            → AllocatesGivenSoundly S.view p is_data self.old file.old self.new file.new cluster result }
+        ensures recorded { IfOk result (λ taken. IsTrue taken → IsTrue file.new.caches.is_changed) }
         ensures spares { IfOk result (λ taken. IsTrue taken → IsIn self.old.named cluster → ⊥) }
         ensures same { self.new ≡ self.old }
     {
@@ -149,7 +140,7 @@ impl Allocator {
             return Ok(false);
         };
         let index = HostCluster::new(cluster).rb_index(bits);
-        Ok(file.caches.rb_is_zero(block, index) && file.caches.rb_increment(block, index))
+        Ok(file.caches.rb_allocate(block, index))
     }
 
     // Makes sure that the range of a cluster has a refblock, and makes the reftable longer if the range lies past its end.
@@ -185,7 +176,8 @@ impl Allocator {
         self.ensure_block(file, cluster)
     }
 
-    // Makes sure that the range of a cluster has a refblock. A new refblock always lies where an entry can hold its offset.
+    // Makes sure that the range of a cluster has a refblock. A new refblock always lies where an entry can hold its offset. Its memory is
+    // allocated before a cluster is counted for it.
     fn ensure_block<S: Storage>(
         &mut self,
         file: &mut ImageFile<S>,
@@ -208,8 +200,9 @@ impl Allocator {
         if !self.can_name(file.header.cluster_bits(), range as usize, first) {
             return Err(ImageError::Limit);
         }
+        let block = new_block(file.alloc, &file.header, false)?;
         match self.allocate_lowest_below(file, range << bits) {
-            Ok(Some(at)) => self.place_block(file, range, at, false),
+            Ok(Some(at)) => self.place_block(file, range, at, block),
             Ok(None) => self.ensure_self_counting_refblock(file, range),
             Err(refusal) => {
                 if refusal.is_fault() {
@@ -228,12 +221,12 @@ impl Allocator {
     ) -> Result<Option<u64>, ImageError>
         requires { end < 2 ^ 63 }
         ensures step { TableStep S.view self.old.reftable file.old self.new.reftable file.new }
-        ensures noted { IfOk result (λ at. IsSome at → IsTrue file.new.caches.is_changed) }
+        ensures recorded { IfOk result (λ at. IsSome at → IsTrue file.new.caches.is_changed) }
         ensures below { IfOk result (λ at. IfSome at (λ at. (0 < at) × (at < end))) }
         ensures entries { KeepsEntries (λ k. end ≤ k * counts_per_block file.old.header.fields)
             self.old.reftable self.new.reftable }
         ensures sound { (p : Pending) → AllocatorInvariant S.view self.old p file.old
-            → TakesLowest S.view p file.old self.new file.new result }
+            → AllocatesLowest S.view p file.old self.new file.new result }
         ensures fails { Fails S.view file.old.storage file.new.storage result IsOfTables }
         ensures leaks { SameLeaks self.old self.new }
         ensures hint { (p : Pending) → AllocatorInvariant S.view self.old p file.old
@@ -243,7 +236,7 @@ impl Allocator {
         let Some(cluster) = self.search_below(file, end)? else {
             return Ok(None);
         };
-        self.note_used(cluster, true, file.header.rb_bits());
+        self.record_used(cluster, true, file.header.rb_bits());
         Ok(Some(cluster))
     }
 
@@ -255,12 +248,12 @@ impl Allocator {
     ) -> Result<Option<u64>, ImageError>
         requires { end < 2 ^ 63 }
         ensures step { TableStep S.view self.old.reftable file.old self.new.reftable file.new }
-        ensures noted { IfOk result (λ at. IsSome at → IsTrue file.new.caches.is_changed) }
+        ensures recorded { IfOk result (λ at. IsSome at → IsTrue file.new.caches.is_changed) }
         ensures below { IfOk result (λ at. IfSome at (λ at. (0 < at) × (at < end))) }
         ensures entries { KeepsEntries (λ k. end ≤ k * counts_per_block file.old.header.fields)
             self.old.reftable self.new.reftable }
         ensures sound { (p : Pending) → AllocatorInvariant S.view self.old p file.old
-            → TakesLowest S.view p file.old self.new file.new result }
+            → AllocatesLowest S.view p file.old self.new file.new result }
         ensures fails { Fails S.view file.old.storage file.new.storage result IsOfTables }
         ensures leaks { SameLeaks self.old self.new }
         ensures hint { (p : Pending) → AllocatorInvariant S.view self.old p file.old
@@ -271,12 +264,12 @@ impl Allocator {
         'search: while self.first_free_cluster < end {
             let cluster = self.first_free_cluster;
             self.ensure_self_counting_refblock(file, cluster >> bits)?;
-            let taken = self.raise(file, cluster)?;
+            let taken = self.increment_refcount(file, cluster)?;
             self.first_free_cluster = cluster + 1;
             if taken {
                 return Ok(Some(cluster));
             }
-            self.first_free_cluster = self.next_free_in_range(file, cluster + 1)?;
+            self.first_free_cluster = self.next_open(file, cluster + 1)?;
         }
         Ok(None)
     }
@@ -305,30 +298,35 @@ impl Allocator {
         if !self.can_name(bits, range as usize, HostCluster::new(at)) {
             return Err(ImageError::Limit);
         }
-        self.place_block(file, range, at, true)
+        let block = new_block(file.alloc, &file.header, true)?;
+        self.place_block(file, range, at, block)
     }
 
-    // Makes the refblock of a range in a cluster that was allocated for it, or in the range's first cluster, where it counts itself.
+    // Places the refblock of a range in a cluster that was allocated for it, or in the range's first cluster, where it counts itself.
     // Its reftable entry is written last.
     fn place_block<S: Storage>(
         &mut self,
         file: &mut ImageFile<S>,
         range: u64,
         at: u64,
-        counts_itself: bool,
+        block: RefBlock,
     ) -> Result<(), ImageError>
         requires place { CanName file.old.header.fields.cluster_bits self.old.reftable range at }
+        requires block { IsBlockOf file.old.header.fields block × IsRefBlock block }
         ensures step { RangeStep S.view range self.old.reftable file.old self.new.reftable file.new }
         ensures fails { Fails S.view file.old.storage file.new.storage result IsOfTables }
-        ensures sound { (p : Pending) → AllocatorInvariant S.view self.old (placing counts_itself p at) file.old
+        ensures sound { (p : Pending) (counts_itself : Bool)
+            → AllocatorInvariant S.view self.old (placing counts_itself p at) file.old
             → HasPlaceFor counts_itself file.old.header.fields self.old.reftable range at
+            → ((i : ℕ) → count_at block i ≡ first_counts counts_itself i)
             → PlacesBlock S.view (placing counts_itself p at) file.old self.new file.new p range at result }
-        ensures noted { OnOk result (IsTrue (has_noted file.new)) }
+        ensures recorded { OnOk result (IsTrue (has_noted file.new)) }
         ensures has { OnOk result (HasNone self.new.reftable range → ⊥) }
         ensures rest { self.new ≡ record self.old { reftable = self.new.reftable } }
     {
         let cluster = HostCluster::new(at);
-        let block = new_block(file.alloc, &file.header, cluster, counts_itself)?;
+        let mut block = block;
+        block.set_cluster(cluster);
         write_block(file, block)?;
         self.reftable.enter_refblock(range as usize, cluster);
         file.storage.set_write_kind(WriteKind::Other);

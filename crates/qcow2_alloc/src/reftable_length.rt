@@ -4,7 +4,7 @@ ghost use Rattle.qcow2_alloc.specs.Growing.{IsLongEnough, IsLeastLength};
 
 use qcow2_metadata::MAX_REFTABLE_ENTRIES;
 
-// The least length that is long enough for an index, up to the greatest one.
+// The least length that is enough for an index, up to the greatest one.
 pub(crate) fn grown_length(old: u64, index: u64, per_cluster: u64, per_block: u64) -> Option<u64>
     requires some { 0 < per_cluster }
     requires counts { 0 < per_block }
@@ -23,7 +23,7 @@ pub(crate) fn grown_length(old: u64, index: u64, per_cluster: u64, per_block: u6
     if counts == 0 {
         return None;
     }
-    // How many further clusters one cluster of entries allows to count. If there are none, only index 0 has room above it.
+    // How many more clusters one cluster of entries can count. If there are none, only index 0 has room above it.
     let more = per_cluster * counts - 1;
     if more < index.min(1) {
         return None;

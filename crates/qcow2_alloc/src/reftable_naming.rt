@@ -12,13 +12,13 @@ use image_access::Storage;
 use qcow2_metadata::RefTable;
 
 impl Allocator {
-    // Writes the pointer to a longer reftable that is ready with its refblocks. The allocator uses that table from then on.
+    // Writes the pointer to a longer reftable, which is already on the storage with its refblocks. The allocator uses that table from then on.
     pub(crate) fn name_reftable<S: Storage>(
         &mut self,
         file: &mut ImageFile<S>,
         table: RefTable,
     ) -> Result<(), ImageError>
-        requires noted { IsTrue (is_changed_of file.old.storage) }
+        requires recorded { IsTrue (is_changed_of file.old.storage) }
         ensures step { PointerStepTo S.view (StandsBehind file.old.header.fields table)
             self.old.reftable file.old self.new.reftable file.new }
         ensures fails { Fails S.view file.old.storage file.new.storage result IsOfTables }

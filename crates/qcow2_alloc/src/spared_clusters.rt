@@ -18,8 +18,7 @@ pub(crate) const MOST_SPARED: usize = 1 << 18;
 
 impl Allocator {
     /// Spares the clusters that the header, the reftable and an L1 table refer to: until they are freed, a search passes over
-    /// them, even if their refcounts are 0. False if that takes more than 262,144 runs, or memory runs out:
-    /// some are not spared then.
+    /// them, even if their refcounts are 0. False if they make more than 262,144 runs, or memory runs out: then some are not spared.
     pub fn spare_named<S: Storage>(&mut self, file: &ImageFile<S>, l1_table: &L1Table) -> bool
         ensures rest { self.new ≡ record self.old { named = self.new.named } }
         ensures spares { Spares (IsNamedHere file.now.header.fields self.old.reftable l1_table.now)
@@ -111,7 +110,7 @@ impl Allocator {
         self.named.give(cluster, true, true)
     }
 
-    // Spares a cluster no longer. If there is no room to split its run, none of the run is spared.
+    // Ends the sparing of a cluster. If there is no room to split its run, none of the run is spared any more.
     pub(crate) fn spare_no_longer(&mut self, cluster: u64)
         ensures rest { self.new ≡ record self.old { named = self.new.named } }
         ensures fewer { (k : ℕ) → IsIn self.new.named k → IsIn self.old.named k }

@@ -1,6 +1,6 @@
 //! A cache of tables in the order of their last use, which remembers which of them are modified.
 ghost use Rattle.std.specs.Prelude.{◌||◌, ◌≡◌, ◌≢◌, ◌<◌, ◌↔◌, IsTrue, cond, [], length, option_copied, option_map};
-ghost use Rattle.std.specs.Prelude.{IsSome, IsNone, IfOk, IfSome, OnErr, Ok, Err, None, true, false};
+ghost use Rattle.std.specs.Prelude.{IsSome, IsNone, IfOk, IfSome, MatchOption, OnErr, Ok, Err, None, true, false};
 ghost use Rattle.std.specs.List.{IsDistinct};
 ghost use Rattle.std.specs.Map.{keys_of, lookup, lookup_entry, remove_entry, set_value};
 ghost use Rattle.std.specs.Option.{option_map_or};
@@ -8,7 +8,7 @@ ghost use Rattle.lru.specs.LruCache.{promoted};
 ghost use Rattle.qcow2_alloc.specs.AsyncLruCache.{cache_of, with_entries, value_at, is_pinned, can_pin, pin_at};
 ghost use Rattle.qcow2_alloc.specs.AsyncLruCache.{can_unpin, unpin_at, can_remove, oldest_free, pinned, pins_at};
 ghost use Rattle.qcow2_alloc.specs.AsyncLruCache.{IsInFront, KeepsOthers, OnlyOldestGoes, KeepsPins};
-ghost use Rattle.qcow2_alloc.specs.AsyncLruCacheBackend.{KeepsKnown, LaysOver};
+ghost use Rattle.qcow2_alloc.specs.AsyncLruCacheBackend.{KeepsKnown, OverlaysBytes};
 ghost use Rattle.qcow2_alloc.specs.CacheAnswers.{Invalidates, Flushes, FlushesAll, GetsNew, InsertsNew, Replaces};
 ghost use Rattle.qcow2_alloc.specs.TableCache.{settled, ChangesValue};
 ghost use Rattle.qcow2_alloc.specs.TableCache.{marks_in, failure_of, FlushesAt};
@@ -18,7 +18,7 @@ mod backend;
 mod marks;
 mod uses;
 
-use crate::async_lru_cache::{AsyncLruCache, CacheError};
+use crate::async_lru_cache::{AsyncLruCache, CacheError, CacheTypes};
 pub use backend::{Change, TableBackend};
 use std::alloc::{AllocError, Global};
 use std::hash::Hash;
@@ -28,12 +28,12 @@ pub use uses::Uses;
 /// A cache whose modified values are found without a walk over the others. Each key has the number of its last use, and the
 /// keys of modified values are stored by these numbers.
 #[derive(Drop)]
-pub struct TableCache<B: TableBackend> {
+pub struct TableCache<B: CacheTypes> {
     cache: AsyncLruCache<B>,
     uses: Uses<B::Key>,
 }
 
-impl<B: TableBackend> Model for TableCache<B> {
+impl<B: CacheTypes> Model for TableCache<B> {
     ghost use Rattle.std.specs.Prelude.{◌≡◌};
     ghost use Rattle.qcow2_alloc.specs.AsyncLruCache.{Cache};
     ghost use Rattle.qcow2_alloc.specs.TableCache.{marks_in};
@@ -42,7 +42,7 @@ impl<B: TableBackend> Model for TableCache<B> {
 
     ghost view = { λ a. a.cache };
 
-    ghost invariant = { λ a. a.uses ≡ marks_in B.is_modified a.cache.entries };
+    ghost invariant = { λ a. a.uses ≡ marks_in B.Value.is_modified a.cache.entries };
 }
 
 impl<B: TableBackend> TableCache<B> {
@@ -148,7 +148,7 @@ impl<B: TableBackend> TableCache<B> {
             × (B.steps self.old.backend).flushed store.old e.0 e.1.value w t) self.old.entries self.new.entries }
 
         // The bytes of the store, with the modified values laid over, stay the same.
-        ensures known { KeepsKnown B.Key.eq B.is_modified B.bytes
+        ensures known { KeepsKnown B.Key.eq B.Value.is_modified B.Value.bytes
             (B.stored self.old.backend) B.is_honest store.old self.old.entries store.new self.new.entries }
     {
         let _count = self.cache.len();
@@ -166,7 +166,7 @@ impl<B: TableBackend> TableCache<B> {
         key: B::Key,
         may_flush: bool,
     ) -> Result<Result<bool, CacheError<B::Key, B::Error>>, AllocError>
-        requires { lookup (B.Key.eq key) self.old.entries ≡ None }
+        requires missing { lookup (B.Key.eq key) self.old.entries ≡ None }
         ensures refused { OnErr result ((self.new ≡ self.old) × (store.new ≡ store.old)) }
         ensures miss { IfOk result (λ got. GetsNew (B.steps self.old.backend) B.Key.eq self.old.size may_flush key
             store.old self.old.entries got store.new self.new.entries) }
@@ -176,7 +176,7 @@ impl<B: TableBackend> TableCache<B> {
         ensures eviction { OnlyOldestGoes B.Key.eq
             (λ e. (w : B.Value) × (t : B.Store)
             × (B.steps self.old.backend).flushed store.old e.0 e.1.value w t) self.old.entries self.new.entries }
-        ensures known { KeepsKnown B.Key.eq B.is_modified B.bytes
+        ensures known { KeepsKnown B.Key.eq B.Value.is_modified B.Value.bytes
             (B.stored self.old.backend) B.is_honest store.old self.old.entries store.new self.new.entries }
     {
         let _count = self.cache.len();
@@ -216,10 +216,10 @@ impl<B: TableBackend> TableCache<B> {
 
         // The value is laid over the known bytes if it was taken. Otherwise they stay the same.
         ensures laid { IfSome value.old
-            (λ v. result ≡ Ok (Ok true) → LaysOver B.Key.eq B.is_modified B.bytes
+            (λ v. result ≡ Ok (Ok true) → OverlaysBytes B.Key.eq B.Value.is_modified B.Value.bytes
             (B.stored self.old.backend) B.is_honest key v store.old self.old.entries store.new self.new.entries) }
         ensures known { result ≢ Ok (Ok true)
-            → KeepsKnown B.Key.eq B.is_modified B.bytes
+            → KeepsKnown B.Key.eq B.Value.is_modified B.Value.bytes
             (B.stored self.old.backend) B.is_honest store.old self.old.entries store.new self.new.entries }
     {
         let _count = self.cache.len();
@@ -248,7 +248,7 @@ impl<B: TableBackend> TableCache<B> {
     ) -> Result<Result<bool, CacheError<B::Key, B::Error>>, AllocError>
         requires missing { lookup (B.Key.eq key) self.old.entries ≡ None }
         requires given { IsSome value.old }
-        requires marked { IfSome value.old (λ v. B.is_modified v ≡ is_modified) }
+        requires marked { IfSome value.old (λ v. B.Value.is_modified v ≡ is_modified) }
         ensures refused { OnErr result ((self.new ≡ self.old) × (store.new ≡ store.old) × (value.new ≡ value.old)) }
         ensures inserts { IfSome value.old (λ v. IfOk result (λ put.
             InsertsNew (B.steps self.old.backend) B.Key.eq self.old.size may_flush key v
@@ -256,10 +256,10 @@ impl<B: TableBackend> TableCache<B> {
         ensures kept { KeepsOthers B.Key.eq key self.old self.new }
         ensures keeps { B.keeps store.old store.new }
         ensures laid { IfSome value.old
-            (λ v. result ≡ Ok (Ok true) → LaysOver B.Key.eq B.is_modified B.bytes
+            (λ v. result ≡ Ok (Ok true) → OverlaysBytes B.Key.eq B.Value.is_modified B.Value.bytes
             (B.stored self.old.backend) B.is_honest key v store.old self.old.entries store.new self.new.entries) }
         ensures known { result ≢ Ok (Ok true)
-            → KeepsKnown B.Key.eq B.is_modified B.bytes
+            → KeepsKnown B.Key.eq B.Value.is_modified B.Value.bytes
             (B.stored self.old.backend) B.is_honest store.old self.old.entries store.new self.new.entries }
     {
         let _count = self.cache.len();
@@ -284,7 +284,7 @@ impl<B: TableBackend> TableCache<B> {
         requires there { IsSome (lookup (B.Key.eq key) self.old.entries) }
         requires given { IsSome value.old }
         requires marked { IfSome (lookup (B.Key.eq key) self.old.entries) (λ s. IfSome value.old (λ v.
-            is_marked ≡ (B.is_modified v || B.is_modified s.value))) }
+            is_marked ≡ (B.Value.is_modified v || B.Value.is_modified s.value))) }
         ensures refused { OnErr result ((self.new ≡ self.old) × (store.new ≡ store.old) × (value.new ≡ value.old)) }
         ensures replaces { IfSome (lookup_entry (B.Key.eq key) self.old.entries) (λ e.
             IfSome value.old (λ v. IfOk result (λ put.
@@ -293,10 +293,10 @@ impl<B: TableBackend> TableCache<B> {
         ensures kept { KeepsOthers B.Key.eq key self.old self.new }
         ensures keeps { B.keeps store.old store.new }
         ensures laid { IfSome value.old
-            (λ v. result ≡ Ok (Ok true) → LaysOver B.Key.eq B.is_modified B.bytes
+            (λ v. result ≡ Ok (Ok true) → OverlaysBytes B.Key.eq B.Value.is_modified B.Value.bytes
             (B.stored self.old.backend) B.is_honest key v store.old self.old.entries store.new self.new.entries) }
         ensures known { result ≢ Ok (Ok true)
-            → KeepsKnown B.Key.eq B.is_modified B.bytes
+            → KeepsKnown B.Key.eq B.Value.is_modified B.Value.bytes
             (B.stored self.old.backend) B.is_honest store.old self.old.entries store.new self.new.entries }
     {
         let _count = self.cache.len();
@@ -311,10 +311,9 @@ impl<B: TableBackend> TableCache<B> {
     /// Changes the value under a key, and returns what the change returns; None if there is no value. The order stays the same. Needs no memory:
     /// the key has had room among the modified ones since it was inserted.
     pub fn change<C: Change<B>>(&mut self, key: B::Key, how: &C) -> Option<C::Answer>
-        requires { IfSome (lookup (B.Key.eq key) self.old.entries) (λ s. C.accepts how.now s.value) }
-        ensures missing { IsNone (lookup (B.Key.eq key) self.old.entries) → (result ≡ None) × (self.new ≡ self.old) }
-        ensures there { IfSome (lookup (B.Key.eq key) self.old.entries) (λ s.
-            ChangesValue B.Key.eq (C.applied how.now) key s self.old result self.new) }
+        ensures distinct { IsDistinct B.Key.eq (keys_of self.old.entries) }
+        ensures changes { MatchOption (value_at (B.Key.eq key) self.old.entries) ((result ≡ None) × (self.new ≡ self.old))
+            (λ v. ChangesValue B.Key.eq (C.applied how.now) key v self.old result self.new) }
     {
         let Some(value) = self.cache.peek_mut(key) else {
             return None;
@@ -322,7 +321,7 @@ impl<B: TableBackend> TableCache<B> {
         let answer = how.apply(value);
         let is_modified = B::is_modified(value);
         set_mark(&mut self.uses, key, is_modified);
-        Some(answer)
+        answer
     }
 
     /// Removes each entry without a pin, unflushed. Refused `StillInUse` with the keys of the pinned entries, which stay. Refused
@@ -380,7 +379,7 @@ impl<B: TableBackend> TableCache<B> {
         ensures others { self.new ≡ with_entries self.old self.new.entries }
         ensures keeps { B.keeps store.old store.new }
         ensures pins { KeepsPins B.Key.eq self.old.entries self.new.entries }
-        ensures known { KeepsKnown B.Key.eq B.is_modified B.bytes
+        ensures known { KeepsKnown B.Key.eq B.Value.is_modified B.Value.bytes
             (B.stored self.old.backend) B.is_honest store.old self.old.entries store.new self.new.entries }
     {
         let _count = self.cache.len();
@@ -410,7 +409,7 @@ impl<B: TableBackend> TableCache<B> {
 
     // Flushes the entry under a key, and returns its failure. After a failure the key stays among the modified ones.
     fn flush_one(&mut self, store: &mut B::Store, key: B::Key) -> Option<B::Error>
-        requires { IsSome (lookup (B.Key.eq key) self.old.entries) }
+        requires there { IsSome (lookup (B.Key.eq key) self.old.entries) }
         ensures flushed { IfSome (lookup (B.Key.eq key) self.old.entries) (λ s.
             FlushesAt B.Key.eq (B.steps self.old.backend) key s store.old self.old result store.new self.new) }
         ensures others { self.new ≡ with_entries self.old self.new.entries }
@@ -424,7 +423,7 @@ impl<B: TableBackend> TableCache<B> {
     // The key of the most recently used modified entry.
     fn first_modified(&self) -> Option<B::Key>
         ensures distinct { IsDistinct B.Key.eq (keys_of self.now.entries) }
-        ensures found { IsFoundAs B.Key.eq result (first_marked (marks_in B.is_modified self.now.entries)) }
+        ensures found { IsFoundAs B.Key.eq result (first_marked (marks_in B.Value.is_modified self.now.entries)) }
     {
         let _count = self.cache.len();
         self.uses.first_marked()
@@ -434,7 +433,7 @@ impl<B: TableBackend> TableCache<B> {
     fn next_modified(&self, key: B::Key) -> Option<B::Key>
         ensures distinct { IsDistinct B.Key.eq (keys_of self.now.entries) }
         ensures found { IsFoundAs B.Key.eq result
-            (first_marked (behind (B.Key.eq key) (marks_in B.is_modified self.now.entries))) }
+            (first_marked (behind (B.Key.eq key) (marks_in B.Value.is_modified self.now.entries))) }
     {
         let _count = self.cache.len();
         self.uses.next_marked(key)
@@ -464,7 +463,7 @@ fn failure_of<K: Drop, E: Drop>(answer: Result<bool, CacheError<K, E>>) -> Optio
 
 // Removes a key that the cache does not hold any more, or the mark of a key whose value is unmodified.
 fn settle<B: TableBackend>(cache: &AsyncLruCache<B>, uses: &mut Uses<B::Key>, key: Option<B::Key>)
-    ensures { uses.new ≡ option_map_or (λ k. settled B.Key.eq B.is_modified cache.now.entries k uses.old) key uses.old }
+    ensures { uses.new ≡ option_map_or (λ k. settled B.Key.eq B.Value.is_modified cache.now.entries k uses.old) key uses.old }
 {
     let Some(key) = key else {
         return;

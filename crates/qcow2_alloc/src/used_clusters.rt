@@ -3,13 +3,10 @@ ghost use Rattle.std.specs.Prelude.{◌≡◌, ◌⊎◌, ℕ, ◌+◌, ◌-◌,
 ghost use Rattle.std.specs.Prelude.{IsTrue, IsFalse};
 ghost use Rattle.number_runs.specs.NumberRuns.{IsIn, Adds, NoneIn};
 ghost use Rattle.qcow2_laws.specs.CrashInvariant.{Pending};
-ghost use Rattle.qcow2_metadata.specs.Header.{counts_per_block};
-ghost use Rattle.qcow2_alloc.specs.Allocation.{HasNone};
 ghost use Rattle.qcow2_alloc.specs.ImageError.{IsOfTables};
 ghost use Rattle.qcow2_alloc.specs.ImageFile.{AllocatorInvariant};
 ghost use Rattle.qcow2_alloc.specs.LowestRuns.{IsCovered, NoFreeBelowHint, KeepsNoFreeBelowHint, KeepsRuns};
-ghost use Rattle.qcow2_alloc.specs.UsedCounts.{MovesOn, PassesUsed, PassesKnown, StaysSound, GoesFar, GoesFarIn};
-ghost use Rattle.qcow2_alloc.specs.UsedCounts.{AreFoundFree, IsFoundUsed, SparedStayOut};
+ghost use Rattle.qcow2_alloc.specs.UsedCounts.{MovesOn, PassesKnown, StaysSound, SearchContinuesIn, AreFoundFree, IsFoundUsed, SparedStayOut, AddsFree};
 ghost use Rattle.qcow2_alloc.specs.Steps.{Fails, TableStep};
 
 use crate::free_runs::range_around;
@@ -32,11 +29,9 @@ impl Allocator {
             → PassesKnown S.view p self.old file.old self.new file.new cluster result }
         ensures fails { Fails S.view file.old.storage file.new.storage result IsOfTables }
         ensures behind { IfOk result (λ next. cluster ≤ next) }
-        ensures far { IfOk result (GoesFarIn file.old.header.fields self.new file.new.caches cluster) }
+        ensures far { IfOk result (SearchContinuesIn file.old.header.fields self.new file.new.caches cluster) }
         ensures hint { (p : Pending) → AllocatorInvariant S.view self.old p file.old
             → NoFreeBelowHint S.view self.old file.old → KeepsNoFreeBelowHint S.view self.new file.new result }
-        ensures none { HasNone self.old.reftable (cluster / counts_per_block file.old.header.fields)
-            → file.new ≡ file.old }
     {
         self.keep_range(file, cluster)?;
         let next = self.next_open(file, cluster)?;
@@ -46,8 +41,9 @@ impl Allocator {
         Ok(next)
     }
 
-    // The end of the clusters in use from one on: by the remembered refcounts, if the cluster's range was read, otherwise by its refblock.
-    fn next_open<S: Storage>(
+    // The end of the clusters in use from one on. If the cluster's range was read, this is by the remembered refcounts; otherwise by its refblock,
+    // and at most the end of its range. Without a refblock none is in use.
+    pub(crate) fn next_open<S: Storage>(
         &self,
         file: &mut ImageFile<S>,
         cluster: u64,
@@ -58,14 +54,18 @@ impl Allocator {
             → PassesKnown S.view p self.now file.old self.now file.new cluster result }
         ensures fails { Fails S.view file.old.storage file.new.storage result IsOfTables }
         ensures behind { IfOk result (λ next. cluster ≤ next) }
-        ensures far { IfOk result (GoesFarIn file.old.header.fields self.now file.new.caches cluster) }
-        ensures none { HasNone self.now.reftable (cluster / counts_per_block file.old.header.fields)
-            → file.new ≡ file.old }
+        ensures far { IfOk result (SearchContinuesIn file.old.header.fields self.now file.new.caches cluster) }
     {
         if self.is_read(cluster) {
             return Ok(self.behind_kept(cluster));
         }
-        self.next_free_in_range(file, cluster)
+        let bits = file.header.rb_bits();
+        let Some(block) = self.load_block(file, cluster >> bits)? else {
+            return Ok(cluster);
+        };
+        let index = HostCluster::new(cluster).rb_index(bits);
+        let used = file.caches.rb_used_from(block, index);
+        Ok(cluster + used.min((1 << bits) - index) as u64)
     }
 
     // Remembers the refcounts in the refblock of the cluster's range, unless they are remembered already or there was no room for them.
@@ -83,8 +83,6 @@ impl Allocator {
         ensures fails { Fails S.view file.old.storage file.new.storage result IsOfTables }
         ensures hint { (p : Pending) → AllocatorInvariant S.view self.old p file.old
             → NoFreeBelowHint S.view self.old file.old → KeepsNoFreeBelowHint S.view self.new file.new result }
-        ensures none { HasNone self.old.reftable (cluster / counts_per_block file.old.header.fields)
-            → file.new ≡ file.old }
     {
         let bits = file.header.rb_bits();
         let (first, end) = range_around(cluster, bits);
@@ -118,7 +116,7 @@ impl Allocator {
         }
     }
 
-    // Remembers the refcounts in a cached refblock for a range of which nothing is remembered. False if there is no room.
+    // Remembers the refcounts in a cached refblock, for a range that is not remembered yet. False if there is no room.
     fn list_range<S: Storage>(
         &mut self,
         caches: &mut MetadataCaches<S>,
@@ -141,7 +139,7 @@ impl Allocator {
         self.add_read(first, end)
     }
 
-    // Marks the clusters from `first` up to `end` as read, of which none was. False if there is no room.
+    // Marks the clusters from `first` up to `end` as read, none of which was. False if there is no room.
     fn add_read(&mut self, first: u64, end: u64) -> bool
         requires order { first ≤ end }
         requires unread { NoneIn self.old.read first end }
@@ -168,11 +166,9 @@ impl Allocator {
     ) -> bool
         requires order { first ≤ end }
         requires none { NoneIn self.old.free first end }
-        ensures rest { self.new ≡ record self.old { free = self.new.free } }
-        ensures stays { (k : ℕ) → IsIn self.old.free k → IsIn self.new.free k }
+        ensures adds { AddsFree self.old self.new }
         ensures listed { IsTrue result → (k : ℕ) → first ≤ k → k < end
             → IsFoundUsed self.old caches.old block first end k ⊎ IsIn self.new.free k }
-        ensures spared { SparedStayOut self.old self.new }
         ensures same { caches.new ≡ caches.old }
     {
         let mut at = first;
@@ -185,7 +181,7 @@ impl Allocator {
         true
     }
 
-    // Passes over clusters in use or spared from `at` on, or adds a free run there. Returns the cluster behind them, or none if there is no
+    // Passes over clusters in use or spared from `at` on, or adds a free run there. Returns the cluster after them, or none if there is no
     // room.
     fn list_stretch<S: Storage>(
         &mut self,
@@ -198,12 +194,10 @@ impl Allocator {
         requires from { first ≤ at }
         requires below { at < end }
         requires none { NoneIn self.old.free at end }
-        ensures rest { self.new ≡ record self.old { free = self.new.free } }
-        ensures stays { (k : ℕ) → IsIn self.old.free k → IsIn self.new.free k }
+        ensures adds { AddsFree self.old self.new }
         ensures onward { IfSome result (λ next. (at < next) × (next ≤ end) × NoneIn self.new.free next end) }
         ensures listed { IfSome result (λ next. (k : ℕ) → at ≤ k → k < next
             → IsFoundUsed self.old caches.old block first end k ⊎ IsIn self.new.free k) }
-        ensures spared { SparedStayOut self.old self.new }
         ensures same { caches.new ≡ caches.old }
     {
         let used = caches.rb_used_from(block, (at - first) as usize) as u64;
@@ -213,7 +207,7 @@ impl Allocator {
         Some(at.saturating_add(used).min(end))
     }
 
-    // Passes over spared clusters from `at` on, or adds a free run there. Returns the cluster behind them, or none if there is no room.
+    // Passes over spared clusters from `at` on, or adds a free run there. Returns the cluster after them, or none if there is no room.
     fn list_open<S: Storage>(
         &mut self,
         caches: &MetadataCaches<S>,
@@ -225,12 +219,10 @@ impl Allocator {
         requires from { first ≤ at }
         requires below { at < end }
         requires none { NoneIn self.old.free at end }
-        ensures rest { self.new ≡ record self.old { free = self.new.free } }
-        ensures stays { (k : ℕ) → IsIn self.old.free k → IsIn self.new.free k }
+        ensures adds { AddsFree self.old self.new }
         ensures onward { IfSome result (λ next. (at < next) × (next ≤ end) × NoneIn self.new.free next end) }
         ensures listed { IfSome result (λ next. (k : ℕ) → at ≤ k → k < next
             → IsIn self.old.named k ⊎ IsIn self.new.free k) }
-        ensures spared { SparedStayOut self.old self.new }
     {
         if let Some((spared, n)) = self.named.run_of(at) {
             return Some((spared + n).min(end));
@@ -260,10 +252,14 @@ impl Allocator {
         ensures spared { NoneIn self.now.named at (at + result) }
         ensures free { AreFoundFree caches.now block first at (at + result) }
     {
+        let Some(block) = caches.rb_peek(block) else {
+            return 0;
+        };
         let stop = self.spared_from(at, end);
+        let last = stop.min(first.saturating_add(block.counts() as u64));
         let mut next = at;
-        'counting: while next < stop {
-            if !caches.rb_is_zero(block, (next - first) as usize) {
+        'counting: while next < last {
+            if !block.is_zero((next - first) as usize) {
                 return next - at;
             }
             next += 1;
@@ -282,30 +278,5 @@ impl Allocator {
             Some((spared, _)) => spared.min(end),
             None => end,
         }
-    }
-
-    // The end of the clusters in use from one on, by its refblock, at most the end of its range. Without a refblock none is in use.
-    pub(crate) fn next_free_in_range<S: Storage>(
-        &self,
-        file: &mut ImageFile<S>,
-        cluster: u64,
-    ) -> Result<u64, ImageError>
-        requires { cluster < 2 ^ 63 }
-        ensures step { TableStep S.view self.now.reftable file.old self.now.reftable file.new }
-        ensures sound { (p : Pending) → AllocatorInvariant S.view self.now p file.old
-            → PassesUsed S.view p file.old self.now file.new cluster result }
-        ensures fails { Fails S.view file.old.storage file.new.storage result IsOfTables }
-        ensures behind { IfOk result (λ next. cluster ≤ next) }
-        ensures far { IfOk result (GoesFar file.old.header.fields self.now.reftable file.new.caches cluster) }
-        ensures none { HasNone self.now.reftable (cluster / counts_per_block file.old.header.fields)
-            → file.new ≡ file.old }
-    {
-        let bits = file.header.rb_bits();
-        let Some(block) = self.load_block(file, cluster >> bits)? else {
-            return Ok(cluster);
-        };
-        let index = HostCluster::new(cluster).rb_index(bits);
-        let used = file.caches.rb_used_from(block, index);
-        Ok(cluster + used.min((1 << bits) - index) as u64)
     }
 }

@@ -1,8 +1,8 @@
-//! Pages of a store that tells what was flushed, for tests of caches.
+//! Pages of a store that records what was flushed, for tests of caches.
 ghost use Rattle.std.specs.Prelude.{◌≡◌, ⊤, false, [], ◌∷◌, IsSome};
 ghost use Rattle.std.proofs.Common.{ap};
 
-use crate::async_lru_cache::AsyncLruCacheBackend;
+use crate::async_lru_cache::{AsyncLruCacheBackend, CacheTypes, CachedValue};
 use std::alloc::Global;
 
 #[derive(Drop)]
@@ -23,7 +23,13 @@ pub(crate) struct Disk {
 #[derive(Drop)]
 pub(crate) struct Pages;
 
-impl AsyncLruCacheBackend for Pages {
+impl CachedValue for Page {
+    ghost bytes = { λ v. v.number ∷ [] };
+
+    ghost is_modified = { λ v. v.modified };
+}
+
+impl CacheTypes for Pages {
     type Key = u32;
 
     type Value = Page;
@@ -31,7 +37,9 @@ impl AsyncLruCacheBackend for Pages {
     type Error = u32;
 
     type Store = Disk;
+}
 
+impl AsyncLruCacheBackend for Pages {
     ghost steps = { λ _. record {
       loaded = λ _ _ v _. v.modified ≡ false;
       load_failed = λ _ _ _ _. ⊤;
@@ -44,10 +52,6 @@ impl AsyncLruCacheBackend for Pages {
     ghost is_honest = { λ _. ⊥ };
 
     ghost stored = { λ _ _ _. [] };
-
-    ghost bytes = { λ v. v.number ∷ [] };
-
-    ghost is_modified = { λ v. v.modified };
 
     ghost keeps = { λ _ _. ⊤ };
 

@@ -1,4 +1,4 @@
--- No offset is off a cluster exactly where each is on one.
+-- There is no unaligned offset exactly if each offset is aligned.
 use Rattle.std.proofs.Common.{◌≡◌, ◌≢◌, ℕ, ◌%◌, ◌<◌, eqb, Some, None, refl, ap, inl, inr}
 use Rattle.std.specs.Prelude.{not}
 use Rattle.std.proofs.lemmas.Bool.{cases_eq, eq-eqb}

@@ -1,4 +1,4 @@
--- The clusters with a breach, which are named or marked.
+-- The clusters with a breach, which have references or copied marks.
 use Rattle.std.proofs.Common.{◌≡◌, ℕ, ◌&&◌, Bool, true, false, cond, eqb, refl, sym, ap, ◌∙◌}
 use Rattle.std.proofs.lemmas.Bool.{cond-true, cond-false}
 use Rattle.qcow2_check.specs.declared.kept.Counts.{Counts}

@@ -1,4 +1,4 @@
--- The counts that the reftable gives.
+-- The refcounts that the reftable gives.
 use Rattle.std.proofs.Common.{◌≡◌, ◌≢◌, ℕ, ◌+◌, ◌-◌, ◌*◌, ◌/◌, ◌%◌, ◌^◌, ◌<◌, ◌≤◌, List, length, arith, sym, ap, ◌∙◌}
 use Rattle.std.proofs.lemmas.Bool.{cond-false, ne_eqb, le-ltb}
 use Rattle.std.proofs.lemmas.Nat.{pow_pos, pow-add, div-add-mod', div-mul-add, le-div}
@@ -7,7 +7,7 @@ use Rattle.qcow2_metadata.specs.declared.header.HeaderFields.{HeaderFields}
 use Rattle.qcow2_metadata.specs.Bytes.{Bytes}
 use Rattle.qcow2_metadata.specs.Header.{cluster_size, counts_per_block, reftable_entries}
 use Rattle.qcow2_metadata.specs.Entries.{block_offset, reftable_entry, count, count_under}
-use Rattle.qcow2_metadata.proofs.TablesAt.{StandAt, count_stands}
+use Rattle.qcow2_metadata.proofs.TablesAt.{HasBytesAt, count_stands}
 use Rattle.qcow2_metadata.specs.RefBlock.{count_in}
 use Rattle.qcow2_check.specs.Counted.{block_count_or_zero}
 
@@ -25,7 +25,7 @@ some_counts h low few =
 
 -- the counts of a refblock that was read into a buffer
 pub read_counts : (h : HeaderFields) (b : Bytes) (bytes : List ℕ) (place : ℕ) → h.refcount_order ≤ 6 → cluster_size h % 8 ≡ 0
-    → place ≢ 0 → StandAt b place bytes → length bytes ≡ cluster_size h
+    → place ≢ 0 → HasBytesAt b place bytes → length bytes ≡ cluster_size h
     → (j : ℕ) → j < counts_per_block h → count_in h.refcount_order bytes j ≡ block_count_or_zero h b place j
 read_counts h b bytes place few whole some stands long j inside =
     count_stands b place bytes h.refcount_order j stands (rw long whole) few (rw long inside) ∙ sym (cond-false _ _ _ (ne_eqb place 0 some))

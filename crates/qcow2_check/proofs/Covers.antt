@@ -1,4 +1,4 @@
--- What an entry names, by its host offset or as compressed data.
+-- What an entry refers to, by its host offset or as compressed data.
 use Rattle.std.proofs.Common.{◌≡◌, ℕ, ◌*◌, ◌&&◌, Bool, true, false, refl, ap, ◌∙◌, arith}
 use Rattle.qcow2_metadata.specs.Bytes.{one_if}
 

@@ -1,4 +1,4 @@
--- What holds of each L2 entry, by a sum of terms.
+-- Properties of every L2 entry, as sums of terms.
 use Rattle.std.proofs.Common.{◌≢◌, ℕ, ◌<◌, cond, eqb, sym, ◌∙◌, inl, inr}
 use Rattle.std.proofs.lemmas.Bool.{cases_eq, cond-true, cond-false, eq-eqb, ne_eqb}
 use Rattle.qcow2_metadata.specs.Bytes.{Bytes, sum_below}

@@ -12,7 +12,7 @@ use Rattle.qcow2_check.specs.Tallies.{TalliesGrow, tally_in}
 use Rattle.qcow2_metadata.specs.TableBytes.{entry_at}
 use Rattle.qcow2_check.specs.Marks.{named_by_entries, marked_by_entries, marked_by_l2_table, mark_of_entry, tables_among, marks_among}
 use Rattle.qcow2_check.proofs.Grow.{grows_none, grows_more}
-use Rattle.qcow2_metadata.proofs.TablesAt.{StandAt}
+use Rattle.qcow2_metadata.proofs.TablesAt.{HasBytesAt}
 use Rattle.qcow2_check.proofs.Shifts.{named_by_part, marked_by_part}
 
 pub one_if-and_true : (b : Bool) → one_if (b && true) ≡ one_if b
@@ -48,7 +48,7 @@ no_table h b place times m none =
 
 -- it was read into these bytes
 pub one_table : (h : HeaderFields) (b : Bytes) (bytes : List ℕ) (place times : ℕ) (old new : TallyMap)
-    → place ≢ 0 → StandAt b place bytes → length bytes ≡ cluster_size h
+    → place ≢ 0 → HasBytesAt b place bytes → length bytes ≡ cluster_size h
     → TalliesGrow old new (λ q. times * named_by_entries h (byte_at bytes) 0 (entries_per_cluster h) q) (λ _. 0) (λ q. times * marked_by_entries h (byte_at bytes) 0 (entries_per_cluster h) q)
     → TalliesGrow old new (λ q. times * named_by_l2_table h b q place) (λ _. 0) (λ q. times * marked_by_l2_table h b q place)
 unfolding named_by_l2_table

@@ -1,4 +1,4 @@
--- The leaks from a cluster on, one after the other.
+-- The leaks from a cluster on, one after another.
 use Rattle.std.proofs.Common.{◌≡◌, ℕ, zero, suc, ◌+◌, ◌-◌, ◌^◌, ◌<◌, ◌≤◌, Bool, true, false, cond, Option, Some, None, List, [], ◌∷◌, ◌++◌, ◌*◌, length, length-append, add-one, map, refl, sym, ap, ◌∙◌, arith}
 use Rattle.std.proofs.lemmas.Bool.{cond-true, cond-false}
 use Rattle.qcow2_check.specs.declared.kept.Counts.{Counts}

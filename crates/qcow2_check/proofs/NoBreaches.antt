@@ -1,4 +1,4 @@
--- A report without breaches is one of a consistent image, and the other way round.
+-- A report has no breaches exactly if the image is consistent.
 use Rattle.std.proofs.Common.{◌≡◌, ◌≢◌, ℕ, ◌+◌, ◌^◌, ◌<◌, ◌≤◌, List, [], ◌++◌, ◌*◌, length, ap, refl, sym, subst, ◌∙◌, arith, inl, inr}
 use Rattle.std.specs.Prelude.{◌↔◌}
 use Rattle.std.proofs.lemmas.Bool.{cases_eq}
@@ -52,7 +52,7 @@ pub record NoLines (h : HeaderFields) (b : Bytes) : Type 0 where
   pub shared : lines (2 ^ 64) is_shared shared_line (tally h b) ≡ []
   pub copied : lines (2 ^ 64) is_miscopied copied_line (tally h b) ≡ []
 
--- nothing is told of clusters and offsets past 64 bits
+-- nothing is reported of clusters and offsets past 64 bits
 pub record AllEnd (h : HeaderFields) (b : Bytes) : Type 0 where
   pub clusters : EndsBelow (2 ^ 64) (tally h b)
   pub l2_tables : EndsBelow (2 ^ 64) (times (off_l2_tables h b))

@@ -41,7 +41,7 @@ fails_below (suc n) p none c lt = elim (cases_eq c n) [
 
 -- ---- lines
 
--- nothing is told of numbers from the limit on
+-- nothing is reported of numbers from the limit on
 abbrev pub EndsBelow : ℕ → (ℕ → Tally) → Type 0
 EndsBelow limit t = (q : ℕ) → limit ≤ q → t q ≡ no_tally
 

@@ -11,7 +11,7 @@ use Rattle.qcow2_metadata.specs.Entries.{l1_entry, l2_entry, reftable_entry, hos
 use Rattle.qcow2_metadata.specs.Cover.{entry_cover}
 use Rattle.qcow2_metadata.specs.L2Mapping.{host_of}
 use Rattle.qcow2_metadata.specs.TableBytes.{entry_at}
-use Rattle.qcow2_metadata.proofs.TablesAt.{StandAt, entry_stands}
+use Rattle.qcow2_metadata.proofs.TablesAt.{HasBytesAt, entry_stands}
 use Rattle.qcow2_check.specs.declared.tally.Tally.{Tally}
 use Rattle.qcow2_check.specs.Tallies.{TalliesGrow, tally_in, no_tally}
 use Rattle.qcow2_check.specs.Offsets.{off_cluster, off_cluster_if, tables_off, blocks_off, off_l2_tables, off_refblocks, data_off, data_off_at, times}
@@ -61,7 +61,7 @@ grows_as old new f g same grows = record {
 }
 
 pub data_part : (h : HeaderFields) (b : Bytes) (bytes : List ℕ) (place times : ℕ) (old new : TallyMap) → place ≢ 0
-    → StandAt b place bytes → length bytes ≡ cluster_size h
+    → HasBytesAt b place bytes → length bytes ≡ cluster_size h
     → TalliesGrow old new (λ o. times * data_off h (byte_at bytes) 0 (entries_per_cluster h) o) (λ _. 0) (λ _. 0)
     → TalliesGrow old new (λ o. times * data_off_at h b o place) (λ _. 0) (λ _. 0)
 data_part h b bytes place times old new some stands whole grows =

@@ -1,4 +1,4 @@
--- What is marked copied is its own exactly where each cluster with a mark is.
+-- Copied marks, by offset and by cluster: each mark is on a cluster with one reference and refcount 1 exactly if each cluster with a mark is such a one.
 use Rattle.std.proofs.Common.{◌≡◌, ◌≢◌, ℕ, ◌/◌, ◌&&◌, Bool, eqb, Some, None, refl, subst}
 use Rattle.std.specs.Prelude.{IsTrue}
 use Rattle.std.proofs.lemmas.Bool.{eq-eqb}

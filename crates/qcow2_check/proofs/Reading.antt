@@ -1,4 +1,4 @@
--- Reads one after the other.
+-- Reads one after another.
 use Rattle.std.proofs.Common.{◌≡◌, Result, Ok, ◌∙◌}
 use Rattle.image_access.specs.Moments.{StorageView, IsLeftBy}
 use Rattle.image_access.proofs.EachMomentSince.{passes_on, cause_since}

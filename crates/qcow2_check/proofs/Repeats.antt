@@ -1,4 +1,4 @@
--- A table that is read once for all references to it, which follow each other.
+-- A table that is read once for several equal offsets in a row.
 use Rattle.std.proofs.Common.{◌≡◌, ℕ, ◌+◌}
 use Rattle.qcow2_check.specs.declared.tally_map.TallyMap.{TallyMap}
 use Rattle.qcow2_check.specs.Tallies.{tally_in}

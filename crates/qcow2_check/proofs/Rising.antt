@@ -1,4 +1,4 @@
--- The lines of a map's entries are the lines of all numbers.
+-- The lines for the entries of a map are the lines for all numbers.
 use Rattle.std.proofs.Common.{◌≡◌, ◌≢◌, ℕ, zero, suc, ◌+◌, ◌<◌, ◌≤◌, Bool, true, false, cond, eqb, ltb, List, [], ◌∷◌, ◌++◌, map, filter, unwrap_or, refl, sym, ap, ◌∙◌, arith, inl, inr, add-one, append_assoc, append-nil, subst, ◌-◌, Less, Equal, Greater}
 use Rattle.std.specs.List.{range_with_len, AllByRecursion}
 use Rattle.std.specs.List.Sorted.{IsStrictlySortedBy}

@@ -7,14 +7,14 @@ use Rattle.qcow2_metadata.specs.Header.{cluster_size, entries_per_cluster}
 use Rattle.qcow2_metadata.specs.Entries.{l2_entry}
 use Rattle.qcow2_metadata.specs.Cover.{entry_cover}
 use Rattle.qcow2_metadata.specs.Named.{named_by_cover}
-use Rattle.qcow2_metadata.proofs.TablesAt.{StandAt, entry_stands}
+use Rattle.qcow2_metadata.proofs.TablesAt.{HasBytesAt, entry_stands}
 use Rattle.qcow2_check.proofs.Sums.{sum_below-same}
 use Rattle.qcow2_check.specs.Marks.{marks_of_cover, named_by_entries, marked_by_entries}
 
 inside_table : (size j : ℕ) → j < size / 8 → 8 * j + 8 ≤ size
 inside_table size j lt = let down = div-mul-le_self size 8 in omega arith
 
-module _ (h : HeaderFields) (b : Bytes) (bytes : List ℕ) (place q : ℕ) (stands : StandAt b place bytes) (whole : length bytes ≡ cluster_size h) where
+module _ (h : HeaderFields) (b : Bytes) (bytes : List ℕ) (place q : ℕ) (stands : HasBytesAt b place bytes) (whole : length bytes ≡ cluster_size h) where
   entry : (j : ℕ) → j < entries_per_cluster h → l2_entry (byte_at bytes) 0 j ≡ l2_entry b place j
   entry j lt = let inside = inside_table (cluster_size h) j lt in entry_stands b place bytes j stands (omega (arith, inside, whole))
 

@@ -33,7 +33,7 @@ tally_put m q t none put = tally-large m q (ap is_blank none) ∙ ap (λ (o : Op
 pub tally_set : (m : TallyMap) (q : ℕ) (s : SmallTally) (t : Tally) → small_in m q ≡ s → is_blank s ≡ false → widened s ≡ t → tally_in m q ≡ t
 tally_set m q s t is some wide = tally-small m q (ap is_blank is ∙ some) ∙ ap widened is ∙ wide
 
--- a longer array, with blanks behind what it had
+-- a longer array, with blanks after what it had
 pub blanks_more : (old new : List SmallTally) (n q : ℕ) → length new ≡ n → length old ≤ n
     → ((k : ℕ) (d : SmallTally) → k < n → k < length old → get_or new k d ≡ get_or old k d)
     → ((k : ℕ) (d : SmallTally) → length old ≤ k → k < n → get_or new k d ≡ blank)

@@ -58,7 +58,7 @@ pub record HasBlock (h : HeaderFields) (b : Bytes) (blocks : List Block) (number
 abbrev pub KeepsBlocks : HeaderFields → Bytes → List Block → BTreeMap ℕ ℕ → Type 0
 KeepsBlocks h b blocks numbers = (place : ℕ) → IfSome (get nat_cmp numbers place) (λ number. HasBlock h b blocks number place)
 
--- The refblock at this offset is kept too, with a number, beside the old ones.
+-- The refblock at this offset is kept in addition to the old ones, with a number.
 pub record KeepsMore (h : HeaderFields) (b : Bytes) (old new : List Block) (numbers : BTreeMap ℕ ℕ) (place number : ℕ) : Type 0 where
   pub keeps : KeepsBlocks h b new numbers
   pub here : HasBlock h b new number place

@@ -43,7 +43,7 @@ IsSmall m total =
 abbrev pub TalliesWithin64Bits : TallyMap → Type 0
 TalliesWithin64Bits m = (q : ℕ) → 2 ^ 64 ≤ q → tally_in m q ≡ no_tally
 
--- Each cluster gets so many more references.
+-- Each cluster gets this many more references.
 pub record TalliesGrow (old new : TallyMap) (named for_tables marked : ℕ → ℕ) : Type 0 where
   pub more_named : (q : ℕ) → (tally_in new q).named ≡ (tally_in old q).named + named q
   pub more_for_tables : (q : ℕ) → (tally_in new q).for_tables ≡ (tally_in old q).for_tables + for_tables q

@@ -9,7 +9,7 @@ use crate::kept::Block;
 use qcow2_metadata::read_count;
 use std::alloc::{AllocError, Global};
 
-/// The bytes, or none if all of them are 0.
+/// The bytes, or none if all refcounts are 0.
 fn kept_bytes(alloc: Global, bytes: &[u8]) -> Result<Vec<u8>, AllocError>
     ensures { IfOk result (λ kept. (kept.items ≡ bytes.now)
         ⊎ ((kept.items ≡ []) × ((k : ℕ) → byte_at bytes.now k ≡ 0))) }
@@ -53,7 +53,7 @@ impl Block {
         }
     }
 
-    /// The index of the first refcount from j on that isn't 0. If there is none, it lies past all that are kept.
+    /// The index of the first refcount from j on that isn't 0. If there is none, an index past all refcounts that are kept.
     pub(crate) fn next_counted(&self, j: usize) -> usize
         ensures later { j ≤ result }
         ensures zeros { (i : ℕ) → j ≤ i → i < result → count_of self.now i ≡ 0 }

@@ -41,8 +41,8 @@ struct Findings {
     offsets: Offsets,
 }
 
-/// The references, copied marks and refcounts of all clusters. The more of the refblocks is kept, the longer the array of references
-/// may be from the start.
+/// The references, copied marks and refcounts of all clusters. The more bytes of refblocks are kept, the longer the array of references may be from
+/// the start.
 fn tallies<S: Storage>(
     alloc: Global,
     storage: &mut S,

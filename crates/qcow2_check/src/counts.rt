@@ -29,8 +29,7 @@ fn counts_per_block_of(header: &HeaderFields) -> u64
     size * 8 / (1 << header.refcount_order)
 }
 
-/// The number of the refblock at an offset, from 1 on, and 0 for no offset. It is read and kept unless its offset has a number already.
-/// The buffer has one cluster.
+/// The number of the refblock at an offset, from 1 on, and 0 for no offset. A refblock without a number is read and kept. The buffer has one cluster.
 fn number_of_block<S: Storage>(
     alloc: Global,
     blocks: &mut Vec<Block>,
@@ -152,7 +151,8 @@ impl Counts {
         }
     }
 
-    /// The first cluster from this one on with a refcount above 0, and its refcount. If the refblock has none, it is the last cluster there.
+    /// The first cluster from this one on with a refcount above 0, and its refcount. If the refblock has none, the result is the last cluster of
+    /// the refblock.
     pub(crate) fn next_counted(&self, cluster: u64) -> (u64, u64)
         requires low { cluster < 2 ^ 44 }
         ensures later { cluster ≤ result.0 }

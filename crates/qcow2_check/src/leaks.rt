@@ -11,7 +11,7 @@ use crate::report::Leak;
 use crate::tally_map::TallyMap;
 use std::marker::Model;
 
-/// The clusters with a higher refcount than references, by rising number. Each is found when it is asked for, from the references and the
+/// The clusters with a higher refcount than references, by rising number. A leak is found when it is asked for, from the references and the
 /// refcounts of all clusters. So a refblock that the reftable refers to many times takes no memory for its leaks.
 #[derive(Drop)]
 pub struct Leaks {
@@ -102,7 +102,7 @@ impl Leaks {
         }
     }
 
-    /// The number of leaked clusters. They are counted with each call.
+    /// The number of leaked clusters, which each call counts again.
     pub fn len(&self) -> usize
         ensures { result ≡ length self.now }
     {

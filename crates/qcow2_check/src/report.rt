@@ -53,8 +53,8 @@ pub enum Breach {
 pub struct Leak {
     /// The number of the cluster in the file, from 0.
     pub cluster: u64,
-    /// Its refcount.
+    /// The refcount of the cluster.
     pub count: u64,
-    /// The number of its references.
+    /// The number of references to the cluster.
     pub named: u64,
 }

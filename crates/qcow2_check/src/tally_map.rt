@@ -68,7 +68,8 @@ impl SmallTally {
 pub(crate) struct TallyMap {
     pub(crate) small: Vec<SmallTally>,
     pub(crate) large: BTreeMap<u64, Tally>,
-    /// The number of tallies that the array may have. It grows with the changes, so that one high cluster takes no long array.
+    /// The number of tallies that the array may have. This limit grows with the number of changes, so that a single high cluster does not need a
+    /// long array.
     pub(crate) room: u64,
 }
 

@@ -15,9 +15,9 @@ use std::alloc::{AllocError, Global};
 /// Which tallies a list contains.
 #[derive(Clone, Copy)]
 pub(crate) enum Choice<'a> {
-    /// Those of clusters with a breach, by their refcounts.
+    /// The tallies of clusters with a breach, by their refcounts.
     Breached(&'a Counts),
-    /// Those with references.
+    /// The tallies of clusters with references.
     Named,
 }
 
@@ -31,7 +31,7 @@ fn is_breached(tally: &Tally) -> bool
     is_under || is_shared || is_miscopied
 }
 
-/// The tally of a cluster, with its refcount if it has a reference or a copied mark.
+/// The tally of a cluster, with the refcount if the cluster has a reference or a copied mark.
 fn with_count(counts: &Counts, cluster: u64, tally: &Tally) -> Tally
     ensures { result ≡ with_count (count_in counts.now cluster) tally.now }
 {

@@ -1,4 +1,4 @@
--- Calls one after another, as a session's read or write makes them, and where stops may find an image on the way. Each of these moments is built here.
+-- Calls one after another, as a read or a write of several parts makes them, and the moments on the way, each of which is built here.
 use Rattle.std.proofs.Common.{◌≡◌, ◌⊎◌, ⊎_elim, inl, inr, ℕ, List, IsTrue, sym, ap, ◌∙◌, subst}
 use Rattle.image_access.specs.Moments.{StorageView, EachMomentSince, IsLeftBy}
 use Rattle.image_access.proofs.EachMomentSince.{passes_none, passes_if, passes_on}

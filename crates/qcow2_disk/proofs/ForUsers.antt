@@ -1,4 +1,4 @@
--- Laws that a user would quote: what was given, put and committed.
+-- The laws for users: values that were given, put and committed.
 use Rattle.std.proofs.Common.{◌≡◌, IsTrue, ◌⊎◌, ⊎_elim, inl, inr, ◌+◌, ◌-◌, ◌<◌, ◌≤◌, ltb, leb, ℕ, refl, sym, ap, ◌∙◌, subst, Bool, true, false, Option, Some, List, [], ◌∷◌, length, eqb, arith}
 use Rattle.std.specs.Prelude.{if◌then◌else◌}
 use Rattle.std.proofs.lemmas.Bool.{cases_lt, cond-true, cond-false, eq-eqb, le-leb, lt-ltb, lt-leb, le-ltb, and_from, and_left, and_right}
@@ -63,7 +63,7 @@ unseen x found g0 g1 g2 g3 slot offset n host count at overwrite is_existing byt
       (λ o. ap (λ (d : Disk). d.value o) (same3 ∙ same2) ∙ put_unseen g1.disk put.0 at bytes (λ i lt. private put.0 i put.1 lt) o ∙ ap (λ (d : Disk). d.value o) same1),
     )
 
--- what stands at a place of the bytes that were put, once they are committed
+-- the values at the offsets of the bytes that were put, once they are committed
 there_at : (g : Disk) (m : PreparedMapping) (at : ℕ) (bytes : List ℕ) (i : ℕ) → i < length bytes
     → (committed (put_disk g m at bytes) (put_mapping m at bytes)).value (m.from + at + i) ≡ known_byte (byte_at bytes i)
 there_at g m at bytes i lt =

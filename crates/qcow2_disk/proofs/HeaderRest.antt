@@ -1,4 +1,4 @@
--- The rest of the header's cluster stays from one contents to the next.
+-- The rest of the header's cluster stays the same from one contents to the next.
 use Rattle.std.proofs.Common.{◌≡◌, ℕ, ◌<◌, inl, inr, refl, sym, ◌∙◌, subst}
 use Rattle.qcow2_metadata.specs.Bytes.{Bytes}
 use Rattle.qcow2_metadata.specs.Header.{header}

@@ -217,7 +217,7 @@ refused_told x old new s command is reply error e stands answer refuses fault by
       checkpoint = λ x' s' _ _ _. inl (checkpoint x' s');
     }))
 
--- one that tells nothing but its refusal
+-- a reply that is only a refusal
 pub refused_as : (x : Setting) (old new : AbstractImage) (s : State) (command is : Command) (reply : Reply) (error : Refusal) → command ≡ is → RefinesState x old s → IsAnswer old new is reply
     → RefusedEffect old new (given_by old.setting (guest_of old) is) (asked_by is) error (CommandMeaning old.setting s.found (guest_of old) is reply (guest_of new)) → (IsRefusalByFault error → IsFaultReply reply) → (IsStorageReply reply → error ≡ storage)
     → ((x' : Setting) (s' : State) → checkpoint_after x' s' is reply (guest_of new) ≡ checkpoint_during x' s' is) → ReplyMatches new.setting old.known new is reply → RefinesCommand x old new s command reply
@@ -327,7 +327,7 @@ Run-push x old mid new (c ∷ commands) (r ∷ replies) command reply run step =
 Run-push x old mid new [] (r ∷ replies) command reply run step = absurd run
 Run-push x old mid new (c ∷ commands) [] command reply run step = absurd run
 
--- an image that stands at a place of a run is as the run says
+-- an image at a point of a run is as the run says
 said_at : {x : Setting} {v : AbstractImage} {s : State} (before : ℕ → ℕ) (leaked : ℕ) → RefinesState x v s → (s.is_failed ≡ false → v.surplus ≡ before) → v.leaked ≡ leaked → RefinesGuest v s before leaked
 said_at before leaked stands same leaks = record { works = stands.works; failed = stands.failed; guest = stands.guest; consistent = λ ok. (stands.known ok).consistent; surplus = same; leaks = leaks }
 
@@ -377,7 +377,7 @@ module _ {D P : Type 0} (spec : Abstraction D P) (x : Setting) (before : ℕ →
   rest_at_end old new s end [] (reply ∷ replies) run safe at = absurd run
   rest_at_end old new s end (command ∷ commands) [] run safe at = absurd run
 
-  -- what stood at its start falls under the first, or the end
+  -- a stop at the start of the run is one before the first command, or at the end
   first_in : (old new : D) (s end : State) (commands : List Command) (replies : List Reply) (run : Run x s commands replies end) → RefinesAlong spec x before leaked old new s end commands replies run
       → LeavesOk x.backing s.checkpoint (spec.storage old) → IsStopIn x s end commands replies run (byte_at (spec.storage old).contents)
   first_in old new s end [] [] run same at = subst (λ (t : State). LeavesOk x.backing t.checkpoint (spec.storage old)) (sym run) at

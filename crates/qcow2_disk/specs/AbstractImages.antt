@@ -37,7 +37,7 @@ pub record Abstraction (D P : Type 0) : Type 1 where
   pub storage : D → StorageView
   -- How many calls of the backing disk have failed. The counter stops at the greatest u64.
   pub faults_below : D → ℕ
-  -- The known contents: the bytes on the storage with every modified cached table laid over its cluster.
+  -- The known contents: the bytes on the storage with every modified cached table overlaid on its cluster.
   pub known : D → Bytes
   -- The bytes that hold guest data: the known contents, if the image has no external data file.
   pub data_bytes : D → Bytes

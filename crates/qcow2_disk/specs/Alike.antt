@@ -15,7 +15,7 @@ IsDataAt h b copied o place = (host : ℕ) × (cover h b (o / cluster_size h) �
 abbrev pub AreDataAt : HeaderFields → Bytes → Bool → ℕ → ℕ → ℕ → Type 0
 AreDataAt h b copied offset place n = (i : ℕ) → i < n → IsDataAt h b copied (offset + i) (place + i)
 
--- Two mappings of the same kind, the second of a guest cluster `distance` bytes behind the first. Data must also lie `distance` bytes behind in the file, with the same copied mark.
+-- Two mappings of the same kind, the second of a guest cluster `distance` bytes after the first. Data must also lie `distance` bytes later in the file, with the same copied mark.
 abbrev pub IsAlike : ℕ → L2Mapping → L2Mapping → Type 0
 IsAlike distance (Data host copied) (Data next marked) = (next ≡ host + distance) × (marked ≡ copied)
 IsAlike distance (Zero kept) (Zero next) = ⊤

@@ -56,7 +56,7 @@ pub record EffectOnFailed (old new : AbstractImage) : Type 0 where
   pub moments : EachMomentSince old.storage new.storage (IsLeftBy old.storage)
   pub leaks : new.leaked ≡ old.leaked
 
--- The effect of a call that gives these values and asks for these sizes.
+-- The whole effect of a call that gives these values and asks for these sizes.
 pub record CallEffect (old new : AbstractImage) (given : List GivenBytes) (asked : List ℕ) : Type 0 where
   pub number : new.number ≡ old.number
   pub works : old.is_sound → EffectOnSound old new given asked
@@ -119,7 +119,7 @@ cleared_at x d how offset n = cleared x d how (touched_from x.cluster_size offse
 abbrev pub given_by_clear : Setting → Disk → Clearing → ℕ → ℕ → GivenBytes
 given_by_clear x d how offset n = given_shown (cleared_at x d how offset n) (touched_from x.cluster_size offset) (touched_to x.cluster_size d.size offset n)
 
--- Whether a growth in this mode leaves the old bytes behind the end as they are.
+-- Whether a growth in this mode leaves the old bytes past the end as they are.
 abbrev pub shows_old : PreallocateMode → Bool
 shows_old Mode.None = true
 shows_old mode = false
@@ -128,13 +128,13 @@ shows_old mode = false
 abbrev pub grown_to : Setting → Disk → ℕ → PreallocateMode → Disk
 grown_to x d size mode = if nat_le size d.size then d else grown x.cluster_size d size (shows_old mode)
 
--- The disk after a refused growth: the size is the old one. If the new bytes were to be zeros, some bytes behind the old size may be zero already.
+-- The disk after a refused growth: the size is the old one. If the new bytes were to be zeros, some bytes past the old size may be zero already.
 pub record MayGrow (x : Setting) (old : Disk) (size : ℕ) (mode : PreallocateMode) (new : Disk) : Type 0 where
   pub same_size : new.size ≡ old.size
   pub values : (o : ℕ) → (new.value o ≡ old.value o)
       ⊎ ((shows_old mode ≡ false) × (old.size < size) × (old.size ≤ o) × (o < rounded_up x.cluster_size size) × (new.value o ≡ known_byte 0))
 
--- A growth to a size that is not larger gives nothing.
+-- What a growth gives: zeros past the old end, if the mode asks for them. A growth to a size that is not larger gives nothing.
 abbrev pub given_by_grow : Setting → Disk → ℕ → PreallocateMode → List GivenBytes
 given_by_grow x d size mode =
     if nat_le size d.size || shows_old mode then [] else given_shown (zeroed_between d d.size (rounded_up x.cluster_size size)) d.size (rounded_up x.cluster_size size) ∷ []

@@ -22,7 +22,7 @@ needs_zeros to_backing = false
 needs_zeros to_zero = true
 needs_zeros to_kept_zero = true
 
--- Rounded up to a cluster, the begin of the range, or its end if that is the disk's end, passes 64 bits.
+-- Rounded up to a cluster, the start of the range, or its end if that is the disk's end, passes 64 bits.
 abbrev pub rounds_past : ℕ → ℕ → ℕ → ℕ → Bool
 rounds_past cs size offset n = nat_le (2 ^ 64) (rounded_up cs offset) || offset + n == size && nat_le (2 ^ 64) (rounded_up cs (offset + n))
 

@@ -38,7 +38,7 @@ uncovered d backing from to = with_values d from (to - from) (λ i. known_byte (
 abbrev pub grown : ℕ → Disk → ℕ → Bool → Disk
 grown cluster_size d size shows_old = record (if shows_old then d else zeroed_between d d.size (rounded_up cluster_size size)) { size = size }
 
--- The disk with a smaller size. The backing disk shows from the first cluster boundary behind the new size up to the offset that the shrink returned.
+-- The disk with a smaller size. The backing disk shows from the first cluster boundary past the new size up to the offset that the shrink returned.
 abbrev pub shrunk : ℕ → Disk → Bytes → ℕ → ℕ → Disk
 shrunk cluster_size d backing size answered =
     record (uncovered d backing (rounded_up cluster_size size) (if answered == d.size then rounded_up cluster_size answered else answered)) { size = size }

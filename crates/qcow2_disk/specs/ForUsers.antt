@@ -35,7 +35,7 @@ PutIsReadInPlace =
     → (IsTrue (m.is_private (offset + i)) → known_byte (byte_at answer i) ≡ g0.disk.value (offset + i))
     × (m.is_private (offset + i) ≡ false → known_byte (byte_at answer i) ≡ (with_bytes g0.disk (m.from + at) bytes).value (offset + i))
 
--- A put to a hidden offset gives nothing but what the disk shows. So until the commit no stop leaves any byte that was put there.
+-- A put to a hidden offset gives only what the disk shows. So until the commit no stop leaves any byte that was put there.
 abbrev pub HiddenBytesAreNotGiven : Type 0
 HiddenBytesAreNotGiven =
     (x : Setting) (g : Guest) (m : PreparedMapping) (slot at o : ℕ) (bytes : List ℕ) (v : Value)
@@ -52,6 +52,6 @@ pub record KeepsNames (old new : Bytes) : Type 0 where
   pub backing_name : backing_name (header new) new ≡ backing_name (header old) old
   pub extensions : (list : List (ℕ × List ℕ)) → AreExtensions old (cluster_size (header old)) (header old).header_length list → AreExtensions new (cluster_size (header new)) (header new).header_length list
 
--- If the rest of a readable header stays the same, its backing file name and its extensions do too.
+-- The backing file name and the extensions of a readable header stay the same, if the rest of its cluster does.
 abbrev pub HeaderRestHasNames : Type 0
 HeaderRestHasNames = (old new : Bytes) → HeaderReads (header old) old → KeepsHeaderRest old new → KeepsNames old new

@@ -10,7 +10,7 @@ use Rattle.qcow2_metadata.specs.Guest.{Value, known_byte}
 use Rattle.qcow2_disk.specs.Disk.{Disk, with_bytes}
 use Rattle.qcow2_disk.specs.Stops.{GivenBytes}
 
--- A guest range, its private offsets, and the values that these will show. All other offsets are in place: a write there shows at once.
+-- A guest range, its private offsets, and the values that these will show. All other offsets are in place: a write there is visible immediately.
 -- Hidden offsets are private offsets that no stop before the commit shows either. A private offset is not hidden if its zero entry keeps a host cluster: the entry on the storage may still be a data entry for that cluster.
 pub record PreparedMapping : Type 0 where
   pub from : ℕ
@@ -49,7 +49,7 @@ IsPrivateIn h b m = (o : ℕ) → first_of (cluster_size h) m ≤ o → o < end_
 abbrev pub IsHiddenIn : HeaderFields → Bytes → PreparedMapping → Type 0
 IsHiddenIn h b m = (o : ℕ) → IsTrue (m.is_private o) → IsTrue (m.is_hidden o) ⊎ ((host : ℕ) × (cover h b (o / cluster_size h) ≡ Zero (Some (host, true))))
 
--- The mapping after a put: bytes at private offsets are kept for the commit. Bytes at other offsets are written to the disk at once.
+-- The mapping after a put: bytes at private offsets are kept for the commit. Bytes at other offsets are written to the disk immediately.
 abbrev pub put_mapping : PreparedMapping → ℕ → List ℕ → PreparedMapping
 put_mapping m at bytes = record m { shown = λ o. if m.is_private o then laid_over (m.from + at) (length bytes) (λ i. known_byte (byte_at bytes i)) m.shown o else m.shown o }
 
@@ -79,6 +79,6 @@ given_by_put d m at bytes = record {
   value = λ i. if m.is_hidden (m.from + at + i) then d.value (m.from + at + i) else known_byte (byte_at bytes i);
 }
 
--- What a commit gives: the values of the committed disk in the whole clusters of the mapping. A mapping of no bytes gives nothing.
+-- What a commit gives: the values of the committed disk in the whole clusters of the mapping. A commit of a mapping of no bytes gives nothing.
 abbrev pub given_by_commit : ℕ → Disk → PreparedMapping → GivenBytes
 given_by_commit cluster_size d m = given_shown (committed d m) (first_of cluster_size m) (if m.length == 0 then first_of cluster_size m else end_of cluster_size m)

@@ -135,7 +135,7 @@ MayAnswer d get_size (refused e) = ⊥
 MayAnswer d get_leaked (refused e) = ⊥
 MayAnswer d command reply = Unit {0}
 
--- The replies of a failed image: refusal 16. Dropping a mapping, the getters and misuse are answered as usual.
+-- The replies of a failed image: refusal 16. Dropping a mapping, getters and misuse are replied to as usual.
 abbrev pub IsAnswerOfFailed : Command → Reply → Type 0
 IsAnswerOfFailed (read_mapped place at n) misuse = Unit {0}
 IsAnswerOfFailed (prepare slot offset n overwrite) misuse = Unit {0}
@@ -186,7 +186,7 @@ pub record State : Type 0 where
   pub is_failed : Bool
   pub checkpoint : Checkpoint
 
--- The state at the begin of a run: nothing was looked up, and the checkpoint is the disk and the contents of the storage.
+-- The state at the start of a run: nothing was looked up, and the checkpoint is the disk and the contents of the storage.
 abbrev pub started : AbstractImage → State
 started v = record { guest = guest_of v; found = λ _. None; is_failed = false; checkpoint = checkpoint_at (guest_of v).disk (stored_bytes v) }
 
@@ -217,7 +217,7 @@ stepped x old command reply new failed = record {
   checkpoint = checkpoint_after x old command reply new;
 }
 
--- One command of a run. An I/O error makes the image fail, and a failed allocation may. Nothing else does. A failed image answers as `IsAnswerOfFailed` says.
+-- One command of a run. An I/O error makes the image fail, a failed allocation may, and no other reply does. A failed image replies as `IsAnswerOfFailed` says.
 abbrev pub CommandStep : Setting → State → Command → Reply → State → Type 0
 CommandStep x old command reply new =
     (IsTrue old.is_failed × IsAnswerOfFailed command reply × (new ≡ old))
@@ -260,14 +260,14 @@ pub record IsPreparedRightly (before : Bytes) (new : AbstractImage) (slot n : �
   pub private : 0 < n → (m : PreparedMapping) → new.slots slot ≡ Some m → IsPrivateIn (header before) before m
   pub hidden : (m : PreparedMapping) → new.slots slot ≡ Some m → IsHiddenIn (header new.known) new.known m
 
--- When a special read of n bytes may be refused: as compressed (7) only if there are compressed data at its offset; as not compressed only if there are none, with the offset of the call. Neither is the answer for no bytes.
+-- When a special read of n bytes may be refused: as compressed (7) only if there are compressed data at its offset; as not compressed only if there are none, with the offset of the call. A read of no bytes is refused as neither.
 abbrev pub IsRightlySpecial : (before : Bytes) → (offset n : ℕ) → Refusal → Type 0
 IsRightlySpecial before offset n (another number) = number ≡ 7 → (0 < n) × IsCompressedAt before offset
 IsRightlySpecial before offset n (not_compressed at) = (0 < n) × (at ≡ offset) × (¬ IsCompressedAt before offset)
 IsRightlySpecial before offset n memory = Unit {0}
 IsRightlySpecial before offset n storage = Unit {0}
 
--- When `try_read_special` may return an offset: only its own, and only if the data there are not compressed. It returns none exactly for no bytes.
+-- When `try_read_special` may return an offset: only that of the call, and only if the data there are not compressed. It returns none exactly for no bytes.
 abbrev pub IsRightlyPlain : (before : Bytes) → (offset n : ℕ) → Option ℕ → Type 0
 IsRightlyPlain before offset n (Some at) = (0 < n) × (at ≡ offset) × (¬ IsCompressedAt before offset)
 IsRightlyPlain before offset n None = n ≡ 0
@@ -295,7 +295,7 @@ ResizesLast size old new (grow asked mode) = EachMomentSince old new (λ c. ((he
 ResizesLast size old new (shrink asked) = EachMomentSince old new (λ c. ((header (byte_at c)).size ≡ size) ⊎ (c ≡ new.contents))
 ResizesLast size old new command = Unit {0}
 
--- More about one command. Its moments are safe with what it gives and asks for, a resize writes the size last, the reply matches the tables, and the mapping of every guest cluster that is given no byte is the same.
+-- What else one command promises: its moments are safe with what it gives and asks for, a resize writes the size last, the reply matches the tables, and the mapping of every guest cluster that is given no byte is the same.
 pub record IsCommandInterval (x : Setting) (old : StorageView) (known : Bytes) (new : AbstractImage) (s : State) (command : Command) (reply : Reply) (end : State) : Type 0 where
   pub own : s.is_failed ≡ false → IsOwnInterval x.backing old new.storage known (given_by x s.guest command) (asked_by command)
   pub sized : s.is_failed ≡ false → ResizesLast s.guest.disk.size old new.storage command
@@ -374,7 +374,7 @@ module _ {D P : Type 0} (spec : Abstraction D P) where
     pub at_start : LeavesOk (spec.setting old).backing (started (abstract_image spec old [])).checkpoint (spec.storage old)
     pub last : D
     pub along : RefinesAlong spec (spec.setting old) (spec.surplus old []) (spec.leaked old) old last (started (abstract_image spec old [])) end commands replies run
-    -- At the end the mappings that are left are dropped. This is as safe, and the guest still sees the disk of the run.
+    -- At the end the mappings that are left are dropped. Every moment of that is safe, and the guest still sees the disk of the run.
     pub leaves : IsSafeWhile (spec.setting old).backing (spec.storage last) (spec.storage new) end.is_failed end.checkpoint end.checkpoint
     pub at_end : RefinesGuest (abstract_image spec new []) (over end) (spec.surplus old []) (spec.leaked old)
     pub setting : spec.setting new ≡ spec.setting old

@@ -50,18 +50,18 @@ pub record StopOk (backing : Bytes) (m : Checkpoint) (image : Bytes) : Type 0 wh
   pub values : (o : ℕ) → o < (disk image backing).size → o < m.last.size
       → ((disk image backing).value o ≡ m.last.value o) ⊎ IsGiven m.given o ((disk image backing).value o)
 
--- The stronger form that calls keep: it speaks of values past both sizes too, since a later growth may show them.
+-- The stronger form of `StopOk`, which calls keep. It also covers values past both sizes, since a later growth may show them.
 pub record StopOkEverywhere (backing : Bytes) (m : Checkpoint) (image : Bytes) : Type 0 where
   pub consistent : IsConsistent image
   pub rest : KeepsHeaderRest m.header_bytes image
   pub size : ((disk image backing).size ≡ m.last.size) ⊎ IsAsked m.asked (disk image backing).size
   pub values : (o : ℕ) → ((disk image backing).value o ≡ m.last.value o) ⊎ IsGiven m.given o ((disk image backing).value o)
 
--- A stop at this moment leaves contents that are safe in the stronger form.
+-- A stop at this moment leaves contents that satisfy `StopOkEverywhere`.
 abbrev pub LeavesKept : Bytes → Checkpoint → StorageView → Type 0
 LeavesKept backing m v = StopOkEverywhere backing m (byte_at v.contents)
 
--- A stop at this moment leaves contents that a stop may leave.
+-- A stop at this moment leaves contents that satisfy `StopOk`.
 abbrev pub LeavesOk : Bytes → Checkpoint → StorageView → Type 0
 LeavesOk backing m v = StopOk backing m (byte_at v.contents)
 
@@ -69,7 +69,7 @@ LeavesOk backing m v = StopOk backing m (byte_at v.contents)
 abbrev pub IsSafeAfter : StorageView → Bytes → (Bytes → List GivenBytes) → List ℕ → List ℕ → Type 0
 IsSafeAfter old known given asked c = (backing : Bytes) (m : Checkpoint) → LeavesKept backing m old → StopOkEverywhere backing m known → StopOkEverywhere backing (checkpoint_with (given backing) asked m) (byte_at c)
 
--- Every moment since `old` is safe, and so are the new contents, with what a call gives and asks for.
+-- Every moment since `old` and the new contents are safe, with what a call gives and asks for.
 pub record SafeThroughout (old new : StorageView) (known : Bytes) (given : Bytes → List GivenBytes) (asked : List ℕ) : Type 0 where
   pub moments : EachMomentSince old new (IsSafeAfter old known given asked)
   pub contents : IsSafeAfter old known given asked new.contents

@@ -27,7 +27,7 @@ pub fn flushed_is_exact()
     ensures { FlushedIsExact }
 {}
 
-/// If the rest of the header's cluster stays the same, so do the names and the extensions in it.
+/// The names and the header extensions stay the same, if the rest of the header's cluster does.
 pub fn header_rest_has_names()
     ensures { HeaderRestHasNames }
 {}

@@ -3,7 +3,7 @@ pub mod ImageSteps
 pub mod Called
 pub mod Answers
 pub mod Answered
-pub mod MetErrors
+pub mod FailingErrors
 pub mod Marked
 pub mod Stepped
 pub mod CallOutcomes
@@ -14,3 +14,6 @@ pub mod Notes
 pub mod BehindHeader
 pub mod FreedBehind
 pub mod Unlimited
+pub mod Fails
+pub mod WriteSteps
+pub mod MarkedCalls

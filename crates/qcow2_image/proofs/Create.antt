@@ -6,5 +6,6 @@ pub mod ThreeWrites
 pub mod Creating
 pub mod Faults
 pub mod Causes
-pub mod TakingPlace
+pub mod AllocatingPlace
 pub mod Leaks
+pub mod GrownOpen

@@ -1,5 +1,5 @@
-pub mod LongerTables
-pub mod NamedL1
-pub mod Lengthened
-pub mod Grown
-pub mod Lengths
+pub mod NewL1Table
+pub mod NamedL1Table
+pub mod ReplacedL1Table
+pub mod GrownByParts
+pub mod L1Lengths

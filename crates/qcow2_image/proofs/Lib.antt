@@ -1,17 +1,4 @@
-pub mod Sound
-pub mod Formats
-pub mod Ready
-pub mod Inside
-pub mod Shares
-pub mod Apart
-pub mod Moving
-pub mod Moved
-pub mod UngivenCovers
-pub mod WholeClusters
-pub mod Free
-pub mod HiddenBytes
-pub mod Sizes
-pub mod Backings
+pub mod Images
 pub mod Open
 pub mod Create
 pub mod Grow
@@ -23,5 +10,5 @@ pub mod Flush
 pub mod Invalidate
 pub mod Call
 pub mod Clear
-pub mod Sizing
+pub mod Resize
 pub mod Preallocate

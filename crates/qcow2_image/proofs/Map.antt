@@ -6,4 +6,4 @@ pub mod Special
 pub mod Unmodified
 pub mod Quiet
 pub mod Held
-pub mod MetLooking
+pub mod FailingLookups

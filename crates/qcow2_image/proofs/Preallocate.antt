@@ -1,10 +1,10 @@
 pub mod Zeros
 pub mod Pieces
 pub mod Covers
-pub mod Untaken
+pub mod NoPreparedEntries
 pub mod Filled
 pub mod Piece
-pub mod Turns
-pub mod Grown
+pub mod FillSteps
+pub mod FilledGrowth
 pub mod FreedBehind
-pub mod Met
+pub mod FailingFills

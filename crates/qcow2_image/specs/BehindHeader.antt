@@ -15,7 +15,7 @@ use Rattle.qcow2_image.specs.declared.image.Qcow2.{Qcow2}
 abbrev pub IsBesideNumbers : ℕ → ℕ → Type 0
 IsBesideNumbers bits o = IsInHeaderCluster bits o × ((o < 24) ⊎ (((32 ≤ o) × (o < 36)) ⊎ (60 ≤ o)))
 
--- The header's pointers lead behind cluster 0, to an L1 table and a reftable that have entries.
+-- The header's pointers lead past cluster 0, to an L1 table and a reftable that have entries.
 pub record NamesTablesBehind (h : HeaderFields) : Type 0 where
   pub reftable : NamesReftableBehind h
   pub l1_table : (h.l1_entries ≡ 0) ⊎ (0 < h.l1_offset)

@@ -8,7 +8,7 @@ use Rattle.image_access.specs.Contents.{overwritten}
 use Rattle.image_access.specs.Moments.{StorageView, EachMomentSince, IsLeftBy}
 use Rattle.qcow2_disk.specs.Calls.{IsRefusalByFault, IsSame, RefusedEffect, EffectOnSound, with_disk, with_slot}
 use Rattle.qcow2_metadata.specs.Cover.{cover}
-use Rattle.qcow2_image.specs.declared.prepared.Share.TheVariants.{InPlace}
+use Rattle.qcow2_image.specs.declared.prepared.ClusterMapping.TheVariants.{InPlace}
 use Rattle.qcow2_disk.specs.Mappings.{is_copied_data, PreparedMapping, IsPrepared, given_by_commit, put_mapping, put_disk, committed}
 use Rattle.qcow2_disk.specs.AbstractImages.{Guest, guest_of}
 use Rattle.qcow2_alloc.specs.declared.error.ImageError.{ImageError}
@@ -25,7 +25,7 @@ use Rattle.qcow2_image.specs.MovedTables.{MovesTables, CoversStay}
 abbrev pub put_guest : Guest → ℕ → PreparedMapping → ℕ → List ℕ → Guest
 put_guest g k m at bytes = with_slot (with_disk g (put_disk g.disk m at bytes)) k (Some (put_mapping m at bytes))
 
--- A write to the storage was made, if it succeeded. If it was refused, it may have been made only if the storage failed.
+-- The outcome of a write to the storage: made if it succeeded; if it was refused, made at most if the storage failed.
 abbrev pub IsWriteOutcome : Result (Unit {0}) ImageError → List ℕ → List ℕ → List ℕ → Type 0
 IsWriteOutcome (Ok _) old changed new = new ≡ changed
 IsWriteOutcome (Err I.Storage) old changed new = (new ≡ old) ⊎ (new ≡ changed)
@@ -36,7 +36,7 @@ abbrev pub IsPut : Result (Unit {0}) ImageError → Guest → Guest → Guest �
 IsPut (Ok _) old put new = new ≡ put
 IsPut (Err e) old put new = (new ≡ old) ⊎ (e ≡ I.Storage)
 
--- Offsets that were private in the mapping of a slot, and are not any more, are visible now. All else is the same.
+-- Offsets that were private in the mapping of a slot, and no longer are, are visible now. All else is the same.
 pub record ShowsPart (old new : Guest) (k : ℕ) (m m' : PreparedMapping) : Type 0 where
   pub slots : (j : ℕ) → new.slots j ≡ (if j == k then Some m' else old.slots j)
   pub size : new.disk.size ≡ old.disk.size
@@ -51,14 +51,14 @@ pub record IsExisting (p : Prepared) (number guest length : ℕ) : Type 0 where
   pub guest_is : p.guest ≡ guest
   pub length_is : p.length ≡ length
   pub table : p.table ≡ None
-  pub shares : p.shares.items ≡ []
+  pub clusters : p.clusters.items ≡ []
 
--- A mapping with all its shares entered in the L2 table: every byte is in place.
+-- A mapping with all its clusters entered in the L2 table: every byte is in place.
 pub record IsEntered (p q : Prepared) : Type 0 where
-  pub mapping : q ≡ record p { shares = q.shares }
+  pub mapping : q ≡ record p { clusters = q.clusters }
   pub table : q.table ≡ p.table
-  pub many : length q.shares.items ≡ length p.shares.items
-  pub in_place : (j : ℕ) → j < length p.shares.items → slice_get q.shares.items j ≡ Some InPlace
+  pub many : length q.clusters.items ≡ length p.clusters.items
+  pub in_place : (j : ℕ) → j < length p.clusters.items → slice_get q.clusters.items j ≡ Some InPlace
 
 module _ {S F : Type 0} (view : S → StorageView) where
   -- The mappings of guest clusters outside of a range stay the same.
@@ -97,7 +97,7 @@ module _ {S F : Type 0} (view : S → StorageView) where
       pub part : CommitsPart old new out k p q
       pub visible : (o : ℕ) → (meaning view backing new q).is_private o ≡ false
 
-    -- All shares of a pinned mapping are entered in its L2 table. If one of them was not in place, a change is recorded.
+    -- All clusters of a pinned mapping are entered in its L2 table. If one of them was not in place, a change is recorded.
     abbrev pub EntersAll : Qcow2 S F → Qcow2 S F → Prepared → Prepared → Bool → Type 0
     EntersAll old new p q entered = (out : List (Option Prepared)) (k : ℕ) → slice_get out k ≡ Some (Some p) → IsSome p.table → ImageInvariant view backing (pending_in view backing old out) old out
         → CommitsAll old new out k p q × (IsTrue entered → IsTrue new.file.caches.is_changed)
@@ -113,7 +113,7 @@ module _ {S F : Type 0} (view : S → StorageView) where
     -- A part that a fault ended, after a change was recorded if memory ran out. Once the image is marked as failed, a stop is as safe as before.
     pub record InterruptedCall (old new : Qcow2 S F) (out : List (Option Prepared)) (e : ImageError) : Type 0 where
       pub fault : IsFaultOfTables e
-      pub noted : e ≡ I.Memory → IsTrue (has_noted_change new)
+      pub recorded : e ≡ I.Memory → IsTrue (has_noted_change new)
       pub works : EffectOnSound (abstract_of view backing old out) (abstract_of view backing (record new { is_failed = true }) out) [] []
 
     -- What a refused part leaves: a sound image that looks the same, or one that is about to fail.

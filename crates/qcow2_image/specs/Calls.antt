@@ -49,7 +49,7 @@ module _ {S F : Type 0} (view : S → StorageView) (backing : F → BackingView)
   AnswersCall given Done (Ok a) = (out : List (Option Prepared)) → let v = abstract_of view backing old out in let w = abstract_of view backing new out in AnsweredEffect v w given [] (Done a (guest_of v) (guest_of w))
   AnswersCall given Done (Err e) = (out : List (Option Prepared)) → let v = abstract_of view backing old out in let w = abstract_of view backing new out in RefusedEffect v w given [] (refusal_of e) (IsSame v w)
 
-  -- A range is prepared, and its mapping is in a slot that was empty.
+  -- The result of a prepare: a range is prepared, and its mapping is in a slot that was empty.
   abbrev pub Prepares : ℕ → ℕ → Bool → Result Prepared ImageError → Type 0
   Prepares offset n overwrite (Ok p) = (out : List (Option Prepared)) (k : ℕ) → slice_get out k ≡ Some None
       → let v = abstract_of view backing old out in let w = abstract_of view backing new (slice_set out k (Some p)) in AnsweredEffect v w [] []
@@ -72,7 +72,7 @@ module _ {S F : Type 0} (view : S → StorageView) (backing : F → BackingView)
   abbrev pub all_given_by_commit : AbstractImage → Prepared → List GivenBytes
   all_given_by_commit v p = given_by_commit v.setting.cluster_size (guest_of v).disk (meaning view backing old p) ∷ []
 
-  -- The mapping that a refused commit hands back, if it does.
+  -- The mapping that a refused commit returns, if it returns one.
   abbrev pub handed_back : CommitRefused → Option Prepared
   handed_back (Kept e p) = Some p
   handed_back (Spent e) = None

@@ -31,7 +31,7 @@ use Rattle.qcow2_alloc.specs.declared.cache.MetadataCaches.{MetadataCaches}
 use Rattle.qcow2_alloc.specs.declared.clusters_to_free.ClustersToFreeEntry.{ClustersToFreeEntry}
 use Rattle.qcow2_alloc.specs.declared.error.ImageError.{ImageError}
 use Rattle.qcow2_alloc.specs.ImageFile.{FileInvariant, contents_in, known_in, state_in}
-use Rattle.qcow2_alloc.specs.MetadataCaches.{CacheInvariant, IsEntryAt, MadeEntry, NotesHeld, known_of, l2_at, order_of}
+use Rattle.qcow2_alloc.specs.MetadataCaches.{CacheInvariant, IsEntryAt, MadeEntry, RecordsHeld, known_of, l2_at, order_of}
 use Rattle.qcow2_image.specs.Backings.{HasPinnedMapping}
 use Rattle.qcow2_image.specs.CallParts.{RefusedCall}
 use Rattle.qcow2_image.specs.Calls.{AnswersCall, refusal_of}
@@ -43,7 +43,7 @@ use Rattle.qcow2_image.specs.Found.{l1_index_of}
 use Rattle.qcow2_image.specs.Image.{is_writable, size_of}
 use Rattle.qcow2_image.specs.ImageInvariant.{ImageInvariant, abstract_of, disk_of, listed_run, of_data, pending_in, to_free}
 use Rattle.qcow2_image.specs.L1Entries.{NeedsOverflowingL1Entry}
-use Rattle.qcow2_image.specs.MetAlone.{MayFailAllocating}
+use Rattle.qcow2_image.specs.MayFail.{MayFailAllocating}
 use Rattle.qcow2_image.specs.MovedTables.{MovesTables}
 use Rattle.qcow2_image.specs.NewTables.{IsFaultOrLacksTable}
 use Rattle.qcow2_image.specs.Prepared.{table_of}
@@ -128,7 +128,7 @@ module _ {S F : Type 0} (view : S → StorageView) (backing : F → BackingView)
   pub record RefusesClearing (how : ClearMode) (old new : Qcow2 S F) (offset n : ℕ) (e : ImageError) : Type 0 where
     pub ungiven : RefusesUngiven old new e
     pub lacks : refuses_to_clear old offset n how ≡ None → (out : List (Option Prepared)) → (abstract_of view backing old out).is_sound → (HasPinnedMapping out → ⊥) → IsFaultOrLacksTable view new (from_in old offset n) e
-    pub met : refuses_to_clear old offset n how ≡ None → (out : List (Option Prepared)) → (abstract_of view backing old out).is_sound → MayFailAllocating (HasPinnedMapping out) (IsUnderMapping old.file.header.fields (from_in old offset n) out) ⊥ (NeedsOverflowingL1Entry old (from_in old offset n)) e
+    pub may_fail : refuses_to_clear old offset n how ≡ None → (out : List (Option Prepared)) → (abstract_of view backing old out).is_sound → MayFailAllocating (HasPinnedMapping out) (IsUnderMapping old.file.header.fields (from_in old offset n) out) ⊥ (NeedsOverflowingL1Entry old (from_in old offset n)) e
 
   -- ---- parts of the work
 
@@ -143,7 +143,7 @@ module _ {S F : Type 0} (view : S → StorageView) (backing : F → BackingView)
     pub shows : guest_of (abstract_of view backing new out) ≡ with_disk (guest_of (abstract_of view backing old out)) (cleared (setting_of old) (disk_of view backing old) (shown_by how) from to)
     pub header : MovesTables old.file.header.fields new.file.header.fields
     pub covers : ClearsImageCovers how from to old.file.header.fields (known_in view old.file) new.file.header.fields (known_in view new.file)
-    pub noted : IsTrue new.file.caches.is_changed
+    pub recorded : IsTrue new.file.caches.is_changed
 
   abbrev pub ClearsOrRefuses : ClearMode → (from to : ℕ) → Qcow2 S F → Qcow2 S F → List (Option Prepared) → Result (Unit {0}) ImageError → Type 0
   ClearsOrRefuses how from to old new out (Ok _) = ClearsPart how from to old new out
@@ -163,7 +163,7 @@ pub record ClearsEntry {S F : Type 0} (how : ClearMode) (table index : ℕ) (old
   pub answer : Option (ℕ × ℕ)
   pub cleared : (h : HeaderFields) (p : Pending) (on_storage : Bytes) (i : ℕ) → CacheInvariant h p old.file.caches on_storage → IsEntryAt h (known_of h old.file.caches on_storage) i table index → is_copied (l1_entry h on_storage i) ≡ true → IsSome (l2_at old.file.caches table)
       → MadeEntry h old.file.caches new.file.caches on_storage i index (cleared_entry how (entry_cover h (l2_entry (known_of h old.file.caches on_storage) (table_at h (known_of h old.file.caches on_storage) i) index))) answer
-  pub noted : NotesHeld old.file.caches new.file.caches table index
+  pub recorded : RecordsHeld old.file.caches new.file.caches table index
   pub behind : KeepBehindHeader old.file.caches new.file.caches
 
 -- A cleared mapping, as the laws describe it.
@@ -209,7 +209,7 @@ module _ {S F : Type 0} (view : S → StorageView) (backing : F → BackingView)
     pub marks : KeepsPinsAndNotes a.file.caches b.file.caches
     pub new_data : IsSome (l2_at a.file.caches t) → IsSome (l2_at b.file.caches t)
     pub part : (out : List (Option Prepared)) (p : Pending) (row : ℕ) → MayClear how t row column n a out p → AreCleared how row column n a b.file.caches out p
-    pub noted : (out : List (Option Prepared)) (p : Pending) (row : ℕ) → MayClear how t row column n a out p → 0 < n → IsTrue b.file.caches.is_changed
+    pub recorded : (out : List (Option Prepared)) (p : Pending) (row : ℕ) → MayClear how t row column n a out p → 0 < n → IsTrue b.file.caches.is_changed
     pub behind : KeepBehindHeader a.file.caches b.file.caches
 
   -- ---- what is read before the first entry changes

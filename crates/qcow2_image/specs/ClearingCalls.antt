@@ -5,39 +5,31 @@ use Rattle.image_access.specs.Moments.{StorageView}
 use Rattle.qcow2_metadata.specs.Header.{cluster_size}
 use Rattle.qcow2_disk.specs.Rules.{answered}
 use Rattle.qcow2_alloc.specs.ImageFile.{known_in}
-use Rattle.qcow2_alloc.specs.KeptMarks.{KeepsFileNotes}
 use Rattle.qcow2_alloc.specs.declared.error.ImageError.{ImageError}
 use Rattle.qcow2_alloc.specs.declared.error.ImageError.TheVariants.{TablePrepared}
 use Rattle.qcow2_image.specs.BehindHeader.{PreservesHeaderCluster}
 use Rattle.qcow2_image.specs.Backings.{HasPinnedMapping}
 use Rattle.qcow2_image.specs.Clearing.{Clears, ClearsImageCovers, ClearsOrRefuses, IsClearable, IsUnderMapping, RefusesClearing, from_in, refuses_to_clear, to_in}
 use Rattle.qcow2_image.specs.Faults.{CountsImageFaults}
-use Rattle.qcow2_image.specs.Image.{HasNothingToFree, ImageStays, IsSameImage, size_of}
-use Rattle.qcow2_image.specs.ImageInvariant.{ImageInvariant, abstract_of, pending_in}
+use Rattle.qcow2_image.specs.Image.{HasNothingToFree, IsSameImage, size_of}
+use Rattle.qcow2_image.specs.ImageInvariant.{abstract_of}
 use Rattle.qcow2_image.specs.L1Entries.{HasOwnTable, NeedsOverflowingL1Entry}
 use Rattle.qcow2_image.specs.Limits.{IfLimit, IsLimited}
-use Rattle.qcow2_image.specs.MetAlone.{MayFailAllocating}
+use Rattle.qcow2_image.specs.MayFail.{MayFailAllocating}
 use Rattle.qcow2_image.specs.NewTables.{IsFaultOrLacksTable}
-use Rattle.qcow2_image.specs.Noted.{ChangesRose, FailsOnceWritten, NotesPart}
+use Rattle.qcow2_image.specs.Noted.{ChangesRose, FailsOnceWritten, RecordsPart}
 use Rattle.qcow2_image.specs.PinnedTables.{RespectsPins}
-use Rattle.qcow2_image.specs.Refusals.{FreesRefused, IsMetPreparing, MarksFailed}
+use Rattle.qcow2_image.specs.Refusals.{FreesRefused, MayFailPreparing, MarksFailed}
 use Rattle.qcow2_image.specs.declared.discarding.ClearMode.{ClearMode}
 use Rattle.qcow2_image.specs.declared.image.Qcow2.{Qcow2}
 use Rattle.qcow2_image.specs.declared.prepared.Prepared.{Prepared}
 
 module _ {S F : Type 0} (view : S → StorageView) (backing : F → BackingView) where
-  -- A part of a clearing call, whatever the image contains: the image and its marks stay the same, the header's cluster stays the same, and each fault is reported.
-  pub record PartStep (old new : Qcow2 S F) (result : Result (Unit {0}) ImageError) : Type 0 where
-    pub stays : ImageStays old new
-    pub notes : KeepsFileNotes view old.file new.file
-    pub header_cluster : PreservesHeaderCluster view old new
-    pub faults : CountsImageFaults view backing old new result
-
   -- A clearing call, whatever the image contains: it is the same image, marked as failed by the rule. Its changes are recorded and counted, the header's cluster stays the same, and each fault is reported.
   pub record ClearsStep (old new : Qcow2 S F) (result : Result (ℕ × ℕ) ImageError) : Type 0 where
     pub image : IsSameImage old new
     pub marks : MarksFailed old new result
-    pub since : NotesPart view old new
+    pub since : RecordsPart view old new
     pub once_written : FailsOnceWritten view old new result
     pub header_cluster : PreservesHeaderCluster view old new
     pub faults : CountsImageFaults view backing old new result
@@ -50,12 +42,12 @@ module _ {S F : Type 0} (view : S → StorageView) (backing : F → BackingView)
     abbrev pub touches_some : Type 0
     touches_some = from_in old offset n < to_in old offset n
 
-    -- Why the call is refused: at once, with nothing changed, if a check forbids it; otherwise when the work meets the cause.
+    -- Why the call is refused: at once, with nothing changed, if a check forbids it; otherwise for a cause that comes during the work.
     -- The L2 table of the first offset changes only if it is not pinned, and the call is refused 9 only if it is.
     -- A refusal leaves no cluster waiting to be freed, except after a fault and after 9. On a sound image 13 means that there was no room for the L2 table of the first offset.
     pub record FailsToClear : Type 0 where
       pub early : IfSome (refuses_to_clear old offset n how) (λ e. (result ≡ Err e) × (new ≡ old))
-      pub late : may_clear → IfErr result IsMetPreparing
+      pub late : may_clear → IfErr result MayFailPreparing
       pub refused : IfErr result (RefusesClearing view backing how old new offset n)
       pub pinned : touches_some → may_clear → HasOwnTable old (from_in old offset n) → RespectsPins old (from_in old offset n) result
       pub under : may_clear → touches_some → (out : List (Option Prepared)) → (abstract_of view backing old out).is_sound
@@ -74,32 +66,16 @@ module _ {S F : Type 0} (view : S → StorageView) (backing : F → BackingView)
       pub changed : (out : List (Option Prepared)) → (abstract_of view backing old out).is_sound → touches_some → OnOk result (ChangesRose old new)
 
   -- ---- the clusters between two offsets within one L2 table
-  module _ (how : ClearMode) (from to : ℕ) (old new : Qcow2 S F) (result : Result (Unit {0}) ImageError) where
-    -- P holds for a sound image, if the offsets are cluster boundaries within one L2 table.
-    abbrev pub OfWhole : (List (Option Prepared) → Type 0) → Type 0
-    OfWhole P = (out : List (Option Prepared)) → ImageInvariant view backing (pending_in view backing old out) old out → IsClearable old.file.header.fields how from to → P out
+  module _ (how : ClearMode) (from to : ℕ) (old new : Qcow2 S F) (out : List (Option Prepared)) (result : Result (Unit {0}) ImageError) where
+    -- The clusters between two cluster boundaries are cleared, or the part is refused. Each refusal has its cause in the image before the part; a limit (13) was passed at some state within it. If no mapping is pinned, a refusal is a fault, or the first offset has no L2 table of its own.
+    pub record ClearsWhole : Type 0 where
+      pub clears : ClearsOrRefuses view backing how from to old new out result
+      pub may_fail : IfErr result (MayFailAllocating (HasPinnedMapping out) (IsUnderMapping old.file.header.fields from out) ⊥ (NeedsOverflowingL1Entry old from))
+      pub limit : IfLimit result (IsLimited view backing [] (from + 1) old out)
+      pub lacks : (HasPinnedMapping out → ⊥) → IfErr result (IsFaultOrLacksTable view new from)
 
-    -- The clusters are cleared, or the call is refused.
-    abbrev pub ClearsBetween : Type 0
-    ClearsBetween = OfWhole (λ out. ClearsOrRefuses view backing how from to old new out result)
-
-    -- The causes of a refusal.
-    abbrev pub MeetsBetween : Type 0
-    MeetsBetween = OfWhole (λ out. IfErr result (MayFailAllocating (HasPinnedMapping out) (IsUnderMapping old.file.header.fields from out) ⊥ (NeedsOverflowingL1Entry old from)))
-
-    -- If no mapping is pinned, a refusal is a fault, or the first offset has no L2 table of its own.
-    abbrev pub LacksBetween : Type 0
-    LacksBetween = OfWhole (λ out. (HasPinnedMapping out → ⊥) → IfErr result (IsFaultOrLacksTable view new from))
-
-    -- A refusal leaves no cluster waiting to be freed, except after a fault and after 9.
-    abbrev pub FreesBetween : Type 0
-    FreesBetween = OfWhole (λ out. IfErr result (FreesRefused new))
-
-  module _ (from : ℕ) (old : Qcow2 S F) (result : Result (Unit {0}) ImageError) where
-    -- A sound image refuses 9 only if a mapping is pinned in the L2 table of the offset.
-    abbrev pub RefusedUnder : Type 0
-    RefusedUnder = (out : List (Option Prepared)) → ImageInvariant view backing (pending_in view backing old out) old out → IfErr result (λ e. e ≡ TablePrepared → IsUnderMapping old.file.header.fields from out)
-
-    -- A sound image succeeds only if no mapping is pinned in the L2 table of the offset.
-    abbrev pub AnsweredBeside : Type 0
-    AnsweredBeside = (out : List (Option Prepared)) → ImageInvariant view backing (pending_in view backing old out) old out → IfOk result (λ done. IsUnderMapping old.file.header.fields from out → ⊥)
+    -- The clusters between two offsets within one L2 table are cleared, or the part is refused. It is refused 9 only if a mapping is pinned in that L2 table, and it succeeds only if none is.
+    pub record ClearsInTable : Type 0 where
+      pub whole : IsClearable old.file.header.fields how from to → ClearsWhole
+      pub taken : IfErr result (λ e. e ≡ TablePrepared → IsUnderMapping old.file.header.fields from out)
+      pub free : IfOk result (λ done. IsUnderMapping old.file.header.fields from out → ⊥)

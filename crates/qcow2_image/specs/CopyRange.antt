@@ -7,7 +7,7 @@ abbrev pub announced_range_of : ℕ → ℕ → ℕ → Bool → Option CopyRang
 announced_range_of cs start length true = Some (record { start = start; end = start + min length (cs - start) })
 announced_range_of cs start length false = None
 
--- The part of a cluster to copy: all of it, except a promised part at its begin or at its end.
+-- The part of a cluster to copy: all of it, except a promised part at its start or at its end.
 abbrev pub uncut_copy_range : ℕ → Option CopyRange → CopyRange
 uncut_copy_range cs None = record { start = 0; end = cs }
 uncut_copy_range cs (Some announced) =

@@ -1,5 +1,5 @@
 -- Creating an image: what is on the storage then, and what a stop may leave.
-use Rattle.std.specs.Prelude.{ℕ, ◌≡◌, ◌==◌, ◌&&◌, ◌||◌, ◌⊎◌, ◌+◌, ◌*◌, ◌/◌, ◌^◌, ◌<◌, ◌≤◌, Bool, IsTrue, true, false, List, None, Option, Some, Result, Ok, Err, [], is_some, length, nat_lt, option_map, unwrap_or, if◌then◌else◌}
+use Rattle.std.specs.Prelude.{ℕ, IfErr, ◌≡◌, ◌==◌, ◌&&◌, ◌||◌, ◌⊎◌, ◌+◌, ◌*◌, ◌/◌, ◌^◌, ◌<◌, ◌≤◌, Bool, IsTrue, true, false, List, None, Option, Some, Result, Ok, Err, [], is_some, length, nat_lt, option_map, unwrap_or, if◌then◌else◌}
 use Rattle.std.specs.String.{string_bytes}
 use Rattle.image_access.specs.Backing.{BackingView}
 use Rattle.image_access.specs.Moments.{StorageView, EachMomentSince}
@@ -19,6 +19,7 @@ use Rattle.qcow2_metadata.specs.TableBytes.{entry_at}
 use Rattle.qcow2_metadata.specs.declared.l2_mapping.L2Mapping.{L2Mapping}
 use Rattle.qcow2_metadata.specs.declared.l2_mapping.L2Mapping.TheVariants.{Zero, Uncovered}
 use Rattle.qcow2_disk.specs.AbstractImages.{AbstractImage, IsOpened}
+use Rattle.qcow2_disk.specs.Calls.{shows_old}
 use Rattle.qcow2_disk.specs.Disk.{disk}
 use Rattle.qcow2_disk.specs.Mappings.{is_copied_data}
 use Rattle.qcow2_laws.specs.NewImages.{IsNewImage}
@@ -28,19 +29,23 @@ use Rattle.qcow2_alloc.specs.declared.error.ImageError.{ImageError}
 use Rattle.qcow2_alloc.specs.declared.error.ImageError.TheVariants as I
 use Rattle.qcow2_disk.specs.HeaderRest.{KeepsHeaderRest}
 use Rattle.std.specs.Option.{option_flatten}
-use Rattle.qcow2_alloc.specs.Faults.{FaultsTold}
+use Rattle.qcow2_alloc.specs.Faults.{FaultsReported}
 use Rattle.qcow2_image.specs.BehindHeader.{LiesBehindHeader}
 use Rattle.qcow2_image.specs.Opened.{NeedsAnother, Opens}
 use Rattle.qcow2_image.specs.Readable.{IsNewlyOpened, OpeningStep, files_missing}
 use Rattle.qcow2_image.specs.declared.opening.Qcow2OpenBuilder.{Qcow2OpenBuilder}
-use Rattle.qcow2_image.specs.Growing.{FitsSize, GrowsDisk, LeavesSound, SameFormat, ReachesSize}
+use Rattle.qcow2_image.specs.Growing.{FitsSize, LeavesSound, SameFormat, ReachesSize}
 use Rattle.qcow2_image.specs.declared.builder.NoBacking.{NoBacking}
 use Rattle.qcow2_image.specs.declared.builder.Qcow2CreateBuilder.{Qcow2CreateBuilder}
 use Rattle.qcow2_image.specs.declared.image.Qcow2.{Qcow2}
-use Rattle.qcow2_image.specs.Image.{HasNothingToFree, size_of, storage_of_image}
+use Rattle.qcow2_image.specs.Image.{HasNothingToFree, is_writable, number_of, size_of, storage_of_image}
+use Rattle.qcow2_image.specs.ImageSteps.{MarkedStep}
+use Rattle.qcow2_image.specs.MayFail.{MayFailGrowing}
+use Rattle.qcow2_image.specs.Refusals.{IsFaultOrLimit}
+use Rattle.qcow2_alloc.specs.ImageError.{IsFault}
 use Rattle.qcow2_image.specs.ImageInvariant.{IsHonestBacking, abstract_of}
 use Rattle.qcow2_image.specs.Limits.{IsLimited}
-use Rattle.qcow2_image.specs.Resizing.{GrowsTables, GrowsTo, IsResized, all_given_by_grow, refuses_to_resize, size_after}
+use Rattle.qcow2_image.specs.Resizing.{GrowsLast, GrowsTables, GrowsTo, IsResized, all_given_by_grow, refuses_to_resize, size_after, takes_over}
 
 -- The first eight bytes are the magic number, and version 2 or 3.
 abbrev pub begins_image : Bytes → Bool
@@ -96,7 +101,7 @@ pub record StaysCreating (mode : PreallocateMode) (n : ℕ) (old new : StorageVi
 abbrev pub longest_disk : ℕ → ℕ
 longest_disk size = 4194304 * (size / 8) * size
 
--- An image with these contents was opened, with no cluster waiting to be freed. Growing its disk in this mode passed a limit. The storage that is handed back holds an image that is still sound. Every surplus is the same, and no cluster was leaked.
+-- An image with these contents was opened, with no cluster waiting to be freed. Growing its disk in this mode passed a limit. The storage that is returned holds an image that is still sound. Every surplus is the same, and no cluster was leaked.
 pub record CantEnlarge {S F : Type 0} (view : S → StorageView) (backing : F → BackingView) (mode : PreallocateMode) (size : ℕ) (contents : List ℕ) (storage : S) : Type 0 where
   pub opened : Qcow2 S F
   pub is_opened : IsOpened (abstract_of view backing opened [])
@@ -196,54 +201,33 @@ module _ {S : Type 0} where
     pub no_compatible : (header (byte_at storage.contents)).compatible ≡ 0
     pub alone : builder.backing_name ≡ None → ¬ NeedsAnother storage.contents
 
-  -- Why an image is not created and opened: it is not created, or opening it meets a fault.
+  -- The settings of the same image, with a disk of no bytes.
+  abbrev pub empty_of : Qcow2CreateBuilder S → Qcow2CreateBuilder S
+  empty_of builder = record builder { size = 0; preallocate = Mode.None }
+
+  -- Why an image is not created and opened: it is not created, or opening it ends with a fault.
   abbrev pub IsReasonNotToCreateOpen : (S → StorageView) → Qcow2CreateBuilder S → S × ImageError → Type 0
   IsReasonNotToCreateOpen view builder refused = IsReasonNotToCreate view builder refused.0 refused.1
 
--- ---- an image that is created and opened
-
-module _ {S F : Type 0} (view : S → StorageView) (backing : F → BackingView) (builder : Qcow2CreateBuilder S) (answers : S → Result (Qcow2OpenBuilder S F) ImageError → Type 0) where
-  -- The image was created on a storage, and the closure returned a builder for it. The builder opened the image for writing, with its number and its backing disk.
-  -- If the builder still has that storage, no cluster is lost, no table lies in the header's cluster, and the known contents are those of the new disk.
-  pub record IsMadeOpen (image : Qcow2 S F) : Type 0 where
-    pub storage : S
-    pub opener : Qcow2OpenBuilder S F
-    pub answered : answers storage (Ok opener)
-    pub created : IsCreated builder (view storage)
-    pub stops : StopsCreating builder.preallocate builder.size (view builder.image) (view storage)
-    pub faults : (view storage).faults ≡ (view builder.image).faults
-    pub new : IsNewlyOpened (view opener.image) true opener.number image
-    pub over : image.backing ≡ option_flatten opener.backing
-    pub step : OpeningStep view (view opener.image) true (files_missing opener.backing) (Ok image)
-    pub opens : IsHonestBacking view backing (option_flatten opener.backing) → Opens view backing (view opener.image) image
-    pub clusters : opener.image ≡ storage → IsHonestBacking view backing (option_flatten opener.backing) → HasLostNone (abstract_of view backing image [])
-    pub behind : opener.image ≡ storage → IsHonestBacking view backing (option_flatten opener.backing) → LiesBehindHeader image
-    pub new_disk : opener.image ≡ storage → IsHonestBacking view backing (option_flatten opener.backing) → IsNewDisk builder.preallocate builder.size (abstract_of view backing image []).known
+-- ---- the new image, before its disk grows
 
 module _ {S : Type 0} (view : S → StorageView) (builder : Qcow2CreateBuilder S) where
-  -- No image was created, for one of the reasons, and a stop leaves what a stop of creating may.
-  pub record IsMadeNoImage (storage : S) (e : ImageError) : Type 0 where
-    pub reason : IsReasonNotToCreate view builder storage e
-    pub stops : StopsCreating builder.preallocate builder.size (view builder.image) (view storage)
-    pub faults : FaultsTold {T = Unit {0}} (view builder.image).faults (view storage).faults (Err e)
+  -- The new image is on this storage, and its disk has no bytes yet.
+  pub record IsMade (storage : S) : Type 0 where
+    pub created : IsCreated (empty_of builder) (view storage)
+    pub new_image : IsNewImage (header (byte_at (view storage).contents)) (byte_at (view storage).contents)
 
-  -- The image was created on a storage, and the builder that the closure returned was refused.
-  pub record IsMadeUnopened {F : Type 0} (answers : S → Result (Qcow2OpenBuilder S F) ImageError → Type 0) (storage : S) (e : ImageError) : Type 0 where
-    pub made : S
-    pub opener : Qcow2OpenBuilder S F
-    pub answered : answers made (Ok opener)
-    pub created : IsCreated builder (view made)
-    pub stops : StopsCreating builder.preallocate builder.size (view builder.image) (view made)
-    pub faults : (view made).faults ≡ (view builder.image).faults
-    pub step : OpeningStep {F = F} view (view opener.image) true (files_missing opener.backing) (Err (storage, e))
+  -- The closure gets this storage. A stop until then leaves no image, or the new one with a disk of no bytes.
+  pub record IsGiven (storage : S) : Type 0 where
+    pub made : (view builder.image).is_honest → IsMade storage
+    pub stops : (view builder.image).is_honest → StopsCreating Mode.None 0 (view builder.image) (view storage)
+    pub faults : (view storage).faults ≡ (view builder.image).faults
 
-  -- The image was created, and the closure refused its storage.
-  pub record IsMadeClosed {F : Type 0} (answers : S → Result (Qcow2OpenBuilder S F) ImageError → Type 0) (e : ImageError) : Type 0 where
-    pub made : S
-    pub answered : answers made (Err e)
-    pub faults : (view made).faults ≡ (view builder.image).faults
-    pub created : (view builder.image).is_honest → IsCreated builder (view made)
-    pub stops : (view builder.image).is_honest → StopsCreating builder.preallocate builder.size (view builder.image) (view made)
+  -- No image was made: the settings are refused, or a fault came.
+  pub record IsNotMade (storage : S) (e : ImageError) : Type 0 where
+    pub reason : IsReasonAgainst builder e ⊎ IsFault e
+    pub stops : (view builder.image).is_honest → StopsCreating Mode.None 0 (view builder.image) (view storage)
+    pub faults : FaultsReported {T = Unit {0}} (view builder.image).faults (view storage).faults (Err e)
 
 -- ---- parts of the work
 
@@ -294,14 +278,87 @@ pub record IsUnmapped {S F : Type 0} (view : S → StorageView) (image : Qcow2 S
   pub covers : (g : ℕ) → cover image.file.header.fields (known_in view image.file) g ≡ Uncovered
 
 module _ {S F : Type 0} (view : S → StorageView) (backing : F → BackingView) where
-  -- An open image without prepared mappings is grown, and clusters are allocated for the new part.
-  pub record TakesPlace (mode : PreallocateMode) (old new : Qcow2 S F) (size : ℕ) (r : Result (Unit {0}) ImageError) : Type 0 where
-    pub no_larger : refuses_to_resize old ≡ None → size ≤ size_of old → new ≡ old
+  -- An open image without prepared mappings is grown.
+  pub record AllocatesPlace (mode : PreallocateMode) (old new : Qcow2 S F) (size : ℕ) (r : Result (Unit {0}) ImageError) : Type 0 where
+    pub no_larger : refuses_to_resize old ≡ None → size ≤ size_of old → (r ≡ Ok tt) × (new ≡ old)
     pub image : size_of old < size → IsResized (size_after r (size_of old) size) old new
     pub sees : GrowsTo view backing old new size mode r
     pub tables : refuses_to_resize old ≡ None → size_of old < size → (abstract_of view backing old []).is_sound → GrowsTables view backing old new size mode [] r
+    pub last : (abstract_of view backing old []).is_sound → GrowsLast view backing mode size old new r
 
-  -- The disk grows in this mode.
-  abbrev pub GrowsBy : PreallocateMode → Qcow2 S F → Qcow2 S F → ℕ → Result (Unit {0}) ImageError → Type 0
-  GrowsBy Mode.None old new size r = (abstract_of view backing old []).is_sound → GrowsDisk view backing old new size r
-  GrowsBy mode old new size r = TakesPlace mode old new size r
+-- ---- an image that is created and opened
+
+module _ {S F : Type 0} (view : S → StorageView) (backing : F → BackingView) where
+  -- A builder opened its image for writing, with its number and its backing disk. Then the disk was grown, or that was refused.
+  pub record OpensGrown (opener : Qcow2OpenBuilder S F) (mode : PreallocateMode) (size : ℕ) (image : Qcow2 S F) (r : Result (Unit {0}) ImageError) : Type 0 where
+    pub opened : Qcow2 S F
+    pub new : IsNewlyOpened (view opener.image) true opener.number opened
+    pub over : opened.backing ≡ option_flatten opener.backing
+    pub step : OpeningStep view (view opener.image) true (files_missing opener.backing) (Ok opened)
+    pub opens : IsHonestBacking view backing (option_flatten opener.backing) → Opens view backing (view opener.image) opened
+    pub takes : AllocatesPlace view backing mode opened image size r
+    pub marks : MarkedStep view backing opened image r
+    pub may_fail : refuses_to_resize opened ≡ None → size_of opened < size → (abstract_of view backing opened []).is_sound
+        → IfErr r (λ e. MayFailGrowing [] mode (size_of opened) (rounded_up (cluster_size opened.file.header.fields) size) opened.file.header.fields (known_in view opened.file) e ⊎ ((e ≡ I.Preallocation) × IsTrue (takes_over opened mode)))
+
+  -- The builder was refused; or its image was opened, and its disk could not be grown. The storage is returned.
+  abbrev pub RefusesGrown : Qcow2OpenBuilder S F → PreallocateMode → ℕ → S × ImageError → Type 0
+  RefusesGrown opener mode size refused = OpeningStep {F = F} view (view opener.image) true (files_missing opener.backing) (Err refused)
+      ⊎ ((image : Qcow2 S F) × (storage_of_image image ≡ refused.0) × OpensGrown opener mode size image (Err refused.1))
+
+  -- The image is open, with this number and for writing, and is not flushed. No cluster is lost, no table lies in the header's cluster, and each guest cluster has the mapping of the mode.
+  pub record HoldsNewDisk (mode : PreallocateMode) (size number : ℕ) (image : Qcow2 S F) : Type 0 where
+    pub sound : (abstract_of view backing image []).is_sound
+    pub number_is : number_of image ≡ number
+    pub writable : is_writable image ≡ true
+    pub lost : HasLostNone (abstract_of view backing image [])
+    pub behind : LiesBehindHeader image
+    pub covers : IsPreallocated mode size (known_in view image.file)
+
+  module _ (builder : Qcow2CreateBuilder S) (answers : S → Result (Qcow2OpenBuilder S F) ImageError → Type 0) where
+    -- The closure returned this builder for the storage of the new image.
+    pub record IsAnswered (storage : S) (opener : Qcow2OpenBuilder S F) : Type 0 where
+      pub answered : answers storage (Ok opener)
+      pub given : IsGiven view builder storage
+
+    -- The builder has the storage that the closure got, and its backing disk is honest.
+    abbrev pub HandsOn : S → Qcow2OpenBuilder S F → Type 0
+    HandsOn storage opener = (opener.image ≡ storage) × IsHonestBacking view backing (option_flatten opener.backing)
+
+    -- The disk shows the same over every disk below, or has none below.
+    abbrev pub ShowsAlone : Qcow2OpenBuilder S F → Type 0
+    ShowsAlone opener = (shows_old builder.preallocate ≡ true) ⊎ (is_some (option_flatten opener.backing) ≡ false)
+
+    -- The image was made on a storage, and the builder that the closure returned for it opened an image, whose disk was grown. If that is the same storage, the known contents are those of the new disk, and a stop leaves what a stop of creating may.
+    pub record IsMadeOpen (image : Qcow2 S F) : Type 0 where
+      pub storage : S
+      pub opener : Qcow2OpenBuilder S F
+      pub is_answered : IsAnswered storage opener
+      pub grown : OpensGrown opener builder.preallocate builder.size image (Ok tt)
+      pub holds : HandsOn storage opener → HoldsNewDisk builder.preallocate builder.size opener.number image
+      pub new_disk : HandsOn storage opener → ShowsAlone opener → IsNewDisk builder.preallocate builder.size (known_in view image.file)
+      pub stops : HandsOn storage opener → ShowsAlone opener → StopsCreating builder.preallocate builder.size (view builder.image) (view_in view image.file)
+
+    -- The image was made, and the builder that the closure returned was refused.
+    pub record IsMadeUnopened (left : S) (e : ImageError) : Type 0 where
+      pub storage : S
+      pub opener : Qcow2OpenBuilder S F
+      pub is_answered : IsAnswered storage opener
+      pub step : OpeningStep {F = F} view (view opener.image) true (files_missing opener.backing) (Err (left, e))
+
+    -- The image was made and opened, and its disk could not be grown: by a fault, for lack of room, or since clusters are to be allocated over the backing disk that the closure gave.
+    pub record IsMadeUngrown (left : S) (e : ImageError) : Type 0 where
+      pub storage : S
+      pub opener : Qcow2OpenBuilder S F
+      pub is_answered : IsAnswered storage opener
+      pub image : Qcow2 S F
+      pub is_left : storage_of_image image ≡ left
+      pub grown : OpensGrown opener builder.preallocate builder.size image (Err e)
+      pub reason : HandsOn storage opener → IsFaultOrLimit e ⊎ ((e ≡ I.Preallocation) × IsTrue (takes_over grown.opened builder.preallocate))
+      pub stops : HandsOn storage opener → ShowsAlone opener → StopsCreating builder.preallocate builder.size (view builder.image) (view left)
+
+    -- The image was made, and the closure refused its storage.
+    pub record IsMadeClosed (e : ImageError) : Type 0 where
+      pub storage : S
+      pub answered : answers storage (Err e)
+      pub given : IsGiven view builder storage

@@ -28,24 +28,24 @@ module _ {S F : Type 0} (view : S → StorageView) (backing : F → BackingView)
   OneRose old new = Rose (faults_of view old.file.storage) (faults_of view new.file.storage) ⊎ Rose (faults_below view backing old.backing) (faults_below view backing new.backing)
 
   -- A refusal with an I/O error comes only after a fault was counted.
-  abbrev pub TellsFault : Qcow2 S F → Qcow2 S F → ImageError → Type 0
-  TellsFault old new e = e ≡ Storage → OneRose old new
+  abbrev pub ReportsFault : Qcow2 S F → Qcow2 S F → ImageError → Type 0
+  ReportsFault old new e = e ≡ Storage → OneRose old new
 
   -- Every fault is reported: unless a call is refused with an I/O error, both numbers stay the same.
-  abbrev pub TellsEach : {T : Type 0} → Qcow2 S F → Qcow2 S F → Result T ImageError → Type 0
-  TellsEach old new result = UnlessErr result Storage (SameFaults old new)
+  abbrev pub ReportsEach : {T : Type 0} → Qcow2 S F → Qcow2 S F → Result T ImageError → Type 0
+  ReportsEach old new result = UnlessErr result Storage (SameFaults old new)
 
-  -- Every fault is reported, if the error is a part of another one.
-  abbrev pub TellsEachBy : {T E : Type 0} → (E → ImageError) → Qcow2 S F → Qcow2 S F → Result T E → Type 0
-  TellsEachBy reason old new (Ok _) = SameFaults old new
-  TellsEachBy reason old new (Err e) = reason e ≢ Storage → SameFaults old new
+  -- Every fault is reported, where the error is wrapped in another type.
+  abbrev pub ReportsEachBy : {T E : Type 0} → (E → ImageError) → Qcow2 S F → Qcow2 S F → Result T E → Type 0
+  ReportsEachBy reason old new (Ok _) = SameFaults old new
+  ReportsEachBy reason old new (Err e) = reason e ≢ Storage → SameFaults old new
 
-  abbrev pub TellsEachIn : Qcow2 S F → Qcow2 S F → Option ImageError → Type 0
-  TellsEachIn old new None = SameFaults old new
-  TellsEachIn old new (Some e) = e ≢ Storage → SameFaults old new
+  abbrev pub ReportsEachIn : Qcow2 S F → Qcow2 S F → Option ImageError → Type 0
+  ReportsEachIn old new None = SameFaults old new
+  ReportsEachIn old new (Some e) = e ≢ Storage → SameFaults old new
 
-  -- No call lowers a number of faults. If it is refused with an I/O error, one of the two rose, or is the greatest u64. Otherwise both stay the same.
+  -- A number of faults never falls. If a call is refused with an I/O error, one of the two rose, or is the greatest u64. Otherwise both stay the same.
   pub record CountsImageFaults {T : Type 0} (old new : Qcow2 S F) (result : Result T ImageError) : Type 0 where
     pub no_fewer : NoFewerFaults old new
-    pub rose : IfErr result (TellsFault old new)
-    pub told : TellsEach old new result
+    pub rose : IfErr result (ReportsFault old new)
+    pub told : ReportsEach old new result

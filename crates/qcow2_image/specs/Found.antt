@@ -60,15 +60,15 @@ AreBytesOf b place bytes = (i : ℕ) → i < length bytes → byte_at bytes i �
 abbrev pub mapping_of : L2TableView → ℕ → L2Mapping
 mapping_of table guest = cover_at table (guest % entries_of table)
 
--- The guest cluster k clusters behind another is mapped like it.
+-- The guest cluster k clusters after another is mapped like it.
 abbrev pub IsAlikeTo : L2TableView → ℕ → ℕ → Type 0
 IsAlikeTo table guest k = IsAlike (k * 2 ^ table.cluster_bits) (mapping_of table guest) (mapping_of table (guest + k))
 
--- The n guest clusters behind another are mapped like it.
+-- The n guest clusters after another are mapped like it.
 abbrev pub AreAlikeBehind : L2TableView → ℕ → ℕ → Type 0
 AreAlikeBehind table guest n = (k : ℕ) → 0 < k → k ≤ n → IsAlikeTo table guest k
 
--- n bytes are whole clusters behind one that are mapped like it, and as many as there are, up to a limit.
+-- n bytes are whole clusters after one that are mapped like it, and as many as there are, up to a limit.
 pub record IsRunBehind (table : L2TableView) (guest max n : ℕ) : Type 0 where
   pub count : ℕ
   pub whole : n ≡ count * 2 ^ table.cluster_bits

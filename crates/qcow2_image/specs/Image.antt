@@ -29,8 +29,8 @@ module _ {S F : Type 0} where
   has_noted_change image = has_noted image.file
 
   -- The same image with other marks: whether the storage recorded a change, and whether the image failed.
-  abbrev pub with_marks : Qcow2 S F → (noted failed : Bool) → Qcow2 S F
-  with_marks image noted failed = record image { is_failed = failed; file = record image.file { storage = record image.file.storage { is_changed = noted } } }
+  abbrev pub with_marks : Qcow2 S F → (recorded failed : Bool) → Qcow2 S F
+  with_marks image recorded failed = record image { is_failed = failed; file = record image.file { storage = record image.file.storage { is_changed = recorded } } }
 
   -- The size of the guest's disk.
   abbrev pub size_of : Qcow2 S F → ℕ
@@ -52,14 +52,14 @@ module _ {S F : Type 0} where
   abbrev pub leaked_in : Qcow2 S F → ℕ
   leaked_in image = leaked_by image.allocator
 
-  -- It is the same image, and its disk has the same size.
+  -- The image is the same one, and its disk has the same size.
   pub record IsSameImage (old new : Qcow2 S F) : Type 0 where
     pub number : number_of new ≡ number_of old
     pub size : size_of new ≡ size_of old
     pub writable : is_writable new ≡ is_writable old
     pub external : is_external new ≡ is_external old
 
-  -- It is the same image, and it is marked as failed if it was before.
+  -- The image is the same one, and is still marked as failed if it was before.
   pub record ImageStays (old new : Qcow2 S F) : Type 0 where
     pub image : IsSameImage old new
     pub failed : is_failed new ≡ is_failed old
@@ -67,7 +67,7 @@ module _ {S F : Type 0} where
   -- A call has begun: no change is recorded yet, and all else is the same.
   pub record IsBegun (old new : Qcow2 S F) : Type 0 where
     pub storage : storage_of_image new ≡ storage_of_image old
-    pub unnoted : is_changed_of new.file.storage ≡ false
+    pub unrecorded : is_changed_of new.file.storage ≡ false
     pub counts : changes_of new.file.storage ≡ changes_of old.file.storage
     pub caches : new.file.caches ≡ record old.file.caches { is_changed = false }
     pub rest : new ≡ record old { file = record old.file { storage = new.file.storage; caches = new.file.caches } }

@@ -26,8 +26,8 @@ use Rattle.qcow2_alloc.specs.ImageFile.{l2_pins, view_in, contents_in, known_in,
 use Rattle.qcow2_alloc.specs.KeptAllocators.{IsAllocatorOf}
 use Rattle.qcow2_image.specs.declared.image.Qcow2.{Qcow2}
 use Rattle.qcow2_image.specs.declared.prepared.Prepared.{Prepared}
-use Rattle.qcow2_image.specs.declared.prepared.Share.{Share}
-use Rattle.qcow2_image.specs.declared.prepared.Share.TheVariants.{InPlace, Kept, New}
+use Rattle.qcow2_image.specs.declared.prepared.ClusterMapping.{ClusterMapping}
+use Rattle.qcow2_image.specs.declared.prepared.ClusterMapping.TheVariants.{InPlace, Kept, New}
 use Rattle.qcow2_image.specs.Image.{number_of, is_failed, is_writable, leaked_in}
 use Rattle.qcow2_image.specs.Prepared.{image_of, offset_of, length_of, table_of}
 
@@ -37,16 +37,16 @@ use Rattle.qcow2_image.specs.Prepared.{image_of, offset_of, length_of, table_of}
 abbrev pub pins_of : Option ℕ → ℕ → ℕ
 pins_of pinned table = option_map_or (λ t. one_if (t == table)) pinned 0
 
--- How often shares hold the cluster.
-abbrev pub new_data_in : List Share → ℕ → ℕ
+-- How many of these cluster mappings have the cluster as their new one.
+abbrev pub new_data_in : List ClusterMapping → ℕ → ℕ
 new_data_in [] k = 0
-new_data_in (InPlace ∷ shares) k = new_data_in shares k
-new_data_in (Kept ∷ shares) k = new_data_in shares k
-new_data_in (New taken old_data ∷ shares) k = to_free of_data taken k + new_data_in shares k
+new_data_in (InPlace ∷ clusters) k = new_data_in clusters k
+new_data_in (Kept ∷ clusters) k = new_data_in clusters k
+new_data_in (New taken old_data ∷ clusters) k = to_free of_data taken k + new_data_in clusters k
 
 -- How often a prepared mapping holds the cluster; and how often it pins the L2 table in the cluster.
 abbrev pub new_data_by : Prepared → ℕ → ℕ
-new_data_by p k = new_data_in p.shares.items k
+new_data_by p k = new_data_in p.clusters.items k
 
 abbrev pub pins_by : Prepared → ℕ → ℕ
 pins_by p table = pins_of p.table table
@@ -63,14 +63,14 @@ over_all f (p ∷ out) k = option_map_or (λ q. f q k) p 0 + over_all f out k
 
 -- ---- prepared mappings over the bytes of an image: on the storage, and known
 
--- Whether the bytes of a share become visible only when it is entered in the L2 table.
-abbrev pub is_entered : Share → Bool
+-- Whether the bytes of a cluster become visible only when it is entered in the L2 table.
+abbrev pub is_entered : ClusterMapping → Bool
 is_entered InPlace = false
 is_entered Kept = true
 is_entered (New taken old_data) = true
 
--- Whether the share is a new cluster, which nothing on the storage names.
-abbrev pub is_new : Share → Bool
+-- Whether the host cluster is new, so that nothing on the storage names it.
+abbrev pub is_new : ClusterMapping → Bool
 is_new InPlace = false
 is_new Kept = false
 is_new (New taken old_data) = true
@@ -91,12 +91,12 @@ module _ (h : HeaderFields) where
   abbrev pub place_of : Prepared → ℕ → ℕ
   place_of p o = begin_of p + (o - cluster_of p * cluster_size h)
 
-  -- The share of a guest cluster in a mapping, if it has one.
-  abbrev pub share_of : Prepared → ℕ → Option Share
-  share_of p g = if nat_le (cluster_of p) g then slice_get p.shares.items (g - cluster_of p) else None
+  -- The cluster mapping of a guest cluster in a prepared mapping, if it has one.
+  abbrev pub mapping_of_cluster : Prepared → ℕ → Option ClusterMapping
+  mapping_of_cluster p g = if nat_le (cluster_of p) g then slice_get p.clusters.items (g - cluster_of p) else None
 
   module _ (known on_storage : Bytes) (p : Prepared) where
-    -- The share is a new cluster: the L2 entry of the i-th guest cluster is not copied data, and what it refers to will be old data.
+    -- The host cluster is new: the L2 entry of the i-th guest cluster is not copied data, and what it refers to will be old data.
     pub record IsNewAt (i : ℕ) (taken old_data : List ClustersToFreeEntry) : Type 0 where
       pub first : ℕ
       pub is : taken ≡ data_entry first 1 ∷ []
@@ -106,32 +106,32 @@ module _ (h : HeaderFields) where
       pub reach : IsInReach (cover h known (cluster_of p + i))
       pub drops : old_data ≡ listed_run (named_run h.cluster_bits (cover h known (cluster_of p + i)))
 
-    -- The share is kept: the L2 entry is a zero entry that keeps the host cluster.
+    -- The host cluster is kept: the L2 entry is a zero entry that keeps it.
     pub record IsKeptAt (i : ℕ) : Type 0 where
       pub first : ℕ
       pub place : first * cluster_size h ≡ host_begin_of p i
       pub nameable : IsHostCluster h.cluster_bits first
       pub entry : cover h known (cluster_of p + i) ≡ Zero (Some (host_begin_of p i, true))
 
-    -- The i-th share of a mapping is in place (copied data), kept or new.
-    abbrev pub IsShareAt : ℕ → Share → Type 0
-    IsShareAt i InPlace = cover h known (cluster_of p + i) ≡ Data (host_begin_of p i) true
-    IsShareAt i Kept = IsKeptAt i
-    IsShareAt i (New taken old_data) = IsNewAt i taken old_data
+    -- The i-th cluster of a mapping is in place (copied data), kept or new.
+    abbrev pub IsClusterMappingAt : ℕ → ClusterMapping → Type 0
+    IsClusterMappingAt i InPlace = cover h known (cluster_of p + i) ≡ Data (host_begin_of p i) true
+    IsClusterMappingAt i Kept = IsKeptAt i
+    IsClusterMappingAt i (New taken old_data) = IsNewAt i taken old_data
 
-    -- A pinned mapping has a share for each cluster that it touches. All are in one L2 table, which it pins, and whose L1 entry is marked copied.
+    -- A pinned mapping has a cluster mapping for each guest cluster that it touches. All are in one L2 table, which it pins, and whose L1 entry is marked copied.
     pub record IsPending (table : ℕ) : Type 0 where
       pub some : 0 < p.length
       pub begins : begin_of p + p.guest % cluster_size h ≡ p.offset
-      pub enough : p.guest % cluster_size h + p.length ≤ length p.shares.items * cluster_size h
-      pub no_more : length p.shares.items * cluster_size h < p.guest % cluster_size h + p.length + cluster_size h
-      pub within : cluster_of p % entries_per_cluster h + length p.shares.items ≤ entries_per_cluster h
+      pub enough : p.guest % cluster_size h + p.length ≤ length p.clusters.items * cluster_size h
+      pub no_more : length p.clusters.items * cluster_size h < p.guest % cluster_size h + p.length + cluster_size h
+      pub within : cluster_of p % entries_per_cluster h + length p.clusters.items ≤ entries_per_cluster h
       pub named : IsEntryAt h known (cluster_of p / entries_per_cluster h) table (cluster_of p % entries_per_cluster h)
       pub copied : is_copied (l1_entry h on_storage (cluster_of p / entries_per_cluster h)) ≡ true
-      pub each : (i : ℕ) (share : Share) → slice_get p.shares.items i ≡ Some share → IsShareAt i share
+      pub each : (i : ℕ) (cluster_mapping : ClusterMapping) → slice_get p.clusters.items i ≡ Some cluster_mapping → IsClusterMappingAt i cluster_mapping
 
     abbrev pub IsReadyWith : Option ℕ → Type 0
-    IsReadyWith None = p.shares.items ≡ []
+    IsReadyWith None = p.clusters.items ≡ []
     IsReadyWith (Some table) = IsPending table
 
 module _ {S F : Type 0} (view : S → StorageView) (backing : F → BackingView) where
@@ -158,10 +158,10 @@ module _ {S F : Type 0} (view : S → StorageView) (backing : F → BackingView)
 
   -- The meaning of a prepared mapping: bytes that are not in place are private until the commit, which shows them. Those in new clusters are also hidden from stops.
   abbrev pub is_private : Qcow2 S F → Prepared → ℕ → Bool
-  is_private image p o = option_map_or is_entered (share_of image.file.header.fields p (o / cluster_size image.file.header.fields)) false
+  is_private image p o = option_map_or is_entered (mapping_of_cluster image.file.header.fields p (o / cluster_size image.file.header.fields)) false
 
   abbrev pub is_hidden : Qcow2 S F → Prepared → ℕ → Bool
-  is_hidden image p o = option_map_or is_new (share_of image.file.header.fields p (o / cluster_size image.file.header.fields)) false
+  is_hidden image p o = option_map_or is_new (mapping_of_cluster image.file.header.fields p (o / cluster_size image.file.header.fields)) false
 
   abbrev pub meaning : Qcow2 S F → Prepared → PreparedMapping
   meaning image p = record {
@@ -190,7 +190,7 @@ module _ {S F : Type 0} (view : S → StorageView) (backing : F → BackingView)
   pub record ImageInvariant (p : Pending) (image : Qcow2 S F) (out : List (Option Prepared)) : Type 0 where
     pub works : is_failed image ≡ false
     pub file : FileInvariant view p image.file
-    -- its data are in the image's own file
+    -- The data are in the image's own file.
     pub inside : image.file.header.fields.incompatible ≡ 0
     pub l1_table : HasL1Table image.file image.l1_table
     pub reftable : IfSome image.allocator (IsAllocatorOf view image.file)

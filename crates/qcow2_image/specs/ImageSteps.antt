@@ -25,7 +25,7 @@ module _ {S F : Type 0} (view : S → StorageView) where
     pub notes : KeepsFileNotes view old.file new.file
     pub header_cluster : premise → PreservesHeaderCluster view old new
 
-  -- A part that only reads: it also leaves the header and the list of clusters to free the same, and writes nothing if no cached table is modified.
+  -- A part that only reads: the header and the list of clusters to free stay the same, and nothing is written if no cached table is modified.
   pub record ReadingStep (old new : Qcow2 S F) : Type 0 where
     pub part : ImageStep old new
     pub header : new.file.header ≡ old.file.header
@@ -51,7 +51,7 @@ module _ {S F : Type 0} (view : S → StorageView) where
       pub header_cluster : PreservesHeaderCluster view old new
       pub faults : CountsImageFaults view backing old new result
 
-    -- A call that also leaves the size of the disk the same.
+    -- A call that leaves the size of the disk the same, and marks the image as failed by the rule.
     pub record CallStep : Type 0 where
       pub image : IsSameImage old new
       pub marks : MarksFailed old new result
@@ -59,7 +59,7 @@ module _ {S F : Type 0} (view : S → StorageView) where
       pub header_cluster : PreservesHeaderCluster view old new
       pub faults : CountsImageFaults view backing old new result
 
-    -- A call that only reads: it also leaves the header in memory the same, and writes nothing if no cached table is modified.
+    -- A call that only reads: the header in memory stays the same, and nothing is written if no cached table is modified.
     pub record ReadingCall : Type 0 where
       pub image : IsSameImage old new
       pub header : KeepsWholeHeader old new

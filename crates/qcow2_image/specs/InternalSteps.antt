@@ -18,9 +18,9 @@ use Rattle.qcow2_image.specs.declared.image.Qcow2.{Qcow2}
 use Rattle.qcow2_image.specs.declared.prepared.Prepared.{Prepared}
 use Rattle.qcow2_alloc.specs.CachePins.{l2_pins, KeepsPinsAndNotes, SameTables}
 use Rattle.qcow2_alloc.specs.FreeList.{with_listed, pending_then as since_listed}
-use Rattle.qcow2_alloc.specs.MetadataCaches.{order_of, l2_at, IsEntryAt, MapsCachedEntry, NotesEntry}
-use Rattle.qcow2_image.specs.declared.prepared.Share.{Share}
-use Rattle.qcow2_image.specs.declared.prepared.Share.TheVariants.{InPlace, Kept, New}
+use Rattle.qcow2_alloc.specs.MetadataCaches.{order_of, l2_at, IsEntryAt, MapsCachedEntry, RecordsEntry}
+use Rattle.qcow2_image.specs.declared.prepared.ClusterMapping.{ClusterMapping}
+use Rattle.qcow2_image.specs.declared.prepared.ClusterMapping.TheVariants.{InPlace, Kept, New}
 use Rattle.qcow2_disk.specs.AbstractImages.{guest_of}
 use Rattle.qcow2_metadata.specs.Cover.{cover}
 use Rattle.qcow2_metadata.specs.Guest.{known_byte}
@@ -30,7 +30,7 @@ use Rattle.qcow2_metadata.specs.declared.l2_mapping.L2Mapping.TheVariants.{Zero}
 use Rattle.qcow2_laws.specs.Changes.{with_new_data}
 use Rattle.qcow2_alloc.specs.declared.clusters_to_free.ClusterKind.TheVariants as Kind
 use Rattle.qcow2_image.specs.Image.{leaked_in}
-use Rattle.qcow2_image.specs.ImageInvariant.{run_of, new_data_by, is_entered, over_all, pins_of, share_of, below_of, disk_of, abstract_of, ImageInvariant}
+use Rattle.qcow2_image.specs.ImageInvariant.{run_of, new_data_by, is_entered, over_all, pins_of, mapping_of_cluster, below_of, disk_of, abstract_of, ImageInvariant}
 
 -- The L1 entry names a table, and is marked copied.
 abbrev pub NamesOwn : ℕ → Type 0
@@ -48,22 +48,22 @@ is_announced size offset length overwrite i = overwrite && is_within (offset % s
 abbrev pub AreThere : {S : Type 0} → (S → StorageView) → ImageFile S → ℕ → ℕ → (ℕ → ℕ) → Type 0
 AreThere view file at n values = (i : ℕ) → i < n → contents_in view file (at + i) ≡ values i
 
--- The clusters that are freed when shares are dropped: the new ones.
-abbrev pub freed_by : List Share → List ClustersToFreeEntry
+-- The clusters that are freed when cluster mappings are dropped: the new ones.
+abbrev pub freed_by : List ClusterMapping → List ClustersToFreeEntry
 freed_by [] = []
-freed_by (InPlace ∷ shares) = freed_by shares
-freed_by (Kept ∷ shares) = freed_by shares
-freed_by (New taken old_data ∷ shares) = taken ++ freed_by shares
+freed_by (InPlace ∷ clusters) = freed_by clusters
+freed_by (Kept ∷ clusters) = freed_by clusters
+freed_by (New taken old_data ∷ clusters) = taken ++ freed_by clusters
 
--- The clusters that a share replaces when it is entered.
-abbrev pub old_data_by : Share → List ClustersToFreeEntry
+-- The host clusters that a cluster mapping replaces when it is entered.
+abbrev pub old_data_by : ClusterMapping → List ClustersToFreeEntry
 old_data_by InPlace = []
 old_data_by Kept = []
 old_data_by (New taken old_data) = old_data
 
--- Entering the shares replaces no cluster: the guest clusters are unmapped, or what they have is kept.
+-- Entering the clusters of a mapping replaces no host cluster: the guest clusters are unmapped, or what they have is kept.
 abbrev pub DropsNothing : Prepared → Type 0
-DropsNothing p = (i : ℕ) (share : Share) → slice_get p.shares.items i ≡ Some share → old_data_by share ≡ []
+DropsNothing p = (i : ℕ) (cluster_mapping : ClusterMapping) → slice_get p.clusters.items i ≡ Some cluster_mapping → old_data_by cluster_mapping ≡ []
 
 module _ {S F : Type 0} where
   -- Clusters are appended to the list of clusters to free, and nothing else changes.
@@ -76,19 +76,19 @@ module _ {S F : Type 0} where
     pub order : order_of new.file.caches ≡ order_of old.file.caches
     pub marks : KeepsPinsAndNotes old.file.caches new.file.caches
     pub entered : (t : ℕ) → table ≡ Some t → (answer : Option (ℕ × ℕ)) × MapsCachedEntry old.file.caches new.file.caches t index host answer
-    pub noted : (t : ℕ) → table ≡ Some t → NotesEntry old.file.caches new.file.caches t index host
+    pub recorded : (t : ℕ) → table ≡ Some t → RecordsEntry old.file.caches new.file.caches t index host
     pub behind : KeepBehindHeader old.file.caches new.file.caches
 
-  -- A share that is not in place is entered in its L2 table, at its cluster in the file, and is in place then. What the entry had before waits to be freed. Nothing else changes.
-  pub record EntersShare (i : ℕ) (p p' : Prepared) (old new : Qcow2 S F) : Type 0 where
-    pub share : Share
-    pub was : slice_get p.shares.items i ≡ Some share
-    pub entered : IsTrue (is_entered share)
-    pub mapping : p' ≡ record p { shares = p'.shares }
-    pub shares : p'.shares.items ≡ slice_set p.shares.items i InPlace
+  -- A cluster of a mapping that is not in place is entered in its L2 table, and is then in place. What the entry had before waits to be freed. Nothing else changes.
+  pub record EntersMapping (i : ℕ) (p p' : Prepared) (old new : Qcow2 S F) : Type 0 where
+    pub cluster_mapping : ClusterMapping
+    pub was : slice_get p.clusters.items i ≡ Some cluster_mapping
+    pub entered : IsTrue (is_entered cluster_mapping)
+    pub mapping : p' ≡ record p { clusters = p'.clusters }
+    pub clusters : p'.clusters.items ≡ slice_set p.clusters.items i InPlace
     pub mid : Qcow2 S F
     pub enters : EntersCluster p.table (min (l2_index_of old.file.header.fields p.guest + i) (2 ^ 64 - 1)) (min (p.offset / cluster_size old.file.header.fields + i) (2 ^ 64 - 1)) old mid
-    pub lists : FreesLater (old_data_by share) mid new
+    pub lists : FreesLater (old_data_by cluster_mapping) mid new
 
   -- An L2 table, if one is given, has one pin less, and nothing else changes.
   pub record Unpins (table : Option ℕ) (old new : Qcow2 S F) : Type 0 where
@@ -203,7 +203,7 @@ module _ {S F : Type 0} where
     -- The zero entry of the offset's guest cluster keeps the host cluster at this place, and no mapping has that guest cluster.
     pub record IsKeptAlone (image : Qcow2 S F) (out : List (Option Prepared)) (offset host : ℕ) : Type 0 where
       pub kept : cover image.file.header.fields (known_in view image.file) (offset / cluster_size image.file.header.fields) ≡ Zero (Some (host, true))
-      pub alone : (k : ℕ) (q : Prepared) → slice_get out k ≡ Some (Some q) → share_of image.file.header.fields q (offset / cluster_size image.file.header.fields) ≡ None
+      pub alone : (k : ℕ) (q : Prepared) → slice_get out k ≡ Some (Some q) → mapping_of_cluster image.file.header.fields q (offset / cluster_size image.file.header.fields) ≡ None
 
     -- The n bytes are copied from a guest offset to an offset of the file.
     abbrev pub IsCopied : Qcow2 S F → Qcow2 S F → ℕ → ℕ → ℕ → Type 0
@@ -216,9 +216,9 @@ module _ {S F : Type 0} where
         (i : ℕ) → i < size → is_announced size offset length overwrite i ≡ false → known_byte (contents_in view new.file (cluster * size + i)) ≡ (disk_of view backing old).value (offset - offset % size + i)
 
     -- A cluster is allocated for data.
-    abbrev pub TakesData : Pending → Qcow2 S F → Qcow2 S F → List (Option Prepared) → Result ClustersToFreeEntry ImageError → Type 0
-    TakesData p old new out (Ok n) = (n.count ≡ 1) × (n.kind ≡ Kind.Data) × InternalFillingStep p (with_new_data (pending_with_listed p old new) (run_of n)) old new out
-    TakesData p old new out (Err e) = RefusedFillingStep p old new out e
+    abbrev pub AllocatesData : Pending → Qcow2 S F → Qcow2 S F → List (Option Prepared) → Result ClustersToFreeEntry ImageError → Type 0
+    AllocatesData p old new out (Ok n) = (n.count ≡ 1) × (n.kind ≡ Kind.Data) × InternalFillingStep p (with_new_data (pending_with_listed p old new) (run_of n)) old new out
+    AllocatesData p old new out (Err e) = RefusedFillingStep p old new out e
 
     -- A new cluster that no mapping has yet.
     pub record IsGained (p : Pending) (old new : Qcow2 S F) (out : List (Option Prepared)) (offset length : ℕ) (overwrite : Bool) (mapping : L2Mapping) (n : ClustersToFreeEntry) : Type 0 where

@@ -23,7 +23,7 @@ use Rattle.qcow2_image.specs.ImageSteps.{ImageStep, ImageStepWhere}
 use Rattle.qcow2_image.specs.Noted.{FailsOnceWritten}
 use Rattle.qcow2_image.specs.PinnedTables.{HasPinnedTable}
 use Rattle.qcow2_image.specs.Readable.{IsReasonAgainstTables}
-use Rattle.qcow2_image.specs.Refusals.{IsMet, MarksFailed}
+use Rattle.qcow2_image.specs.Refusals.{MayFail, MarksFailed}
 use Rattle.qcow2_image.specs.Unwritten.{ContentsStayThroughout, HoldsNothingModified}
 use Rattle.qcow2_image.specs.declared.image.Qcow2.{Qcow2}
 use Rattle.qcow2_image.specs.declared.prepared.Prepared.{Prepared}
@@ -126,7 +126,7 @@ module _ {S F : Type 0} where
       pub unmodified : HoldsNothingModified old → HoldsNothingModified new
 
     -- The tables are read, and replace those in memory together with their pointers. Nothing is written, and the caches and the list of clusters to free stay the same.
-    pub record TakesTables (old new : Qcow2 S F) : Type 0 where
+    pub record ReplacesTables (old new : Qcow2 S F) : Type 0 where
       pub part : ImageStepWhere view (NamesTablesBehind new.file.header.fields) old new
       pub rest : new ≡ record old { file = record old.file { storage = new.file.storage; header = new.file.header }; l1_table = new.l1_table; allocator = new.allocator }
       pub header : new.file.header ≡ with_fields old.file.header (with_tables_of old.file.header.fields new.file.header.fields)
@@ -159,11 +159,11 @@ module _ {S F : Type 0} where
           pub dropped : OnOk result (HoldsNoTable new)
           pub read : (view_in view old.file).is_honest → OnOk result (IsAsStored new)
 
-        -- Why the call is refused, and what it leaves then: the header, the L1 table and the reftable in memory are unchanged. A failed image stays as it is. Any other one forgets which clusters wait to be freed, whatever the answer.
+        -- Why the call is refused, and what it leaves then: the header, the L1 table and the reftable in memory are unchanged. A failed image stays as it is. Any other one forgets which clusters wait to be freed, whatever the call returns.
         pub record InvalidatingFails : Type 0 where
           pub failed : IsTrue (is_failed old) → (result ≡ Err I.Failed) × (new ≡ old)
           pub kept : OnErr result (KeepsTables old new)
-          pub cause : is_failed old ≡ false → IfErr result IsMet
+          pub cause : is_failed old ≡ false → IfErr result MayFail
           pub prepared : is_failed old ≡ false → RespectsPrepared old result
           pub why : is_failed old ≡ false → (view_in view old.file).is_honest → IfErr result (IsReasonAgainstReading old new)
           pub list : is_failed old ≡ false → HasNothingToFree new

@@ -6,7 +6,7 @@ use Rattle.qcow2_metadata.specs.L2Mapping.{IsHostCluster}
 use Rattle.qcow2_metadata.specs.TableBytes.{entry_at}
 use Rattle.qcow2_image.specs.declared.image.Qcow2.{Qcow2}
 use Rattle.qcow2_image.specs.Found.{l1_index_of}
-use Rattle.qcow2_image.specs.MetAlone.{KeepsL1Place}
+use Rattle.qcow2_image.specs.MayFail.{KeepsL1Place}
 use Rattle.qcow2_image.specs.InternalSteps.{NamesOwn}
 
 -- The L1 table has its old entries and those up to that of an offset, and no more.
@@ -43,6 +43,6 @@ module _ {S F : Type 0} where
     pub within : l1_index_of image.file.header.fields offset < entry_count image.l1_table
     pub far : ¬ HasRoomIfPlaced image.l1_table.cluster_bits (8 * l1_index_of image.file.header.fields offset) image.l1_table.cluster
 
-  -- Such an entry past 64 bits would have to be written for the offset.
+  -- An L1 entry whose own offset passes 64 bits would have to be written for the offset.
   abbrev pub NeedsOverflowingL1Entry : Qcow2 S F → ℕ → Type 0
   NeedsOverflowingL1Entry image offset = L1EntryOverflows image offset × ¬ HasOwnTable image offset

@@ -29,12 +29,14 @@ pub mod Unwritten
 pub mod L1Entries
 pub mod PinnedTables
 pub mod ListedClusters
-pub mod MetAlone
+pub mod MayFail
 pub mod Limits
 pub mod Noted
 pub mod BehindHeader
 pub mod PreparedPlaces
 pub mod ImageSteps
 pub mod SoundParts
+pub mod WriteSteps
 pub mod Storages
 pub mod Invalidated
+pub mod SizeSteps

@@ -112,9 +112,9 @@ module _ {S F : Type 0} where
           (named : Qcow2 S F) × (new ≡ record named { file = record named.file { free_list = new.file.free_list } }) × (named.file.free_list ≡ old.file.free_list) × NamesTable p old named out t taken.first_cluster result
 
       -- A longer table gets its clusters, and replaces the L1 table.
-      abbrev pub TakesTable : Pending → Qcow2 S F → Qcow2 S F → List (Option Prepared) → Result (Unit {0}) ImageError → Type 0
-      TakesTable p old new out (Ok _) = InternalMove p (without_l1 (pending_with_listed p old new) old.file.header.fields) old new out
-      TakesTable p old new out (Err e) = RefusedMove p old new out e
+      abbrev pub AllocatesTable : Pending → Qcow2 S F → Qcow2 S F → List (Option Prepared) → Result (Unit {0}) ImageError → Type 0
+      AllocatesTable p old new out (Ok _) = InternalMove p (without_l1 (pending_with_listed p old new) old.file.header.fields) old new out
+      AllocatesTable p old new out (Err e) = RefusedMove p old new out e
 
       -- A longer table replaces the L1 table, and the clusters of the old one wait to be freed.
       abbrev pub Lengthens : Pending → Qcow2 S F → Qcow2 S F → List (Option Prepared) → Result (Unit {0}) ImageError → Type 0

@@ -14,7 +14,7 @@ use Rattle.qcow2_laws.specs.Caches.{AreClean, BlocksMayGo}
 use Rattle.qcow2_laws.specs.Changes.{one_at, with_new_tables}
 use Rattle.qcow2_laws.specs.CrashInvariant.{Pending}
 use Rattle.qcow2_laws.specs.Guests.{table_at}
-use Rattle.qcow2_alloc.specs.Allocation.{StandAt}
+use Rattle.qcow2_alloc.specs.Allocation.{HasBytesAt}
 use Rattle.qcow2_alloc.specs.declared.error.ImageError.{ImageError}
 use Rattle.qcow2_alloc.specs.ImageError.{IsFault}
 use Rattle.qcow2_alloc.specs.ImageFile.{contents_in}
@@ -45,7 +45,7 @@ module _ {S F : Type 0} (view : S → StorageView) where
   pub record StandsReady (image : Qcow2 S F) (cluster : ℕ) (bytes : List ℕ) : Type 0 where
     pub stored : IsStored image
     pub new_data : (t : L2TableView) × (l2_at image.file.caches cluster ≡ Some t) × (t.bytes ≡ bytes)
-    pub stands : StandAt (contents_in view image.file) (cluster * cluster_size image.file.header.fields) bytes
+    pub stands : HasBytesAt (contents_in view image.file) (cluster * cluster_size image.file.header.fields) bytes
 
   -- The L1 entry may be written: it has no L2 table that is marked copied.
   abbrev pub MayName : Qcow2 S F → ℕ → Type 0

@@ -26,7 +26,7 @@ module _ {S F : Type 0} where
   abbrev pub HasMoreChanges : Qcow2 S F → Qcow2 S F → Type 0
   HasMoreChanges old new = (changes_of old.file.storage < changes_of new.file.storage) ⊎ (old.file.caches.changes < new.file.caches.changes)
 
-  -- No counter is lower.
+  -- No counter falls.
   pub record NoFewerChanges (old new : Qcow2 S F) : Type 0 where
     pub storage : changes_of old.file.storage ≤ changes_of new.file.storage
     pub tables : old.file.caches.changes ≤ new.file.caches.changes
@@ -38,7 +38,7 @@ pub record MarksOnceChanged {S F : Type 0} (view : S → StorageView) (old new :
   pub marked : HasMoreChanges old new → IsTrue (is_failed new)
 
 module _ {S F : Type 0} (view : S → StorageView) (old new : Qcow2 S F) where
-  -- A call that leaves other contents on the storage counted a change, whatever it answers. It lowers no counter, and an honest storage stays honest.
+  -- A call that leaves other contents on the storage counted a change, whatever it returns. No counter falls, and an honest storage stays honest.
   pub record CountsImageChanges : Type 0 where
     pub no_fewer : NoFewerChanges old new
     pub honest : (view_in view old.file).is_honest → (view_in view new.file).is_honest
@@ -56,14 +56,14 @@ module _ {S F : Type 0} (view : S → StorageView) (old new : Qcow2 S F) where
 
 module _ {S F : Type 0} (view : S → StorageView) (old new : Qcow2 S F) where
   -- A call records and counts its changes: an honest storage stays honest, every recorded change was counted, and if none was counted the contents are the same.
-  pub record NotesChanges : Type 0 where
+  pub record RecordsChanges : Type 0 where
     pub honest : (view_in view old.file).is_honest → (view_in view new.file).is_honest
     pub no_fewer : NoFewerChanges old new
     pub why : IsTrue (has_noted_change new) → ChangesRose old new
     pub contents : ¬ ChangesRose old new → ContentsStay (view_in view old.file) (view_in view new.file)
 
   -- A part of a call records and counts its changes, if none was recorded before.
-  pub record NotesPart : Type 0 where
+  pub record RecordsPart : Type 0 where
     pub honest : (view_in view old.file).is_honest → (view_in view new.file).is_honest
     pub no_fewer : NoFewerChanges old new
     pub why : IsTrue (has_noted_change new) → IsTrue (has_noted_change old) ⊎ ChangesRose old new

@@ -1,4 +1,4 @@
--- What opening an image gives: its header and tables as they are on the storage, and no modified table.
+-- What opening an image returns: its header and tables as they are on the storage, and no modified table.
 use Rattle.std.specs.Prelude.{ℕ, ◌≡◌, ◌==◌, ◌⊎◌, ◌&&◌, ◌||◌, Bool, not, false, true, IfSome, List, [], MatchResult, Option, Result, Ok, Err, if◌then◌else◌}
 use Rattle.std.specs.Option.{is_some}
 use Rattle.image_access.specs.Backing.{BackingView}
@@ -81,7 +81,7 @@ abbrev pub IsRefusedAlone : {S F : Type 0} → Result (Qcow2 S F) (S × ImageErr
 IsRefusedAlone (Ok image) = ⊥
 IsRefusedAlone (Err refused) = (refused.1 ≡ Dependency) ⊎ (refused.1 ≡ UnalignedTable) ⊎ IsFault refused.1
 
--- The storage of the opened image, or the one that a refusal hands back.
+-- The storage of the opened image, or the one that a refusal returns.
 abbrev pub storage_after : {S F : Type 0} → Result (Qcow2 S F) (S × ImageError) → S
 storage_after (Ok image) = storage_of_image image
 storage_after (Err refused) = refused.0
@@ -98,6 +98,11 @@ pub record LeavesFile {S T : Type 0} (view : S → StorageView) (writable : Bool
   pub at_once : (view_in view old).is_honest → IsHeaderIn old.header (view_in view old).contents → OpensAtOnce writable (view_in view old) (view_in view new)
   pub contents : (view_in view old).is_honest → IsHeaderIn old.header (view_in view old).contents
       → MatchResult result (λ done. StandsOpened writable (view_in view old) (view_in view new) new.header) (StandsRefused writable (view_in view old) (view_in view new))
+
+-- A part of opening leaves its file as `LeavesFile` says, and the cached tables the same.
+pub record LoadingStep {S T : Type 0} (view : S → StorageView) (writable : Bool) (old new : ImageFile S) (result : Result T ImageError) : Type 0 where
+  pub storage : LeavesFile view writable old new result
+  pub caches : new.caches ≡ old.caches
 
 module _ {S F : Type 0} (view : S → StorageView) (backing : F → BackingView) where
   -- A sound file with the header on the storage. No cached table is modified or pinned.
@@ -127,6 +132,6 @@ module _ {S F : Type 0} (view : S → StorageView) (backing : F → BackingView)
     pub surplus : (abstract_of view backing image []).surplus ≡ surplus_of (header b) b
     pub leaks : (abstract_of view backing image []).leaked ≡ 0
 
-  -- Opening a consistent image on an honest storage gives such an image.
+  -- Opening a consistent image on an honest storage returns an image that was just opened from its bytes.
   abbrev pub Opens : StorageView → Qcow2 S F → Type 0
   Opens storage image = storage.is_honest → IsConsistent (byte_at storage.contents) → IsOpenedFrom (byte_at storage.contents) image

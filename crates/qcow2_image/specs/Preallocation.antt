@@ -1,4 +1,4 @@
--- Preallocation: zeros are put behind the end of a disk before its size grows.
+-- Preallocation: zeros are put past the end of a disk before its size grows.
 use Rattle.std.specs.Prelude.{ℕ, ◌+◌, ◌-◌, ◌*◌, ◌%◌, ◌^◌, ◌≡◌, ◌⊎◌, ◌<◌, ◌≤◌, List, [], ◌∷◌, length, replicate, Option, Result, Ok, Err, None, true, false, IsSome, IsTrue, if◌then◌else◌}
 use Rattle.image_access.specs.Backing.{BackingView}
 use Rattle.image_access.specs.Moments.{StorageView}
@@ -56,7 +56,7 @@ abbrev pub ChangesFree : (size_of_cluster first from to : ℕ) → HeaderFields 
 ChangesFree size_of_cluster first from to h known out =
     (g : ℕ) → Touches size_of_cluster from to g → (first ≤ g * size_of_cluster) ⊎ (is_copied_data (cover h known g) ≡ false) → ¬ IsUnderMapping h (g * size_of_cluster) out
 
--- The range behind the end of a growing disk, if the mode fills it.
+-- The range past the end of a growing disk, if the mode fills it.
 abbrev pub GrownFree : PreallocateMode → (old size : ℕ) → HeaderFields → Bytes → List (Option Prepared) → Type 0
 GrownFree mode old size h known out = shows_old mode ≡ false → ChangesFree (cluster_size h) (first_zeros (cluster_size h) old size mode) old (rounded_up (cluster_size h) size) h known out
 
@@ -98,7 +98,7 @@ module _ {S F : Type 0} (view : S → StorageView) (backing : F → BackingView)
   -- A fault ended the part: once the image is marked as failed, a stop is as safe as before, with these values given.
   pub record InterruptedGiving (given : List GivenBytes) (old new : Qcow2 S F) (out : List (Option Prepared)) (e : ImageError) : Type 0 where
     pub fault : IsFaultOfTables e
-    pub noted : e ≡ I.Memory → IsTrue (has_noted_change new)
+    pub recorded : e ≡ I.Memory → IsTrue (has_noted_change new)
     pub works : EffectOnSound (abstract_of view backing old out) (abstract_of view backing (record new { is_failed = true }) out) given []
 
   -- What a refused part leaves. It is refused 9 only if a mapping is pinned in an L2 table of the range, and with a limit only if there was no room.
@@ -127,12 +127,12 @@ module _ {S F : Type 0} (view : S → StorageView) (backing : F → BackingView)
     pub still : p.table ≡ None → CoversStay old.file.header.fields (known_in view old.file) new.file.header.fields (known_in view new.file)
     pub allocator : new.allocator ≡ old.allocator
 
-  -- ---- behind the end of a disk that grows
+  -- ---- past the end of a disk that grows
 
   abbrev pub all_given_by_growing : Qcow2 S F → ℕ → PreallocateMode → List GivenBytes
   all_given_by_growing image size mode = given_by_grow (setting_of view backing image) (disk_of view backing image) size mode
 
-  -- There are zeros behind the end of the disk, as the mode asks for. The size is the old one.
+  -- There are zeros past the end of the disk, as the mode asks for. The size is the old one.
   pub record FillsGrown (size : ℕ) (mode : PreallocateMode) (old new : Qcow2 S F) (out : List (Option Prepared)) : Type 0 where
     pub works : EffectOnSound (abstract_of view backing old out) (abstract_of view backing new out) (all_given_by_growing old size mode) []
     pub sound : ImageInvariant view backing (pending_in view backing new out) new out
@@ -142,7 +142,7 @@ module _ {S F : Type 0} (view : S → StorageView) (backing : F → BackingView)
     pub covers : GrownCovers mode (size_of old) size old.file.header.fields (known_in view old.file) new.file.header.fields (known_in view new.file)
     pub free : GrownFree mode (size_of old) size old.file.header.fields (known_in view old.file) out
 
-  -- The part was refused: each byte behind the end is the same or zero, and all others are the same.
+  -- The part was refused: each byte past the end is the same or zero, and all others are the same.
   pub record FillsGrownInPart (size : ℕ) (mode : PreallocateMode) (old new : Qcow2 S F) (out : List (Option Prepared)) : Type 0 where
     pub works : EffectOnSound (abstract_of view backing old out) (abstract_of view backing new out) (all_given_by_growing old size mode) []
     pub sound : ImageInvariant view backing (pending_in view backing new out) new out
@@ -150,7 +150,7 @@ module _ {S F : Type 0} (view : S → StorageView) (backing : F → BackingView)
     pub may : MayGrow (setting_of view backing old) (disk_of view backing old) size mode now
     pub shows : guest_of (abstract_of view backing new out) ≡ with_disk (guest_of (abstract_of view backing old out)) now
 
-  -- What a refused part leaves. It is refused 9 only if the mode asks for zeros and a mapping is pinned in an L2 table behind the end, and with a limit only if there was no room.
+  -- What a refused part leaves. It is refused 9 only if the mode asks for zeros and a mapping is pinned in an L2 table past the end, and with a limit only if there was no room.
   pub record RefusedGrown (size : ℕ) (mode : PreallocateMode) (old new : Qcow2 S F) (out : List (Option Prepared)) (e : ImageError) : Type 0 where
     pub left : FillsGrownInPart size mode old new out ⊎ InterruptedGiving (all_given_by_growing old size mode) old new out e
     pub taken : e ≡ I.TablePrepared → (shows_old mode ≡ false) × IsUnderMappingIn old.file.header.fields (disk_of view backing old).size (rounded_up (cluster_size old.file.header.fields) size) out

@@ -7,7 +7,7 @@ use Rattle.qcow2_metadata.specs.declared.l2_mapping.L2Mapping.{L2Mapping}
 use Rattle.qcow2_image.specs.declared.prepared.Prepared.{Prepared}
 use Rattle.qcow2_image.specs.Prepared.{length_of, offset_of}
 
--- If the mapping is marked copied, its host cluster lies behind cluster 0.
+-- If the mapping is marked copied, its host cluster lies past cluster 0.
 abbrev pub MarkedIsBehind : ℕ → L2Mapping → Type 0
 MarkedIsBehind size mapping = IsTrue (is_marked mapping) → IfSome (host_of mapping) (λ host. size ≤ host)
 

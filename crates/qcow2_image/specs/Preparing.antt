@@ -32,10 +32,10 @@ module _ (h : HeaderFields) (known : Bytes) (offset : ℕ) where
   abbrev pub IsWritableAt : ℕ → ℕ → Type 0
   IsWritableAt n place = (n ≤ rest_of_table h offset) × AreDataAt h known true offset place n
 
-  -- The mapping p that was prepared for n bytes, with the meaning m. It is existing exactly if all n bytes may be written in place, and then covers just these.
-  -- Otherwise it covers at least the rest of the first cluster, and as much of the range behind it as can be contiguous in the file within one L2 table. If it is shorter than the range, there is a cause.
+  -- The mapping p that was prepared for n bytes, with the meaning m. It is existing exactly if all n bytes may be written in place, and then covers exactly these.
+  -- Otherwise it covers at least the rest of the first cluster, and as much of the range after it as can be contiguous in the file within one L2 table. If it is shorter than the range, there is a cause.
   -- If the zero entry of the first guest cluster keeps a host cluster, the mapping begins there.
-  -- Copied data are in place, and still are at the return. All other bytes are private, at the same offset in their cluster: a host cluster that only the mapping holds, or that the zero entry keeps.
+  -- Copied data are in place, and are still copied data at the return. All other bytes are private, at the same offset in their cluster: a host cluster that only the mapping holds, or that the zero entry keeps.
   pub record IsAnswered (n : ℕ) (h' : HeaderFields) (now : Bytes) (p : Prepared) (m : PreparedMapping) : Type 0 where
     pub existing : IsNone (table_of p) ↔ ((place : ℕ) × IsWritableAt n place)
     pub whole : IsNone (table_of p) → length_of p ≡ n

@@ -1,4 +1,4 @@
--- How a prepared range is extended behind its first cluster.
+-- How a prepared range is extended after its first cluster.
 use Rattle.std.specs.Prelude.{Bool, true, false, ℕ, ◌+◌, ◌-◌, ◌*◌, ◌/◌, ◌%◌, ◌<◌, ◌≤◌, ◌≡◌, ◌≢◌, ◌⊎◌, ◌&&◌, List, [], ◌∷◌, ◌++◌, length, min, Option, Some, None, Result, Ok, Err, IsTrue, slice_get, slice_set, vec_capacity}
 use Rattle.image_access.specs.Backing.{BackingView}
 use Rattle.image_access.specs.Moments.{StorageView}
@@ -27,10 +27,10 @@ use Rattle.qcow2_alloc.specs.declared.clusters_to_free.ClustersToFreeEntry.{Clus
 use Rattle.qcow2_alloc.specs.declared.error.ImageError.{ImageError}
 use Rattle.qcow2_image.specs.declared.image.Qcow2.{Qcow2}
 use Rattle.qcow2_image.specs.declared.prepared.Prepared.{Prepared}
-use Rattle.qcow2_image.specs.declared.prepared.Share.{Share}
-use Rattle.qcow2_image.specs.declared.prepared.Share.TheVariants.{New}
+use Rattle.qcow2_image.specs.declared.prepared.ClusterMapping.{ClusterMapping}
+use Rattle.qcow2_image.specs.declared.prepared.ClusterMapping.TheVariants.{New}
 use Rattle.qcow2_image.specs.CallParts.{IsReadied, RefusedCall, InternalCall}
-use Rattle.qcow2_image.specs.ImageInvariant.{run_of, of_data, of_tables, to_free, new_data_in, new_data_by, over_all, is_entered, cluster_of, place_of, listed_run, disk_of, pending_in, abstract_of, meaning, IsShareAt, ImageInvariant}
+use Rattle.qcow2_image.specs.ImageInvariant.{run_of, of_data, of_tables, to_free, new_data_in, new_data_by, over_all, is_entered, cluster_of, place_of, listed_run, disk_of, pending_in, abstract_of, meaning, IsClusterMappingAt, ImageInvariant}
 use Rattle.qcow2_image.specs.InternalSteps.{IsGained, RefusedFillingStep, InternalFillingStep, pending_with_listed}
 
 module _ (h : HeaderFields) where
@@ -39,7 +39,7 @@ module _ (h : HeaderFields) where
     pub guest : p.guest ≡ offset
     pub under : p.table ≡ Some table
     pub rest : p.length ≡ cluster_size h - offset % cluster_size h
-    pub one : length p.shares.items ≡ 1
+    pub one : length p.clusters.items ≡ 1
 
   -- If the first guest cluster has a zero entry that keeps a host cluster, marked copied, the mapping begins in that host cluster, at the same offset in it.
   abbrev pub BeginsInKept : (offset : ℕ) → L2Mapping → Prepared → Type 0
@@ -47,32 +47,32 @@ module _ (h : HeaderFields) where
 
   -- The mapping ends at the end of a cluster.
   abbrev pub EndsWithCluster : Prepared → Type 0
-  EndsWithCluster p = p.guest % cluster_size h + p.length ≡ length p.shares.items * cluster_size h
+  EndsWithCluster p = p.guest % cluster_size h + p.length ≡ length p.clusters.items * cluster_size h
 
-  -- The mapping may be extended: the range goes on behind it, and its L2 table has an entry for the next cluster.
+  -- The mapping may be extended: the range goes on after it, and its L2 table has an entry for the next cluster.
   pub record MayGoOn (n table : ℕ) (p : Prepared) : Type 0 where
     pub under : p.table ≡ Some table
     pub whole : EndsWithCluster p
     pub more : p.length < n
-    pub within : cluster_of h p % entries_per_cluster h + length p.shares.items < entries_per_cluster h
+    pub within : cluster_of h p % entries_per_cluster h + length p.clusters.items < entries_per_cluster h
 
-  -- The mapping has memory for the shares of a range of n bytes, within its L2 table.
+  -- The mapping has memory for the clusters of a range of n bytes, within its L2 table.
   abbrev pub HasRoomForRange : ℕ → Prepared → Type 0
-  HasRoomForRange n p = p.guest % cluster_size h + min n (rest_of_table h p.guest) < vec_capacity p.shares * cluster_size h
+  HasRoomForRange n p = p.guest % cluster_size h + min n (rest_of_table h p.guest) < vec_capacity p.clusters * cluster_size h
 
   -- The mapping is extended by the next cluster, up to the end of the range.
   pub record IsNext (n : ℕ) (p q : Prepared) : Type 0 where
-    pub share : Share
-    pub shares : q.shares.items ≡ p.shares.items ++ share ∷ []
-    pub rest : q ≡ record p { length = min n (p.length + cluster_size h); shares = q.shares }
+    pub cluster_mapping : ClusterMapping
+    pub clusters : q.clusters.items ≡ p.clusters.items ++ cluster_mapping ∷ []
+    pub rest : q ≡ record p { length = min n (p.length + cluster_size h); clusters = q.clusters }
 
-  -- The extended mapping begins at the same place with the same share. It is not shorter than before, no longer than the range unless it was, and if the range goes on behind it, it ends at a cluster boundary.
+  -- The extended mapping begins at the same place with the same first cluster. It is not shorter than before, and no longer than the range unless it already was. If the range goes on after it, it ends at a cluster boundary.
   pub record IsLongerMapping (n : ℕ) (p q : Prepared) : Type 0 where
     pub image : q.image ≡ p.image
     pub guest : q.guest ≡ p.guest
     pub place : q.offset ≡ p.offset
     pub under : q.table ≡ p.table
-    pub first : (share : Share) → slice_get p.shares.items 0 ≡ Some share → slice_get q.shares.items 0 ≡ Some share
+    pub first : (cluster_mapping : ClusterMapping) → slice_get p.clusters.items 0 ≡ Some cluster_mapping → slice_get q.clusters.items 0 ≡ Some cluster_mapping
     pub more : p.length ≤ q.length
     pub most : n < q.length → q.length ≡ p.length
     pub whole : q.length < n → EndsWithCluster q
@@ -108,11 +108,11 @@ module _ {S F : Type 0} (view : S → StorageView) where
 
   module _ (backing : F → BackingView) where
     -- Exactly this cluster is allocated for data; or it is past a limit, or in use.
-    abbrev pub TakesDataAt : Pending → Qcow2 S F → Qcow2 S F → List (Option Prepared) → ℕ → Result (Option ClustersToFreeEntry) ImageError → Type 0
-    TakesDataAt p old new out cluster (Ok (Some n)) = (n.first_cluster ≡ cluster) × (n.count ≡ 1) × (n.kind ≡ Kind.Data) × InternalFillingStep view backing p (with_new_data (pending_with_listed p old new) (run_of n)) old new out
-    TakesDataAt p old new out cluster (Ok None) =
+    abbrev pub AllocatesDataAt : Pending → Qcow2 S F → Qcow2 S F → List (Option Prepared) → ℕ → Result (Option ClustersToFreeEntry) ImageError → Type 0
+    AllocatesDataAt p old new out cluster (Ok (Some n)) = (n.first_cluster ≡ cluster) × (n.count ≡ 1) × (n.kind ≡ Kind.Data) × InternalFillingStep view backing p (with_new_data (pending_with_listed p old new) (run_of n)) old new out
+    AllocatesDataAt p old new out cluster (Ok None) =
         InternalFillingStep view backing p (pending_with_listed p old new) old new out × (IsPastLimits old.file.header.fields cluster ⊎ (count new.file.header.fields (known_in view new.file) cluster ≢ 0))
-    TakesDataAt p old new out cluster (Err e) = RefusedFillingStep view backing p old new out e
+    AllocatesDataAt p old new out cluster (Err e) = RefusedFillingStep view backing p old new out e
 
     -- Exactly this cluster is allocated, and filled with what the guest sees, except where the caller promised to overwrite; or it is past a limit, or in use.
     abbrev pub GainsAt : Pending → Qcow2 S F → Qcow2 S F → List (Option Prepared) → ℕ → ℕ → Bool → L2Mapping → ℕ → Result (Option ClustersToFreeEntry) ImageError → Type 0
@@ -121,37 +121,37 @@ module _ {S F : Type 0} (view : S → StorageView) where
         InternalFillingStep view backing p (pending_with_listed p old new) old new out × (IsPastLimits old.file.header.fields cluster ⊎ (count new.file.header.fields (known_in view new.file) cluster ≢ 0))
     GainsAt p old new out offset n overwrite mapping cluster (Err e) = RefusedFillingStep view backing p old new out e
 
-    -- The share of a guest cluster at a host offset: a new cluster that no mapping has yet.
-    pub record IsSharedAt (p : Pending) (old new : Qcow2 S F) (out : List (Option Prepared)) (offset n : ℕ) (overwrite : Bool) (mapping : L2Mapping) (host : ℕ) (share : Share) : Type 0 where
+    -- The mapping of a guest cluster to a host offset: a new cluster that no prepared mapping has yet.
+    pub record IsSharedAt (p : Pending) (old new : Qcow2 S F) (out : List (Option Prepared)) (offset n : ℕ) (overwrite : Bool) (mapping : L2Mapping) (host : ℕ) (cluster_mapping : ClusterMapping) : Type 0 where
       pub run : ClustersToFreeEntry
-      pub is : share ≡ New (run ∷ []) (listed_run (named_run old.file.header.fields.cluster_bits mapping))
+      pub is : cluster_mapping ≡ New (run ∷ []) (listed_run (named_run old.file.header.fields.cluster_bits mapping))
       pub place : run.first_cluster * cluster_size old.file.header.fields ≡ host
       pub nameable : IsHostCluster old.file.header.fields.cluster_bits run.first_cluster
       pub gained : IsGained view backing p old new out offset n overwrite mapping run
 
-    abbrev pub SharesAt : Pending → Qcow2 S F → Qcow2 S F → List (Option Prepared) → ℕ → ℕ → Bool → L2Mapping → ℕ → Result (Option Share) ImageError → Type 0
-    SharesAt p old new out offset n overwrite mapping host (Ok (Some share)) = IsSharedAt p old new out offset n overwrite mapping host share
-    SharesAt p old new out offset n overwrite mapping host (Ok None) =
+    abbrev pub ClusterMappingsAt : Pending → Qcow2 S F → Qcow2 S F → List (Option Prepared) → ℕ → ℕ → Bool → L2Mapping → ℕ → Result (Option ClusterMapping) ImageError → Type 0
+    ClusterMappingsAt p old new out offset n overwrite mapping host (Ok (Some cluster_mapping)) = IsSharedAt p old new out offset n overwrite mapping host cluster_mapping
+    ClusterMappingsAt p old new out offset n overwrite mapping host (Ok None) =
         InternalFillingStep view backing p (pending_with_listed p old new) old new out
         × (IsPastLimits old.file.header.fields (host / cluster_size old.file.header.fields) ⊎ (count new.file.header.fields (known_in view new.file) (host / cluster_size old.file.header.fields) ≢ 0))
-    SharesAt p old new out offset n overwrite mapping host (Err e) = RefusedFillingStep view backing p old new out e
+    ClusterMappingsAt p old new out offset n overwrite mapping host (Err e) = RefusedFillingStep view backing p old new out e
 
-    -- There is a share for the guest cluster behind a mapping. If it is not in place, its cluster has what the guest sees, except where the caller promised to overwrite.
-    pub record StandsBehind (old new : Qcow2 S F) (out : List (Option Prepared)) (n : ℕ) (overwrite : Bool) (p : Prepared) (share : Share) : Type 0 where
+    -- The guest cluster after a mapping has a host cluster. If it is not in place, it has what the guest sees, except where the caller promised to overwrite.
+    pub record StandsBehind (old new : Qcow2 S F) (out : List (Option Prepared)) (n : ℕ) (overwrite : Bool) (p : Prepared) (cluster_mapping : ClusterMapping) : Type 0 where
       pub pending : Pending
       pub image_step : InternalFillingStep view backing (pending_in view backing old out) pending old new out
-      pub new_data : (c : ℕ) → pending.new_data c ≡ over_all new_data_by out c + new_data_in (share ∷ []) c
+      pub new_data : (c : ℕ) → pending.new_data c ≡ over_all new_data_by out c + new_data_in (cluster_mapping ∷ []) c
       pub new_tables : (c : ℕ) → pending.new_tables c ≡ 0
       pub old_tables : (c : ℕ) → pending.old_tables c ≡ to_free of_tables new.file.free_list c
       pub old_data : (c : ℕ) → pending.old_data c ≡ to_free of_data new.file.free_list c
       pub surplus : pending.surplus ≡ (pending_in view backing old out).surplus
-      pub stands : IsShareAt new.file.header.fields (known_in view new.file) (contents_in view new.file) p (length p.shares.items) share
-      pub filled : (o : ℕ) → o / cluster_size new.file.header.fields ≡ cluster_of new.file.header.fields p + length p.shares.items → IsTrue (is_entered share)
+      pub stands : IsClusterMappingAt new.file.header.fields (known_in view new.file) (contents_in view new.file) p (length p.clusters.items) cluster_mapping
+      pub filled : (o : ℕ) → o / cluster_size new.file.header.fields ≡ cluster_of new.file.header.fields p + length p.clusters.items → IsTrue (is_entered cluster_mapping)
           → (overwrite && is_within p.guest (min n (p.length + cluster_size new.file.header.fields)) o ≡ false) → known_byte (contents_in view new.file (place_of new.file.header.fields p o)) ≡ (disk_of view backing old).value o
 
-    -- Such a share is found; or there can be none, and nothing changed; or the part was refused.
-    abbrev pub FindsBehind : Qcow2 S F → Qcow2 S F → List (Option Prepared) → (n : ℕ) → Bool → Prepared → Result (Option Share) ImageError → Type 0
-    FindsBehind old new out n overwrite p (Ok (Some share)) = StandsBehind old new out n overwrite p share
+    -- The mapping of the next guest cluster is found; or there can be none, and nothing changed; or the part was refused.
+    abbrev pub FindsBehind : Qcow2 S F → Qcow2 S F → List (Option Prepared) → (n : ℕ) → Bool → Prepared → Result (Option ClusterMapping) ImageError → Type 0
+    FindsBehind old new out n overwrite p (Ok (Some cluster_mapping)) = StandsBehind old new out n overwrite p cluster_mapping
     FindsBehind old new out n overwrite p (Ok None) = InternalCall view backing old new out × Ends new p
     FindsBehind old new out n overwrite p (Err e) = RefusedCall view backing old new out e
 

@@ -26,7 +26,7 @@ pub record HeaderSuits (contents : List ℕ) (writable : Bool) (missing : Missin
   pub on_clusters : HasAlignedTables (header (byte_at contents)) writable
   pub needs_none : ¬ NeedsMissing missing contents
 
--- The L1 table is readable, and so is the reftable if the image is opened for writing.
+-- The L1 table is readable. If the image is opened for writing, the reftable is readable too.
 pub record NeededTablesRead (h : HeaderFields) (b : Bytes) (writable : Bool) : Type 0 where
   pub l1_table : L1TableReads h b
   pub reftable : IsTrue writable → ReftableReads h b
@@ -45,20 +45,20 @@ abbrev pub IsTableRefused : List ℕ → Bool → Missing → ImageError → Typ
 IsTableRefused contents writable missing e = HeaderSuits contents writable missing × IsReasonAgainstTables (header (byte_at contents)) (byte_at contents) writable e
 
 -- Why opening is refused. The order is: an unreadable header, a limit, an unaligned table, a missing file, and then the tables. A fault comes when it occurs.
-abbrev pub IsRefusedRightly : List ℕ → Bool → Missing → ImageError → Type 0
-IsRefusedRightly contents writable missing I.Metadata = ¬ IsWellFormed (header (byte_at contents)) (byte_at contents) ⊎ IsTableRefused contents writable missing I.Metadata
-IsRefusedRightly contents writable missing I.Limit =
+abbrev pub IsJustifiedRefusal : List ℕ → Bool → Missing → ImageError → Type 0
+IsJustifiedRefusal contents writable missing I.Metadata = ¬ IsWellFormed (header (byte_at contents)) (byte_at contents) ⊎ IsTableRefused contents writable missing I.Metadata
+IsJustifiedRefusal contents writable missing I.Limit =
     (IsWellFormed (header (byte_at contents)) (byte_at contents) × ¬ IsWithinLimits (header (byte_at contents))) ⊎ IsTableRefused contents writable missing I.Limit
-IsRefusedRightly contents writable missing I.UnalignedTable = HeaderReads (header (byte_at contents)) (byte_at contents) × ¬ HasAlignedTables (header (byte_at contents)) writable
-IsRefusedRightly contents writable missing I.Dependency = HasAlignedTables (header (byte_at contents)) writable × NeedsMissing missing contents
-IsRefusedRightly contents writable missing I.Memory = Unit {0}
-IsRefusedRightly contents writable missing I.Storage = Unit {0}
-IsRefusedRightly contents writable missing e = ⊥
+IsJustifiedRefusal contents writable missing I.UnalignedTable = HeaderReads (header (byte_at contents)) (byte_at contents) × ¬ HasAlignedTables (header (byte_at contents)) writable
+IsJustifiedRefusal contents writable missing I.Dependency = HasAlignedTables (header (byte_at contents)) writable × NeedsMissing missing contents
+IsJustifiedRefusal contents writable missing I.Memory = Unit {0}
+IsJustifiedRefusal contents writable missing I.Storage = Unit {0}
+IsJustifiedRefusal contents writable missing e = ⊥
 
 -- Opening succeeds only if the contents can be opened, and is refused only for one of these reasons. If no file is missing, opening does not ask for one, on any storage.
 abbrev pub OpensRightly : {S F : Type 0} → StorageView → Bool → Missing → Result (Qcow2 S F) (S × ImageError) → Type 0
 OpensRightly storage writable missing (Ok image) = storage.is_honest → IsReadable storage.contents writable missing
-OpensRightly storage writable missing (Err refused) = (refused.1 ≡ I.Dependency → missing ≢ M.Nothing) × (storage.is_honest → IsRefusedRightly storage.contents writable missing refused.1)
+OpensRightly storage writable missing (Err refused) = (refused.1 ≡ I.Dependency → missing ≢ M.Nothing) × (storage.is_honest → IsJustifiedRefusal storage.contents writable missing refused.1)
 
 -- What opening does, whether it succeeds or not. Each fault is counted and reported. Only the autoclear field may change, and a stop at any moment is as safe as before.
 -- An image that needs a missing file is refused before any byte changes. Opening succeeds and is refused only for the reasons above.

@@ -11,7 +11,7 @@ use Rattle.qcow2_image.specs.Image.{HasNothingToFree, has_noted_change, is_faile
 abbrev pub refuse_if : Bool → ImageError → Option ImageError
 refuse_if test e = if test then Some e else None
 
--- The range is not empty, and ends behind the size.
+-- The range is not empty, and ends past the size.
 abbrev pub passes : ℕ → ℕ → ℕ → Bool
 passes size offset n = nat_lt 0 n && nat_lt size (offset + n)
 
@@ -34,32 +34,32 @@ module _ {S F : Type 0} (image : Qcow2 S F) where
   refuses_mapping number = option_or unusable (refuse_if (not (number == number_of image)) I.ForeignState)
 
 -- The refusals that come during the work, after all checks.
-abbrev pub IsMet : ImageError → Type 0
-IsMet I.ReadOnly = ⊥
-IsMet I.BeyondSize = ⊥
-IsMet I.Version = Unit {0}
-IsMet I.UnalignedTable = Unit {0}
-IsMet I.InvalidOption = ⊥
-IsMet I.Preallocation = ⊥
-IsMet I.Compressed = Unit {0}
-IsMet I.InUse = Unit {0}
-IsMet I.TablePrepared = ⊥
-IsMet I.OutdatedMapping = Unit {0}
-IsMet I.ForeignState = ⊥
-IsMet I.Dependency = ⊥
-IsMet I.Limit = Unit {0}
-IsMet I.Memory = Unit {0}
-IsMet I.Storage = Unit {0}
-IsMet I.Failed = ⊥
-IsMet I.MappingPrepared = ⊥
-IsMet (I.NotCompressed offset) = ⊥
-IsMet I.Metadata = Unit {0}
-IsMet I.Overflow = Unit {0}
-IsMet (I.StillInUse tables) = Unit {0}
+abbrev pub MayFail : ImageError → Type 0
+MayFail I.ReadOnly = ⊥
+MayFail I.BeyondSize = ⊥
+MayFail I.Version = Unit {0}
+MayFail I.UnalignedTable = Unit {0}
+MayFail I.InvalidOption = ⊥
+MayFail I.Preallocation = ⊥
+MayFail I.Compressed = Unit {0}
+MayFail I.InUse = Unit {0}
+MayFail I.TablePrepared = ⊥
+MayFail I.OutdatedMapping = Unit {0}
+MayFail I.ForeignState = ⊥
+MayFail I.Dependency = ⊥
+MayFail I.Limit = Unit {0}
+MayFail I.Memory = Unit {0}
+MayFail I.Storage = Unit {0}
+MayFail I.Failed = ⊥
+MayFail I.MappingPrepared = ⊥
+MayFail (I.NotCompressed offset) = ⊥
+MayFail I.Metadata = Unit {0}
+MayFail I.Overflow = Unit {0}
+MayFail (I.StillInUse tables) = Unit {0}
 
 -- The refusals of a prepare during its work: also 9, that the L2 table is pinned by another mapping.
-abbrev pub IsMetPreparing : ImageError → Type 0
-IsMetPreparing e = IsMet e ⊎ (e ≡ I.TablePrepared)
+abbrev pub MayFailPreparing : ImageError → Type 0
+MayFailPreparing e = MayFail e ⊎ (e ≡ I.TablePrepared)
 
 -- The refusal is not a limit.
 abbrev pub IsUnlimited : ImageError → Type 0
@@ -74,15 +74,15 @@ IsFaultOrLimit e = IsFault e ⊎ (e ≡ I.Limit)
 abbrev pub FreesRefused : {S F : Type 0} → Qcow2 S F → ImageError → Type 0
 FreesRefused new e = IsFault e ⊎ ((e ≡ I.TablePrepared) ⊎ HasNothingToFree new)
 
--- When a refused call marks the image as failed: always after an I/O error, and if memory ran out after a change was recorded. Nothing else does.
-abbrev pub failed_after : ImageError → (before noted now : Bool) → Type 0
-failed_after I.Storage before noted now = now ≡ true
-failed_after I.Memory before noted now = now ≡ (before || noted)
-failed_after e before noted now = now ≡ before
+-- When a refused call marks the image as failed: always after an I/O error, after a failed allocation if a change was recorded, and never otherwise.
+abbrev pub failed_after : ImageError → (before recorded now : Bool) → Type 0
+failed_after I.Storage before recorded now = now ≡ true
+failed_after I.Memory before recorded now = now ≡ (before || recorded)
+failed_after e before recorded now = now ≡ before
 
-abbrev pub failed_by : {A : Type 0} → Result A ImageError → (before noted now : Bool) → Type 0
-failed_by (Ok _) before noted now = now ≡ before
-failed_by (Err e) before noted now = failed_after e before noted now
+abbrev pub failed_by : {A : Type 0} → Result A ImageError → (before recorded now : Bool) → Type 0
+failed_by (Ok _) before recorded now = now ≡ before
+failed_by (Err e) before recorded now = failed_after e before recorded now
 
 module _ {S F : Type 0} (old new : Qcow2 S F) where
   -- A call marks the image as failed exactly by this rule.

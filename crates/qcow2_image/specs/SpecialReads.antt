@@ -11,10 +11,10 @@ is_special (special offset) = true
 is_special kind = false
 
 -- The read is refused as compressed only if the data are, and as not compressed only if they are not.
-abbrev pub TellsCompressed : Bytes → ℕ → ImageError → Type 0
-TellsCompressed known offset e = (e ≡ Compressed → IsCompressedAt known offset) × (e ≡ NotCompressed offset → ¬ IsCompressedAt known offset)
+abbrev pub ReportsCompressed : Bytes → ℕ → ImageError → Type 0
+ReportsCompressed known offset e = (e ≡ Compressed → IsCompressedAt known offset) × (e ≡ NotCompressed offset → ¬ IsCompressedAt known offset)
 
 -- The offset is returned only if the data are not compressed.
-abbrev pub TellsWhether : {A : Type 0} → Bytes → ℕ → Result A ImageError → Type 0
-TellsWhether known offset (Ok at) = ¬ IsCompressedAt known offset
-TellsWhether known offset (Err e) = e ≡ Compressed → IsCompressedAt known offset
+abbrev pub ReportsWhether : {A : Type 0} → Bytes → ℕ → Result A ImageError → Type 0
+ReportsWhether known offset (Ok at) = ¬ IsCompressedAt known offset
+ReportsWhether known offset (Err e) = e ≡ Compressed → IsCompressedAt known offset

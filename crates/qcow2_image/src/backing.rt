@@ -12,7 +12,7 @@ use image_access::{Storage, WrappedFormat};
 
 impl<S: Storage, F: WrappedFormat<S>> Qcow2<S, F> {
     /// Sets the backing disk of the image, or none. The old one is dropped. Refused 16 (failed), and
-    /// 17 (mapping prepared) while a mapping is prepared that isn't existing. A refusal hands the disk back.
+    /// 17 (mapping prepared) while a mapping is prepared that isn't existing. A refusal returns the disk.
     pub fn set_backing(&mut self, backing: Option<F>) -> Result<(), (Option<F>, ImageError)>
         ensures failed { IsTrue (is_failed self.old) → (result ≡ Err (backing, Failed)) × (self.new ≡ self.old) }
         ensures refused { is_failed self.old ≡ false

@@ -1,7 +1,7 @@
 //! Creating an image.
 ghost use Rattle.qcow2_image.specs.Limits.{IfLimit, IsLimited};
 ghost use Rattle.std.specs.Prelude.{ℕ, ◌≡◌, ◌≢◌, ◌⊎◌, ◌↔◌, ◌^◌, ◌<◌, ◌≤◌, [], None, IfSome, IfNone, IfOk, IfErr, IsNone, OnOk};
-ghost use Rattle.std.specs.Prelude.{IsSome, IsTrue, is_some, false};
+ghost use Rattle.std.specs.Prelude.{IsSome, IsTrue, Ok, is_some, false};
 ghost use Rattle.image_access.specs.Moments.{EachMomentSince};
 ghost use Rattle.qcow2_metadata.specs.HeaderLoad.{IsHeaderIn};
 ghost use Rattle.qcow2_metadata.specs.HeaderWrite.{HasNewNames};
@@ -9,20 +9,20 @@ ghost use Rattle.qcow2_metadata.specs.Bytes.{byte_at};
 ghost use Rattle.qcow2_alloc.specs.ImageStorage.{storage_of};
 ghost use Rattle.qcow2_alloc.specs.ImageFile.{view_in};
 ghost use Rattle.qcow2_disk.specs.AbstractImages.{IsOpened};
-ghost use Rattle.qcow2_alloc.specs.Faults.{CountsFaults, FaultsTold};
+ghost use Rattle.qcow2_alloc.specs.Faults.{CountsFaults, FaultsReported};
 ghost use Rattle.qcow2_image.specs.Faults.{CountsImageFaults, IsNotOfStorage};
 ghost use Rattle.qcow2_alloc.specs.declared.error.ImageError.TheVariants.{Limit};
 ghost use Rattle.qcow2_metadata.specs.Header.{header as header_at};
 ghost use Rattle.qcow2_laws.specs.NewImages.{IsNewImage};
 ghost use Rattle.qcow2_image.specs.Image.{is_writable};
 ghost use Rattle.qcow2_alloc.specs.ImageError.{IsFault};
-ghost use Rattle.qcow2_image.specs.Refusals.{IsFaultOrLimit, MarksFailed};
+ghost use Rattle.qcow2_image.specs.Refusals.{IsFaultOrLimit};
 ghost use Rattle.qcow2_image.specs.Resizing.{all_given_by_grow, boundary_in, refuses_to_resize};
 ghost use Rattle.qcow2_image.specs.ImageInvariant.{abstract_of};
-ghost use Rattle.qcow2_image.specs.Growing.{KeepsSurplus, LeavesSound};
+ghost use Rattle.qcow2_image.specs.Growing.{LeavesSound};
 ghost use Rattle.qcow2_laws.specs.Opened.{HasNoLeaks};
 ghost use Rattle.qcow2_image.specs.Created.{longest_disk, IsUnmapped, IsUnwritten, IsNewHeader, CountsThree, NamesOne};
-ghost use Rattle.qcow2_image.specs.Created.{WritesThree, CantEnlarge, Enlarges, GrowsBy};
+ghost use Rattle.qcow2_image.specs.Created.{WritesThree, CantEnlarge, Enlarges, OpensGrown, RefusesGrown};
 
 use crate::image::Missing;
 use crate::{Qcow2, Qcow2OpenBuilder};
@@ -97,8 +97,8 @@ fn has_l1_entries(cluster_bits: u32, size: u64) -> bool
 impl<S: Storage> Qcow2CreateBuilder<S> {
     ghost use Rattle.std.specs.Prelude.{Err};
     ghost use Rattle.qcow2_alloc.specs.declared.error.ImageError.TheVariants.{InvalidOption, Preallocation};
-    ghost use Rattle.qcow2_image.specs.Created.{HasLogarithms, IsAllowed, IsCreated, IsMadeClosed, IsMadeNoImage};
-    ghost use Rattle.qcow2_image.specs.Created.{IsMadeOpen, IsMadeUnopened};
+    ghost use Rattle.qcow2_image.specs.Created.{HasLogarithms, IsAllowed, IsCreated, IsMade, IsMadeClosed};
+    ghost use Rattle.qcow2_image.specs.Created.{IsMadeOpen, IsMadeUngrown, IsMadeUnopened, IsNotMade};
     ghost use Rattle.qcow2_image.specs.Created.{IsReasonAgainst, IsReasonNotToCreate, StopsCreating, allocates_over};
     ghost use Rattle.std.specs.Prelude.{None, Some, false, true};
 
@@ -222,26 +222,22 @@ impl<S: Storage> Qcow2CreateBuilder<S> {
         Ok((cluster_bits, refcount_order))
     }
 
-    /// Writes the new image, and returns its storage. The disk reads as zeros, and is allocated as the mode says. Refused 5
-    /// (invalid option) for cluster sizes or refcount widths that images don't have, and for names that don't fit; then 6 (preallocation) for a
-    /// mode that allocates clusters after `backing` was called; then 13 (limit) for a size that is too large. Nothing was written then.
-    /// Refused 13, 14 (memory) and 15 (storage) if the work meets them. If the storage returns other bytes than were written, the refusals of
-    /// `open_image` and `resize_grow` are possible too.
-    pub fn create(self, alloc: Global) -> (S, Result<(), ImageError>)
-        ensures stops { (S.view self.image).is_honest → StopsCreating self.preallocate self.size (S.view self.image) (S.view result.0) }
-        ensures created { (S.view self.image).is_honest → IfOk result.1 (λ done. IsCreated self (S.view result.0)) }
+    // Writes the new image, with a disk of no bytes. Nothing is written if the settings are refused.
+    fn make(self, alloc: Global) -> (S, Result<(), ImageError>)
+        ensures made { (S.view self.image).is_honest → IfOk result.1 (λ done. IsMade S.view self result.0) }
+        ensures stops { (S.view self.image).is_honest → StopsCreating PreallocateMode.None 0 (S.view self.image) (S.view result.0) }
+        ensures cause { IfErr result.1 (λ e. IsReasonAgainst self e ⊎ IsFault e) }
         ensures refused { ¬ IsAllowed self → (result.1 ≡ Err InvalidOption) × (result.0 ≡ self.image) }
         ensures over { IsAllowed self → IsTrue (allocates_over self) → (result.1 ≡ Err Preallocation) × (result.0 ≡ self.image) }
         ensures limit { IsAllowed self → allocates_over self ≡ false → longest_disk self.cluster_size < self.size
             → (result.1 ≡ Err Limit) × (result.0 ≡ self.image) }
-        ensures cause { (S.view self.image).is_honest → IfErr result.1 (IsReasonNotToCreate S.view self result.0) }
-        ensures faults { FaultsTold (S.view self.image).faults (S.view result.0).faults result.1 }
+        ensures faults { FaultsReported (S.view self.image).faults (S.view result.0).faults result.1 }
     {
         let checked = self.check();
         let Qcow2CreateBuilder {
             image,
-            size,
-            preallocate,
+            size: _,
+            preallocate: _,
             cluster_size: _,
             refcount_width: _,
             backing_name,
@@ -253,14 +249,36 @@ impl<S: Storage> Qcow2CreateBuilder<S> {
         };
         let header = Header::new(bits, order, backing_name, backing_format, None);
         let mut storage = ImageStorage::new(image);
-        if let Err(refusal) = write_new_image(alloc, &mut storage, &header) {
-            return (storage.into_inner(), Err(refusal));
-        }
-        grow_new_image::<S, NoBacking>(alloc, storage, size, preallocate)
+        let done = write_new_image(alloc, &mut storage, &header);
+        (storage.into_inner(), done)
     }
 
-    /// Writes the new image, gives its storage to the closure, and opens for writing what the closure's builder says. Refused as `create`
-    /// is, and as that builder's `open` is; the storage is returned then. It isn't if the closure refuses.
+    /// Writes the new image, and returns its storage. The disk reads as zeros, and is allocated as the mode says. Refused 5
+    /// (invalid option) for cluster sizes or refcount widths that images don't have, and for names that don't fit; then 6 (preallocation) for a
+    /// mode that allocates clusters after `backing` was called; then 13 (limit) for a size that is too large. Nothing was written then.
+    /// May be refused 13, 14 (memory) or 15 (storage) during the work. If the storage returns other bytes than were written, the refusals of
+    /// `open_image` and `resize_grow` are possible too.
+    pub fn create(self, alloc: Global) -> (S, Result<(), ImageError>)
+        ensures stops { (S.view self.image).is_honest → StopsCreating self.preallocate self.size (S.view self.image) (S.view result.0) }
+        ensures created { (S.view self.image).is_honest → IfOk result.1 (λ done. IsCreated self (S.view result.0)) }
+        ensures refused { ¬ IsAllowed self → (result.1 ≡ Err InvalidOption) × (result.0 ≡ self.image) }
+        ensures over { IsAllowed self → IsTrue (allocates_over self) → (result.1 ≡ Err Preallocation) × (result.0 ≡ self.image) }
+        ensures limit { IsAllowed self → allocates_over self ≡ false → longest_disk self.cluster_size < self.size
+            → (result.1 ≡ Err Limit) × (result.0 ≡ self.image) }
+        ensures cause { (S.view self.image).is_honest → IfErr result.1 (IsReasonNotToCreate S.view self result.0) }
+        ensures faults { FaultsReported (S.view self.image).faults (S.view result.0).faults result.1 }
+    {
+        let (size, mode) = (self.size, self.preallocate);
+        let (storage, done) = self.make(alloc);
+        if let Err(refusal) = done {
+            return (storage, Err(refusal));
+        }
+        grow_new_image::<S, NoBacking>(alloc, ImageStorage::new(storage), size, mode)
+    }
+
+    /// Writes the new image, with a disk of no bytes, and gives its storage to the closure. Opens for writing what the closure's builder says, and
+    /// grows the disk to its size. The image is not flushed. Refused as `create` and `resize_grow` are, and as that builder's `open` is;
+    /// the storage is returned then. It isn't if the closure refuses.
     pub fn create_open<
         F: WrappedFormat<S>,
         C: FnOnce(S) -> Result<Qcow2OpenBuilder<S, F>, ImageError>,
@@ -273,23 +291,64 @@ impl<S: Storage> Qcow2CreateBuilder<S> {
         ensures limit { IsAllowed self → allocates_over self ≡ false → longest_disk self.cluster_size < self.size
             → result ≡ Err (Some self.image, Limit) }
         ensures closed { IfErr result (λ refused. IsNone refused.0
-            → IsMadeClosed S.view self (λ made answer. C.post builder made answer) refused.1) }
+            → IsMadeClosed S.view F.backing self (λ made answer. C.post builder made answer) refused.1) }
         ensures cause { (S.view self.image).is_honest → IfErr result (λ refused. IfSome refused.0 (λ storage.
-            IsMadeNoImage S.view self storage refused.1
-            ⊎ IsMadeUnopened S.view self (λ made answer. C.post builder made answer) storage refused.1)) }
+            IsNotMade S.view self storage refused.1
+            ⊎ IsMadeUnopened S.view F.backing self (λ made answer. C.post builder made answer) storage refused.1
+            ⊎ IsMadeUngrown S.view F.backing self (λ made answer. C.post builder made answer) storage refused.1)) }
     {
-        let (storage, done) = self.create(alloc);
+        let (size, mode) = (self.size, self.preallocate);
+        let (made, done) = self.make(alloc);
         if let Err(refusal) = done {
-            return Err((Some(storage), refusal));
+            return Err((Some(made), refusal));
         }
-        let opener = match builder(storage) {
+        let opener = match builder(made) {
             Ok(opener) => opener,
             Err(refusal) => return Err((None, refusal)),
         };
-        match opener.write(true).open(alloc) {
+        match open_grown(alloc, opener, size, mode) {
             Ok(image) => Ok(image),
             Err((storage, refusal)) => Err((Some(storage), refusal)),
         }
+    }
+}
+
+// Opens for writing what a builder says, and grows the disk.
+fn open_grown<S: Storage, F: WrappedFormat<S>>(
+    alloc: Global,
+    opener: Qcow2OpenBuilder<S, F>,
+    size: u64,
+    mode: PreallocateMode,
+) -> Result<Qcow2<S, F>, (S, ImageError)>
+    ensures opens { IfOk result (λ image. OpensGrown S.view F.backing opener mode size image (Ok tt)) }
+    ensures refused { IfErr result (RefusesGrown S.view F.backing opener mode size) }
+{
+    let mut image = match opener.write(true).open(alloc) {
+        Ok(image) => image,
+        Err(refused) => return Err(refused),
+    };
+    match image.resize_grow(size, mode) {
+        Ok(()) => Ok(image),
+        Err(refusal) => Err((image.into_storage(), refusal)),
+    }
+}
+
+impl<S: Storage, F: WrappedFormat<S>> Qcow2<S, F> {
+    ghost use Rattle.std.specs.Prelude.{None};
+
+    /// A builder that creates an image in a storage, as `Qcow2CreateBuilder::new`.
+    pub fn create_builder(image: S) -> Qcow2CreateBuilder<S>
+        ensures { result ≡ record {
+          image = image;
+          size = 0;
+          preallocate = PreallocateMode.None;
+          cluster_size = 65536;
+          refcount_width = 16;
+          backing_name = None;
+          backing_format = None;
+        } }
+    {
+        Qcow2CreateBuilder::new(image)
     }
 }
 
@@ -406,7 +465,7 @@ fn grow_new_image<S: Storage, F: WrappedFormat<S>>(
         → (header_at (byte_at (S.view (storage_of storage)).contents)).autoclear ≡ 0
         → IfLimit result.1 (CantEnlarge S.view F.backing mode size (S.view (storage_of storage)).contents result.0) }
     ensures faults { ((below : F) → (F.backing below).faults ≡ 0)
-        → FaultsTold (S.view (storage_of storage)).faults (S.view result.0).faults result.1 }
+        → FaultsReported (S.view (storage_of storage)).faults (S.view result.0).faults result.1 }
 {
     match Qcow2::<S, F>::open(alloc, storage, true, 0, Missing::Nothing) {
         Err((storage, refusal)) => (storage, Err(refusal)),
@@ -437,31 +496,6 @@ fn grow_and_flush<S: Storage, F: WrappedFormat<S>>(
         × LeavesSound S.view F.backing image.old image.new) }
     ensures faults { CountsImageFaults S.view F.backing image.old image.new result }
 {
-    grow_by(image, size, mode)?;
+    image.resize_grow(size, mode)?;
     image.flush()
-}
-
-// Grows the disk in a mode. Without preallocation the old bytes show, whatever the backing disk is.
-fn grow_by<S: Storage, F: WrappedFormat<S>>(
-    image: &mut Qcow2<S, F>,
-    size: u64,
-    mode: PreallocateMode,
-) -> Result<(), ImageError>
-    ensures grows { GrowsBy S.view F.backing mode image.old image.new size result }
-    ensures surplus { refuses_to_resize image.old ≡ None → (abstract_of S.view F.backing image.old []).is_sound
-        → OnOk result (KeepsSurplus S.view F.backing image.old image.new) }
-    ensures fault { refuses_to_resize image.old ≡ None → IsTrue (is_writable image.old)
-        → is_some image.old.backing ≡ false → (abstract_of S.view F.backing image.old []).is_sound
-        → IsUnmapped S.view image.old → IfErr result IsFaultOrLimit }
-    ensures limit { refuses_to_resize image.old ≡ None → (abstract_of S.view F.backing image.old []).is_sound
-        → IfLimit result (IsLimited S.view F.backing
-        (all_given_by_grow S.view F.backing image.old size mode) (boundary_in image.old size) image.old []
-        × LeavesSound S.view F.backing image.old image.new) }
-    ensures marks { MarksFailed image.old image.new result }
-    ensures faults { CountsImageFaults S.view F.backing image.old image.new result }
-{
-    match mode {
-        PreallocateMode::None => image.grow(size),
-        _ => image.resize_grow(size, mode),
-    }
 }

@@ -7,7 +7,7 @@ ghost use Rattle.qcow2_image.specs.CopyRange.{announced_range_of, copy_range_of,
 pub struct CopyRange {
     /// The first byte.
     pub start: u64,
-    /// The end: the byte behind the last one.
+    /// The end: the byte after the last one.
     pub end: u64,
 }
 
@@ -56,8 +56,8 @@ fn uncut(cluster_size: u64, announced: Option<CopyRange>) -> CopyRange
     }
 }
 
-/// The bytes to copy into a new cluster, of which the caller may have promised to overwrite a part. A part in the middle doesn't help. The
-/// cluster size and the alignment are in bytes. Both ends of the copied range are rounded to the alignment.
+/// The bytes to copy into a new cluster. The caller may have promised to overwrite a part of it. A promised part in the middle is copied too.
+/// The cluster size and the alignment are in bytes. Both ends of the copied range are rounded to the alignment.
 pub fn copy_range(
     cluster_size: u64,
     alignment: u64,

@@ -1,19 +1,20 @@
 //! Copy on write: filling a new cluster with the bytes that the guest saw before.
+ghost use Rattle.qcow2_image.specs.WriteSteps.{FillingStep, FillsPending};
 ghost use Rattle.qcow2_image.specs.ImageSteps.{FailsUnlimited, ImageStep};
 ghost use Rattle.std.specs.Prelude.{◌≡◌, ◌/◌, ◌^◌, ◌<◌, ◌≤◌, ℕ, List, Option, Some, true, false, replicate, IfOk};
 ghost use Rattle.std.specs.Prelude.{IfErr, IfSome, ◌⊎◌};
 ghost use Rattle.qcow2_alloc.specs.ImageError.{IsFault};
-ghost use Rattle.qcow2_image.specs.MetAlone.{HasUnannounced, IsCopiedCompressed, IsMetReading};
+ghost use Rattle.qcow2_image.specs.MayFail.{HasUnannounced, IsCopiedCompressed, MayFailReading};
 ghost use Rattle.qcow2_laws.specs.CrashInvariant.{Pending};
 ghost use Rattle.qcow2_alloc.specs.ImageFile.{known_in};
 ghost use Rattle.qcow2_image.specs.CallParts.{WritesBytes};
 ghost use Rattle.qcow2_image.specs.InternalSteps.{InternalFillingStep, HoldsAll, IsCopied, IsFilled, IsKeptAlone};
 ghost use Rattle.qcow2_image.specs.InternalSteps.{IsInHeldCluster, is_announced};
 ghost use Rattle.qcow2_image.specs.CopyRange.{HasByte};
-ghost use Rattle.qcow2_image.specs.ImageInvariant.{ImageInvariant, new_data_by, over_all};
+ghost use Rattle.qcow2_image.specs.ImageInvariant.{ImageInvariant};
 ghost use Rattle.qcow2_image.specs.Found.{IsMappedAs};
 ghost use Rattle.qcow2_image.specs.declared.prepared.Prepared.{Prepared};
-ghost use Rattle.qcow2_image.specs.Refusals.{IsMet};
+ghost use Rattle.qcow2_image.specs.Refusals.{MayFail};
 ghost use Rattle.qcow2_metadata.specs.L2Mapping.{IsHostCluster, IsInReach, greatest_offset};
 ghost use Rattle.qcow2_metadata.specs.Cover.{cover};
 ghost use Rattle.qcow2_metadata.specs.Header.{cluster_size};
@@ -24,7 +25,7 @@ use image_access::{Storage, WrappedFormat};
 use qcow2_alloc::{ImageError, WriteKind};
 use qcow2_metadata::{GuestOffset, HostCluster, L2Mapping};
 
-#[tactic(auto, using(crate::proofs::Call::MetErrors::tables_met, crate::proofs::Call::MetErrors::storage_met, crate::proofs::Call::MetErrors::metadata_met))]
+#[tactic(auto, using(crate::proofs::Call::FailingErrors::tables_met, crate::proofs::Call::FailingErrors::storage_met, crate::proofs::Call::FailingErrors::metadata_met))]
 impl<S: Storage, F: WrappedFormat<S>> Qcow2<S, F> {
     // Fills the new cluster of an offset with what its old mapping shows, except where the caller promised to overwrite.
     pub(crate) fn fill_cluster(
@@ -37,23 +38,12 @@ impl<S: Storage, F: WrappedFormat<S>> Qcow2<S, F> {
     ) -> Result<(), ImageError>
         requires nameable { IsHostCluster self.old.file.header.fields.cluster_bits cluster }
         requires reach { IsInReach old.now }
-        ensures step { ImageStep S.view self.old self.new }
-        ensures fails { FailsUnlimited S.view F.backing self.old self.new result IsMet }
-        ensures value { self.new.file.header ≡ self.old.file.header }
-        ensures met { 0 < cluster → IfErr result
+        ensures step { FillingStep S.view self.old self.new }
+        ensures fails { FailsUnlimited S.view F.backing self.old self.new result MayFail }
+        ensures may_fail { 0 < cluster → IfErr result
             (λ e. IsFault e ⊎ ((e ≡ ImageError.Compressed)
             × IsCopiedCompressed self.old.file.header.fields old.now offset length overwrite)) }
-        ensures image_step { (p : Pending) (out : List (Option Prepared))
-            → ImageInvariant S.view F.backing p self.old out → HoldsAll S.view F.backing p out → 0 < p.new_data cluster
-            → over_all new_data_by out cluster ≡ 0 → InternalFillingStep S.view F.backing p p self.old self.new out }
-        ensures allocator { self.new.allocator ≡ self.old.allocator }
-        ensures table { self.new.l1_table ≡ self.old.l1_table }
-        ensures list { self.new.file.free_list ≡ self.old.file.free_list }
-        ensures fills { (p : Pending) (out : List (Option Prepared)) → ImageInvariant S.view F.backing p self.old out
-            → HoldsAll S.view F.backing p out → 0 < p.new_data cluster → over_all new_data_by out cluster ≡ 0
-            → cover self.old.file.header.fields (known_in S.view self.old.file)
-            (offset / cluster_size self.old.file.header.fields) ≡ old.now
-            → IfOk result (λ done. IsFilled S.view F.backing self.old self.new cluster offset length overwrite) }
+        ensures sound { FillsPending S.view F.backing self.old self.new cluster offset length overwrite old.now result }
     {
         let Some(range) = self.part_to_fill(offset, length, overwrite) else {
             return Ok(());
@@ -78,7 +68,7 @@ impl<S: Storage, F: WrappedFormat<S>> Qcow2<S, F> {
     ) -> Result<(), ImageError>
         requires reach { host ≤ greatest_offset }
         ensures step { ImageStep S.view self.old self.new }
-        ensures fails { FailsUnlimited S.view F.backing self.old self.new result IsMet }
+        ensures fails { FailsUnlimited S.view F.backing self.old self.new result MayFail }
         ensures fault { cluster_size self.old.file.header.fields ≤ host → IfErr result IsFault }
         ensures rest { self.new ≡ record self.old { file = record self.old.file { storage = self.new.file.storage } } }
         ensures image_step { (p : Pending) (out : List (Option Prepared))
@@ -97,7 +87,7 @@ impl<S: Storage, F: WrappedFormat<S>> Qcow2<S, F> {
         }
     }
 
-    // The part of the offset's cluster to fill: all of it, except a part at its begin or its end that the caller promised to overwrite.
+    // The part of the offset's cluster to fill: all of it, except a part at its start or its end that the caller promised to overwrite.
     fn part_to_fill(&self, offset: u64, length: u64, overwrite: bool) -> Option<CopyRange>
         ensures within { IfSome result (λ r. (r.start < r.end) × (r.end ≤ cluster_size self.now.file.header.fields)) }
         ensures few { IfSome result (λ r. r.end ≤ 2 ^ 21) }
@@ -113,7 +103,7 @@ impl<S: Storage, F: WrappedFormat<S>> Qcow2<S, F> {
         copy_range(size, alignment, announced)
     }
 
-    // Writes what a guest sees from an offset on, in clusters that are mapped in this way. Zeros need no buffer.
+    // Copies what a guest sees from an offset on, where the range has this mapping. Zeros need no buffer.
     fn copy_old(
         &mut self,
         at: u64,
@@ -121,17 +111,13 @@ impl<S: Storage, F: WrappedFormat<S>> Qcow2<S, F> {
         kind: &MappingKind,
         length: u64,
     ) -> Result<(), ImageError>
-        ensures step { ImageStep S.view self.old self.new }
-        ensures fails { FailsUnlimited S.view F.backing self.old self.new result IsMet }
-        ensures value { self.new.file.header ≡ self.old.file.header }
-        ensures met { cluster_size self.old.file.header.fields ≤ at → IfErr result (IsMetReading kind.now) }
+        ensures step { FillingStep S.view self.old self.new }
+        ensures fails { FailsUnlimited S.view F.backing self.old self.new result MayFail }
+        ensures may_fail { cluster_size self.old.file.header.fields ≤ at → IfErr result (MayFailReading kind.now) }
         ensures image_step { (p : Pending) (out : List (Option Prepared)) (cluster : ℕ)
             → ImageInvariant S.view F.backing p self.old out → HoldsAll S.view F.backing p out
             → IsInHeldCluster S.view F.backing p self.old out cluster at length
             → InternalFillingStep S.view F.backing p p self.old self.new out }
-        ensures allocator { self.new.allocator ≡ self.old.allocator }
-        ensures table { self.new.l1_table ≡ self.old.l1_table }
-        ensures list { self.new.file.free_list ≡ self.old.file.free_list }
         ensures copies { (p : Pending) (out : List (Option Prepared)) → ImageInvariant S.view F.backing p self.old out
             → IsMappedAs S.view self.old guest kind.now length
             → IfOk result (λ done. IsCopied S.view F.backing self.old self.new at guest length) }
@@ -148,7 +134,7 @@ impl<S: Storage, F: WrappedFormat<S>> Qcow2<S, F> {
     // Writes zeros as data. A place in cluster 0, which no entry has, is refused 19 (metadata).
     fn write_zeros(&mut self, at: u64, length: u64) -> Result<(), ImageError>
         ensures step { ImageStep S.view self.old self.new }
-        ensures fails { FailsUnlimited S.view F.backing self.old self.new result IsMet }
+        ensures fails { FailsUnlimited S.view F.backing self.old self.new result MayFail }
         ensures fault { cluster_size self.old.file.header.fields ≤ at → IfErr result IsFault }
         ensures written { WritesBytes S.view self.old self.new at (replicate length 0) result }
     {

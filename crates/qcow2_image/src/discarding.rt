@@ -1,11 +1,11 @@
 //! Clearing the whole clusters of a range: to zeros, or to what the backing disk shows.
-ghost use Rattle.qcow2_image.specs.Limits.{IfLimit, IsLimited};
+ghost use Rattle.qcow2_image.specs.ImageSteps.{ImageFails, ImageStep};
 ghost use Rattle.std.specs.Prelude.{ℕ, List, Option, ◌≡◌, ◌+◌, ◌-◌, ◌/◌, ◌%◌, ◌^◌, ◌<◌, ◌≤◌, ◌++◌, true, false, Some};
 ghost use Rattle.std.specs.Prelude.{None, Ok, Err, IfOk, IfErr, IfSome, OnOk, IsSome, IsTrue, MatchOption};
 ghost use Rattle.std.specs.Prelude.{[], if◌then◌else◌};
 ghost use Rattle.qcow2_image.specs.Found.{l1_index_of};
 ghost use Rattle.qcow2_metadata.specs.EntryTable.{entry_count};
-ghost use Rattle.qcow2_image.specs.MetAlone.{KeepsL1Place};
+ghost use Rattle.qcow2_image.specs.MayFail.{KeepsL1Place};
 ghost use Rattle.qcow2_metadata.specs.Header.{cluster_size, entries_per_cluster, rounded_up as rounded_up_to};
 ghost use Rattle.qcow2_metadata.specs.L2Mapping.{IsInReach, old_data_run};
 ghost use Rattle.qcow2_laws.specs.CrashInvariant.{Pending};
@@ -18,9 +18,8 @@ ghost use Rattle.qcow2_image.specs.L1Entries.{HasOwnTable};
 ghost use Rattle.qcow2_image.specs.PinnedTables.{RespectsPins};
 ghost use Rattle.qcow2_image.specs.Image.{ImageStays, is_writable, size_of};
 ghost use Rattle.qcow2_image.specs.ImageInvariant.{ImageInvariant, pending_in, listed_run};
-ghost use Rattle.qcow2_image.specs.Refusals.{IsMet, IsMetPreparing, passes as passes_size};
-ghost use Rattle.qcow2_image.specs.ClearingCalls.{AnsweredBeside, ClearsBetween, FreesBetween, LacksBetween};
-ghost use Rattle.qcow2_image.specs.ClearingCalls.{MeetsBetween, RefusedUnder, PartStep, ClearsStep, ClearsSoundly};
+ghost use Rattle.qcow2_image.specs.Refusals.{FreesRefused, MayFail, MayFailPreparing, passes as passes_size};
+ghost use Rattle.qcow2_image.specs.ClearingCalls.{ClearsInTable, ClearsStep, ClearsSoundly};
 ghost use Rattle.qcow2_image.specs.ClearingCalls.{FailsToClear};
 ghost use Rattle.qcow2_image.specs.Clearing.{ClearsEntry, ClearsTable, IsClearable, ReadsAll, ReadsDropped};
 ghost use Rattle.qcow2_image.specs.Clearing.{cover_once_cleared, from_in, to_in, needs_zero_entries, refuses_to_clear};
@@ -46,7 +45,7 @@ pub(crate) enum ClearMode {
 }
 
 impl ClearMode {
-    // Whether this needs zero entries.
+    // Whether clearing in this mode needs zero entries.
     fn needs_zeros(self) -> bool
         ensures { result ≡ needs_zero_entries self }
     {
@@ -89,13 +88,13 @@ pub(crate) fn rounded_up(offset: u64, size: u64) -> Option<u64>
 }
 
 // Adds a run of data clusters at the end of a list.
-#[tactic(auto, using(crate::proofs::Call::MetErrors::tables_met, crate::proofs::Clear::Touched::nothing_more))]
+#[tactic(auto, using(crate::proofs::Call::FailingErrors::tables_met, crate::proofs::Clear::Touched::nothing_more))]
 fn list_run(
     alloc: Global,
     list: &mut ClustersToFreeList,
     run: Option<(HostCluster, ClusterCount)>,
 ) -> Result<(), ImageError>
-    ensures cause { IfErr result IsMet }
+    ensures cause { IfErr result MayFail }
     ensures fault { IfErr result IsFault }
     ensures listed { OnOk result (list.new ≡ list.old ++ listed_run run) }
     ensures faults { IfErr result IsNotOfStorage }
@@ -106,14 +105,14 @@ fn list_run(
     Ok(())
 }
 
-#[tactic(auto, using(crate::proofs::Call::MetErrors::tables_met, crate::proofs::Call::MetErrors::storage_met, crate::proofs::Call::MetErrors::metadata_met, crate::proofs::Call::MetErrors::metadata_of_tables))]
+#[tactic(auto, using(crate::proofs::Call::FailingErrors::tables_met, crate::proofs::Call::FailingErrors::storage_met, crate::proofs::Call::FailingErrors::metadata_met, crate::proofs::Call::FailingErrors::metadata_of_tables))]
 impl<S: Storage, F: WrappedFormat<S>> Qcow2<S, F> {
     /// Discards the whole clusters of a range, in bytes, so that the backing disk shows there. Returns where the first whole cluster begins,
     /// and how many bytes of the range were cleared: within one L2 table, and 0 if no cluster is whole. The disk's last cluster counts as
     /// whole if the range ends at the disk's size.
     /// Refused in this order: 16 (failed), 12 (dependency), 1 (read-only), 2 (beyond size), 20 (overflow) if rounding up passes 64
-    /// bits; then 9 (table prepared), if a mapping that isn't existing is prepared in the same L2 table. Refused 4 (unaligned table),
-    /// 8 (everything is in use), 13 (limit), 14 (memory) and 15 (storage) if the work meets them, and 20 if an L1 entry past 64 bits would
+    /// bits; then 9 (table prepared), if a mapping that isn't existing is prepared in the same L2 table. May be refused 4 (unaligned table),
+    /// 8 (everything is in use), 13 (limit), 14 (memory) or 15 (storage) during the work, and 20 if an L1 entry past 64 bits would
     /// have to be written.
     pub fn discard_to_backing_unsafe(
         &mut self,
@@ -131,8 +130,8 @@ impl<S: Storage, F: WrappedFormat<S>> Qcow2<S, F> {
     /// many bytes of the range were cleared: within one L2 table, and 0 if no cluster is whole. The disk's last cluster counts as whole if
     /// the range ends at the disk's size.
     /// Refused in this order: 16 (failed), 12 (dependency), 1 (read-only), 2 (beyond size), 3 (version) below version 3, 20 (overflow)
-    /// if rounding up passes 64 bits; then 9 (table prepared), if a mapping that isn't existing is prepared in the same L2 table. Refused
-    /// 4 (unaligned table), 8 (everything is in use), 13 (limit), 14 (memory) and 15 (storage) if the work meets them, and 20 if an L1
+    /// if rounding up passes 64 bits; then 9 (table prepared), if a mapping that isn't existing is prepared in the same L2 table. May be refused
+    /// 4 (unaligned table), 8 (everything is in use), 13 (limit), 14 (memory) or 15 (storage) during the work, and 20 if an L1
     /// entry past 64 bits would have to be written.
     pub fn discard_to_zero_unsafe(
         &mut self,
@@ -146,12 +145,12 @@ impl<S: Storage, F: WrappedFormat<S>> Qcow2<S, F> {
         self.clear_range(offset, length, ClearMode::Zeros)
     }
 
-    /// Discards the whole clusters of a range, in bytes, whatever they read as then: zeros, today. Returns where the first whole cluster
-    /// begins, and how many bytes of the range were cleared: within one L2 table, and 0 if no cluster is whole. The disk's last
+    /// Discards the whole clusters of a range, in bytes. What they then read as is left open; today they read as zeros. Returns where the first
+    /// whole cluster begins, and how many bytes of the range were cleared: within one L2 table, and 0 if no cluster is whole. The disk's last
     /// cluster counts as whole if the range ends at the disk's size.
     /// Refused in this order: 16 (failed), 12 (dependency), 1 (read-only), 2 (beyond size), 3 (version) below version 3, 20 (overflow)
-    /// if rounding up passes 64 bits; then 9 (table prepared), if a mapping that isn't existing is prepared in the same L2 table. Refused
-    /// 4 (unaligned table), 8 (everything is in use), 13 (limit), 14 (memory) and 15 (storage) if the work meets them, and 20 if an L1
+    /// if rounding up passes 64 bits; then 9 (table prepared), if a mapping that isn't existing is prepared in the same L2 table. May be refused
+    /// 4 (unaligned table), 8 (everything is in use), 13 (limit), 14 (memory) or 15 (storage) during the work, and 20 if an L1
     /// entry past 64 bits would have to be written.
     pub fn discard_to_any_unsafe(
         &mut self,
@@ -169,8 +168,8 @@ impl<S: Storage, F: WrappedFormat<S>> Qcow2<S, F> {
     /// first whole cluster begins, and how many bytes of the range were cleared: within one L2 table, and 0 if no cluster is whole.
     /// The disk's last cluster counts as whole if the range ends at the disk's size.
     /// Refused in this order: 16 (failed), 12 (dependency), 1 (read-only), 2 (beyond size), 3 (version) below version 3, 20 (overflow)
-    /// if rounding up passes 64 bits; then 9 (table prepared), if a mapping that isn't existing is prepared in the same L2 table. Refused
-    /// 4 (unaligned table), 8 (everything is in use), 13 (limit), 14 (memory) and 15 (storage) if the work meets them, and 20 if an L1
+    /// if rounding up passes 64 bits; then 9 (table prepared), if a mapping that isn't existing is prepared in the same L2 table. May be refused
+    /// 4 (unaligned table), 8 (everything is in use), 13 (limit), 14 (memory) or 15 (storage) during the work, and 20 if an L1
     /// entry past 64 bits would have to be written.
     pub fn ensure_zero_mapping(
         &mut self,
@@ -199,14 +198,14 @@ impl<S: Storage, F: WrappedFormat<S>> Qcow2<S, F> {
         if to <= from {
             return Ok((from, 0));
         }
-        self.begin();
+        self.begin_call();
         let cleared = self.clear_between(from, to, how);
         self.mark_failure(cleared)?;
         self.process_free_list_at_end()?;
         Ok((from, to.min(offset + length).saturating_sub(from)))
     }
 
-    // The begin and the end of the whole clusters of a range within one L2 table. Refuses a range that can't be cleared.
+    // The start and the end of the whole clusters of a range within one L2 table. Refuses a range that can't be cleared.
     fn check_clear(
         &self,
         offset: u64,
@@ -217,7 +216,8 @@ impl<S: Storage, F: WrappedFormat<S>> Qcow2<S, F> {
             (result ≡ Ok (from_in self.now offset length, to_in self.now offset length)) (λ e. result ≡ Err e) }
         ensures writable { IfOk result (λ range. IsTrue (is_writable self.now)) }
         ensures end { IfOk result (λ range. offset + length < 2 ^ 64) }
-        ensures version { IfOk result (λ range. IsTrue (needs_zero_entries how) → 3 ≤ self.now.file.header.fields.version) }
+        ensures version { IfOk result (λ range. IsTrue (needs_zero_entries how)
+            → 3 ≤ self.now.file.header.fields.version) }
         ensures faults { IfErr result IsNotOfStorage }
     {
         self.check_usable()?;
@@ -236,7 +236,7 @@ impl<S: Storage, F: WrappedFormat<S>> Qcow2<S, F> {
         }
     }
 
-    // The begin and the end of the whole clusters of a range within one L2 table, if they fit into 64 bits.
+    // The start and the end of the whole clusters of a range within one L2 table, if they fit into 64 bits.
     fn touched(&self, offset: u64, length: u64) -> Option<(u64, u64)>
         requires { passes_size (size_of self.now) offset length ≡ false }
         ensures { result ≡ (if rounds_past (cluster_size self.now.file.header.fields)
@@ -264,20 +264,16 @@ impl<S: Storage, F: WrappedFormat<S>> Qcow2<S, F> {
     ) -> Result<(), ImageError>
         requires writable { IsTrue (is_writable self.old) }
         requires some { from < to }
-        ensures step { PartStep S.view F.backing self.old self.new result }
-        ensures cause { IfErr result IsMetPreparing }
-        ensures met { MeetsBetween S.view F.backing how from to self.old self.new result }
+        ensures step { ImageStep S.view self.old self.new }
+        ensures fails { ImageFails S.view F.backing self.old self.new result MayFailPreparing }
+        ensures sound { (out : List (Option Prepared))
+            → ImageInvariant S.view F.backing (pending_in S.view F.backing self.old out) self.old out
+            → ClearsInTable S.view F.backing how from to self.old self.new out result }
         ensures l1_place { l1_index_of self.old.file.header.fields from < entry_count self.old.l1_table
             → OnOk result (KeepsL1Place self.old.file.header.fields self.new.file.header.fields) }
-        ensures limit { (out : List (Option Prepared))
+        ensures freed { (out : List (Option Prepared))
             → ImageInvariant S.view F.backing (pending_in S.view F.backing self.old out) self.old out
-            → IsClearable self.old.file.header.fields how from to
-            → IfLimit result (IsLimited S.view F.backing [] (from + 1) self.old out) }
-        ensures lacks { LacksBetween S.view F.backing how from to self.old self.new result }
-        ensures clears { ClearsBetween S.view F.backing how from to self.old self.new result }
-        ensures taken { RefusedUnder S.view F.backing from self.old result }
-        ensures free { AnsweredBeside S.view F.backing from self.old result }
-        ensures freed { FreesBetween S.view F.backing how from to self.old self.new result }
+            → IsClearable self.old.file.header.fields how from to → IfErr result (FreesRefused self.new) }
         ensures pinned { HasOwnTable self.old from → RespectsPins self.old from result }
     {
         match self.clear_in_table(from, to, how) {
@@ -290,19 +286,13 @@ impl<S: Storage, F: WrappedFormat<S>> Qcow2<S, F> {
     fn clear_in_table(&mut self, from: u64, to: u64, how: ClearMode) -> Result<(), ImageError>
         requires writable { IsTrue (is_writable self.old) }
         requires some { from < to }
-        ensures step { PartStep S.view F.backing self.old self.new result }
-        ensures cause { IfErr result IsMetPreparing }
-        ensures met { MeetsBetween S.view F.backing how from to self.old self.new result }
+        ensures step { ImageStep S.view self.old self.new }
+        ensures fails { ImageFails S.view F.backing self.old self.new result MayFailPreparing }
+        ensures sound { (out : List (Option Prepared))
+            → ImageInvariant S.view F.backing (pending_in S.view F.backing self.old out) self.old out
+            → ClearsInTable S.view F.backing how from to self.old self.new out result }
         ensures l1_place { l1_index_of self.old.file.header.fields from < entry_count self.old.l1_table
             → OnOk result (KeepsL1Place self.old.file.header.fields self.new.file.header.fields) }
-        ensures limit { (out : List (Option Prepared))
-            → ImageInvariant S.view F.backing (pending_in S.view F.backing self.old out) self.old out
-            → IsClearable self.old.file.header.fields how from to
-            → IfLimit result (IsLimited S.view F.backing [] (from + 1) self.old out) }
-        ensures lacks { LacksBetween S.view F.backing how from to self.old self.new result }
-        ensures clears { ClearsBetween S.view F.backing how from to self.old self.new result }
-        ensures taken { RefusedUnder S.view F.backing from self.old result }
-        ensures free { AnsweredBeside S.view F.backing from self.old result }
         ensures pinned { HasOwnTable self.old from → RespectsPins self.old from result }
     {
         let table = self.writable_l2_table(from)?;
@@ -327,7 +317,7 @@ impl<S: Storage, F: WrappedFormat<S>> Qcow2<S, F> {
         how: ClearMode,
     ) -> Result<ClustersToFreeList, ImageError>
         requires near { first + count < 2 ^ 64 }
-        ensures cause { IfErr result IsMet }
+        ensures cause { IfErr result MayFail }
         ensures only_faults { (p : Pending) (i : ℕ) → FileInvariant S.view p self.now.file
             → self.now.file.header.fields.incompatible ≡ 0
             → IsEntryAt self.now.file.header.fields (known_in S.view self.now.file) i table
@@ -354,7 +344,7 @@ impl<S: Storage, F: WrappedFormat<S>> Qcow2<S, F> {
         cluster: GuestCluster,
         how: ClearMode,
     ) -> Result<(), ImageError>
-        ensures cause { IfErr result IsMet }
+        ensures cause { IfErr result MayFail }
         ensures only_faults { (p : Pending) (i : ℕ) → FileInvariant S.view p self.now.file
             → self.now.file.header.fields.incompatible ≡ 0
             → IsEntryAt self.now.file.header.fields (known_in S.view self.now.file) i table

@@ -1,56 +1,43 @@
 //! The first cluster of a prepared range.
-ghost use Rattle.qcow2_image.specs.Limits.{IfLimit, IsLimited, IsLimitedTaking};
-ghost use Rattle.qcow2_image.specs.SoundParts.{BeginsSoundly};
-ghost use Rattle.qcow2_image.specs.ImageSteps.{FailsUnlimited, ImageFails, ImageStep, ImageStepWhere};
-ghost use Rattle.qcow2_metadata.specs.TableBytes.{HasPlace};
-ghost use Rattle.qcow2_image.specs.PreparedPlaces.{MarkedIsBehind};
-ghost use Rattle.std.specs.Prelude.{List, Option, ◌≡◌, ◌+◌, ◌-◌, ◌/◌, ◌%◌, ◌^◌, ◌<◌, ◌≤◌, true, false, Some, [], ◌∷◌};
+ghost use Rattle.qcow2_image.specs.WriteSteps.{AllocatesOne, BeginsFirst, BeginsIn, FillingStep, GainsCluster};
+ghost use Rattle.qcow2_image.specs.WriteSteps.{HasMemoryOf, HasRoomForOne, IsBegunIn, IsNotInPlace, LoadsTable};
+ghost use Rattle.qcow2_image.specs.WriteSteps.{AllocatingStep, AllocatingStepWhere, keeping};
+ghost use Rattle.qcow2_image.specs.ImageSteps.{FailsUnlimited, ImageFails, ImageStepWhere};
+ghost use Rattle.std.specs.Prelude.{◌≡◌, ◌+◌, ◌-◌, ◌%◌, ◌^◌, ◌<◌, ◌≤◌, Some, [], ◌∷◌};
 ghost use Rattle.std.specs.Prelude.{vec_capacity, IfOk, IfErr, IsSome, IsTrue, OnOk};
-ghost use Rattle.qcow2_image.specs.Backings.{HasPinnedMapping};
-ghost use Rattle.qcow2_alloc.specs.ImageError.{IsFault};
-ghost use Rattle.qcow2_image.specs.MetAlone.{IsCopiedCompressed, MayFailAlone, IsMetLooking, MayFailAllocating};
 ghost use Rattle.qcow2_metadata.specs.L2Mapping.{IsHostCluster, IsInReach, greatest_offset};
 ghost use Rattle.qcow2_metadata.specs.Header.{cluster_size};
-ghost use Rattle.qcow2_metadata.specs.Cover.{cover};
-ghost use Rattle.qcow2_disk.specs.Mappings.{is_copied_data};
-ghost use Rattle.qcow2_laws.specs.CrashInvariant.{Pending};
 ghost use Rattle.qcow2_alloc.specs.CachePins.{l2_pins};
 ghost use Rattle.qcow2_alloc.specs.MetadataCaches.{l2_at};
-ghost use Rattle.qcow2_alloc.specs.ImageFile.{known_in, KeepsHeader};
 ghost use Rattle.qcow2_alloc.specs.declared.error.ImageError.TheVariants.{TablePrepared};
 ghost use Rattle.qcow2_image.specs.Image.{ImageStays, is_writable, number_of};
-ghost use Rattle.qcow2_image.specs.ListedClusters.{KeepsList};
 ghost use Rattle.qcow2_image.specs.Prepared.{image_of, length_of, offset_of};
-ghost use Rattle.qcow2_image.specs.Refusals.{IsMet, IsMetPreparing, IsFaultOrLimit};
+ghost use Rattle.qcow2_image.specs.Refusals.{MayFail, MayFailPreparing};
 ghost use Rattle.qcow2_image.specs.declared.prepared.Prepared.{Prepared};
 ghost use Rattle.qcow2_image.specs.declared.mapping.Place.TheVariants.{Image};
-ghost use Rattle.qcow2_image.specs.CallParts.{Readies};
-ghost use Rattle.qcow2_image.specs.ImageInvariant.{ImageInvariant, pending_in};
-ghost use Rattle.qcow2_image.specs.Ranges.{BeginsInKept, HasRoomForRange, IsFirst};
-ghost use Rattle.qcow2_image.specs.InternalSteps.{Gains, HoldsAll, HoldsTable, ListGrows, Pins, SameHeld, TakesData};
-ghost use Rattle.qcow2_image.specs.InternalSteps.{InternalStep};
+ghost use Rattle.qcow2_image.specs.Ranges.{BeginsInKept, HasRoomForRange};
+ghost use Rattle.qcow2_image.specs.InternalSteps.{ListGrows, Pins};
 
 use crate::mappings::{copied_offset, preallocated_offset};
-use crate::prepared::Share;
+use crate::prepared::ClusterMapping;
 use crate::{Place, Prepared, Qcow2};
 use image_access::{Storage, WrappedFormat};
 use qcow2_alloc::{ClustersToFreeList, ImageError, PendingClusters};
 use qcow2_metadata::{ClusterCount, GuestOffset, HostCluster, L2Mapping};
 
-// A list of one share, in the given memory.
-fn of_one(share: Share, mut room: Vec<Share>) -> Vec<Share>
-    requires empty { room.items ≡ [] }
-    requires room { 0 < vec_capacity room }
-    ensures one { result.items ≡ share ∷ [] }
+// A list of one cluster mapping, in the given memory.
+fn of_one(cluster_mapping: ClusterMapping, mut room: Vec<ClusterMapping>) -> Vec<ClusterMapping>
+    requires room { HasRoomForOne room }
+    ensures one { result.items ≡ cluster_mapping ∷ [] }
     ensures room { vec_capacity result ≡ vec_capacity room }
 {
-    room.push_reserved(share);
+    room.push_reserved(cluster_mapping);
     room
 }
 
-#[tactic(auto, using(crate::proofs::Call::MetErrors::tables_met, crate::proofs::Call::MetErrors::storage_met, crate::proofs::Call::MetErrors::metadata_met, crate::proofs::Call::MetErrors::metadata_of_tables))]
+#[tactic(auto, using(crate::proofs::Call::FailingErrors::tables_met, crate::proofs::Call::FailingErrors::storage_met, crate::proofs::Call::FailingErrors::metadata_met, crate::proofs::Call::FailingErrors::metadata_of_tables))]
 impl<S: Storage, F: WrappedFormat<S>> Qcow2<S, F> {
-    // Prepares the first cluster of a range, with memory for the shares of the clusters behind it.
+    // Prepares the first cluster of a range, with memory for the mappings of the clusters after it.
     pub(crate) fn prepare_first(
         &mut self,
         table: HostCluster,
@@ -59,34 +46,13 @@ impl<S: Storage, F: WrappedFormat<S>> Qcow2<S, F> {
         overwrite: bool,
     ) -> Result<Prepared, ImageError>
         requires writable { IsTrue (is_writable self.old) }
-        ensures step { ImageStepWhere S.view (0 < table) self.old self.new }
-        ensures fails { ImageFails S.view F.backing self.old self.new result IsMetPreparing }
-        ensures header { KeepsHeader self.old.file.header self.new.file.header }
-        ensures met { (out : List (Option Prepared))
-            → ImageInvariant S.view F.backing (pending_in S.view F.backing self.old out) self.old out
-            → HoldsTable S.view F.backing self.old offset table
-            → IfErr result (MayFailAllocating (HasPinnedMapping out) (0 < l2_pins self.old.file.caches table)
-            (IsCopiedCompressed self.old.file.header.fields
-            (cover self.old.file.header.fields (known_in S.view self.old.file)
-            (offset / cluster_size self.old.file.header.fields)) offset length overwrite) ⊥) }
-        ensures limit { (out : List (Option Prepared))
-            → ImageInvariant S.view F.backing (pending_in S.view F.backing self.old out) self.old out
-            → HoldsTable S.view F.backing self.old offset table
-            → IfLimit result (IsLimited S.view F.backing [] 1 self.old out) }
+        ensures step { AllocatingStepWhere S.view (0 < table) self.old self.new }
+        ensures fails { ImageFails S.view F.backing self.old self.new result MayFailPreparing }
+        ensures sound { BeginsFirst S.view F.backing self.old self.new table offset length overwrite result }
+        ensures begins { IfOk result (IsBegunIn self.old offset table
+            (HasRoomForRange self.old.file.header.fields length)) }
         ensures taken { IfErr result (λ e. e ≡ TablePrepared → 0 < l2_pins self.old.file.caches table) }
         ensures unpinned { OnOk result (l2_pins self.old.file.caches table ≡ 0) }
-        ensures own { IfOk result (λ p. image_of p ≡ number_of self.old) }
-        ensures readies { (out : List (Option Prepared)) → ImageInvariant S.view F.backing (pending_in S.view F.backing self.old out) self.old out
-            → HoldsTable S.view F.backing self.old offset table → Readies S.view F.backing self.old self.new out offset length overwrite result }
-        ensures first { IfOk result (IsFirst self.old.file.header.fields offset table) }
-        ensures behind { IfOk result (λ p. cluster_size self.old.file.header.fields ≤ offset_of p) }
-        ensures room { IfOk result (HasRoomForRange self.old.file.header.fields length) }
-        ensures kept { (out : List (Option Prepared))
-            → ImageInvariant S.view F.backing (pending_in S.view F.backing self.old out) self.old out
-            → HoldsTable S.view F.backing self.old offset table
-            → IfOk result (BeginsInKept self.old.file.header.fields offset
-            (cover self.old.file.header.fields (known_in S.view self.old.file)
-            (offset / cluster_size self.old.file.header.fields))) }
     {
         if self.file.caches.l2_is_pinned(table) {
             return Err(ImageError::TablePrepared);
@@ -95,7 +61,7 @@ impl<S: Storage, F: WrappedFormat<S>> Qcow2<S, F> {
         let cluster = GuestOffset::new(offset).cluster(self.file.header.cluster_bits());
         let old = self.cover_in(table, cluster)?;
         match copied_offset(&old) {
-            Some(host) => Ok(self.prepare_at(table, offset, host, Share::InPlace, room)),
+            Some(host) => Ok(self.prepare_at(table, offset, host, ClusterMapping::InPlace, room)),
             None => self.prepare_private(table, offset, length, overwrite, &old, room),
         }
     }
@@ -108,39 +74,16 @@ impl<S: Storage, F: WrappedFormat<S>> Qcow2<S, F> {
         length: u64,
         overwrite: bool,
         old: &L2Mapping,
-        room: Vec<Share>,
+        room: Vec<ClusterMapping>,
     ) -> Result<Prepared, ImageError>
         requires writable { IsTrue (is_writable self.old) }
-        requires reach { IsInReach old.now }
-        requires other { is_copied_data old.now ≡ false }
-        requires behind { MarkedIsBehind (cluster_size self.old.file.header.fields) old.now }
-        requires empty { room.items ≡ [] }
-        requires room { 0 < vec_capacity room }
-        ensures step { ImageStepWhere S.view (0 < table) self.old self.new }
-        ensures fails { ImageFails S.view F.backing self.old self.new result IsMet }
-        ensures met { (out : List (Option Prepared))
-            → ImageInvariant S.view F.backing (pending_in S.view F.backing self.old out) self.old out
-            → HoldsTable S.view F.backing self.old offset table
-            → cover self.old.file.header.fields (known_in S.view self.old.file)
-            (offset / cluster_size self.old.file.header.fields) ≡ old.now
-            → IfErr result (MayFailAllocating (HasPinnedMapping out) ⊥
-            (IsCopiedCompressed self.old.file.header.fields old.now offset length overwrite) ⊥) }
-        ensures limit { (out : List (Option Prepared))
-            → ImageInvariant S.view F.backing (pending_in S.view F.backing self.old out) self.old out
-            → HoldsTable S.view F.backing self.old offset table
-            → IfLimit result (IsLimited S.view F.backing [] 1 self.old out) }
-        ensures own { IfOk result (λ p. image_of p ≡ number_of self.old) }
-        ensures first { IfOk result (IsFirst self.old.file.header.fields offset table) }
-        ensures behind { IfOk result (λ p. cluster_size self.old.file.header.fields ≤ offset_of p) }
-        ensures room { IfOk result (λ p. vec_capacity p.shares ≡ vec_capacity room) }
+        requires other { IsNotInPlace (cluster_size self.old.file.header.fields) old.now }
+        requires room { HasRoomForOne room }
+        ensures step { AllocatingStepWhere S.view (0 < table) self.old self.new }
+        ensures fails { ImageFails S.view F.backing self.old self.new result MayFail }
+        ensures sound { BeginsIn S.view F.backing self.old self.new table offset length overwrite old.now result }
+        ensures begins { IfOk result (IsBegunIn self.old offset table (HasMemoryOf (vec_capacity room))) }
         ensures kept { IfOk result (BeginsInKept self.old.file.header.fields offset old.now) }
-        ensures readies { (out : List (Option Prepared))
-            → ImageInvariant S.view F.backing (pending_in S.view F.backing self.old out) self.old out
-            → HoldsTable S.view F.backing self.old offset table → l2_pins self.old.file.caches table ≡ 0
-            → cover self.old.file.header.fields (known_in S.view self.old.file)
-            (offset / cluster_size self.old.file.header.fields) ≡ old.now
-            → Readies S.view F.backing self.old self.new out offset length overwrite result }
-        ensures header { KeepsHeader self.old.file.header self.new.file.header }
     {
         match preallocated_offset(old) {
             Some(host) => self.prepare_kept(table, offset, length, overwrite, host, room),
@@ -156,35 +99,20 @@ impl<S: Storage, F: WrappedFormat<S>> Qcow2<S, F> {
         length: u64,
         overwrite: bool,
         host: u64,
-        room: Vec<Share>,
+        room: Vec<ClusterMapping>,
     ) -> Result<Prepared, ImageError>
         requires reach { host ≤ greatest_offset }
         requires behind { cluster_size self.old.file.header.fields ≤ host }
-        requires empty { room.items ≡ [] }
-        requires room { 0 < vec_capacity room }
-        ensures step { ImageStep S.view self.old self.new }
-        ensures fails { FailsUnlimited S.view F.backing self.old self.new result IsMet }
-        ensures fault { (out : List (Option Prepared))
-            → ImageInvariant S.view F.backing (pending_in S.view F.backing self.old out) self.old out
-            → cover self.old.file.header.fields (known_in S.view self.old.file)
-            (offset / cluster_size self.old.file.header.fields) ≡ L2Mapping.Zero (Some (host, true))
-            → IfErr result IsFault }
-        ensures own { IfOk result (λ p. image_of p ≡ number_of self.old) }
-        ensures first { IfOk result (IsFirst self.old.file.header.fields offset table) }
-        ensures behind { IfOk result (λ p. cluster_size self.old.file.header.fields ≤ offset_of p) }
-        ensures room { IfOk result (λ p. vec_capacity p.shares ≡ vec_capacity room) }
+        requires room { HasRoomForOne room }
+        ensures step { FillingStep S.view self.old self.new }
+        ensures fails { FailsUnlimited S.view F.backing self.old self.new result MayFail }
+        ensures sound { BeginsIn S.view F.backing self.old self.new table offset length overwrite
+            (keeping host) result }
+        ensures begins { IfOk result (IsBegunIn self.old offset table (HasMemoryOf (vec_capacity room))) }
         ensures place { IfOk result (λ p. offset_of p ≡ host + offset % cluster_size self.old.file.header.fields) }
-        ensures readies { (out : List (Option Prepared))
-            → ImageInvariant S.view F.backing (pending_in S.view F.backing self.old out) self.old out
-            → HoldsTable S.view F.backing self.old offset table → l2_pins self.old.file.caches table ≡ 0
-            → cover self.old.file.header.fields (known_in S.view self.old.file)
-            (offset / cluster_size self.old.file.header.fields) ≡ L2Mapping.Zero (Some (host, true))
-            → Readies S.view F.backing self.old self.new out offset length overwrite result }
-        ensures header { self.new.file.header ≡ self.old.file.header }
-        ensures list { KeepsList self.old self.new }
     {
         self.fill_kept(host, offset, length, overwrite)?;
-        Ok(self.prepare_at(table, offset, host, Share::Kept, room))
+        Ok(self.prepare_at(table, offset, host, ClusterMapping::Kept, room))
     }
 
     // Prepares a range in a new cluster.
@@ -195,28 +123,15 @@ impl<S: Storage, F: WrappedFormat<S>> Qcow2<S, F> {
         length: u64,
         overwrite: bool,
         old: &L2Mapping,
-        room: Vec<Share>,
+        room: Vec<ClusterMapping>,
     ) -> Result<Prepared, ImageError>
         requires writable { IsTrue (is_writable self.old) }
-        requires reach { IsInReach old.now }
-        requires other { is_copied_data old.now ≡ false }
-        requires empty { room.items ≡ [] }
-        requires room { 0 < vec_capacity room }
-        ensures step { ImageStepWhere S.view (0 < table) self.old self.new }
-        ensures fails { ImageFails S.view F.backing self.old self.new result IsMet }
-        ensures sound { (out : List (Option Prepared))
-            → ImageInvariant S.view F.backing (pending_in S.view F.backing self.old out) self.old out
-            → HoldsTable S.view F.backing self.old offset table
-            → BeginsSoundly S.view F.backing old.now offset length overwrite self.old self.new out result
-            (l2_pins self.old.file.caches table ≡ 0
-            → cover self.old.file.header.fields (known_in S.view self.old.file)
-            (offset / cluster_size self.old.file.header.fields) ≡ old.now
-            → Readies S.view F.backing self.old self.new out offset length overwrite result) }
-        ensures own { IfOk result (λ p. image_of p ≡ number_of self.old) }
-        ensures first { IfOk result (IsFirst self.old.file.header.fields offset table) }
-        ensures behind { IfOk result (λ p. cluster_size self.old.file.header.fields ≤ offset_of p) }
-        ensures room { IfOk result (λ p. vec_capacity p.shares ≡ vec_capacity room) }
-        ensures header { KeepsHeader self.old.file.header self.new.file.header }
+        requires other { IsNotInPlace (cluster_size self.old.file.header.fields) old.now }
+        requires room { HasRoomForOne room }
+        ensures step { AllocatingStepWhere S.view (0 < table) self.old self.new }
+        ensures fails { ImageFails S.view F.backing self.old self.new result MayFail }
+        ensures sound { BeginsIn S.view F.backing self.old self.new table offset length overwrite old.now result }
+        ensures begins { IfOk result (IsBegunIn self.old offset table (HasMemoryOf (vec_capacity room))) }
     {
         let old_data = self.named_by(old)?;
         let pending = self.new_cluster(offset, length, overwrite, old)?;
@@ -226,8 +141,8 @@ impl<S: Storage, F: WrappedFormat<S>> Qcow2<S, F> {
                 let host = pending.cluster().offset(bits).value();
                 let mut taken = ClustersToFreeList::new();
                 pending.hand_back(&mut taken);
-                let share = Share::New { taken, old_data };
-                Ok(self.prepare_at(table, offset, host, share, room))
+                let cluster_mapping = ClusterMapping::New { taken, old_data };
+                Ok(self.prepare_at(table, offset, host, cluster_mapping, room))
             }
             Err(refusal) => {
                 self.hand_back(pending);
@@ -239,18 +154,14 @@ impl<S: Storage, F: WrappedFormat<S>> Qcow2<S, F> {
     // Loads a table into the cache.
     fn load_l2(&mut self, table: HostCluster) -> Result<(), ImageError>
         ensures step { ImageStepWhere S.view (0 < table) self.old self.new }
-        ensures fails { ImageFails S.view F.backing self.old self.new result IsMet }
-        ensures header { self.new.file.header ≡ self.old.file.header }
-        ensures met { (p : Pending) (out : List (Option Prepared)) → ImageInvariant S.view F.backing p self.old out
-            → HasPlace self.old.file.header.fields.cluster_bits table
-            → IfErr result (IsMetLooking (HasPinnedMapping out)) }
-        ensures allocator { self.new.allocator ≡ self.old.allocator }
-        ensures table { self.new.l1_table ≡ self.old.l1_table }
-        ensures list { self.new.file.free_list ≡ self.old.file.free_list }
-        ensures keeps { (p : Pending) (out : List (Option Prepared)) → ImageInvariant S.view F.backing p self.old out
-            → InternalStep S.view F.backing p p self.old self.new out }
-        ensures contents { (p : Pending) (out : List (Option Prepared)) → ImageInvariant S.view F.backing p self.old out
-            → SameHeld S.view F.backing p self.old self.new }
+        ensures fails { ImageFails S.view F.backing self.old self.new result MayFail }
+        ensures rest { self.new ≡ record self.old {
+          file = record self.old.file {
+            storage = self.new.file.storage;
+            caches = self.new.file.caches;
+          };
+        } }
+        ensures sound { LoadsTable S.view F.backing self.old self.new table result }
         ensures cached { OnOk result (IsSome (l2_at self.new.file.caches table)) }
     {
         self.file
@@ -264,18 +175,17 @@ impl<S: Storage, F: WrappedFormat<S>> Qcow2<S, F> {
         table: HostCluster,
         offset: u64,
         host: u64,
-        share: Share,
-        room: Vec<Share>,
+        cluster_mapping: ClusterMapping,
+        room: Vec<ClusterMapping>,
     ) -> Prepared
         requires near { host < 2 ^ 63 }
-        requires empty { room.items ≡ [] }
-        requires room { 0 < vec_capacity room }
+        requires room { HasRoomForOne room }
         ensures stays { ImageStays self.old self.new }
         ensures pins { Pins table self.old self.new }
         ensures own { image_of result ≡ number_of self.old }
         ensures some { 0 < length_of result }
-        ensures share { result.shares.items ≡ share ∷ [] }
-        ensures room { vec_capacity result.shares ≡ vec_capacity room }
+        ensures cluster_mapping { result.clusters.items ≡ cluster_mapping ∷ [] }
+        ensures room { vec_capacity result.clusters ≡ vec_capacity room }
         ensures value { result ≡ record result {
           image = self.old.number;
           guest = offset;
@@ -295,7 +205,7 @@ impl<S: Storage, F: WrappedFormat<S>> Qcow2<S, F> {
             offset: host + guest.in_cluster_offset(bits),
             length: guest.remaining_in_cluster(bits),
             table: Some(table),
-            shares: of_one(share, room),
+            clusters: of_one(cluster_mapping, room),
         }
     }
 
@@ -310,21 +220,11 @@ impl<S: Storage, F: WrappedFormat<S>> Qcow2<S, F> {
     ) -> Result<PendingClusters, ImageError>
         requires writable { IsTrue (is_writable self.old) }
         requires reach { IsInReach old.now }
-        ensures step { ImageStep S.view self.old self.new }
-        ensures fails { ImageFails S.view F.backing self.old self.new result IsMet }
+        ensures step { AllocatingStep S.view self.old self.new }
+        ensures fails { ImageFails S.view F.backing self.old self.new result MayFail }
         ensures nameable { IfOk result (λ p. IsHostCluster self.old.file.header.fields.cluster_bits p.first_cluster) }
         ensures elsewhere { IfOk result (λ p. 0 < p.first_cluster) }
-        ensures header { KeepsHeader self.old.file.header self.new.file.header }
-        ensures met { (p : Pending) (out : List (Option Prepared)) → ImageInvariant S.view F.backing p self.old out
-            → HoldsAll S.view F.backing p out
-            → IfErr result (MayFailAlone
-            (IsCopiedCompressed self.old.file.header.fields old.now offset length overwrite)
-            ⊥) }
-        ensures limit { (p : Pending) (out : List (Option Prepared)) → ImageInvariant S.view F.backing p self.old out
-            → HoldsAll S.view F.backing p out → IfLimit result (IsLimitedTaking S.view F.backing p 1 self.old out) }
-        ensures gains { (p : Pending) (out : List (Option Prepared)) → ImageInvariant S.view F.backing p self.old out
-            → HoldsAll S.view F.backing p out
-            → Gains S.view F.backing p self.old self.new out offset length overwrite old.now result }
+        ensures sound { GainsCluster S.view F.backing self.old self.new offset length overwrite old.now result }
     {
         let pending = self.allocate_data_cluster()?;
         match self.fill_cluster(pending.cluster(), offset, length, overwrite, old) {
@@ -339,18 +239,12 @@ impl<S: Storage, F: WrappedFormat<S>> Qcow2<S, F> {
     // Allocates a cluster for data.
     fn allocate_data_cluster(&mut self) -> Result<PendingClusters, ImageError>
         requires writable { IsTrue (is_writable self.old) }
-        ensures step { ImageStep S.view self.old self.new }
-        ensures fails { ImageFails S.view F.backing self.old self.new result IsMet }
+        ensures step { AllocatingStep S.view self.old self.new }
+        ensures fails { ImageFails S.view F.backing self.old self.new result MayFail }
         ensures nameable { IfOk result (λ p. IsHostCluster self.old.file.header.fields.cluster_bits p.first_cluster) }
         ensures elsewhere { IfOk result (λ p. 0 < p.first_cluster) }
-        ensures header { KeepsHeader self.old.file.header self.new.file.header }
         ensures list { ListGrows self.old self.new }
-        ensures fault { (p : Pending) (out : List (Option Prepared)) → ImageInvariant S.view F.backing p self.old out
-            → IfErr result IsFaultOrLimit }
-        ensures limit { (p : Pending) (out : List (Option Prepared)) → ImageInvariant S.view F.backing p self.old out
-            → HoldsAll S.view F.backing p out → IfLimit result (IsLimitedTaking S.view F.backing p 1 self.old out) }
-        ensures takes { (p : Pending) (out : List (Option Prepared)) → ImageInvariant S.view F.backing p self.old out
-            → HoldsAll S.view F.backing p out → TakesData S.view F.backing p self.old self.new out result }
+        ensures sound { AllocatesOne S.view F.backing self.old self.new result }
     {
         let Some(allocator) = &mut self.allocator else {
             unreachable!();

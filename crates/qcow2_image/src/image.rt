@@ -19,9 +19,8 @@ const L2_TABLES: usize = 128;
 /// The number of refblocks that are cached.
 const REFBLOCKS: usize = 32;
 
-/// An open image with storage `S` and backing disk `F`. Offsets, lengths and sizes are in bytes. A call that is refused
-/// 15 (storage), or 14 (memory) after its first change, makes the image fail. From then on only `discard_data_mapping` and the
-/// getters work.
+/// An open image with storage `S` and backing disk `F`. Offsets, lengths and sizes are in bytes. A call that is refused 15 (storage), or 14
+/// (memory) after its first change, fails the image: from then on only `discard_data_mapping` and the getters work.
 #[derive(Drop)]
 pub struct Qcow2<S: Storage, F: WrappedFormat<S> = Box<dyn BackingDisk>> {
     pub(crate) number: u64,
@@ -69,13 +68,13 @@ fn lacks_another(missing: Missing, header: &Header) -> bool
     }
 }
 
-#[tactic(auto, using(crate::proofs::Call::MetErrors::tables_met, crate::proofs::Call::MetErrors::storage_met, crate::proofs::Call::MetErrors::metadata_met))]
+#[tactic(auto, using(crate::proofs::Call::FailingErrors::tables_met, crate::proofs::Call::FailingErrors::storage_met, crate::proofs::Call::FailingErrors::metadata_met))]
 impl<S: Storage, F: WrappedFormat<S>> Qcow2<S, F> {
     ghost use Rattle.std.specs.Prelude.{◌≡◌, ◌≤◌, [], IfOk, IfErr, OnOk, IsTrue, MatchOption, MatchResult, true, Ok, Err, Some, None, false, nat_le, option_map, if◌then◌else◌, List, Option};
     ghost use Rattle.std.specs.String.{string_bytes};
     ghost use Rattle.qcow2_metadata.specs.Header.{header, cluster_size};
     ghost use Rattle.qcow2_alloc.specs.declared.error.ImageError.TheVariants.{Failed};
-    ghost use Rattle.qcow2_alloc.specs.Faults.{FaultsTold};
+    ghost use Rattle.qcow2_alloc.specs.Faults.{FaultsReported};
     ghost use Rattle.qcow2_alloc.specs.LoadedTables.{IsReasonAgainstL1Table, IsReasonAgainstReftable, L1TableReads, ReftableReads};
     ghost use Rattle.qcow2_image.specs.Readable.{IsNewlyOpened, IsReasonAgainstTables, NeededTablesRead, OpeningStep};
     ghost use Rattle.qcow2_image.specs.Faults.{CountsImageFaults, SameFaults};
@@ -87,11 +86,12 @@ impl<S: Storage, F: WrappedFormat<S>> Qcow2<S, F> {
     ghost use Rattle.qcow2_image.specs.CallParts.{EndsFreeing};
     ghost use Rattle.qcow2_alloc.specs.ImageError.{IsFault, IsOfTables};
     ghost use Rattle.qcow2_image.specs.Calls.{FlushesImage};
+    ghost use Rattle.qcow2_image.specs.SizeSteps.{FlushFails};
     ghost use Rattle.qcow2_alloc.specs.ImageFile.{contents_in, known_in, view_in};
     ghost use Rattle.qcow2_image.specs.InternalSteps.{InternalStep, FreesListed};
     ghost use Rattle.qcow2_alloc.specs.FreeList.{with_listed};
     ghost use Rattle.qcow2_alloc.specs.ImageStorage.{storage_of, SameNotes};
-    ghost use Rattle.qcow2_image.specs.Refusals.{unusable, IsMet, MarksFailed, MarksRefused};
+    ghost use Rattle.qcow2_image.specs.Refusals.{unusable, MayFail, MarksFailed, MarksRefused};
     ghost use Rattle.image_access.specs.Moments.{ContentsStay, EachMomentSince, IsLeftBy};
     ghost use Rattle.qcow2_metadata.specs.Bytes.{byte_at};
     ghost use Rattle.qcow2_metadata.specs.Consistent.{IsConsistent};
@@ -100,16 +100,16 @@ impl<S: Storage, F: WrappedFormat<S>> Qcow2<S, F> {
     ghost use Rattle.qcow2_image.specs.Created.{begins_image};
     ghost use Rattle.qcow2_image.specs.Growing.{SameFormat, WritesBack};
     ghost use Rattle.qcow2_image.specs.Unwritten.{ReadsQuietly};
-    ghost use Rattle.qcow2_image.specs.Opened.{IsFresh, StaysFresh, IsLoaded, IsKeptSince, SameNames, LeavesFile, Opens};
+    ghost use Rattle.qcow2_image.specs.Opened.{IsFresh, StaysFresh, IsLoaded, IsKeptSince, LoadingStep, SameNames, Opens};
     ghost use Rattle.std.specs.Option.{is_some};
 
-    /// Whether a storage begins like an image of version 2 or 3. Refused 14 (memory) and 15 (storage), as the storage
-    /// refuses.
+    /// Whether a storage begins like an image of version 2 or 3. Refused 14 (memory) or 15 (storage) if the storage refuses.
     pub fn probe(storage: &mut S) -> Result<bool, ImageError>
-        ensures answer { (S.view storage.old).is_honest → IfOk result (λ found. found ≡ begins_image (byte_at (S.view storage.old).contents)) }
+        ensures answer { (S.view storage.old).is_honest
+            → IfOk result (λ found. found ≡ begins_image (byte_at (S.view storage.old).contents)) }
         ensures same { ContentsStay (S.view storage.old) (S.view storage.new) }
         ensures honest { (S.view storage.old).is_honest → (S.view storage.new).is_honest }
-        ensures faults { FaultsTold (S.view storage.old).faults (S.view storage.new).faults result }
+        ensures faults { FaultsReported (S.view storage.old).faults (S.view storage.new).faults result }
         ensures time { EachMomentSince (S.view storage.old) (S.view storage.new) (IsLeftBy (S.view storage.new)) }
         ensures cause { IfErr result IsFault }
     {
@@ -123,7 +123,7 @@ impl<S: Storage, F: WrappedFormat<S>> Qcow2<S, F> {
     /// Opens an image, whether or not it needs other files. A refusal returns the storage. Images that are
     /// open together must have different numbers.
     /// Refused for the header 19 (metadata), 13 (limit), 4 (unaligned table), in this order; then for the L1 table 19; and for writing, for the
-    /// reftable 13 if it would end past 64 bits, and 19. Refused 14 (memory) and 15 (storage) if the work meets them.
+    /// reftable 13 if it would end past 64 bits, and 19. May be refused 14 (memory) or 15 (storage) during the work.
     pub fn open_image(
         alloc: Global,
         metadata: S,
@@ -147,7 +147,7 @@ impl<S: Storage, F: WrappedFormat<S>> Qcow2<S, F> {
     /// Opens an image that needs no other file. One that needs a data file, or names a backing file, is refused
     /// 12 (dependency), and its bytes stay the same.
     /// Otherwise it is refused as `open_image` is: for the header 19 (metadata), 13 (limit), 4 (unaligned table), before 12; then
-    /// 19 for its tables, and 13 for the reftable. Refused 14 (memory) and 15 (storage) if the work meets them.
+    /// 19 for its tables, and 13 for the reftable. May be refused 14 (memory) or 15 (storage) during the work.
     pub fn open_alone(
         alloc: Global,
         metadata: S,
@@ -180,7 +180,8 @@ impl<S: Storage, F: WrappedFormat<S>> Qcow2<S, F> {
         ensures image { IfOk result (IsNewlyOpened (S.view (storage_of storage)) writable number) }
         ensures opens { IfOk result (Opens S.view F.backing (S.view (storage_of storage))) }
         ensures below { IfOk result (λ image. is_some image.backing ≡ false) }
-        ensures list { (S.view (storage_of storage)).is_honest → IsConsistent (byte_at (S.view (storage_of storage)).contents) → IfOk result HasNothingToFree }
+        ensures list { (S.view (storage_of storage)).is_honest
+            → IsConsistent (byte_at (S.view (storage_of storage)).contents) → IfOk result HasNothingToFree }
     {
         let header = match Header::load(alloc, &mut storage, writable) {
             Ok(header) => header,
@@ -222,16 +223,18 @@ impl<S: Storage, F: WrappedFormat<S>> Qcow2<S, F> {
     pub(crate) fn load_l1_table(file: &mut ImageFile<S>) -> Result<L1Table, ImageError>
         ensures rest { file.new ≡ record file.old { storage = file.new.storage } }
         ensures honest { (view_in S.view file.old).is_honest → (view_in S.view file.new).is_honest }
-        ensures faults { FaultsTold (view_in S.view file.old).faults (view_in S.view file.new).faults result }
+        ensures faults { FaultsReported (view_in S.view file.old).faults (view_in S.view file.new).faults result }
         ensures same { ContentsStay (view_in S.view file.old) (view_in S.view file.new) }
-        ensures time { EachMomentSince (view_in S.view file.old) (view_in S.view file.new) (IsLeftBy (view_in S.view file.new)) }
+        ensures time { EachMomentSince (view_in S.view file.old) (view_in S.view file.new)
+            (IsLeftBy (view_in S.view file.new)) }
         ensures table { (view_in S.view file.old).is_honest → IfOk result (HasL1Table S.view F.backing file.new) }
-        ensures cause { IfErr result IsMet }
+        ensures cause { IfErr result MayFail }
         ensures why { (view_in S.view file.old).is_honest
             → MatchResult result (λ table. L1TableReads file.old.header.fields (contents_in S.view file.old))
             (IsReasonAgainstL1Table file.old.header.fields (contents_in S.view file.old)) }
-        ensures unnoted { SameNotes file.old.storage file.new.storage }
-        ensures header_cluster { NamesTablesBehind file.old.header.fields → IfOk result (IsL1TableBehind file.old.header.fields.cluster_bits) }
+        ensures unrecorded { SameNotes file.old.storage file.new.storage }
+        ensures header_cluster { NamesTablesBehind file.old.header.fields
+            → IfOk result (IsL1TableBehind file.old.header.fields.cluster_bits) }
     {
         let bits = file.header.cluster_bits();
         let Some(cluster) = file.header.l1_table_offset().checked_cluster(bits) else {
@@ -251,14 +254,13 @@ impl<S: Storage, F: WrappedFormat<S>> Qcow2<S, F> {
     fn load_allocator(file: &mut ImageFile<S>) -> Result<Allocator, ImageError>
         ensures format { OnOk result (SameFormat file.old.header.fields file.new.header.fields) }
         ensures names { OnOk result (SameNames file.old.header file.new.header) }
-        ensures storage { LeavesFile S.view true file.old file.new result }
-        ensures faults { FaultsTold (view_in S.view file.old).faults (view_in S.view file.new).faults result }
-        ensures caches { file.new.caches ≡ file.old.caches }
-        ensures since { (p : Pending) → IsFresh S.view F.backing p file.old → IsKeptSince (view_in S.view file.old) (view_in S.view file.new) }
-        ensures loaded { (p : Pending) → IsFresh S.view F.backing p file.old
-            → IfOk result (λ allocator. StaysFresh S.view F.backing p file.old file.new
+        ensures step { LoadingStep S.view true file.old file.new result }
+        ensures faults { FaultsReported (view_in S.view file.old).faults (view_in S.view file.new).faults result }
+        ensures sound { (p : Pending) → IsFresh S.view F.backing p file.old
+            → IsKeptSince (view_in S.view file.old) (view_in S.view file.new)
+            × IfOk result (λ allocator. StaysFresh S.view F.backing p file.old file.new
             × IsAllocatorOf S.view file.new allocator) }
-        ensures cause { IfErr result IsMet }
+        ensures cause { IfErr result MayFail }
         ensures why { (view_in S.view file.old).is_honest
             → MatchResult result (λ allocator. ReftableReads file.old.header.fields (contents_in S.view file.old))
             (IsReasonAgainstReftable file.old.header.fields (contents_in S.view file.old)) }
@@ -278,15 +280,14 @@ impl<S: Storage, F: WrappedFormat<S>> Qcow2<S, F> {
     // 0.
     fn load_tables(file: &mut ImageFile<S>, writable: bool) -> Result<Tables, ImageError>
         ensures allocator { IfOk result (λ tables. is_some tables.allocator ≡ writable) }
-        ensures storage { LeavesFile S.view writable file.old file.new result }
+        ensures step { LoadingStep S.view writable file.old file.new result }
         ensures format { OnOk result (SameFormat file.old.header.fields file.new.header.fields) }
         ensures names { OnOk result (SameNames file.old.header file.new.header) }
-        ensures faults { FaultsTold (view_in S.view file.old).faults (view_in S.view file.new).faults result }
-        ensures caches { file.new.caches ≡ file.old.caches }
-        ensures since { (p : Pending) → IsFresh S.view F.backing p file.old → IsKeptSince (view_in S.view file.old) (view_in S.view file.new) }
-        ensures loaded { (p : Pending) → IsFresh S.view F.backing p file.old
-            → IfOk result (λ tables. IsLoaded S.view F.backing p file.new tables.l1_table tables.allocator) }
-        ensures cause { IfErr result IsMet }
+        ensures faults { FaultsReported (view_in S.view file.old).faults (view_in S.view file.new).faults result }
+        ensures sound { (p : Pending) → IsFresh S.view F.backing p file.old
+            → IsKeptSince (view_in S.view file.old) (view_in S.view file.new)
+            × IfOk result (λ tables. IsLoaded S.view F.backing p file.new tables.l1_table tables.allocator) }
+        ensures cause { IfErr result MayFail }
         ensures why { (view_in S.view file.old).is_honest
             → MatchResult result (λ tables. NeededTablesRead file.old.header.fields
             (contents_in S.view file.old) writable)
@@ -368,7 +369,8 @@ impl<S: Storage, F: WrappedFormat<S>> Qcow2<S, F> {
 
     /// The smallest number of bytes that can be zeroed: a cluster, from version 3 on.
     pub fn zero_granularity(&self) -> Option<u64>
-        ensures { result ≡ (if nat_le 3 self.now.file.header.fields.version then Some (cluster_size self.now.file.header.fields) else None) }
+        ensures { result ≡ (if nat_le 3 self.now.file.header.fields.version
+            then Some (cluster_size self.now.file.header.fields) else None) }
     {
         if self.file.header.version() >= 3 {
             Some(self.file.header.cluster_size())
@@ -415,13 +417,12 @@ impl<S: Storage, F: WrappedFormat<S>> Qcow2<S, F> {
         }
     }
 
-    /// Frees the clusters that wait to be freed, writes the cached tables, and flushes the storage. Refused 16 (failed), and 14 (memory)
-    /// and 15 (storage) if the work meets them.
+    /// Frees the clusters that wait to be freed, writes the cached tables, and flushes the storage. Refused 16 (failed), and 14 (memory) or 15
+    /// (storage) during the work.
     pub fn flush(&mut self) -> Result<(), ImageError>
         ensures step { CallStep S.view F.backing self.old self.new result }
         ensures early { IsTrue (is_failed self.old) → (result ≡ Err Failed) × (self.new ≡ self.old) }
-        ensures late { is_failed self.old ≡ false → IfErr result IsOfTables }
-        ensures fault { (out : List (Option Prepared)) → (abstract_of S.view F.backing self.old out).is_sound → IfErr result IsFault }
+        ensures fails { FlushFails S.view F.backing self.old result }
         ensures header { KeepsWholeHeader self.old self.new }
         ensures sees { FlushesImage S.view F.backing self.old self.new result }
         ensures emptied { IsTrue (is_writable self.old) → OnOk result (HasNothingToFree self.new) }
@@ -433,12 +434,12 @@ impl<S: Storage, F: WrappedFormat<S>> Qcow2<S, F> {
         if self.is_failed {
             return Err(ImageError::Failed);
         }
-        self.begin();
+        self.begin_call();
         let done = self.write_back();
         self.mark_failure(done)
     }
 
-    #[tactic(auto, using(crate::proofs::Call::MetErrors::storage_of_tables))]
+    #[tactic(auto, using(crate::proofs::Call::FailingErrors::storage_of_tables))]
     fn write_back(&mut self) -> Result<(), ImageError>
         ensures step { ImageStep S.view self.old self.new }
         ensures fails { ImageFails S.view F.backing self.old self.new result IsOfTables }
@@ -472,7 +473,6 @@ impl<S: Storage, F: WrappedFormat<S>> Qcow2<S, F> {
         ensures faults { (p : Pending) (out : List (Option Prepared))
             → ImageInvariant S.view F.backing (with_listed p self.old.file.free_list) self.old out
             → IfErr result IsFault }
-        ensures noted { IsTrue self.old.file.caches.is_changed → IsTrue self.new.file.caches.is_changed }
         ensures idle { HasNothingToFree self.old → (result ≡ Ok tt) × (self.new ≡ self.old) }
         ensures untouched { is_writable self.old ≡ false → self.new ≡ self.old }
         ensures counts { CountsImageFaults S.view F.backing self.old self.new result }
@@ -494,7 +494,8 @@ impl<S: Storage, F: WrappedFormat<S>> Qcow2<S, F> {
         ensures header_cluster { PreservesHeaderCluster S.view self.old self.new }
         ensures marks { MarksFailed self.old self.new result }
         ensures emptied { IsTrue (is_writable self.old) → OnOk result (HasNothingToFree self.new) }
-        ensures frees { (out : List (Option Prepared)) → ImageInvariant S.view F.backing (pending_in S.view F.backing self.old out) self.old out
+        ensures frees { (out : List (Option Prepared))
+            → ImageInvariant S.view F.backing (pending_in S.view F.backing self.old out) self.old out
             → EndsFreeing S.view F.backing self.old self.new out result }
         ensures idle { self.old.file.free_list ≡ [] → (result ≡ Ok tt) × (self.new ≡ self.old) }
         ensures table { self.new.l1_table ≡ self.old.l1_table }
@@ -504,9 +505,9 @@ impl<S: Storage, F: WrappedFormat<S>> Qcow2<S, F> {
         self.mark_failure(freed)
     }
 
-    // Starts to record anew whether anything changes.
-    pub(crate) fn begin(&mut self)
-        ensures unnoted { has_noted_change self.new ≡ false }
+    // Begins a call: no change is recorded yet.
+    pub(crate) fn begin_call(&mut self)
+        ensures unrecorded { has_noted_change self.new ≡ false }
         ensures stays { ImageStays self.old self.new }
         ensures list { self.new.file.free_list ≡ self.old.file.free_list }
         ensures faults { SameFaults S.view F.backing self.old self.new }
@@ -523,8 +524,8 @@ impl<S: Storage, F: WrappedFormat<S>> Qcow2<S, F> {
         } }
         ensures begun { IsBegun self.old self.new }
     {
-        self.file.storage.begin();
-        self.file.caches.begin();
+        self.file.storage.begin_call();
+        self.file.caches.begin_call();
     }
 
     // Refuses calls on guest data: after an earlier failure, or if the data file is missing.
@@ -541,7 +542,7 @@ impl<S: Storage, F: WrappedFormat<S>> Qcow2<S, F> {
     }
 
     // Marks the image as failed after an I/O error, or if memory ran out after the call's first change.
-    pub(crate) fn note(&mut self, refusal: &ImageError)
+    pub(crate) fn mark_if_failed(&mut self, refusal: &ImageError)
         ensures image { IsSameImage self.old self.new }
         ensures marks { MarksRefused self.old self.new refusal.now }
         ensures rest { self.new ≡ record self.old { is_failed = is_failed self.new } }
@@ -564,7 +565,7 @@ impl<S: Storage, F: WrappedFormat<S>> Qcow2<S, F> {
         ensures rest { self.new ≡ record self.old { is_failed = is_failed self.new } }
     {
         if let Err(refusal) = &done {
-            self.note(refusal);
+            self.mark_if_failed(refusal);
         }
         done
     }

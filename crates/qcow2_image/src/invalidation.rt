@@ -1,4 +1,4 @@
-//! Dropping what an image keeps of its file, and reading its tables anew.
+//! Dropping everything cached of a file, and reading the tables again.
 ghost use Rattle.std.specs.Prelude.{◌≡◌, ◌↔◌, ◌<◌, ◌≤◌, ◌*◌, IfErr, IfOk, IfSome, IsTrue, List, []};
 ghost use Rattle.std.specs.Prelude.{OnErr, OnOk, Option};
 ghost use Rattle.qcow2_alloc.specs.ImageError.{IsOfTables};
@@ -9,13 +9,13 @@ ghost use Rattle.qcow2_image.specs.Image.{is_writable, HasNothingToFree};
 ghost use Rattle.qcow2_image.specs.ImageInvariant.{HasL1Table, ImageInvariant};
 ghost use Rattle.qcow2_image.specs.ImageSteps.{ImageFails, ImageStep};
 ghost use Rattle.qcow2_image.specs.Invalidated.{ArePlacesFor, DropsCached, RespectsPrepared, HoldsNoTable, IsAsStored};
-ghost use Rattle.qcow2_image.specs.Invalidated.{IsAtRest, KeepsTables, TakesTables};
+ghost use Rattle.qcow2_image.specs.Invalidated.{IsAtRest, KeepsTables, ReplacesTables};
 ghost use Rattle.qcow2_image.specs.Invalidated.{IsReasonAgainstPlaces, IsReasonAgainstReading};
 ghost use Rattle.qcow2_image.specs.Invalidated.{ReadsPlaces, ReadsTables};
 ghost use Rattle.qcow2_image.specs.Invalidated.{InvalidatesSoundly, InvalidatingFails, InvalidatingStep};
 ghost use Rattle.qcow2_image.specs.Invalidated.{ReadsAnew};
 ghost use Rattle.qcow2_image.specs.Readable.{IsReasonAgainstTables};
-ghost use Rattle.qcow2_image.specs.Refusals.{IsMet};
+ghost use Rattle.qcow2_image.specs.Refusals.{MayFail};
 ghost use Rattle.qcow2_image.specs.InternalSteps.{InternalStep};
 ghost use Rattle.qcow2_image.specs.declared.prepared.Prepared.{Prepared};
 
@@ -33,7 +33,7 @@ fn is_too_long(header: &Header, other: &Header) -> bool
 }
 
 // Takes the pointers to the L1 table and the reftable from another header, whose reftable is within the limit.
-fn take_places(header: &mut Header, other: &Header)
+fn copy_table_pointers(header: &mut Header, other: &Header)
     requires { other.now.fields.reftable_clusters * entries_per_cluster header.old.fields ≤ 1048576 }
     ensures { header.new ≡ with_fields header.old (with_tables_of header.old.fields other.now.fields) }
 {
@@ -43,7 +43,7 @@ fn take_places(header: &mut Header, other: &Header)
     }
 }
 
-#[tactic(auto, using(crate::proofs::Call::MetErrors::tables_met, crate::proofs::Call::MetErrors::storage_met, crate::proofs::Call::MetErrors::metadata_met))]
+#[tactic(auto, using(crate::proofs::Call::FailingErrors::tables_met, crate::proofs::Call::FailingErrors::storage_met, crate::proofs::Call::FailingErrors::metadata_met))]
 impl<S: Storage, F: WrappedFormat<S>> Qcow2<S, F> {
     /// Drops everything that is cached, unwritten, and reads the pointers to the tables, the L1 table and the reftable again:
     /// for an image that another program wrote to. Call `flush` before, with no mapping prepared: everything that is not flushed is
@@ -51,7 +51,7 @@ impl<S: Storage, F: WrappedFormat<S>> Qcow2<S, F> {
     /// and the reftable in memory are unchanged.
     /// Refused 16 (failed); then 21 (still in use) while a mapping is prepared that isn't existing. By then the list of clusters to
     /// free is empty, and only the L2 tables of such mappings are left. Then 19 (metadata), 13 (limit) and
-    /// 4 (unaligned table) for what is read. Refused 14 (memory) and 15 (storage) if the work meets them.
+    /// 4 (unaligned table) for what is read. May be refused 14 (memory) or 15 (storage) during the work.
     pub fn invalidate_cache(&mut self) -> Result<(), ImageError>
         ensures step { InvalidatingStep S.view F.backing self.old self.new result }
         ensures fails { InvalidatingFails S.view F.backing self.old self.new result }
@@ -60,14 +60,14 @@ impl<S: Storage, F: WrappedFormat<S>> Qcow2<S, F> {
         if self.is_failed {
             return Err(ImageError::Failed);
         }
-        self.begin();
+        self.begin_call();
         let done = self.drop_and_read();
         self.mark_failure(done)
     }
 
     fn drop_and_read(&mut self) -> Result<(), ImageError>
         ensures step { ReadsAnew S.view self.old self.new }
-        ensures fails { ImageFails S.view F.backing self.old self.new result IsMet }
+        ensures fails { ImageFails S.view F.backing self.old self.new result MayFail }
         ensures prepared { RespectsPrepared self.old result }
         ensures kept { OnErr result (KeepsTables self.old self.new) }
         ensures why { (view_in S.view self.old.file).is_honest
@@ -80,7 +80,7 @@ impl<S: Storage, F: WrappedFormat<S>> Qcow2<S, F> {
     {
         self.drop_cached()?;
         let places = self.read_places()?;
-        self.take_over(places)
+        self.replace_tables(places)
     }
 
     // Empties the list of clusters to free, and drops the L2 tables, then the refblocks.
@@ -122,15 +122,15 @@ impl<S: Storage, F: WrappedFormat<S>> Qcow2<S, F> {
             return Err(ImageError::Limit);
         }
         let mut places = self.file.header.without_names();
-        take_places(&mut places, &header);
+        copy_table_pointers(&mut places, &header);
         Ok(places)
     }
 
     // Reads the L1 table and the reftable at these pointers. Replaces the tables and pointers in memory by them, or none if it is refused.
-    fn take_over(&mut self, places: Header) -> Result<(), ImageError>
+    fn replace_tables(&mut self, places: Header) -> Result<(), ImageError>
         requires { ArePlacesFor self.old places }
-        ensures step { TakesTables S.view self.old self.new }
-        ensures fails { ImageFails S.view F.backing self.old self.new result IsMet }
+        ensures step { ReplacesTables S.view self.old self.new }
+        ensures fails { ImageFails S.view F.backing self.old self.new result MayFail }
         ensures kept { OnErr result (KeepsTables self.old self.new) }
         ensures taken { OnOk result (self.new.file.header.fields ≡ places.fields) }
         ensures read { (view_in S.view self.old.file).is_honest
@@ -146,7 +146,7 @@ impl<S: Storage, F: WrappedFormat<S>> Qcow2<S, F> {
         let read = self.read_tables();
         let places = mem::replace(&mut self.file.header, named);
         read?;
-        take_places(&mut self.file.header, &places);
+        copy_table_pointers(&mut self.file.header, &places);
         Ok(())
     }
 
@@ -154,7 +154,7 @@ impl<S: Storage, F: WrappedFormat<S>> Qcow2<S, F> {
     // to are not allocated then, even if their refcounts are 0.
     fn read_tables(&mut self) -> Result<(), ImageError>
         ensures step { ReadsTables S.view self.old self.new }
-        ensures fails { ImageFails S.view F.backing self.old self.new result IsMet }
+        ensures fails { ImageFails S.view F.backing self.old self.new result MayFail }
         ensures refused { OnErr result ((self.new.l1_table ≡ self.old.l1_table)
             × (self.new.allocator ≡ self.old.allocator)) }
         ensures read { (view_in S.view self.old.file).is_honest

@@ -1,8 +1,9 @@
 //! Replacing the L1 table by a longer one.
-ghost use Rattle.qcow2_image.specs.Limits.{IfLimit, IsLimitedInternal, entries_reaching};
+ghost use Rattle.qcow2_image.specs.Limits.{IfLimit, IsLimitedInternal};
 ghost use Rattle.qcow2_image.specs.L1Entries.{EndsBefore, IsPlacedNear};
 ghost use Rattle.qcow2_image.specs.SoundParts.{EntrySoundly};
-ghost use Rattle.qcow2_image.specs.ImageSteps.{ImageFails, ImageStep};
+ghost use Rattle.qcow2_image.specs.SizeSteps.{EntersTable};
+ghost use Rattle.qcow2_image.specs.ImageSteps.{ImageFails, ImageStep, ImageStepWhere};
 ghost use Rattle.qcow2_image.specs.BehindHeader.{KeepsL1TableBehind, PreservesHeaderCluster};
 ghost use Rattle.qcow2_alloc.specs.ImageError.{IsFault};
 ghost use Rattle.qcow2_alloc.specs.KeptMarks.{KeepsFileNotes};
@@ -13,13 +14,13 @@ ghost use Rattle.qcow2_metadata.specs.L2Mapping.{IsHostCluster};
 ghost use Rattle.qcow2_laws.specs.CrashInvariant.{Pending};
 ghost use Rattle.qcow2_image.specs.declared.prepared.Prepared.{Prepared};
 ghost use Rattle.qcow2_image.specs.Found.{l1_index_of};
-ghost use Rattle.qcow2_image.specs.Image.{HasNothingToFree, ImageStays, is_writable};
+ghost use Rattle.qcow2_image.specs.Image.{HasNothingToFree, is_writable};
 ghost use Rattle.qcow2_image.specs.ImageInvariant.{ImageInvariant, pending_in};
 ghost use Rattle.qcow2_image.specs.LongerTables.{run_of_table, listed, with_table, IsLongerL1, StandsWhole};
-ghost use Rattle.qcow2_image.specs.LongerTables.{PlacesTable, NamesTable, NamesTaken, TakesTable, Lengthens};
+ghost use Rattle.qcow2_image.specs.LongerTables.{PlacesTable, NamesTable, NamesTaken, Lengthens};
 ghost use Rattle.qcow2_image.specs.LongerTables.{MakesEntry};
 ghost use Rattle.qcow2_alloc.specs.declared.error.ImageError.TheVariants.{Limit};
-ghost use Rattle.qcow2_image.specs.Refusals.{IsFaultOrLimit, IsMet};
+ghost use Rattle.qcow2_image.specs.Refusals.{IsFaultOrLimit, MayFail};
 ghost use Rattle.qcow2_image.specs.InternalSteps.{ListGrows};
 ghost use Rattle.qcow2_image.specs.Faults.{CountsImageFaults, IsNotOfStorage};
 
@@ -30,14 +31,14 @@ use qcow2_alloc::{
 };
 use qcow2_metadata::{GuestOffset, HostCluster, L1Table, MAX_L1_ENTRIES};
 
-#[tactic(auto, using(crate::proofs::Call::MetErrors::tables_met, crate::proofs::Call::MetErrors::storage_met, crate::proofs::Call::MetErrors::metadata_met))]
+#[tactic(auto, using(crate::proofs::Call::FailingErrors::tables_met, crate::proofs::Call::FailingErrors::storage_met, crate::proofs::Call::FailingErrors::metadata_met))]
 impl<S: Storage, F: WrappedFormat<S>> Qcow2<S, F> {
     // Makes sure that there is an L1 entry for an offset. An L1 table that is too short is replaced by a longer one, and
     // then the clusters on the list are freed.
     pub(crate) fn ensure_l1_entry(&mut self, offset: u64) -> Result<(), ImageError>
         requires writable { IsTrue (is_writable self.old) }
         ensures step { ImageStep S.view self.old self.new }
-        ensures fails { ImageFails S.view F.backing self.old self.new result IsMet }
+        ensures fails { ImageFails S.view F.backing self.old self.new result MayFail }
         ensures sound { (out : List (Option Prepared))
             → ImageInvariant S.view F.backing (pending_in S.view F.backing self.old out) self.old out
             → EntrySoundly S.view F.backing offset self.old self.new out result
@@ -47,7 +48,8 @@ impl<S: Storage, F: WrappedFormat<S>> Qcow2<S, F> {
         ensures placed { EndsBefore offset self.old
             → self.old.l1_table.cluster_bits ≡ self.old.file.header.fields.cluster_bits
             → OnOk result (IsPlacedNear self.new.l1_table) }
-        ensures none { l1_index_of self.old.file.header.fields offset < entry_count self.old.l1_table → self.new ≡ self.old }
+        ensures none { l1_index_of self.old.file.header.fields offset < entry_count self.old.l1_table
+            → self.new ≡ self.old }
         ensures emptied { entry_count self.old.l1_table ≤ l1_index_of self.old.file.header.fields offset
             → OnOk result (HasNothingToFree self.new) }
     {
@@ -62,8 +64,8 @@ impl<S: Storage, F: WrappedFormat<S>> Qcow2<S, F> {
     // Replaces the L1 table by one that has an entry of this index, and all old entries. The clusters of the old one wait to be freed.
     pub(crate) fn grow_l1_table(&mut self, index: usize) -> Result<(), ImageError>
         ensures step { ImageStep S.view self.old self.new }
-        ensures noted { OnOk result (IsTrue self.new.file.caches.is_changed) }
-        ensures cause { IsTrue (is_writable self.old) → IfErr result IsMet }
+        ensures recorded { OnOk result (IsTrue self.new.file.caches.is_changed) }
+        ensures cause { IsTrue (is_writable self.old) → IfErr result MayFail }
         ensures limit { (p : Pending) (out : List (Option Prepared)) → ImageInvariant S.view F.backing p self.old out
             → (offset : ℕ) → index ≡ l1_index_of self.old.file.header.fields offset
             → IfLimit result (IsLimitedInternal S.view F.backing p (offset + 1) self.old out) }
@@ -96,9 +98,9 @@ impl<S: Storage, F: WrappedFormat<S>> Qcow2<S, F> {
         }
     }
 
-    // Memory on the list of clusters to free for those of the L1 table.
+    // Memory for an entry of the list of clusters to free, with the clusters of the L1 table.
     fn former_l1_table(&self) -> Result<Option<PendingClusters>, ImageError>
-        ensures cause { IfErr result IsMet }
+        ensures cause { IfErr result MayFail }
         ensures fault { IfErr result IsFault }
         ensures run { IfOk result (λ former. former ≡ run_of_table self.now.l1_table self.now.l1_table.cluster) }
         ensures faults { IfErr result IsNotOfStorage }
@@ -113,19 +115,11 @@ impl<S: Storage, F: WrappedFormat<S>> Qcow2<S, F> {
 
     // Allocates clusters for an L1 table, writes it there, and then the pointer to it.
     fn enter_l1_table(&mut self, table: L1Table) -> Result<(), ImageError>
-        ensures stays { ImageStays self.old self.new }
-        ensures notes { KeepsFileNotes S.view self.old.file self.new.file }
-        ensures noted { OnOk result (IsTrue self.new.file.caches.is_changed) }
-        ensures header_cluster { table.cluster_bits ≡ self.old.l1_table.cluster_bits → PreservesHeaderCluster S.view self.old self.new }
-        ensures cause { IsTrue (is_writable self.old) → IfErr result IsMet }
-        ensures limit { (p : Pending) (out : List (Option Prepared)) → ImageInvariant S.view F.backing p self.old out
-            → IsLongerL1 self.old table → (offset : ℕ) → entry_count table ≡ entries_reaching offset self.old
-            → IfLimit result (IsLimitedInternal S.view F.backing p (offset + 1) self.old out) }
-        ensures fault { IsTrue (is_writable self.old) → (p : Pending) (out : List (Option Prepared))
-            → ImageInvariant S.view F.backing p self.old out → IsLongerL1 self.old table → 0 < entry_count table
-            → IfErr result IsFaultOrLimit }
-        ensures takes { (p : Pending) (out : List (Option Prepared)) → ImageInvariant S.view F.backing p self.old out
-            → IsLongerL1 self.old table → TakesTable S.view F.backing p self.old self.new out result }
+        ensures recorded { OnOk result (IsTrue self.new.file.caches.is_changed) }
+        ensures step { ImageStepWhere S.view (table.cluster_bits ≡ self.old.l1_table.cluster_bits) self.old self.new }
+        ensures cause { IsTrue (is_writable self.old) → IfErr result MayFail }
+        ensures sound { (p : Pending) (out : List (Option Prepared)) → ImageInvariant S.view F.backing p self.old out
+            → IsLongerL1 self.old table → EntersTable S.view F.backing p table self.old self.new out result }
         ensures entries { OnOk result (entry_count self.new.l1_table ≡ entry_count table) }
         ensures placed { entry_count table ≤ 4194304 → table.cluster_bits ≡ self.old.file.header.fields.cluster_bits
             → OnOk result (IsPlacedNear self.new.l1_table) }
@@ -136,17 +130,19 @@ impl<S: Storage, F: WrappedFormat<S>> Qcow2<S, F> {
             return Err(ImageError::ReadOnly);
         };
         let pending = allocator.allocate_meta(&mut self.file, table.cluster_count())?;
-        self.write_taken(table, pending)
+        self.write_allocated_l1_table(table, pending)
     }
 
     // Writes an L1 table to clusters that were allocated for it, and then the pointer to it. After a refusal the clusters wait to be freed.
-    fn write_taken(&mut self, table: L1Table, taken: PendingClusters) -> Result<(), ImageError>
+    fn write_allocated_l1_table(
+        &mut self,
+        table: L1Table,
+        taken: PendingClusters,
+    ) -> Result<(), ImageError>
         requires { IsHostCluster self.old.file.header.fields.cluster_bits taken.first_cluster }
-        ensures fails { ImageFails S.view F.backing self.old self.new result IsMet }
-        ensures stays { ImageStays self.old self.new }
-        ensures notes { KeepsFileNotes S.view self.old.file self.new.file }
-        ensures header_cluster { table.cluster_bits ≡ self.old.l1_table.cluster_bits → 0 < taken.first_cluster
-            → PreservesHeaderCluster S.view self.old self.new }
+        ensures fails { ImageFails S.view F.backing self.old self.new result MayFail }
+        ensures step { ImageStepWhere S.view
+            ((table.cluster_bits ≡ self.old.l1_table.cluster_bits) × (0 < taken.first_cluster)) self.old self.new }
         ensures fault { (p : Pending) (out : List (Option Prepared))
             → ImageInvariant S.view F.backing (with_table p table taken.first_cluster) self.old out
             → IsLongerL1 self.old table → IfErr result IsFault }
@@ -155,7 +151,6 @@ impl<S: Storage, F: WrappedFormat<S>> Qcow2<S, F> {
             → ImageInvariant S.view F.backing (with_table p table taken.first_cluster) self.old out
             → IsTrue self.old.file.caches.is_changed → IsLongerL1 self.old table
             → NamesTaken S.view F.backing p self.old self.new out table taken result }
-        ensures entries { OnOk result (entry_count self.new.l1_table ≡ entry_count table) }
         ensures placed { OnOk result (self.new.l1_table ≡ record table { cluster = Some taken.first_cluster }) }
         ensures kept { OnOk result (self.new.file.free_list ≡ self.old.file.free_list) }
         ensures listed { OnErr result (self.new.file.free_list ≡ self.old.file.free_list ++ taken ∷ []) }
@@ -167,11 +162,9 @@ impl<S: Storage, F: WrappedFormat<S>> Qcow2<S, F> {
     // Writes the table first, then the pointer to it.
     fn write_l1_table(&mut self, mut table: L1Table, cluster: HostCluster) -> Result<(), ImageError>
         requires { IsHostCluster self.old.file.header.fields.cluster_bits cluster }
-        ensures fails { ImageFails S.view F.backing self.old self.new result IsMet }
-        ensures stays { ImageStays self.old self.new }
-        ensures notes { KeepsFileNotes S.view self.old.file self.new.file }
-        ensures header_cluster { table.cluster_bits ≡ self.old.l1_table.cluster_bits → 0 < cluster
-            → PreservesHeaderCluster S.view self.old self.new }
+        ensures fails { ImageFails S.view F.backing self.old self.new result MayFail }
+        ensures step { ImageStepWhere S.view
+            ((table.cluster_bits ≡ self.old.l1_table.cluster_bits) × (0 < cluster)) self.old self.new }
         ensures fault { (p : Pending) (out : List (Option Prepared))
             → ImageInvariant S.view F.backing (with_table p table cluster) self.old out → IsLongerL1 self.old table
             → IfErr result IsFault }
@@ -180,7 +173,6 @@ impl<S: Storage, F: WrappedFormat<S>> Qcow2<S, F> {
             → ImageInvariant S.view F.backing (with_table p table cluster) self.old out
             → IsTrue self.old.file.caches.is_changed → IsLongerL1 self.old table
             → NamesTable S.view F.backing p self.old self.new out table cluster result }
-        ensures entries { OnOk result (entry_count self.new.l1_table ≡ entry_count table) }
         ensures placed { OnOk result (self.new.l1_table ≡ record table { cluster = Some cluster }) }
         ensures list { self.new.file.free_list ≡ self.old.file.free_list }
     {
@@ -194,7 +186,7 @@ impl<S: Storage, F: WrappedFormat<S>> Qcow2<S, F> {
         table: &mut L1Table,
         cluster: HostCluster,
     ) -> Result<(), ImageError>
-        ensures fails { ImageFails S.view F.backing self.old self.new result IsMet }
+        ensures fails { ImageFails S.view F.backing self.old self.new result MayFail }
         ensures notes { KeepsFileNotes S.view self.old.file self.new.file }
         ensures header_cluster { table.old.cluster_bits ≡ self.old.l1_table.cluster_bits → 0 < cluster
             → PreservesHeaderCluster S.view self.old self.new }
@@ -207,7 +199,7 @@ impl<S: Storage, F: WrappedFormat<S>> Qcow2<S, F> {
             caches = self.new.file.caches;
           };
         } }
-        ensures noted { IsTrue self.old.file.caches.is_changed → IsTrue self.new.file.caches.is_changed }
+        ensures recorded { IsTrue self.old.file.caches.is_changed → IsTrue self.new.file.caches.is_changed }
         ensures places { (p : Pending) (out : List (Option Prepared))
             → ImageInvariant S.view F.backing (with_table p table.old cluster) self.old out
             → IsLongerL1 self.old table.old
@@ -228,17 +220,14 @@ impl<S: Storage, F: WrappedFormat<S>> Qcow2<S, F> {
     // Writes the pointer to an L1 table, which is the image's table from then on.
     fn name_l1_table(&mut self, table: L1Table, cluster: HostCluster) -> Result<(), ImageError>
         requires { IsHostCluster self.old.file.header.fields.cluster_bits cluster }
-        ensures fails { ImageFails S.view F.backing self.old self.new result IsMet }
-        ensures stays { ImageStays self.old self.new }
-        ensures notes { KeepsFileNotes S.view self.old.file self.new.file }
-        ensures header_cluster { KeepsL1TableBehind self.old.l1_table table → PreservesHeaderCluster S.view self.old self.new }
+        ensures fails { ImageFails S.view F.backing self.old self.new result MayFail }
+        ensures step { ImageStepWhere S.view (KeepsL1TableBehind self.old.l1_table table) self.old self.new }
         ensures fault { IfErr result IsFault }
         ensures allocator { self.new.allocator ≡ self.old.allocator }
         ensures names { (p : Pending) (out : List (Option Prepared))
             → ImageInvariant S.view F.backing (with_table p table cluster) self.old out
             → IsTrue self.old.file.caches.is_changed → StandsWhole S.view self.old table cluster
             → NamesTable S.view F.backing p self.old self.new out table cluster result }
-        ensures entries { OnOk result (entry_count self.new.l1_table ≡ entry_count table) }
         ensures table { OnOk result (self.new.l1_table ≡ table) }
         ensures list { self.new.file.free_list ≡ self.old.file.free_list }
     {

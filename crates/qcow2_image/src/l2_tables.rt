@@ -1,11 +1,12 @@
 //! The L2 table of a range: found, made, or copied because its L1 entry is not marked copied.
+ghost use Rattle.qcow2_image.specs.WriteSteps.{CanEnter};
 ghost use Rattle.qcow2_image.specs.SoundParts.{EnsuresSoundly, EntersSoundly, OwnsSoundly, TableSoundly};
 ghost use Rattle.qcow2_image.specs.ImageSteps.{ImageFails, ImageStep, ImageStepWhere};
-ghost use Rattle.std.specs.Prelude.{List, Option, ◌≡◌, ◌≢◌, ◌-◌, ◌*◌, Some, ◌^◌, ◌<◌, ◌↔◌, IfOk, IfErr, OnOk, IsSome};
+ghost use Rattle.std.specs.Prelude.{List, Option, ◌≡◌, ◌≢◌, ◌-◌, Some, ◌^◌, ◌<◌, ◌↔◌, IfOk, IfErr, OnOk, IsSome};
 ghost use Rattle.std.specs.Prelude.{IsTrue, Ok, Err, length};
-ghost use Rattle.qcow2_image.specs.MetAlone.{KeepsL1Place, IsMetLooking};
+ghost use Rattle.qcow2_image.specs.MayFail.{KeepsL1Place, MayFailLooking};
 ghost use Rattle.qcow2_metadata.specs.L2Mapping.{IsHostCluster};
-ghost use Rattle.qcow2_metadata.specs.EntryTable.{entry_count, HasRoomIfPlaced};
+ghost use Rattle.qcow2_metadata.specs.EntryTable.{entry_count};
 ghost use Rattle.qcow2_alloc.specs.ImageError.{IsFault};
 ghost use Rattle.qcow2_image.specs.Backings.{HasPinnedMapping};
 ghost use Rattle.qcow2_image.specs.Image.{KeepsRest, KeepsRestOn, is_writable};
@@ -26,21 +27,21 @@ ghost use Rattle.qcow2_alloc.specs.TableCaches.{IsTableOf};
 ghost use Rattle.qcow2_laws.specs.Changes.{one_at, with_new_tables};
 ghost use Rattle.qcow2_metadata.specs.L2Table.{L2TableView};
 ghost use Rattle.qcow2_image.specs.PinnedTables.{FindsOwn, own_table};
-ghost use Rattle.qcow2_image.specs.Refusals.{IsMet};
+ghost use Rattle.qcow2_image.specs.Refusals.{MayFail};
 
 use crate::Qcow2;
 use image_access::{Storage, WrappedFormat};
 use qcow2_alloc::{ClustersToFreeEntry, ClustersToFreeList, ImageError, WriteKind};
 use qcow2_metadata::{ClusterCount, GuestOffset, HostCluster, L2Table};
 
-#[tactic(auto, using(crate::proofs::Call::MetErrors::tables_met, crate::proofs::Call::MetErrors::storage_met, crate::proofs::Call::MetErrors::metadata_met))]
+#[tactic(auto, using(crate::proofs::Call::FailingErrors::tables_met, crate::proofs::Call::FailingErrors::storage_met, crate::proofs::Call::FailingErrors::metadata_met))]
 impl<S: Storage, F: WrappedFormat<S>> Qcow2<S, F> {
-    // The L2 table of an offset, cached and marked copied. If one is made, the clusters on the list are freed then.
-    // An L1 entry whose own offset would pass 64 bits is not written.
+    // The L2 table of an offset, cached and marked copied. If a new one is made, the clusters on the list are freed afterwards. An L1 entry whose
+    // own offset would pass 64 bits is not written.
     pub(crate) fn writable_l2_table(&mut self, offset: u64) -> Result<HostCluster, ImageError>
         requires writable { IsTrue (is_writable self.old) }
         ensures step { ImageStep S.view self.old self.new }
-        ensures fails { ImageFails S.view F.backing self.old self.new result IsMet }
+        ensures fails { ImageFails S.view F.backing self.old self.new result MayFail }
         ensures elsewhere { IfOk result (λ table. 0 < table) }
         ensures sound { (out : List (Option Prepared))
             → ImageInvariant S.view F.backing (pending_in S.view F.backing self.old out) self.old out
@@ -85,7 +86,7 @@ impl<S: Storage, F: WrappedFormat<S>> Qcow2<S, F> {
     pub(crate) fn ensure_cached_l2(&mut self, offset: u64) -> Result<HostCluster, ImageError>
         requires writable { IsTrue (is_writable self.old) }
         ensures step { ImageStep S.view self.old self.new }
-        ensures fails { ImageFails S.view F.backing self.old self.new result IsMet }
+        ensures fails { ImageFails S.view F.backing self.old self.new result MayFail }
         ensures keeps_rest { KeepsRestOn self.old self.new }
         ensures elsewhere { IfOk result (λ table. 0 < table) }
         ensures sound { (p : Pending) (out : List (Option Prepared)) → ImageInvariant S.view F.backing p self.old out
@@ -114,7 +115,7 @@ impl<S: Storage, F: WrappedFormat<S>> Qcow2<S, F> {
     fn writable_l2_cluster(&mut self, offset: u64) -> Result<HostCluster, ImageError>
         requires writable { IsTrue (is_writable self.old) }
         ensures step { ImageStep S.view self.old self.new }
-        ensures fails { ImageFails S.view F.backing self.old self.new result IsMet }
+        ensures fails { ImageFails S.view F.backing self.old self.new result MayFail }
         ensures keeps_rest { KeepsRestOn self.old self.new }
         ensures elsewhere { IfOk result (λ table. 0 < table) }
         ensures sound { (p : Pending) (out : List (Option Prepared)) → ImageInvariant S.view F.backing p self.old out
@@ -145,7 +146,7 @@ impl<S: Storage, F: WrappedFormat<S>> Qcow2<S, F> {
     fn replace_l2(&mut self, index: usize, old: HostCluster) -> Result<HostCluster, ImageError>
         requires writable { IsTrue (is_writable self.old) }
         ensures step { ImageStepWhere S.view (0 < old) self.old self.new }
-        ensures fails { ImageFails S.view F.backing self.old self.new result IsMet }
+        ensures fails { ImageFails S.view F.backing self.old self.new result MayFail }
         ensures keeps_rest { KeepsRestOn self.old self.new }
         ensures elsewhere { IfOk result (λ table. 0 < table) }
         ensures l1_table { IfErr result (IsFaultOrKeepsL1Table self.old self.new) }
@@ -172,7 +173,7 @@ impl<S: Storage, F: WrappedFormat<S>> Qcow2<S, F> {
     ) -> Result<HostCluster, ImageError>
         requires writable { IsTrue (is_writable self.old) }
         ensures step { ImageStep S.view self.old self.new }
-        ensures fails { ImageFails S.view F.backing self.old self.new result IsMet }
+        ensures fails { ImageFails S.view F.backing self.old self.new result MayFail }
         ensures keeps_rest { KeepsRestOn self.old self.new }
         ensures elsewhere { IfOk result (λ table. 0 < table) }
         ensures l1_table { IfErr result (IsFaultOrKeepsL1Table self.old self.new) }
@@ -200,7 +201,7 @@ impl<S: Storage, F: WrappedFormat<S>> Qcow2<S, F> {
     fn allocate_l2(&mut self, index: usize, table: L2Table) -> Result<HostCluster, ImageError>
         requires writable { IsTrue (is_writable self.old) }
         ensures step { ImageStep S.view self.old self.new }
-        ensures fails { ImageFails S.view F.backing self.old self.new result IsMet }
+        ensures fails { ImageFails S.view F.backing self.old self.new result MayFail }
         ensures keeps_rest { KeepsRestOn self.old self.new }
         ensures elsewhere { IfOk result (λ table. 0 < table) }
         ensures l1_table { IfErr result (IsFaultOrKeepsL1Table self.old self.new) }
@@ -235,13 +236,13 @@ impl<S: Storage, F: WrappedFormat<S>> Qcow2<S, F> {
         table: L2Table,
     ) -> Result<(), ImageError>
         ensures step { ImageStepWhere S.view (0 < cluster) self.old self.new }
-        ensures fails { ImageFails S.view F.backing self.old self.new result IsMet }
+        ensures fails { ImageFails S.view F.backing self.old self.new result MayFail }
         ensures keeps_rest { KeepsRest self.old self.new }
-        ensures met { (p : Pending) (out : List (Option Prepared))
+        ensures may_fail { (p : Pending) (out : List (Option Prepared))
             → ImageInvariant S.view F.backing (with_new_tables p (one_at cluster)) self.old out
             → SaysKnown self.old.file.header.fields (known_in S.view self.old.file) index table
             → HasNearEntry self.old index → IsHostCluster self.old.file.header.fields.cluster_bits cluster
-            → IfErr result (IsMetLooking (HasPinnedMapping out)) }
+            → IfErr result (MayFailLooking (HasPinnedMapping out)) }
         ensures allocator { self.new.allocator ≡ self.old.allocator }
         ensures l1_table { IfErr result (IsFaultOrKeepsL1Table self.old self.new) }
         ensures list { self.new.file.free_list ≡ self.old.file.free_list }
@@ -263,7 +264,7 @@ impl<S: Storage, F: WrappedFormat<S>> Qcow2<S, F> {
     // writes requires it.
     fn store_first(&mut self) -> Result<(), ImageError>
         ensures step { ImageStep S.view self.old self.new }
-        ensures fails { ImageFails S.view F.backing self.old self.new result IsMet }
+        ensures fails { ImageFails S.view F.backing self.old self.new result MayFail }
         ensures keeps_rest { KeepsRest self.old self.new }
         ensures fault { (p : Pending) (out : List (Option Prepared)) → ImageInvariant S.view F.backing p self.old out → IfErr result IsFault }
         ensures rest { self.new ≡ record self.old {
@@ -272,7 +273,7 @@ impl<S: Storage, F: WrappedFormat<S>> Qcow2<S, F> {
             caches = self.new.file.caches;
           };
         } }
-        ensures noted { IsTrue self.old.file.caches.is_changed → IsTrue self.new.file.caches.is_changed }
+        ensures recorded { IsTrue self.old.file.caches.is_changed → IsTrue self.new.file.caches.is_changed }
         ensures stores { (p : Pending) (out : List (Option Prepared)) → ImageInvariant S.view F.backing p self.old out
             → Stores S.view F.backing p self.old self.new out result }
         ensures tables { order_of self.old.file.caches ≢ RbDependsOnL2 → self.new.file.caches.l2 ≡ self.old.file.caches.l2 }
@@ -284,18 +285,18 @@ impl<S: Storage, F: WrappedFormat<S>> Qcow2<S, F> {
     // no cache holds, is refused 19 (metadata).
     fn write_l2_bytes(&mut self, cluster: HostCluster, mut table: L2Table) -> Result<(), ImageError>
         ensures step { ImageStepWhere S.view (0 < cluster) self.old self.new }
-        ensures fails { ImageFails S.view F.backing self.old self.new result IsMet }
+        ensures fails { ImageFails S.view F.backing self.old self.new result MayFail }
         ensures keeps_rest { KeepsRest self.old self.new }
-        ensures met { (p : Pending) (out : List (Option Prepared)) → ImageInvariant S.view F.backing p self.old out
+        ensures may_fail { (p : Pending) (out : List (Option Prepared)) → ImageInvariant S.view F.backing p self.old out
             → 0 < p.new_tables cluster → IsTableOf self.old.file.header.fields table → IsStored S.view self.old
-            → IsHostCluster table.cluster_bits cluster → IfErr result (IsMetLooking (HasPinnedMapping out)) }
+            → IsHostCluster table.cluster_bits cluster → IfErr result (MayFailLooking (HasPinnedMapping out)) }
         ensures rest { self.new ≡ record self.old {
           file = record self.old.file {
             storage = self.new.file.storage;
             caches = self.new.file.caches;
           };
         } }
-        ensures noted { IsTrue self.old.file.caches.is_changed → IsTrue self.new.file.caches.is_changed }
+        ensures recorded { IsTrue self.old.file.caches.is_changed → IsTrue self.new.file.caches.is_changed }
         ensures long { length table.bytes ≡ 2 ^ table.cluster_bits }
         ensures places { (p : Pending) (out : List (Option Prepared)) → ImageInvariant S.view F.backing p self.old out
             → 0 < p.new_tables cluster → IsTableOf self.old.file.header.fields table → IsStored S.view self.old
@@ -316,12 +317,9 @@ impl<S: Storage, F: WrappedFormat<S>> Qcow2<S, F> {
 
     // Writes the L1 entry of the table in a cluster.
     fn link_l2(&mut self, index: usize, cluster: HostCluster) -> Result<(), ImageError>
-        requires within { index < entry_count self.old.l1_table }
-        requires placed { IsSome self.old.l1_table.cluster }
-        requires room { HasRoomIfPlaced self.old.l1_table.cluster_bits (8 * index) self.old.l1_table.cluster }
-        requires nameable { IsHostCluster self.old.l1_table.cluster_bits cluster }
+        requires enter { CanEnter self.old.l1_table index cluster }
         ensures step { ImageStep S.view self.old self.new }
-        ensures fails { ImageFails S.view F.backing self.old self.new result IsMet }
+        ensures fails { ImageFails S.view F.backing self.old self.new result MayFail }
         ensures keeps_rest { KeepsRest self.old self.new }
         ensures allocator { self.new.allocator ≡ self.old.allocator }
         ensures fault { IfErr result IsFault }
@@ -341,10 +339,7 @@ impl<S: Storage, F: WrappedFormat<S>> Qcow2<S, F> {
 
     // Whether the L1 table has this entry, and the entry can hold the cluster.
     fn can_enter(&self, index: usize, cluster: HostCluster) -> bool
-        ensures within { IsTrue result → index < entry_count self.now.l1_table }
-        ensures placed { IsTrue result → IsSome self.now.l1_table.cluster }
-        ensures room { IsTrue result → HasRoomIfPlaced self.now.l1_table.cluster_bits (8 * index) self.now.l1_table.cluster }
-        ensures nameable { IsTrue result → IsHostCluster self.now.l1_table.cluster_bits cluster }
+        ensures answer { IsTrue result → CanEnter self.now.l1_table index cluster }
         ensures near { HasNearEntry self.now index → IsSome self.now.l1_table.cluster
             → IsHostCluster self.now.l1_table.cluster_bits cluster → IsTrue result }
     {

@@ -19,7 +19,6 @@ mod opening;
 mod preallocation;
 mod prepared;
 mod ranges;
-mod resize;
 mod resizing;
 mod storages;
 
@@ -28,7 +27,9 @@ pub use image::{Missing, Qcow2};
 pub use mapping::{Mapping, MappingKind, Place};
 pub use opening::Qcow2OpenBuilder;
 pub use prepared::{CommitRefused, Prepared};
-pub use qcow2_alloc::async_lru_cache::{AsyncLruCache, AsyncLruCacheBackend, CacheError};
+pub use qcow2_alloc::async_lru_cache::{
+    AsyncLruCache, AsyncLruCacheBackend, CacheError, CacheTypes, CachedValue,
+};
 pub use qcow2_alloc::{
     Allocator, ClusterKind, ClustersToFreeEntry, ClustersToFreeList, Direction, ImageError,
     ImageFile, ImageStorage, L2CacheBackend, MetadataCaches, PendingClusters, RefBlockCacheBackend,

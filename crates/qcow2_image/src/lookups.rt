@@ -1,29 +1,28 @@
 //! Lookups: the mapping of a guest offset, and how many bytes are mapped alike.
+ghost use Rattle.qcow2_image.specs.WriteSteps.{FindsRun, IsLookedUp, LooksUp, RefusesLookup};
 ghost use Rattle.qcow2_image.specs.ImageSteps.{ImageFails, ReadingCall, ReadingStep};
 ghost use Rattle.qcow2_disk.specs.Alike.{IsAlike};
 ghost use Rattle.std.specs.Prelude.{◌↔◌, List, Option, is_some, ◌≡◌, ◌+◌, ◌*◌, ◌-◌, ◌%◌, true, Some, ◌^◌, ◌<◌, ◌≤◌, []};
 ghost use Rattle.std.specs.Prelude.{length, IfOk, IfErr, IfSome, IsOk, IsSome, IsTrue, Ok, Err, None, false};
 ghost use Rattle.std.specs.Prelude.{MatchOption, min, ℕ};
 ghost use Rattle.qcow2_metadata.specs.L2Mapping.{HasAlignedHost, IsInReach};
-ghost use Rattle.qcow2_image.specs.Image.{number_of, size_of};
+ghost use Rattle.qcow2_image.specs.Image.{size_of};
 ghost use Rattle.qcow2_laws.specs.CrashInvariant.{Pending};
 ghost use Rattle.qcow2_alloc.specs.MetadataCaches.{IsEntryAt, l2_at};
 ghost use Rattle.qcow2_alloc.specs.ImageFile.{known_in, FileInvariant};
 ghost use Rattle.qcow2_image.specs.declared.prepared.Prepared.{Prepared};
 ghost use Rattle.qcow2_image.specs.Calls.{AnswersCall};
 ghost use Rattle.qcow2_alloc.specs.ImageError.{IsOfTables};
-ghost use Rattle.qcow2_disk.specs.Found.{IsFoundIn, kind_at, rest_of_table};
+ghost use Rattle.qcow2_disk.specs.Found.{kind_at, rest_of_table};
 ghost use Rattle.qcow2_image.specs.Faults.{IsNotOfStorage};
-ghost use Rattle.qcow2_image.specs.Found.{found_kind, mapping_of, IsRunBehind, NamesL2Table, IsRunFrom, IsFoundInImage};
+ghost use Rattle.qcow2_image.specs.Found.{found_kind, mapping_of, IsRunBehind, NamesL2Table, IsRunFrom};
 ghost use Rattle.qcow2_image.specs.Found.{l1_index_of, l2_index_of};
 ghost use Rattle.qcow2_image.specs.HeldMappings.{IsHeldRun, named_place};
 ghost use Rattle.qcow2_image.specs.PinnedTables.{own_table};
-ghost use Rattle.qcow2_image.specs.InternalSteps.{InternalStep};
-ghost use Rattle.qcow2_image.specs.ImageInvariant.{HasL1Table, ImageInvariant, abstract_of};
+ghost use Rattle.qcow2_image.specs.ImageInvariant.{HasL1Table, ImageInvariant};
 ghost use Rattle.qcow2_metadata.specs.Header.{cluster_size};
 ghost use Rattle.qcow2_image.specs.declared.mapping.MappingKind.TheVariants.{Eof};
-ghost use Rattle.qcow2_image.specs.MetAlone.{IsCacheHeld, IsMetLooking};
-ghost use Rattle.qcow2_image.specs.Refusals.{unusable, IsUnlimited};
+ghost use Rattle.qcow2_image.specs.Refusals.{IsUnlimited};
 
 use crate::{Mapping, MappingKind, Place, Qcow2};
 use image_access::{Storage, WrappedFormat};
@@ -59,33 +58,22 @@ fn cluster_size(table: &L2Table) -> u64
     1 << table.cluster_bits()
 }
 
-#[tactic(auto, using(crate::proofs::Call::MetErrors::tables_met, crate::proofs::Call::MetErrors::storage_met, crate::proofs::Call::MetErrors::metadata_met, crate::proofs::Call::MetErrors::metadata_of_tables))]
+#[tactic(auto, using(crate::proofs::Call::FailingErrors::tables_met, crate::proofs::Call::FailingErrors::storage_met, crate::proofs::Call::FailingErrors::metadata_met, crate::proofs::Call::FailingErrors::metadata_of_tables))]
 impl<S: Storage, F: WrappedFormat<S>> Qcow2<S, F> {
     /// Returns the mapping of a guest offset, and how many bytes, up to `max`, are mapped alike: within one L2 table, and below the disk's
     /// size. At or past the size it is `Eof`, with 0 bytes.
-    /// Refused 16 (failed), 12 (dependency), in this order. Refused 4 (unaligned table), 8 (everything is in use),
-    /// 14 (memory) and 15 (storage) if the work meets them.
+    /// Refused 16 (failed), 12 (dependency), in this order. May be refused 4 (unaligned table), 8 (everything is in use),
+    /// 14 (memory) or 15 (storage) during the work.
     pub fn get_mapping(&mut self, offset: u64, max: u64) -> Result<(Mapping, u64), ImageError>
         ensures step { ReadingCall S.view F.backing self.old self.new result }
-        ensures early { IfSome (unusable self.old) (λ e. (result ≡ Err e) × (self.new ≡ self.old)) }
-        ensures late { unusable self.old ≡ None → IfErr result IsOfTables }
-        ensures met { (out : List (Option Prepared)) → (abstract_of S.view F.backing self.old out).is_sound
-            → IfErr result (IsMetLooking (IsCacheHeld self.old out)) }
-        ensures own { IfOk result (λ (mapping, n). (mapping.image ≡ number_of self.old) × (mapping.offset ≡ offset) × (mapping.length ≡ n)) }
-        ensures within { IfOk result (λ (mapping, n). n ≤ max) }
-        ensures some { IfOk result (λ (mapping, n). offset < size_of self.old → 0 < max → 0 < n) }
-        ensures past { unusable self.old ≡ None → size_of self.old ≤ offset → IsOk result
-            × IfOk result (λ (mapping, n). (mapping.kind ≡ Eof) × (n ≡ 0)) }
+        ensures refusals { RefusesLookup self.old self.new offset result }
+        ensures sound { LooksUp S.view F.backing self.old self.new offset max result }
+        ensures found { IfOk result (IsLookedUp self.old offset max) }
         ensures sees { AnswersCall S.view F.backing self.old self.new [] (λ found old new. new ≡ old) result }
-        ensures known { (out : List (Option Prepared)) → (abstract_of S.view F.backing self.old out).is_sound
-            → known_in S.view self.new.file ≡ known_in S.view self.old.file }
-        ensures run { (out : List (Option Prepared)) → (abstract_of S.view F.backing self.old out).is_sound
-            → IfOk result (λ (mapping, n). IsFoundIn (known_in S.view self.new.file)
-            (is_some self.new.backing) offset max (found_kind mapping.kind) n) }
         ensures held { offset < size_of self.old → IfOk result (λ (mapping, n). IsHeldRun self.new offset max mapping.kind n) }
     {
         self.check_usable()?;
-        self.begin();
+        self.begin_call();
         let found = self.look_up(offset, max);
         let (kind, length) = self.mark_failure(found)?;
         let mapping = Mapping {
@@ -104,17 +92,10 @@ impl<S: Storage, F: WrappedFormat<S>> Qcow2<S, F> {
     ) -> Result<(MappingKind, u64), ImageError>
         ensures step { ReadingStep S.view self.old self.new }
         ensures fails { ImageFails S.view F.backing self.old self.new result IsOfTables }
-        ensures met { (p : Pending) (out : List (Option Prepared)) → ImageInvariant S.view F.backing p self.old out
-            → IfErr result (IsMetLooking (IsCacheHeld self.old out)) }
-        ensures keeps { (p : Pending) (out : List (Option Prepared)) → ImageInvariant S.view F.backing p self.old out
-            → InternalStep S.view F.backing p p self.old self.new out }
-        ensures known { (p : Pending) (out : List (Option Prepared)) → ImageInvariant S.view F.backing p self.old out
-            → known_in S.view self.new.file ≡ known_in S.view self.old.file }
+        ensures sound { FindsRun S.view F.backing self.old self.new offset max result }
         ensures within { IfOk result (λ (kind, n). n ≤ max) }
         ensures some { IfOk result (λ (kind, n). offset < size_of self.old → 0 < max → 0 < n) }
         ensures past { size_of self.old ≤ offset → result ≡ Ok (Eof, 0) }
-        ensures found { (p : Pending) (out : List (Option Prepared)) → ImageInvariant S.view F.backing p self.old out
-            → IfOk result (λ (kind, n). IsFoundInImage S.view self.new offset max kind n) }
         ensures held { offset < size_of self.old → IfOk result (λ (kind, n). IsHeldRun self.new offset max kind n) }
     {
         let size = self.file.header.size();
@@ -175,7 +156,7 @@ impl<S: Storage, F: WrappedFormat<S>> Qcow2<S, F> {
     }
 
     // The run of clusters that are mapped alike from an offset on, in the cached table that covers it.
-    #[tactic(auto, using(crate::proofs::Call::MetErrors::tables_met, crate::proofs::Call::MetErrors::storage_met, crate::proofs::Call::MetErrors::metadata_met, crate::proofs::Call::MetErrors::metadata_of_tables, crate::proofs::Call::Unlimited::unaligned_unlimited))]
+    #[tactic(auto, using(crate::proofs::Call::FailingErrors::tables_met, crate::proofs::Call::FailingErrors::storage_met, crate::proofs::Call::FailingErrors::metadata_met, crate::proofs::Call::FailingErrors::metadata_of_tables, crate::proofs::Call::Unlimited::unaligned_unlimited))]
     pub(crate) fn run_in_table(
         &self,
         table: HostCluster,
@@ -216,7 +197,7 @@ impl<S: Storage, F: WrappedFormat<S>> Qcow2<S, F> {
     }
 
     // Whether two guest clusters of a table, `distance` bytes apart, are mapped alike.
-    #[tactic(auto, using(crate::proofs::Call::MetErrors::tables_met, crate::proofs::Call::MetErrors::storage_met, crate::proofs::Call::MetErrors::metadata_met, crate::proofs::Call::MetErrors::metadata_of_tables, crate::proofs::Call::Unlimited::unaligned_unlimited))]
+    #[tactic(auto, using(crate::proofs::Call::FailingErrors::tables_met, crate::proofs::Call::FailingErrors::storage_met, crate::proofs::Call::FailingErrors::metadata_met, crate::proofs::Call::FailingErrors::metadata_of_tables, crate::proofs::Call::Unlimited::unaligned_unlimited))]
     fn are_alike(
         &self,
         table: &L2Table,
@@ -236,8 +217,8 @@ impl<S: Storage, F: WrappedFormat<S>> Qcow2<S, F> {
         Ok(is_alike(&first, &next, distance))
     }
 
-    // How many bytes, at least up to `max`, are in clusters behind one that are mapped like it.
-    #[tactic(auto, using(crate::proofs::Call::MetErrors::tables_met, crate::proofs::Call::MetErrors::storage_met, crate::proofs::Call::MetErrors::metadata_met, crate::proofs::Call::MetErrors::metadata_of_tables, crate::proofs::Call::Unlimited::unaligned_unlimited))]
+    // How many bytes, at least up to `max`, are in clusters after one that are mapped like it.
+    #[tactic(auto, using(crate::proofs::Call::FailingErrors::tables_met, crate::proofs::Call::FailingErrors::storage_met, crate::proofs::Call::FailingErrors::metadata_met, crate::proofs::Call::FailingErrors::metadata_of_tables, crate::proofs::Call::Unlimited::unaligned_unlimited))]
     fn alike_behind(
         &self,
         table: &L2Table,

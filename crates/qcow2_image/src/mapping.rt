@@ -28,7 +28,7 @@ pub enum MappingKind {
     Zero {
         explicit: bool,
     },
-    /// The range begins at or behind the end of the disk.
+    /// The range begins at or past the end of the disk.
     Eof,
     /// Compressed data, from this guest offset in bytes on.
     Special {
@@ -50,7 +50,7 @@ pub struct Mapping {
 }
 
 impl MappingKind {
-    // Whether it is the same kind, at the same place.
+    // Whether two mappings are of the same kind, at the same place.
     pub(crate) fn is(&self, other: &MappingKind) -> bool
         ensures { IsTrue result ↔ (self.now ≡ other.now) }
     {

@@ -1,29 +1,27 @@
 //! Preparing a guest range for writing, and committing it.
-ghost use Rattle.qcow2_image.specs.Limits.{IfLimit, IsLimited};
+ghost use Rattle.qcow2_image.specs.WriteSteps.{AnswersPrepare, CommitCall, CommitsMapping, PreparesMapping};
+ghost use Rattle.qcow2_image.specs.WriteSteps.{RefusesAfter, RefusesCommit, RefusesPrepare, AllocatingStepWhere};
 ghost use Rattle.qcow2_image.specs.SoundParts.{InTableSoundly, PreparesSoundly};
-ghost use Rattle.qcow2_image.specs.ImageSteps.{CallStep, ImageFails, ImageStep, ImageStepWhere};
-ghost use Rattle.qcow2_disk.specs.Alike.{AreDataAt};
+ghost use Rattle.qcow2_image.specs.ImageSteps.{CallStep, ImageFails, ImageStep};
 ghost use Rattle.qcow2_image.specs.BehindHeader.{PreservesHeaderCluster};
 ghost use Rattle.qcow2_image.specs.PreparedPlaces.{HasBytesBehind, MarkedIsBehind};
 ghost use Rattle.std.specs.Prelude.{◌↔◌, ℕ, List, Option, ◌≡◌, ◌⊎◌, ◌≢◌, ◌+◌, ◌*◌, ◌-◌, ◌/◌, ◌%◌, true, Some, ◌^◌, ◌<◌};
 ghost use Rattle.std.specs.Prelude.{◌≤◌, [], ◌∷◌, ◌++◌, length, slice_get, IfOk, IfErr, IfSome, OnOk, IsOk, IsNone};
-ghost use Rattle.std.specs.Prelude.{IsSome, IsTrue, IsFalse, MatchOption, MatchResult, Ok, Err, None, false};
+ghost use Rattle.std.specs.Prelude.{IsSome, IsTrue, IsFalse, MatchOption, Ok, Err, None, false};
+ghost use Rattle.qcow2_image.specs.Growing.{Lasts};
 ghost use Rattle.qcow2_metadata.specs.EntryTable.{entry_count};
-ghost use Rattle.qcow2_image.specs.Backings.{HasPinnedMapping};
-ghost use Rattle.qcow2_image.specs.MetAlone.{CopiesCompressed, KeepsL1Place, MayFailAllocating};
+ghost use Rattle.qcow2_image.specs.MayFail.{KeepsL1Place};
 ghost use Rattle.qcow2_metadata.specs.L2Mapping.{IsInReach, greatest_offset, named_run};
 ghost use Rattle.qcow2_disk.specs.Mappings.{is_copied_data};
-ghost use Rattle.qcow2_image.specs.Image.{HasNothingToFree, ImageStays, IsSameImage, KeepsRest, is_failed, is_writable};
+ghost use Rattle.qcow2_image.specs.Image.{HasNothingToFree, ImageStays, KeepsRest, is_failed, is_writable};
 ghost use Rattle.qcow2_image.specs.Image.{number_of, KeepsWholeHeader};
-ghost use Rattle.qcow2_image.specs.Prepared.{guest_offset_of, image_of, length_of, offset_of, table_of, IsHandedBackBy};
-ghost use Rattle.qcow2_image.specs.Preparing.{IsAnswered, IsOfNothing, IsPlaceOf, IsTaken};
+ghost use Rattle.qcow2_image.specs.Prepared.{image_of, length_of, offset_of, table_of};
+ghost use Rattle.qcow2_image.specs.Preparing.{IsPlaceOf};
 ghost use Rattle.qcow2_image.specs.Ranges.{ReleasesOneMapping, Reaches};
 ghost use Rattle.qcow2_laws.specs.CrashInvariant.{Pending};
 ghost use Rattle.qcow2_alloc.specs.MetadataCaches.{IsEntryAt, l2_at};
-ghost use Rattle.qcow2_image.specs.Noted.{CommitFailsOnceWritten};
-ghost use Rattle.qcow2_alloc.specs.ImageFile.{known_in, FileInvariant, KeepsHeader};
-ghost use Rattle.qcow2_image.specs.L1Entries.{HasOwnTable, NeedsOverflowingL1Entry};
-ghost use Rattle.qcow2_image.specs.ListedClusters.{ListStays, ListsNoMore};
+ghost use Rattle.qcow2_alloc.specs.ImageFile.{known_in, FileInvariant};
+ghost use Rattle.qcow2_image.specs.L1Entries.{HasOwnTable};
 ghost use Rattle.qcow2_image.specs.PinnedTables.{PreparesUnpinned};
 ghost use Rattle.qcow2_alloc.specs.ImageStorage.{storage_of};
 ghost use Rattle.qcow2_image.specs.declared.prepared.Prepared.{Prepared};
@@ -31,29 +29,28 @@ ghost use Rattle.qcow2_image.specs.Calls.{Commits, Discards, Prepares, reason_of
 ghost use Rattle.qcow2_image.specs.CallParts.{EntersAll, IsEntered, IsExisting, RefusedCall};
 ghost use Rattle.qcow2_alloc.specs.CachePins.{l2_pins};
 ghost use Rattle.qcow2_alloc.specs.ImageError.{IsFault, IsOfTables};
-ghost use Rattle.qcow2_image.specs.Faults.{CountsImageFaults, IsNotOfStorage, NoFewerFaults, SameFaults, TellsEachBy};
-ghost use Rattle.qcow2_image.specs.Faults.{TellsFault};
+ghost use Rattle.qcow2_image.specs.Faults.{CountsImageFaults, IsNotOfStorage, SameFaults};
 ghost use Rattle.qcow2_image.specs.declared.image.Qcow2.{Qcow2};
 ghost use Rattle.qcow2_image.specs.Found.{l1_index_of, l2_index_of};
-ghost use Rattle.qcow2_image.specs.InternalSteps.{DropsNothing, HoldsTable, EntersCluster, EntersShare, FreesLater};
+ghost use Rattle.qcow2_image.specs.InternalSteps.{DropsNothing, HoldsTable, EntersCluster, EntersMapping, FreesLater};
 ghost use Rattle.qcow2_image.specs.InternalSteps.{Unpins, old_data_by, freed_by};
-ghost use Rattle.qcow2_image.specs.ImageInvariant.{ImageInvariant, listed_run, meaning, pending_in, abstract_of};
+ghost use Rattle.qcow2_image.specs.ImageInvariant.{ImageInvariant, listed_run, pending_in};
 ghost use Rattle.qcow2_metadata.specs.Header.{entries_per_cluster, cluster_size};
 ghost use Rattle.qcow2_metadata.specs.Cover.{cover};
 ghost use Rattle.qcow2_image.specs.declared.mapping.Place.TheVariants.{Image};
-ghost use Rattle.qcow2_image.specs.Refusals.{FreesRefused, refuses_to_prepare, passes as passes_size, IsMet};
-ghost use Rattle.qcow2_image.specs.Refusals.{IsUnlimited, IsMetPreparing, MarksRefused};
+ghost use Rattle.qcow2_image.specs.Refusals.{FreesRefused, refuses_to_prepare, passes as passes_size, MayFail};
+ghost use Rattle.qcow2_image.specs.Refusals.{IsUnlimited, MayFailPreparing};
 ghost use Rattle.qcow2_image.specs.declared.prepared.CommitRefused.TheVariants.{Kept, Spent};
-ghost use Rattle.qcow2_image.specs.declared.prepared.Share.TheVariants.{InPlace};
+ghost use Rattle.qcow2_image.specs.declared.prepared.ClusterMapping.TheVariants.{InPlace};
 ghost use Rattle.qcow2_alloc.specs.declared.error.ImageError.TheVariants.{Failed, ForeignState, TablePrepared};
 
-use crate::prepared::Share;
+use crate::prepared::ClusterMapping;
 use crate::{CommitRefused, Place, Prepared, Qcow2};
 use image_access::{Storage, WrappedFormat};
 use qcow2_alloc::{ClustersToFreeEntry, ClustersToFreeList, ImageError, PendingClusters};
 use qcow2_metadata::{GuestCluster, GuestOffset, HostCluster, HostOffset, L2Mapping};
 
-// Whether a range is not empty and ends behind a size.
+// Whether a range is not empty and ends past a size.
 pub(crate) fn passes(size: u64, offset: u64, length: u64) -> bool
     ensures answer { result ≡ passes_size size offset length }
     ensures end { result ≡ false → offset + length < 2 ^ 64 }
@@ -61,7 +58,7 @@ pub(crate) fn passes(size: u64, offset: u64, length: u64) -> bool
     length > 0 && (offset > size || length > size - offset)
 }
 
-// A refused commit. If nothing was changed, the mapping is handed back.
+// A refused commit. If nothing was changed, it returns the mapping.
 fn refused_commit(refusal: ImageError, prepared: Prepared, is_changed: bool) -> CommitRefused
     ensures failed { IsTrue is_changed → result ≡ Spent refusal }
     ensures kept { IsFalse is_changed → result ≡ Kept refusal prepared }
@@ -75,14 +72,14 @@ fn refused_commit(refusal: ImageError, prepared: Prepared, is_changed: bool) -> 
             offset: _,
             length: _,
             table: _,
-            shares: _,
+            clusters: _,
         } = prepared;
         return CommitRefused::Spent(refusal);
     }
     CommitRefused::Kept(refusal, prepared)
 }
 
-// Whether the call ends at once after a refusal.
+// Whether a call ends at once after this refusal, without freeing clusters.
 fn is_last(refusal: &ImageError) -> bool
     ensures fault { IsFault refusal.now → IsTrue result }
     ensures last { IsTrue result → IsFault refusal.now ⊎ (refusal.now ≡ TablePrepared) }
@@ -119,7 +116,7 @@ pub(crate) fn preallocated_offset(mapping: &L2Mapping) -> Option<u64>
     }
 }
 
-// Whether the host cluster of a mapping that is marked copied lies behind the header's cluster.
+// Whether the host cluster of a mapping that is marked copied lies past the header's cluster.
 fn is_behind_header(mapping: &L2Mapping, size: u64) -> bool
     ensures { IsTrue result ↔ MarkedIsBehind size mapping.now }
 {
@@ -149,15 +146,15 @@ pub(crate) fn keeps(mapping: &L2Mapping, place: u64) -> bool
     preallocated_offset(mapping) == Some(place)
 }
 
-#[tactic(auto, using(crate::proofs::Call::MetErrors::tables_met, crate::proofs::Call::MetErrors::storage_met, crate::proofs::Call::MetErrors::metadata_met, crate::proofs::Call::MetErrors::metadata_of_tables))]
+#[tactic(auto, using(crate::proofs::Call::FailingErrors::tables_met, crate::proofs::Call::FailingErrors::storage_met, crate::proofs::Call::FailingErrors::metadata_met, crate::proofs::Call::FailingErrors::metadata_of_tables))]
 impl<S: Storage, F: WrappedFormat<S>> Qcow2<S, F> {
     /// Prepares a range to be written at one place in the file. With `overwrite` the caller promises to write all of it, and old bytes are not
     /// copied. The mapping may be shorter than the range, and must be committed or discarded. A mapping that isn't existing has at least the
     /// rest of its first cluster. None of its bytes lies in the header's cluster.
     /// Refused in this order: 16 (failed), 12 (dependency), 2 (beyond size), 1 (read-only). A length of 0 succeeds before 1. Then
-    /// 9 (table prepared), if another mapping that isn't existing is prepared in the same L2 table. Refused
+    /// 9 (table prepared), if another mapping that isn't existing is prepared in the same L2 table. May be refused
     /// 4 (unaligned table), 7 (compressed) if a compressed cluster would have to be copied, 8 (everything is in use), 13 (limit),
-    /// 14 (memory) and 15 (storage) if the work meets them, and 20 (overflow) if an L1 entry past 64 bits would have to be written.
+    /// 14 (memory) or 15 (storage) during the work, and 20 (overflow) if an L1 entry past 64 bits would have to be written.
     pub fn prepare_data_mapping(
         &mut self,
         offset: u64,
@@ -165,37 +162,10 @@ impl<S: Storage, F: WrappedFormat<S>> Qcow2<S, F> {
         overwrite: bool,
     ) -> Result<Prepared, ImageError>
         ensures step { CallStep S.view F.backing self.old self.new result }
-        ensures early { IfSome (refuses_to_prepare self.old offset length) (λ e. (result ≡ Err e) × (self.new ≡ self.old)) }
-        ensures late { refuses_to_prepare self.old offset length ≡ None → IfErr result IsMetPreparing }
-        ensures met { refuses_to_prepare self.old offset length ≡ None → 0 < length → (out : List (Option Prepared))
-            → (abstract_of S.view F.backing self.old out).is_sound
-            → IfErr result (MayFailAllocating (HasPinnedMapping out)
-            (IsTaken self.old.file.header.fields (known_in S.view self.old.file) offset length out)
-            (CopiesCompressed offset length overwrite self.old.file.header.fields (known_in S.view self.old.file))
-            (NeedsOverflowingL1Entry self.old offset)) }
-        ensures limit { refuses_to_prepare self.old offset length ≡ None → 0 < length → (out : List (Option Prepared))
-            → (abstract_of S.view F.backing self.old out).is_sound
-            → IfLimit result (IsLimited S.view F.backing [] (offset + 1) self.old out) }
-        ensures nothing { refuses_to_prepare self.old offset 0 ≡ None → length ≡ 0 → IsOk result
-            × IfOk result IsOfNothing × (self.new ≡ self.old) }
-        ensures taken { refuses_to_prepare self.old offset length ≡ None → (out : List (Option Prepared))
-            → (abstract_of S.view F.backing self.old out).is_sound
-            → IfErr result (λ e. e ≡ TablePrepared
-            → IsTaken self.old.file.header.fields (known_in S.view self.old.file) offset length out) }
-        ensures own { IfOk result (λ p. image_of p ≡ number_of self.old) }
-        ensures some { IfOk result (λ p. 0 < length → 0 < length_of p) }
-        ensures behind { IfOk result (λ p. 0 < length → cluster_size self.new.file.header.fields ≤ offset_of p) }
-        ensures end { IfOk result (λ p. offset + length < 2 ^ 64) }
+        ensures refusals { RefusesPrepare self.old self.new offset length result }
+        ensures sound { PreparesMapping S.view F.backing self.old self.new offset length overwrite result }
+        ensures answer { AnswersPrepare self.old self.new offset length result }
         ensures sees { Prepares S.view F.backing self.old self.new offset length overwrite result }
-        ensures freed { refuses_to_prepare self.old offset length ≡ None → 0 < length → (out : List (Option Prepared))
-            → (abstract_of S.view F.backing self.old out).is_sound → IfErr result (FreesRefused self.new) }
-        ensures freeing { (out : List (Option Prepared)) → (abstract_of S.view F.backing self.old out).is_sound
-            → IfOk result (λ p. IsNone (table_of p) → ListsNoMore self.old self.new) }
-        ensures maps { 0 < length → (out : List (Option Prepared))
-            → (abstract_of S.view F.backing self.old out).is_sound
-            → IfOk result (λ p. IsAnswered self.old.file.header.fields
-            (known_in S.view self.old.file) offset length self.new.file.header.fields (known_in S.view self.new.file) p
-            (meaning S.view F.backing self.new p)) }
         ensures pinned { 0 < length → refuses_to_prepare self.old offset length ≡ None → HasOwnTable self.old offset
             → PreparesUnpinned self.old offset result }
     {
@@ -203,7 +173,7 @@ impl<S: Storage, F: WrappedFormat<S>> Qcow2<S, F> {
         if length == 0 {
             return Ok(self.existing_at(offset, 0, 0));
         }
-        self.begin();
+        self.begin_call();
         let prepared = self.prepare(offset, length, overwrite);
         self.mark_failure(prepared)
     }
@@ -238,7 +208,7 @@ impl<S: Storage, F: WrappedFormat<S>> Qcow2<S, F> {
             offset,
             length,
             table: None,
-            shares: Vec::new(self.file.alloc),
+            clusters: Vec::new(self.file.alloc),
         }
     }
 
@@ -251,7 +221,7 @@ impl<S: Storage, F: WrappedFormat<S>> Qcow2<S, F> {
     ) -> Result<Prepared, ImageError>
         requires writable { IsTrue (is_writable self.old) }
         ensures step { ImageStep S.view self.old self.new }
-        ensures fails { ImageFails S.view F.backing self.old self.new result IsMetPreparing }
+        ensures fails { ImageFails S.view F.backing self.old self.new result MayFailPreparing }
         ensures sound { 0 < length → (out : List (Option Prepared))
             → ImageInvariant S.view F.backing (pending_in S.view F.backing self.old out) self.old out
             → PreparesSoundly S.view F.backing offset length overwrite self.old self.new out result }
@@ -279,7 +249,7 @@ impl<S: Storage, F: WrappedFormat<S>> Qcow2<S, F> {
     ) -> Result<Prepared, ImageError>
         requires writable { IsTrue (is_writable self.old) }
         ensures step { ImageStep S.view self.old self.new }
-        ensures fails { ImageFails S.view F.backing self.old self.new result IsMetPreparing }
+        ensures fails { ImageFails S.view F.backing self.old self.new result MayFailPreparing }
         ensures sound { 0 < length → (out : List (Option Prepared))
             → ImageInvariant S.view F.backing (pending_in S.view F.backing self.old out) self.old out
             → PreparesSoundly S.view F.backing offset length overwrite self.old self.new out result }
@@ -302,10 +272,7 @@ impl<S: Storage, F: WrappedFormat<S>> Qcow2<S, F> {
         ensures step { ImageStep S.view self.old self.new }
         ensures keeps_rest { KeepsRest self.old self.new }
         ensures table { self.new.l1_table ≡ self.old.l1_table }
-        ensures cause { IsMetPreparing refusal → IsMetPreparing result }
-        ensures taken { IsMetPreparing refusal → result ≡ TablePrepared → refusal ≡ TablePrepared }
-        ensures fault { IsFault refusal → (result ≡ refusal) × (self.new ≡ self.old) }
-        ensures idle { HasNothingToFree self.old → (result ≡ refusal) × (self.new ≡ self.old) }
+        ensures refused { RefusesAfter self.old self.new refusal result }
         ensures told { ((result ≡ refusal) ⊎ IsOfTables result) × ((out : List (Option Prepared))
             → ImageInvariant S.view F.backing (pending_in S.view F.backing self.old out) self.old out
             → (result ≡ refusal) ⊎ IsFault result) }
@@ -315,6 +282,9 @@ impl<S: Storage, F: WrappedFormat<S>> Qcow2<S, F> {
         ensures frees { (out : List (Option Prepared))
             → ImageInvariant S.view F.backing (pending_in S.view F.backing self.old out) self.old out
             → RefusedCall S.view F.backing self.old self.new out result }
+        ensures lasts { (out : List (Option Prepared))
+            → ImageInvariant S.view F.backing (pending_in S.view F.backing self.old out) self.old out
+            → Lasts S.view self.old self.new [] }
         ensures faults { (start : Qcow2 S F)
             → CountsImageFaults S.view F.backing {T = Unit {0}} start self.old (Err refusal)
             → CountsImageFaults S.view F.backing {T = Unit {0}} start self.new (Err result) }
@@ -336,7 +306,7 @@ impl<S: Storage, F: WrappedFormat<S>> Qcow2<S, F> {
         length: u64,
     ) -> Result<Option<u64>, ImageError>
         requires cached { IsSome (l2_at self.now.file.caches table) }
-        ensures cause { IfErr result IsMet }
+        ensures cause { IfErr result MayFail }
         ensures reads { (p : Pending) → FileInvariant S.view p self.now.file
             → IsEntryAt self.now.file.header.fields (known_in S.view self.now.file)
             (l1_index_of self.now.file.header.fields offset) table (l2_index_of self.now.file.header.fields offset)
@@ -359,7 +329,7 @@ impl<S: Storage, F: WrappedFormat<S>> Qcow2<S, F> {
         Ok(behind_header(kind.writable_place(), self.file.header.cluster_size()))
     }
 
-    // Prepares a range in a cached table that no other mapping pins: its first cluster, and those behind it that can be contiguous.
+    // Prepares a range in a cached table that no other mapping pins: its first cluster, and those after it that can be contiguous.
     fn prepare_in(
         &mut self,
         table: HostCluster,
@@ -368,8 +338,8 @@ impl<S: Storage, F: WrappedFormat<S>> Qcow2<S, F> {
         overwrite: bool,
     ) -> Result<Prepared, ImageError>
         requires writable { IsTrue (is_writable self.old) }
-        ensures step { ImageStepWhere S.view (0 < table) self.old self.new }
-        ensures fails { ImageFails S.view F.backing self.old self.new result IsMetPreparing }
+        ensures step { AllocatingStepWhere S.view (0 < table) self.old self.new }
+        ensures fails { ImageFails S.view F.backing self.old self.new result MayFailPreparing }
         ensures sound { (out : List (Option Prepared))
             → ImageInvariant S.view F.backing (pending_in S.view F.backing self.old out) self.old out
             → HoldsTable S.view F.backing self.old offset table
@@ -381,7 +351,6 @@ impl<S: Storage, F: WrappedFormat<S>> Qcow2<S, F> {
         ensures reaches { (out : List (Option Prepared)) (k : ℕ) → slice_get out k ≡ Some None
             → ImageInvariant S.view F.backing (pending_in S.view F.backing self.old out) self.old out
             → HoldsTable S.view F.backing self.old offset table → IfOk result (Reaches S.view self.new offset length) }
-        ensures header { KeepsHeader self.old.file.header self.new.file.header }
     {
         let mut prepared = self.prepare_first(table, offset, length, overwrite)?;
         match self.prepare_rest(&mut prepared, table, length, overwrite) {
@@ -394,7 +363,7 @@ impl<S: Storage, F: WrappedFormat<S>> Qcow2<S, F> {
     }
 
     // The mapping of a guest cluster in a cached table. An entry that is marked copied in the header's cluster is refused 19 (metadata).
-    #[tactic(auto, using(crate::proofs::Call::MetErrors::tables_met, crate::proofs::Call::MetErrors::storage_met, crate::proofs::Call::MetErrors::metadata_met, crate::proofs::Call::MetErrors::metadata_of_tables, crate::proofs::Call::Unlimited::unaligned_unlimited))]
+    #[tactic(auto, using(crate::proofs::Call::FailingErrors::tables_met, crate::proofs::Call::FailingErrors::storage_met, crate::proofs::Call::FailingErrors::metadata_met, crate::proofs::Call::FailingErrors::metadata_of_tables, crate::proofs::Call::Unlimited::unaligned_unlimited))]
     pub(crate) fn cover_in(
         &self,
         table: HostCluster,
@@ -402,7 +371,7 @@ impl<S: Storage, F: WrappedFormat<S>> Qcow2<S, F> {
     ) -> Result<L2Mapping, ImageError>
         ensures reach { IfOk result IsInReach }
         ensures behind { IfOk result (MarkedIsBehind (cluster_size self.now.file.header.fields)) }
-        ensures cause { IfErr result IsMet }
+        ensures cause { IfErr result MayFail }
         ensures limited { IfErr result IsUnlimited }
         ensures reads { (p : Pending) (i : ℕ) → FileInvariant S.view p self.now.file
             → self.now.file.header.fields.incompatible ≡ 0
@@ -432,7 +401,7 @@ impl<S: Storage, F: WrappedFormat<S>> Qcow2<S, F> {
     pub(crate) fn named_by(&self, mapping: &L2Mapping) -> Result<ClustersToFreeList, ImageError>
         requires { IsInReach mapping.now }
         ensures list { IfOk result (λ list. list ≡ listed_run (named_run self.now.file.header.fields.cluster_bits mapping.now)) }
-        ensures cause { IfErr result IsMet }
+        ensures cause { IfErr result MayFail }
         ensures fault { IfErr result IsFault }
         ensures faults { IfErr result IsNotOfStorage }
     {
@@ -451,38 +420,21 @@ impl<S: Storage, F: WrappedFormat<S>> Qcow2<S, F> {
         pending.hand_back(&mut self.file.free_list);
     }
 
-    /// Makes a prepared mapping visible. If it isn't existing, the clusters on the list are freed then. A refusal that leaves
-    /// the mapping the same hands it back (`Kept`).
+    /// Makes a prepared mapping visible. If it isn't existing, the clusters on the list are freed then. A refusal that leaves the mapping unchanged
+    /// returns it (`Kept`).
     /// Refused 11 (foreign state) for a mapping of another image, then 16 (failed). Refused 14 (memory) and 15 (storage)
     /// if clusters can't be freed.
     pub fn commit_data_mapping(&mut self, mut prepared: Prepared) -> Result<(), CommitRefused>
-        ensures foreign { image_of prepared ≢ number_of self.old → (result ≡ Err (Kept ForeignState prepared)) × (self.new ≡ self.old) }
-        ensures failed { image_of prepared ≡ number_of self.old → IsTrue (is_failed self.old)
-            → (result ≡ Err (Kept Failed prepared)) × (self.new ≡ self.old) }
-        ensures kept { IfErr result (IsHandedBackBy prepared) }
-        ensures late { image_of prepared ≡ number_of self.old → is_failed self.old ≡ false → IfErr result (λ r. IsOfTables (reason_of r)) }
-        ensures marks { MatchResult result (λ done. is_failed self.new ≡ is_failed self.old) (λ r. MarksRefused self.old self.new (reason_of r)) }
+        ensures step { CommitCall S.view F.backing self.old self.new result }
+        ensures refusals { RefusesCommit S.view F.backing self.old self.new prepared result }
+        ensures stands { CommitsMapping S.view F.backing self.old self.new prepared result }
         ensures existing { image_of prepared ≡ number_of self.old → is_failed self.old ≡ false
             → IsNone (table_of prepared) → (result ≡ Ok tt) × ReleasesOneMapping S.view self.old self.new }
-        ensures image { IsSameImage self.old self.new }
-        ensures header { KeepsWholeHeader self.old self.new }
         ensures sees { Commits S.view F.backing self.old self.new prepared result }
-        ensures copied { (out : List (Option Prepared)) (k : ℕ) → slice_get out k ≡ Some (Some prepared)
-            → (abstract_of S.view F.backing self.old out).is_sound → IsSome (table_of prepared)
-            → OnOk result (AreDataAt self.new.file.header.fields (known_in S.view self.new.file) true
-            (guest_offset_of prepared) (offset_of prepared) (length_of prepared)) }
         ensures emptied { image_of prepared ≡ number_of self.old → IsSome (table_of prepared)
             → IsTrue (is_writable self.old) → OnOk result (HasNothingToFree self.new) }
-        ensures freeing { (out : List (Option Prepared)) (k : ℕ) → slice_get out k ≡ Some (Some prepared)
-            → (abstract_of S.view F.backing self.old out).is_sound → IsNone (table_of prepared)
-            → OnOk result (ListStays self.old self.new) }
         ensures quiet { HasNothingToFree self.old → DropsNothing prepared
             → storage_of self.new.file.storage ≡ storage_of self.old.file.storage }
-        ensures once_written { CommitFailsOnceWritten S.view self.old self.new result }
-        ensures header_cluster { PreservesHeaderCluster S.view self.old self.new }
-        ensures faults { NoFewerFaults S.view F.backing self.old self.new
-            × IfErr result (λ r. TellsFault S.view F.backing self.old self.new (reason_of r))
-            × TellsEachBy S.view F.backing reason_of self.old self.new result }
     {
         if prepared.image != self.number {
             return Err(CommitRefused::Kept(ImageError::ForeignState, prepared));
@@ -494,8 +446,8 @@ impl<S: Storage, F: WrappedFormat<S>> Qcow2<S, F> {
             self.release_prepared(prepared);
             return Ok(());
         }
-        self.begin();
-        let entered = self.enter_shares(&mut prepared);
+        self.begin_call();
+        let entered = self.enter_mappings(&mut prepared);
         match self.process_free_list_at_end() {
             Ok(()) => {
                 self.release_prepared(prepared);
@@ -505,13 +457,13 @@ impl<S: Storage, F: WrappedFormat<S>> Qcow2<S, F> {
         }
     }
 
-    // Enters the shares of a mapping in its cached table. Returns whether one wasn't in place.
-    pub(crate) fn enter_shares(&mut self, prepared: &mut Prepared) -> bool
+    // Enters the clusters of a mapping in its cached L2 table. Returns whether one wasn't in place.
+    pub(crate) fn enter_mappings(&mut self, prepared: &mut Prepared) -> bool
         ensures step { ImageStep S.view self.old self.new }
         ensures none { IsFalse result → (self.new ≡ self.old) × (prepared.new ≡ prepared.old) }
         ensures enters { EntersAll S.view F.backing self.old self.new prepared.old prepared.new result }
         ensures in_place { IsEntered prepared.old prepared.new }
-        ensures left { freed_by prepared.new.shares.items ≡ [] }
+        ensures left { freed_by prepared.new.clusters.items ≡ [] }
         ensures header { self.new.file.header ≡ self.old.file.header }
         ensures rest { self.new ≡ record self.old {
           file = record self.old.file {
@@ -523,43 +475,43 @@ impl<S: Storage, F: WrappedFormat<S>> Qcow2<S, F> {
         ensures faults { SameFaults S.view F.backing self.old self.new }
     {
         let mut entered = false;
-        for i in 0..prepared.shares.len() {
-            if self.enter_share(prepared, i) {
+        for i in 0..prepared.clusters.len() {
+            if self.enter_mapping(prepared, i) {
                 entered = true;
             }
         }
         entered
     }
 
-    // Enters a share of a mapping in its table. False if it is in place.
-    fn enter_share(&mut self, prepared: &mut Prepared, i: usize) -> bool
-        requires { i < length prepared.old.shares.items }
+    // Enters one cluster of a mapping in its L2 table. False if it is in place.
+    fn enter_mapping(&mut self, prepared: &mut Prepared, i: usize) -> bool
+        requires { i < length prepared.old.clusters.items }
         ensures stays { ImageStays self.old self.new }
         ensures none { IsFalse result → (self.new ≡ self.old) × (prepared.new ≡ prepared.old)
-            × (slice_get prepared.old.shares.items i ≡ Some InPlace) }
-        ensures enters { IsTrue result → EntersShare i prepared.old prepared.new self.old self.new }
+            × (slice_get prepared.old.clusters.items i ≡ Some InPlace) }
+        ensures enters { IsTrue result → EntersMapping i prepared.old prepared.new self.old self.new }
     {
-        if !prepared.shares[i].is_entered() {
+        if !prepared.clusters[i].is_entered() {
             return false;
         }
-        let share = std::mem::replace(&mut prepared.shares[i], Share::InPlace);
+        let cluster_mapping = std::mem::replace(&mut prepared.clusters[i], ClusterMapping::InPlace);
         let bits = self.file.header.cluster_bits();
         let index = GuestOffset::new(prepared.guest).l2_index(bits);
         let first = HostOffset::new(prepared.offset).cluster(bits).value();
         let cluster = HostCluster::new(first.saturating_add(i as u64));
         self.enter_cluster(prepared.table, index.saturating_add(i), cluster);
-        self.drop_former(share);
+        self.drop_former(cluster_mapping);
         true
     }
 
-    // Puts the clusters that a share replaced on the list of clusters to free.
-    fn drop_former(&mut self, share: Share)
-        ensures { FreesLater (old_data_by share) self.old self.new }
+    // Puts the host clusters that an entered cluster replaced on the list of clusters to free.
+    fn drop_former(&mut self, cluster_mapping: ClusterMapping)
+        ensures { FreesLater (old_data_by cluster_mapping) self.old self.new }
     {
-        if let Share::New {
+        if let ClusterMapping::New {
             taken: _,
             mut old_data,
-        } = share
+        } = cluster_mapping
         {
             old_data.take().hand_back(&mut self.file.free_list);
         }
@@ -573,8 +525,8 @@ impl<S: Storage, F: WrappedFormat<S>> Qcow2<S, F> {
         }
     }
 
-    /// Drops a prepared mapping: its new clusters wait to be freed. This works on a failed image too. Refused 11 (foreign state) for a mapping
-    /// of another image, which is handed back.
+    /// Drops a prepared mapping: its new clusters wait to be freed. This works on a failed image too. Refused 11 (foreign state) for a mapping of
+    /// another image, which is returned.
     pub fn discard_data_mapping(&mut self, prepared: Prepared) -> Result<(), (ImageError, Prepared)>
         ensures own { image_of prepared ≡ number_of self.old → IsOk result }
         ensures foreign { image_of prepared ≢ number_of self.old → (result ≡ Err (ForeignState, prepared)) × (self.new ≡ self.old) }
@@ -596,7 +548,7 @@ impl<S: Storage, F: WrappedFormat<S>> Qcow2<S, F> {
     pub(crate) fn release_prepared(&mut self, prepared: Prepared)
         ensures step { ImageStep S.view self.old self.new }
         ensures header { self.new.file.header ≡ self.old.file.header }
-        ensures list { self.new.file.free_list ≡ self.old.file.free_list ++ freed_by prepared.shares.items }
+        ensures list { self.new.file.free_list ≡ self.old.file.free_list ++ freed_by prepared.clusters.items }
         ensures rest { ReleasesOneMapping S.view self.old self.new }
         ensures sees { Discards S.view F.backing self.old self.new prepared }
         ensures faults { SameFaults S.view F.backing self.old self.new }
@@ -608,28 +560,28 @@ impl<S: Storage, F: WrappedFormat<S>> Qcow2<S, F> {
             offset: _,
             length: _,
             table,
-            shares,
+            clusters,
         } = prepared;
-        self.list_new_clusters(shares);
+        self.list_new_clusters(clusters);
         self.unpin(table);
     }
 
-    // Puts the new clusters of shares on the list of clusters to free.
-    fn list_new_clusters(&mut self, shares: Vec<Share>)
-        ensures { FreesLater (freed_by shares.items) self.old self.new }
+    // Puts the new clusters of a mapping on the list of clusters to free.
+    fn list_new_clusters(&mut self, clusters: Vec<ClusterMapping>)
+        ensures { FreesLater (freed_by clusters.items) self.old self.new }
     {
-        for share in shares {
-            self.free_share(share);
+        for cluster_mapping in clusters {
+            self.free_mapping(cluster_mapping);
         }
     }
 
-    fn free_share(&mut self, share: Share)
-        ensures { FreesLater (freed_by (share ∷ [])) self.old self.new }
+    fn free_mapping(&mut self, cluster_mapping: ClusterMapping)
+        ensures { FreesLater (freed_by (cluster_mapping ∷ [])) self.old self.new }
     {
-        if let Share::New {
+        if let ClusterMapping::New {
             mut taken,
             old_data: _,
-        } = share
+        } = cluster_mapping
         {
             taken.take().hand_back(&mut self.file.free_list);
         }

@@ -17,7 +17,7 @@ pub struct Qcow2OpenBuilder<S: Storage, F: WrappedFormat<S> = Box<dyn BackingDis
     image: S,
     number: u64,
     writable: bool,
-    // None if it wasn't called, and some none if the backing file is waived.
+    // None if `backing` wasn't called; `Some(None)` if the backing file is waived.
     backing: Option<Option<F>>,
 }
 
@@ -72,8 +72,8 @@ impl<S: Storage, F: WrappedFormat<S>> Qcow2OpenBuilder<S, F> {
     /// Opens the image over the given backing disk. A refusal returns the storage, and drops the backing disk.
     /// Refused for the header 19 (metadata), 13 (limit), 4 (unaligned table), in this order; then 12 (dependency), before anything is
     /// written, if the image needs a data file, or names a backing file and `backing` wasn't called; then for the L1 table
-    /// 19; and for writing, for the reftable 13 if it would end past 64 bits, and 19. Refused
-    /// 14 (memory) and 15 (storage) if the work meets them.
+    /// 19; and for writing, for the reftable 13 if it would end past 64 bits, and 19. May be refused
+    /// 14 (memory) or 15 (storage) during the work.
     pub fn open(self, alloc: Global) -> Result<Qcow2<S, F>, (S, ImageError)>
         ensures step { OpeningStep S.view (S.view self.image) self.writable (files_missing self.backing) result }
         ensures image { IfOk result (IsNewlyOpened (S.view self.image) self.writable self.number) }

@@ -1,4 +1,4 @@
-//! Preallocation: zeros are put behind the end of a disk before its size grows.
+//! Preallocation: zeros are put past the end of a disk before its size grows.
 ghost use Rattle.qcow2_image.specs.SoundParts.{FillsPart};
 ghost use Rattle.qcow2_image.specs.ImageSteps.{FailsUnlimited, ImageFails, ImageStep};
 ghost use Rattle.std.specs.Prelude.{ℕ, List, Option, ◌≡◌, ◌%◌, ◌^◌, ◌<◌, ◌≤◌, Err, IfOk, IfErr, IsTrue, OnOk, max};
@@ -6,13 +6,13 @@ ghost use Rattle.std.specs.Prelude.{replicate, slice_get, slice_set, None, Ok, S
 ghost use Rattle.qcow2_alloc.specs.ImageFile.{known_in};
 ghost use Rattle.qcow2_image.specs.Backings.{HasPinnedMapping};
 ghost use Rattle.qcow2_alloc.specs.ImageError.{IsFault};
-ghost use Rattle.qcow2_image.specs.MetAlone.{HasCompressedIn, HasNearEntries, IsMetGrowing, MayFailAllocating};
+ghost use Rattle.qcow2_image.specs.MayFail.{HasCompressedIn, HasNearEntries, MayFailGrowing, MayFailAllocating};
 ghost use Rattle.image_access.specs.declared.storage.PreallocateMode.TheVariants.{None as PreallocateNone, Zero};
 ghost use Rattle.qcow2_metadata.specs.Header.{cluster_size, rounded_up as rounded_up_to};
 ghost use Rattle.image_access.specs.Contents.{zeroed};
 ghost use Rattle.image_access.specs.Moments.{Calls, Changes};
-ghost use Rattle.qcow2_alloc.specs.ImageStorage.{storage_of, NotesWrite};
-ghost use Rattle.qcow2_alloc.specs.WriteKinds.{IsToldData};
+ghost use Rattle.qcow2_alloc.specs.ImageStorage.{storage_of, RecordsWrite};
+ghost use Rattle.qcow2_alloc.specs.WriteKinds.{HasDataKind};
 ghost use Rattle.qcow2_alloc.specs.declared.error.ImageError.TheVariants.{Version};
 ghost use Rattle.qcow2_image.specs.declared.prepared.Prepared.{Prepared};
 ghost use Rattle.qcow2_image.specs.CallParts.{WritesBytes};
@@ -20,7 +20,7 @@ ghost use Rattle.qcow2_image.specs.Image.{HasNothingToFree, is_writable, size_of
 ghost use Rattle.qcow2_image.specs.ImageInvariant.{ImageInvariant, pending_in};
 ghost use Rattle.qcow2_image.specs.Preallocation.{AreZeros, CommitsWhole, FillsFirst, FillsGrownOrRefuses};
 ghost use Rattle.qcow2_image.specs.Preallocation.{FillsOrRefuses, IsWholeRange, most_of};
-ghost use Rattle.qcow2_image.specs.Refusals.{FreesRefused, IsMet, IsMetPreparing};
+ghost use Rattle.qcow2_image.specs.Refusals.{FreesRefused, MayFail, MayFailPreparing};
 ghost use Rattle.qcow2_image.specs.Faults.{IsNotOfStorage, SameFaults};
 
 use crate::discarding::{ClearMode, rounded_up};
@@ -35,21 +35,21 @@ const PIECE: usize = 2097152;
 // How zeros are written into clusters.
 #[derive(Drop)]
 pub(crate) enum ZeroWrites {
-    // As zeros of the storage, which may release their space.
+    // By a zeroing of the storage, which may release the space.
     Short,
-    // As zeros of the storage, which keeps their space allocated if possible.
+    // By a zeroing of the storage, which keeps the space allocated if possible.
     Taken,
-    // As bytes, at most so many at once.
+    // As bytes, from a buffer of zeros.
     Plain(Vec<u8>),
 }
 
-#[tactic(auto, using(crate::proofs::Call::MetErrors::tables_met, crate::proofs::Call::MetErrors::storage_met))]
+#[tactic(auto, using(crate::proofs::Call::FailingErrors::tables_met, crate::proofs::Call::FailingErrors::storage_met))]
 impl ZeroWrites {
     // A buffer of zeros.
     fn plain(alloc: Global, count: usize) -> Result<Self, ImageError>
         ensures most { IfOk result (λ writes. most_of writes ≡ count) }
         ensures zeros { IfOk result AreZeros }
-        ensures cause { IfErr result IsMet }
+        ensures cause { IfErr result MayFail }
         ensures fault { IfErr result IsFault }
         ensures faults { IfErr result IsNotOfStorage }
     {
@@ -76,10 +76,11 @@ impl ZeroWrites {
     ) -> Result<(), StorageError>
         requires few { count ≤ most_of self.now }
         requires zeros { AreZeros self.now }
-        requires told { IsToldData storage.old }
-        ensures written { Changes (S.view (storage_of storage.old)) (S.view (storage_of storage.new)) result (λ b. zeroed b at count) }
+        requires told { HasDataKind storage.old }
+        ensures written { Changes (S.view (storage_of storage.old)) (S.view (storage_of storage.new)) result
+            (λ b. zeroed b at count) }
         ensures calls { Calls (S.view (storage_of storage.old)) (S.view (storage_of storage.new)) result }
-        ensures noted { NotesWrite storage.old storage.new result }
+        ensures recorded { RecordsWrite storage.old storage.new result }
     {
         match self {
             ZeroWrites::Short => storage.write_zero_data(at, count),
@@ -89,9 +90,9 @@ impl ZeroWrites {
     }
 }
 
-#[tactic(auto, using(crate::proofs::Call::MetErrors::tables_met, crate::proofs::Call::MetErrors::storage_met, crate::proofs::Call::MetErrors::metadata_met, crate::proofs::Call::MetErrors::metadata_of_tables))]
+#[tactic(auto, using(crate::proofs::Call::FailingErrors::tables_met, crate::proofs::Call::FailingErrors::storage_met, crate::proofs::Call::FailingErrors::metadata_met, crate::proofs::Call::FailingErrors::metadata_of_tables))]
 impl<S: Storage, F: WrappedFormat<S>> Qcow2<S, F> {
-    // Puts zeros behind the end of a disk that will grow, up to the end of its last cluster, as a mode says. After
+    // Puts zeros past the end of a disk that will grow, up to the end of its last cluster, as a mode says. After
     // a refusal, the clusters on the list are freed, except after a fault and after 9.
     pub(crate) fn fill_grown(
         &mut self,
@@ -103,19 +104,18 @@ impl<S: Storage, F: WrappedFormat<S>> Qcow2<S, F> {
         requires end { old ≡ size_of self.old }
         requires larger { old < size }
         ensures step { ImageStep S.view self.old self.new }
-        ensures fails { ImageFails S.view F.backing self.old self.new result IsMetPreparing }
-        ensures met { (out : List (Option Prepared))
+        ensures fails { ImageFails S.view F.backing self.old self.new result MayFailPreparing }
+        ensures sound { (out : List (Option Prepared))
             → ImageInvariant S.view F.backing (pending_in S.view F.backing self.old out) self.old out
-            → HasNearEntries (rounded_up_to (cluster_size self.old.file.header.fields) size) self.old.file.header.fields
-            → IfErr result (IsMetGrowing out mode old
+            → FillsPart (FillsGrownOrRefuses S.view F.backing size mode self.old self.new out result)
+            (HasNearEntries (rounded_up_to (cluster_size self.old.file.header.fields) size) self.old.file.header.fields
+            → IfErr result (MayFailGrowing out mode old
             (rounded_up_to (cluster_size self.old.file.header.fields) size) self.old.file.header.fields
-            (known_in S.view self.old.file)) }
+            (known_in S.view self.old.file))) }
         ensures emptied { HasNothingToFree self.old → OnOk result (HasNothingToFree self.new) }
         ensures unfilled { mode ≡ PreallocateNone → (result ≡ Ok tt) × (self.new ≡ self.old) }
         ensures version { HasNothingToFree self.old → mode ≡ Zero → self.old.file.header.fields.version < 3
             → (result ≡ Err Version) × (self.new ≡ self.old) }
-        ensures fills { (out : List (Option Prepared)) → ImageInvariant S.view F.backing (pending_in S.view F.backing self.old out) self.old out
-            → FillsGrownOrRefuses S.view F.backing size mode self.old self.new out result }
         ensures freed { (out : List (Option Prepared))
             → ImageInvariant S.view F.backing (pending_in S.view F.backing self.old out) self.old out
             → IfErr result (FreesRefused self.new) }
@@ -126,24 +126,24 @@ impl<S: Storage, F: WrappedFormat<S>> Qcow2<S, F> {
         }
     }
 
-    // Puts zeros behind the end of a disk that will grow, up to the end of its last cluster, as a mode says.
+    // Puts zeros past the end of a disk that will grow, up to the end of its last cluster, as a mode says.
     fn fill_behind(&mut self, old: u64, size: u64, mode: PreallocateMode) -> Result<(), ImageError>
         requires writable { IsTrue (is_writable self.old) }
         requires end { old ≡ size_of self.old }
         requires larger { old < size }
         ensures step { ImageStep S.view self.old self.new }
-        ensures fails { ImageFails S.view F.backing self.old self.new result IsMetPreparing }
-        ensures met { (out : List (Option Prepared))
+        ensures fails { ImageFails S.view F.backing self.old self.new result MayFailPreparing }
+        ensures sound { (out : List (Option Prepared))
             → ImageInvariant S.view F.backing (pending_in S.view F.backing self.old out) self.old out
-            → HasNearEntries (rounded_up_to (cluster_size self.old.file.header.fields) size) self.old.file.header.fields
-            → IfErr result (IsMetGrowing out mode old
+            → FillsPart (FillsGrownOrRefuses S.view F.backing size mode self.old self.new out result)
+            (HasNearEntries (rounded_up_to (cluster_size self.old.file.header.fields) size) self.old.file.header.fields
+            → IfErr result (MayFailGrowing out mode old
             (rounded_up_to (cluster_size self.old.file.header.fields) size) self.old.file.header.fields
-            (known_in S.view self.old.file)) }
+            (known_in S.view self.old.file))) }
         ensures emptied { HasNothingToFree self.old → OnOk result (HasNothingToFree self.new) }
         ensures unfilled { mode ≡ PreallocateNone → (result ≡ Ok tt) × (self.new ≡ self.old) }
-        ensures version { mode ≡ Zero → self.old.file.header.fields.version < 3 → (result ≡ Err Version) × (self.new ≡ self.old) }
-        ensures fills { (out : List (Option Prepared)) → ImageInvariant S.view F.backing (pending_in S.view F.backing self.old out) self.old out
-            → FillsGrownOrRefuses S.view F.backing size mode self.old self.new out result }
+        ensures version { mode ≡ Zero → self.old.file.header.fields.version < 3 → (result ≡ Err Version)
+            × (self.new ≡ self.old) }
     {
         match mode {
             PreallocateMode::None => Ok(()),
@@ -157,25 +157,24 @@ impl<S: Storage, F: WrappedFormat<S>> Qcow2<S, F> {
         }
     }
 
-    // Puts zeros behind the end, in clusters of their own.
+    // Puts zeros past the end, in clusters of their own.
     fn allocate_grown(&mut self, old: u64, size: u64, writes: &ZeroWrites) -> Result<(), ImageError>
         requires writable { IsTrue (is_writable self.old) }
         requires few { 2 ^ 21 ≤ most_of writes.now }
         requires zeros { AreZeros writes.now }
         ensures step { ImageStep S.view self.old self.new }
-        ensures fails { ImageFails S.view F.backing self.old self.new result IsMetPreparing }
-        ensures met { (out : List (Option Prepared))
+        ensures fails { ImageFails S.view F.backing self.old self.new result MayFailPreparing }
+        ensures sound { (out : List (Option Prepared))
             → ImageInvariant S.view F.backing (pending_in S.view F.backing self.old out) self.old out → old ≤ size
-            → HasNearEntries (rounded_up_to (cluster_size self.old.file.header.fields) size) self.old.file.header.fields
+            → FillsPart (FillsOrRefuses S.view F.backing
+            (rounded_up_to (cluster_size self.old.file.header.fields) size) old
+            (rounded_up_to (cluster_size self.old.file.header.fields) size) self.old self.new out result)
+            (HasNearEntries (rounded_up_to (cluster_size self.old.file.header.fields) size) self.old.file.header.fields
             → IfErr result (MayFailAllocating (HasPinnedMapping out) (HasPinnedMapping out)
             (HasCompressedIn old (rounded_up_to
             (cluster_size self.old.file.header.fields) size) self.old.file.header.fields
-            (known_in S.view self.old.file)) ⊥) }
+            (known_in S.view self.old.file)) ⊥)) }
         ensures emptied { HasNothingToFree self.old → OnOk result (HasNothingToFree self.new) }
-        ensures fills { (out : List (Option Prepared))
-            → ImageInvariant S.view F.backing (pending_in S.view F.backing self.old out) self.old out → old ≤ size
-            → FillsOrRefuses S.view F.backing (rounded_up_to (cluster_size self.old.file.header.fields) size) old
-            (rounded_up_to (cluster_size self.old.file.header.fields) size) self.old self.new out result }
     {
         let Some(end) = rounded_up(size, self.file.header.cluster_size()) else {
             return Err(ImageError::Overflow);
@@ -183,25 +182,24 @@ impl<S: Storage, F: WrappedFormat<S>> Qcow2<S, F> {
         self.fill_range(old, end, writes)
     }
 
-    // Makes the whole clusters behind the end zero clusters, and writes zeros to the rest of the cluster before them.
+    // Makes the whole clusters past the end zero clusters, and writes zeros to the rest of the cluster before them.
     fn zero_grown(&mut self, old: u64, size: u64) -> Result<(), ImageError>
         requires writable { IsTrue (is_writable self.old) }
         ensures step { ImageStep S.view self.old self.new }
-        ensures fails { ImageFails S.view F.backing self.old self.new result IsMetPreparing }
-        ensures met { (out : List (Option Prepared))
+        ensures fails { ImageFails S.view F.backing self.old self.new result MayFailPreparing }
+        ensures sound { (out : List (Option Prepared))
             → ImageInvariant S.view F.backing (pending_in S.view F.backing self.old out) self.old out → old ≤ size
-            → 3 ≤ self.old.file.header.fields.version
+            → FillsPart (FillsOrRefuses S.view F.backing
+            (rounded_up_to (cluster_size self.old.file.header.fields) old) old
+            (rounded_up_to (cluster_size self.old.file.header.fields) size) self.old self.new out result)
+            (3 ≤ self.old.file.header.fields.version
             → HasNearEntries (rounded_up_to (cluster_size self.old.file.header.fields) size) self.old.file.header.fields
             → IfErr result (MayFailAllocating (HasPinnedMapping out) (HasPinnedMapping out)
             (HasCompressedIn old (rounded_up_to
             (cluster_size self.old.file.header.fields) old) self.old.file.header.fields
-            (known_in S.view self.old.file)) ⊥) }
+            (known_in S.view self.old.file)) ⊥)) }
         ensures emptied { HasNothingToFree self.old → OnOk result (HasNothingToFree self.new) }
         ensures version { self.old.file.header.fields.version < 3 → (result ≡ Err Version) × (self.new ≡ self.old) }
-        ensures fills { (out : List (Option Prepared))
-            → ImageInvariant S.view F.backing (pending_in S.view F.backing self.old out) self.old out → old ≤ size
-            → FillsOrRefuses S.view F.backing (rounded_up_to (cluster_size self.old.file.header.fields) old) old
-            (rounded_up_to (cluster_size self.old.file.header.fields) size) self.old self.new out result }
     {
         if self.file.header.version() < 3 {
             return Err(ImageError::Version);
@@ -220,7 +218,7 @@ impl<S: Storage, F: WrappedFormat<S>> Qcow2<S, F> {
     fn zero_between(&mut self, old: u64, from: u64, end: u64) -> Result<(), ImageError>
         requires writable { IsTrue (is_writable self.old) }
         ensures step { ImageStep S.view self.old self.new }
-        ensures fails { ImageFails S.view F.backing self.old self.new result IsMetPreparing }
+        ensures fails { ImageFails S.view F.backing self.old self.new result MayFailPreparing }
         ensures sound { (out : List (Option Prepared))
             → ImageInvariant S.view F.backing (pending_in S.view F.backing self.old out) self.old out → old ≤ from
             → from ≤ end → IsWholeRange self.old.file.header.fields from end → 3 ≤ self.old.file.header.fields.version
@@ -239,7 +237,7 @@ impl<S: Storage, F: WrappedFormat<S>> Qcow2<S, F> {
     fn zero_range(&mut self, from: u64, to: u64) -> Result<(), ImageError>
         requires writable { IsTrue (is_writable self.old) }
         ensures step { ImageStep S.view self.old self.new }
-        ensures fails { ImageFails S.view F.backing self.old self.new result IsMetPreparing }
+        ensures fails { ImageFails S.view F.backing self.old self.new result MayFailPreparing }
         ensures sound { (out : List (Option Prepared))
             → ImageInvariant S.view F.backing (pending_in S.view F.backing self.old out) self.old out → from ≤ to
             → IsWholeRange self.old.file.header.fields from to → 3 ≤ self.old.file.header.fields.version
@@ -255,11 +253,11 @@ impl<S: Storage, F: WrappedFormat<S>> Qcow2<S, F> {
         Ok(())
     }
 
-    // Makes those clusters zero clusters that the first L2 table of a range covers. Returns where they end.
+    // Makes the clusters of a range that its first L2 table covers zero clusters. Returns where they end.
     fn zero_first(&mut self, from: u64, to: u64) -> Result<u64, ImageError>
         requires writable { IsTrue (is_writable self.old) }
         ensures step { ImageStep S.view self.old self.new }
-        ensures fails { ImageFails S.view F.backing self.old self.new result IsMetPreparing }
+        ensures fails { ImageFails S.view F.backing self.old self.new result MayFailPreparing }
         ensures sound { (out : List (Option Prepared))
             → ImageInvariant S.view F.backing (pending_in S.view F.backing self.old out) self.old out → from ≤ to
             → IsWholeRange self.old.file.header.fields from to → 3 ≤ self.old.file.header.fields.version
@@ -288,7 +286,7 @@ impl<S: Storage, F: WrappedFormat<S>> Qcow2<S, F> {
         requires few { 2 ^ 21 ≤ most_of writes.now }
         requires zeros { AreZeros writes.now }
         ensures step { ImageStep S.view self.old self.new }
-        ensures fails { ImageFails S.view F.backing self.old self.new result IsMetPreparing }
+        ensures fails { ImageFails S.view F.backing self.old self.new result MayFailPreparing }
         ensures sound { (out : List (Option Prepared))
             → ImageInvariant S.view F.backing (pending_in S.view F.backing self.old out) self.old out → from ≤ to
             → to % cluster_size self.old.file.header.fields ≡ 0
@@ -312,7 +310,7 @@ impl<S: Storage, F: WrappedFormat<S>> Qcow2<S, F> {
         requires zeros { AreZeros writes.now }
         requires some { from < to }
         ensures step { ImageStep S.view self.old self.new }
-        ensures fails { ImageFails S.view F.backing self.old self.new result IsMetPreparing }
+        ensures fails { ImageFails S.view F.backing self.old self.new result MayFailPreparing }
         ensures sound { (out : List (Option Prepared))
             → ImageInvariant S.view F.backing (pending_in S.view F.backing self.old out) self.old out
             → FillsPart (to % cluster_size self.old.file.header.fields ≡ 0
@@ -340,7 +338,7 @@ impl<S: Storage, F: WrappedFormat<S>> Qcow2<S, F> {
         requires few { count ≤ most_of writes.now }
         requires zeros { AreZeros writes.now }
         ensures step { ImageStep S.view self.old self.new }
-        ensures fails { FailsUnlimited S.view F.backing self.old self.new result IsMet }
+        ensures fails { FailsUnlimited S.view F.backing self.old self.new result MayFail }
         ensures fault { cluster_size self.old.file.header.fields ≤ host → IfErr result IsFault }
         ensures written { WritesBytes S.view self.old self.new host (replicate count 0) result }
     {
@@ -366,7 +364,7 @@ impl<S: Storage, F: WrappedFormat<S>> Qcow2<S, F> {
             self.release_prepared(prepared);
             return;
         }
-        let _entered = self.enter_shares(&mut prepared);
+        let _entered = self.enter_mappings(&mut prepared);
         self.release_prepared(prepared);
     }
 }

@@ -5,19 +5,19 @@ use qcow2_metadata::HostCluster;
 
 // How a cluster of a prepared range is entered in its L2 table by a commit.
 #[derive(Drop)]
-pub(crate) enum Share {
-    // It isn't entered: it is copied data in place.
+pub(crate) enum ClusterMapping {
+    // Not at all: it is copied data, in place.
     InPlace,
     // As data at the host cluster that its zero entry keeps.
     Kept,
-    // As data at the new cluster in the first list. The clusters that it replaces, in the second list, wait to be freed then.
+    // As data in the new cluster, the first field. The clusters that it replaces, the second field, then wait to be freed.
     New {
         taken: ClustersToFreeList,
         old_data: ClustersToFreeList,
     },
 }
 
-/// A range of the guest's disk that may be written at one place in the file. It must be used up by a commit or a discard.
+/// A range of the guest's disk that may be written at one place in the file. It must end in a commit or a discard.
 pub struct Prepared {
     pub(crate) image: u64,
     pub(crate) guest: u64,
@@ -26,8 +26,8 @@ pub struct Prepared {
     pub(crate) length: u64,
     // The L2 table that the mapping pins. An existing mapping pins none.
     pub(crate) table: Option<HostCluster>,
-    // One share for each cluster of the range. Their host clusters are contiguous.
-    pub(crate) shares: Vec<Share>,
+    // The mapping of each cluster of the range. Their host clusters are contiguous.
+    pub(crate) clusters: Vec<ClusterMapping>,
 }
 
 /// Why a commit is refused, with the mapping if it can be used again.
@@ -38,17 +38,17 @@ pub enum CommitRefused {
     Spent(ImageError),
 }
 
-impl Share {
+impl ClusterMapping {
     ghost use Rattle.std.specs.Prelude.{◌≡◌};
     ghost use Rattle.qcow2_image.specs.ImageInvariant.{is_entered};
 
-    // Whether a commit must enter the share in its table.
+    // Whether a commit must enter the cluster in its L2 table.
     pub(crate) fn is_entered(&self) -> bool
         ensures { result ≡ is_entered self.now }
     {
         match self {
-            Share::InPlace => false,
-            Share::Kept | Share::New { .. } => true,
+            ClusterMapping::InPlace => false,
+            ClusterMapping::Kept | ClusterMapping::New { .. } => true,
         }
     }
 }

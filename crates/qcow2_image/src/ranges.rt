@@ -1,35 +1,32 @@
-//! The clusters of a prepared range behind its first one.
-ghost use Rattle.qcow2_image.specs.Limits.{IfLimit, IsLimitedTaking};
-ghost use Rattle.qcow2_image.specs.SoundParts.{BehindSoundly, FillsSoundly, RestSoundly};
-ghost use Rattle.qcow2_image.specs.ImageSteps.{ImageFails, ImageStep};
+//! The clusters of a prepared range after its first one.
+ghost use Rattle.qcow2_image.specs.WriteSteps.{AllocatesAt, GainsClusterAt, SharesCluster, AllocatingStep};
+ghost use Rattle.qcow2_image.specs.SoundParts.{BehindSoundly, RestSoundly};
+ghost use Rattle.qcow2_image.specs.ImageSteps.{ImageFails};
 ghost use Rattle.std.specs.Prelude.{ℕ, List, Option, ◌≡◌, ◌≢◌, ◌+◌, ◌-◌, ◌*◌, ◌%◌, ◌<◌, min, true, Some, None, Ok};
-ghost use Rattle.std.specs.Prelude.{slice_get, vec_len, vec_capacity, IfOk, IfErr, IsTrue, IsSome, ◌/◌};
-ghost use Rattle.qcow2_image.specs.MetAlone.{IsCopiedCompressed, MayFailAlone};
+ghost use Rattle.std.specs.Prelude.{slice_get, vec_len, vec_capacity, IfOk, IsTrue, IsSome, ◌/◌};
 ghost use Rattle.qcow2_metadata.specs.L2Mapping.{IsHostCluster, IsInReach};
 ghost use Rattle.qcow2_metadata.specs.Header.{cluster_size};
 ghost use Rattle.qcow2_disk.specs.Found.{rest_of_table};
-ghost use Rattle.qcow2_laws.specs.CrashInvariant.{Pending};
-ghost use Rattle.qcow2_alloc.specs.ImageFile.{KeepsHeader};
 ghost use Rattle.qcow2_image.specs.Image.{is_writable};
-ghost use Rattle.qcow2_image.specs.Refusals.{IsMet, IsFaultOrLimit};
+ghost use Rattle.qcow2_image.specs.Refusals.{MayFail};
 ghost use Rattle.qcow2_image.specs.declared.prepared.Prepared.{Prepared};
 ghost use Rattle.qcow2_image.specs.declared.image.Qcow2.{Qcow2};
 ghost use Rattle.qcow2_image.specs.CallParts.{IsReadied};
 ghost use Rattle.qcow2_image.specs.ImageInvariant.{pending_in, ImageInvariant};
-ghost use Rattle.qcow2_image.specs.InternalSteps.{HoldsAll, ListGrows};
-ghost use Rattle.qcow2_image.specs.Ranges.{FindsBehind, GainsAt, GoesNext, GoesOn, HasRoomForRange, IsLongerMapping};
-ghost use Rattle.qcow2_image.specs.Ranges.{IsNext, EndsWithCluster, MayGoOn, SharesAt, TakesDataAt};
+ghost use Rattle.qcow2_image.specs.InternalSteps.{ListGrows};
+ghost use Rattle.qcow2_image.specs.Ranges.{FindsBehind, GoesNext, GoesOn, HasRoomForRange, IsLongerMapping};
+ghost use Rattle.qcow2_image.specs.Ranges.{IsNext, EndsWithCluster, MayGoOn};
 
 use crate::mappings::{copied_offset, keeps};
-use crate::prepared::Share;
+use crate::prepared::ClusterMapping;
 use crate::{Prepared, Qcow2};
 use image_access::{Storage, WrappedFormat};
 use qcow2_alloc::{ClustersToFreeList, ImageError, PendingClusters};
 use qcow2_metadata::{GuestOffset, HostCluster, HostOffset, L2Mapping};
 
-#[tactic(auto, using(crate::proofs::Call::MetErrors::tables_met, crate::proofs::Call::MetErrors::storage_met, crate::proofs::Call::MetErrors::metadata_met, crate::proofs::Call::MetErrors::metadata_of_tables))]
+#[tactic(auto, using(crate::proofs::Call::FailingErrors::tables_met, crate::proofs::Call::FailingErrors::storage_met, crate::proofs::Call::FailingErrors::metadata_met, crate::proofs::Call::FailingErrors::metadata_of_tables))]
 impl<S: Storage, F: WrappedFormat<S>> Qcow2<S, F> {
-    // For how many shares memory is allocated: at least one for each cluster of a range within its first L2 table.
+    // For how many clusters memory is allocated: at least those of a range within its first L2 table.
     pub(crate) fn clusters_in(&self, offset: u64, length: u64) -> usize
         ensures some { 0 < result }
         ensures enough { offset % cluster_size self.now.file.header.fields + min length
@@ -42,7 +39,7 @@ impl<S: Storage, F: WrappedFormat<S>> Qcow2<S, F> {
         (within / size + 1) as usize
     }
 
-    // Extends a mapping by the clusters behind it, up to the end of the range, as long as they can be contiguous in the file.
+    // Extends a mapping by the clusters after it, up to the end of the range, as long as they can be contiguous in the file.
     pub(crate) fn prepare_rest(
         &mut self,
         prepared: &mut Prepared,
@@ -53,9 +50,8 @@ impl<S: Storage, F: WrappedFormat<S>> Qcow2<S, F> {
         requires writable { IsTrue (is_writable self.old) }
         requires whole { EndsWithCluster self.old.file.header.fields prepared.old }
         requires room { HasRoomForRange self.old.file.header.fields length prepared.old }
-        ensures step { ImageStep S.view self.old self.new }
-        ensures fails { ImageFails S.view F.backing self.old self.new result IsMet }
-        ensures header { KeepsHeader self.old.file.header self.new.file.header }
+        ensures step { AllocatingStep S.view self.old self.new }
+        ensures fails { ImageFails S.view F.backing self.old self.new result MayFail }
         ensures sound { (start : Qcow2 S F) (out : List (Option Prepared)) (k : ℕ) → slice_get out k ≡ Some None
             → prepared.old.table ≡ Some table
             → IsReadied S.view F.backing start self.old out k prepared.old.guest length overwrite prepared.old
@@ -73,7 +69,7 @@ impl<S: Storage, F: WrappedFormat<S>> Qcow2<S, F> {
         Ok(())
     }
 
-    // Extends a mapping by the cluster behind it, if that can be contiguous in the file. Returns whether it did.
+    // Extends a mapping by the cluster after it, if that can be contiguous in the file. Returns whether it did.
     fn prepare_next(
         &mut self,
         prepared: &mut Prepared,
@@ -82,40 +78,39 @@ impl<S: Storage, F: WrappedFormat<S>> Qcow2<S, F> {
         overwrite: bool,
     ) -> Result<bool, ImageError>
         requires writable { IsTrue (is_writable self.old) }
-        requires room { vec_len prepared.old.shares < vec_capacity prepared.old.shares }
-        ensures step { ImageStep S.view self.old self.new }
-        ensures fails { ImageFails S.view F.backing self.old self.new result IsMet }
-        ensures header { KeepsHeader self.old.file.header self.new.file.header }
+        requires room { vec_len prepared.old.clusters < vec_capacity prepared.old.clusters }
+        ensures step { AllocatingStep S.view self.old self.new }
+        ensures fails { ImageFails S.view F.backing self.old self.new result MayFail }
         ensures sound { (out : List (Option Prepared)) (k : ℕ) → slice_get out k ≡ Some (Some prepared.old)
             → MayGoOn self.old.file.header.fields length table prepared.old
             → ImageInvariant S.view F.backing (pending_in S.view F.backing self.old out) self.old out
             → BehindSoundly S.view F.backing prepared.old length overwrite self.old self.new out result
             (GoesNext S.view F.backing self.old self.new out k length overwrite prepared.old prepared.new result) }
         ensures same { result ≢ Ok true → prepared.new ≡ prepared.old }
-        ensures room { vec_capacity prepared.new.shares ≡ vec_capacity prepared.old.shares }
+        ensures room { vec_capacity prepared.new.clusters ≡ vec_capacity prepared.old.clusters }
         ensures next { result ≡ Ok true → IsNext self.old.file.header.fields length prepared.old prepared.new }
     {
-        let Some(share) = self.share_behind(prepared, table, length, overwrite)? else {
+        let Some(cluster_mapping) = self.cluster_mapping_behind(prepared, table, length, overwrite)?
+        else {
             return Ok(false);
         };
         let size = self.file.header.cluster_size();
         prepared.length = length.min(prepared.length.saturating_add(size));
-        prepared.shares.push_reserved(share);
+        prepared.clusters.push_reserved(cluster_mapping);
         Ok(true)
     }
 
-    // The share of the cluster behind a mapping, if that can be contiguous in the file.
-    fn share_behind(
+    // The mapping of the next cluster, if it can be contiguous in the file.
+    fn cluster_mapping_behind(
         &mut self,
         prepared: &Prepared,
         table: HostCluster,
         length: u64,
         overwrite: bool,
-    ) -> Result<Option<Share>, ImageError>
+    ) -> Result<Option<ClusterMapping>, ImageError>
         requires writable { IsTrue (is_writable self.old) }
-        ensures step { ImageStep S.view self.old self.new }
-        ensures fails { ImageFails S.view F.backing self.old self.new result IsMet }
-        ensures header { KeepsHeader self.old.file.header self.new.file.header }
+        ensures step { AllocatingStep S.view self.old self.new }
+        ensures fails { ImageFails S.view F.backing self.old self.new result MayFail }
         ensures sound { (out : List (Option Prepared)) (k : ℕ) → slice_get out k ≡ Some (Some prepared.now)
             → MayGoOn self.old.file.header.fields length table prepared.now
             → ImageInvariant S.view F.backing (pending_in S.view F.backing self.old out) self.old out
@@ -132,40 +127,30 @@ impl<S: Storage, F: WrappedFormat<S>> Qcow2<S, F> {
         let old = self.cover_in(table, cluster)?;
         let left = length.saturating_sub(prepared.length);
         match copied_offset(&old) {
-            Some(place) if place == host => Ok(Some(Share::InPlace)),
+            Some(place) if place == host => Ok(Some(ClusterMapping::InPlace)),
             Some(_) => Ok(None),
             None if keeps(&old, host) => {
                 self.fill_kept(host, next, left, overwrite)?;
-                Ok(Some(Share::Kept))
+                Ok(Some(ClusterMapping::Kept))
             }
-            None => self.share_at(host, next, left, overwrite, &old),
+            None => self.cluster_mapping_at(host, next, left, overwrite, &old),
         }
     }
 
-    // The share of a guest cluster that isn't copied data, at a place in the file. None if that can't be allocated.
-    fn share_at(
+    // The mapping of a guest cluster that isn't copied data, at a place in the file. None if that place can't be allocated.
+    fn cluster_mapping_at(
         &mut self,
         host: u64,
         offset: u64,
         length: u64,
         overwrite: bool,
         old: &L2Mapping,
-    ) -> Result<Option<Share>, ImageError>
+    ) -> Result<Option<ClusterMapping>, ImageError>
         requires writable { IsTrue (is_writable self.old) }
         requires reach { IsInReach old.now }
-        ensures step { ImageStep S.view self.old self.new }
-        ensures fails { ImageFails S.view F.backing self.old self.new result IsMet }
-        ensures header { KeepsHeader self.old.file.header self.new.file.header }
-        ensures met { (p : Pending) (out : List (Option Prepared)) → ImageInvariant S.view F.backing p self.old out
-            → HoldsAll S.view F.backing p out → host % cluster_size self.old.file.header.fields ≡ 0
-            → IfErr result (MayFailAlone
-            (IsCopiedCompressed self.old.file.header.fields old.now offset length overwrite)
-            ⊥) }
-        ensures limit { (p : Pending) (out : List (Option Prepared)) → ImageInvariant S.view F.backing p self.old out
-            → HoldsAll S.view F.backing p out → IfLimit result (IsLimitedTaking S.view F.backing p 1 self.old out) }
-        ensures shares { (p : Pending) (out : List (Option Prepared)) → ImageInvariant S.view F.backing p self.old out
-            → HoldsAll S.view F.backing p out
-            → SharesAt S.view F.backing p self.old self.new out offset length overwrite old.now host result }
+        ensures step { AllocatingStep S.view self.old self.new }
+        ensures fails { ImageFails S.view F.backing self.old self.new result MayFail }
+        ensures sound { SharesCluster S.view F.backing self.old self.new host offset length overwrite old.now result }
     {
         let bits = self.file.header.cluster_bits();
         let Some(cluster) = HostOffset::new(host).checked_cluster(bits) else {
@@ -177,7 +162,7 @@ impl<S: Storage, F: WrappedFormat<S>> Qcow2<S, F> {
         };
         let mut taken = ClustersToFreeList::new();
         pending.hand_back(&mut taken);
-        Ok(Some(Share::New { taken, old_data }))
+        Ok(Some(ClusterMapping::New { taken, old_data }))
     }
 
     // Allocates a cluster for the one at an offset, whose old mapping is known, at this place. None if it can't be allocated. Fills it with
@@ -192,13 +177,10 @@ impl<S: Storage, F: WrappedFormat<S>> Qcow2<S, F> {
     ) -> Result<Option<PendingClusters>, ImageError>
         requires writable { IsTrue (is_writable self.old) }
         requires reach { IsInReach old.now }
-        ensures step { ImageStep S.view self.old self.new }
-        ensures fails { ImageFails S.view F.backing self.old self.new result IsMet }
-        ensures header { KeepsHeader self.old.file.header self.new.file.header }
-        ensures sound { (p : Pending) (out : List (Option Prepared)) → ImageInvariant S.view F.backing p self.old out
-            → HoldsAll S.view F.backing p out
-            → FillsSoundly S.view F.backing p old.now offset length overwrite self.old self.new out result
-            (GainsAt S.view F.backing p self.old self.new out offset length overwrite old.now cluster result) }
+        ensures step { AllocatingStep S.view self.old self.new }
+        ensures fails { ImageFails S.view F.backing self.old self.new result MayFail }
+        ensures sound { GainsClusterAt S.view F.backing self.old self.new cluster offset length overwrite
+            old.now result }
         ensures nameable { IfOk result (λ run. IsSome run → IsHostCluster self.old.file.header.fields.cluster_bits cluster) }
     {
         let Some(pending) = self.allocate_data_cluster_at(cluster)? else {
@@ -219,17 +201,11 @@ impl<S: Storage, F: WrappedFormat<S>> Qcow2<S, F> {
         cluster: HostCluster,
     ) -> Result<Option<PendingClusters>, ImageError>
         requires writable { IsTrue (is_writable self.old) }
-        ensures step { ImageStep S.view self.old self.new }
-        ensures fails { ImageFails S.view F.backing self.old self.new result IsMet }
-        ensures header { KeepsHeader self.old.file.header self.new.file.header }
-        ensures fault { (p : Pending) (out : List (Option Prepared)) → ImageInvariant S.view F.backing p self.old out
-            → IfErr result IsFaultOrLimit }
-        ensures limit { (p : Pending) (out : List (Option Prepared)) → ImageInvariant S.view F.backing p self.old out
-            → HoldsAll S.view F.backing p out → IfLimit result (IsLimitedTaking S.view F.backing p 1 self.old out) }
+        ensures step { AllocatingStep S.view self.old self.new }
+        ensures fails { ImageFails S.view F.backing self.old self.new result MayFail }
+        ensures sound { AllocatesAt S.view F.backing self.old self.new cluster result }
         ensures nameable { IfOk result (λ run. IsSome run → IsHostCluster self.old.file.header.fields.cluster_bits cluster) }
         ensures list { ListGrows self.old self.new }
-        ensures takes { (p : Pending) (out : List (Option Prepared)) → ImageInvariant S.view F.backing p self.old out
-            → HoldsAll S.view F.backing p out → TakesDataAt S.view F.backing p self.old self.new out cluster result }
     {
         let Some(allocator) = &mut self.allocator else {
             unreachable!();

@@ -1,39 +1,32 @@
-//! Resizing the disk. Clusters behind a smaller end are discarded first, and the size is written last.
-ghost use Rattle.qcow2_image.specs.Limits.{IfLimit, IsLimited};
+//! Resizing the disk. Clusters past a smaller end are discarded first, and the size is written last.
 ghost use Rattle.qcow2_image.specs.L1Entries.{IsPlacedNear};
 ghost use Rattle.qcow2_image.specs.SoundParts.{GrowsSoundly};
+ghost use Rattle.qcow2_image.specs.SizeSteps.{GrowsOrRefuses, ReachesSoundly};
 ghost use Rattle.qcow2_image.specs.ImageSteps.{ImageFails, ImageStep, MarkedStep};
 ghost use Rattle.qcow2_image.specs.BehindHeader.{PreservesHeaderCluster};
-ghost use Rattle.qcow2_image.specs.Noted.{ChangesRose, NotesChanges, NotesPart};
 ghost use Rattle.qcow2_alloc.specs.KeptMarks.{HaveRisen, KeepsFileNotes};
-ghost use Rattle.std.specs.Prelude.{List, Option, ◌≡◌, ◌↔◌, ◌⊎◌, ◌+◌, ◌-◌, ◌<◌, ◌≤◌, max, [], Some, None, Ok, Err};
-ghost use Rattle.std.specs.Prelude.{IfOk, IfErr, IfSome, OnOk, OnErr, IsTrue, MatchOption, false};
-ghost use Rattle.qcow2_image.specs.MetAlone.{IsMetGrowing};
+ghost use Rattle.std.specs.Prelude.{List, Option, ◌≡◌, ◌⊎◌, ◌+◌, ◌-◌, ◌<◌, ◌≤◌, max, [], Some, None, Ok, Err, IfErr, IfSome, OnOk, OnErr, IsTrue, MatchOption, false, ◌∷◌};
 ghost use Rattle.image_access.specs.Moments.{IsLeftBy, EachMomentSince};
 ghost use Rattle.qcow2_metadata.specs.EntryTable.{entry_count};
 ghost use Rattle.qcow2_image.specs.Found.{l1_index_of};
-ghost use Rattle.qcow2_metadata.specs.Header.{cluster_size, with_fields, with_size, rounded_up};
+ghost use Rattle.qcow2_metadata.specs.Header.{with_fields, with_size};
 ghost use Rattle.qcow2_laws.specs.CrashInvariant.{Pending};
 ghost use Rattle.qcow2_alloc.specs.declared.error.ImageError.TheVariants.{MappingPrepared, Preallocation};
 ghost use Rattle.qcow2_alloc.specs.ImageError.{IsFault};
-ghost use Rattle.qcow2_alloc.specs.ImageFile.{view_in, known_in};
+ghost use Rattle.qcow2_alloc.specs.ImageFile.{view_in};
 ghost use Rattle.qcow2_alloc.specs.ImageStorage.{is_changed_of};
 ghost use Rattle.qcow2_image.specs.Backings.{HasPinnedMapping};
+ghost use Rattle.qcow2_image.specs.Resizing.{RefusesPinned, ShrinksSoundly, TailStep, TurnStep, DiscardsSoundly, DiscardsStep};
 ghost use Rattle.qcow2_image.specs.declared.prepared.Prepared.{Prepared};
-ghost use Rattle.qcow2_image.specs.Growing.{Resizes};
+ghost use Rattle.qcow2_image.specs.Growing.{LastsCall, LastsPart};
 ghost use Rattle.qcow2_image.specs.Image.{HasNothingToFree, IsSameImage, has_noted_change, is_failed, is_writable};
 ghost use Rattle.qcow2_image.specs.Image.{size_of, with_marks};
 ghost use Rattle.qcow2_image.specs.ImageInvariant.{ImageInvariant, abstract_of, pending_in};
-ghost use Rattle.qcow2_image.specs.LongerTables.{MakesEntry};
-ghost use Rattle.qcow2_image.specs.PinnedTables.{HasPinnedTable};
-ghost use Rattle.qcow2_image.specs.Refusals.{FreesRefused, IsFaultOrLimit, IsMet, IsMetPreparing, MarksFailed};
+ghost use Rattle.qcow2_image.specs.Refusals.{FreesRefused, MayFail, MayFailPreparing, MarksFailed};
 ghost use Rattle.qcow2_image.specs.Refusals.{MarksRefused};
-ghost use Rattle.qcow2_image.specs.Resizing.{CantUncover, EndsTail, FreesTurn, GrowsTables, GrowsTo};
-ghost use Rattle.qcow2_image.specs.Resizing.{IsFaultOrCantUncover, IsMetShrinking, IsResized, Shrinks};
-ghost use Rattle.qcow2_image.specs.Resizing.{UncoversClusters, UncoversNext, UncoversTail, WritesSize, WritesSizeLast};
-ghost use Rattle.qcow2_image.specs.Resizing.{all_given_by_grow, boundary_in, refuses_to_resize, size_after};
+ghost use Rattle.qcow2_image.specs.Resizing.{GrowsTo, MayFailShrinking, IsResized, Shrinks, WritesSize};
+ghost use Rattle.qcow2_image.specs.Resizing.{refuses_to_resize, size_after};
 ghost use Rattle.qcow2_image.specs.Resizing.{takes_over};
-ghost use Rattle.qcow2_image.specs.Faults.{CountsImageFaults, NoFewerFaults, TellsEachIn, TellsFault};
 
 use crate::Qcow2;
 use crate::discarding::ClearMode;
@@ -42,32 +35,26 @@ use qcow2_alloc::{ImageError, WriteKind};
 use qcow2_metadata::GuestOffset;
 
 impl<S: Storage, F: WrappedFormat<S>> Qcow2<S, F> {
-    /// Shrinks the disk, and discards the whole clusters behind its new end, so that the backing disk shows there if the disk grows again.
+    /// Shrinks the disk, and discards the whole clusters past its new end, so that the backing disk shows there if the disk grows again.
     /// Returns the offset up to which that was done. It is less than the old size only if discarding the next cluster was refused. A
-    /// size that isn't smaller changes nothing, and returns the old one. If a whole cluster lay behind the new end, no cluster waits to be
+    /// size that isn't smaller changes nothing, and returns the old one. If a whole cluster lay past the new end, no cluster waits to be
     /// freed then. The discarded clusters are unmapped, even if they were zero clusters.
     /// Refused in this order: 16 (failed), 12 (dependency), 1 (read-only); for a smaller size also 17 (mapping prepared) while a mapping
-    /// is prepared that isn't existing. Refused 14 (memory) and 15 (storage) if the work meets them.
+    /// is prepared that isn't existing. May be refused 14 (memory) or 15 (storage) during the work.
     pub fn resize_shrink(&mut self, size: u64) -> Result<u64, ImageError>
         ensures step { MarkedStep S.view F.backing self.old self.new result }
         ensures early { IfSome (refuses_to_resize self.old) (λ e. (result ≡ Err e) × (self.new ≡ self.old)) }
         ensures no_smaller { refuses_to_resize self.old ≡ None → size_of self.old ≤ size
             → (result ≡ Ok (size_of self.old)) × (self.new ≡ self.old) }
-        ensures prepared { refuses_to_resize self.old ≡ None → size < size_of self.old → (out : List (Option Prepared))
-            → (abstract_of S.view F.backing self.old out).is_sound → HasPinnedMapping out
-            → (result ≡ Err MappingPrepared)
-            × (self.new ≡ self.old) }
-        ensures pinned { refuses_to_resize self.old ≡ None → size < size_of self.old
-            → (result ≡ Err MappingPrepared) ↔ HasPinnedTable self.old }
-        ensures late { refuses_to_resize self.old ≡ None → IfErr result (IsMetShrinking S.view F.backing self.old self.new) }
-        ensures image { size < size_of self.old → IsResized (size_after result (size_of self.old) size) self.old self.new }
+        ensures prepared { refuses_to_resize self.old ≡ None → size < size_of self.old
+            → RefusesPinned S.view F.backing self.old self.new result }
+        ensures late { refuses_to_resize self.old ≡ None
+            → IfErr result (MayFailShrinking S.view F.backing self.old self.new) }
+        ensures image { size < size_of self.old
+            → IsResized (size_after result (size_of self.old) size) self.old self.new }
         ensures sees { Shrinks S.view F.backing self.old self.new size result }
-        ensures covers { (out : List (Option Prepared)) → (abstract_of S.view F.backing self.old out).is_sound
-            → IfOk result (λ answer. UncoversClusters S.view size answer self.old self.new) }
-        ensures stops { (out : List (Option Prepared)) → (abstract_of S.view F.backing self.old out).is_sound
-            → IfOk result (EndsTail S.view F.backing out self.old self.new size) }
-        ensures last { (out : List (Option Prepared)) → (abstract_of S.view F.backing self.old out).is_sound
-            → WritesSizeLast S.view F.backing self.old self.new }
+        ensures sound { (out : List (Option Prepared)) → (abstract_of S.view F.backing self.old out).is_sound
+            → ShrinksSoundly S.view F.backing size self.old self.new out result }
     {
         self.check_resize()?;
         if self.file.header.size() <= size {
@@ -98,13 +85,9 @@ impl<S: Storage, F: WrappedFormat<S>> Qcow2<S, F> {
         ensures cause { IfErr result IsFault }
         ensures image { IsResized (size_after result (size_of self.old) size) self.old self.new }
         ensures sees { Shrinks S.view F.backing self.old self.new size result }
-        ensures covers { (out : List (Option Prepared)) → (abstract_of S.view F.backing self.old out).is_sound
-            → IfOk result (λ answer. UncoversClusters S.view size answer self.old self.new) }
-        ensures stops { refuses_to_resize self.old ≡ None → (out : List (Option Prepared))
+        ensures sound { refuses_to_resize self.old ≡ None → (out : List (Option Prepared))
             → (abstract_of S.view F.backing self.old out).is_sound → (HasPinnedMapping out → ⊥)
-            → IfOk result (EndsTail S.view F.backing out self.old self.new size) }
-        ensures last { (out : List (Option Prepared)) → (abstract_of S.view F.backing self.old out).is_sound
-            → WritesSizeLast S.view F.backing self.old self.new }
+            → ShrinksSoundly S.view F.backing size self.old self.new out result }
     {
         let before = self.file.changes();
         let (end, stopped) = self.discard_tail(size);
@@ -119,32 +102,17 @@ impl<S: Storage, F: WrappedFormat<S>> Qcow2<S, F> {
         Ok(end)
     }
 
-    // Unmaps the whole clusters behind a size, step by step. Returns where it ended, and the refusal if that ends the call. Any other refusal only ends the steps.
+    // Unmaps the whole clusters past a size, step by step. Returns where it ended, and the refusal if that ends the call. Any other refusal only
+    // ends the steps.
     fn discard_tail(&mut self, size: u64) -> (u64, Option<ImageError>)
         requires usable { is_failed self.old ≡ false }
         requires smaller { size < size_of self.old }
-        ensures image { IsSameImage self.old self.new }
-        ensures cause { IfSome result.1 IsFault }
-        ensures marks { MatchOption result.1 (is_failed self.new ≡ is_failed self.old) (MarksRefused self.old self.new) }
-        ensures uncovers { (out : List (Option Prepared))
+        ensures step { TailStep S.view F.backing result.1 self.old self.new }
+        ensures sound { (out : List (Option Prepared))
             → ImageInvariant S.view F.backing (pending_in S.view F.backing self.old out) self.old out
-            → UncoversTail S.view F.backing self.old self.new size result.0 result.1 out }
-        ensures stops { refuses_to_resize self.old ≡ None → (out : List (Option Prepared))
-            → (abstract_of S.view F.backing self.old out).is_sound → (HasPinnedMapping out → ⊥) → result.1 ≡ None
-            → result.0 < size_of self.old → CantUncover S.view (size_of self.old) self.new result.0 }
-        ensures emptied { IsTrue (is_writable self.old) → (out : List (Option Prepared))
-            → ImageInvariant S.view F.backing (pending_in S.view F.backing self.old out) self.old out → result.1 ≡ None
-            → boundary_in self.old size < size_of self.old → HasNothingToFree self.new }
-        ensures since { NotesChanges S.view self.old self.new }
-        ensures changed { (out : List (Option Prepared))
-            → ImageInvariant S.view F.backing (pending_in S.view F.backing self.old out) self.old out
-            → boundary_in self.old size < result.0 → ChangesRose self.old self.new }
-        ensures header_cluster { PreservesHeaderCluster S.view self.old self.new }
-        ensures faults { NoFewerFaults S.view F.backing self.old self.new
-            × IfSome result.1 (TellsFault S.view F.backing self.old self.new)
-            × TellsEachIn S.view F.backing self.old self.new result.1 }
+            → DiscardsSoundly S.view F.backing size result.0 result.1 self.old self.new out }
     {
-        self.begin();
+        self.begin_call();
         let end = self.file.header.size();
         let mut at = size;
         while at < end {
@@ -166,22 +134,11 @@ impl<S: Storage, F: WrappedFormat<S>> Qcow2<S, F> {
     fn discard_in_table(&mut self, at: u64) -> Result<u64, ImageError>
         requires usable { is_failed self.old ≡ false }
         requires inside { at < size_of self.old }
-        ensures on { IfOk result (λ next. (at < next) × (next ≤ size_of self.old)) }
-        ensures image { IsSameImage self.old self.new }
-        ensures marks { MarksFailed self.old self.new result }
-        ensures uncovers { UncoversNext S.view F.backing self.old self.new at result }
-        ensures stops { refuses_to_resize self.old ≡ None → (out : List (Option Prepared))
-            → (abstract_of S.view F.backing self.old out).is_sound → (HasPinnedMapping out → ⊥)
-            → IfErr result (IsFaultOrCantUncover S.view (size_of self.old) self.new at) }
+        ensures step { TurnStep S.view F.backing self.old self.new result }
+        ensures sound { DiscardsStep S.view F.backing at self.old self.new result }
         ensures emptied { IsTrue (is_writable self.old) → (out : List (Option Prepared))
             → ImageInvariant S.view F.backing (pending_in S.view F.backing self.old out) self.old out
-            → FreesTurn self.old self.new at result }
-        ensures since { NotesPart S.view self.old self.new }
-        ensures changed { (out : List (Option Prepared))
-            → ImageInvariant S.view F.backing (pending_in S.view F.backing self.old out) self.old out
-            → IfOk result (λ next. boundary_in self.old at < next → ChangesRose self.old self.new) }
-        ensures header_cluster { PreservesHeaderCluster S.view self.old self.new }
-        ensures faults { CountsImageFaults S.view F.backing self.old self.new result }
+            → IfErr result (λ e. IsFault e ⊎ HasNothingToFree self.new) }
     {
         match self.discard_next(at) {
             Ok(next) => Ok(next),
@@ -198,23 +155,8 @@ impl<S: Storage, F: WrappedFormat<S>> Qcow2<S, F> {
     // Unmaps the whole clusters from an offset on, within one L2 table. Returns where the next step begins.
     fn discard_next(&mut self, at: u64) -> Result<u64, ImageError>
         requires inside { at < size_of self.old }
-        ensures on { IfOk result (λ next. (at < next) × (next ≤ size_of self.old)) }
-        ensures image { IsSameImage self.old self.new }
-        ensures marks { MarksFailed self.old self.new result }
-        ensures uncovers { UncoversNext S.view F.backing self.old self.new at result }
-        ensures stops { refuses_to_resize self.old ≡ None → (out : List (Option Prepared))
-            → (abstract_of S.view F.backing self.old out).is_sound → (HasPinnedMapping out → ⊥)
-            → IfErr result (IsFaultOrCantUncover S.view (size_of self.old) self.new at) }
-        ensures emptied { (out : List (Option Prepared))
-            → ImageInvariant S.view F.backing (pending_in S.view F.backing self.old out) self.old out
-            → OnOk result ((boundary_in self.old at < size_of self.old) ⊎ HasNothingToFree self.old
-            → HasNothingToFree self.new) }
-        ensures since { NotesPart S.view self.old self.new }
-        ensures changed { (out : List (Option Prepared))
-            → ImageInvariant S.view F.backing (pending_in S.view F.backing self.old out) self.old out
-            → IfOk result (λ next. boundary_in self.old at < next → ChangesRose self.old self.new) }
-        ensures header_cluster { PreservesHeaderCluster S.view self.old self.new }
-        ensures faults { CountsImageFaults S.view F.backing self.old self.new result }
+        ensures step { TurnStep S.view F.backing self.old self.new result }
+        ensures sound { DiscardsStep S.view F.backing at self.old self.new result }
     {
         let end = self.file.header.size();
         let (from, count) = self.clear_range(at, end - at, ClearMode::Uncovered)?;
@@ -230,36 +172,23 @@ impl<S: Storage, F: WrappedFormat<S>> Qcow2<S, F> {
     /// Otherwise no cluster waits to be freed afterwards, also after a refusal, except 6, 9, 14 and 15.
     /// Refused in this order: 16 (failed), 12 (dependency), 1 (read-only); for a larger size also 6 (preallocation), for a mode that allocates
     /// clusters over a backing disk; then 13 (limit) if the L1 table would be too long, and 3 (version) for `Zero` below
-    /// version 3. Refused 4 (unaligned table), 13 (limit), 14 (memory) and 15 (storage) if the work meets them. All modes but `None` may also
-    /// be refused 7 (compressed), 8 (everything is in use) and 9 (table prepared). On a sound image the work meets only 13, 14 and 15, 7 if a
-    /// cluster behind the old end is compressed, and 8 and 9 if a mapping is prepared that isn't existing.
+    /// version 3. May be refused 4 (unaligned table), 13 (limit), 14 (memory) or 15 (storage) during the work. All modes but `None` may also
+    /// be refused 7 (compressed), 8 (everything is in use) and 9 (table prepared). On a sound image only 13, 14 and 15 come during the work, 7 if a
+    /// cluster past the old end is compressed, and 8 and 9 while a mapping is prepared that isn't existing.
     pub fn resize_grow(&mut self, size: u64, mode: PreallocateMode) -> Result<(), ImageError>
         ensures step { MarkedStep S.view F.backing self.old self.new result }
         ensures early { IfSome (refuses_to_resize self.old) (λ e. (result ≡ Err e) × (self.new ≡ self.old)) }
-        ensures no_larger { refuses_to_resize self.old ≡ None → size ≤ size_of self.old → (result ≡ Ok tt) × (self.new ≡ self.old) }
+        ensures no_larger { refuses_to_resize self.old ≡ None → size ≤ size_of self.old → (result ≡ Ok tt)
+            × (self.new ≡ self.old) }
         ensures preallocation { refuses_to_resize self.old ≡ None → size_of self.old < size
             → IsTrue (takes_over self.old mode) → (result ≡ Err Preallocation) × (self.new ≡ self.old) }
         ensures late { refuses_to_resize self.old ≡ None
-            → IfErr result (λ e. IsMetPreparing e ⊎ ((e ≡ Preallocation) × IsTrue (takes_over self.old mode))) }
-        ensures met { refuses_to_resize self.old ≡ None → size_of self.old < size → (out : List (Option Prepared))
-            → (abstract_of S.view F.backing self.old out).is_sound
-            → IfErr result (λ e. IsMetGrowing out mode (size_of self.old)
-            (rounded_up (cluster_size self.old.file.header.fields) size) self.old.file.header.fields
-            (known_in S.view self.old.file) e ⊎ ((e ≡ Preallocation) × IsTrue (takes_over self.old mode))) }
-        ensures limit { refuses_to_resize self.old ≡ None → size_of self.old < size → (out : List (Option Prepared))
-            → (abstract_of S.view F.backing self.old out).is_sound
-            → IfLimit result (IsLimited S.view F.backing (all_given_by_grow S.view F.backing self.old size mode)
-            (boundary_in self.old size) self.old out) }
-        ensures image { size_of self.old < size → IsResized (size_after result (size_of self.old) size) self.old self.new }
+            → IfErr result (λ e. MayFailPreparing e ⊎ ((e ≡ Preallocation) × IsTrue (takes_over self.old mode))) }
+        ensures image { size_of self.old < size
+            → IsResized (size_after result (size_of self.old) size) self.old self.new }
         ensures sees { GrowsTo S.view F.backing self.old self.new size mode result }
-        ensures last { (out : List (Option Prepared)) → (abstract_of S.view F.backing self.old out).is_sound
-            → WritesSizeLast S.view F.backing self.old self.new }
-        ensures tables { refuses_to_resize self.old ≡ None → size_of self.old < size → (out : List (Option Prepared))
-            → (abstract_of S.view F.backing self.old out).is_sound
-            → GrowsTables S.view F.backing self.old self.new size mode out result }
-        ensures freed { refuses_to_resize self.old ≡ None → size_of self.old < size
-            → ¬ IsTrue (takes_over self.old mode) → (out : List (Option Prepared))
-            → (abstract_of S.view F.backing self.old out).is_sound → IfErr result (FreesRefused self.new) }
+        ensures sound { (out : List (Option Prepared)) → (abstract_of S.view F.backing self.old out).is_sound
+            → GrowsOrRefuses S.view F.backing mode size self.old self.new out result }
     {
         self.check_resize()?;
         if size <= self.file.header.size() {
@@ -283,19 +212,19 @@ impl<S: Storage, F: WrappedFormat<S>> Qcow2<S, F> {
         }
     }
 
-    // Grows the disk: a longer L1 table, zeros behind the end as the mode says, and then the size.
+    // Grows the disk: a longer L1 table, zeros past the end as the mode says, and then the size.
     fn grow_disk(&mut self, size: u64, mode: PreallocateMode) -> Result<(), ImageError>
         requires usable { is_failed self.old ≡ false }
         requires writable { IsTrue (is_writable self.old) }
         requires larger { size_of self.old < size }
         ensures step { MarkedStep S.view F.backing self.old self.new result }
-        ensures cause { IfErr result IsMetPreparing }
+        ensures cause { IfErr result MayFailPreparing }
         ensures sound { (out : List (Option Prepared)) → (abstract_of S.view F.backing self.old out).is_sound
             → GrowsSoundly S.view F.backing mode size self.old self.new out result }
         ensures image { IsResized (size_after result (size_of self.old) size) self.old self.new }
         ensures sees { GrowsTo S.view F.backing self.old self.new size mode result }
     {
-        self.begin();
+        self.begin_call();
         let longer = self.renew_l1_table(size - 1);
         self.mark_failure(longer)?;
         let end = self.file.header.size();
@@ -305,9 +234,9 @@ impl<S: Storage, F: WrappedFormat<S>> Qcow2<S, F> {
         self.mark_fault(written)
     }
 
-    // Marks the image as failed by a fault, after the first change of a call was recorded.
+    // Marks the image as failed if a fault came after the first change of a call.
     fn mark_fault(&mut self, done: Result<(), ImageError>) -> Result<(), ImageError>
-        requires noted { IsTrue (has_noted_change self.old) }
+        requires recorded { IsTrue (has_noted_change self.old) }
         ensures answer { result ≡ done }
         ensures image { IsSameImage self.old self.new }
         ensures marks { MarksFailed self.old self.new done }
@@ -321,26 +250,23 @@ impl<S: Storage, F: WrappedFormat<S>> Qcow2<S, F> {
 
     // Replaces the L1 table by one that has an entry for an offset, and all old entries. The clusters of the old one are freed then. After
     // a refusal, those on the list are freed, except after a fault.
-    #[tactic(auto, using(crate::proofs::Call::MetErrors::tables_met))]
+    #[tactic(auto, using(crate::proofs::Call::FailingErrors::tables_met))]
     fn renew_l1_table(&mut self, offset: u64) -> Result<(), ImageError>
         requires writable { IsTrue (is_writable self.old) }
         ensures step { ImageStep S.view self.old self.new }
-        ensures fails { ImageFails S.view F.backing self.old self.new result IsMet }
-        ensures noted { OnOk result (IsTrue self.new.file.caches.is_changed) }
+        ensures fails { ImageFails S.view F.backing self.old self.new result MayFail }
+        ensures recorded { OnOk result (IsTrue self.new.file.caches.is_changed) }
         ensures placed { self.old.l1_table.cluster_bits ≡ self.old.file.header.fields.cluster_bits
             → OnOk result (IsPlacedNear self.new.l1_table) }
-        ensures limit { (out : List (Option Prepared))
-            → ImageInvariant S.view F.backing (pending_in S.view F.backing self.old out) self.old out
-            → IfLimit result (IsLimited S.view F.backing [] (offset + 1) self.old out) }
-        ensures fault { (out : List (Option Prepared))
-            → ImageInvariant S.view F.backing (pending_in S.view F.backing self.old out) self.old out
-            → IfErr result IsFaultOrLimit }
         ensures length { OnOk result (entry_count self.new.l1_table ≡ max (entry_count self.old.l1_table)
             (l1_index_of self.old.file.header.fields offset + 1)) }
         ensures emptied { OnOk result (HasNothingToFree self.new) }
-        ensures makes { (out : List (Option Prepared))
+        ensures sound { (out : List (Option Prepared))
             → ImageInvariant S.view F.backing (pending_in S.view F.backing self.old out) self.old out
-            → MakesEntry S.view F.backing self.old self.new out result }
+            → ReachesSoundly S.view F.backing offset self.old self.new out result }
+        ensures lasts { (out : List (Option Prepared))
+            → ImageInvariant S.view F.backing (pending_in S.view F.backing self.old out) self.old out
+            → LastsCall S.view [] self.old self.new result }
         ensures freed { (out : List (Option Prepared))
             → ImageInvariant S.view F.backing (pending_in S.view F.backing self.old out) self.old out
             → IfErr result (FreesRefused self.new) }
@@ -352,49 +278,47 @@ impl<S: Storage, F: WrappedFormat<S>> Qcow2<S, F> {
     }
 
     // Replaces the L1 table by one that has an entry for an offset, and all old entries. The clusters of the old one are freed then.
-    #[tactic(auto, using(crate::proofs::Call::MetErrors::tables_met))]
+    #[tactic(auto, using(crate::proofs::Call::FailingErrors::tables_met))]
     fn lengthen_l1_table(&mut self, offset: u64) -> Result<(), ImageError>
         requires writable { IsTrue (is_writable self.old) }
         ensures step { ImageStep S.view self.old self.new }
-        ensures fails { ImageFails S.view F.backing self.old self.new result IsMet }
-        ensures noted { OnOk result (IsTrue self.new.file.caches.is_changed) }
+        ensures fails { ImageFails S.view F.backing self.old self.new result MayFail }
+        ensures recorded { OnOk result (IsTrue self.new.file.caches.is_changed) }
         ensures placed { self.old.l1_table.cluster_bits ≡ self.old.file.header.fields.cluster_bits
             → OnOk result (IsPlacedNear self.new.l1_table) }
-        ensures limit { (out : List (Option Prepared))
-            → ImageInvariant S.view F.backing (pending_in S.view F.backing self.old out) self.old out
-            → IfLimit result (IsLimited S.view F.backing [] (offset + 1) self.old out) }
-        ensures fault { (out : List (Option Prepared))
-            → ImageInvariant S.view F.backing (pending_in S.view F.backing self.old out) self.old out
-            → IfErr result IsFaultOrLimit }
         ensures length { OnOk result (entry_count self.new.l1_table ≡ max (entry_count self.old.l1_table)
             (l1_index_of self.old.file.header.fields offset + 1)) }
         ensures emptied { OnOk result (HasNothingToFree self.new) }
-        ensures makes { (out : List (Option Prepared))
+        ensures sound { (out : List (Option Prepared))
             → ImageInvariant S.view F.backing (pending_in S.view F.backing self.old out) self.old out
-            → MakesEntry S.view F.backing self.old self.new out result }
+            → ReachesSoundly S.view F.backing offset self.old self.new out result }
+        ensures lasts { (out : List (Option Prepared))
+            → ImageInvariant S.view F.backing (pending_in S.view F.backing self.old out) self.old out
+            → LastsPart S.view self.old self.new result }
     {
         let index = GuestOffset::new(offset).l1_index(self.file.header.cluster_bits());
         self.grow_l1_table(index)?;
         self.process_free_list()
     }
 
-    // A fault refused a call; `before` are the numbers of changes at its begin. Marks the image as failed if
-    // the storage failed or there were more changes since.
+    // Marks the image as failed after a fault, if the storage failed or there were changes in the call. `before` are the numbers of changes at its
+    // start.
     fn mark_refused(&mut self, refusal: &ImageError, before: (u64, u64))
         requires { IsFault refusal.now }
         ensures image { IsSameImage self.old self.new }
         ensures marks { MarksRefused self.old self.new refusal.now }
         ensures rest { self.new ≡ with_marks self.old (is_changed_of self.new.file.storage) (is_failed self.new) }
-        ensures noted { IsTrue (has_noted_change self.old) → IsTrue (has_noted_change self.new) }
+        ensures recorded { IsTrue (has_noted_change self.old) → IsTrue (has_noted_change self.new) }
         ensures changed { HaveRisen before self.old.file → IsTrue (has_noted_change self.new) }
-        ensures why { IsTrue (has_noted_change self.new) → IsTrue (has_noted_change self.old) ⊎ HaveRisen before self.old.file }
+        ensures why { IsTrue (has_noted_change self.new) → IsTrue (has_noted_change self.old)
+            ⊎ HaveRisen before self.old.file }
     {
         self.file.record_change_since(before);
-        self.note(refusal);
+        self.mark_if_failed(refusal);
     }
 
-    // Writes the size, as the last write of a call. After a refusal, the size in memory is the old one again.
-    pub(crate) fn write_size(&mut self, size: u64) -> Result<(), ImageError>
+    // Writes the size, the last write of a call. After a refusal, the size in memory is the old one again.
+    fn write_size(&mut self, size: u64) -> Result<(), ImageError>
         ensures fails { ImageFails S.view F.backing self.old self.new result IsFault }
         ensures rest { self.new ≡ record self.old {
           file = record self.old.file {
@@ -402,7 +326,8 @@ impl<S: Storage, F: WrappedFormat<S>> Qcow2<S, F> {
             header = self.new.file.header;
           };
         } }
-        ensures header { OnOk result (self.new.file.header ≡ with_fields self.old.file.header (with_size self.old.file.header.fields size)) }
+        ensures header { OnOk result (self.new.file.header
+            ≡ with_fields self.old.file.header (with_size self.old.file.header.fields size)) }
         ensures restored { OnErr result (self.new.file.header ≡ self.old.file.header) }
         ensures time { (view_in S.view self.old.file).is_honest
             → EachMomentSince (view_in S.view self.old.file) (view_in S.view self.new.file)
@@ -410,8 +335,8 @@ impl<S: Storage, F: WrappedFormat<S>> Qcow2<S, F> {
         ensures writes { (out : List (Option Prepared))
             → ImageInvariant S.view F.backing (pending_in S.view F.backing self.old out) self.old out
             → WritesSize S.view F.backing self.old self.new out size result }
-        ensures resizes { (p : Pending) → ImageInvariant S.view F.backing p self.old []
-            → Resizes S.view F.backing p self.old self.new size result }
+        ensures lasts { (p : Pending) (out : List (Option Prepared)) → ImageInvariant S.view F.backing p self.old out
+            → LastsCall S.view (size ∷ []) self.old self.new result }
         ensures notes { KeepsFileNotes S.view self.old.file self.new.file }
         ensures header_cluster { PreservesHeaderCluster S.view self.old self.new }
     {

@@ -20,7 +20,7 @@ use std::alloc::Global;
 use std::fmt;
 
 impl<S: Storage, F: WrappedFormat<S>> Qcow2<S, F> {
-    /// Returns when everything that was written to the storage would survive a power loss. It writes no cached table: call
+    /// Returns once everything that was written to the storage would survive a power loss. Cached tables are not written: call
     /// `flush` before. Refused 16 (failed), then 14 (memory) and 15 (storage), as the storage refuses.
     pub fn sync(&mut self) -> Result<(), ImageError>
         ensures step { ReadingCall S.view F.backing self.old self.new result }
@@ -33,7 +33,7 @@ impl<S: Storage, F: WrappedFormat<S>> Qcow2<S, F> {
         if self.is_failed {
             return Err(ImageError::Failed);
         }
-        self.begin();
+        self.begin_call();
         let done = self.sync_storage();
         self.mark_failure(done)
     }

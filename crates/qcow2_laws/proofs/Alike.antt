@@ -1,4 +1,4 @@
--- What guests read of contiguous data, and of clusters that are mapped alike; and how long such a run is.
+-- What guests read in contiguous data and in clusters that are mapped alike, and how long such a run is.
 use Rattle.std.proofs.Common.{◌≡◌, ℕ, ◌+◌, ◌-◌, ◌*◌, ◌/◌, ◌%◌, ◌<◌, ◌≤◌, Bool, refl, sym, ap, ◌∙◌, arith, inl, inr, subst, min}
 use Rattle.std.specs.Prelude.{Option}
 use Rattle.std.proofs.lemmas.Bool.{cases_lt}
@@ -16,12 +16,12 @@ use Rattle.qcow2_disk.specs.Alike.{IsDataAt, AreDataAt, IsAlike, IsAlikeAt, IsAl
 use Rattle.qcow2_laws.proofs.Places.{in_one, div_mono}
 use Rattle.qcow2_laws.proofs.Shown.{shown_data, shown_zero, shown_uncovered}
 
--- ---- a guest byte that stands at a place
+-- ---- a guest byte that lies at a place
 module _ (s : DriverState) (sound : StateInvariant s) (inside : s.header.incompatible ≡ 0) (copied : Bool) (o place : ℕ) (at : IsDataAt s.header s.known copied o place) where
   pub at_shown : (backing : Bytes) → (disk s.known backing).value o ≡ known_byte (s.on_storage place)
   at_shown backing = shown_data s sound inside backing o at.0 copied at.1 ∙ ap (λ n. known_byte (s.on_storage n)) at.2
 
--- ---- bytes that stand in a row
+-- ---- bytes that are contiguous
 
 -- ---- what is mapped alike
 pub alike_self : (v : L2Mapping) → IsAlike 0 v v
@@ -58,7 +58,7 @@ along size offset i some =
     let rows : (offset + i) / size * size ≡ (offset / size + ((offset + i) / size - offset / size)) * size = ap (λ n. n * size) apart in
     omega arith
 
--- data that stand in a row are mapped alike
+-- data that are contiguous are mapped alike
 pub are_alike : (h : HeaderFields) (b : Bytes) (copied : Bool) (offset place n : ℕ) → AreDataAt h b copied offset place n → IsAlikeRun h b offset n
 are_alike h b copied offset place n are i lt =
     let distance = ((offset + i) / cluster_size h - offset / cluster_size h) * cluster_size h in
@@ -137,7 +137,7 @@ module _ (h : HeaderFields) (b : Bytes) (offset : ℕ) where
         sym (ap (λ k. k / cluster_size h) e ∙ in_one (cluster_size h) (offset + n) (i - n) boundary (omega arith))) alike
   ]
 
-  -- the guest cluster that begins behind a run, and how far from the first it lies
+  -- the guest cluster that begins after a run, and how far from the first it lies
   module _ (n next distance : ℕ) (begins : offset + n ≡ next * cluster_size h) (far : offset / cluster_size h * cluster_size h + distance ≡ next * cluster_size h) where
     next_is : (offset + n) / cluster_size h ≡ next
     next_is = let e : offset + n ≡ next * cluster_size h + 0 = omega arith in ap (λ k. k / cluster_size h) e ∙ div-mul-add next (cluster_size h) 0 (pow_pos h.cluster_bits)
@@ -165,7 +165,7 @@ module _ (h : HeaderFields) (b : Bytes) (offset : ℕ) where
     pub run_ends : (IsAlike distance (cover h b (offset / cluster_size h)) (cover h b next) → ⊥) → IsAlikeAt h b offset n → ⊥
     run_ends other alike = other (subst (λ X. X) next_alike alike)
 
-  -- behind the rest of the first cluster and k clusters more
+  -- after the rest of the first cluster and k clusters more
   pub run_begins : (k : ℕ) → offset + (cluster_size h - offset % cluster_size h + k * cluster_size h) ≡ (offset / cluster_size h + k + 1) * cluster_size h
   run_begins k =
       let is : offset / cluster_size h * cluster_size h + offset % cluster_size h ≡ offset = div-add-mod' offset (cluster_size h) in

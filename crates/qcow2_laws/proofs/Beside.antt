@@ -1,4 +1,4 @@
--- Storage writes beside the modified tables of the caches: what is known changes as the storage does.
+-- Storage writes outside of the caches' modified tables: the known contents change as the storage does.
 use Rattle.std.proofs.Common.{◌≡◌, ℕ, ◌+◌, ◌*◌, ◌/◌, ◌<◌, ◌≤◌, ◌⊎◌, inl, inr, List, length, refl, sym, ap, ◌∙◌, arith}
 use Rattle.std.proofs.lemmas.Bool.{cases_lt}
 use Rattle.std.proofs.lemmas.Nat.{div-mul-add}
@@ -24,7 +24,7 @@ use Rattle.qcow2_laws.proofs.Caches.{kept_sizes, rbs_free, l2s_free, unnamed_fre
 use Rattle.qcow2_laws.proofs.KeptSteps.{known_beside, known_is_on_storage, still_agree}
 use Rattle.qcow2_laws.proofs.Headers.{writes_header}
 
--- a storage's write, as what stands at each place
+-- a write to the storage, by the value at each offset
 pub overwritten_but : (contents : List ℕ) (at : ℕ) (bytes : List ℕ) → IsSameBut at (length bytes) (byte_at contents) (byte_at (overwritten contents at bytes))
 overwritten_but contents at bytes o outside = sym (byte_at-overwritten_outside contents at bytes o outside)
 

@@ -1,4 +1,4 @@
--- Counts of one refblock, and entries of one L2 table, change as known.
+-- Refcounts of one refblock, and entries of one L2 table, change in the known contents.
 use Rattle.std.proofs.Common.{◌≡◌, ℕ, ◌+◌, ◌-◌, ◌*◌, ◌/◌, ◌%◌, ◌<◌, ◌≤◌, ◌≢◌, ◌⊎◌, List, [], refl, sym, ap, ◌∙◌, arith, inl, inr, subst}
 use Rattle.std.proofs.lemmas.Bool.{cases_eq, cases_lt, eq-eqb, ne_eqb, cond-true, cond-false}
 use Rattle.std.proofs.lemmas.Nat.{div-add-mod', mod_below, mul-le}
@@ -23,7 +23,7 @@ use Rattle.qcow2_laws.proofs.Mixes.{tied, good}
 use Rattle.qcow2_laws.proofs.Changes.{one_at-le, at_one, data_counted, table_counted, table_freed, data_freed, covers_kept, entry_mapped, mapping_kept}
 use Rattle.qcow2_laws.proofs.Shares.{shares, block_has, table_has, block_top, block_covers, block_others, table_top, table_counts, table_others}
 
--- a cluster that a table stands in is neither named by entries nor held, and is counted
+-- a cluster that a table lies in is neither named by entries nor held, and is counted
 module _ (h : HeaderFields) (d : Direction) (p : Pending) (on_storage known : Bytes) (crash_invariant : CrashInvariant h d p on_storage known) (c : ℕ) (table_refs : 0 < named_for_tables h on_storage c) where
   pub table_apart : named_in_either h on_storage known c + p.new_data c ≡ 0
   table_apart =
@@ -39,7 +39,7 @@ module _ (h : HeaderFields) (d : Direction) (p : Pending) (on_storage known : By
   pub table_is_counted : 0 < count h known c
   table_is_counted = let tally = (crash_invariant.each_cluster c).tally in omega arith
 
--- the number of a cluster within its refblock tells it from the others there
+-- the number of a cluster within its refblock distinguishes it from the others there
 one_in_block : (per c0 c : ℕ) → 0 < per → c / per ≡ c0 / per → one_at (c0 % per) (c % per) ≡ one_at c0 c
 one_in_block per c0 c some same = elim (cases_eq c c0) [
   | inl e ↦ cond-true {A = ℕ} _ 1 0 (eq-eqb (c % per) (c0 % per) (ap (λ n. n % per) e)) ∙ sym (cond-true {A = ℕ} _ 1 0 (eq-eqb c c0 e))
@@ -87,7 +87,7 @@ module _ (h : HeaderFields) (d : Direction) (p : Pending) (on_storage known know
   pub counted_covers : SameCovers h known known'
   counted_covers = block_covers h known known' known_top (c0 / counts_per_block h) real once same
 
-  -- what entries name, and what is held, isn't where the refblock stands
+  -- what entries name, and what is held, isn't where the refblock lies
   stays : (o : ℕ) → 0 < named_in_either h on_storage known (o / cluster_size h) + p.new_data (o / cluster_size h) → known o ≡ known' o
   stays o some = outside o (λ e.
       let apart = table_apart h d p on_storage known crash_invariant (block_offset (reftable_entry h known (c0 / counts_per_block h)) / cluster_size h) storage_fixed in

@@ -1,4 +1,4 @@
--- Changes of a cached table's bytes, as changes of what is known.
+-- Changes of a cached table's bytes, as changes of the known contents.
 use Rattle.std.proofs.Common.{◌≡◌, ℕ, ◌+◌, ◌-◌, ◌/◌, ◌%◌, ◌<◌, ◌≤◌, ◌≢◌, Bool, true, false, cond, inl, inr, List, Some, None, refl, sym, ap, ◌∙◌, subst, arith, max}
 use Rattle.std.proofs.lemmas.Bool.{cases_eq, cases_lt, eq-eqb, ne_eqb, cond-true, cond-false}
 use Rattle.std.proofs.lemmas.Nat.{mod_below}

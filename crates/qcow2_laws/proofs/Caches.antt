@@ -1,4 +1,4 @@
--- A cached table is written: all is kept, nothing known changes, and a stop is as safe as before.
+-- A cached table is written: the invariant holds, the known contents stay the same, and a stop is as safe as before.
 use Rattle.std.proofs.Common.{◌≡◌, ℕ, ◌+◌, ◌/◌, ◌<◌, ◌≤◌, ◌≢◌, ◌⊎◌, inl, inr, List, ◌∷◌, ◌++◌, true, refl, sym, ap, subst, ◌∙◌, arith}
 use mathlib.Core.Path.{fun_ext}
 use Rattle.std.proofs.lemmas.Bool.{cases_eq}
@@ -28,7 +28,7 @@ module _ (h : HeaderFields) (d : Direction) (p : Pending) (l2s rbs : List Cached
 
   -- ---- which clusters no modified table lies in
 
-  -- one kind of table alone stands in a cluster
+  -- one kind of table alone lies in a cluster
   l2_share : (c : ℕ) → HasOwnL2 h on_storage c → 1 ≤ named_by_l1_table h on_storage c
   l2_share c has = subst (λ n. 1 ≤ named_by_l1_table h on_storage n) has.2 (table_has h on_storage has.0 has.1)
 
@@ -59,7 +59,7 @@ module _ (h : HeaderFields) (d : Direction) (p : Pending) (l2s rbs : List Cached
         | inr has ↦ absurd (let t = l2_share c has in omega arith)
       ]
 
-  -- where no table stands
+  -- where no table lies
   pub unnamed_free_l2 : (c : ℕ) → named_for_tables h on_storage c ≡ 0 → IsFreeOf (cluster_size h) l2s c
   unnamed_free_l2 c none = elim (kept.l2_stand c) [
     | inl free ↦ free
@@ -136,7 +136,7 @@ module _ (h : HeaderFields) (d : Direction) (p : Pending) (l2s rbs : List Cached
       subst (λ (b : Bytes). SameCounts h on_storage (known (cluster_size h) l2s b)) (sym (clean_known (cluster_size h) rbs on_storage clean))
       (tables_counts (known (cluster_size h) l2s on_storage) (λ c. inr (λ o in_c. refl)))
 
-  -- the L2 table of an L1 entry that isn't marked copied is not modified: it is known as it stands on the storage
+  -- the L2 table of an L1 entry that isn't marked copied is not modified: its known bytes are those on the storage
   shared_free : (i : ℕ) → (is_copied (l1_entry h on_storage i) ≡ true → ⊥) → table_at h on_storage i ≢ 0 → IsFreeOf (cluster_size h) l2s (table_at h on_storage i / cluster_size h)
   shared_free i shared real = elim (kept.l2_stand (table_at h on_storage i / cluster_size h)) [
     | inl free ↦ free
@@ -169,7 +169,7 @@ module _ (h : HeaderFields) (d : Direction) (p : Pending) (l2s rbs : List Cached
   tables_order L2DependsOnRb may b partly = inr (λ c. sym (clean_counts may c) ∙ tables_counts b partly c)
   tables_order RbDependsOnL2 may b partly = inl (tables_counts b partly)
 
-  -- ---- what stands where, in a mix
+  -- ---- what lies where, in a mix
   l2_stands : (b : Bytes) → SameTop h on_storage b → (c : ℕ) → HasOwnL2 h on_storage c → HasOwnL2 h b c
   l2_stands b top c has =
       let e = ap host_offset (top.l1 has.0) in
@@ -279,7 +279,7 @@ module _ (h : HeaderFields) (d : Direction) (p : Pending) (l2s rbs : List Cached
           safe = λ backing m ok known_ok. mixed_kept h d p on_storage (known_bytes (cluster_size h) l2s rbs on_storage) on_storage' kept.crash_invariant l2_mixed backing m ok known_ok;
         }
 
-  -- ---- turns
+  -- ---- changes of the direction
   pub kept_turned : (to : Direction) → MayTurn d to h on_storage (known_bytes (cluster_size h) l2s rbs on_storage) → CacheInvariantOver h to p l2s rbs on_storage
   kept_turned to may = record {
     crash_invariant = turned_crash_invariant h d to p on_storage (known_bytes (cluster_size h) l2s rbs on_storage) may kept.crash_invariant;

@@ -1,4 +1,4 @@
--- A change of what is known keeps the guard, and what was kept.
+-- A change of the known contents keeps the crash invariant, and leaves a stop as safe as before.
 use Rattle.std.proofs.Common.{◌≡◌, ℕ, ◌+◌, ◌-◌, ◌/◌, ◌<◌, ◌≤◌, ◌≢◌, ◌⊎◌, true, false, cond, eqb, List, [], refl, sym, ap, ◌∙◌, arith, inl, inr, subst, max}
 use Rattle.std.proofs.lemmas.Bool.{cases_eq, cases_lt, ne_eqb, cond-false}
 use Rattle.qcow2_metadata.specs.Bytes.{Bytes}
@@ -136,7 +136,7 @@ module _ (h : HeaderFields) (d : Direction) (p : Pending) (on_storage known : By
       counts_changed h d p (new_tables_to_old_tables p n) on_storage known known crash_invariant (SameTop-refl h known) (λ g. refl) (λ o any. crash_invariant.not_overlaid o (omega arith))
       (λ c. abandon d (cluster h p on_storage known c) (p.surplus c) (n c) (tied h p on_storage known c) (few c) (some c) (good h d p on_storage known crash_invariant c))
 
--- ---- one guest cluster is mapped anew: what it names beside the old is taken from what is held
+-- ---- one guest cluster gets another mapping: the references that it gains come from new data
 module _ (h : HeaderFields) (d : Direction) (p : Pending) (on_storage known known' : Bytes) (crash_invariant : CrashInvariant h d p on_storage known) (g0 : ℕ) (within : g0 < guests h)
     (top : SameTop h known known') (others : (g : ℕ) → g ≢ g0 → cover h known g ≡ cover h known' g) (counts : SameCounts h known known')
     (new_data : (c : ℕ) → names h known' c g0 - names h known c g0 ≤ p.new_data c)

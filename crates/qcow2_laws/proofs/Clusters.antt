@@ -1,4 +1,4 @@
--- What each step does to the numbers of one cluster
+-- What each step does to the numbers of one cluster.
 use Rattle.std.proofs.Common.{ℕ, ◌+◌, ◌-◌, ◌<◌, ◌≤◌, ◌≡◌, ◌⊎◌, arith}
 use Rattle.qcow2_laws.specs.Clusters.{Direction, Neither, L2DependsOnRb, RbDependsOnL2, Cluster, ClusterInvariant, Ordered}
 
@@ -99,7 +99,7 @@ remap Neither k x old new known either marks_known marks_either tied taken tally
 remap L2DependsOnRb k x old new known either marks_known marks_either tied taken tally below marked marked_either good = grind arith
 remap RbDependsOnL2 k x old new known either marks_known marks_either tied taken tally below marked marked_either good = grind arith
 
--- turns
+-- changes of the direction
 pub turn_from_free : (d : Direction) (k : Cluster) (x : ℕ) → Tied k → Good Neither k x → Good d k x
 turn_from_free Neither k x tied good = good
 turn_from_free L2DependsOnRb k x tied good = grind arith

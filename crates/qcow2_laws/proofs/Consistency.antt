@@ -1,4 +1,4 @@
--- A guarded image is consistent, and a consistent image is guarded.
+-- An image with the crash invariant is consistent, and a consistent image has the crash invariant.
 use Rattle.std.proofs.Common.{◌≡◌, ℕ, ◌+◌, ◌*◌, ◌/◌, ◌%◌, ◌<◌, ◌≢◌, Bool, false, true, cond, eqb, ap, refl, sym, ◌∙◌, arith, subst}
 use Rattle.std.specs.Prelude.{IsTrue, Option, Some, None}
 use Rattle.std.proofs.lemmas.Bool.{eq-eqb, ne_eqb, cond-true, cond-false}

@@ -39,7 +39,7 @@ pub some_guest : (h : HeaderFields) (f : ℕ → ℕ) → 0 < over_guests h f �
 unfolding over_guests
 some_guest h f some = some_term (guests h) f some
 
--- ---- guest clusters past the L1 table are uncovered
+-- ---- guest clusters past the L1 table are unmapped
 
 pub past_guests : (h : HeaderFields) (b : Bytes) (g : ℕ) → Sizes h → guests h ≤ g → cover h b g ≡ Uncovered
 past_guests h b g sizes past =
@@ -63,7 +63,7 @@ uncovered_names h c = nothing_either (has_data_file h)
 pub uncovered_marks : (h : HeaderFields) (c : ℕ) → marked_by_guest h c Uncovered ≡ 0
 uncovered_marks h c = nothing_either (has_data_file h)
 
--- where the data stand in the image itself, what stands for guest clusters names and marks what it says
+-- if the data are in the image's own file, the mappings of guest clusters refer to and mark what they say
 pub own_names : (h : HeaderFields) (c : ℕ) (v : L2Mapping) → has_data_file h ≡ false → named_by_guest h c v ≡ named_by_cover h c v
 own_names h c v own = cond-false {A = ℕ} (has_data_file h) 0 (named_by_cover h c v) own
 

@@ -1,4 +1,4 @@
--- The calls that write numbers of the header, as steps beside the modified tables of the caches.
+-- The calls that write header numbers, as steps outside of the caches' modified tables.
 use Rattle.std.proofs.Common.{◌≡◌, ◌≢◌, ◌⊎◌, ◌+◌, ◌<◌, ◌≤◌, inl, inr, ℕ, List, replicate, ap, ◌∙◌, subst, lit≤, arith}
 use Rattle.std.proofs.lemmas.Bool.{eq-eqb}
 use Rattle.std.specs.Prelude.{if◌then◌else◌}
@@ -25,7 +25,7 @@ reftable_pointer_but : (h : HeaderFields) (contents : List ℕ) → IsSameBut 48
 unfolding bytes_of_numbers
 reftable_pointer_but h contents = overwritten_but contents 48 _
 
--- the size, and where the tables stand, lie beside the rest of the header
+-- the size and the pointers to the tables lie outside of the rest of the header
 rest_apart : (h : HeaderFields) (place n o : ℕ) → 24 ≤ place → (place + n ≤ 32) ⊎ (36 ≤ place) → place + n ≤ 60 → IsOfHeaderRest h o → (o < place) ⊎ (place + n ≤ o)
 rest_apart h place n o from gap to of_rest = elim of_rest [
   | inl front ↦ inl (omega (arith, front))

@@ -1,4 +1,4 @@
--- Steps of the driver that change nothing a guest sees.
+-- Steps of the driver that guests don't see.
 use Rattle.std.proofs.Common.{◌≡◌, ℕ, ◌+◌, ◌*◌, ◌/◌, ◌<◌, ◌≤◌, ◌≢◌, ◌⊎◌, refl, sym, ap, ◌∙◌, arith, inl, inr, subst}
 use mathlib.Core.Path.{fun_ext}
 use Rattle.qcow2_metadata.specs.Bytes.{Bytes}
@@ -28,7 +28,7 @@ use Rattle.qcow2_laws.proofs.NewTables.{outside_eight, known_covers}
 
 -- ---- one step after another
 
--- a cluster is named as often where the same covers stand
+-- a cluster has as many references if the mappings are the same
 named_same : (h : HeaderFields) (known known' : Bytes) (c : ℕ) → SameCovers h known known' → over_guests h (names h known c) ≡ over_guests h (names h known' c)
 named_same h known known' c covers = over_guests-same h (names h known c) (names h known' c) (λ g. ap (named_by_guest h c) (covers g))
 
@@ -88,7 +88,7 @@ module _ (old new : DriverState) (sound : StateInvariant old) where
   used_within : (c : ℕ) → 0 < used_by_guests old c → 0 < named_in_either old.header old.on_storage old.known c + old.pending.new_data c
   used_within c some = let t = (tied old.header old.pending old.on_storage old.known c).known in omega arith
 
-  -- in one cluster, where a table stands
+  -- in one cluster, where a table lies
   pub table_bytes : (c : ℕ) → 0 < named_for_tables old.header old.on_storage c → IsSameOutside (cluster_size old.header) c old.known new.known → SameUsedBytes old new
   table_bytes c table_refs outside o some =
       sym (outside o (λ e.
@@ -174,7 +174,7 @@ module _ (old new : DriverState) (sound : StateInvariant old) where
           (λ i. sym ((top_stays old.header old.on_storage new.on_storage sound.top (λ c table_refs. (tables_stay c table_refs).0)).l1 i)),
         )
 
-  -- ---- bytes are written to one cluster that no table stands in
+  -- ---- bytes are written to one cluster that no table lies in
 
   -- ---- the guest's disk stays
   -- what a guest cluster names is named

@@ -38,7 +38,7 @@ module _ (s : DriverState) (sound : StateInvariant s) (inside : s.header.incompa
   kept_names : (c : ℕ) → names s.header s.known c g ≡ in_cluster s.header c host
   kept_names c = ap (named_by_guest s.header c) is ∙ own_names s.header c (Zero (Some (host, true))) (own_data_of s.header inside)
 
-  -- its bytes are used, and no table is laid over them
+  -- its bytes are used, and no table is overlaid on them
   pub kept_unlaid : (k : ℕ) → k < cluster_size s.header → s.on_storage (host + k) ≡ s.known (host + k)
   kept_unlaid k lt =
       sound.not_overlaid (host + k) (

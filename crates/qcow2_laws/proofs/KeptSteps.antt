@@ -1,4 +1,4 @@
--- What the caches keep, after what they hold, or the bytes under them, changed.
+-- The invariant of the caches, after their tables or the bytes under them changed.
 use Rattle.std.proofs.Common.{◌≡◌, ℕ, ◌/◌, ◌%◌, ◌≢◌, ◌⊎◌, inl, inr, List, [], ◌∷◌, ◌++◌, false, sym, ap, subst, ◌∙◌, max}
 use Rattle.std.proofs.lemmas.Bool.{cases_eq}
 use Rattle.qcow2_metadata.specs.Bytes.{Bytes}
@@ -88,7 +88,7 @@ still_agree size l2s rbs on_storage on_storage' each o same = elim (each o) [
   | inr free ↦ sym (known_is_on_storage size l2s rbs on_storage' o free.0 free.1)
 ]
 
--- what stands where is kept by what names it, before and after
+-- what lies where is kept by what refers to it, before and after
 pub kept_beside : (h h' : HeaderFields) (d d' : Direction) (p p' : Pending) (l2s rbs : List CachedTable) (on_storage on_storage' : Bytes) → CacheInvariantOver h d p l2s rbs on_storage → cluster_size h' ≡ cluster_size h
     → CrashInvariant h' d' p' on_storage' (known_bytes (cluster_size h') l2s rbs on_storage')
     → ((c : ℕ) → HasOwnL2 h on_storage c → IsFreeOf (cluster_size h) l2s c ⊎ HasOwnL2 h' on_storage' c)

@@ -1,4 +1,4 @@
--- The header is written to name a new, maybe longer, L1 table.
+-- The header's pointer to a new L1 table, which may be longer, is written.
 use Rattle.std.proofs.Common.{◌≡◌, ℕ, ◌+◌, ◌-◌, ◌*◌, ◌/◌, ◌<◌, ◌≤◌, ◌≢◌, cond, [], refl, sym, ap, ◌∙◌, arith, inl, inr, subst}
 use mathlib.Core.Path.{fun_ext}
 use Rattle.std.proofs.lemmas.Bool.{cases_lt}

@@ -1,4 +1,4 @@
--- One guest cluster is mapped anew: what it shows then, and that all else stays.
+-- One guest cluster gets another mapping: what it then shows, and that everything else stays the same.
 use Rattle.std.proofs.Common.{◌≡◌, ℕ, ◌+◌, ◌-◌, ◌*◌, ◌/◌, ◌%◌, ◌<◌, ◌≤◌, ◌⊎◌, Bool, true, cond, eqb, [], ◌∷◌, refl, sym, ap, ◌∙◌, arith, inl, inr, subst}
 use Rattle.std.specs.Prelude.{Option}
 use mathlib.Core.Path.{fun_ext}
@@ -120,7 +120,7 @@ module _ (s : DriverState) (known' : Bytes) (i j : ℕ) (sound : StateInvariant 
     aligned : host % cluster_size s.header ≡ 0
     aligned = subst (CoverIsAligned s.header) is changes.aligned
 
-    -- nothing is laid over it, and the entry that changes is elsewhere
+    -- nothing is overlaid on it, and the entry that changes is elsewhere
     host_bytes : (k : ℕ) → k < cluster_size s.header → known' (host + k) ≡ s.on_storage (host + k)
     host_bytes k lt =
         let here = in_one (cluster_size s.header) host k aligned lt in

@@ -60,7 +60,7 @@ here_at o g size above below =
     let e : o ≡ g * size + (o - g * size) = omega arith in
     ap (λ n. n / size) e ∙ div-mul-add g size (o - g * size) (omega arith)
 
--- a disk with one more cluster behind a range of it
+-- a disk with one more cluster after a range of it
 module _ (size first n : ℕ) (some : 0 < size) (values : ℕ → Value) (d : Disk) where
   abbrev range : ℕ → Disk
   range k = with_values d (first * size) ((first + k) * size - first * size) (λ i. values (first * size + i))

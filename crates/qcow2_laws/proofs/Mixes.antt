@@ -1,4 +1,4 @@
--- An image in which some cached tables are written, in an order that is allowed, is guarded as before.
+-- An image in which some cached tables were written, in an allowed order, still has the crash invariant.
 use Rattle.std.proofs.Common.{◌≡◌, ℕ, ◌+◌, ◌*◌, ◌/◌, ◌%◌, ◌≤◌, ◌≢◌, ◌⊎◌, refl, sym, ap, ◌∙◌, arith, inl, inr, subst, max}
 use Rattle.qcow2_metadata.specs.Bytes.{Bytes, SameFrom}
 use Rattle.qcow2_metadata.specs.declared.header.HeaderFields.{HeaderFields}
@@ -174,7 +174,7 @@ known_mixed h d on_storage known = record { partly = λ c. inr (λ o in_c. refl)
 pub known_crash_invariant : (h : HeaderFields) (d : Direction) (p : Pending) (on_storage known : Bytes) → CrashInvariant h d p on_storage known → CrashInvariant h d p known known
 known_crash_invariant h d p on_storage known crash_invariant = mixed_crash_invariant h d p on_storage known known crash_invariant (known_mixed h d on_storage known)
 
--- ---- turns
+-- ---- changes of the direction
 
 turned : (d to : Direction) (h : HeaderFields) (p : Pending) (on_storage known : Bytes) (c x : ℕ) → MayTurn d to h on_storage known → Good d (cluster h p on_storage known c) x → Good to (cluster h p on_storage known c) x
 turned Neither to h p on_storage known c x may g = turn_from_free to (cluster h p on_storage known c) x (tied h p on_storage known c) g

@@ -1,4 +1,4 @@
--- A reftable entry that is written to name a refblock keeps the guard, and what was kept.
+-- Writing the reftable entry of a refblock keeps the crash invariant, and leaves a stop as safe as before.
 use Rattle.std.proofs.Common.{◌≡◌, ℕ, ◌+◌, ◌-◌, ◌*◌, ◌/◌, ◌%◌, ◌<◌, ◌≤◌, ◌≢◌, ltb, [], refl, sym, ap, ◌∙◌, arith, inl, inr, subst}
 use Rattle.std.proofs.lemmas.Bool.{cases_eq, cases_lt}
 use Rattle.std.proofs.lemmas.Nat.{mod_below}
@@ -84,7 +84,7 @@ module _ (h : HeaderFields) (d : Direction) (p p' : Pending) (on_storage known o
   known_others : (k : ℕ) → k ≢ k0 → reftable_entry h known k ≡ reftable_entry h known' k
   known_others k = other_reftable h known known' k0 k writes.known_others
 
-  -- the new refblock stands elsewhere
+  -- the new refblock lies elsewhere
   apart : block_offset entry / cluster_size h ≢ (h.reftable_offset + 8 * k0) / cluster_size h
   apart e =
       let here : named_for_tables h on_storage ((h.reftable_offset + 8 * k0) / cluster_size h) ≡ 0 = ap (named_for_tables h on_storage) (sym e) ∙ no_table in

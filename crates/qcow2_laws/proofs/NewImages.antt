@@ -1,4 +1,4 @@
--- A new image of three clusters, of any size of clusters and width of counts, is consistent.
+-- A new image of three clusters is consistent, for every cluster size and refcount width.
 use Rattle.std.proofs.Common.{◌≡◌, ℕ, zero, suc, ◌+◌, ◌-◌, ◌*◌, ◌/◌, ◌%◌, ◌^◌, ◌<◌, ◌≤◌, cond, eqb, ltb, refl, sym, ap, ◌∙◌, arith, inl, inr, subst}
 use Rattle.std.proofs.lemmas.Bool.{cases_eq, cases_lt, eq-eqb, ne_eqb, cond-true, cond-false, lt-ltb, le-ltb}
 use Rattle.std.specs.Prelude.{◌&&◌, nat_le, nat_lt}

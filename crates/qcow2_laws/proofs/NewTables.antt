@@ -1,4 +1,4 @@
--- An L1 entry that is written to name a fresh table keeps the guard, and what was kept.
+-- Writing the L1 entry of a new table keeps the crash invariant, and leaves a stop as safe as before.
 use Rattle.std.proofs.Common.{◌≡◌, ℕ, ◌+◌, ◌-◌, ◌*◌, ◌/◌, ◌%◌, ◌<◌, ◌≤◌, ◌≢◌, Bool, true, false, cond, ltb, eqb, [], refl, sym, ap, ◌∙◌, arith, inl, inr, subst}
 use Rattle.std.proofs.lemmas.Bool.{cases_eq, cases_lt, eq-eqb, ne_eqb, cond-true, cond-false}
 use Rattle.qcow2_metadata.specs.Bytes.{Bytes, SameFrom}
@@ -113,7 +113,7 @@ module _ (h : HeaderFields) (d : Direction) (p : Pending) (on_storage known on_s
   known_others : (i : ℕ) → i ≢ i0 → l1_entry h known i ≡ l1_entry h known' i
   known_others i = other_l1 h known known' i0 i writes.known_others
 
-  -- the new table stands elsewhere
+  -- the new table lies elsewhere
   apart : host_offset entry / cluster_size h ≢ (h.l1_offset + 8 * i0) / cluster_size h
   apart e =
       let none = (new_tables_is_unnamed h d p on_storage known crash_invariant (host_offset entry / cluster_size h) new.new_tables new.written).no_table in

@@ -1,4 +1,4 @@
--- Numbers, entries, counts and covers lie in clusters: they stay where the bytes of these clusters stay.
+-- Numbers, entries, refcounts and mappings depend only on the bytes of their clusters.
 use Rattle.std.proofs.Common.{◌≡◌, ℕ, zero, suc, ◌+◌, ◌-◌, ◌*◌, ◌/◌, ◌%◌, ◌^◌, ◌<◌, ◌≤◌, ◌≢◌, true, false, cond, ltb, eqb, Bool, refl, sym, ap, ◌∙◌, arith, inl, inr}
 use Rattle.std.proofs.lemmas.Bool.{ltb-true, eqb-false, cases_lt, cond-true, cond-false, le-ltb, eq-eqb, ne_eqb}
 use Rattle.std.proofs.lemmas.Nat.{div-mul-add, div-add-mod', mod_below, mod-mul-add, pow_pos, pow-add, le-div}
@@ -129,7 +129,7 @@ pub reftable_entry-past : (h : HeaderFields) (b : Bytes) (k : ℕ) → reftable_
 unfolding reftable_entry
 reftable_entry-past h b k past = cond-false _ _ _ (le-ltb k (reftable_entries h) past)
 
--- the entry of a table that there is stands within its table
+-- the entry of an existing table lies within its table
 pub has_table : (h : HeaderFields) (b : Bytes) (i : ℕ) → table_at h b i ≢ 0 → i < h.l1_entries
 has_table h b i real = elim (cases_lt i h.l1_entries) [ inl lt ↦ lt | inr past ↦ absurd (real (ap host_offset (l1_entry-past h b i past))) ]
 
@@ -142,7 +142,7 @@ has_block h b k real = elim (cases_lt k (reftable_entries h)) [ inl lt ↦ lt | 
 abbrev CountWithin : ℕ → ℕ → ℕ → Type 0
 CountWithin width i n = (i * width / 8 < n) × (i * (width / 8) + width / 8 ≤ n)
 
--- a number is the same wherever its bytes stand
+-- a number is the same wherever its bytes lie
 pub number_at-moved : (b c : Bytes) (p q n : ℕ) → ((i : ℕ) → i < n → b (p + i) ≡ c (q + i)) → number_at b p n ≡ number_at c q n
 unfolding number_at
 number_at-moved b c p q zero h = refl
@@ -151,7 +151,7 @@ number_at-moved b c p q (suc n) h =
     let last = h n (omega arith) in
     cc
 
--- a count is the same wherever its block stands
+-- a refcount is the same wherever its refblock lies
 block_count-within : (b c : Bytes) (width p q i n : ℕ) → CountWithin width i n → ((k : ℕ) → k < n → b (p + k) ≡ c (q + k)) → block_count b width p i ≡ block_count c width q i
 unfolding block_count
 block_count-within b c width p q i n within same =
@@ -174,7 +174,7 @@ count_within (suc (suc (suc (suc (suc zero))))) i size le whole lt = omega arith
 count_within (suc (suc (suc (suc (suc (suc zero)))))) i size le whole lt = omega arith
 count_within (suc (suc (suc (suc (suc (suc (suc order))))))) i size le whole lt = absurd (omega arith)
 
--- a refblock's count, wherever its bytes stand
+-- a refblock's refcount, wherever its bytes lie
 pub block_count-moved : (h : HeaderFields) (b c : Bytes) (p q i : ℕ) → Sizes h → i < counts_per_block h → ((k : ℕ) → k < cluster_size h → b (p + k) ≡ c (q + k))
     → block_count b (count_width h) p i ≡ block_count c (count_width h) q i
 block_count-moved h b c p q i sizes lt same =

@@ -1,4 +1,4 @@
--- One storage write over a run of clusters: in place, into clusters that zero entries keep, and into held ones.
+-- One storage write over a run of clusters: in place, into clusters that zero entries keep, and into new data.
 use Rattle.std.proofs.Common.{◌≡◌, ℕ, zero, suc, ◌+◌, ◌-◌, ◌*◌, ◌/◌, ◌%◌, ◌<◌, ◌≤◌, ◌≢◌, ◌⊎◌, Bool, true, false, cond, List, [], ◌∷◌, length, refl, sym, ap, ◌∙◌, arith, inl, inr, subst}
 use Rattle.std.specs.Prelude.{Some}
 use mathlib.Core.Path.{fun_ext}
@@ -319,7 +319,7 @@ run_written s on_storage' known' hosting offset place bytes given sound inside h
   shows = shows_run s on_storage' known' sound inside hosting offset place (length bytes) (byte_at bytes) given hosts gives writes there;
 }
 
--- no table stands at such a place
+-- no table lies at such a place
 pub beside_tables : (s : DriverState) (hosting : Hosting) (o place : ℕ) → StateInvariant s → s.header.incompatible ≡ 0 → IsHostedAt s hosting o place → named_for_tables s.header s.on_storage (place / cluster_size s.header) ≡ 0
 beside_tables s InPlace o place sound inside at =
     (marked_alone s.header s.direction s.pending s.on_storage s.known sound (place / cluster_size s.header) (o / cluster_size s.header) (own_marked s sound inside o place (own_in_place s sound inside o place at))).0

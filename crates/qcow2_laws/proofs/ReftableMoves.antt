@@ -1,4 +1,4 @@
--- The header is written to name a new reftable, with new refblocks.
+-- The header's pointer to a new reftable, with new refblocks, is written.
 use Rattle.std.proofs.Common.{◌≡◌, ℕ, ◌+◌, ◌-◌, ◌*◌, ◌/◌, ◌%◌, ◌<◌, ◌≤◌, ◌≢◌, [], refl, sym, ap, ◌∙◌, arith, inl, inr, subst}
 use Rattle.std.proofs.lemmas.Bool.{cases_eq, cases_lt}
 use Rattle.std.proofs.lemmas.Nat.{mod_below}
@@ -69,7 +69,7 @@ module _ (h : HeaderFields) (offset clusters : ℕ) (blocks counted : ℕ → �
   now_known_reftable : (k : ℕ) → reftable_entry (with_places h (with_reftable_at h offset clusters)) on_storage k ≡ reftable_entry (with_places h (with_reftable_at h offset clusters)) known' k
   now_known_reftable k = sym (new.known_same k) ∙ stays known known' known_same k
 
-  -- a new refblock doesn't stand in the header's cluster
+  -- a new refblock doesn't lie in the header's cluster
   block_elsewhere : (k : ℕ) → block_offset (reftable_entry (with_places h (with_reftable_at h offset clusters)) on_storage k) ≢ 0
       → block_offset (reftable_entry (with_places h (with_reftable_at h offset clusters)) on_storage k) / cluster_size h ≢ 0
   block_elsewhere k real e =

@@ -1,4 +1,4 @@
--- Header, L1 table or reftable change, on the storage and as known, while all guest clusters keep their covers.
+-- The header, the L1 table or the reftable changes, on the storage and in the known contents, and all guest clusters keep their mappings.
 use Rattle.std.proofs.Common.{◌≡◌, ℕ, ◌+◌, ◌-◌, ◌*◌, ◌/◌, ◌<◌, ◌≤◌, ◌⊎◌, List, [], refl, sym, ap, ◌∙◌, arith, inl, inr, subst, max}
 use Rattle.std.proofs.lemmas.Nat.{mul-le}
 use Rattle.qcow2_metadata.specs.Bytes.{Bytes, sum_below}

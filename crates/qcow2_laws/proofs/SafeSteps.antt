@@ -1,4 +1,4 @@
--- Steps one after another, and the moments of a storage on the way: a word for each elementary step, which is handed the step's own fact whole.
+-- Steps one after another, and the moments of a storage on the way: a function for each elementary step, which gets the step's own fact whole.
 use Rattle.std.proofs.Common.{◌≡◌, ◌⊎◌, inl, inr, ⊎_elim, ℕ, List, [], ◌++◌, Result, sym, ◌∙◌, subst, append_assoc}
 use Rattle.image_access.specs.declared.error.StorageError.{StorageError}
 use Rattle.image_access.specs.Contents.{overwritten}
@@ -48,11 +48,11 @@ safe_throughout_none view known = record { moments = passes_none view _; content
 unwritten : (view : StorageView) (known : Bytes) (given : Bytes → List GivenBytes) → SafeThroughout view view known given []
 unwritten view known given = record { moments = passes_none view _; contents = λ backing m ok known_ok. kept_more backing (given backing) [] m (byte_at view.contents) ok }
 
--- a count is raised
+-- a refcount is incremented
 pub raise_safe_throughout : (view : StorageView) (s : DriverState) (known' : Bytes) (c : ℕ) → s.on_storage ≡ byte_at view.contents → CountRises s.header s.known known' c → SafeThroughout view view s.known (λ _. []) []
 raise_safe_throughout view s known' c is rises = safe_throughout_none view s.known
 
--- a count is lowered
+-- a refcount is decremented
 pub fall_safe_throughout : (view : StorageView) (s : DriverState) (known' : Bytes) (c : ℕ) → s.on_storage ≡ byte_at view.contents → CountFalls s.header s.known known' c → SafeThroughout view view s.known (λ _. []) []
 fall_safe_throughout view s known' c is falls = safe_throughout_none view s.known
 

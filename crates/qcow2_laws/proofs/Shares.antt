@@ -32,7 +32,7 @@ one_or_none false = omega arith
 pub in_run-le : (h : HeaderFields) (c place n : ℕ) → in_run h c place n ≤ 1
 in_run-le h c place n = one_or_none (leb (place / cluster_size h) c && ltb c (place / cluster_size h + (n + cluster_size h - 1) / cluster_size h))
 
--- ---- each has a share in its own cluster
+-- ---- each has a part in its own cluster
 
 -- a byte of a run lies in one of its clusters
 pub run_has : (h : HeaderFields) (place n k : ℕ) → 0 < cluster_size h → place % cluster_size h ≡ 0 → k < n → in_run h ((place + k) / cluster_size h) place n ≡ 1
@@ -70,7 +70,7 @@ block_has h b k real =
     let one = table_in_own h (block_offset (reftable_entry h b k)) real in
     omega arith
 
--- two tables of one cluster have a share each
+-- two tables of one cluster have a part each
 pub two_tables : (h : HeaderFields) (b : Bytes) (c i j : ℕ) → i ≢ j → table_at h b i ≢ 0 → table_at h b j ≢ 0 → table_at h b i / cluster_size h ≡ c → table_at h b j / cluster_size h ≡ c
     → 2 ≤ named_by_l1_table h b c
 unfolding named_by_l1_table
@@ -115,7 +115,7 @@ module _ (h : HeaderFields) (b b' : Bytes) (top : IsTop h b) where
   count_stays c entry same =
       count-same h b b' c sizes entry (λ real. SameFrom-in (cluster_size h) _ _ b b' (same real) (top.refblocks_aligned (c / counts_per_block h) (has_block h b _ real)) refl)
 
-  -- the clusters that tables stand in stay
+  -- the clusters that tables lie in stay
   module _ (same : (c : ℕ) → 0 < named_for_tables h b c → SameIn (cluster_size h) c b b') where
     pub top_stays : SameTop h b b'
     top_stays = record {
@@ -130,7 +130,7 @@ module _ (h : HeaderFields) (b b' : Bytes) (top : IsTop h b) where
     pub counts_stay : SameCounts h b b'
     counts_stay c = count_stays c (top_stays.reftable _) (λ real. same _ (let s = shares h b (block_offset (reftable_entry h b (c / counts_per_block h)) / cluster_size h) in let one = block_has h b _ real in omega arith))
 
-  -- one cluster, in which an L2 table stands, may change
+  -- one cluster, in which an L2 table lies, may change
   module _ (i0 : ℕ) (real : table_at h b i0 ≢ 0) (once : named_for_tables h b (table_at h b i0 / cluster_size h) ≤ 1)
       (same : (c : ℕ) → c ≢ table_at h b i0 / cluster_size h → SameIn (cluster_size h) c b b') where
     alone : (c : ℕ) → 0 < in_cluster h c 0 + in_l1 h c + in_reftable h c + named_by_reftable h b c → c ≢ table_at h b i0 / cluster_size h
@@ -157,7 +157,7 @@ module _ (h : HeaderFields) (b b' : Bytes) (top : IsTop h b) where
         let s = shares h b (table_at h b i0 / cluster_size h) in
         absurd (omega arith)))
 
-  -- one cluster, in which a refblock stands, may change
+  -- one cluster, in which a refblock lies, may change
   module _ (k0 : ℕ) (real : block_offset (reftable_entry h b k0) ≢ 0) (once : named_for_tables h b (block_offset (reftable_entry h b k0) / cluster_size h) ≤ 1)
       (same : (c : ℕ) → c ≢ block_offset (reftable_entry h b k0) / cluster_size h → SameIn (cluster_size h) c b b') where
     alone_block : (c : ℕ) → 0 < in_cluster h c 0 + in_l1 h c + in_reftable h c + named_by_l1_table h b c → c ≢ block_offset (reftable_entry h b k0) / cluster_size h
@@ -184,7 +184,7 @@ module _ (h : HeaderFields) (b b' : Bytes) (top : IsTop h b) where
         let s = shares h b (block_offset (reftable_entry h b k0) / cluster_size h) in
         absurd (omega arith)))
 
-  -- one cluster, in which a part of the L1 table stands, may change
+  -- one cluster, in which a part of the L1 table lies, may change
   module _ (c0 : ℕ) (part : 1 ≤ in_l1 h c0) (once : named_for_tables h b c0 ≤ 1) (same : (c : ℕ) → c ≢ c0 → SameIn (cluster_size h) c b b') where
     alone_l1 : (c : ℕ) → 0 < in_cluster h c 0 + in_reftable h c + named_by_reftable h b c + named_by_l1_table h b c → c ≢ c0
     alone_l1 c some e =
@@ -205,7 +205,7 @@ module _ (h : HeaderFields) (b b' : Bytes) (top : IsTop h b) where
     pub l1_counts : SameCounts h b b'
     l1_counts c = count_stays c (l1_reftable _) (λ real. same _ (alone_l1 _ (let one = block_has h b _ real in omega arith)))
 
-  -- one cluster, in which a part of the reftable stands, may change
+  -- one cluster, in which a part of the reftable lies, may change
   module _ (c0 : ℕ) (part : 1 ≤ in_reftable h c0) (once : named_for_tables h b c0 ≤ 1) (same : (c : ℕ) → c ≢ c0 → SameIn (cluster_size h) c b b') where
     alone_reftable : (c : ℕ) → 0 < in_cluster h c 0 + in_l1 h c + named_by_reftable h b c + named_by_l1_table h b c → c ≢ c0
     alone_reftable c some e =

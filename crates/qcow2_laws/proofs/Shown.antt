@@ -1,4 +1,4 @@
--- What guests read, and what they see of bytes that are written to one cluster that is held for them.
+-- What guests read, and what they see of bytes that are written to a cluster of new data.
 use Rattle.std.proofs.Common.{◌≡◌, ℕ, ◌+◌, ◌/◌, ◌%◌, ◌<◌, Bool, List, [], sym, ap, ◌∙◌, arith, subst}
 use Rattle.std.specs.Prelude.{Option}
 use Rattle.std.proofs.lemmas.Nat.{mod_below, pow_pos}
@@ -47,7 +47,7 @@ module _ (s : DriverState) (sound : StateInvariant s) where
     pub data_named : names s.header s.known (host / cluster_size s.header) g ≡ 1
     data_named = ap (named_by_guest s.header (host / cluster_size s.header)) is ∙ own_names s.header (host / cluster_size s.header) (Data host copied) (own_data_of s.header inside) ∙ in_own s.header host
 
-    -- no table is laid over them
+    -- no table is overlaid on them
     pub data_unlaid : (k : ℕ) → k < cluster_size s.header → s.on_storage (host + k) ≡ s.known (host + k)
     data_unlaid k lt =
         sound.not_overlaid (host + k) (

@@ -1,4 +1,4 @@
--- Each step of the driver leads on.
+-- Each step of the driver is a safe step.
 use Rattle.std.proofs.Common.{inl, inr, [], ◌∷◌, ◌++◌, refl, sym, subst}
 use Rattle.qcow2_metadata.specs.Header.{header}
 use Rattle.qcow2_laws.specs.Clusters.{L2DependsOnRb, RbDependsOnL2}

@@ -1,4 +1,4 @@
--- What the same header, L1 table and reftable keep.
+-- What stays the same if the header, the L1 table and the reftable do.
 use Rattle.std.proofs.Common.{◌≡◌, ℕ, ◌+◌, ◌<◌, refl, sym, ap, ◌∙◌, arith, subst, cond, add-zero, zero, suc}
 use Rattle.qcow2_metadata.specs.Bytes.{Bytes, bytes_from, SameFrom}
 use Rattle.qcow2_metadata.specs.declared.header.HeaderFields.{HeaderFields}

@@ -1,4 +1,4 @@
--- Guest bytes stay where covers, and the bytes that they name, stay.
+-- Guest bytes stay the same if the mappings and the bytes that these refer to do.
 use Rattle.std.proofs.Common.{false, ◌≡◌, ℕ, ◌+◌, ◌-◌, ◌*◌, ◌/◌, ◌%◌, ◌<◌, ◌⊎◌, List, [], refl, sym, ap, ◌∙◌, arith, inl, inr, subst, max}
 use Rattle.std.proofs.lemmas.Bool.{cond-true, le-leb, and_from}
 use Rattle.std.proofs.lemmas.Nat.{mod_below, pow_pos}
@@ -81,7 +81,7 @@ module _ (h : HeaderFields) (d : Direction) (p : Pending) (on_storage known b : 
     | inr is ↦ is place refl ∙ sym same
   ]
 
-  -- where a guest cluster names a cluster on the storage, or as known, no table is laid over it
+  -- where a guest cluster names a cluster on the storage, or as known, no table is overlaid on it
   unlaid_storage : (g place : ℕ) → 0 < names h on_storage (place / cluster_size h) g → on_storage place ≡ known place
   unlaid_storage g place some =
       crash_invariant.not_overlaid place (let le = guest_le h (λ k. max (names h on_storage (place / cluster_size h) k) (names h known (place / cluster_size h) k)) g (names_within h on_storage (place / cluster_size h) g sizes some) in omega arith)

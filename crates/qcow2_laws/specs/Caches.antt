@@ -11,7 +11,7 @@ use Rattle.qcow2_laws.specs.Guests.{table_at}
 use Rattle.qcow2_laws.specs.CrashInvariant.{Pending, CrashInvariant}
 use Rattle.qcow2_laws.specs.Writes.{IsUnnamed}
 
--- The known contents: the bytes on the storage with the modified tables of both caches laid over their clusters.
+-- The known contents: the bytes on the storage with the modified tables of both caches overlaid on their clusters.
 abbrev pub known_bytes : ℕ → List CachedTable → List CachedTable → Bytes → Bytes
 known_bytes size l2s rbs b = known size l2s (known size rbs b)
 
@@ -73,7 +73,7 @@ pub record IsWrittenSo (size : ℕ) (t t' : CachedTable) (b b' : Bytes) : Type 0
 abbrev pub IsSafeBetween : Bytes → Bytes → Bytes → Type 0
 IsSafeBetween on_storage known b = (backing : Bytes) (m : Checkpoint) → StopOkEverywhere backing m on_storage → StopOkEverywhere backing m known → StopOkEverywhere backing m b
 
--- One table more is written: the invariant holds, the known contents are the same, and a stop is as safe as before.
+-- One more table is written: the invariant holds, the known contents are the same, and a stop is as safe as before.
 pub record InternalTableWrite (h : HeaderFields) (d : Direction) (p : Pending) (l2s rbs : List CachedTable) (on_storage : Bytes) (l2s' rbs' : List CachedTable) (on_storage' : Bytes) : Type 0 where
   pub kept : CacheInvariantOver h d p l2s' rbs' on_storage'
   pub known : known_bytes (cluster_size h) l2s' rbs' on_storage' ≡ known_bytes (cluster_size h) l2s rbs on_storage

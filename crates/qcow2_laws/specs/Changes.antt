@@ -26,7 +26,7 @@ without_old_data p n = record p { old_data = λ k. p.old_data k - n k }
 abbrev pub new_data_to_old_data : Pending → (ℕ → ℕ) → Pending
 new_data_to_old_data p n = record p { new_data = λ k. p.new_data k - n k; old_data = λ k. p.old_data k + n k }
 
--- New data that no entry on the storage names are to be freed at once.
+-- New data that no entry on the storage names are to be freed immediately.
 abbrev pub new_data_to_old_tables : Pending → (ℕ → ℕ) → Pending
 new_data_to_old_tables p n = record p { new_data = λ k. p.new_data k - n k; old_tables = λ k. p.old_tables k + n k }
 

@@ -49,7 +49,7 @@ pub record Pending : Type 0 where
   -- No reason: a positive surplus is a leak.
   pub surplus : ℕ → ℕ
 
--- The numbers of one host cluster. `on_storage` are the bytes on the storage, `known` these with the modified tables laid over.
+-- The numbers of one host cluster. `on_storage` are the bytes on the storage, `known` these with the modified tables overlaid.
 abbrev pub cluster : HeaderFields → Pending → Bytes → Bytes → ℕ → Cluster
 cluster h p on_storage known c = record {
   table_refs = named_for_tables h on_storage c;

@@ -147,7 +147,7 @@ IsGivenAt given Held o byte = Unit {0}
 abbrev pub with_seen_bytes : (ℕ → Hosting) → Disk → ℕ → List ℕ → Disk
 with_seen_bytes hosting d offset bytes = record d { value = λ o. if is_private_hosting (hosting o) then d.value o else (with_bytes d offset bytes).value o }
 
--- Bytes were written to the places of a guest range. All entries stay the same, and so do the bytes of other guest clusters and of other new data.
+-- Bytes were written to the places of a guest range. All entries stay the same, and the bytes of other guest clusters and of other new data do too.
 pub record WritesRun (hosting : ℕ → Hosting) (offset place : ℕ) (bytes : List ℕ) (given : List GivenBytes) (old new : DriverState) : Type 0 where
   pub safe_step : SafeStep old new (λ _. given) []
   pub covers : SameCovers old.header old.known new.known
@@ -158,7 +158,7 @@ pub record WritesRun (hosting : ℕ → Hosting) (offset place : ℕ) (bytes : L
       → SameIn (cluster_size old.header) k old.on_storage new.on_storage × SameIn (cluster_size old.header) k old.known new.known
   pub shows : (backing : Bytes) → disk new.known backing ≡ with_seen_bytes hosting (disk old.known backing) offset bytes
 
--- One storage write over a run of clusters that are copied data, kept by zero entries, or new data. Guests see at once the bytes in place, and no others. No table lies at such a place.
+-- One storage write over a run of clusters that are copied data, kept by zero entries, or new data. The guest sees the bytes that are in place immediately, and no others. No table lies at such a place.
 pub record RunIsWritten : Type 0 where
   pub written : (s : DriverState) (on_storage' known' : Bytes) (hosting : ℕ → Hosting) (offset place : ℕ) (bytes : List ℕ) (given : List GivenBytes) → StateInvariant s → s.header.incompatible ≡ 0
       → ((i : ℕ) → i < length bytes → IsHostedAt s (hosting (offset + i)) (offset + i) (place + i))

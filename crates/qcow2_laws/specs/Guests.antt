@@ -9,7 +9,7 @@ use Rattle.qcow2_metadata.specs.Named.{in_cluster, table_in, named_by_cover}
 use Rattle.qcow2_metadata.specs.declared.l2_mapping.L2Mapping.{L2Mapping}
 use Rattle.qcow2_metadata.specs.declared.l2_mapping.L2Mapping.TheVariants.{Data, Zero, Compressed, Uncovered}
 
--- The number of guest clusters that the L1 table covers. All behind them are unmapped.
+-- The number of guest clusters that the L1 table covers. All after them are unmapped.
 abbrev pub guests : HeaderFields → ℕ
 guests h = h.l1_entries * entries_per_cluster h
 

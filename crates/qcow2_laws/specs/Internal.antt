@@ -22,7 +22,7 @@ SameUsedBytes old new = (o : ℕ) → 0 < used_by_guests old (o / cluster_size o
 abbrev pub KeepsFormat : HeaderFields → HeaderFields → Type 0
 KeepsFormat h h' = h' ≡ with_reftable h h'.reftable_offset h'.reftable_clusters
 
--- Guests cannot see the step: the header stays the same except for the pointer to the reftable, and so do all mappings and the bytes that guests use.
+-- Guests cannot see the step: all mappings, the bytes that guests use, and the header except for the pointer to the reftable stay the same.
 pub record IsInternal (old new : DriverState) : Type 0 where
   pub header : KeepsFormat old.header new.header
   pub covers : SameCovers old.header old.known new.known

@@ -39,7 +39,7 @@ pub record MixIsSafe : Type 0 where
   pub mixed : (s : DriverState) (b : Bytes) → StateInvariant s → IsMixed s.header s.direction s.on_storage s.known b → SafeStep s (record s { on_storage = b }) nothing []
   pub turned : (s : DriverState) (to : Direction) → StateInvariant s → MayTurn s.direction to s.header s.on_storage s.known → SafeStep s (record s { direction = to }) nothing []
 
--- One cached table is written or not, whatever the storage answers.
+-- One cached table is written or not, whether or not the storage refuses.
 pub record TableIsWritten : Type 0 where
   pub block : (h : HeaderFields) (d : Direction) (p : Pending) (l2s front back : List CachedTable) (t t' : CachedTable) (on_storage on_storage' : Bytes) → CacheInvariantOver h d p l2s (front ++ t ∷ back) on_storage
       → BlocksMayGo d l2s → IsWrittenSo (cluster_size h) t t' on_storage on_storage' → InternalTableWrite h d p l2s (front ++ t ∷ back) on_storage l2s (front ++ t' ∷ back) on_storage'
@@ -116,7 +116,7 @@ pub record HeaderIsWritten : Type 0 where
         known = known';
       }) nothing []
 
--- Two steps make one step. What is safe in the stronger form is what a stop may leave.
+-- Two steps make one step. Contents that are safe in the stronger form (`StopOkEverywhere`) are contents that a stop may leave.
 pub record StepsCompose : Type 0 where
   pub steps : (a b c : DriverState) (first then : Bytes → List GivenBytes) (asked asks : List ℕ) → SafeStep a b first asked → SafeStep b c then asks → SafeStep a c (λ backing. then backing ++ first backing) (asks ++ asked)
   -- A step need not give values that the disk showed before it.

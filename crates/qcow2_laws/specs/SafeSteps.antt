@@ -18,7 +18,7 @@ pub record DriverState : Type 0 where
 abbrev pub StateInvariant : DriverState → Type 0
 StateInvariant s = CrashInvariant s.header s.direction s.pending s.on_storage s.known
 
--- One step, which gives these values over each backing disk, and asks for these sizes.
+-- One step, which gives these values over each backing disk, and asks for these sizes. It keeps the crash invariant, and leaves a stop as safe as before.
 pub record SafeStep (old new : DriverState) (given : Bytes → List GivenBytes) (asked : List ℕ) : Type 0 where
   pub sound : StateInvariant new
   pub on_storage : (backing : Bytes) (m : Checkpoint) → StopOkEverywhere backing m old.on_storage → StopOkEverywhere backing m old.known → StopOkEverywhere backing (checkpoint_with (given backing) asked m) new.on_storage

@@ -110,7 +110,7 @@ with_l1_at h offset entries = record (places_of h) { l1_offset = offset; l1_entr
 abbrev pub with_reftable_at : HeaderFields → ℕ → ℕ → Places
 with_reftable_at h offset clusters = record (places_of h) { reftable_offset = offset; reftable_clusters = clusters }
 
--- The header may point to this L1 table: it lies in clusters of new tables, which have their refcounts on the storage. It has the entries of the old table, and empty ones behind them.
+-- The header may point to this L1 table: it lies in clusters of new tables, which have their refcounts on the storage. It has the entries of the old table, and empty ones after them.
 pub record IsNewL1 (h : HeaderFields) (d : Direction) (p : Pending) (on_storage known : Bytes) (offset entries : ℕ) : Type 0 where
   pub longer : h.l1_entries ≤ entries
   pub aligned : IsAligned h offset
@@ -139,7 +139,7 @@ pub record IsNewReftable (h : HeaderFields) (d : Direction) (p : Pending) (on_st
   pub new_tables : (c : ℕ) → counted c < in_run h c offset (clusters * cluster_size h) + blocks c → (0 < p.new_tables c) × (count h on_storage c ≡ count h known c)
   pub written : d ≡ RbDependsOnL2 → SameCovers h on_storage known
 
--- n bytes from a place on become the same, on the storage and as known
+-- The same n bytes from a place on are written to the storage and to the known contents.
 pub record WritesAt (place n : ℕ) (on_storage known on_storage' known' : Bytes) : Type 0 where
   pub others : IsSameBut place n on_storage on_storage'
   pub known_others : IsSameBut place n known known'

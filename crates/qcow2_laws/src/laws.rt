@@ -9,17 +9,18 @@ ghost use Rattle.qcow2_laws.specs.Opened.{HasNoLeaks};
 ghost use Rattle.qcow2_laws.specs.GuestLaws.{ClustersInTurnAreARange, KeptClusterIsCommitted, KeptClusterIsWritten, LongerL1TableKeepsGuests, RunIsWritten, SizeStaysUnlessAsked};
 ghost use Rattle.qcow2_laws.specs.Laws.{SoundIsConsistent, MixIsSafe, TableIsWritten, CountIsChanged, PendingIsChanged, EntryIsChanged, DataIsWritten, TableIsNamed, HeaderIsWritten, StepsCompose};
 
-/// If the invariant of the order of writes holds, the storage and the known contents are consistent images. It holds of a consistent image right after opening.
+/// If the crash invariant holds, the storage and the known contents are consistent images. The invariant holds of a consistent image right after
+/// opening.
 pub fn sound_is_consistent()
     ensures { SoundIsConsistent }
 {}
 
-/// Cached tables may be written in any order that the direction allows: the invariant still holds, and a stop is as safe as before.
+/// Cached tables may be written in any order that the direction allows: the crash invariant still holds, and a stop is as safe as before.
 pub fn mix_is_safe()
     ensures { MixIsSafe }
 {}
 
-/// One cached table may be written when the direction allows it, whatever the storage answers.
+/// One cached table may be written when the direction allows it, whether or not the storage refuses.
 pub fn table_is_written()
     ensures { TableIsWritten }
 {}
@@ -54,7 +55,7 @@ pub fn header_is_written()
     ensures { HeaderIsWritten }
 {}
 
-/// Two steps make one step. What is safe in the stronger form is what a stop may leave.
+/// Two steps make one step. Contents that are safe in the stronger form (`StopOkEverywhere`) are contents that a stop may leave.
 pub fn steps_compose()
     ensures { StepsCompose }
 {}
@@ -84,7 +85,8 @@ pub fn kept_cluster_is_committed()
     ensures { KeptClusterIsCommitted }
 {}
 
-/// One storage write goes over clusters that are copied data, kept by a zero entry, or new data. Guests see at once the bytes in place, and no others.
+/// One storage write goes over clusters that are copied data, kept by a zero entry, or new data. The guest sees the bytes that are in place
+/// immediately, and no others.
 pub fn run_is_written()
     ensures { RunIsWritten }
 {}

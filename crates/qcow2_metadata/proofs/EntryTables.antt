@@ -38,7 +38,7 @@ same_table cluster cluster' bytes bytes' bits bits' p q r = rw (p, q, r)
 pub room_as : (t : EntryTableView) (cluster : Option ℕ) (bits n : ℕ) → t.cluster ≡ cluster → t.cluster_bits ≡ bits → length t.bytes ≡ n → HasRoomIfPlaced bits n cluster → HasRoomIfPlaced t.cluster_bits (length t.bytes) t.cluster
 room_as t cluster bits n p q r room = rw (p, q, r) room
 
--- a table laid over a longer one of zeros
+-- a table overlaid on a longer one of zeros
 pub overwritten-zeros : (bytes : List ℕ) (n : ℕ) → length bytes ≤ n → overwritten (replicate n 0) 0 bytes ≡ bytes ++ replicate (n - length bytes) 0
 overwritten-zeros bytes n fits =
     sym (put_mid-overwritten (replicate n 0) 0 bytes (omega (arith, length-replicate {A = ℕ} n 0)))

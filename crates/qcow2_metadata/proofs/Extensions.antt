@@ -56,7 +56,7 @@ more_so_far kind None name e rest is = of_test (e.0 == kind) is where
   of_test true same = sym (ap (λ n. first_so_far kind n rest) same)
   of_test false same = sym (ap (λ n. first_so_far kind n rest) same)
 
--- The extensions that stand at a place begin with the one that was found there.
+-- The extensions from a place on begin with the one that was found there.
 rest_of : (b : Bytes) (limit place : ℕ) (e : ℕ × List ℕ) → IsExtension b limit place e → ExtensionsRead b limit place
     → (IsNameKind e.0 → IsUtf8 e.1) × ExtensionsRead b limit (behind_extension place (length e.1))
 rest_of b limit place e here reads = of_list reads.list reads.stand where
@@ -87,7 +87,7 @@ read_more b limit start place next format data_file format' data_file' e so_far 
   back = λ reads. subst (ExtensionsRead b limit) (sym is_next) (rest_of b limit place e here (so_far.back reads)).1;
 }
 
--- the walk met the end
+-- the walk reached the end
 pub read_to_end : (b : Bytes) (limit start place : ℕ) (format data_file : Option (List ℕ)) → IsReadSoFar b limit start place format data_file → AreExtensions b limit place []
     → AreNamed b limit start format data_file
 read_to_end b limit start place format data_file so_far stand =

@@ -1,4 +1,4 @@
--- One-bit counts that are all 1.
+-- One-bit refcounts that are all 1.
 use Rattle.std.proofs.Common.{◌≡◌, ◌≢◌, ℕ, zero, suc, ◌+◌, ◌-◌, ◌*◌, ◌/◌, ◌%◌, ◌^◌, ◌<◌, ◌≤◌, List, length, inl, inr, ap, ◌∙◌, sym, refl, pow-suc, arith}
 use Rattle.std.proofs.lemmas.Bool.{cases_eq}
 use Rattle.qcow2_metadata.specs.Bytes.{Bytes, byte_at, number_at}
@@ -41,7 +41,7 @@ ones_counted bytes index fits row is k low high none =
     let count = narrow_count bytes 0 k (omega arith) (fits (k * 1 / 8)) ∙ ap (λ b. b / 2 ^ (k * 1 % 8) % 2) byte ∙ bit in
     omega (arith, count, none)
 
--- they stand within their refblock
+-- they lie within their refblock
 pub ones_within : (block : RefBlockView) (index : ℕ) → IsRefBlock block → block.refcount_order ≡ 0 → index % 64 ≡ 0 → index < counts_of block
     → (counts_of block ≡ length block.bytes * 8) × (index + 64 ≤ counts_of block)
 ones_within block index is narrow row inside =

@@ -1,4 +1,4 @@
--- What the entries say that are made.
+-- The meaning of entries that are encoded here.
 use Rattle.std.proofs.Common.{◌≡◌, ℕ, ◌+◌, ◌-◌, ◌*◌, ◌/◌, ◌%◌, ◌^◌, ◌<◌, ◌≤◌, Bool, true, false, not, eqb, Option, Some, None, refl, sym, ap, ◌∙◌, arith, inl, inr, lit<, mul_assoc, mul-pos}
 use Rattle.std.specs.Prelude.{◌&&◌, ◌||◌, if◌then◌else◌, IfSome, IsTrue, bit_or}
 use Rattle.std.proofs.lemmas.Bool.{cases_eq, eq-eqb, ne_eqb, cond-true, cond-false, and_right}
@@ -105,14 +105,14 @@ at_host : (kept : Option ℕ) (entry : ℕ) (external : Bool) → IfSome kept (�
 at_host None entry external is = tt
 at_host (Some h) entry external is = rw is.0 (host_of entry external is.1)
 
--- what is kept of an entry can stand in one
+-- what is kept of an entry fits into one
 pub copied_host_is : (bits : ℕ) (has_zero external : Bool) (entry : ℕ) → IfSome (copied_host (cover_of bits has_zero external entry)) (IsEntryHost external)
 unfolding cover_of
 copied_host_is bits has_zero external entry =
     at_host _ entry external
     (copied_in (has_bit entry 62) (has_zero && has_bit entry 0) (has_host external entry) (is_copied entry) _ _ (host_offset entry))
 
--- the begin of a cluster can stand in an entry
+-- the start of a cluster fits into an entry
 pub cluster_is_host : (bits cluster : ℕ) (external : Bool) → 9 ≤ bits → cluster * 2 ^ bits ≤ greatest_offset → (cluster ≡ 0 → IsTrue external) → IsEntryHost external (cluster * 2 ^ bits)
 cluster_is_host bits cluster external low near there =
     let split : bits ≡ bits - 9 + 9 = omega arith in

@@ -1,4 +1,4 @@
--- What a new header's numbers and names keep.
+-- The numbers and names of a new header satisfy the invariant of headers.
 use Rattle.std.proofs.Common.{◌≡◌, ◌⊎◌, inl, inr, ℕ, ◌^◌, ◌≤◌, List, [], length, Option, Some, None, is_some, unwrap_or, if◌then◌else◌, refl, arith}
 use Rattle.std.proofs.Math.Pow.{pow_mono}
 use Rattle.qcow2_metadata.specs.Header.{IsKept, IsShort}

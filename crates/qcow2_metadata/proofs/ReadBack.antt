@@ -1,4 +1,4 @@
--- A header that was written with its names in their new places reads back.
+-- A header that was written with its names at their new offsets reads back.
 use Rattle.std.proofs.Common.{◌≡◌, ◌≢◌, ℕ, ◌+◌, ◌-◌, ◌^◌, ◌<◌, ◌≤◌, ◌==◌, Bool, false, List, [], ◌∷◌, ◌++◌, length, replicate, Option, Some, None, is_some, unwrap_or, if◌then◌else◌, refl, sym, ap, ◌∙◌, subst, zero-add, arith, lit<}
 use Rattle.std.specs.Prelude.{IsUtf8}
 use Rattle.std.specs.Int.{w32, w64, to_be_bytes}
@@ -14,7 +14,7 @@ use Rattle.qcow2_metadata.proofs.ShortNames.{cluster_small}
 use Rattle.qcow2_metadata.proofs.HeldBytes.{Holds, holds_written, holds_left, holds_right, held_4, held_8, held_bytes}
 
 -- ---- the numbers
--- from a place on stand these numbers
+-- these numbers are at a place
 abbrev AreNumbers : Bytes → ℕ → List Number → Type 0
 AreNumbers b place [] = Unit {0}
 AreNumbers b place (Four n ∷ rest) = (number_at b place 4 ≡ n) × AreNumbers b (place + 4) rest

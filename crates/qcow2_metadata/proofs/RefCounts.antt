@@ -1,4 +1,4 @@
--- Counts of refblocks in their bytes.
+-- Refcounts in the bytes of refblocks.
 use Rattle.std.proofs.Common.{◌≡◌, ◌≢◌, ℕ, zero, suc, ◌+◌, ◌-◌, ◌*◌, ◌/◌, ◌%◌, ◌^◌, ◌<◌, ◌≤◌, inl, inr, List, [], ◌∷◌, length, get_or, set, replicate, Bool, true, false, cond, refl, sym, ap, ◌∙◌, arith, lit<, zero-add}
 use Rattle.std.specs.Int.{w16, w32, w64, from_be_bytes, to_be_bytes}
 use Rattle.std.proofs.Math.Nat.{mul-le-mul_right, div-mul-le_self, zero-div, zero-mod}

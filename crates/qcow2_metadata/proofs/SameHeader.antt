@@ -1,4 +1,4 @@
--- What a header is depends on the bytes of cluster 0 alone.
+-- The header depends only on the bytes of cluster 0.
 use Rattle.std.proofs.Common.{◌≡◌, ◌≢◌, ℕ, ◌+◌, ◌<◌, ◌≤◌, ◌==◌, Bool, List, [], ◌∷◌, length, Some, None, refl, sym, ap, ◌∙◌, subst, inl, inr, if◌then◌else◌, arith}
 use Rattle.std.specs.Prelude.{IsUtf8}
 use Rattle.std.proofs.lemmas.List.{ext_get_or}
@@ -74,7 +74,7 @@ module _ (low limit : ℕ) (b c : Bytes) (same : SameBetween low limit b c) wher
   extensions-same [] place from stand = (stand.0, sym (number-same low limit b c same place 4 from (omega (arith, stand.0))) ∙ stand.1)
   extensions-same (e ∷ rest) place from stand = (extension-same place e from stand.0, stand.1, extensions-same rest (behind_extension place (length e.1)) (omega arith) stand.2)
 
--- what stands behind the header in cluster 0 is the same
+-- what comes after the header in cluster 0 is the same
 module _ (h : HeaderFields) (b c : Bytes) (same : SameBetween h.header_length (cluster_size h) b c) where
   name-same : BackingNameReads h b → h.backing_offset ≢ 0 → bytes_from b h.backing_offset h.backing_length ≡ bytes_from c h.backing_offset h.backing_length
   name-same reads some = bytes-same _ _ b c same h.backing_offset h.backing_length (reads.behind_header some) (reads.inside some)

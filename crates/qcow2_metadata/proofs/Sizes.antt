@@ -1,4 +1,4 @@
--- The sizes that follow from a header's numbers, where these are in range.
+-- The sizes that follow from a header's numbers, if these are in range.
 use Rattle.std.proofs.Common.{◌≡◌, ℕ, ◌+◌, ◌-◌, ◌*◌, ◌/◌, ◌%◌, ◌^◌, ◌<◌, ◌≤◌, sym, ap, ◌∙◌, subst, arith}
 use Rattle.std.proofs.lemmas.Nat.{one_shl, pow-add, shl-shr}
 use Rattle.std.proofs.Math.Pow.{pow_mono}

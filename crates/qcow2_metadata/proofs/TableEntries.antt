@@ -1,4 +1,4 @@
--- Entries of tables in their bytes.
+-- Entries in the bytes of tables.
 use Rattle.std.proofs.Common.{◌≡◌, ℕ, zero, suc, ◌+◌, ◌*◌, ◌^◌, ◌<◌, ◌≤◌, inl, inr, List, length, replicate, refl, sym, ap, ◌∙◌, arith}
 use Rattle.std.specs.Int.{w64, to_be_bytes}
 use Rattle.std.proofs.lemmas.Bool.{cases_lt}
@@ -11,7 +11,7 @@ use Rattle.qcow2_metadata.specs.Entries.{l2_entry}
 use Rattle.qcow2_metadata.specs.TableBytes.{entry_at, ChangesEntry}
 use Rattle.qcow2_metadata.proofs.BigEndian.{number_at-same, from_be_bytes-8}
 
--- a number depends on its own bytes alone, wherever they stand
+-- a number depends only on its own bytes, wherever they lie
 pub number_at-moved : (b c : Bytes) (p q n : ℕ) → ((i : ℕ) → i < n → b (p + i) ≡ c (q + i)) → number_at b p n ≡ number_at c q n
 unfolding number_at
 number_at-moved b c p q zero same = refl

@@ -1,4 +1,4 @@
--- What the file holds of a table that was written.
+-- What the file holds of a written table.
 use Rattle.std.proofs.Common.{◌≡◌, ◌≢◌, ℕ, ◌+◌, ◌*◌, ◌%◌, ◌^◌, ◌<◌, ◌≤◌, inl, inr, List, Option, Some, None, Result, Ok, Err, nat_lt, if◌then◌else◌, length, sym, ap, ◌∙◌, subst, arith, IfSome, OnOk}
 use Rattle.std.specs.Int.{w64, to_be_bytes}
 use Rattle.std.proofs.lemmas.Bool.{cases_eq, cases_lt, cond-false, cond-true, le-ltb, lt-ltb}
@@ -67,7 +67,7 @@ module _ (contents : List ℕ) (at i entry : ℕ) where
       byte_at-overwritten_outside contents (at + 8 * i) (to_be_bytes w64 entry) (at + 8 * j + k)
       (elim (cases_lt j i) [ inl below ↦ inl (omega arith) | inr above ↦ inr (omega arith) ]))
 
--- the others stood there before
+-- the others were there before
 written_entry : (contents : List ℕ) (at n : ℕ) (bytes : List ℕ) (i : ℕ) → i < n → entry_at bytes i < 2 ^ 64
     → ((j : ℕ) → j ≢ i → entry_at bytes j ≡ (if nat_lt j n then number_at (byte_at contents) (at + 8 * j) 8 else 0))
     → (j : ℕ) → entry_at bytes j ≡ (if nat_lt j n then number_at (byte_at (overwritten contents (at + 8 * i) (to_be_bytes w64 (entry_at bytes i)))) (at + 8 * j) 8 else 0)

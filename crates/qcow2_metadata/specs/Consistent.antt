@@ -1,4 +1,4 @@
--- When an image is consistent. This is the assumption of the headline, and what it promises of every stop.
+-- When an image is consistent. The headline assumes this of the opened image, and promises it after every stop.
 use Rattle.std.specs.Prelude.{ℕ, ◌/◌, ◌≡◌, ◌≢◌, ◌<◌, ◌≤◌, Bool, IsTrue, Option, Some, None, ⊤}
 use Rattle.qcow2_metadata.specs.Bytes.{Bytes}
 use Rattle.qcow2_metadata.specs.Header.{HeaderFields, header, HeaderReads, ReftableFits, cluster_size, entries_per_cluster, reftable_entries}

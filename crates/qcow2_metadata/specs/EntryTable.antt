@@ -9,7 +9,7 @@ use Rattle.qcow2_metadata.specs.declared.error.MetadataError.TheVariants.{Storag
 
 -- The view of an L1 table or a reftable in memory.
 pub record EntryTableView : Type 0 where
-  -- Where the table begins, if it has a place.
+  -- The cluster where the table begins, if it has a place.
   pub cluster : Option ℕ
   pub bytes : List ℕ
   pub cluster_bits : ℕ
@@ -21,11 +21,11 @@ entry_table h cluster bytes = record { cluster = cluster; bytes = bytes; cluster
 abbrev pub entry_count : EntryTableView → ℕ
 entry_count t = length t.bytes / 8
 
--- The offset n bytes behind the begin of a cluster fits into 64 bits.
+-- The offset n bytes after the start of a cluster fits into 64 bits.
 abbrev pub HasRoom : ℕ → ℕ → ℕ → Type 0
 HasRoom cluster_bits n cluster = cluster * 2 ^ cluster_bits + n < 2 ^ 64
 
--- If a table has a place, the offset n bytes behind its begin fits into 64 bits.
+-- If a table has a place, the offset n bytes after its start fits into 64 bits.
 abbrev pub HasRoomIfPlaced : ℕ → ℕ → Option ℕ → Type 0
 HasRoomIfPlaced cluster_bits n None = Unit {0}
 HasRoomIfPlaced cluster_bits n (Some cluster) = HasRoom cluster_bits n cluster
@@ -83,7 +83,7 @@ IsRefTableOf h b t = (i : ℕ) → entry_at t.bytes i ≡ reftable_entry h b i
 abbrev pub IsRefTableBut : ℕ → HeaderFields → Bytes → EntryTableView → Type 0
 IsRefTableBut index h b t = (i : ℕ) → i ≢ index → entry_at t.bytes i ≡ reftable_entry h b i
 
--- There are more entries than `greatest`, or the offset n bytes behind the table's begin does not fit into 64 bits.
+-- There are more entries than `greatest`, or the offset n bytes after the table's start does not fit into 64 bits.
 abbrev pub PassesLimit : ℕ → ℕ → ℕ → ℕ → ℕ → Type 0
 PassesLimit greatest cluster_bits n cluster entries = (greatest < entries) ⊎ (2 ^ 64 ≤ cluster * 2 ^ cluster_bits + n)
 

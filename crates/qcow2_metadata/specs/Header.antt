@@ -51,7 +51,7 @@ counts_per_block h = cluster_size h * 8 / count_width h
 abbrev pub has_data_file : HeaderFields → Bool
 has_data_file h = has_bit h.incompatible 2
 
--- The binary logarithm of the refcounts in a refblock.
+-- The binary logarithm of the number of refcounts in a refblock.
 abbrev pub counts_bits : HeaderFields → ℕ
 counts_bits h = h.cluster_bits + 3 - h.refcount_order
 
@@ -85,7 +85,7 @@ pub record IsExtension (b : Bytes) (limit place : ℕ) (e : ℕ × List ℕ) : T
   pub bytes : bytes_from b (place + 8) (length e.1) ≡ e.1
   pub inside : place + 8 + length e.1 ≤ limit
 
--- The offset behind an extension with this many bytes of data, which are padded to a multiple of 8.
+-- The offset after an extension with this many bytes of data, which are padded to a multiple of 8.
 abbrev pub behind_extension : ℕ → ℕ → ℕ
 behind_extension place size = place + 8 + rounded_up 8 size
 

@@ -28,7 +28,7 @@ pub record IsHeaderOf (v : HeaderView) (h : HeaderFields) (b : Bytes) : Type 0 w
 abbrev pub IsHeaderIn : HeaderView → List ℕ → Type 0
 IsHeaderIn v contents = IsHeaderOf v (header (byte_at contents)) (byte_at contents)
 
--- The L1 table is aligned, and so is the reftable if the image is opened for writing.
+-- The L1 table is aligned. If the image is opened for writing, the reftable is aligned too.
 pub record HasAlignedTables (h : HeaderFields) (writable : Bool) : Type 0 where
   pub l1_table : IsAligned h h.l1_offset
   pub reftable : IsTrue writable → IsAligned h h.reftable_offset

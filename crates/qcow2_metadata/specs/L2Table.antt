@@ -10,7 +10,7 @@ use Rattle.qcow2_metadata.specs.declared.l2_mapping.L2Mapping.{L2Mapping}
 use Rattle.qcow2_metadata.specs.declared.l2_mapping.L2Mapping.TheVariants.{Data, Zero, Compressed, Uncovered}
 
 pub record L2TableView : Type 0 where
-  -- Where the table lies, if it has a place.
+  -- The cluster of the table, if it has one.
   pub cluster : Option ℕ
   pub bytes : List ℕ
   -- The table is new, or was changed since it was last read or written.

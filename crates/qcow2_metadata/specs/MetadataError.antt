@@ -1,4 +1,4 @@
--- What a call with the error `MetadataError` did to the storage, in the terms of the storage's own calls.
+-- What a call that fails with a `MetadataError` did to the storage, in the terms of the storage's own calls.
 use Rattle.std.specs.Prelude.{◌≡◌, Result, Ok, Err}
 use Rattle.image_access.specs.Moments.{StorageView, HasCause, EachMomentSince, IsLeftBy}
 use Rattle.image_access.specs.declared.error.StorageError.{StorageError}

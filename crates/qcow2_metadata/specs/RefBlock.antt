@@ -7,7 +7,7 @@ use Rattle.qcow2_metadata.specs.TableBytes.{IsClusterBits, IsPlaced}
 
 -- The view of a refblock in memory.
 pub record RefBlockView : Type 0 where
-  -- Where the refblock lies, if it has a place.
+  -- The cluster of the refblock, if it has one.
   pub cluster : Option ℕ
   pub bytes : List ℕ
   -- The refblock is new, or was changed since it was last read or written.

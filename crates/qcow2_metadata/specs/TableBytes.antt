@@ -1,4 +1,4 @@
--- Tables of 8-byte entries, as bytes that begin at a cluster boundary.
+-- Tables of 8-byte entries, as bytes from a cluster boundary on.
 use Rattle.std.specs.Prelude.{◌≡◌, ◌≢◌, ℕ, ◌*◌, ◌^◌, ◌<◌, ◌≤◌, List, length, Option, Some, None}
 use Rattle.qcow2_metadata.specs.Bytes.{byte_at}
 use Rattle.qcow2_metadata.specs.Entries.{l2_entry}

@@ -1,4 +1,4 @@
--- The bytes of cached tables, and contents with these laid over.
+-- The bytes of cached tables, and contents with these overlaid.
 use Rattle.std.specs.Prelude.{ℕ, ◌+◌, ◌-◌, ◌*◌, ◌/◌, ◌%◌, ◌^◌, Bool, List, [], ◌∷◌, slice_index, nat_lt, ◌&&◌, if◌then◌else◌}
 use Rattle.qcow2_metadata.specs.Bytes.{Bytes, is_within, sum_below}
 
@@ -23,7 +23,7 @@ pub record CachedTable : Type 0 where
 abbrev pub overlays : ℕ → CachedTable → ℕ → Bool
 overlays size t i = t.is_modified && is_within t.place size i
 
--- Contents with each modified table laid over its cluster.
+-- Contents with each modified table overlaid on its cluster.
 unfoldable pub known : ℕ → List CachedTable → Bytes → Bytes
 known size [] b i = b i
 known size (t ∷ tables) b i = if overlays size t i then t.bytes (i - t.place) else known size tables b i

@@ -1,4 +1,4 @@
-//! What the L1 table and the reftable have in common: 8-byte entries, from the begin of a cluster on.
+//! What the L1 table and the reftable have in common: 8-byte entries, from the start of a cluster on.
 
 ghost use Rattle.std.specs.Prelude.{◌≡◌, ℕ, ◌+◌, ◌-◌, ◌*◌, ◌/◌, ◌%◌, ◌^◌, ◌<◌, ◌≤◌, ◌↔◌, ◌++◌, Some, None, length, replicate, IsTrue, IsSome, IfOk, IfErr, IfSome, IfNone};
 ghost use Rattle.std.specs.Bool.{OnTrue, OnFalse};
@@ -55,7 +55,7 @@ impl Model for EntryTable {
     }) };
 }
 
-/// Whether the offset `length` bytes behind the cluster's begin fits into 64 bits.
+/// Whether the offset `length` bytes after the cluster's start fits into 64 bits.
 pub(crate) fn has_room(cluster: HostCluster, cluster_bits: u32, length: u64) -> bool
     requires { cluster_bits < 64 }
     ensures { IsTrue result ↔ HasRoom cluster_bits length cluster }
@@ -66,7 +66,7 @@ pub(crate) fn has_room(cluster: HostCluster, cluster_bits: u32, length: u64) -> 
     }
 }
 
-/// Reads bytes of a storage. A read of no bytes doesn't call it.
+/// Reads bytes of a storage. For no bytes the storage is not called.
 pub(crate) fn load_bytes<S: Storage>(
     alloc: Global,
     storage: &mut S,
@@ -125,7 +125,7 @@ impl EntryTable {
         })
     }
 
-    /// Loads entries from the begin of a cluster on. Refused if an entry has a reserved bit.
+    /// Loads entries from the start of a cluster on. Refused if an entry has a reserved bit.
     pub(crate) fn load<S: Storage>(
         alloc: Global,
         storage: &mut S,
@@ -247,7 +247,7 @@ impl EntryTable {
         storage.write(at, &self.get(index).to_be_bytes())
     }
 
-    /// A table with the same entries, entries of 0 behind them, and no place.
+    /// A table with the same entries, entries of 0 after them, and no place.
     pub(crate) fn clone_and_grow(
         &self,
         alloc: Global,

@@ -351,7 +351,7 @@ impl Header {
         Ok(())
     }
 
-    /// Takes over the offsets and the lengths of another header's L1 table and reftable, only in memory. Refused as `set_reftable` and
+    /// Copies the offsets and the lengths of the L1 table and the reftable from another header, only in memory. Refused as `set_reftable` and
     /// `set_l1_table` are.
     pub fn update(&mut self, other: &Header) -> Result<(), MetadataError>
         ensures ok { OnOk result (self.new ≡ with_fields self.old (with_tables_of self.old.fields other.now.fields)) }
@@ -363,7 +363,7 @@ impl Header {
         self.set_l1_table(other.l1_table_offset(), other.l1_table_entries())
     }
 
-    /// The same header without its names.
+    /// The header without its names.
     pub fn without_names(&self) -> Header
         ensures { result ≡ record { fields = self.now.fields; backing_name = None; backing_format = None; data_file_name = None } }
     {

@@ -77,9 +77,9 @@ impl L1Table {
         Ok(L1Table { table })
     }
 
-    /// Loads a table from the begin of a cluster on. It may end past 64 bits. A table without entries reads nothing.
+    /// Loads a table from the start of a cluster on. It may end past 64 bits. A table without entries reads nothing.
     /// Refused `Limit` for more than 4,194,304 entries or an offset past 64 bits, `Format` for a reserved bit in an entry,
-    /// and `Memory` and `Storage` if the work meets them.
+    /// and `Memory` or `Storage` during the work.
     pub fn load<S: Storage>(
         alloc: Global,
         storage: &mut S,

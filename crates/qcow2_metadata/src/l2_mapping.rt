@@ -15,9 +15,9 @@ pub enum L2Mapping {
     Data { host: HostOffset, copied: bool },
     /// The cluster reads as zeros. It may keep a host cluster, copied or not.
     Zero { kept: Option<(HostOffset, bool)> },
-    /// Compressed data: the offset where they begin, and the number of 512-byte sectors that they touch.
+    /// Compressed data: their host offset, and the number of 512-byte sectors that they touch.
     Compressed { host: HostOffset, sectors: u64 },
-    /// Unmapped: the backing disk shows, or zeros.
+    /// Unmapped: the cluster reads as the backing disk, or as zeros without one.
     Uncovered,
 }
 

@@ -264,7 +264,8 @@ impl L2Table {
         self.replace(index, entry)
     }
 
-    /// Makes entry `index` a zero entry. With `keep` it keeps the host cluster, if that is marked copied. Returns the host clusters that lost a reference: the first, and how many.
+    /// Makes entry `index` a zero entry. With `keep` it keeps the host cluster, if that is marked copied. Returns the host clusters that lost a
+    /// reference: the first, and how many.
     pub fn zero_cluster(&mut self, index: usize, keep: bool) -> Option<(HostCluster, ClusterCount)>
         requires { index < entries_of self.old }
         ensures changed { ChangesEntry self.old.bytes self.new.bytes index

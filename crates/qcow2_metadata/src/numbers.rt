@@ -177,7 +177,7 @@ impl HostCluster {
         HostOffset::new(self.index * (1 << cluster_bits) + guest.in_cluster_offset(cluster_bits))
     }
 
-    /// The cluster `count` clusters behind this one, if its number fits into 64 bits.
+    /// The cluster `count` clusters after this one, if its number fits into 64 bits.
     pub fn checked_add(self, count: ClusterCount) -> Option<HostCluster>
         ensures none { IfNone result (2 ^ 64 ≤ self + count) }
         ensures cluster { IfSome result (λ cluster. cluster ≡ self + count) }

@@ -1,4 +1,4 @@
-//! The raw header, L1 table and reftable of a file, wherever they lie: tables that aren't aligned are read too.
+//! The raw header, L1 table and reftable of a file, wherever they lie: unaligned tables are read too.
 
 ghost use Rattle.std.specs.Prelude.{◌≡◌, ℕ, ◌+◌, ◌*◌, ◌^◌, ◌<◌, ◌≤◌, length, IfOk, IfErr, OnOk};
 ghost use Rattle.image_access.specs.Contents.{bytes_at};
@@ -47,7 +47,7 @@ fn load_entries<S: Storage>(
 
 impl HeaderFields {
     /// The header's fields, if the header is readable. Its tables may lie anywhere. Refused `Format`, then `Limit` if a table is too long,
-    /// and `Memory` and `Storage` if the work meets them.
+    /// and `Memory` or `Storage` during the work.
     pub fn load<S: Storage>(alloc: Global, storage: &mut S) -> Result<HeaderFields, MetadataError>
         ensures fields { (S.view storage.old).is_honest → IfOk result (λ h. h ≡ header (byte_at (S.view storage.old).contents)) }
         ensures ok { (S.view storage.old).is_honest → IfOk result (λ h. HeaderReads h (byte_at (S.view storage.old).contents)) }
@@ -63,7 +63,7 @@ impl HeaderFields {
     }
 
     /// The bytes of the L1 table. Refused `Limit` if it would end past 64 bits, `Format` for a reserved bit in an entry,
-    /// and `Memory` and `Storage` if the work meets them.
+    /// and `Memory` or `Storage` during the work.
     pub fn load_l1_entries<S: Storage>(
         &self,
         alloc: Global,

@@ -239,7 +239,8 @@ impl RefBlock {
         self.get(index) == 0
     }
 
-    /// The first index from `from` on with refcount 0, or the number of refcounts if there is none. Later searches skip what this one passed, until a refcount there is decremented.
+    /// The first index from `from` on with refcount 0, or the number of refcounts if there is none. Later searches skip the refcounts that this one
+    /// passed, until one of them is decremented.
     pub fn next_zero(&mut self, from: usize) -> usize
         requires { from ≤ counts_of self.old }
         ensures first { IsFirstZero self.old from result }
@@ -283,7 +284,8 @@ impl RefBlock {
         counts
     }
 
-    // How many refcounts from an index on are seen at once to be above 0: 64 of one bit in their eight bytes, otherwise 1, or 0 if the first is 0.
+    // How many refcounts from an index on are found above 0 by one comparison: 64, if they have one bit and their eight bytes are all ones;
+    // otherwise 1, or 0 if the first one is 0.
     fn above_zero(&self, index: usize) -> usize
         requires { index < counts_of self.now }
         ensures within { index + result ≤ counts_of self.now }

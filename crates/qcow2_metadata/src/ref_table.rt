@@ -67,9 +67,8 @@ impl RefTable {
         Ok(RefTable { table })
     }
 
-    /// Loads a table from the begin of a cluster on. A table without entries reads nothing. Refused `Limit` for more than 1,048,576 entries
-    /// or an end past 64 bits, `Format` for a reserved bit in an entry, and `Memory` and `Storage` if the work
-    /// meets them.
+    /// Loads a table from the start of a cluster on. A table without entries reads nothing. Refused `Limit` for more than 1,048,576 entries
+    /// or an end past 64 bits, `Format` for a reserved bit in an entry, and `Memory` or `Storage` during the work.
     pub fn load<S: Storage>(
         alloc: Global,
         storage: &mut S,

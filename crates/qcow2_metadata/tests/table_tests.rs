@@ -76,7 +76,7 @@ fn counts_of_each_width(rt: HostRuntime) -> Result<(), Fail> {
 
 #[test]
 fn counts_rise_and_fall_within_their_width(rt: HostRuntime) -> Result<(), Fail> {
-    // The greatest count of each width stands first, and 0 behind it; then what the first bytes are after each count went the other way.
+    // The greatest refcount of each width comes first, and 0 after it; then the first bytes after each refcount went the other way.
     let rows: [(u8, [u8; 8], [u8; 16]); 7] = [
         (
             0,

@@ -1,4 +1,4 @@
--- What a command may be answered: a failed image refuses before all else, and what is done lies within the size.
+-- Which replies a command may get: a failed image refuses before everything else, and what is done lies within the size.
 use Rattle.std.proofs.Common.{◌≡◌, ◌+◌, ◌≤◌, ◌<◌, inl, inr, ℕ, Bool, true, IsTrue, ap, ◌∙◌, subst, arith, List, length, Option, Some, None}
 use Rattle.std.specs.Prelude.{IfSome, Result, Ok, Err}
 use Rattle.std.specs.Option.{option_or}
@@ -20,7 +20,7 @@ use Rattle.qcow2_image.specs.Calls.{refusal_of}
 use Rattle.qcow2_image.specs.Image.{is_failed, is_external, is_writable, size_of, HasNothingToFree}
 use Rattle.qcow2_image.specs.ImageInvariant.{abstract_of, to_free, of_tables, of_data}
 use Rattle.qcow2_image.specs.Refusals.{refuse_if, passes, unusable, refuses_to_read, refuses_to_prepare, refuses_mapping}
-use Rattle.qcow2_image.proofs.Sizes.{disk_size, sound_is_usable}
+use Rattle.qcow2_image.proofs.Images.Sizes.{disk_size, sound_is_usable}
 
 -- ---- a failed image
 

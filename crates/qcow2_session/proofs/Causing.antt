@@ -16,9 +16,9 @@ use Rattle.qcow2_alloc.specs.declared.error.ImageError.{ImageError}
 use Rattle.qcow2_image.specs.Clearing.{IsUnderMapping, from_in, refuses_clearing, to_in}
 use Rattle.qcow2_image.specs.Image.{is_external, is_failed, number_of}
 use Rattle.qcow2_image.specs.ImageInvariant.{abstract_of}
-use Rattle.qcow2_image.proofs.Prepare.MetTaking.{taking_as}
+use Rattle.qcow2_image.proofs.Prepare.FailingAllocations.{taking_as}
 use Rattle.qcow2_image.specs.Backings.{HasPinnedMapping}
-use Rattle.qcow2_image.specs.MetAlone.{CopiesCompressed, MayFailAlone, IsMetReadingRange, MayFailAllocating}
+use Rattle.qcow2_image.specs.MayFail.{CopiesCompressed, MayFailAlone, MayFailReadingRange, MayFailAllocating}
 use Rattle.qcow2_image.specs.declared.image.Qcow2.{Qcow2}
 use Rattle.qcow2_image.specs.declared.mapping.Mapping.{Mapping}
 use Rattle.qcow2_image.specs.declared.prepared.CommitRefused.{CommitRefused}
@@ -26,8 +26,8 @@ use Rattle.qcow2_image.specs.declared.prepared.CommitRefused.TheVariants.{Kept}
 use Rattle.qcow2_image.specs.declared.prepared.Prepared.{Prepared}
 use Rattle.qcow2_image.specs.Preallocation.{IsUnderMappingIn}
 use Rattle.qcow2_image.specs.Prepared.{IsHandedBackBy}
-use Rattle.qcow2_image.specs.Refusals.{IsMet, IsMetPreparing, passes, refuse_if, refuses_mapping, refuses_to_prepare, refuses_to_read, unusable}
-use Rattle.qcow2_session.specs.Causes.{HasNothingToDo, MayFailOnSound, RefusalJustified, IsUntouchedUnder, MayFailWith, TellsMisuse, first_cause, MeetsClearing, MeetsTaking}
+use Rattle.qcow2_image.specs.Refusals.{MayFail, MayFailPreparing, passes, refuse_if, refuses_mapping, refuses_to_prepare, refuses_to_read, unusable}
+use Rattle.qcow2_session.specs.Causes.{HasNothingToDo, MayFailOnSound, RefusalJustified, IsUntouchedUnder, MayFailWith, ReportsMisuse, first_cause, ClearingMayFail, CommandMayFailAllocating}
 use Rattle.qcow2_session.specs.Commands.{reply_of_clearing}
 use Rattle.qcow2_session.specs.CountedFaults.{refusal_in}
 use Rattle.qcow2_session.specs.Sessions.{RespectsMappings, IsOfReading, NeedsOverflowingToWrite}
@@ -68,10 +68,10 @@ not_failed true none = absurd (let no : Some I.Failed ≡ None = none in cc)
 not_failed false none = refl
 
 -- what a lookup is refused for, a read may be
-pub mapping_reading : {S F : Type 0} (A X : Type 0) (image : Qcow2 S F) (e : ImageError) → IfSome (unusable image) (λ x. (◌≡◌ {A = Result A ImageError} (Err e) (Err x)) × X) → (unusable image ≡ None → IsMet e) → IsOfReading e
+pub mapping_reading : {S F : Type 0} (A X : Type 0) (image : Qcow2 S F) (e : ImageError) → IfSome (unusable image) (λ x. (◌≡◌ {A = Result A ImageError} (Err e) (Err x)) × X) → (unusable image ≡ None → MayFail e) → IsOfReading e
 mapping_reading A X image e early late = by (is_failed image) (is_external image) early late
   where
-    by : (a b : Bool) → IfSome (option_or (refuse_if a I.Failed) (refuse_if b I.Dependency)) (λ x. (◌≡◌ {A = Result A ImageError} (Err e) (Err x)) × X) → (option_or (refuse_if a I.Failed) (refuse_if b I.Dependency) ≡ None → IsMet e) → IsOfReading e
+    by : (a b : Bool) → IfSome (option_or (refuse_if a I.Failed) (refuse_if b I.Dependency)) (λ x. (◌≡◌ {A = Result A ImageError} (Err e) (Err x)) × X) → (option_or (refuse_if a I.Failed) (refuse_if b I.Dependency) ≡ None → MayFail e) → IsOfReading e
     by true b early late = inr (inr (inl (same_error early.0)))
     by false true early late = inr (inr (inr (same_error early.0)))
     by false false early late = inl (late refl)
@@ -80,47 +80,47 @@ mapping_reading A X image e early late = by (is_failed image) (is_external image
 
 module _ {S F : Type 0} (view : S → StorageView) (backing : F → BackingView) (old new : Qcow2 S F) (before : List (Option Prepared)) {found : ℕ → Option Mapping} (command : Command) where
   -- nothing was called
-  pub is_misused : TellsMisuse before found command R.Misuse → new ≡ old → MayFailOnSound view backing old new before found command R.Misuse → RefusalJustified view backing old new before found command R.Misuse
-  is_misused misuse same heeds = record {
+  pub is_misused : ReportsMisuse before found command R.Misuse → new ≡ old → MayFailOnSound view backing old new before found command R.Misuse → RefusalJustified view backing old new before found command R.Misuse
+  is_misused misuse same respects = record {
     misuse = misuse;
     still = λ _. same;
     early = if_some_all (first_cause old command) (λ e. (inr refl, same));
     late = λ _. tt;
-    met = λ _ _. tt;
+    may_fail = λ _ _. tt;
     idle = λ _ _. refl;
-    heeds = λ _ _. heeds;
+    respects = λ _ _. respects;
   }
 
   -- it was answered, so nothing refused it at once
-  pub is_done : (reply : Reply) → (reply ≡ R.Misuse → ⊥) → TellsMisuse before found command reply → refusal_in reply ≡ None → IfSome (first_cause old command) (λ e. ⊥)
+  pub is_done : (reply : Reply) → (reply ≡ R.Misuse → ⊥) → ReportsMisuse before found command reply → refusal_in reply ≡ None → IfSome (first_cause old command) (λ e. ⊥)
       → (first_cause old command ≡ None → (abstract_of view backing old before).is_sound → MayFailOnSound view backing old new before found command reply) → RefusalJustified view backing old new before found command reply
-  is_done reply never misuse done early heeds = record {
+  is_done reply never misuse done early respects = record {
     misuse = misuse;
     still = λ is. absurd (never is);
     early = if_some_to (first_cause old command) (λ e no. absurd no) early;
     late = λ _. subst (λ o. IfSome o (MayFailWith command)) (sym done) tt;
-    met = λ _ _. subst (λ o. IfSome o (MeetsTaking view old new before command)) (sym done) tt;
+    may_fail = λ _ _. subst (λ o. IfSome o (CommandMayFailAllocating view old new before command)) (sym done) tt;
     idle = λ _ _. done;
-    heeds = heeds;
+    respects = respects;
   }
 
-  pub is_answered : {A : Type 0} (Same : Type 0) (a : A) (reply : Reply) → (reply ≡ R.Misuse → ⊥) → TellsMisuse before found command reply → refusal_in reply ≡ None → IfSome (first_cause old command) (λ e. (◌≡◌ {A = Result A ImageError} (Ok a) (Err e)) × Same)
+  pub is_answered : {A : Type 0} (Same : Type 0) (a : A) (reply : Reply) → (reply ≡ R.Misuse → ⊥) → ReportsMisuse before found command reply → refusal_in reply ≡ None → IfSome (first_cause old command) (λ e. (◌≡◌ {A = Result A ImageError} (Ok a) (Err e)) × Same)
       → (first_cause old command ≡ None → (abstract_of view backing old before).is_sound → MayFailOnSound view backing old new before found command reply) → RefusalJustified view backing old new before found command reply
-  is_answered Same a reply never misuse done early heeds = is_done reply never misuse done (if_some_to (first_cause old command) (λ e no. let is = no.0 in cc) early) heeds
+  is_answered Same a reply never misuse done early respects = is_done reply never misuse done (if_some_to (first_cause old command) (λ e no. let is = no.0 in cc) early) respects
 
   -- it was refused
-  pub is_refused : (e : ImageError) (reply : Reply) → (reply ≡ R.Misuse → ⊥) → TellsMisuse before found command reply → refusal_in reply ≡ Some e → IfSome (first_cause old command) (λ x. (e ≡ x) × (new ≡ old))
-      → (first_cause old command ≡ None → MayFailWith command e) → (first_cause old command ≡ None → (abstract_of view backing old before).is_sound → MeetsTaking view old new before command e)
+  pub is_refused : (e : ImageError) (reply : Reply) → (reply ≡ R.Misuse → ⊥) → ReportsMisuse before found command reply → refusal_in reply ≡ Some e → IfSome (first_cause old command) (λ x. (e ≡ x) × (new ≡ old))
+      → (first_cause old command ≡ None → MayFailWith command e) → (first_cause old command ≡ None → (abstract_of view backing old before).is_sound → CommandMayFailAllocating view old new before command e)
       → (first_cause old command ≡ None → HasNothingToDo view backing old new before command → ⊥)
       → (first_cause old command ≡ None → (abstract_of view backing old before).is_sound → MayFailOnSound view backing old new before found command reply) → RefusalJustified view backing old new before found command reply
-  is_refused e reply never misuse is early late met idle heeds = record {
+  is_refused e reply never misuse is early late may_fail idle respects = record {
     misuse = misuse;
     still = λ is. absurd (never is);
     early = if_some_to (first_cause old command) (λ x h. (inl (is ∙ ap Some h.0), h.1)) early;
     late = λ none. subst (λ o. IfSome o (MayFailWith command)) (sym is) (late none);
-    met = λ none sound. subst (λ o. IfSome o (MeetsTaking view old new before command)) (sym is) (met none sound);
+    may_fail = λ none sound. subst (λ o. IfSome o (CommandMayFailAllocating view old new before command)) (sym is) (may_fail none sound);
     idle = λ none nothing. absurd (idle none nothing);
-    heeds = heeds;
+    respects = respects;
   }
 
 -- the refusal that an image's call began with
@@ -136,7 +136,7 @@ fits_below size offset n fits some = elim (cases_lt offset size) [
 
 -- ---- reads and writes
 
--- what is met alone is 20 only for its cause
+-- a refusal while no mapping is prepared is 20 only for its cause
 far_alone : {C D : Type 0} (e : ImageError) → MayFailAlone C D e → e ≡ I.Overflow → D
 far_alone e (inl (inl (inl fault))) is = absurd cc
 far_alone e (inl (inl (inr fault))) is = absurd cc
@@ -144,7 +144,7 @@ far_alone e (inl (inr limit)) is = absurd cc
 far_alone e (inr (inl compressed)) is = absurd (let why = compressed.0 in cc)
 far_alone e (inr (inr far)) is = far.1
 
--- so it is of what taking clusters meets
+-- the same of refusals that come while clusters are allocated
 far_taking : {H K C D : Type 0} (e : ImageError) → MayFailAllocating H K C D e → e ≡ I.Overflow → D
 far_taking e (inl alone) is = far_alone e alone is
 far_taking e (inr (inl used)) is = absurd (let why = used.0 in cc)
@@ -154,12 +154,12 @@ module _ {S F : Type 0} (view : S → StorageView) (backing : F → BackingView)
   pub read_answered : (Same : Type 0) (offset n : ℕ) (bytes : Vec ℕ Global) → IfSome (refuses_to_read old offset n) (λ x. (◌≡◌ {A = Result (Vec ℕ Global) ImageError} (Ok bytes) (Err x)) × Same) → RefusalJustified view backing old new before found (C.Read offset n) (R.Bytes bytes)
   read_answered Same offset n bytes early = is_answered view backing old new before (C.Read offset n) Same bytes (R.Bytes bytes) (λ is. absurd cc) (λ is. absurd cc, λ is. absurd is) refl early (λ _ _. tt)
 
-  pub read_refused : (offset n : ℕ) (e : ImageError) → IfSome (refuses_to_read old offset n) (λ x. (◌≡◌ {A = Result (Vec ℕ Global) ImageError} (Err e) (Err x)) × (new ≡ old)) → (refuses_to_read old offset n ≡ None → IsMet e × (0 < n))
-      → (refuses_to_read old offset n ≡ None → (out : List (Option Prepared)) → (abstract_of view backing old out).is_sound → IsMetReadingRange out offset (offset + n) old.file.header.fields (known_in view old.file) e)
+  pub read_refused : (offset n : ℕ) (e : ImageError) → IfSome (refuses_to_read old offset n) (λ x. (◌≡◌ {A = Result (Vec ℕ Global) ImageError} (Err e) (Err x)) × (new ≡ old)) → (refuses_to_read old offset n ≡ None → MayFail e × (0 < n))
+      → (refuses_to_read old offset n ≡ None → (out : List (Option Prepared)) → (abstract_of view backing old out).is_sound → MayFailReadingRange out offset (offset + n) old.file.header.fields (known_in view old.file) e)
       → RefusalJustified view backing old new before found (C.Read offset n) (R.Refused e)
-  read_refused offset n e early late met =
+  read_refused offset n e early late may_fail =
       is_refused view backing old new before (C.Read offset n) e (R.Refused e) (λ is. absurd cc) (λ is. absurd cc, λ is. absurd is) refl (begun_with (Vec ℕ Global) (new ≡ old) e (refuses_to_read old offset n) early)
-      (λ none. (late none).0) (λ _ _. tt) (λ none empty. let some = (late none).1 in omega (arith, some, empty)) (λ none sound. met none before sound)
+      (λ none. (late none).0) (λ _ _. tt) (λ none empty. let some = (late none).1 in omega (arith, some, empty)) (λ none sound. may_fail none before sound)
 
   pub write_answered : (Same : Type 0) (offset : ℕ) (bytes : Vec ℕ Global) → IfSome (refuses_to_prepare old offset (length bytes.items)) (λ x. (◌≡◌ {A = Result (Unit {0}) (ImageError × ℕ)} (Ok tt) (Err (x, 0))) × Same)
       → (refuses_to_prepare old offset (length bytes.items) ≡ None → (abstract_of view backing old before).is_sound → RespectsMappings view backing old before offset bytes.items (Ok tt)) → RefusalJustified view backing old new before found (C.Write offset bytes) R.Done
@@ -167,14 +167,14 @@ module _ {S F : Type 0} (view : S → StorageView) (backing : F → BackingView)
       (if_some_to (refuses_to_prepare old offset (length bytes.items)) (λ e no. let is = no.0 in cc) early) (λ none sound. (λ is. absurd cc, part none sound))
 
   pub write_refused_for : (offset : ℕ) (bytes : Vec ℕ Global) (e : ImageError) (n : ℕ) → IfSome (refuses_to_prepare old offset (length bytes.items)) (λ x. (◌≡◌ {A = Result (Unit {0}) (ImageError × ℕ)} (Err (e, n)) (Err (x, 0))) × (new ≡ old))
-      → (refuses_to_prepare old offset (length bytes.items) ≡ None → IsMetPreparing e × (0 < length bytes.items))
+      → (refuses_to_prepare old offset (length bytes.items) ≡ None → MayFailPreparing e × (0 < length bytes.items))
       → (refuses_to_prepare old offset (length bytes.items) ≡ None → (abstract_of view backing old before).is_sound → MayFailAllocating (HasPinnedMapping before) (IsUnderMappingIn old.file.header.fields offset (offset + length bytes.items) before) (CopiesCompressed offset (length bytes.items) true new.file.header.fields (known_in view new.file)) (NeedsOverflowingToWrite view backing old offset bytes.items n) e)
       → (refuses_to_prepare old offset (length bytes.items) ≡ None → (abstract_of view backing old before).is_sound → e ≡ I.TablePrepared → IsUnderMappingIn old.file.header.fields offset (offset + length bytes.items) before)
       → (refuses_to_prepare old offset (length bytes.items) ≡ None → (abstract_of view backing old before).is_sound → e ≡ I.Limit → IsLimited view backing (given_of offset bytes.items ∷ []) (offset + length bytes.items) old before)
       → (refuses_to_prepare old offset (length bytes.items) ≡ None → (abstract_of view backing old before).is_sound → RespectsMappings view backing old before offset bytes.items (Err (e, n)))
       → RefusalJustified view backing old new before found (C.Write offset bytes) (R.WriteRefused e n)
-  write_refused_for offset bytes e n early late met taken limit part = is_refused view backing old new before (C.Write offset bytes) e (R.WriteRefused e n) (λ is. absurd cc) (λ is. absurd cc, λ is. absurd is) refl
-      (if_some_to (refuses_to_prepare old offset (length bytes.items)) (λ x h. (let is = h.0 in let pair : (e, n) ≡ (x, 0) = same_error is in ap (λ (p : ImageError × ℕ). p.0) pair, h.1)) early) (λ none. (late none).0) (λ none sound. taking_as (λ held. held) (λ kept. kept) (λ is. is) (λ far. tt) e (met none sound)) (λ none empty. let some = (late none).1 in omega (arith, some, empty)) (λ none sound. (λ is. taken none sound (some_error is), (limit none sound, part none sound, far_taking e (met none sound))))
+  write_refused_for offset bytes e n early late may_fail taken limit part = is_refused view backing old new before (C.Write offset bytes) e (R.WriteRefused e n) (λ is. absurd cc) (λ is. absurd cc, λ is. absurd is) refl
+      (if_some_to (refuses_to_prepare old offset (length bytes.items)) (λ x h. (let is = h.0 in let pair : (e, n) ≡ (x, 0) = same_error is in ap (λ (p : ImageError × ℕ). p.0) pair, h.1)) early) (λ none. (late none).0) (λ none sound. taking_as (λ held. held) (λ kept. kept) (λ is. is) (λ far. tt) e (may_fail none sound)) (λ none empty. let some = (late none).1 in omega (arith, some, empty)) (λ none sound. (λ is. taken none sound (some_error is), (limit none sound, part none sound, far_taking e (may_fail none sound))))
 
   pub size_answered : (n : ℕ) → RefusalJustified view backing old new before found C.Size (R.Size n)
   size_answered n = is_done view backing old new before C.Size (R.Size n) (λ is. absurd cc) (λ is. absurd cc, λ is. absurd is) refl tt (λ _ _. tt)
@@ -194,7 +194,7 @@ or_none (Some e) = refl
 pub own_mapping : {S F : Type 0} (image : Qcow2 S F) (number : ℕ) → number ≡ number_of image → refuses_mapping image number ≡ unusable image
 own_mapping image number own = ap (λ b. option_or (unusable image) (refuse_if b I.ForeignState)) (own_is image number own) ∙ or_none (unusable image)
 
--- one cause more, behind others
+-- one cause more, after others
 module _ (u : Option ImageError) (test : Bool) (cause : ImageError) where
   pub then_early : (P : ImageError → Type 0) → IfSome u P → (u ≡ None → test ≡ true → P cause) → IfSome (option_or u (refuse_if test cause)) P
   then_early P early here = behind u test early here
@@ -236,14 +236,14 @@ pub put_writes : (n : ℕ) (writable : Bool) → (nat_lt 0 n && not writable) �
 put_writes n true isnt some = refl
 put_writes n false isnt some = absurd (and_isnt (nat_lt 0 n) true isnt (lt-ltb 0 n some) refl)
 
--- a mode takes clusters of a larger disk
+-- a mode allocates clusters of a larger disk
 pub takes_larger : (old size : ℕ) (takes : Bool) → (nat_lt old size && takes) ≡ true → (old < size) × IsTrue takes
 takes_larger old size takes is = let both = and_is (nat_lt old size) takes is in (is_below old size both.0, both.1)
 
 pub takes_none : (old size : ℕ) (takes : Bool) → (nat_lt old size && takes) ≡ false → old < size → IsTrue takes → ⊥
 takes_none old size takes isnt larger does = and_isnt (nat_lt old size) takes isnt (lt-ltb old size larger) does
 
--- a mapping in a slot is the one that stands there
+-- a mapping in a slot is the one that is there
 pub same_mapping : (out : List (Option Prepared)) (slot : ℕ) {p q : Prepared} → slice_get out slot ≡ Some (Some p) → slice_get out slot ≡ Some (Some q) → q ≡ p
 same_mapping out slot at is = let both = sym is ∙ at in cc
 
@@ -267,37 +267,37 @@ pub none_of : (o : Option ℕ) → (IsSome o → ⊥) → o ≡ None
 none_of None never = refl
 none_of (Some t) never = absurd (never refl)
 
--- a slot that is taken holds a mapping
+-- a slot that is in use holds a mapping
 pub holds : (out : List (Option Prepared)) (slot : ℕ) (r : Option (Bor Prepared)) → MatchOption r (slice_get out slot ≡ Some None) (λ p. slice_get out slot ≡ Some (Some p.now)) → is_some r ≡ true → (p : Prepared) × (slice_get out slot ≡ Some (Some p))
 holds out slot None at is = absurd cc
 holds out slot (Some p) at is = (p.now, at)
 
 -- what refuses a larger disk, where its mode isn't what does
 pub grow_meets : {X : Type 0} (e : ImageError) (old size : ℕ) (takes : Bool) → (nat_lt old size && takes) ≡ false → (size ≤ old → ⊥) → X ⊎ ((e ≡ I.Preallocation) × IsTrue takes) → X
-grow_meets e old size takes none larger (inl met) = met
+grow_meets e old size takes none larger (inl may_fail) = may_fail
 grow_meets e old size takes none larger (inr mode) = absurd (elim (cases_lt old size) [ inl lt ↦ takes_none old size takes none lt mode.1 | inr le ↦ larger le ])
 
 -- ---- clearing a range
 
 module _ {S F : Type 0} (view : S → StorageView) (backing : F → BackingView) (old new : Qcow2 S F) (before : List (Option Prepared)) {found : ℕ → Option Mapping} (offset n : ℕ) (how : Clearing) (command : Command)
     (cause : first_cause old command ≡ refuses_clearing old offset n how) (nothing : HasNothingToDo view backing old new before command → to_in old offset n ≤ from_in old offset n)
-    (may : (e : ImageError) → IsMetPreparing e → MayFailWith command e) (taking : (e : ImageError) → MeetsClearing view old new before offset n e → MeetsTaking view old new before command e) (heed : (reply : Reply) → IsUntouchedUnder view backing old new before offset n reply → MayFailOnSound view backing old new before found command reply)
-    (misuse : (reply : Reply) → (reply ≡ R.Misuse → ⊥) → TellsMisuse before found command reply) where
-  clears_as : (r : Result (ℕ × ℕ) ImageError) → IfSome (refuses_clearing old offset n how) (λ e. (r ≡ Err e) × (new ≡ old)) → (refuses_clearing old offset n how ≡ None → IfErr r IsMetPreparing) → (refuses_clearing old offset n how ≡ None → (abstract_of view backing old before).is_sound → IfErr r (MeetsClearing view old new before offset n))
+    (may : (e : ImageError) → MayFailPreparing e → MayFailWith command e) (taking : (e : ImageError) → ClearingMayFail view old new before offset n e → CommandMayFailAllocating view old new before command e) (heed : (reply : Reply) → IsUntouchedUnder view backing old new before offset n reply → MayFailOnSound view backing old new before found command reply)
+    (misuse : (reply : Reply) → (reply ≡ R.Misuse → ⊥) → ReportsMisuse before found command reply) where
+  clears_as : (r : Result (ℕ × ℕ) ImageError) → IfSome (refuses_clearing old offset n how) (λ e. (r ≡ Err e) × (new ≡ old)) → (refuses_clearing old offset n how ≡ None → IfErr r MayFailPreparing) → (refuses_clearing old offset n how ≡ None → (abstract_of view backing old before).is_sound → IfErr r (ClearingMayFail view old new before offset n))
       → (refuses_clearing old offset n how ≡ None → to_in old offset n ≤ from_in old offset n → (r ≡ Ok (from_in old offset n, 0)) × (new ≡ old))
       → (refuses_clearing old offset n how ≡ None → from_in old offset n < to_in old offset n → (abstract_of view backing old before).is_sound → IfErr r (λ e. e ≡ I.TablePrepared → IsUnderMapping old.file.header.fields (from_in old offset n) before) × IfOk r (λ range. ¬ IsUnderMapping old.file.header.fields (from_in old offset n) before))
       → RefusalJustified view backing old new before found command (reply_of_clearing r)
-  clears_as (Ok range) early late met idle under =
+  clears_as (Ok range) early late may_fail idle under =
       is_answered view backing old new before command (new ≡ old) range (R.Range range.0 range.1) (λ is. absurd cc) (misuse (R.Range range.0 range.1) (λ is. absurd cc)) refl (subst (λ o. IfSome o (λ e. (◌≡◌ {A = Result (ℕ × ℕ) ImageError} (Ok range) (Err e)) × (new ≡ old))) (sym cause) early)
       (λ none sound. heed (R.Range range.0 range.1) (λ some is. (under (sym cause ∙ none) some sound).1 is))
-  clears_as (Err e) early late met idle under =
+  clears_as (Err e) early late may_fail idle under =
       is_refused view backing old new before command e (R.Refused e) (λ is. absurd cc) (misuse (R.Refused e) (λ is. absurd cc)) refl (subst (λ o. IfSome o (λ x. (e ≡ x) × (new ≡ old))) (sym cause) (begun_with (ℕ × ℕ) (new ≡ old) e (refuses_clearing old offset n how) early))
-      (λ none. may e (late (sym cause ∙ none))) (λ none sound. taking e (met (sym cause ∙ none) sound))
+      (λ none. may e (late (sym cause ∙ none))) (λ none sound. taking e (may_fail (sym cause ∙ none) sound))
       (λ none is. let no : (◌≡◌ {A = Result (ℕ × ℕ) ImageError} (Err e) (Ok (from_in old offset n, 0))) = (idle (sym cause ∙ none) (nothing is)).0 in absurd cc)
       (λ none sound. heed (R.Refused e) (λ some is. (under (sym cause ∙ none) some sound).0 (some_error is)))
 
-  pub clears_rightly : (r : Result (ℕ × ℕ) ImageError) (reply : Reply) → reply ≡ reply_of_clearing r → IfSome (refuses_clearing old offset n how) (λ e. (r ≡ Err e) × (new ≡ old)) → (refuses_clearing old offset n how ≡ None → IfErr r IsMetPreparing) → (refuses_clearing old offset n how ≡ None → (abstract_of view backing old before).is_sound → IfErr r (MeetsClearing view old new before offset n))
+  pub clears_rightly : (r : Result (ℕ × ℕ) ImageError) (reply : Reply) → reply ≡ reply_of_clearing r → IfSome (refuses_clearing old offset n how) (λ e. (r ≡ Err e) × (new ≡ old)) → (refuses_clearing old offset n how ≡ None → IfErr r MayFailPreparing) → (refuses_clearing old offset n how ≡ None → (abstract_of view backing old before).is_sound → IfErr r (ClearingMayFail view old new before offset n))
       → (refuses_clearing old offset n how ≡ None → to_in old offset n ≤ from_in old offset n → (r ≡ Ok (from_in old offset n, 0)) × (new ≡ old))
       → (refuses_clearing old offset n how ≡ None → from_in old offset n < to_in old offset n → (abstract_of view backing old before).is_sound → IfErr r (λ e. e ≡ I.TablePrepared → IsUnderMapping old.file.header.fields (from_in old offset n) before) × IfOk r (λ range. ¬ IsUnderMapping old.file.header.fields (from_in old offset n) before))
       → RefusalJustified view backing old new before found command reply
-  clears_rightly r reply is early late met idle under = subst (λ q. RefusalJustified view backing old new before found command q) (sym is) (clears_as r early late met idle under)
+  clears_rightly r reply is early late may_fail idle under = subst (λ q. RefusalJustified view backing old new before found command q) (sym is) (clears_as r early late may_fail idle under)

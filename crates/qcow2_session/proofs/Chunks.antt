@@ -1,4 +1,4 @@
--- A chunk of a session's write: prepared, put and committed. Where one of these is refused the mapping is let go.
+-- A part of a write: prepared, put and committed. If one of these is refused, the mapping is released.
 use Rattle.std.proofs.Common.{◌≡◌, ◌⊎◌, ⊎_elim, inl, inr, ℕ, suc, eqb, ◌+◌, ◌-◌, ◌%◌, ◌<◌, ◌≤◌, min, List, [], ◌∷◌, take, length, true, false, Option, Some, None, refl, sym, ap, ◌∙◌, subst, arith}
 use Rattle.std.proofs.lemmas.Bool.{cond-true, cond-false, cases_Bool, ne_eqb}
 use Rattle.std.proofs.lemmas.Grind.{common_steps}
@@ -17,8 +17,8 @@ use Rattle.qcow2_session.proofs.Bytes.{byte_in, laid_in, laid_out, no_bytes, sam
 use Rattle.qcow2_session.proofs.Places.{enters, leaves}
 use Rattle.qcow2_disk.proofs.Compose.{shown_is}
 use Rattle.qcow2_session.proofs.Turns.{none_within, does_if, refuses_if, refuses_fault, refuses_why, does_less, does_then, refuses_then, refused_then, IsWithin}
-use Rattle.qcow2_image.proofs.UngivenCovers.{touches_part}
-use Rattle.qcow2_image.proofs.WholeClusters.{commit_touches}
+use Rattle.qcow2_image.proofs.Images.UngivenCovers.{touches_part}
+use Rattle.qcow2_image.proofs.Images.WholeClusters.{commit_touches}
 
 some_is : {X : Type 0} {a b : X} → Some a ≡ Some b → a ≡ b
 some_is e = cc

@@ -25,11 +25,11 @@ use Rattle.qcow2_image.specs.Faults.{CountsImageFaults}
 use Rattle.qcow2_image.specs.Image.{is_writable, size_of}
 use Rattle.qcow2_image.specs.ImageInvariant.{ImageInvariant, abstract_of, disk_of, pending_in}
 use Rattle.qcow2_image.specs.Refusals.{passes, refuse_if, unusable}
-use Rattle.qcow2_image.proofs.HiddenBytes.{header_is}
-use Rattle.qcow2_image.proofs.Sizes.{disk_size}
+use Rattle.qcow2_image.proofs.Images.HiddenBytes.{header_is}
+use Rattle.qcow2_image.proofs.Images.Sizes.{disk_size}
 use Rattle.qcow2_session.specs.Commands.{reply_of, reply_of_clearing}
 use Rattle.qcow2_session.specs.CountedFaults.{CommandCounts}
-use Rattle.qcow2_session.specs.Told.{TellsRange}
+use Rattle.qcow2_session.specs.Told.{ReportsRange}
 use Rattle.qcow2_session.specs.declared.session.Reply.{Reply}
 use Rattle.qcow2_session.proofs.Answering.{error_is, first_of_all, not_both}
 use Rattle.qcow2_session.proofs.Turns.{does_if}
@@ -66,7 +66,7 @@ module _ {S F : Type 0} (view : S → StorageView) (backing : F → BackingView)
       AnswersCall view backing old new (given_by_clear (setting_of view backing old) (disk_of view backing old) how offset n ∷ [])
       (λ range was is. (range ≡ answered (setting_of view backing old).cluster_size was.disk.size offset n) × (is ≡ with_disk was (cleared_at (setting_of view backing old) was.disk how offset n))) r
 
-  -- what is refused before any work, and what stands for guest clusters where it is answered
+  -- what is refused before any work, and the mappings of guest clusters if it succeeds
   abbrev IsEarly : Result (ℕ × ℕ) ImageError → Type 0
   IsEarly r = IfSome (refuses_clearing old offset n how) (λ e. (r ≡ Err e) × (new ≡ old))
 
@@ -107,12 +107,12 @@ module _ {S F : Type 0} (view : S → StorageView) (backing : F → BackingView)
   clears_command_step out x s r reply is stands early covers sees =
       subst (λ q. RefinesCommand x (abstract_of view backing old out) (abstract_of view backing new out) s (clear how offset n) (reply_of q)) (sym is) (clears_as out x s r stands early covers sees)
 
--- the range that is told of clearing, whatever the image
+-- the range that clearing returns, whatever the image contains
 pub range_told : {S F : Type 0} (view : S → StorageView) (backing : F → BackingView) (old new : Qcow2 S F) (offset n : ℕ) (r : Result (ℕ × ℕ) ImageError) (reply : Reply) → reply ≡ reply_of_clearing r
-    → IfOk r (λ range. range ≡ answered (cluster_size old.file.header.fields) (size_of old) offset n) → TellsRange view backing old new offset n reply
-range_told {S = S} {F = F} view backing old new offset n r reply is range = subst (λ q. TellsRange view backing old new offset n q) (sym is) (by r range)
+    → IfOk r (λ range. range ≡ answered (cluster_size old.file.header.fields) (size_of old) offset n) → ReportsRange view backing old new offset n reply
+range_told {S = S} {F = F} view backing old new offset n r reply is range = subst (λ q. ReportsRange view backing old new offset n q) (sym is) (by r range)
   where
-    by : (q : Result (ℕ × ℕ) ImageError) → IfOk q (λ range. range ≡ answered (cluster_size old.file.header.fields) (size_of old) offset n) → TellsRange view backing old new offset n (reply_of_clearing q)
+    by : (q : Result (ℕ × ℕ) ImageError) → IfOk q (λ range. range ≡ answered (cluster_size old.file.header.fields) (size_of old) offset n) → ReportsRange view backing old new offset n (reply_of_clearing q)
     by (Ok range) is = is
     by (Err e) is = tt
 

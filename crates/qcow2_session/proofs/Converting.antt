@@ -1,4 +1,4 @@
--- An image's disk is made as a raw disk is, range by range.
+-- The disk of an image is made equal to a raw disk, range by range.
 use Rattle.std.proofs.Common.{◌≡◌, ◌⊎◌, ⊎_elim, inl, inr, ℕ, ◌+◌, ◌-◌, ◌*◌, ◌/◌, ◌%◌, ◌<◌, ◌≤◌, List, [], ◌∷◌, ◌++◌, replicate, take, drop, length, refl, sym, ap, ◌∙◌, subst, arith}
 use Rattle.std.proofs.Math.Nat.{div-add-mod, mod-eq_of_lt, zero-mod, mul-add-mod_self_left}
 use Rattle.std.proofs.lemmas.Bool.{cases_lt}
@@ -29,7 +29,7 @@ use Rattle.qcow2_session.proofs.Chunks.{may_write_none}
 use Rattle.qcow2_session.proofs.Turns.{IsWithin, all_within, none_within, does_if, does_why, does_less, does_then, acts_less, acts_then}
 use Rattle.qcow2_session.proofs.Writing.{writes_more, may_write_more}
 use Rattle.qcow2_disk.proofs.Compose.{stops_none, rests_none}
-use Rattle.qcow2_image.proofs.UngivenCovers.{touches_part}
+use Rattle.qcow2_image.proofs.Images.UngivenCovers.{touches_part}
 
 -- no call at all
 pub does_nothing : (v : AbstractImage) → AnsweredEffect v v [] [] (guest_of v ≡ guest_of v)
@@ -371,7 +371,7 @@ module _ {S F : Type 0} (view : S → StorageView) (backing : F → BackingView)
             (λ out. first_of read whole at long front (abstract_of view backing old out) (abstract_of view backing mid out) (first.2 out)) next.2 out),
       )
 
-  -- the range was refused; of those behind it any bytes may be said
+  -- the range was refused; any bytes may be given after it
   pub any_refused : (size : ℕ) → at + n ≤ size → (e : ImageError) (r : Result (Unit {0}) ImageError) → r ≡ Err e → at % cluster_size_of old ≡ 0 → n ≤ cluster_size_of old
       → ImportsAnyAt view backing mid new at n (Err e) → ImportsAnyOf view backing old new size r
   any_refused size fits e r err start small next =

@@ -26,7 +26,7 @@ use Rattle.qcow2_disk.specs.UngivenCovers.{IsUngiven, Touches}
 use Rattle.qcow2_alloc.proofs.KeptTables.Mapping.{shown_if}
 use Rattle.qcow2_alloc.specs.ImageFile.{contents_in, known_in}
 use Rattle.qcow2_alloc.specs.MetadataCaches.{IsEntryAt, ShowsKnown}
-use Rattle.qcow2_image.proofs.HiddenBytes.{header_is}
+use Rattle.qcow2_image.proofs.Images.HiddenBytes.{header_is}
 use Rattle.qcow2_image.proofs.Map.Looked.{cached_says}
 use Rattle.qcow2_image.specs.CallParts.{AreCopied}
 use Rattle.qcow2_image.specs.Found.{l1_index_of, mapping_of}
@@ -34,7 +34,7 @@ use Rattle.qcow2_image.specs.HeldMappings.{IsHeldAs, IsMappedByNamed, named_plac
 use Rattle.qcow2_image.specs.ImageInvariant.{abstract_of, meaning, pending_in, ImageInvariant}
 use Rattle.qcow2_image.specs.Prepared.{guest_offset_of, length_of, offset_of}
 use Rattle.qcow2_image.specs.Preparing.{IsAnswered}
-use Rattle.qcow2_image.proofs.Preallocate.Grown.{up_least}
+use Rattle.qcow2_image.proofs.Preallocate.FilledGrowth.{up_least}
 use Rattle.qcow2_image.specs.Calls.{Prepares}
 use Rattle.qcow2_session.specs.Sessions.{StandsByPart, LeavesCopied, Writes}
 use Rattle.qcow2_session.proofs.WrittenParts.{writes_none, writes_on}
@@ -44,7 +44,7 @@ use Rattle.qcow2_image.specs.declared.mapping.MappingKind.TheVariants.{Raw}
 use Rattle.qcow2_image.specs.declared.mapping.Place.TheVariants.{Image}
 use Rattle.qcow2_image.specs.declared.prepared.Prepared.{Prepared}
 
--- what is told as writable stands there as copied data
+-- what is reported as writable is copied data there
 record IsCopiedFrom (h : HeaderFields) (offset place : ℕ) (m : L2Mapping) : Type 0 where
   host : ℕ
   is : m ≡ Data host true
@@ -158,7 +158,7 @@ module _ {S F : Type 0} (view : S → StorageView) where
           let split = div-add-mod' place (cluster_size h) in
           record { real = λ none. named (sym named_known ∙ none); place = named_known ∙ omega (arith, split, aligned); within = lt }
 
-    -- a byte of a range that the tables in memory map as copied data stands there as it is known
+    -- a byte of a range that the tables in memory map as copied data is copied data in the known contents
     held_data : (offset place n i : ℕ) → IsHeldAs image offset (Raw Image place true) n → i < n → IsDataAt h known true (offset + i) (place + i)
     held_data offset place n i held lt = ⊎_elim
         (λ none. absurd (let no : false ≡ true = ap is_copied_data (raw_copied h (is_some image.backing) offset place Uncovered none.kind_is).is in cc)) (λ by. by_table by)
@@ -216,7 +216,7 @@ module _ {S F : Type 0} (view : S → StorageView) (backing : F → BackingView)
   pub same_size : {given : List GivenBytes} {asked : List ℕ} → EffectOnSound (abstract_of view backing old out) (abstract_of view backing new out) given asked → cluster_size new.file.header.fields ≡ cluster_size old.file.header.fields
   same_size effect = ap (λ (x : Setting). x.cluster_size) effect.setting
 
-  -- by the headers that the images hold, what stands for a guest cluster stays where no byte of it is given
+  -- by the headers of the images, the mapping of a guest cluster stays the same if no byte of it is given
   pub kept_cover : ImageInvariant view backing (pending_in view backing old out) old out → ImageInvariant view backing (pending_in view backing new out) new out → {given : List GivenBytes} {asked : List ℕ}
       → EffectOnSound (abstract_of view backing old out) (abstract_of view backing new out) given asked → (g : ℕ) → IsUngiven (cluster_size old.file.header.fields) given g
       → cover old.file.header.fields (known_in view old.file) g ≡ cover new.file.header.fields (known_in view new.file) g
@@ -227,7 +227,7 @@ module _ {S F : Type 0} (view : S → StorageView) (backing : F → BackingView)
 
 module _ {S F : Type 0} (view : S → StorageView) (backing : F → BackingView) (old new : Qcow2 S F) (out : List (Option Prepared))
     (sound : ImageInvariant view backing (pending_in view backing old out) old out) (sound' : ImageInvariant view backing (pending_in view backing new out) new out) where
-  -- what a part of a write leaves is copied data still behind the next part
+  -- what a part of a write leaves is still copied data after the next part
   range_on : (offset at done count : ℕ) (bytes : List ℕ) → at ≡ offset + done → EffectOnSound (abstract_of view backing old out) (abstract_of view backing new out) (given_of at bytes ∷ []) []
       → AreCopied view offset (offset + done) old → AreCopied view at (at + count) new → AreCopied view offset (offset + (done + count)) new
   range_on offset at done count bytes there effect before next g first last =
@@ -244,7 +244,7 @@ module _ {S F : Type 0} (view : S → StorageView) (backing : F → BackingView)
       cluster_some : 0 < cluster_size old.file.header.fields
       cluster_some = pow_pos old.file.header.fields.cluster_bits
 
-  -- all copied data stand where they stood, where those that a part touches do
+  -- all copied data lie where they lay, if those that a part touches do
   stay_beside : (offset : ℕ) (bytes : List ℕ) → EffectOnSound (abstract_of view backing old out) (abstract_of view backing new out) (given_of offset bytes ∷ []) []
       → ((g host : ℕ) → Touches (cluster_size old.file.header.fields) offset (offset + length bytes) g → cover old.file.header.fields (known_in view old.file) g ≡ Data host true → cover new.file.header.fields (known_in view new.file) g ≡ Data host true)
       → (g host : ℕ) → cover old.file.header.fields (known_in view old.file) g ≡ Data host true → cover new.file.header.fields (known_in view new.file) g ≡ Data host true
@@ -275,7 +275,7 @@ byte_of h offset n g touched =
           (0, omega (arith, some), ap (λ o. o / size) split ∙ div-mul-add g size (offset - g * size) (omega (arith, low, within)))
     ]
 
--- a cluster of which a byte is data at one place, before and then, stands where it stood
+-- a cluster lies where it lay if one byte of it does
 byte_stays : (h h' : HeaderFields) (known known' : Bytes) (g host o place : ℕ) → cluster_size h' ≡ cluster_size h → o / cluster_size h ≡ g → cover h known g ≡ Data host true → IsDataAt h known true o place → IsDataAt h' known' true o place → cover h' known' g ≡ Data host true
 byte_stays h h' known known' g host o place size here is was now =
     let before = same_host was.0 host true (sym was.1 ∙ ap (cover h known) here ∙ is) in
@@ -289,7 +289,7 @@ byte_stays h h' known known' g host o place size here is was now =
 
 module _ {S F : Type 0} (view : S → StorageView) (backing : F → BackingView) (old mid new : Qcow2 S F) (out : List (Option Prepared))
     (sound : ImageInvariant view backing (pending_in view backing old out) old out) (sound' : ImageInvariant view backing (pending_in view backing new out) new out) where
-  -- the first part of a write: a mapping was prepared and put, and its first bytes are copied data where it stands
+  -- the first part of a write: a mapping was prepared and put, and its first bytes are copied data at its place
   pub part_copied : (offset : ℕ) (p : Prepared) (bytes chunk : List ℕ) → 0 < length chunk → length chunk ≤ length_of p → guest_offset_of p ≡ offset
       → IsAnswered old.file.header.fields (known_in view old.file) offset (length bytes) mid.file.header.fields (known_in view mid.file) p (meaning view backing mid p)
       → Prepares view backing old mid offset (length bytes) true (Ok p) → EffectOnSound (abstract_of view backing old out) (abstract_of view backing new out) (given_of offset chunk ∷ []) []
@@ -329,7 +329,7 @@ module _ {S F : Type 0} (view : S → StorageView) (backing : F → BackingView)
 
 module _ {S F : Type 0} (view : S → StorageView) (backing : F → BackingView) (begin old new : Qcow2 S F) (out : List (Option Prepared))
     (sound : ImageInvariant view backing (pending_in view backing old out) old out) (sound' : ImageInvariant view backing (pending_in view backing new out) new out) where
-  -- one part behind others
+  -- one part after others
   pub copied_on : (offset at done count : ℕ) (bytes : List ℕ) → done ≤ length bytes → at ≡ offset + done → Writes view backing begin old offset (take done bytes) (Ok tt) → 0 < done
       → EffectOnSound (abstract_of view backing old out) (abstract_of view backing new out) (given_of at (take count (drop done bytes)) ∷ []) []
       → LeavesCopied view backing begin old offset bytes done → LeavesCopied view backing old new at (drop done bytes) count → LeavesCopied view backing begin new offset bytes (done + count)
@@ -381,7 +381,7 @@ module _ {S F : Type 0} (view : S → StorageView) (backing : F → BackingView)
                 (subst (λ k. IsDataAt new.file.header.fields (known_in view new.file) true (at + (i - done)) (offset_of is.mapping + k)) place is.stands);
           }
 
--- so a run is told, by the header that the known bytes hold
+-- what a run reports, by the header in the known bytes
 pub rightly_written : {S F : Type 0} (view : S → StorageView) (backing : F → BackingView) (image : Qcow2 S F) (out : List (Option Prepared)) → ImageInvariant view backing (pending_in view backing image out) image out → (offset n : ℕ)
     → (0 < n → AreCopied view offset (offset + n) image) → IsRightlyWritten offset n (known_in view image.file)
 rightly_written view backing image out sound offset n copied =

@@ -1,4 +1,4 @@
--- The failures that a run counts, command by command, and a conversion, call by call.
+-- The failures that a run counts command by command, and a conversion call by call.
 use Rattle.std.proofs.Common.{◌≡◌, ◌≢◌, ℕ, inl, inr, List, [], ◌∷◌, ◌++◌, None, Some, Result, Ok, Err, refl, sym, ap, ◌∙◌, subst, arith}
 use Rattle.image_access.specs.Backing.{BackingView}
 use Rattle.image_access.specs.Moments.{StorageView, HasCause, Rose}
@@ -12,12 +12,12 @@ use Rattle.qcow2_image.specs.declared.prepared.CommitRefused.{CommitRefused}
 use Rattle.qcow2_image.specs.Calls.{reason_of}
 use Rattle.qcow2_image.specs.Image.{is_failed}
 use Rattle.qcow2_image.specs.Noted.{CountsImageChanges}
-use Rattle.qcow2_image.specs.Faults.{CountsImageFaults, IsNotOfStorage, NoFewerFaults, SameFaults, TellsFault}
+use Rattle.qcow2_image.specs.Faults.{CountsImageFaults, IsNotOfStorage, NoFewerFaults, SameFaults, ReportsFault}
 use Rattle.qcow2_image.proofs.Call.FaultCounts.{counted_since, each_since, faults_then, fewer_of, rose_after, tells_since, untouched}
 use Rattle.qcow2_image.proofs.Call.OnceWritten.{changes_before, counts_on, counts_still}
 use Rattle.qcow2_session.specs.Marks.{FailsBy, MarksConversion, MarksInParts}
 use Rattle.qcow2_session.proofs.Marking.{fails_no_more, parts_behind, stays_failed}
-use Rattle.qcow2_session.specs.CountedFaults.{CommandCounts, ConversionCounts, RunCounts, TellsConversion, refusal_in}
+use Rattle.qcow2_session.specs.CountedFaults.{CommandCounts, ConversionCounts, RunCounts, ReportsConversion, refusal_in}
 use Rattle.qcow2_session.specs.declared.session.Reply.{Reply}
 
 -- a storage that is refused as failed counts that
@@ -35,7 +35,7 @@ module _ {S F : Type 0} (view : S → StorageView) (backing : F → BackingView)
 
   -- a refused commit that follows others
   pub commit_since : {T : Type 0} (old mid new : Qcow2 S F) (r : CommitRefused) (e : ImageError) → reason_of r ≡ e → SameFaults view backing old mid
-      → NoFewerFaults view backing mid new × TellsFault view backing mid new (reason_of r) × (reason_of r ≢ I.Storage → SameFaults view backing mid new) → CountsImageFaults view backing {T = T} old new (Err e)
+      → NoFewerFaults view backing mid new × ReportsFault view backing mid new (reason_of r) × (reason_of r ≢ I.Storage → SameFaults view backing mid new) → CountsImageFaults view backing {T = T} old new (Err e)
   commit_since {T = T} old mid new r e is first told =
       let alone : CountsImageFaults view backing {T = T} mid new (Err (reason_of r)) = record { no_fewer = told.0; rose = told.1; told = told.2 } in
       subst (λ x. CountsImageFaults view backing {T = T} old new (Err x)) is (counted_since view backing old mid new (Err (reason_of r)) first alone)
@@ -83,12 +83,12 @@ module _ {S F : Type 0} (view : S → StorageView) (backing : F → BackingView)
   rests : {T : Type 0} (old new : Qcow2 S F) (e : ImageError) → IsSoFar old new → MarksConversion view old new {A = T} (Err e)
   rests old new e first = record { answered = tt; works = λ _ _. first.works; stays = λ failed. first.works ∙ failed; counts = first.changes; memory = λ _ failed. inl (sym first.works ∙ failed) }
 
-  -- what a refused call of the image tells, of a conversion that began earlier
-  pub image_tells : (old mid new : Qcow2 S F) (before now : ℕ) (e : ImageError) → SameFaults view backing old mid → TellsFault view backing mid new e → FailsBy (Some e) (is_failed mid) (is_failed new) → TellsConversion view backing old new before now e
+  -- what a refused call of the image reports, for a conversion that began earlier
+  pub image_tells : (old mid new : Qcow2 S F) (before now : ℕ) (e : ImageError) → SameFaults view backing old mid → ReportsFault view backing mid new e → FailsBy (Some e) (is_failed mid) (is_failed new) → ReportsConversion view backing old new before now e
   image_tells old mid new before now e first told fails is = inl (rose_after view backing old mid new first (told is), subst (λ x. FailsBy (Some x) (is_failed mid) (is_failed new)) is fails)
 
   -- and a refused part of it
-  part_tells : (old mid new : Qcow2 S F) (a b c : ℕ) (e : ImageError) → SameFaults view backing old mid → b ≡ a → TellsConversion view backing mid new b c e → TellsConversion view backing old new a c e
+  part_tells : (old mid new : Qcow2 S F) (a b c : ℕ) (e : ImageError) → SameFaults view backing old mid → b ≡ a → ReportsConversion view backing mid new b c e → ReportsConversion view backing old new a c e
   part_tells old mid new a b c e first same told is = elim (told is) [
     | inl one ↦ inl (rose_after view backing old mid new first one.0, one.1)
     | inr rose ↦ inr (subst (λ n. Rose n c) same rose)

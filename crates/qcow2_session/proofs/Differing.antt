@@ -1,4 +1,4 @@
--- Bytes that a disk has already are never refused as not to be written.
+-- Bytes that the disk already has are never refused as ones that may not be written.
 use Rattle.std.proofs.Common.{◌≡◌, inl, inr, ℕ, ◌+◌, ◌<◌, ◌≤◌, Bool, true, false, List, [], ◌∷◌, take, length, refl, sym, ap, ◌∙◌, subst, arith}
 use Rattle.std.specs.Prelude.{IfErr, MatchOption, Option, Result, Ok, Err}
 use Rattle.std.specs.Option.{option_or}
@@ -17,7 +17,7 @@ use Rattle.qcow2_alloc.specs.ImageError.{of_storage}
 use Rattle.qcow2_alloc.specs.declared.error.ImageError.{ImageError}
 use Rattle.qcow2_alloc.specs.declared.error.ImageError.TheVariants as I
 use Rattle.qcow2_image.specs.Image.{is_external, is_failed, size_of}
-use Rattle.qcow2_image.specs.Refusals.{IsMet, passes, refuse_if, refuses_to_read}
+use Rattle.qcow2_image.specs.Refusals.{MayFail, passes, refuse_if, refuses_to_read}
 use Rattle.qcow2_image.specs.declared.image.Qcow2.{Qcow2}
 use Rattle.qcow2_image.specs.declared.prepared.Prepared.{Prepared}
 use Rattle.qcow2_image.specs.ImageInvariant.{abstract_of}
@@ -28,7 +28,7 @@ use Rattle.qcow2_session.proofs.Converting.{shown_same}
 
 -- ---- sizes
 
--- a raw disk that doesn't tell its size
+-- a raw disk that doesn't return its size
 pub size_untold : {A : Type 0} (early : Option ImageError) (x : StorageError) (before now : ℕ) → HasCause {T = A} before now (Err x) → IsRefusedUnequal early before now (Err (of_storage x))
 size_untold early S.Fault before now cause = inr (inr (inr (refl, cause.fault refl)))
 size_untold early S.Memory before now cause = inr (inr (inl refl))
@@ -37,8 +37,8 @@ size_untold early S.Memory before now cause = inr (inr (inl refl))
 
 -- a read isn't
 pub reading_other : (e : ImageError) → IsOfReading e → IsKeptFromWriting e → ⊥
-reading_other e (inl met) (inl is) = let no : IsMet I.ReadOnly = subst IsMet is met in no
-reading_other e (inl met) (inr is) = let no : IsMet I.TablePrepared = subst IsMet is met in no
+reading_other e (inl may_fail) (inl is) = let no : MayFail I.ReadOnly = subst MayFail is may_fail in no
+reading_other e (inl may_fail) (inr is) = let no : MayFail I.TablePrepared = subst MayFail is may_fail in no
 reading_other e (inr (inl beyond)) (inl is) = let no : I.ReadOnly ≡ I.BeyondSize = sym is ∙ beyond in cc
 reading_other e (inr (inl beyond)) (inr is) = let no : I.TablePrepared ≡ I.BeyondSize = sym is ∙ beyond in cc
 reading_other e (inr (inr (inl failed))) (inl is) = let no : I.ReadOnly ≡ I.Failed = sym is ∙ failed in cc

@@ -1,4 +1,4 @@
--- A raw disk is made as an image's disk is, range by range.
+-- A raw disk is made equal to the disk of an image, range by range.
 use Rattle.std.proofs.Common.{◌≡◌, false, inl, inr, ℕ, ◌+◌, ◌-◌, ◌/◌, ◌<◌, ◌≤◌, Bool, List, [], is_some, length, refl, replicate, sym, ap, ◌∙◌, subst, arith}
 use Rattle.std.proofs.lemmas.Bool.{cases_lt}
 use Rattle.std.proofs.lemmas.Grind.{common_steps}
@@ -28,7 +28,7 @@ use Rattle.qcow2_image.specs.Refusals.{passes, refuse_if, refuses_to_read, unusa
 use Rattle.qcow2_image.specs.declared.image.Qcow2.{Qcow2}
 use Rattle.qcow2_image.specs.declared.prepared.Prepared.{Prepared}
 use Rattle.qcow2_image.specs.ImageInvariant.{ImageInvariant, abstract_of, backing_bytes, disk_of, pending_in}
-use Rattle.qcow2_image.proofs.HiddenBytes.{header_is}
+use Rattle.qcow2_image.proofs.Images.HiddenBytes.{header_is}
 use Rattle.qcow2_image.proofs.Map.Reading.{none_below, zero_shown}
 use Rattle.qcow2_session.specs.Conversions.{RefusedConversion, IsRawOf, IsUnchanged, IsFilledUpTo, Fills}
 use Rattle.qcow2_session.proofs.Causing.{then_none}
@@ -109,7 +109,7 @@ part_of_disk old mid same at n fits works none =
     all_within : (size : ℕ) → passes size 0 size ≡ false
     all_within size = grind (arith, common_steps)
 
--- zeros that the tables tell of, as the disk has them
+-- zeros by the tables are zeros of the disk
 module _ {S F : Type 0} (view : S → StorageView) (backing : F → BackingView) (image : Qcow2 S F) (out : List (Option Prepared)) (sound : ImageInvariant view backing (pending_in view backing image out) image out) where
   pub zeros_there : (at max n : ℕ) (explicit : Bool) → IsFoundIn (known_in view image.file) (is_some image.backing) at max (K.zeros explicit) n → Shows (disk_of view backing image) at (replicate n 0)
   zeros_there at max n explicit is i lt =

@@ -1,4 +1,4 @@
--- What a storage that records its changes held after its first so many writes is what it had at a moment since.
+-- The contents after the first writes of a storage that records its changes are contents that the storage had at a moment since.
 use Rattle.std.proofs.Common.{◌≡◌, ⊎_elim, inl, inr, ℕ, List, [], map, length, Option, Result, Ok, Err, sym, ap, subst}
 use Rattle.std.specs.Prelude.{Vec}
 use Rattle.std.specs.Global.{Global}

@@ -12,7 +12,7 @@ mod Chunks
 mod Writing
 mod Reading
 mod Runs
-mod Heeding
+mod Respecting
 mod LookingUp
 mod Converting
 mod WrittenParts
@@ -30,4 +30,4 @@ mod Told
 mod Unwritten
 pub mod Counting
 mod Quiet
-mod MetOnSound
+mod FailingOnSound

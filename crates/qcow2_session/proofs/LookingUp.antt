@@ -1,4 +1,4 @@
--- The lookups that a run of an image that was just opened begins with.
+-- The lookups at the start of a run of an image that was just opened.
 use Rattle.std.proofs.Common.{◌≡◌, inl, inr, List, [], ◌∷◌, Bool, false, sym, ap, ◌∙◌, subst, ℕ, map}
 use Rattle.image_access.specs.Backing.{BackingView}
 use Rattle.image_access.specs.Moments.{StorageView}

@@ -1,4 +1,4 @@
--- When commands fail an image, one call after the other.
+-- When commands fail an image, one call after another.
 use Rattle.std.proofs.Common.{◌≡◌, ◌≢◌, ◌∙◌, inl, inr, ℕ, Bool, true, false, IsTrue, Option, Some, None, refl, sym, ap, subst}
 use Rattle.std.specs.Option.{option_or}
 use Rattle.std.specs.Prelude.{◌||◌, MatchOption, OnOk, Result, Ok, Err}
@@ -18,15 +18,15 @@ use Rattle.qcow2_session.specs.CountedFaults.{refusal_in}
 use Rattle.qcow2_session.specs.Marks.{FailsBy, MarksAtOnce, MarksInParts, reason_in}
 use Rattle.qcow2_session.specs.declared.session.Reply.{Reply}
 
-stays_marked : (before noted now : Bool) → now ≡ (before || noted) → IsTrue before → IsTrue now
-stays_marked true noted now is failed = is
-stays_marked false noted now is failed = absurd (let no : false ≡ true = failed in cc)
+stays_marked : (before recorded now : Bool) → now ≡ (before || recorded) → IsTrue before → IsTrue now
+stays_marked true recorded now is failed = is
+stays_marked false recorded now is failed = absurd (let no : false ≡ true = failed in cc)
 
 -- a call of the image that was refused
-pub refused_marks : (e : ImageError) (before noted now : Bool) → failed_after e before noted now → FailsBy (Some e) before now
-refused_marks I.Storage before noted now is = is
-refused_marks I.Memory before noted now is = stays_marked before noted now is
-refused_marks e before noted now is = is
+pub refused_marks : (e : ImageError) (before recorded now : Bool) → failed_after e before recorded now → FailsBy (Some e) before now
+refused_marks I.Storage before recorded now is = is
+refused_marks I.Memory before recorded now is = stays_marked before recorded now is
+refused_marks e before recorded now is = is
 
 -- where nothing was called, or what was called marks nothing
 pub unmarked : (e : ImageError) (before now : Bool) → IsNotOfStorage e → now ≡ before → FailsBy (Some e) before now
@@ -75,14 +75,14 @@ module _ {S F : Type 0} (view : S → StorageView) where
   pub in_parts : {reason : Option ImageError} {old new : Qcow2 S F} → MarksAtOnce view reason old new → MarksInParts view reason old new
   in_parts marks = record { fails = marks.fails; counts = marks.counts; memory = λ is. (marks.memory is).changed }
 
-  -- all were answered, or what isn't called is refused behind them
+  -- all calls succeeded, or what was not called is refused after them
   pub parts_answered : (old new : Qcow2 S F) → is_failed new ≡ is_failed old → CountsImageChanges view old new → MarksInParts view None old new
   parts_answered old new same counts = record { fails = same; counts = counts; memory = λ bad. absurd (cc) }
 
   pub parts_beyond : (old new : Qcow2 S F) → is_failed new ≡ is_failed old → CountsImageChanges view old new → MarksInParts view (Some I.BeyondSize) old new
   parts_beyond old new same counts = record { fails = same; counts = counts; memory = λ bad. absurd (cc) }
 
-  -- behind calls that mark nothing, and before such
+  -- after calls that mark nothing, and before such
   pub parts_behind : (reason : Option ImageError) (old mid new : Qcow2 S F) → is_failed mid ≡ is_failed old → CountsImageChanges view old mid → MarksInParts view reason mid new → MarksInParts view reason old new
   parts_behind reason old mid new same first last = record {
     fails = subst (λ (b : Bool). FailsBy reason b (is_failed new)) same last.fails;
@@ -118,7 +118,7 @@ refused_none (Some x) e is none = let no : Some x ≡ None = none in cc
 pub unchecked : (u : Option ImageError) (e : ImageError) → MatchOption (option_or u None) (◌≡◌ {A = Result (Unit {0}) ImageError} (Err e) (Ok tt)) (λ x. ◌≡◌ {A = Result (Unit {0}) ImageError} (Err e) (Err x)) → u ≡ None → ⊥
 unchecked u e is none = refused_none (option_or u None) e is (ap (λ v. option_or v None) none)
 
--- a refusal tells nothing of what is answered
+-- a refusal says nothing of a result
 pub none_answered : {A E : Type 0} (r : Result A E) (e : E) (P : Type 0) → r ≡ Err e → OnOk r P
 none_answered {A = A} {E = E} r e P is = subst (λ (q : Result A E). OnOk q P) (sym is) tt
 

@@ -75,11 +75,11 @@ does_prepare found slot offset n overwrite m host count is_existing free long do
 abbrev host_range : ℕ → ℕ → Bool → HostRange
 host_range offset length is_existing = record { offset = offset; length = length; is_existing = is_existing }
 
--- what is told of a mapping is where it is to be written
+-- what is reported of a mapping is where it is to be written
 pub prepared_at : {a b n m : ℕ} {e f : Bool} → a ≡ b → n ≡ m → e ≡ f → Some (host_range b m f) ≡ Some (host_range a n e)
 prepared_at offset length existing = ap Some (λ i. record { offset = sym offset i; length = sym length i; is_existing = sym existing i })
 
--- what is so of a mapping is so of each that stands in its slot
+-- what holds of a mapping holds of the one in its slot
 pub so_in_slot : (v : AbstractImage) (slot : ℕ) (m : PreparedMapping) (IsSo : PreparedMapping → Type 0) → v.slots slot ≡ Some m → IsSo m → (n : PreparedMapping) → v.slots slot ≡ Some n → IsSo n
 so_in_slot v slot m IsSo there so n is = let same : m ≡ n = (let e : Some m ≡ Some n = sym there ∙ is in cc) in subst IsSo same so
 

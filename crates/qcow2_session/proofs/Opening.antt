@@ -1,4 +1,4 @@
--- Why a consistent image isn't opened: what a consistent one doesn't have is no reason. What a stop leaves is consistent, so it opens again.
+-- Why a consistent image isn't opened: breaches that a consistent image doesn't have are no reason. What a stop leaves is consistent, so it opens again.
 use Rattle.std.proofs.Common.{◌≡◌, ⊎_elim, ℕ, true, List, [], None, inl, inr, sym, subst, arith}
 use Rattle.image_access.specs.Moments.{StorageView}
 use Rattle.image_access.proofs.EachMomentSince.{since_start}
@@ -13,10 +13,10 @@ use Rattle.qcow2_alloc.specs.declared.error.ImageError.TheVariants as I
 use Rattle.qcow2_image.specs.declared.image.Missing.{Missing}
 use Rattle.qcow2_alloc.specs.ImageFile.{nothing_given}
 use Rattle.qcow2_image.specs.Opened.{IsKeptSince}
-use Rattle.qcow2_image.specs.Readable.{IsRefusedRightly}
+use Rattle.qcow2_image.specs.Readable.{IsJustifiedRefusal}
 use Rattle.qcow2_session.specs.Opening.{MayRefuseToOpen, OpensAgain}
 
-pub refused_consistent : (contents : List ℕ) (missing : Missing) (e : ImageError) → IsConsistent (byte_at contents) → IsRefusedRightly contents true missing e → MayRefuseToOpen contents missing e
+pub refused_consistent : (contents : List ℕ) (missing : Missing) (e : ImageError) → IsConsistent (byte_at contents) → IsJustifiedRefusal contents true missing e → MayRefuseToOpen contents missing e
 refused_consistent contents missing I.Metadata is why = elim why [
   | inl formless ↦ absurd (formless is.header_reads.well_formed)
   | inr table ↦ elim table.1 [

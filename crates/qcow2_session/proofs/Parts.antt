@@ -1,4 +1,4 @@
--- If no check refuses a whole range, a part of it is refused only for causes that the work may meet.
+-- If no check refuses a whole range, a part of the range is refused only for causes that come during the work.
 use Rattle.std.proofs.Common.{◌≡◌, ◌+◌, ◌<◌, ◌≤◌, ◌∙◌, inl, inr, ℕ, Bool, true, false, not, IsTrue, List, Option, Some, None, refl, sym, ap, arith}
 use Rattle.std.specs.Prelude.{◌&&◌, nat_lt}
 use Rattle.std.specs.Option.{option_or}
@@ -13,7 +13,7 @@ use Rattle.qcow2_image.specs.Clearing.{IsUnderMapping}
 use Rattle.qcow2_image.specs.Image.{IsSameImage, is_external, is_failed, is_writable, number_of, size_of}
 use Rattle.qcow2_image.specs.Preallocation.{IsUnderMappingIn}
 use Rattle.qcow2_image.specs.Preparing.{IsTaken}
-use Rattle.qcow2_image.specs.Refusals.{IsMet, passes, refuse_if, refuses_mapping, refuses_to_prepare, refuses_to_read, unusable}
+use Rattle.qcow2_image.specs.Refusals.{MayFail, passes, refuse_if, refuses_mapping, refuses_to_prepare, refuses_to_read, unusable}
 use Rattle.qcow2_image.specs.declared.image.Qcow2.{Qcow2}
 use Rattle.qcow2_image.specs.declared.prepared.Prepared.{Prepared}
 use Rattle.qcow2_session.proofs.Beyond.{part_passes}
@@ -75,7 +75,7 @@ module _ {S F : Type 0} (old mid : Qcow2 S F) (same : IsSameImage old mid) where
 
   -- what a put of k of n bytes is refused for
   pub put_met : (number offset n k : ℕ) (e : ImageError) → number ≡ number_of old → is_failed mid ≡ is_failed old → (n ≡ 0 → k ≡ 0) → refuses_to_prepare old offset n ≡ None
-      → (refuses_mapping mid number ≡ None → IsTrue (is_writable mid) → IsMet e) → (refuses_mapping mid number ≡ None → k ≡ 0 → ⊥) → IsMet e
+      → (refuses_mapping mid number ≡ None → IsTrue (is_writable mid) → MayFail e) → (refuses_mapping mid number ≡ None → k ≡ 0 → ⊥) → MayFail e
   put_met number offset n k e own works none_of_none none late nothing =
       let whole = three_none (unusable old) (passes (size_of old) offset n) (nat_lt 0 n && not (is_writable old)) none in
       let usable = mapping_usable number own works whole.0 in

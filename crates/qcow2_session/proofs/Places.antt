@@ -1,4 +1,4 @@
--- Places of prepared mappings.
+-- Slots of prepared mappings.
 use Rattle.std.proofs.Common.{◌≡◌, ℕ, zero, suc, List, [], ◌∷◌, ◌++◌, refl, sym, ap, ◌∙◌, subst, Option, Some, None, length}
 use Rattle.std.specs.Prelude.{slice_get, slice_set, replicate}
 use Rattle.std.proofs.lemmas.List.{append-nil}
@@ -27,7 +27,7 @@ get_set_same (x ∷ xs) (suc k) a v e = get_set_same xs k a v e
 pub set_back : {X : Type 0} (xs : List X) (k : ℕ) (a b : X) → slice_get xs k ≡ Some b → slice_set (slice_set xs k a) k b ≡ xs
 set_back xs k a b e = set_twice xs k a b ∙ set_found xs k b e
 
--- what stood there, put back
+-- what was there, put back
 pub set_again : {X : Type 0} (xs : List X) (k : ℕ) (a b v : X) → slice_get xs k ≡ Some v → b ≡ v → slice_set (slice_set xs k a) k b ≡ xs
 set_again xs k a b v e same = set_back xs k a b (e ∙ ap Some (sym same))
 

@@ -1,4 +1,4 @@
--- Over any contents: an image that was opened for reading, and whose caches hold no modified table, is never written.
+-- An image that was opened for reading, and whose cached tables are unmodified, is never written, whatever it contains.
 use Rattle.std.proofs.Common.{◌≡◌, inl, inr, List, [], ◌∷◌, false, IsTrue, sym, ap, ◌∙◌, subst, Option}
 use Rattle.std.proofs.lemmas.Bool.{cases_Bool}
 use Rattle.image_access.specs.Backing.{BackingView}

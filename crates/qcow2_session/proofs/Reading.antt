@@ -1,4 +1,4 @@
--- A read into a buffer, and what is made of it.
+-- A read into a buffer, and the bytes that it returns.
 use Rattle.std.proofs.Common.{◌≡◌, ℕ, List, [], sym, subst}
 use Rattle.std.specs.Prelude.{Option, Result, Err}
 use Rattle.image_access.specs.Backing.{BackingView}

@@ -1,4 +1,4 @@
--- Why a range isn't written, of an image that may be read.
+-- Why a range of an image that may be read is not written.
 use Rattle.qcow2_alloc.specs.declared.error.ImageError.TheVariants as I
 use Rattle.std.proofs.Common.{◌≡◌, ◌⊎◌, ⊎_elim, inl, inr, ℕ, ◌+◌, ◌<◌, ◌≤◌, Bool, true, false, not, List, [], Option, Some, None, refl, sym, ap, ◌∙◌, subst, arith}
 use Rattle.std.specs.Prelude.{◌&&◌, nat_lt, IfSome, IsTrue, Result, Err}
@@ -13,18 +13,18 @@ use Rattle.qcow2_image.specs.Backings.{HasPinnedMapping}
 use Rattle.qcow2_image.specs.Calls.{refusal_of}
 use Rattle.qcow2_image.specs.Image.{IsSameImage, is_failed, is_writable, size_of}
 use Rattle.qcow2_image.specs.ImageInvariant.{abstract_of}
-use Rattle.qcow2_image.specs.MetAlone.{CopiesCompressed, IsMetReadingRange, MayFailAllocating}
+use Rattle.qcow2_image.specs.MayFail.{CopiesCompressed, MayFailReadingRange, MayFailAllocating}
 use Rattle.qcow2_image.specs.Preallocation.{IsUnderMappingIn}
-use Rattle.qcow2_image.specs.Refusals.{IsMet, IsMetPreparing, passes, refuse_if, refuses_to_prepare, refuses_to_read, unusable}
+use Rattle.qcow2_image.specs.Refusals.{MayFail, MayFailPreparing, passes, refuse_if, refuses_to_prepare, refuses_to_read, unusable}
 use Rattle.qcow2_image.specs.declared.image.Qcow2.{Qcow2}
 use Rattle.qcow2_image.specs.declared.prepared.Prepared.{Prepared}
-use Rattle.qcow2_session.specs.Conversions.{IsMetImporting, IsReasonNotToWrite}
+use Rattle.qcow2_session.specs.Conversions.{MayFailImporting, IsReasonNotToWrite}
 use Rattle.qcow2_disk.specs.Stops.{GivenBytes}
 use Rattle.qcow2_image.specs.Limits.{IsLimited}
 use Rattle.qcow2_session.specs.Sessions.{cluster_size_of}
 use Rattle.qcow2_session.proofs.Causing.{same_error, then_none}
 use Rattle.qcow2_session.proofs.Copied.{kept_cover, same_size}
-use Rattle.qcow2_session.proofs.MetOnSound.{compressed_within}
+use Rattle.qcow2_session.proofs.FailingOnSound.{compressed_within}
 use Rattle.qcow2_session.proofs.Parts.{not_failed_yet, part_reads, part_under}
 
 writing_left : (u : Option ImageError) (c t : Bool) → u ≡ None → c ≡ false → option_or u (option_or (refuse_if c I.BeyondSize) (refuse_if t I.ReadOnly)) ≡ refuse_if t I.ReadOnly
@@ -64,7 +64,7 @@ module _ {S F : Type 0} (view : S → StorageView) (backing : F → BackingView)
   pub reason_within : (from to first last : ℕ) → from ≤ first → last ≤ to → (out : List (Option Prepared)) (e : ImageError) → (((given : List GivenBytes) × IsLimited view backing given last mid out) → (given : List GivenBytes) × IsLimited view backing given to old out)
       → IsReasonNotToWrite view backing mid new first last out e → IsReasonNotToWrite view backing old new from to out e
   reason_within from to first last low high out e wider reason = ⊎_elim
-      (λ (met : IsMet e × (e ≡ I.Limit → (given : List GivenBytes) × IsLimited view backing given last mid out)). inl (met.0, λ is. wider (met.1 is)))
+      (λ (may_fail : MayFail e × (e ≡ I.Limit → (given : List GivenBytes) × IsLimited view backing given last mid out)). inl (may_fail.0, λ is. wider (may_fail.1 is)))
       (λ (rest : ((e ≡ I.ReadOnly) × (is_writable mid ≡ false)) ⊎ ((e ≡ I.TablePrepared) × IsUnderMappingIn mid.file.header.fields first last out)). ⊎_elim
       (λ (r : (e ≡ I.ReadOnly) × (is_writable mid ≡ false)). inr (inl (r.0, sym same.writable ∙ r.1)))
       (λ (t : (e ≡ I.TablePrepared) × IsUnderMappingIn mid.file.header.fields first last out). inr (inr (t.0, carried from to first last low high out t.1)))
@@ -74,19 +74,19 @@ module _ {S F : Type 0} (view : S → StorageView) (backing : F → BackingView)
   -- a write that was refused, of a range that may be read
   pub write_reason : (at n : ℕ) → is_failed mid ≡ false → refuses_to_read old at n ≡ None → (out : List (Option Prepared)) (e : ImageError) (k : ℕ) (X : Type 0)
       → IfSome (refuses_to_prepare mid at n) (λ x. (◌≡◌ {A = Result (Unit {0}) (ImageError × ℕ)} (Err (e, k)) (Err (x, 0))) × X)
-      → (refuses_to_prepare mid at n ≡ None → IsMetPreparing e × (0 < n)) → (refuses_to_prepare mid at n ≡ None → e ≡ I.TablePrepared → IsUnderMappingIn mid.file.header.fields at (at + n) out)
+      → (refuses_to_prepare mid at n ≡ None → MayFailPreparing e × (0 < n)) → (refuses_to_prepare mid at n ≡ None → e ≡ I.TablePrepared → IsUnderMappingIn mid.file.header.fields at (at + n) out)
       → (refuses_to_prepare mid at n ≡ None → e ≡ I.Limit → (given : List GivenBytes) × IsLimited view backing given (at + n) old out) → IsReasonNotToWrite view backing old new at (at + n) out e
   write_reason at n works none out e k X early late taken limit = ⊎_elim
       (λ (closed : (e ≡ I.ReadOnly) × (is_writable mid ≡ false)). inr (inl (closed.0, sym same.writable ∙ closed.1)))
       (λ (free : refuses_to_prepare mid at n ≡ None).
-      ⊎_elim (λ (met : IsMet e). inl (met, limit free)) (λ (t : e ≡ I.TablePrepared). inr (inr (t, carried at (at + n) at (at + n) (omega arith) (omega arith) out (taken free t)))) (late free).0)
+      ⊎_elim (λ (may_fail : MayFail e). inl (may_fail, limit free)) (λ (t : e ≡ I.TablePrepared). inr (inr (t, carried at (at + n) at (at + n) (omega arith) (omega arith) out (taken free t)))) (late free).0)
       (early_or_late old mid same at n works none e k X early)
 
--- ---- what an import of a sound image meets
+-- ---- why an import into a sound image is refused
 
 module _ {S F : Type 0} (view : S → StorageView) (new : Qcow2 S F) where
-  -- a part of a range meets what the range does
-  pub importing_within : (out : List (Option Prepared)) (from to first last : ℕ) (e : ImageError) → from ≤ first → last ≤ to → IsMetImporting view first last new out e → IsMetImporting view from to new out e
+  -- a part of a range is refused for the causes of the range
+  pub importing_within : (out : List (Option Prepared)) (from to first last : ℕ) (e : ImageError) → from ≤ first → last ≤ to → MayFailImporting view first last new out e → MayFailImporting view from to new out e
   importing_within out from to first last e low high (inl limit) = inl limit
   importing_within out from to first last e low high (inr (inl closed)) = inr (inl closed)
   importing_within out from to first last e low high (inr (inr (inl far))) = inr (inr (inl far))
@@ -98,7 +98,7 @@ module _ {S F : Type 0} (view : S → StorageView) (new : Qcow2 S F) where
 
   -- a read that was refused: what is compressed is so still
   pub read_importing : {A : Type 0} (backing : F → BackingView) (old : Qcow2 S F) (out : List (Option Prepared)) (from to : ℕ) (e : ImageError) → (abstract_of view backing old out).is_sound
-      → RefusedEffect (abstract_of view backing old out) (abstract_of view backing new out) [] [] (refusal_of e) A → IsMetReadingRange out from to old.file.header.fields (known_in view old.file) e → IsMetImporting view from to new out e
+      → RefusedEffect (abstract_of view backing old out) (abstract_of view backing new out) [] [] (refusal_of e) A → MayFailReadingRange out from to old.file.header.fields (known_in view old.file) e → MayFailImporting view from to new out e
   read_importing backing old out from to e sound refused (inl (inl fault)) = inl (inl fault)
   read_importing backing old out from to e sound refused (inl (inr used)) = inr (inr (inr (inr (inl used.0, used.1))))
   read_importing {A = A} backing old out from to e sound refused (inr compressed) =
@@ -114,13 +114,13 @@ module _ {S F : Type 0} (view : S → StorageView) (new : Qcow2 S F) where
   -- a write that was refused
   pub write_importing : {Far : Type 0} (out : List (Option Prepared)) (old mid : Qcow2 S F) → IsSameImage old mid → is_writable new ≡ is_writable mid → (at n : ℕ) → is_failed mid ≡ false → refuses_to_read old at n ≡ None → (e : ImageError) (k : ℕ) (X : Type 0)
       → IfSome (refuses_to_prepare mid at n) (λ x. (◌≡◌ {A = Result (Unit {0}) (ImageError × ℕ)} (Err (e, k)) (Err (x, 0))) × X)
-      → (refuses_to_prepare mid at n ≡ None → MayFailAllocating (HasPinnedMapping out) (IsUnderMappingIn mid.file.header.fields at (at + n) out) (CopiesCompressed at n true new.file.header.fields (known_in view new.file)) Far e) → IsMetImporting view at (at + n) new out e
-  write_importing {Far} out old mid same writable at n works none e k X early met = ⊎_elim
+      → (refuses_to_prepare mid at n ≡ None → MayFailAllocating (HasPinnedMapping out) (IsUnderMappingIn mid.file.header.fields at (at + n) out) (CopiesCompressed at n true new.file.header.fields (known_in view new.file)) Far e) → MayFailImporting view at (at + n) new out e
+  write_importing {Far} out old mid same writable at n works none e k X early may_fail = ⊎_elim
       (λ (closed : (e ≡ I.ReadOnly) × (is_writable mid ≡ false)). inr (inl (closed.0, writable ∙ closed.1)))
-      (λ (free : refuses_to_prepare mid at n ≡ None). met_writing (met free))
+      (λ (free : refuses_to_prepare mid at n ≡ None). met_writing (may_fail free))
       (early_or_late old mid same at n works none e k X early)
     where
-      met_writing : MayFailAllocating (HasPinnedMapping out) (IsUnderMappingIn mid.file.header.fields at (at + n) out) (CopiesCompressed at n true new.file.header.fields (known_in view new.file)) Far e → IsMetImporting view at (at + n) new out e
+      met_writing : MayFailAllocating (HasPinnedMapping out) (IsUnderMappingIn mid.file.header.fields at (at + n) out) (CopiesCompressed at n true new.file.header.fields (known_in view new.file)) Far e → MayFailImporting view at (at + n) new out e
       met_writing (inl (inl limit)) = inl limit
       met_writing (inl (inr (inl compressed))) = let c = compressed.1 in inr (inr (inr (inl (compressed.0, record { guest = c.guest; touched = c.touched; is = c.is }))))
       met_writing (inl (inr (inr far))) = inr (inr (inl far.0))

@@ -1,4 +1,4 @@
--- A disk of another size is one step of a run.
+-- A resize is one step of a run.
 use Rattle.std.proofs.Common.{◌≡◌, ◌⊎◌, ◌∷◌, [], inl, inr, refl, sym, ap, subst, ℕ, ◌-◌, ◌<◌, ◌≤◌, cond, Bool, true, false, List, Option, Some, None, arith}
 use Rattle.std.specs.Prelude.{Result, Ok, Err, IfSome, ◌==◌, not}
 use Rattle.std.specs.Option.{option_or}
@@ -29,14 +29,14 @@ use Rattle.qcow2_image.specs.ImageInvariant.{ImageInvariant, abstract_of, pendin
 use Rattle.qcow2_image.specs.Refusals.{refuse_if}
 use Rattle.qcow2_image.specs.Resizing.{GrowsTo, Shrinks, WritesSizeLast, refuses_to_resize}
 use Rattle.qcow2_image.proofs.Clear.Touched.{rounded_from}
-use Rattle.qcow2_image.proofs.HiddenBytes.{header_is}
-use Rattle.qcow2_image.proofs.Sizes.{disk_size}
-use Rattle.qcow2_image.proofs.Sizing.Tails.{given_as, given_is}
+use Rattle.qcow2_image.proofs.Images.HiddenBytes.{header_is}
+use Rattle.qcow2_image.proofs.Images.Sizes.{disk_size}
+use Rattle.qcow2_image.proofs.Resize.TailSteps.{given_as, given_is}
 use Rattle.qcow2_session.proofs.Answering.{error_is, first_of_all, not_both}
 use Rattle.qcow2_disk.proofs.Compose.{TouchesLess}
-use Rattle.qcow2_image.proofs.UngivenCovers.{touches_less}
+use Rattle.qcow2_image.proofs.Images.UngivenCovers.{touches_less}
 
--- ---- what an answered shrink uncovered is a part of what it might uncover
+-- ---- what a successful shrink unmapped is a part of what it might unmap
 
 ends_within : (cluster_size old size answer : ℕ) → size < old → IsShrinkEnd cluster_size old size answer → answer ≤ old
 ends_within cluster_size old size answer smaller (inl last) = omega (arith, last)
@@ -100,11 +100,11 @@ module _ {S F : Type 0} (view : S → StorageView) (backing : F → BackingView)
   abbrev IsLast : Type 0
   IsLast = (out : List (Option Prepared)) → (abstract_of view backing old out).is_sound → WritesSizeLast view backing old new
 
-  -- what stands for guest clusters where a larger size is answered
+  -- the mappings of guest clusters if a growth succeeds
   abbrev IsFilledBehind : PreallocateMode → Type 0
   IsFilledBehind mode = GrownCovers mode (size_of old) size old.file.header.fields (known_in view old.file) new.file.header.fields (known_in view new.file)
 
-  -- where a call has nothing to do, it meets no fault
+  -- a call that has nothing to do has no fault
   has_work : {A : Type 0} (e : ImageError) (answer : A) → IsEarly {A = A} (Err e) → IsRefusalByFault (refusal_of e) → (refuses_to_resize old ≡ None → (refusal A e ≡ Ok answer) × (new ≡ old)) → ⊥
   has_work {A = A} e answer early fault nothing =
       let no : refusal A e ≡ Ok answer = (nothing (not_early A (new ≡ old) (is_failed old) (is_external old) (not (is_writable old)) e early fault)).0 in

@@ -1,4 +1,4 @@
--- A run of commands on an image with as many free places as there are slots.
+-- A run of commands on an image with as many empty places as there are slots.
 use Rattle.std.proofs.Common.{◌≡◌, ℕ, zero, suc, ◌+◌, List, [], ◌∷◌, ◌++◌, false, refl, sym, ap, ◌∙◌, subst, Option, None, take, map}
 use Rattle.std.specs.Prelude.{replicate}
 use Rattle.std.proofs.lemmas.List.{map-append}
@@ -37,7 +37,7 @@ none_mapped (suc n) zero = refl
 none_mapped (suc n) (suc k) = none_mapped n k
 
 module _ {D P : Type 0} (spec : Abstraction D P) where
-  -- an image stands where it stood, with free places
+  -- an image is at the same point of the run, with empty slots
   pub free_stands : HasFreePlaces spec → (d : D) (n : ℕ) (x : Setting) (s : State) → RefinesState x (abstract_image spec d []) s → RefinesState x (abstract_image spec d (replicate n None)) (begun s)
   free_stands has d n x s stands = record {
     setting = stands.setting;

@@ -8,11 +8,11 @@ use Rattle.qcow2_disk.specs.Runs.{IsRightlySpecial}
 use Rattle.qcow2_alloc.specs.declared.error.ImageError.{ImageError}
 use Rattle.qcow2_alloc.specs.declared.error.ImageError.TheVariants as I
 use Rattle.qcow2_image.specs.Calls.{refusal_of}
-use Rattle.qcow2_image.specs.Refusals.{IsMet}
-use Rattle.qcow2_image.specs.SpecialReads.{TellsCompressed, TellsWhether}
-use Rattle.qcow2_session.specs.Commands.{TellsPlain, TellsSpecial}
+use Rattle.qcow2_image.specs.Refusals.{MayFail}
+use Rattle.qcow2_image.specs.SpecialReads.{ReportsCompressed, ReportsWhether}
+use Rattle.qcow2_session.specs.Commands.{ReportsPlain, ReportsSpecial}
 
--- What is told where a special read is refused: nothing, unless it is as compressed or as not compressed.
+-- What a refused special read reports: nothing, unless it is refused as compressed or as not compressed.
 pub refused_specially : (known : Bytes) (offset n : ℕ) (e : ImageError) → (e ≡ I.Compressed → (0 < n) × IsCompressedAt known offset) → ((at : ℕ) → e ≡ I.NotCompressed at → IsRightlySpecial known offset n (not_compressed at)) → IsRightlySpecial known offset n (refusal_of e)
 refused_specially known offset n I.ReadOnly is not = λ no. absurd cc
 refused_specially known offset n I.BeyondSize is not = λ no. absurd cc
@@ -55,28 +55,28 @@ own_offset offset zero (Ok (Some at)) some none = absurd (let no : Ok (Some at) 
 own_offset offset (suc n) (Ok None) some none = absurd (let no : None ≡ Some offset = some (omega arith) in cc)
 own_offset offset (suc n) (Ok (Some at)) some none = let same : Some at ≡ Some offset = some (omega arith) in cc
 
--- what an image's call tells is told
-pub told_specially : (known : Bytes) (offset n : ℕ) (r : Result (Unit {0}) ImageError) → (0 < n → IsErr r) → (n ≡ 0 → r ≡ Ok tt) → IfErr r (λ e. IsMet e ⊎ (e ≡ I.NotCompressed offset)) → (0 < n → IfErr r (TellsCompressed known offset)) → TellsSpecial known offset n r
-told_specially known offset n (Ok _) some none met tells = done_empty n (Ok tt) some
-told_specially known offset n (Err e) fails none met tells =
+-- what an image's call reports is reported
+pub told_specially : (known : Bytes) (offset n : ℕ) (r : Result (Unit {0}) ImageError) → (0 < n → IsErr r) → (n ≡ 0 → r ≡ Ok tt) → IfErr r (λ e. MayFail e ⊎ (e ≡ I.NotCompressed offset)) → (0 < n → IfErr r (ReportsCompressed known offset)) → ReportsSpecial known offset n r
+told_specially known offset n (Ok _) some none may_fail reports = done_empty n (Ok tt) some
+told_specially known offset n (Err e) fails none may_fail reports =
     let some = some_bytes n e (Err e) tt refl none in
-    refused_specially known offset n e (λ is. (some, (tells some).0 is)) (λ at is. plain at is met)
+    refused_specially known offset n e (λ is. (some, (reports some).0 is)) (λ at is. plain at is may_fail)
   where
-    plain : (at : ℕ) → e ≡ I.NotCompressed at → IsMet e ⊎ (e ≡ I.NotCompressed offset) → IsRightlySpecial known offset n (not_compressed at)
-    plain at is (inl met) = absurd (subst IsMet is met)
+    plain : (at : ℕ) → e ≡ I.NotCompressed at → MayFail e ⊎ (e ≡ I.NotCompressed offset) → IsRightlySpecial known offset n (not_compressed at)
+    plain at is (inl may_fail) = absurd (subst MayFail is may_fail)
     plain at is (inr own) =
         let same : I.NotCompressed at ≡ I.NotCompressed offset = sym is ∙ own in
         let here : at ≡ offset = cc in
         let some = some_bytes n e (Err e) tt refl none in
-        (some, here, (tells some).1 own)
+        (some, here, (reports some).1 own)
 
 some_plain : (n at : ℕ) (r : Result (Option ℕ) ImageError) → r ≡ Ok (Some at) → (n ≡ 0 → r ≡ Ok None) → 0 < n
 some_plain zero at r is none = absurd (let no : Ok (Some at) ≡ Ok None = sym is ∙ none refl in let inner : Some at ≡ None = cc in cc)
 some_plain (suc n) at r is none = omega arith
 
-pub told_plainly : (known : Bytes) (offset n : ℕ) (r : Result (Option ℕ) ImageError) → (0 < n → IfOk r (λ at. at ≡ Some offset)) → (n ≡ 0 → r ≡ Ok None) → IfErr r IsMet → (0 < n → TellsWhether known offset r) → TellsPlain known offset n r
-told_plainly known offset n (Ok None) own none met tells = own_offset offset n (Ok None) own none
-told_plainly known offset n (Ok (Some at)) own none met tells = let some = some_plain n at (Ok (Some at)) refl none in (some, own_offset offset n (Ok (Some at)) own none, tells some)
-told_plainly known offset n (Err e) own none met tells =
+pub told_plainly : (known : Bytes) (offset n : ℕ) (r : Result (Option ℕ) ImageError) → (0 < n → IfOk r (λ at. at ≡ Some offset)) → (n ≡ 0 → r ≡ Ok None) → IfErr r MayFail → (0 < n → ReportsWhether known offset r) → ReportsPlain known offset n r
+told_plainly known offset n (Ok None) own none may_fail reports = own_offset offset n (Ok None) own none
+told_plainly known offset n (Ok (Some at)) own none may_fail reports = let some = some_plain n at (Ok (Some at)) refl none in (some, own_offset offset n (Ok (Some at)) own none, reports some)
+told_plainly known offset n (Err e) own none may_fail reports =
     let some = some_bytes n e (Err e) None refl none in
-    refused_specially known offset n e (λ is. (some, tells some is)) (λ at is. absurd (subst IsMet is met))
+    refused_specially known offset n e (λ is. (some, reports some is)) (λ at is. absurd (subst MayFail is may_fail))

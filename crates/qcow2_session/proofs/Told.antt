@@ -1,4 +1,4 @@
--- What a run tells of its image, one command after the other.
+-- What a run reports about its image, one command after another.
 use Rattle.std.proofs.Common.{◌≡◌, ℕ, map, List, [], ◌∷◌, ◌++◌, false, refl, sym, ap, ◌∙◌, subst, Option, Some, None}
 use mathlib.Core.Path.{fun_ext}
 use Rattle.std.specs.Prelude.{replicate, IfSome, Ok, Err}
@@ -11,7 +11,7 @@ use Rattle.qcow2_image.specs.declared.mapping.Mapping.{Mapping}
 use Rattle.qcow2_image.specs.declared.prepared.Prepared.{Prepared}
 use Rattle.qcow2_image.specs.Image.{IsSameImage, is_external, is_writable, number_of}
 use Rattle.qcow2_image.specs.ImageInvariant.{abstract_of, image_abstraction}
-use Rattle.qcow2_image.proofs.Free.{free_places}
+use Rattle.qcow2_image.proofs.Images.Free.{free_places}
 use Rattle.qcow2_session.specs.Commands.{command_of, reply_of}
 use Rattle.qcow2_session.specs.Sessions.{mappings_in, range_of}
 use Rattle.qcow2_session.specs.Told.{AreReportedAlong, IsReportedStep, KeepsItself, RunPoint, StepsAlong, abstract_at, first_point, free_slots}
@@ -71,14 +71,14 @@ module _ {S F : Type 0} (view : S → StorageView) (backing : F → BackingView)
   steps_push x first s (c ∷ commands) [] points last t command reply next along steps step = absurd along
   steps_push x first s (c ∷ commands) (r ∷ replies) [] last t command reply next along steps step = absurd along
 
-  -- the steps so far, and the place of the run at which the last point stands
+  -- the steps so far, and the state of the run at the last point
   pub record StepsSoFar (x : Setting) (first last : RunPoint S F) (s : State) (commands : List Command) (replies : List Reply) (points : List (RunPoint S F)) : Type 0 where
     pub end : State
     pub steps : StepsAlong view backing x first s commands replies points end
     pub stands : RefinesState x (abstract_at view backing last) end
     pub found : end.is_failed ≡ false → (k : ℕ) → end.found k ≡ range_of (last.found k)
 
-  -- what was told so far
+  -- what was reported so far
   pub record IsToldSoFar (old : Qcow2 S F) (last : RunPoint S F) (commands : List Command) (replies : List Reply) : Type 0 where
     pub points : List (RunPoint S F)
     pub along : AreReportedAlong view backing (first_point old) commands replies points last

@@ -15,9 +15,9 @@ refused_is (Err x) e is = ap Err is.1
 
 -- what isn't refused of nothing is refused of some alone
 pub refused_some : {A E : Type 0} (P : E → Type 0) (n : ℕ) (r : Result A E) (a : A) → IfErr r P → (n ≡ 0 → r ≡ Ok a) → IfErr r (λ e. P e × (0 < n))
-refused_some P n (Ok b) a met done = tt
-refused_some P zero (Err e) a met done = absurd (let no : Err e ≡ Ok a = done refl in cc)
-refused_some P (suc n) (Err e) a met done = (met, omega arith)
+refused_some P n (Ok b) a may_fail done = tt
+refused_some P zero (Err e) a may_fail done = absurd (let no : Err e ≡ Ok a = done refl in cc)
+refused_some P (suc n) (Err e) a may_fail done = (may_fail, omega arith)
 
 -- where a call that begins another one was answered, the other one had nothing to refuse before any work
 pub nothing_refused : {A E : Type 0} (S : Type 0) (X : E → Type 0) (o : Option E) (r : Result A E) (a : A) → IfSome o (λ x. (r ≡ Err x) × S) → r ≡ Ok a → IfSome o X

@@ -1,4 +1,4 @@
--- What was prepared lies in no L2 table that another mapping needs as it is, unless it is existing.
+-- A prepared range lies in no L2 table that another mapping pins, unless it is existing.
 use Rattle.std.proofs.Common.{◌≡◌, ◌+◌, ◌*◌, ◌/◌, ◌%◌, ◌<◌, ◌∙◌, ◌∷◌, inl, inr, ℕ, suc, false, true, List, Option, Some, None, refl, sym, ap, subst, arith}
 use Rattle.std.specs.Prelude.{IsNone, IsSome, slice_get, slice_set}
 use Rattle.std.proofs.lemmas.Bool.{cases_lt}
@@ -16,7 +16,7 @@ use Rattle.qcow2_image.specs.ImageInvariant.{IsPending, IsReadyWith, abstract_of
 use Rattle.qcow2_image.specs.Preparing.{IsAnswered, IsTaken}
 use Rattle.qcow2_image.specs.declared.image.Qcow2.{Qcow2}
 use Rattle.qcow2_image.specs.declared.prepared.Prepared.{Prepared}
-use Rattle.qcow2_image.proofs.Apart.{pins_own}
+use Rattle.qcow2_image.proofs.Images.Apart.{pins_own}
 use Rattle.qcow2_image.proofs.Call.Slots.{get_set_other, get_set_same, over_all_two}
 
 pub row_as : (h h' : HeaderFields) → cluster_size h' ≡ cluster_size h → (o : ℕ) → l1_index_of h' o ≡ l1_index_of h o
@@ -63,7 +63,7 @@ module _ {S F : Type 0} (view : S → StorageView) (backing : F → BackingView)
     | inr none ↦ taken.never 0 (omega (arith, none), λ i lt. absurd (omega (arith, none, lt)))
   ]
 
--- what is taken is so beside an empty slot in front
+-- an empty slot in front makes no difference to a pinned table
 taken_beside : {h : HeaderFields} {known : Bytes} {offset n : ℕ} {out : List (Option Prepared)} → IsTaken h known offset n out → IsTaken h known offset n (None ∷ out)
 taken_beside taken = record { place = suc taken.place; other = taken.other; is_out = taken.is_out; keeps_table = taken.keeps_table; same_table = taken.same_table; never = taken.never }
 

@@ -1,4 +1,4 @@
--- A session's write goes on by one chunk, or is refused.
+-- A write continues by one part, or is refused.
 use Rattle.std.proofs.Common.{◌≡◌, ⊎_elim, inl, inr, ℕ, ◌+◌, ◌%◌, ◌<◌, ◌≤◌, min, subst, List, [], ◌∷◌, take, drop, length, sym, ap, ◌∙◌, arith}
 use Rattle.std.proofs.Math.Seq.{take-add}
 use Rattle.std.proofs.lemmas.Grind.{common_steps}
@@ -11,7 +11,7 @@ use Rattle.qcow2_image.specs.declared.image.Qcow2.{Qcow2}
 use Rattle.qcow2_session.specs.Sessions.{cluster_size_of, EndsCluster}
 use Rattle.qcow2_session.proofs.Bytes.{no_bytes, with_both, part_within, rest_long, rest_part}
 use Rattle.qcow2_session.proofs.Turns.{IsWithin, does_if, refuses_if, does_then, refuses_then}
-use Rattle.qcow2_image.proofs.UngivenCovers.{touches_part}
+use Rattle.qcow2_image.proofs.Images.UngivenCovers.{touches_part}
 
 -- a cluster ends where it ends of the image as it was
 pub ends_on : {S F : Type 0} (old mid : Qcow2 S F) → cluster_size_of mid ≡ cluster_size_of old → (offset done count at : ℕ) → at ≡ offset + done → EndsCluster mid (at + count) → EndsCluster old (offset + (done + count))

@@ -12,7 +12,7 @@ use Rattle.qcow2_disk.specs.AbstractImages.{AbstractImage, Guest, guest_of}
 use Rattle.qcow2_disk.specs.Calls.{AnsweredEffect, with_disk}
 use Rattle.qcow2_image.specs.ListedClusters.{ListsNoMore}
 use Rattle.qcow2_image.specs.declared.image.Qcow2.{Qcow2}
-use Rattle.qcow2_image.proofs.UngivenCovers.{touches_part}
+use Rattle.qcow2_image.proofs.Images.UngivenCovers.{touches_part}
 use Rattle.qcow2_session.specs.Sessions.{StopsFor, Writes}
 use Rattle.qcow2_session.proofs.Bytes.{cut_part, cut_short, no_bytes, part_within, rest_part}
 use Rattle.qcow2_session.proofs.Converting.{does_nothing}
@@ -62,7 +62,7 @@ writes_none v offset bytes =
     does_if (λ same. sym (ap (λ (d : Disk). with_disk (guest_of v) d) none)) (does_less (none_within v (given_of offset (take 0 bytes) ∷ [])) (does_nothing v))
 
 -- ---- where a write is refused
--- a part behind others isn't the first
+-- a part after others isn't the first
 pub never_first : {X : Type 0} (done : ℕ) → 0 < done → done ≡ 0 → X
 never_first done later first = absurd (omega (arith, later, first))
 
@@ -70,7 +70,7 @@ module _ {S F : Type 0} (view : S → StorageView) (backing : F → BackingView)
   rest_is : (done : ℕ) → length (drop done bytes) ≡ length bytes - done
   rest_is done = grind (arith, common_steps)
 
-  -- behind the parts that were answered
+  -- after the parts that were answered
   pub stops_behind : (done at : ℕ) (before : Qcow2 S F) → at ≡ offset + done → Writes view backing old before offset (take done bytes) (Ok tt) → (done ≡ 0 → before ≡ old) → cause at (length (drop done bytes)) before → StopsFor view backing old cause offset bytes done
   stops_behind done at before there written begun refused = record {
     before = before;

@@ -1,4 +1,4 @@
--- Why the commands of a run are refused: checks before any work, in their order, and causes that the work meets.
+-- Why the commands of a run are refused: checks before any work, in their order, and causes that come during the work.
 use Rattle.qcow2_alloc.specs.declared.error.ImageError.TheVariants as I
 use Rattle.qcow2_session.specs.declared.session.Command.TheVariants as C
 use Rattle.qcow2_session.specs.declared.session.Reply.TheVariants as R
@@ -19,11 +19,11 @@ use Rattle.qcow2_image.specs.Image.{is_failed, is_writable, size_of}
 use Rattle.qcow2_image.specs.ImageInvariant.{abstract_of}
 use Rattle.qcow2_image.specs.Invalidated.{IsOfPrepared, IsStillInUse}
 use Rattle.qcow2_image.specs.L1Entries.{NeedsOverflowingL1Entry}
-use Rattle.qcow2_image.specs.MetAlone.{CopiesCompressed, IsCacheHeld, IsMetLooking, IsMetMapped, IsMetPutting, IsMetReadingRange, IsMetSpecial, IsMetGrowing, MayFailAllocating}
+use Rattle.qcow2_image.specs.MayFail.{CopiesCompressed, IsCacheHeld, MayFailLooking, MayFailMapped, MayFailPutting, MayFailReadingRange, MayFailSpecial, MayFailGrowing, MayFailAllocating}
 use Rattle.qcow2_image.specs.Preallocation.{IsUnderMappingIn}
 use Rattle.qcow2_image.specs.Prepared.{length_of, table_of}
 use Rattle.qcow2_image.specs.Preparing.{IsTaken}
-use Rattle.qcow2_image.specs.Refusals.{IsMet, IsMetPreparing, refuse_if, refuses_to_prepare, refuses_to_read, unusable}
+use Rattle.qcow2_image.specs.Refusals.{MayFail, MayFailPreparing, refuse_if, refuses_to_prepare, refuses_to_read, unusable}
 use Rattle.qcow2_image.specs.Resizing.{boundary_in, refuses_to_resize, takes_over}
 use Rattle.qcow2_image.specs.declared.image.Qcow2.{Qcow2}
 use Rattle.qcow2_image.specs.declared.mapping.Mapping.{Mapping}
@@ -82,48 +82,48 @@ IsMisused before found (C.DiscardDataMapping slot) = slice_get before slot ≡ S
 IsMisused before found command = ⊥
 
 -- The reply is `Misuse` exactly for a misuse.
-abbrev pub TellsMisuse : List (Option Prepared) → (found : ℕ → Option Mapping) → Command → Reply → Type 0
-TellsMisuse before found command reply = (reply ≡ R.Misuse) ↔ IsMisused before found command
+abbrev pub ReportsMisuse : List (Option Prepared) → (found : ℕ → Option Mapping) → Command → Reply → Type 0
+ReportsMisuse before found command reply = (reply ≡ R.Misuse) ↔ IsMisused before found command
 
 -- ---- during the work
 
 -- The refusals of a command that no check refused.
 abbrev pub MayFailWith : Command → ImageError → Type 0
-MayFailWith (C.Write offset bytes) e = IsMetPreparing e
+MayFailWith (C.Write offset bytes) e = MayFailPreparing e
 MayFailWith (C.GetMapping slot offset max) e = IsOfTables e
-MayFailWith (C.PrepareDataMapping slot offset n overwrite) e = IsMetPreparing e
+MayFailWith (C.PrepareDataMapping slot offset n overwrite) e = MayFailPreparing e
 MayFailWith (C.CommitDataMapping slot) e = IsOfTables e
 MayFailWith (C.DiscardDataMapping slot) e = ⊥
-MayFailWith (C.EnsureZeroMapping offset n) e = IsMetPreparing e
-MayFailWith (C.DiscardToZero offset n) e = IsMetPreparing e
-MayFailWith (C.DiscardToAny offset n) e = IsMetPreparing e
-MayFailWith (C.DiscardToBacking offset n) e = IsMetPreparing e
-MayFailWith (C.ReadvSpecial offset n) e = IsMet e ⊎ (e ≡ I.NotCompressed offset)
+MayFailWith (C.EnsureZeroMapping offset n) e = MayFailPreparing e
+MayFailWith (C.DiscardToZero offset n) e = MayFailPreparing e
+MayFailWith (C.DiscardToAny offset n) e = MayFailPreparing e
+MayFailWith (C.DiscardToBacking offset n) e = MayFailPreparing e
+MayFailWith (C.ReadvSpecial offset n) e = MayFail e ⊎ (e ≡ I.NotCompressed offset)
 MayFailWith C.Flush e = IsOfTables e
 MayFailWith C.Sync e = IsFault e
-MayFailWith (C.ResizeGrow size mode) e = IsMetPreparing e
+MayFailWith (C.ResizeGrow size mode) e = MayFailPreparing e
 MayFailWith (C.ResizeShrink size) e = IsFault e ⊎ (e ≡ I.MappingPrepared)
 MayFailWith C.Size e = ⊥
 MayFailWith C.Leaked e = ⊥
-MayFailWith command e = IsMet e
+MayFailWith command e = MayFail e
 
 module _ {S F : Type 0} (view : S → StorageView) (old new : Qcow2 S F) (before : List (Option Prepared)) where
   -- Why clearing a range of a sound image is refused: a fault; a limit; 20; 8, if a mapping is pinned; or 9, if one is pinned in the L2 table of the first offset.
-  abbrev pub MeetsClearing : (offset n : ℕ) → ImageError → Type 0
-  MeetsClearing offset n e = MayFailAllocating (HasPinnedMapping before) (IsUnderMapping old.file.header.fields (from_in old offset n) before) ⊥ (NeedsOverflowingL1Entry old (from_in old offset n)) e
+  abbrev pub ClearingMayFail : (offset n : ℕ) → ImageError → Type 0
+  ClearingMayFail offset n e = MayFailAllocating (HasPinnedMapping before) (IsUnderMapping old.file.header.fields (from_in old offset n) before) ⊥ (NeedsOverflowingL1Entry old (from_in old offset n)) e
 
   -- Why a command that allocates clusters of a sound image is refused during the work. For a write, a compressed cluster is one at the moment of the refusal.
-  abbrev pub MeetsTaking : Command → ImageError → Type 0
-  MeetsTaking (C.Write offset bytes) e =
+  abbrev pub CommandMayFailAllocating : Command → ImageError → Type 0
+  CommandMayFailAllocating (C.Write offset bytes) e =
       MayFailAllocating (HasPinnedMapping before) (IsUnderMappingIn old.file.header.fields offset (offset + length bytes.items) before) (CopiesCompressed offset (length bytes.items) true new.file.header.fields (known_in view new.file)) (Unit {0}) e
-  MeetsTaking (C.PrepareDataMapping slot offset n overwrite) e =
+  CommandMayFailAllocating (C.PrepareDataMapping slot offset n overwrite) e =
       MayFailAllocating (HasPinnedMapping before) (IsTaken old.file.header.fields (known_in view old.file) offset n before) (CopiesCompressed offset n overwrite old.file.header.fields (known_in view old.file)) (NeedsOverflowingL1Entry old offset) e
-  MeetsTaking (C.EnsureZeroMapping offset n) e = MeetsClearing offset n e
-  MeetsTaking (C.DiscardToZero offset n) e = MeetsClearing offset n e
-  MeetsTaking (C.DiscardToAny offset n) e = MeetsClearing offset n e
-  MeetsTaking (C.DiscardToBacking offset n) e = MeetsClearing offset n e
-  MeetsTaking (C.ResizeGrow size mode) e = IsMetGrowing before mode (size_of old) (rounded_up (cluster_size old.file.header.fields) size) old.file.header.fields (known_in view old.file) e
-  MeetsTaking command e = Unit {0}
+  CommandMayFailAllocating (C.EnsureZeroMapping offset n) e = ClearingMayFail offset n e
+  CommandMayFailAllocating (C.DiscardToZero offset n) e = ClearingMayFail offset n e
+  CommandMayFailAllocating (C.DiscardToAny offset n) e = ClearingMayFail offset n e
+  CommandMayFailAllocating (C.DiscardToBacking offset n) e = ClearingMayFail offset n e
+  CommandMayFailAllocating (C.ResizeGrow size mode) e = MayFailGrowing before mode (size_of old) (rounded_up (cluster_size old.file.header.fields) size) old.file.header.fields (known_in view old.file) e
+  CommandMayFailAllocating command e = Unit {0}
 
 module _ {S F : Type 0} (view : S → StorageView) (backing : F → BackingView) (old new : Qcow2 S F) (before : List (Option Prepared)) where
   -- The command has nothing to do.
@@ -170,20 +170,20 @@ module _ {S F : Type 0} (view : S → StorageView) (backing : F → BackingView)
   ReadsLookedUp found slot at n reply = refusal_in reply ≡ Some I.OutdatedMapping → (m : Mapping) × (found slot ≡ Some m) × (¬ IsFoundWhole view old (m.offset + at) (further_by at m.kind) n)
 
   -- Why reading a range that was looked up is refused, and why putting bytes into a mapping is.
-  abbrev pub IsMetLookedUp : (found : ℕ → Option Mapping) → (slot at n : ℕ) → ImageError → Type 0
-  IsMetLookedUp found slot at n e = (m : Mapping) × (found slot ≡ Some m) × IsMetMapped (IsCacheHeld old before) (further_by at m.kind) (IsFoundWhole view old (m.offset + at) (further_by at m.kind) n) e
+  abbrev pub MayFailLookedUp : (found : ℕ → Option Mapping) → (slot at n : ℕ) → ImageError → Type 0
+  MayFailLookedUp found slot at n e = (m : Mapping) × (found slot ≡ Some m) × MayFailMapped (IsCacheHeld old before) (further_by at m.kind) (IsFoundWhole view old (m.offset + at) (further_by at m.kind) n) e
 
-  abbrev pub IsMetPuttingAt : (slot at : ℕ) → ImageError → Type 0
-  IsMetPuttingAt slot at e = (p : Prepared) × (slice_get before slot ≡ Some (Some p)) × IsMetPutting (IsCacheHeld old before) p at e
+  abbrev pub MayFailPuttingAt : (slot at : ℕ) → ImageError → Type 0
+  MayFailPuttingAt slot at e = (p : Prepared) × (slice_get before slot ≡ Some (Some p)) × MayFailPutting (IsCacheHeld old before) p at e
 
-  -- A write is refused 13 only if it passed a limit, and 20 only if the rest of its range, behind the bytes that were written, has that cause. Each of its parts respects the prepared mappings.
+  -- A write is refused 13 only if it passed a limit, and 20 only if the rest of its range, after the bytes that were written, has that cause. Each of its parts respects the prepared mappings.
   abbrev pub StopsRightly : (offset : ℕ) → List ℕ → Reply → Type 0
   StopsRightly offset bytes (R.WriteRefused e n) = (e ≡ I.Limit → IsLimited view backing (given_of offset bytes ∷ []) (offset + length bytes) old before) × RespectsMappings view backing old before offset bytes (Err (e, n)) × (e ≡ I.Overflow → NeedsOverflowingToWrite view backing old offset bytes n)
   StopsRightly offset bytes R.Done = RespectsMappings view backing old before offset bytes (Ok tt)
   StopsRightly offset bytes reply = Unit {0}
 
   -- While a mapping that isn't existing is prepared, an invalidation is refused 21, or 14 if there is no memory for the list of pinned tables. Otherwise it is refused only for a fault.
-  pub record HeedsInUse (reply : Reply) : Type 0 where
+  pub record RespectsInUse (reply : Reply) : Type 0 where
     pub some : HasPinnedMapping before → IsSomeAnd (refusal_in reply) IsOfPrepared
     pub none : ¬ HasPinnedMapping before → IfSome (refusal_in reply) IsFault
     pub told : IfSome (refusal_in reply) (λ e. IsStillInUse e → HasPinnedMapping before)
@@ -191,21 +191,21 @@ module _ {S F : Type 0} (view : S → StorageView) (backing : F → BackingView)
   -- What prepared mappings refuse: ranges of a pinned L2 table (9), a shrink (17) and an invalidation (21), and nothing else. Putting, and reading what was looked up, is refused 10 only if the mapping is outdated. Commits and flushes are refused only by a fault.
   -- Reads, lookups and puts are refused by a fault, or for a cause in the image or in its prepared mappings.
   abbrev pub MayFailOnSound : (found : ℕ → Option Mapping) → Command → Reply → Type 0
-  MayFailOnSound found (C.Read offset n) reply = IfSome (refusal_in reply) (IsMetReadingRange before offset (offset + n) old.file.header.fields (known_in view old.file))
+  MayFailOnSound found (C.Read offset n) reply = IfSome (refusal_in reply) (MayFailReadingRange before offset (offset + n) old.file.header.fields (known_in view old.file))
   MayFailOnSound found (C.Write offset bytes) reply = (refusal_in reply ≡ Some I.TablePrepared → IsUnderMappingIn old.file.header.fields offset (offset + length bytes.items) before) × StopsRightly offset bytes.items reply
   MayFailOnSound found (C.PrepareDataMapping slot offset n overwrite) reply = IsUntakenIn offset n reply
-  MayFailOnSound found (C.GetMapping slot offset max) reply = IfSome (refusal_in reply) (IsMetLooking (IsCacheHeld old before))
-  MayFailOnSound found (C.ReadMapped slot at n) reply = ReadsLookedUp found slot at n reply × IfSome (refusal_in reply) (IsMetLookedUp found slot at n)
-  MayFailOnSound found (C.WriteMapped slot at bytes) reply = (refusal_in reply ≡ Some I.OutdatedMapping → IsOutdatedAt slot at (length bytes.items)) × IfSome (refusal_in reply) (IsMetPuttingAt slot at)
+  MayFailOnSound found (C.GetMapping slot offset max) reply = IfSome (refusal_in reply) (MayFailLooking (IsCacheHeld old before))
+  MayFailOnSound found (C.ReadMapped slot at n) reply = ReadsLookedUp found slot at n reply × IfSome (refusal_in reply) (MayFailLookedUp found slot at n)
+  MayFailOnSound found (C.WriteMapped slot at bytes) reply = (refusal_in reply ≡ Some I.OutdatedMapping → IsOutdatedAt slot at (length bytes.items)) × IfSome (refusal_in reply) (MayFailPuttingAt slot at)
   MayFailOnSound found (C.CommitDataMapping slot) reply = IfSome (refusal_in reply) IsFault
-  MayFailOnSound found C.InvalidateCache reply = HeedsInUse reply
+  MayFailOnSound found C.InvalidateCache reply = RespectsInUse reply
   MayFailOnSound found C.Flush reply = IfSome (refusal_in reply) IsFault
   MayFailOnSound found (C.EnsureZeroMapping offset n) reply = IsUntouchedUnder offset n reply
   MayFailOnSound found (C.DiscardToZero offset n) reply = IsUntouchedUnder offset n reply
   MayFailOnSound found (C.DiscardToAny offset n) reply = IsUntouchedUnder offset n reply
   MayFailOnSound found (C.DiscardToBacking offset n) reply = IsUntouchedUnder offset n reply
-  MayFailOnSound found (C.ReadvSpecial offset n) reply = IfSome (refusal_in reply) (IsMetSpecial (IsCacheHeld old before) offset)
-  MayFailOnSound found (C.TryReadvSpecial offset n) reply = IfSome (refusal_in reply) (λ e. IsMetLooking (IsCacheHeld old before) e ⊎ (e ≡ I.Compressed))
+  MayFailOnSound found (C.ReadvSpecial offset n) reply = IfSome (refusal_in reply) (MayFailSpecial (IsCacheHeld old before) offset)
+  MayFailOnSound found (C.TryReadvSpecial offset n) reply = IfSome (refusal_in reply) (λ e. MayFailLooking (IsCacheHeld old before) e ⊎ (e ≡ I.Compressed))
   MayFailOnSound found (C.ResizeGrow size mode) reply = size_of old < size → refusal_in reply ≡ Some I.TablePrepared → (shows_old mode ≡ false) × IsUnderMappingIn old.file.header.fields (size_of old) (boundary_in old size) before
   MayFailOnSound found (C.ResizeShrink size) reply = size < size_of old → (refusal_in reply ≡ Some I.MappingPrepared) ↔ HasPinnedMapping before
   MayFailOnSound found command reply = Unit {0}
@@ -215,10 +215,10 @@ module _ {S F : Type 0} (view : S → StorageView) (backing : F → BackingView)
   -- The refusal of a command. A misuse is replied to as such, and nothing changes. Otherwise the first check that fails gives the reply, and nothing changes.
   -- If no check fails, the command is refused only for causes that its work may meet, and on a sound image for fewer. A command with nothing to do is not refused. On a sound image a command respects the prepared mappings.
   pub record RefusalJustified (found : ℕ → Option Mapping) (command : Command) (reply : Reply) : Type 0 where
-    pub misuse : TellsMisuse before found command reply
+    pub misuse : ReportsMisuse before found command reply
     pub still : reply ≡ R.Misuse → new ≡ old
     pub early : IfSome (first_cause old command) (λ e. ((refusal_in reply ≡ Some e) ⊎ (reply ≡ R.Misuse)) × (new ≡ old))
     pub late : first_cause old command ≡ None → IfSome (refusal_in reply) (MayFailWith command)
-    pub met : first_cause old command ≡ None → (abstract_of view backing old before).is_sound → IfSome (refusal_in reply) (MeetsTaking view old new before command)
+    pub may_fail : first_cause old command ≡ None → (abstract_of view backing old before).is_sound → IfSome (refusal_in reply) (CommandMayFailAllocating view old new before command)
     pub idle : first_cause old command ≡ None → HasNothingToDo command → refusal_in reply ≡ None
-    pub heeds : first_cause old command ≡ None → (abstract_of view backing old before).is_sound → MayFailOnSound found command reply
+    pub respects : first_cause old command ≡ None → (abstract_of view backing old before).is_sound → MayFailOnSound found command reply

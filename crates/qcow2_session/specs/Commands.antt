@@ -60,10 +60,10 @@ IsOwnOffset offset (NotCompressed at) = at ≡ offset
 IsOwnOffset offset e = Unit {0}
 
 -- What a special read of n bytes says of the known contents, whether it succeeds or not; and what it says if it may return an offset.
-abbrev pub TellsSpecial : Bytes → (offset n : ℕ) → Result (Unit {0}) ImageError → Type 0
-TellsSpecial known offset n (Ok _) = n ≡ 0
-TellsSpecial known offset n (Err e) = IsRightlySpecial known offset n (refusal_of e)
+abbrev pub ReportsSpecial : Bytes → (offset n : ℕ) → Result (Unit {0}) ImageError → Type 0
+ReportsSpecial known offset n (Ok _) = n ≡ 0
+ReportsSpecial known offset n (Err e) = IsRightlySpecial known offset n (refusal_of e)
 
-abbrev pub TellsPlain : Bytes → (offset n : ℕ) → Result (Option ℕ) ImageError → Type 0
-TellsPlain known offset n (Ok at) = IsRightlyPlain known offset n at
-TellsPlain known offset n (Err e) = IsRightlySpecial known offset n (refusal_of e)
+abbrev pub ReportsPlain : Bytes → (offset n : ℕ) → Result (Option ℕ) ImageError → Type 0
+ReportsPlain known offset n (Ok at) = IsRightlyPlain known offset n at
+ReportsPlain known offset n (Err e) = IsRightlySpecial known offset n (refusal_of e)

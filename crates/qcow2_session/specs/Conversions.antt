@@ -18,9 +18,9 @@ use Rattle.qcow2_image.specs.Backings.{HasPinnedMapping}
 use Rattle.qcow2_image.specs.Calls.{refusal_of}
 use Rattle.qcow2_image.specs.Image.{is_writable, size_of}
 use Rattle.qcow2_image.specs.Limits.{IsLimited}
-use Rattle.qcow2_image.specs.MetAlone.{HasCompressedIn}
+use Rattle.qcow2_image.specs.MayFail.{HasCompressedIn}
 use Rattle.qcow2_image.specs.Preallocation.{IsUnderMappingIn}
-use Rattle.qcow2_image.specs.Refusals.{IsFaultOrLimit, IsMet}
+use Rattle.qcow2_image.specs.Refusals.{IsFaultOrLimit, MayFail}
 use Rattle.qcow2_image.specs.ImageInvariant.{abstract_of}
 use Rattle.qcow2_session.specs.Sessions.{HasWritten, IsOfWriting, cluster_size_of}
 
@@ -43,8 +43,8 @@ IsOfImporting e = IsOfWriting e ⊎ (e ≡ InvalidOption)
 
 -- Why importing a range into a sound image is refused: a fault; a limit; 1, if the image was opened for reading; 20; 7, if some guest cluster that the range touches is compressed at the moment of the refusal;
 -- or 8 or 9, if a mapping is pinned.
-abbrev pub IsMetImporting : {S F : Type 0} → (S → StorageView) → (from to : ℕ) → Qcow2 S F → List (Option Prepared) → ImageError → Type 0
-IsMetImporting view from to new out e =
+abbrev pub MayFailImporting : {S F : Type 0} → (S → StorageView) → (from to : ℕ) → Qcow2 S F → List (Option Prepared) → ImageError → Type 0
+MayFailImporting view from to new out e =
     IsFaultOrLimit e
     ⊎ (((e ≡ ReadOnly) × (is_writable new ≡ false)) ⊎ ((e ≡ Overflow) ⊎ (((e ≡ Compressed) × HasCompressedIn from to new.file.header.fields (known_in view new.file)) ⊎ (((e ≡ InUse) ⊎ (e ≡ TablePrepared)) × HasPinnedMapping out))))
 
@@ -57,7 +57,7 @@ pub record RefusedConversion (old new : AbstractImage) (given : List GivenBytes)
   pub acts : CallEffect old new given []
   pub answer : old.is_sound → (new.is_sound × still) ⊎ (IsRefusalByFault e × IsTrue new.is_failed)
 
--- The disk has the first n bytes, where n is a cluster boundary or all of them. After a failed allocation, any of the bytes behind them may be there too.
+-- The disk has the first n bytes, where n is a cluster boundary or all of them. After a failed allocation, any of the bytes after them may be there too.
 abbrev pub HasSome : ℕ → List ℕ → Refusal → Guest → Guest → Type 0
 HasSome size bytes e old new = (n : ℕ) × ((n % size ≡ 0) ⊎ (n ≡ length bytes)) × MayWrite e old 0 bytes n new
 
@@ -82,7 +82,7 @@ module _ {S F : Type 0} (view : S → StorageView) (backing : F → BackingView)
   ImportsAt at bytes (Err e) = (out : List (Option Prepared)) → let v = abstract_of view backing old out in let w = abstract_of view backing new out in
       RefusedConversion v w (given_of at bytes ∷ []) (refusal_of e) (at % cluster_size_of old ≡ 0 → length bytes ≤ cluster_size_of old → MayWrite (refusal_of e) (guest_of v) at bytes 0 (guest_of w))
 
-  -- Whatever the raw disk is, the disk gets some bytes, as many as its size: those that were read.
+  -- Whatever the raw disk is, the disk gets the bytes that were read, as many as its size.
   abbrev pub ImportsAny : Result ℕ ImageError → Type 0
   ImportsAny result = (bytes : List ℕ) × (length bytes ≡ size_of old) × Imports bytes result
 
@@ -94,17 +94,17 @@ module _ {S F : Type 0} (view : S → StorageView) (backing : F → BackingView)
   abbrev pub ImportsAnyAt : (at n : ℕ) → Result (Unit {0}) ImageError → Type 0
   ImportsAnyAt at n result = (bytes : List ℕ) × (length bytes ≡ n) × ImportsAt at bytes result
 
-  -- Why a range that may be read is not written: a cause that the work meets, or a limit; or the image was opened for reading; or a mapping is pinned in an L2 table of the range.
+  -- Why a range that may be read is not written: a cause that comes during the work, or a limit; or the image was opened for reading; or a mapping is pinned in an L2 table of the range.
   abbrev pub IsReasonNotToWrite : (from to : ℕ) → List (Option Prepared) → ImageError → Type 0
   IsReasonNotToWrite from to out e =
-      (IsMet e × (e ≡ Limit → (given : List GivenBytes) × IsLimited view backing given to old out)) ⊎ (((e ≡ ReadOnly) × (is_writable old ≡ false)) ⊎ ((e ≡ TablePrepared) × IsUnderMappingIn old.file.header.fields from to out))
+      (MayFail e × (e ≡ Limit → (given : List GivenBytes) × IsLimited view backing given to old out)) ⊎ (((e ≡ ReadOnly) × (is_writable old ≡ false)) ⊎ ((e ≡ TablePrepared) × IsUnderMappingIn old.file.header.fields from to out))
 
   -- The guest sees what it saw before.
   abbrev pub IsUnchanged : {A : Type 0} → Result A ImageError → Type 0
   IsUnchanged (Ok a) = (out : List (Option Prepared)) → let v = abstract_of view backing old out in let w = abstract_of view backing new out in AnsweredEffect v w [] [] (IsSame v w)
   IsUnchanged (Err e) = (out : List (Option Prepared)) → let v = abstract_of view backing old out in let w = abstract_of view backing new out in RefusedConversion v w [] (refusal_of e) (IsSame v w)
 
--- A raw disk of this size has the bytes of the disk up to `at`, and zeros behind them.
+-- A raw disk of this size has the bytes of the disk up to `at`, and zeros after them.
 pub record IsFilledUpTo (d : Disk) (size at : ℕ) (bytes : List ℕ) : Type 0 where
   pub long : length bytes ≡ size
   pub front : (o : ℕ) → o < at → d.value o ≡ known_byte (byte_at bytes o)

@@ -6,6 +6,5 @@ pub mod Causes
 pub mod Told
 pub mod Opening
 pub mod Recorded
-pub mod Boxes
 pub mod Marks
 pub mod CallSteps

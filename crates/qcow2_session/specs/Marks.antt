@@ -9,7 +9,7 @@ use Rattle.qcow2_image.specs.declared.image.Qcow2.{Qcow2}
 use Rattle.qcow2_session.specs.declared.session.Command.{Command}
 use Rattle.qcow2_session.specs.declared.session.Command.TheVariants as C
 
--- An I/O error makes the image fail, and a failed allocation may. Nothing else does, and a failed image stays failed.
+-- An I/O error makes the image fail, a failed allocation may, and no other refusal does. A failed image stays failed.
 abbrev pub FailsBy : Option ImageError → (before now : Bool) → Type 0
 FailsBy (Some Storage) before now = IsTrue now
 FailsBy (Some Memory) before now = IsTrue before → IsTrue now
@@ -27,7 +27,7 @@ module _ {S F : Type 0} (view : S → StorageView) (reason : Option ImageError) 
     pub counts : CountsImageChanges view old new
     pub memory : reason ≡ Some Memory → MarksOnceChanged view old new
 
-  -- Several calls of the image, of which a later one may run out of memory. Then the image fails only if one of them counted a change.
+  -- Several calls of the image. If a later one runs out of memory, the image fails only if one of them counted a change.
   pub record MarksInParts : Type 0 where
     pub fails : FailsBy reason (is_failed old) (is_failed new)
     pub counts : CountsImageChanges view old new

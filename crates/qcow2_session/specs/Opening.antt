@@ -18,7 +18,7 @@ use Rattle.qcow2_image.specs.declared.image.Qcow2.{Qcow2}
 use Rattle.qcow2_image.specs.Image.{is_failed, is_writable, number_of, storage_of_image}
 use Rattle.qcow2_image.specs.Opened.{IsKeptSince, IsOpenedFrom, LeavesStorage, NeedsMissing}
 use Rattle.qcow2_image.specs.ImageInvariant.{IsHonestBacking, abstract_of, image_abstraction}
-use Rattle.qcow2_image.specs.Readable.{IsRefusedRightly, OpensRightly}
+use Rattle.qcow2_image.specs.Readable.{IsJustifiedRefusal, OpensRightly}
 use Rattle.qcow2_image.specs.Unwritten.{ContentsStayThroughout}
 use Rattle.qcow2_session.specs.Commands.{command_of, reply_of}
 use Rattle.qcow2_session.specs.CountedFaults.{RunCounts}
@@ -26,7 +26,7 @@ use Rattle.qcow2_session.specs.Told.{ReportsMatchImage}
 use Rattle.qcow2_session.specs.declared.session.Command.{Command}
 use Rattle.qcow2_session.specs.declared.session.Reply.{Reply}
 
--- The call was refused, and the storage that is handed back has the same contents, now and at every moment since.
+-- The call was refused, and the returned storage has the same contents, now and at every moment since.
 abbrev pub IsLeftAlone : {S R : Type 0} → StorageView → (S → StorageView) → Result R (S × ImageError) → Type 0
 IsLeftAlone before view (Ok run) = ⊥
 IsLeftAlone before view (Err refused) = ContentsStayThroughout before (view refused.0)
@@ -51,7 +51,7 @@ MayRefuseToOpen contents missing e = ⊥
 -- An image with these contents opens again for writing: it is consistent, and its contents give no reason to refuse it but the three of `MayRefuseToOpen`, whichever files are missing.
 pub record OpensAgain (contents : List ℕ) : Type 0 where
   pub consistent : IsConsistent (byte_at contents)
-  pub refused : (missing : Missing) (e : ImageError) → IsRefusedRightly contents true missing e → MayRefuseToOpen contents missing e
+  pub refused : (missing : Missing) (e : ImageError) → IsJustifiedRefusal contents true missing e → MayRefuseToOpen contents missing e
 
 module _ {S F : Type 0} (view : S → StorageView) (backing : F → BackingView) (before : StorageView) (below : Option F) where
   -- There was no memory for the replies, and no command ran.
@@ -74,7 +74,7 @@ module _ {S F : Type 0} (view : S → StorageView) (backing : F → BackingView)
   EachMomentOpensAgain commands (Err refused) = OpensAgainSince (view refused.0)
 
   -- The image that was opened, whatever it contains: it is over the given backing disk, has its number, is opened for writing and has not failed. Opening changed only the autoclear field. The replies match the image.
-  -- If the header's pointers lead behind cluster 0, no table lies in cluster 0 when the image is opened, and a run without the command `InvalidateCache` changes only header fields there.
+  -- If the header's pointers lead past cluster 0, no table lies in cluster 0 when the image is opened, and a run without the command `InvalidateCache` changes only header fields there.
   -- If the contents are consistent and the backing disk is honest, the image is sound, has the surplus of each cluster in them, and begins a run from the disk that it shows.
   pub record IsToldOfOpened (number : ℕ) (commands : List Command) (image : Qcow2 S F) (replies : List Reply) : Type 0 where
     pub opened : Qcow2 S F
@@ -90,10 +90,10 @@ module _ {S F : Type 0} (view : S → StorageView) (backing : F → BackingView)
     pub is : before.is_honest → IsConsistent (byte_at before.contents) → IsHonestBacking view backing below → IsOpenedFrom view backing (byte_at before.contents) opened
     pub begins : before.is_honest → IsConsistent (byte_at before.contents) → IsHonestBacking view backing below → let v = abstract_of view backing opened [] in RefinesState v.setting v (started v)
 
-  -- If the image is opened, it is as above. If not, it is refused as every opening for writing with these missing files, for a reason in the contents. These stay the same unless the storage failed.
-  abbrev pub TellsOfOpened : ℕ → List Command → Result (Qcow2 S F × Vec Reply Global) (S × ImageError) → Type 0
-  TellsOfOpened number commands (Ok run) = IsToldOfOpened number commands run.0 run.1.items
-  TellsOfOpened number commands (Err refused) = OpensRightly {S = S} {F = F} before true (missing_beside below) (Err refused) × LeavesStorage {F = F} view true before (Err refused)
+  -- If the image is opened, it is as `IsToldOfOpened` says. If not, it is refused as every opening for writing with these missing files, for a reason in the contents, which stay the same unless the storage failed.
+  abbrev pub ReportsOfOpened : ℕ → List Command → Result (Qcow2 S F × Vec Reply Global) (S × ImageError) → Type 0
+  ReportsOfOpened number commands (Ok run) = IsToldOfOpened number commands run.0 run.1.items
+  ReportsOfOpened number commands (Err refused) = OpensRightly {S = S} {F = F} before true (missing_beside below) (Err refused) × LeavesStorage {F = F} view true before (Err refused)
 
   -- Opening counts the faults of the storage, and each command those of the storage and of the given backing disk since.
   abbrev pub CountsSinceBefore : Result (Qcow2 S F × Vec Reply Global) (S × ImageError) → Type 0

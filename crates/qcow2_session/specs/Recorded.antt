@@ -30,7 +30,7 @@ module _ {F : Type 0} (backing : F → BackingView) (before : Trace) (below : Op
         IsStopIn (spec.setting headline.opened) (started (abstract_image spec headline.opened [])) headline.refines.end (map command_of commands) (map reply_of replies) headline.refines.run
         (byte_at (contents_after k (storage_of_image new)))
 
-  -- What holds for each number of writes: with the storage of the opened image, after a run without the command `InvalidateCache`, or with the storage that a refusal hands back.
+  -- What holds for each number of writes: with the storage of the opened image, after a run without the command `InvalidateCache`, or with the storage that a refusal returns.
   abbrev pub LeavesWrites : List Command → Result (Qcow2 Trace F × Vec Reply Global) (Trace × ImageError) → Type 0
   LeavesWrites commands (Ok run) = HasNoInvalidation (map command_of commands) → ((k : ℕ) → OpensAgain (contents_after k (storage_of_image run.0)))
       × (HadNoRoom view_of_trace backing (view_of_trace before) below run.0 run.1.items ⊎ IsRecordedHeadline run.0 commands run.1.items)

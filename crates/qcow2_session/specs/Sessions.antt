@@ -27,7 +27,7 @@ use Rattle.qcow2_image.specs.Image.{size_of}
 use Rattle.qcow2_image.specs.L1Entries.{NeedsOverflowingL1Entry}
 use Rattle.qcow2_image.specs.Prepared.{length_of, offset_of}
 use Rattle.qcow2_image.specs.Preparing.{IsTaken}
-use Rattle.qcow2_image.specs.Refusals.{passes, IsMet}
+use Rattle.qcow2_image.specs.Refusals.{passes, MayFail}
 use Rattle.qcow2_image.specs.ImageInvariant.{abstract_of, image_abstraction}
 use Rattle.qcow2_session.specs.Commands.{command_of, reply_of}
 use Rattle.qcow2_session.specs.declared.session.Command.{Command}
@@ -61,7 +61,7 @@ found_in mappings k = range_of (mappings_in mappings k)
 abbrev pub HasFound : State → Slots → Type 0
 HasFound s slots = s.is_failed ≡ false → (k : ℕ) → s.found k ≡ found_in slots.mappings.items k
 
--- The lookups at the begin of a run find what is in these bytes.
+-- The lookups at the start of a run find what is in these bytes.
 abbrev pub LooksUp : Bytes → Bool → List RunCommand → List RunReply → Type 0
 LooksUp b is_backed (get_mapping place offset max ∷ commands) (mapping_is from kind n ∷ replies) = IsFoundIn b is_backed offset max kind n × LooksUp b is_backed commands replies
 LooksUp b is_backed commands replies = Unit {0}
@@ -74,9 +74,9 @@ HasWritten offset bytes old new = new ≡ with_disk old (with_bytes old.disk off
 abbrev pub IsRightlyBeyond : {S F : Type 0} → Qcow2 S F → ℕ → ℕ → ImageError → Type 0
 IsRightlyBeyond image offset n e = e ≡ BeyondSize → IsTrue (passes (size_of image) offset n)
 
--- The refusals of a read: an unusable image, a range beyond the size, or a cause that the work meets.
+-- The refusals of a read: an unusable image, a range beyond the size, or a cause that comes during the work.
 abbrev pub IsOfReading : ImageError → Type 0
-IsOfReading e = IsMet e ⊎ ((e ≡ BeyondSize) ⊎ ((e ≡ Failed) ⊎ (e ≡ Dependency)))
+IsOfReading e = MayFail e ⊎ ((e ≡ BeyondSize) ⊎ ((e ≡ Failed) ⊎ (e ≡ Dependency)))
 
 -- The refusals of a write: those of a read, an image opened for reading, and a pinned L2 table.
 abbrev pub IsOfWriting : ImageError → Type 0
@@ -115,8 +115,8 @@ module _ {S F : Type 0} (view : S → StorageView) (backing : F → BackingView)
   WritesFirst offset bytes (Err e) = Writes offset bytes (Err (e, 0))
 
 module _ {S F : Type 0} (view : S → StorageView) (backing : F → BackingView) (old : Qcow2 S F) where
-  -- A write was refused behind its first `done` bytes. At some image `before`, exactly these bytes are written, and the cause of the refusal holds for the rest of the range.
-  -- If no bytes were written, `before` is the image at the begin of the write.
+  -- A write was refused after its first `done` bytes. At some image `before`, exactly these bytes are written, and the cause of the refusal holds for the rest of the range.
+  -- If no bytes were written, `before` is the image at the start of the write.
   pub record StopsFor (cause : (at rest : ℕ) → Qcow2 S F → Type 0) (offset : ℕ) (bytes : List ℕ) (done : ℕ) : Type 0 where
     pub before : Qcow2 S F
     pub written : Writes view backing old before offset (take done bytes) (Ok tt)
@@ -132,7 +132,7 @@ module _ {S F : Type 0} (view : S → StorageView) (backing : F → BackingView)
   IsTakenToWrite out = StopsFor (λ at n before. IsTaken before.file.header.fields (known_in view before.file) at n out)
 
   -- Byte i of a write was written by a part that began at it or before it, in the same L2 table. At some image `before` the part, exactly the bytes before the part are written.
-  -- For the first part, `before` is the image at the begin of the write.
+  -- For the first part, `before` is the image at the start of the write.
   -- No mapping pinned that L2 table then, unless all of the rest could be written in place.
   pub record IsRespectedAt (out : List (Option Prepared)) (offset : ℕ) (bytes : List ℕ) (i : ℕ) : Type 0 where
     pub from : ℕ
@@ -172,7 +172,7 @@ module _ {S F : Type 0} (view : S → StorageView) (backing : F → BackingView)
   RunsThrough commands replies = HasNoInvalidation (map command_of commands) → (x : Setting) (s : State) →
       RefinesState x (abstract_of view backing old []) s → IsUntouched replies ⊎ RefinesWholeRun (image_abstraction view backing) x old new (begun s) (map command_of commands) (map reply_of replies)
 
-  -- On an image that was just opened, the lookups at the begin of a run without the command `InvalidateCache` find what is in the bytes of its file.
+  -- On an image that was just opened, the lookups at the start of a run without the command `InvalidateCache` find what is in the bytes of its file.
   abbrev pub LookupsFindContents : List Command → List Reply → Type 0
   LookupsFindContents commands replies = HasNoInvalidation (map command_of commands) → IsOpened (abstract_of view backing old []) → LooksUp (contents_in view old.file) (is_some old.backing) (map command_of commands) (map reply_of replies)
 
@@ -180,8 +180,8 @@ module _ {S F : Type 0} (view : S → StorageView) (backing : F → BackingView)
   abbrev pub RunRefinesDisk : List Command → List Reply → Type 0
   RunRefinesDisk commands replies = HasNoInvalidation (map command_of commands) → IsOpened (abstract_of view backing old []) → IsUntouched replies ⊎ RefinesDisk (image_abstraction view backing) old new (map command_of commands) (map reply_of replies)
 
--- A part of a write, behind its first `done` bytes. At some image `before` it, exactly these bytes are written, and the rest of the range is prepared.
--- For the first part, `before` is the image at the begin of the write.
+-- A part of a write, after its first `done` bytes. At some image `before` it, exactly these bytes are written, and the rest of the range is prepared.
+-- For the first part, `before` is the image at the start of the write.
 pub record PlacesPart {S F : Type 0} (view : S → StorageView) (backing : F → BackingView) (old : Qcow2 S F) (offset : ℕ) (bytes : List ℕ) (done : ℕ) (p : Prepared) : Type 0 where
   pub before : Qcow2 S F
   pub written : Writes view backing old before offset (take done bytes) (Ok tt)

@@ -1,4 +1,4 @@
--- What the replies of a run say of the image itself, beyond their meaning for the guest's disk.
+-- What the replies of a run report about the image itself, beyond their meaning for the guest's disk.
 use Rattle.std.specs.Prelude.{ℕ, ◌<◌, ◌≤◌, ◌≡◌, ◌⊎◌, false, IsTrue, IsNone, List, [], ◌∷◌, MatchOption, Option, Some, None, is_none, replicate, map, slice_get, slice_set}
 use Rattle.image_access.specs.Backing.{BackingView}
 use Rattle.image_access.specs.Moments.{StorageView}
@@ -29,7 +29,7 @@ use Rattle.qcow2_session.specs.declared.session.Command.TheVariants as C
 use Rattle.qcow2_session.specs.declared.session.Reply.{Reply}
 use Rattle.qcow2_session.specs.declared.session.Reply.TheVariants as R
 
--- The slots at the begin of a run.
+-- The slots at the start of a run.
 abbrev pub free_slots : List (Option Prepared)
 free_slots = replicate 256 None
 
@@ -103,18 +103,18 @@ module _ {S F : Type 0} (view : S → StorageView) (backing : F → BackingView)
       pub past : size_of old ≤ offset → (m.kind ≡ Eof) × (m.length ≡ 0)
 
     -- A clearing call returns the whole clusters of its range.
-    abbrev pub TellsRange : (offset n : ℕ) → Reply → Type 0
-    TellsRange offset n (R.Range from count) = (from, count) ≡ answered (cluster_size old.file.header.fields) (size_of old) offset n
-    TellsRange offset n reply = Unit {0}
+    abbrev pub ReportsRange : (offset n : ℕ) → Reply → Type 0
+    ReportsRange offset n (R.Range from count) = (from, count) ≡ answered (cluster_size old.file.header.fields) (size_of old) offset n
+    ReportsRange offset n reply = Unit {0}
 
     -- The reply matches the image: a lookup is a mapping of this image, a clearing call returns its whole clusters, and an offset that is not compressed is the call's own. A size that is not smaller leaves the old one.
     -- The size is that of the header in memory, also on a failed image, and the number of leaks is the one that was counted. A prepare returns the mapping in its slot. A successful write of a sound image leaves the list of clusters to free the same or empty. A refused one returns how many bytes it wrote.
     abbrev pub ReplyMatchesImage : (before after : List (Option Prepared)) → Command → Reply → Type 0
     ReplyMatchesImage before after (C.GetMapping slot offset max) (R.Mapping m) = IsLookup offset max m
-    ReplyMatchesImage before after (C.EnsureZeroMapping offset n) reply = TellsRange offset n reply
-    ReplyMatchesImage before after (C.DiscardToZero offset n) reply = TellsRange offset n reply
-    ReplyMatchesImage before after (C.DiscardToAny offset n) reply = TellsRange offset n reply
-    ReplyMatchesImage before after (C.DiscardToBacking offset n) reply = TellsRange offset n reply
+    ReplyMatchesImage before after (C.EnsureZeroMapping offset n) reply = ReportsRange offset n reply
+    ReplyMatchesImage before after (C.DiscardToZero offset n) reply = ReportsRange offset n reply
+    ReplyMatchesImage before after (C.DiscardToAny offset n) reply = ReportsRange offset n reply
+    ReplyMatchesImage before after (C.DiscardToBacking offset n) reply = ReportsRange offset n reply
     ReplyMatchesImage before after (C.TryReadvSpecial offset n) (R.NotCompressed plain) = MatchOption plain (n ≡ 0) (λ at. at ≡ offset)
     ReplyMatchesImage before after (C.ResizeShrink size) (R.Shrunk answer) = size_of old ≤ size → answer ≡ size_of old
     ReplyMatchesImage before after C.Size (R.Size n) = n ≡ size_of new
@@ -129,7 +129,7 @@ module _ {S F : Type 0} (view : S → StorageView) (backing : F → BackingView)
   -- An I/O error makes the image fail, and a failed image stays failed, with the same size. An image opened for reading is not written.
   pub record IsReportedStep (from to : RunPoint S F) (command : Command) (reply : Reply) : Type 0 where
     pub keeps : KeepsItself from.image to.image
-    pub tells : ReplyMatchesImage from.image to.image from.prepared to.prepared command reply
+    pub reports : ReplyMatchesImage from.image to.image from.prepared to.prepared command reply
     pub slots : SlotsAfter from.prepared command reply to.prepared
     pub causes : RefusalJustified view backing from.image to.image from.prepared from.found command reply
     pub finds : (slot : ℕ) → to.found slot ≡ looked_up_after from.found command reply slot

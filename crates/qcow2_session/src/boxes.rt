@@ -1,61 +1,107 @@
-//! Runs over storages and backing disks of any types, each in a box.
+//! Calls on an image whose storage and backing disk are of any types, each in a box.
+ghost use Rattle.std.specs.Prelude.{◌≡◌, length, IfOk, List, Option};
+ghost use Rattle.qcow2_image.specs.Image.{number_of};
+ghost use Rattle.qcow2_image.specs.ImageInvariant.{abstract_of};
 ghost use Rattle.qcow2_image.specs.Opened.{NeedsMissing};
-ghost use Rattle.qcow2_session.specs.Boxes.{IsOnceClosed, IsClosedAsRefused};
-ghost use Rattle.qcow2_session.specs.Opening.{CountsSinceBefore, EachMomentOpensAgain, Headline, TellsOfOpened, missing_beside};
+ghost use Rattle.qcow2_image.specs.declared.prepared.Prepared.{Prepared};
+ghost use Rattle.qcow2_session.specs.CallSteps.{ReadingParts, RefusesToRead, RunStep};
+ghost use Rattle.qcow2_session.specs.CallSteps.{WriteFails, WriteStep, WroteSoundly};
+ghost use Rattle.qcow2_session.specs.Opening.{CountsSinceBefore, EachMomentOpensAgain, Headline};
+ghost use Rattle.qcow2_session.specs.Opening.{IsLeftAlone, ReportsOfOpened, missing_beside};
+ghost use Rattle.qcow2_session.specs.Sessions.{LookupsFindContents, Reads, RunRefinesDisk, RunsThrough, Writes};
+ghost use Rattle.qcow2_session.specs.Told.{ReportsMatchImage, StaysQuiet};
 
 use crate::headline::open_and_run;
-use crate::session::{Command, Reply};
-use image_access::{BackingDisk, DynStorage, Storage, WrappedFormat};
-use qcow2_image::ImageError;
+use crate::session::{Command, Reply, read, run, write};
+use image_access::{BackingDisk, DynStorage, Storage};
+use qcow2_image::{ImageError, Qcow2};
 use std::alloc::Global;
 
-/// Opens an image in a storage of any type for writing, with its number, over a backing disk of any type if one is given. Answers each
-/// command as `run` does, and returns the storage. Everything that isn't flushed is lost, so end the
-/// commands with a flush. The image is opened, and refused, as by `open_and_run`.
-pub fn run_in_boxes(
+/// A storage of any type.
+pub type AnyStorage = Box<dyn DynStorage>;
+
+/// A backing disk of any type.
+pub type AnyDisk = Box<dyn BackingDisk>;
+
+/// Opens an image for writing, with its number, over the backing disk if one is given, and answers each command. It is
+/// refused as `open_and_run` is.
+pub fn open_and_run_in_boxes(
     alloc: Global,
-    storage: Box<dyn DynStorage>,
-    below: Option<Box<dyn BackingDisk>>,
+    storage: AnyStorage,
+    below: Option<AnyDisk>,
     number: u64,
     commands: &[Command],
-) -> (Box<dyn DynStorage>, Result<Vec<Reply>, ImageError>)
-    ensures headline { IsOnceClosed result
-        (Headline (λ b. (DynStorage-box b).Storage.view b.value) (λ d. (BackingDisk-box d).backing d.value)
-        ((DynStorage-box storage).Storage.view storage.value) below commands.now) }
-    ensures again { IsOnceClosed result
-        (EachMomentOpensAgain (λ b. (DynStorage-box b).Storage.view b.value) (λ d. (BackingDisk-box d).backing d.value)
-        ((DynStorage-box storage).Storage.view storage.value) below commands.now) }
-    ensures tells { IsOnceClosed result
-        (TellsOfOpened (λ b. (DynStorage-box b).Storage.view b.value) (λ d. (BackingDisk-box d).backing d.value)
-        ((DynStorage-box storage).Storage.view storage.value) below number commands.now) }
-    ensures faults { IsOnceClosed result
-        (CountsSinceBefore (λ b. (DynStorage-box b).Storage.view b.value) (λ d. (BackingDisk-box d).backing d.value)
-        ((DynStorage-box storage).Storage.view storage.value) below) }
-    ensures another { ((DynStorage-box storage).Storage.view storage.value).is_honest
-        → NeedsMissing (missing_beside below) ((DynStorage-box storage).Storage.view storage.value).contents
-        → IsClosedAsRefused ((DynStorage-box storage).Storage.view storage.value)
-        (λ b. (DynStorage-box b).Storage.view b.value) result }
+) -> Result<(Qcow2<AnyStorage, AnyDisk>, Vec<Reply>), (AnyStorage, ImageError)>
+    ensures number { IfOk result (λ (image, replies). number_of image ≡ number) }
+    ensures another { (⟦<AnyStorage as Storage>⟧.view storage).is_honest
+        → NeedsMissing (missing_beside below) (⟦<AnyStorage as Storage>⟧.view storage).contents
+        → IsLeftAlone (⟦<AnyStorage as Storage>⟧.view storage) ⟦<AnyStorage as Storage>⟧.view result }
+    ensures faults { CountsSinceBefore ⟦<AnyStorage as Storage>⟧.view ⟦<AnyDisk as BackingDisk>⟧.backing
+        (⟦<AnyStorage as Storage>⟧.view storage) below result }
+    ensures reports { ReportsOfOpened ⟦<AnyStorage as Storage>⟧.view ⟦<AnyDisk as BackingDisk>⟧.backing
+        (⟦<AnyStorage as Storage>⟧.view storage) below number commands.now result }
+    ensures headline { Headline ⟦<AnyStorage as Storage>⟧.view ⟦<AnyDisk as BackingDisk>⟧.backing
+        (⟦<AnyStorage as Storage>⟧.view storage) below commands.now result }
+    ensures again { EachMomentOpensAgain ⟦<AnyStorage as Storage>⟧.view ⟦<AnyDisk as BackingDisk>⟧.backing
+        (⟦<AnyStorage as Storage>⟧.view storage) below commands.now result }
 {
-    run_and_close(alloc, storage, below, number, commands)
+    open_and_run(alloc, storage, below, number, commands)
 }
 
-// Opens an image over a backing disk, answers each command, and closes it.
-fn run_and_close<S: Storage, F: WrappedFormat<S>>(
+/// Answers each command on an open image, as `run` does.
+pub fn run_in_boxes(
     alloc: Global,
-    storage: S,
-    below: Option<F>,
-    number: u64,
+    image: &mut Qcow2<AnyStorage, AnyDisk>,
     commands: &[Command],
-) -> (S, Result<Vec<Reply>, ImageError>)
-    ensures headline { IsOnceClosed result (Headline S.view F.backing (S.view storage) below commands.now) }
-    ensures again { IsOnceClosed result (EachMomentOpensAgain S.view F.backing (S.view storage) below commands.now) }
-    ensures tells { IsOnceClosed result (TellsOfOpened S.view F.backing (S.view storage) below number commands.now) }
-    ensures faults { IsOnceClosed result (CountsSinceBefore S.view F.backing (S.view storage) below) }
-    ensures another { (S.view storage).is_honest → NeedsMissing (missing_beside below) (S.view storage).contents
-        → IsClosedAsRefused (S.view storage) S.view result }
+) -> Vec<Reply>
+    ensures step { RunStep ⟦<AnyStorage as Storage>⟧.view ⟦<AnyDisk as BackingDisk>⟧.backing
+        image.old image.new commands.now result }
+    ensures runs { RunsThrough ⟦<AnyStorage as Storage>⟧.view ⟦<AnyDisk as BackingDisk>⟧.backing
+        image.old image.new commands.now result.items }
+    ensures means { RunRefinesDisk ⟦<AnyStorage as Storage>⟧.view ⟦<AnyDisk as BackingDisk>⟧.backing
+        image.old image.new commands.now result.items }
+    ensures reports { ReportsMatchImage ⟦<AnyStorage as Storage>⟧.view ⟦<AnyDisk as BackingDisk>⟧.backing
+        image.old image.new commands.now result.items }
+    ensures maps { LookupsFindContents ⟦<AnyStorage as Storage>⟧.view ⟦<AnyDisk as BackingDisk>⟧.backing
+        image.old image.new commands.now result.items }
+    ensures quiet { StaysQuiet ⟦<AnyStorage as Storage>⟧.view image.old image.new }
 {
-    match open_and_run(alloc, storage, below, number, commands) {
-        Ok((image, replies)) => (image.into_storage(), Ok(replies)),
-        Err((storage, refusal)) => (storage, Err(refusal)),
-    }
+    run(alloc, image, commands)
+}
+
+/// Reads bytes of the guest's disk, as `read` does.
+pub fn read_in_boxes(
+    alloc: Global,
+    image: &mut Qcow2<AnyStorage, AnyDisk>,
+    offset: u64,
+    length: u64,
+) -> Result<Vec<u8>, ImageError>
+    ensures step { ReadingParts ⟦<AnyStorage as Storage>⟧.view ⟦<AnyDisk as BackingDisk>⟧.backing
+        image.old image.new result }
+    ensures fails { RefusesToRead ⟦<AnyStorage as Storage>⟧.view ⟦<AnyDisk as BackingDisk>⟧.backing
+        image.old image.new result offset length }
+    ensures sees { Reads ⟦<AnyStorage as Storage>⟧.view ⟦<AnyDisk as BackingDisk>⟧.backing
+        image.old image.new offset length result }
+{
+    read(alloc, image, offset, length)
+}
+
+/// Writes bytes to the guest's disk, as `write` does.
+pub fn write_in_boxes(
+    image: &mut Qcow2<AnyStorage, AnyDisk>,
+    offset: u64,
+    bytes: &[u8],
+) -> Result<(), (ImageError, u64)>
+    ensures step { WriteStep ⟦<AnyStorage as Storage>⟧.view ⟦<AnyDisk as BackingDisk>⟧.backing
+        image.old image.new result }
+    ensures fails { WriteFails ⟦<AnyStorage as Storage>⟧.view ⟦<AnyDisk as BackingDisk>⟧.backing
+        image.old image.new result offset (length bytes.now) }
+    ensures sound { (out : List (Option Prepared))
+        → (abstract_of ⟦<AnyStorage as Storage>⟧.view ⟦<AnyDisk as BackingDisk>⟧.backing image.old out).is_sound
+        → WroteSoundly ⟦<AnyStorage as Storage>⟧.view ⟦<AnyDisk as BackingDisk>⟧.backing
+        image.old image.new result offset bytes.now out }
+    ensures sees { Writes ⟦<AnyStorage as Storage>⟧.view ⟦<AnyDisk as BackingDisk>⟧.backing
+        image.old image.new offset bytes.now result }
+{
+    write(image, offset, bytes)
 }

@@ -1,13 +1,7 @@
 //! The commands that zero and discard ranges.
-ghost use Rattle.qcow2_session.specs.CallSteps.{CommandStep};
-ghost use Rattle.std.specs.Prelude.{ℕ, ◌≡◌, false, List, Option};
-ghost use Rattle.qcow2_image.specs.declared.mapping.Mapping.{Mapping};
-ghost use Rattle.qcow2_image.specs.Image.{is_writable};
-ghost use Rattle.qcow2_image.specs.declared.prepared.Prepared.{Prepared};
-ghost use Rattle.qcow2_session.specs.Causes.{RefusalJustified};
+ghost use Rattle.qcow2_session.specs.CallSteps.{AnswersCommand};
+ghost use Rattle.std.specs.Prelude.{◌≡◌};
 ghost use Rattle.qcow2_session.specs.Commands.{reply_of_clearing};
-ghost use Rattle.qcow2_session.specs.Sessions.{CommandSteps, Finds};
-ghost use Rattle.qcow2_session.specs.Told.{ReplyMatchesImage};
 ghost use Rattle.qcow2_session.specs.declared.session.Command.TheVariants.{EnsureZeroMapping, DiscardToZero};
 ghost use Rattle.qcow2_session.specs.declared.session.Command.TheVariants.{DiscardToAny, DiscardToBacking};
 ghost use Rattle.qcow2_session.specs.declared.slots.Slots.{Slots};
@@ -22,16 +16,8 @@ pub(crate) fn ensure_zero<S: Storage, F: WrappedFormat<S>>(
     offset: u64,
     length: u64,
 ) -> Reply
-    ensures step { CommandStep S.view F.backing image.old image.new result }
-    ensures reading { is_writable image.old ≡ false → image.new ≡ image.old }
-    ensures tells { (before : List (Option Prepared))
-        → ReplyMatchesImage S.view F.backing image.old image.new before before (EnsureZeroMapping offset length)
-        result }
-    ensures causes { (before : List (Option Prepared)) (found : ℕ → Option Mapping)
-        → RefusalJustified S.view F.backing image.old image.new before found (EnsureZeroMapping offset length) result }
-    ensures command_step { (slots : Slots)
-        → CommandSteps S.view F.backing image.old image.new slots slots (EnsureZeroMapping offset length) result }
-    ensures finds { (slots : Slots) → Finds slots slots (EnsureZeroMapping offset length) result }
+    ensures { (slots : Slots) → AnswersCommand S.view F.backing image.old image.new slots slots
+        (EnsureZeroMapping offset length) result }
 {
     range_reply(image.ensure_zero_mapping(offset, length))
 }
@@ -42,14 +28,8 @@ pub(crate) fn discard_to_zero<S: Storage, F: WrappedFormat<S>>(
     offset: u64,
     length: u64,
 ) -> Reply
-    ensures step { CommandStep S.view F.backing image.old image.new result }
-    ensures reading { is_writable image.old ≡ false → image.new ≡ image.old }
-    ensures tells { (before : List (Option Prepared))
-        → ReplyMatchesImage S.view F.backing image.old image.new before before (DiscardToZero offset length) result }
-    ensures causes { (before : List (Option Prepared)) (found : ℕ → Option Mapping)
-        → RefusalJustified S.view F.backing image.old image.new before found (DiscardToZero offset length) result }
-    ensures command_step { (slots : Slots) → CommandSteps S.view F.backing image.old image.new slots slots (DiscardToZero offset length) result }
-    ensures finds { (slots : Slots) → Finds slots slots (DiscardToZero offset length) result }
+    ensures { (slots : Slots) → AnswersCommand S.view F.backing image.old image.new slots slots
+        (DiscardToZero offset length) result }
 {
     range_reply(image.discard_to_zero_unsafe(offset, length))
 }
@@ -60,14 +40,8 @@ pub(crate) fn discard_to_any<S: Storage, F: WrappedFormat<S>>(
     offset: u64,
     length: u64,
 ) -> Reply
-    ensures step { CommandStep S.view F.backing image.old image.new result }
-    ensures reading { is_writable image.old ≡ false → image.new ≡ image.old }
-    ensures tells { (before : List (Option Prepared))
-        → ReplyMatchesImage S.view F.backing image.old image.new before before (DiscardToAny offset length) result }
-    ensures causes { (before : List (Option Prepared)) (found : ℕ → Option Mapping)
-        → RefusalJustified S.view F.backing image.old image.new before found (DiscardToAny offset length) result }
-    ensures command_step { (slots : Slots) → CommandSteps S.view F.backing image.old image.new slots slots (DiscardToAny offset length) result }
-    ensures finds { (slots : Slots) → Finds slots slots (DiscardToAny offset length) result }
+    ensures { (slots : Slots) → AnswersCommand S.view F.backing image.old image.new slots slots
+        (DiscardToAny offset length) result }
 {
     range_reply(image.discard_to_any_unsafe(offset, length))
 }
@@ -78,14 +52,8 @@ pub(crate) fn discard_to_backing<S: Storage, F: WrappedFormat<S>>(
     offset: u64,
     length: u64,
 ) -> Reply
-    ensures step { CommandStep S.view F.backing image.old image.new result }
-    ensures reading { is_writable image.old ≡ false → image.new ≡ image.old }
-    ensures tells { (before : List (Option Prepared))
-        → ReplyMatchesImage S.view F.backing image.old image.new before before (DiscardToBacking offset length) result }
-    ensures causes { (before : List (Option Prepared)) (found : ℕ → Option Mapping)
-        → RefusalJustified S.view F.backing image.old image.new before found (DiscardToBacking offset length) result }
-    ensures command_step { (slots : Slots) → CommandSteps S.view F.backing image.old image.new slots slots (DiscardToBacking offset length) result }
-    ensures finds { (slots : Slots) → Finds slots slots (DiscardToBacking offset length) result }
+    ensures { (slots : Slots) → AnswersCommand S.view F.backing image.old image.new slots slots
+        (DiscardToBacking offset length) result }
 {
     range_reply(image.discard_to_backing_unsafe(offset, length))
 }

@@ -1,6 +1,6 @@
 //! Conversion of raw disks to images, and of images to raw disks.
-ghost use Rattle.qcow2_session.specs.CallSteps.{ExportStep, ImportStep, ReadingParts};
-ghost use Rattle.std.specs.Prelude.{◌≡◌, ◌≢◌, ◌⊎◌, ◌↔◌, ◌+◌, ◌-◌, ◌<◌, ◌≤◌, List, [], Option, None, Err, length, replicate};
+ghost use Rattle.qcow2_session.specs.CallSteps.{ExportStep, ImportFails, ImportStep, ReadingParts};
+ghost use Rattle.std.specs.Prelude.{◌≡◌, ◌↔◌, ◌+◌, ◌-◌, ◌<◌, ◌≤◌, List, [], Option, None, Err, length, replicate};
 ghost use Rattle.std.specs.Prelude.{IfSome, IfErr, IfOk, OnOk, IsTrue};
 ghost use Rattle.image_access.specs.Contents.{bytes_at};
 ghost use Rattle.qcow2_disk.specs.Calls.{Shows};
@@ -9,12 +9,12 @@ ghost use Rattle.qcow2_image.specs.Calls.{AnswersCall};
 ghost use Rattle.qcow2_image.specs.Image.{HasNothingToFree, is_writable, size_of};
 ghost use Rattle.qcow2_image.specs.ImageInvariant.{abstract_of};
 ghost use Rattle.qcow2_image.specs.declared.prepared.Prepared.{Prepared};
-ghost use Rattle.qcow2_image.specs.MetAlone.{IsMetReadingRange};
+ghost use Rattle.qcow2_image.specs.MayFail.{MayFailReadingRange};
 ghost use Rattle.qcow2_image.specs.Refusals.{refuses_to_read};
 ghost use Rattle.qcow2_alloc.specs.declared.error.ImageError.TheVariants.{InvalidOption};
 ghost use Rattle.qcow2_session.specs.Sessions.{IsOfReading, IsOfWriting, cluster_size_of};
-ghost use Rattle.qcow2_session.specs.Conversions.{DiffersWhereKept, IsMetImporting, IsOfImporting, IsReasonNotToWrite};
-ghost use Rattle.qcow2_session.specs.Conversions.{IsRefusedUnequal, Imports, ImportsAll, ImportsAt, ImportsAny};
+ghost use Rattle.qcow2_session.specs.Conversions.{DiffersWhereKept, MayFailImporting, IsReasonNotToWrite};
+ghost use Rattle.qcow2_session.specs.Conversions.{Imports, ImportsAll, ImportsAt, ImportsAny};
 ghost use Rattle.qcow2_session.specs.Conversions.{ImportsAnyAt, ImportsAnyOf, Fills, Exports};
 
 use crate::session::{read_into, write};
@@ -24,31 +24,20 @@ use std::alloc::Global;
 
 /// Makes the disk of an image equal to a raw disk of the same size, cluster by cluster, and flushes the image. Returns the number of bytes.
 /// Only clusters that differ are written, and none that reads as zeros in both. After a refusal other than 14 and 15 the disk has the bytes of
-/// the raw disk up to a cluster boundary, and its own from there on. If the raw disk returns other bytes than it has, those count.
+/// the raw disk up to a cluster boundary, and its own from there on. If the raw disk returns other bytes than it has, the returned ones are copied.
 /// Refused before any work 16 (failed), 12 (dependency), then 5 (invalid option) for unequal sizes. A cluster that differs may be
-/// refused 1 (read-only) and 9 (table prepared), as a write is. Refused 4 (unaligned table), 7 (compressed),
-/// 8 (everything is in use), 13 (limit), 14 (memory) and 15 (storage) if the work meets them.
+/// refused 1 (read-only) and 9 (table prepared), as a write is. May be refused 4 (unaligned table), 7 (compressed),
+/// 8 (everything is in use), 13 (limit), 14 (memory) or 15 (storage) during the work.
 pub fn to_qcow2<R: Storage, S: Storage, F: WrappedFormat<S>>(
     alloc: Global,
     raw: &mut R,
     image: &mut Qcow2<S, F>,
 ) -> Result<u64, ImageError>
     ensures step { ImportStep S.view F.backing image.old image.new (R.view raw.old) (R.view raw.new) result }
-    ensures early { IfSome (refuses_to_read image.old 0 0) (λ e. (result ≡ Err e) × (image.new ≡ image.old) × (raw.new ≡ raw.old)) }
-    ensures unequal { (R.view raw.old).is_honest → length (R.view raw.old).contents ≢ size_of image.old
-        → IsRefusedUnequal (refuses_to_read image.old 0 0) (R.view raw.old).faults (R.view raw.new).faults result
-        × (image.new ≡ image.old) }
-    ensures option { (R.view raw.old).is_honest
-        → IfErr result (λ e. e ≡ InvalidOption → length (R.view raw.old).contents ≢ size_of image.old) }
+    ensures fails { ImportFails S.view F.backing image.old image.new R.view raw.old raw.new result }
     ensures sees { (R.view raw.old).is_honest → Imports S.view F.backing image.old image.new (R.view raw.old).contents result }
     ensures any { ImportsAny S.view F.backing image.old image.new result }
-    ensures cause { IfErr result IsOfImporting }
-    ensures late { refuses_to_read image.old 0 0 ≡ None → (out : List (Option Prepared)) → (abstract_of S.view F.backing image.old out).is_sound
-        → IfErr result (λ e. (e ≡ InvalidOption) ⊎ IsReasonNotToWrite S.view F.backing image.old image.new 0 (size_of image.old) out e) }
-    ensures met { refuses_to_read image.old 0 0 ≡ None → (out : List (Option Prepared)) → (abstract_of S.view F.backing image.old out).is_sound
-        → IfErr result (λ e. (e ≡ InvalidOption) ⊎ IsMetImporting S.view 0 (size_of image.old) image.new out e) }
     ensures emptied { IsTrue (is_writable image.old) → IfOk result (λ n. HasNothingToFree image.new) }
-    ensures differs { (R.view raw.old).is_honest → IfErr result (DiffersWhereKept S.view F.backing image.old 0 (R.view raw.old).contents) }
 {
     image.check_read(0, 0)?;
     let size = raw.size()?;
@@ -82,9 +71,9 @@ fn import_all<R: Storage, S: Storage, F: WrappedFormat<S>>(
     ensures late { refuses_to_read image.old 0 0 ≡ None → size ≡ size_of image.old → (out : List (Option Prepared))
         → (abstract_of S.view F.backing image.old out).is_sound
         → IfErr result (IsReasonNotToWrite S.view F.backing image.old image.new 0 size out) }
-    ensures met { refuses_to_read image.old 0 0 ≡ None → size ≡ size_of image.old → (out : List (Option Prepared))
+    ensures may_fail { refuses_to_read image.old 0 0 ≡ None → size ≡ size_of image.old → (out : List (Option Prepared))
         → (abstract_of S.view F.backing image.old out).is_sound
-        → IfErr result (IsMetImporting S.view 0 size image.new out) }
+        → IfErr result (MayFailImporting S.view 0 size image.new out) }
     ensures differs { (R.view raw.old).is_honest → size ≡ length (R.view raw.old).contents
         → IfErr result (DiffersWhereKept S.view F.backing image.old 0 (R.view raw.old).contents) }
 {
@@ -116,9 +105,9 @@ fn import_at<R: Storage, S: Storage, F: WrappedFormat<S>>(
         → (out : List (Option Prepared))
         → (abstract_of S.view F.backing image.old out).is_sound
         → IfErr result (IsReasonNotToWrite S.view F.backing image.old image.new at (at + length wanted.old) out) }
-    ensures met { refuses_to_read image.old at (length wanted.old) ≡ None → (out : List (Option Prepared))
+    ensures may_fail { refuses_to_read image.old at (length wanted.old) ≡ None → (out : List (Option Prepared))
         → (abstract_of S.view F.backing image.old out).is_sound
-        → IfErr result (IsMetImporting S.view at (at + length wanted.old) image.new out) }
+        → IfErr result (MayFailImporting S.view at (at + length wanted.old) image.new out) }
     ensures differs { (R.view raw.old).is_honest
         → IfErr result (DiffersWhereKept S.view F.backing image.old at
         (bytes_at (R.view raw.old).contents at (length wanted.old))) }
@@ -136,9 +125,9 @@ fn import_at<R: Storage, S: Storage, F: WrappedFormat<S>>(
 
 /// Makes a raw disk equal to the disk of an image, cluster by cluster. The raw disk is emptied, then resized to the disk's size, and each
 /// cluster that isn't all zeros is written. Ranges that the tables map as zeros aren't read: each possible L2 table is looked up once.
-/// Returns the number of bytes. The image's guest sees no change, and an image that was opened for reading isn't written.
-/// Refused before any work 16 (failed), 12 (dependency), then 14 (memory) if there is no memory for two clusters. Refused
-/// 4 (unaligned table), 7 (compressed), 8 (everything is in use), 14 and 15 (storage) if the work meets them. The raw disk may have any bytes then.
+/// Returns the number of bytes. The disk of the image stays the same, and an image that was opened for reading isn't written.
+/// Refused before any work 16 (failed), 12 (dependency), then 14 (memory) if there is no memory for two clusters. May be refused
+/// 4 (unaligned table), 7 (compressed), 8 (everything is in use), 14 or 15 (storage) during the work. The raw disk may have any bytes then.
 pub fn to_raw<S: Storage, F: WrappedFormat<S>, R: Storage>(
     alloc: Global,
     image: &mut Qcow2<S, F>,
@@ -148,9 +137,9 @@ pub fn to_raw<S: Storage, F: WrappedFormat<S>, R: Storage>(
     ensures early { IfSome (refuses_to_read image.old 0 0) (λ e. (result ≡ Err e) × (image.new ≡ image.old) × (raw.new ≡ raw.old)) }
     ensures sees { (R.view raw.old).is_honest → IfOk result (λ n. Exports S.view F.backing image.old (R.view raw.new).contents n) }
     ensures cause { IfErr result IsOfReading }
-    ensures met { refuses_to_read image.old 0 0 ≡ None → (out : List (Option Prepared))
+    ensures may_fail { refuses_to_read image.old 0 0 ≡ None → (out : List (Option Prepared))
         → (abstract_of S.view F.backing image.old out).is_sound
-        → IfErr result (IsMetReadingRange out 0 (size_of image.old) image.old.file.header.fields
+        → IfErr result (MayFailReadingRange out 0 (size_of image.old) image.old.file.header.fields
         (known_in S.view image.old.file)) }
 {
     image.check_read(0, 0)?;
@@ -178,9 +167,9 @@ fn export_all<S: Storage, F: WrappedFormat<S>, R: Storage>(
     ensures sees { (R.view raw.old).is_honest
         → OnOk result (Fills S.view F.backing image.old 0 size (R.view raw.old).contents (R.view raw.new).contents) }
     ensures cause { IfErr result IsOfReading }
-    ensures met { refuses_to_read image.old 0 0 ≡ None → size ≡ size_of image.old → (out : List (Option Prepared))
+    ensures may_fail { refuses_to_read image.old 0 0 ≡ None → size ≡ size_of image.old → (out : List (Option Prepared))
         → (abstract_of S.view F.backing image.old out).is_sound
-        → IfErr result (IsMetReadingRange out 0 size image.old.file.header.fields (known_in S.view image.old.file)) }
+        → IfErr result (MayFailReadingRange out 0 size image.old.file.header.fields (known_in S.view image.old.file)) }
 {
     let mut at = 0;
     while at < size {
@@ -209,9 +198,9 @@ fn export_some<S: Storage, F: WrappedFormat<S>, R: Storage>(
         → IfOk result (λ n. Fills S.view F.backing image.old at (at + n) (R.view raw.old).contents
         (R.view raw.new).contents) }
     ensures cause { IfErr result IsOfReading }
-    ensures met { refuses_to_read image.old at max ≡ None → (out : List (Option Prepared))
+    ensures may_fail { refuses_to_read image.old at max ≡ None → (out : List (Option Prepared))
         → (abstract_of S.view F.backing image.old out).is_sound
-        → IfErr result (IsMetReadingRange out at (at + max) image.old.file.header.fields (known_in S.view image.old.file)) }
+        → IfErr result (MayFailReadingRange out at (at + max) image.old.file.header.fields (known_in S.view image.old.file)) }
 {
     let passed = zero_run(image, at, max)?;
     if passed > 0 {
@@ -233,8 +222,8 @@ fn zero_run<S: Storage, F: WrappedFormat<S>>(
     ensures sees { AnswersCall S.view F.backing image.old image.new []
         (λ n old new. Shows old.disk at (replicate n 0) × (new ≡ old)) result }
     ensures cause { IfErr result IsOfReading }
-    ensures met { (out : List (Option Prepared)) → (abstract_of S.view F.backing image.old out).is_sound
-        → IfErr result (IsMetReadingRange out at (at + max) image.old.file.header.fields (known_in S.view image.old.file)) }
+    ensures may_fail { (out : List (Option Prepared)) → (abstract_of S.view F.backing image.old out).is_sound
+        → IfErr result (MayFailReadingRange out at (at + max) image.old.file.header.fields (known_in S.view image.old.file)) }
 {
     let (mapping, found) = image.get_mapping(at, max)?;
     match mapping.kind {
@@ -257,9 +246,9 @@ fn export_at<S: Storage, F: WrappedFormat<S>, R: Storage>(
         → OnOk result (Fills S.view F.backing image.old at (at + length bytes.old) (R.view raw.old).contents
         (R.view raw.new).contents) }
     ensures cause { IfErr result IsOfReading }
-    ensures met { refuses_to_read image.old at (length bytes.old) ≡ None → (out : List (Option Prepared))
+    ensures may_fail { refuses_to_read image.old at (length bytes.old) ≡ None → (out : List (Option Prepared))
         → (abstract_of S.view F.backing image.old out).is_sound
-        → IfErr result (IsMetReadingRange out at (at + length bytes.old) image.old.file.header.fields
+        → IfErr result (MayFailReadingRange out at (at + length bytes.old) image.old.file.header.fields
         (known_in S.view image.old.file)) }
 {
     read_into(image, at, bytes)?;

@@ -12,20 +12,20 @@ ghost use Rattle.qcow2_image.specs.Opened.{IsKeptSince, IsRefusedAlone, LeavesSt
 ghost use Rattle.qcow2_image.specs.Opened.{storage_after};
 ghost use Rattle.qcow2_image.specs.Readable.{OpensRightly};
 ghost use Rattle.qcow2_image.specs.Unwritten.{ContentsStayThroughout};
-ghost use Rattle.qcow2_session.specs.Opening.{CountsSinceBefore, EachMomentOpensAgain, Headline, IsLeftAlone, TellsOfOpened, missing_beside};
+ghost use Rattle.qcow2_session.specs.Opening.{CountsSinceBefore, EachMomentOpensAgain, Headline, IsLeftAlone, ReportsOfOpened, missing_beside};
 
 use crate::session::{Command, Reply, run};
 use image_access::{Storage, WrappedFormat};
 use qcow2_image::{ImageError, Qcow2, Qcow2OpenBuilder};
 use std::alloc::Global;
 
-/// Opens an image for writing, over the backing disk if one is given, and answers each command as `run` does. Without a backing disk the
-/// image must need no other file, with one no other file than that. Modified tables stay in memory until a `flush`. If opening is
-/// refused, the storage is returned. Images that are open together must have different numbers. Without the command `InvalidateCache`, a
-/// consistent image opens again wherever this was stopped: every content that the storage had since is consistent too.
+/// Opens an image for writing, over the backing disk if one is given, and answers each command as `run` does. The image must need no file but the
+/// backing disk that is given. Modified tables stay in memory until a `flush`. If opening is refused, the storage is returned. Images that are open
+/// together must have different numbers. Without the command `InvalidateCache`, a consistent image opens again wherever this was stopped: all
+/// contents that the storage had since are consistent too.
 /// Refused for the header 19 (metadata), 13 (limit), 4 (unaligned table), in this order; then 12 (dependency) for an image that needs
-/// a missing file, which stays the same; then for its tables 13 and 19. Refused 14 (memory) and
-/// 15 (storage) if the work meets them.
+/// a missing file, which stays the same; then for its tables 13 and 19. May be refused 14 (memory) or
+/// 15 (storage) during the work.
 pub fn open_and_run<S: Storage, F: WrappedFormat<S>>(
     alloc: Global,
     storage: S,
@@ -37,7 +37,7 @@ pub fn open_and_run<S: Storage, F: WrappedFormat<S>>(
     ensures another { (S.view storage).is_honest → NeedsMissing (missing_beside below) (S.view storage).contents
         → IsLeftAlone (S.view storage) S.view result }
     ensures faults { CountsSinceBefore S.view F.backing (S.view storage) below result }
-    ensures tells { TellsOfOpened S.view F.backing (S.view storage) below number commands.now result }
+    ensures reports { ReportsOfOpened S.view F.backing (S.view storage) below number commands.now result }
     ensures headline { Headline S.view F.backing (S.view storage) below commands.now result }
     ensures again { EachMomentOpensAgain S.view F.backing (S.view storage) below commands.now result }
 {

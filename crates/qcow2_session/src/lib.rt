@@ -11,7 +11,9 @@ mod sizing;
 mod slots;
 mod special;
 
-pub use boxes::run_in_boxes;
+pub use boxes::{
+    AnyDisk, AnyStorage, open_and_run_in_boxes, read_in_boxes, run_in_boxes, write_in_boxes,
+};
 pub use headline::open_and_run;
 pub use qcow2_check::{Breach, Kind, Leak, Leaks, Report, check};
 pub use recorded::open_and_run_recorded;

@@ -9,9 +9,9 @@ use image_access::{TraceStorage, WrappedFormat};
 use qcow2_image::{ImageError, Qcow2};
 use std::alloc::Global;
 
-/// Opens an image and answers each command as `open_and_run` does, on a storage that records its changes. The contents after its first
-/// n writes (`TraceStorage::after`) are what a stop right then would leave of a file: a consistent image that opens again, in which
-/// each byte has its value at the last flush, or one given since.
+/// Opens an image and answers each command as `open_and_run` does, on a storage that records its changes. The contents after the storage's first n
+/// writes (`TraceStorage::after`) are what a stop right then would leave of a file: a consistent image that opens again, in which each byte has its
+/// value at the last flush, or one given since.
 pub fn open_and_run_recorded<F: WrappedFormat<TraceStorage>>(
     alloc: Global,
     storage: TraceStorage,

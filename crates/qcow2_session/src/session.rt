@@ -1,42 +1,27 @@
 //! Commands, one after another, on one image.
-ghost use Rattle.qcow2_session.specs.CallSteps.{CommandStep, InvalidatingCommand, ReadingParts, ReleasingStep};
-ghost use Rattle.qcow2_session.specs.CallSteps.{SpecialStep, WritesSoundly};
-ghost use Rattle.qcow2_session.specs.CallSteps.{WritingParts};
-ghost use Rattle.std.specs.Prelude.{◌≡◌, ◌+◌, ◌^◌, ◌≤◌, ◌⊎◌, ◌<◌, ◌++◌, ◌∷◌, ℕ, List, [], length, vec_len, IfSome};
-ghost use Rattle.qcow2_disk.specs.Runs.{HasNoInvalidation, KeepsUnflushed};
-ghost use Rattle.qcow2_session.specs.Commands.{command_of};
-ghost use Rattle.std.specs.Prelude.{map, IfErr, IfOk, IsTrue, MatchResult, OnOk, Option, None, Some, Err, true, false, ◌-◌};
-ghost use Rattle.qcow2_alloc.specs.declared.error.ImageError.TheVariants.{Limit, Memory, OutdatedMapping};
-ghost use Rattle.qcow2_alloc.specs.declared.error.ImageError.TheVariants.{TablePrepared};
+ghost use Rattle.qcow2_session.specs.CallSteps.{AnswersCommand, ReadingParts, RefusesToRead, RunStep};
+ghost use Rattle.qcow2_session.specs.CallSteps.{RefusesToWrite, ReleasingStep, SpecialStep, WriteFails, WriteStep};
+ghost use Rattle.qcow2_session.specs.CallSteps.{WritesPart, WritesPartSoundly, WritingParts, WroteSoundly};
+ghost use Rattle.std.specs.Prelude.{◌≡◌, ◌+◌, ◌≤◌, ◌<◌, ◌++◌, ◌∷◌, List, [], length, vec_len, IfSome};
+ghost use Rattle.std.specs.Prelude.{IfErr, IfOk, OnOk, Option, None, Some, Err, true, ◌-◌};
+ghost use Rattle.qcow2_alloc.specs.declared.error.ImageError.TheVariants.{Memory, OutdatedMapping};
 ghost use Rattle.qcow2_alloc.specs.ImageFile.{known_in};
-ghost use Rattle.qcow2_image.specs.Backings.{HasPinnedMapping};
 ghost use Rattle.qcow2_image.specs.BehindHeader.{PreservesHeaderCluster};
 ghost use Rattle.qcow2_image.specs.Found.{IsFoundWhole, further_by};
-ghost use Rattle.qcow2_disk.specs.Mappings.{given_of};
-ghost use Rattle.qcow2_image.specs.Limits.{IsLimited};
-ghost use Rattle.qcow2_image.specs.ListedClusters.{ListsNoMore};
-ghost use Rattle.qcow2_image.specs.MetAlone.{CopiesCompressed, IsCacheHeld, IsMetMapped, IsMetReadingRange};
-ghost use Rattle.qcow2_image.specs.MetAlone.{MayFailAllocating};
-ghost use Rattle.qcow2_image.specs.Preallocation.{IsUnderMappingIn};
-ghost use Rattle.qcow2_image.specs.Image.{IsSameImage, is_failed, is_writable, number_of, size_of, KeepsWholeHeader};
+ghost use Rattle.qcow2_image.specs.MayFail.{IsCacheHeld, MayFailMapped, MayFailReadingRange};
+ghost use Rattle.qcow2_image.specs.Image.{IsSameImage, is_failed, number_of, KeepsWholeHeader};
 ghost use Rattle.qcow2_image.specs.Prepared.{image_of};
 ghost use Rattle.qcow2_image.specs.ImageInvariant.{abstract_of};
 ghost use Rattle.qcow2_image.specs.Calls.{Discards};
-ghost use Rattle.qcow2_image.specs.Refusals.{IsMet, IsMetPreparing, unusable, refuses_mapping, refuses_to_read};
-ghost use Rattle.qcow2_image.specs.Refusals.{refuses_to_prepare};
-ghost use Rattle.qcow2_image.specs.Faults.{NoFewerFaults, SameFaults, TellsEachBy, TellsFault};
-ghost use Rattle.qcow2_session.specs.Causes.{RefusalJustified};
-ghost use Rattle.qcow2_session.specs.CountedFaults.{CommandCounts, RunCounts, refusal_in};
-ghost use Rattle.qcow2_session.specs.Marks.{MarksBy, MarksInParts};
-ghost use Rattle.qcow2_session.specs.Sessions.{IsRightlyBeyond, IsOfReading, IsOfWriting};
-ghost use Rattle.qcow2_session.specs.Sessions.{LeavesCopied, NeedsOverflowingToWrite, EndsCluster, Reads, ReadsInto};
-ghost use Rattle.qcow2_session.specs.Sessions.{ReadsFirst, Writes, WritesFirst, CommandSteps, Finds, ReleasesMappings};
-ghost use Rattle.qcow2_session.specs.Sessions.{RunsThrough, RunRefinesDisk, LookupsFindContents, mappings_in};
-ghost use Rattle.qcow2_session.specs.Sessions.{RespectsMappings};
+ghost use Rattle.qcow2_image.specs.Refusals.{MayFail, unusable, refuses_mapping, refuses_to_read};
+ghost use Rattle.qcow2_image.specs.Faults.{SameFaults};
+ghost use Rattle.qcow2_session.specs.Sessions.{IsRightlyBeyond, IsOfReading};
+ghost use Rattle.qcow2_session.specs.Sessions.{Reads, ReadsInto};
+ghost use Rattle.qcow2_session.specs.Sessions.{ReadsFirst, Writes, WritesFirst, ReleasesMappings};
+ghost use Rattle.qcow2_session.specs.Sessions.{RunsThrough, RunRefinesDisk, LookupsFindContents};
 ghost use Rattle.qcow2_image.specs.declared.mapping.Mapping.{Mapping};
 ghost use Rattle.qcow2_image.specs.Ranges.{ReleasesOneMapping};
-ghost use Rattle.qcow2_image.specs.Unwritten.{ReadsQuietly};
-ghost use Rattle.qcow2_session.specs.Told.{KeepsItself, LeavesQuietly, SlotsAfter, StaysQuiet, ReplyMatchesImage};
+ghost use Rattle.qcow2_session.specs.Told.{StaysQuiet};
 ghost use Rattle.qcow2_session.specs.Told.{ReportsMatchImage};
 ghost use Rattle.qcow2_image.specs.declared.prepared.Prepared.{Prepared};
 
@@ -68,7 +53,7 @@ pub enum Command {
         offset: u64,
         max: u64,
     },
-    /// `read_mapped` from `at` in the lookup of a slot on. Reply: `Bytes` or `Misuse`.
+    /// `read_mapped` from offset `at` in the lookup of a slot on. Reply: `Bytes` or `Misuse`.
     ReadMapped {
         slot: u8,
         at: u64,
@@ -81,17 +66,17 @@ pub enum Command {
         length: u64,
         overwrite: bool,
     },
-    /// `write_mapped` from `at` in the prepared mapping of a slot on. Reply: `Done` or `Misuse`.
+    /// `write_mapped` from offset `at` in the prepared mapping of a slot on. Reply: `Done` or `Misuse`.
     WriteMapped {
         slot: u8,
         at: u64,
         bytes: Vec<u8>,
     },
-    /// `commit_data_mapping` of the mapping in a slot, which is empty then, unless the mapping is handed back. Reply: `Done` or `Misuse`.
+    /// `commit_data_mapping` of the mapping in a slot, which is then empty, unless the mapping is returned. Reply: `Done` or `Misuse`.
     CommitDataMapping {
         slot: u8,
     },
-    /// `discard_data_mapping` of the mapping in a slot, which is empty then. Reply: `Done` or `Misuse`.
+    /// `discard_data_mapping` of the mapping in a slot, which is then empty. Reply: `Done` or `Misuse`.
     DiscardDataMapping {
         slot: u8,
     },
@@ -166,7 +151,7 @@ pub enum Reply {
         offset: u64,
         length: u64,
     },
-    /// The offset of a range that doesn't begin in a compressed cluster; none for no bytes.
+    /// The offset of a range that doesn't begin in a compressed cluster; None for no bytes.
     NotCompressed(Option<u64>),
     /// The offset up to which the tail of a smaller disk was discarded, or the old size if the disk isn't smaller.
     Shrunk(u64),
@@ -178,13 +163,13 @@ pub enum Reply {
     Refused(ImageError),
     /// A write was refused after this many leading bytes were written.
     WriteRefused(ImageError, u64),
-    /// The slot is empty or in use, or the range is outside its mapping. No call was made.
+    /// The slot is empty or already in use, or the range passes the end of the slot's mapping. No call was made.
     Misuse,
 }
 
 /// Reads bytes of the guest's disk, from an offset in bytes on.
-/// Refused in this order: 16 (failed), 12 (dependency), 2 (beyond size) for a range of at least one byte that ends behind the size. Refused
-/// 4 (unaligned table), 7 (compressed), 8 (everything is in use), 14 (memory) and 15 (storage) if the work meets them, and 14 if there is
+/// Refused in this order: 16 (failed), 12 (dependency), 2 (beyond size) for a range of at least one byte that ends past the size. May be refused
+/// 4 (unaligned table), 7 (compressed), 8 (everything is in use), 14 (memory) or 15 (storage) during the work, and 14 if there is
 /// no memory for the bytes.
 pub fn read<S: Storage, F: WrappedFormat<S>>(
     alloc: Global,
@@ -193,14 +178,7 @@ pub fn read<S: Storage, F: WrappedFormat<S>>(
     length: u64,
 ) -> Result<Vec<u8>, ImageError>
     ensures step { ReadingParts S.view F.backing image.old image.new result }
-    ensures early { IfSome (refuses_to_read image.old offset length) (λ e. (result ≡ Err e) × (image.new ≡ image.old)) }
-    ensures late { refuses_to_read image.old offset length ≡ None → IfErr result (λ e. IsMet e × (0 < length)) }
-    ensures met { refuses_to_read image.old offset length ≡ None → (out : List (Option Prepared))
-        → (abstract_of S.view F.backing image.old out).is_sound
-        → IfErr result (IsMetReadingRange out offset (offset + length) image.old.file.header.fields
-        (known_in S.view image.old.file)) }
-    ensures beyond { IfErr result (IsRightlyBeyond image.old offset length) }
-    ensures cause { IfErr result IsOfReading }
+    ensures fails { RefusesToRead S.view F.backing image.old image.new result offset length }
     ensures sees { Reads S.view F.backing image.old image.new offset length result }
 {
     image.check_read(offset, length)?;
@@ -225,22 +203,15 @@ pub(crate) fn zeros(alloc: Global, count: usize) -> Result<Vec<u8>, ImageError>
 
 /// Fills the buffer with the guest's bytes, from an offset in bytes on. The range may cross clusters and tables. After a refusal the
 /// buffer may hold any bytes.
-/// Refused in this order: 16 (failed), 12 (dependency), 2 (beyond size) for a range of at least one byte that ends behind the size. Refused
-/// 4 (unaligned table), 7 (compressed), 8 (everything is in use), 14 (memory) and 15 (storage) if the work meets them.
+/// Refused in this order: 16 (failed), 12 (dependency), 2 (beyond size) for a range of at least one byte that ends past the size. May be refused
+/// 4 (unaligned table), 7 (compressed), 8 (everything is in use), 14 (memory) or 15 (storage) during the work.
 pub fn read_into<S: Storage, F: WrappedFormat<S>>(
     image: &mut Qcow2<S, F>,
     offset: u64,
     bytes: &mut [u8],
 ) -> Result<(), ImageError>
     ensures step { ReadingParts S.view F.backing image.old image.new result }
-    ensures early { IfSome (refuses_to_read image.old offset (length bytes.old)) (λ e. (result ≡ Err e) × (image.new ≡ image.old)) }
-    ensures late { refuses_to_read image.old offset (length bytes.old) ≡ None → IfErr result (λ e. IsMet e × (0 < length bytes.old)) }
-    ensures met { refuses_to_read image.old offset (length bytes.old) ≡ None → (out : List (Option Prepared))
-        → (abstract_of S.view F.backing image.old out).is_sound
-        → IfErr result (IsMetReadingRange out offset (offset + length bytes.old) image.old.file.header.fields
-        (known_in S.view image.old.file)) }
-    ensures beyond { IfErr result (IsRightlyBeyond image.old offset (length bytes.old)) }
-    ensures cause { IfErr result IsOfReading }
+    ensures fails { RefusesToRead S.view F.backing image.old image.new result offset (length bytes.old) }
     ensures sees { ReadsInto S.view F.backing image.old image.new offset bytes.new result }
 {
     image.check_read(offset, bytes.len() as u64)?;
@@ -263,10 +234,10 @@ fn read_some<S: Storage, F: WrappedFormat<S>>(
     ensures step { ReadingParts S.view F.backing image.old image.new result }
     ensures some { IfOk result (λ n. 0 < n) }
     ensures within { IfOk result (λ n. n ≤ length bytes.old) }
-    ensures late { refuses_to_read image.old offset (length bytes.old) ≡ None → 0 < length bytes.old → IfErr result IsMet }
-    ensures met { refuses_to_read image.old offset (length bytes.old) ≡ None → 0 < length bytes.old
+    ensures late { refuses_to_read image.old offset (length bytes.old) ≡ None → 0 < length bytes.old → IfErr result MayFail }
+    ensures may_fail { refuses_to_read image.old offset (length bytes.old) ≡ None → 0 < length bytes.old
         → (out : List (Option Prepared)) → (abstract_of S.view F.backing image.old out).is_sound
-        → IfErr result (IsMetReadingRange out offset (offset + length bytes.old) image.old.file.header.fields
+        → IfErr result (MayFailReadingRange out offset (offset + length bytes.old) image.old.file.header.fields
         (known_in S.view image.old.file)) }
     ensures beyond { 0 < length bytes.old → IfErr result (IsRightlyBeyond image.old offset (length bytes.old)) }
     ensures cause { IfErr result IsOfReading }
@@ -283,54 +254,20 @@ fn read_some<S: Storage, F: WrappedFormat<S>>(
 
 /// Writes bytes to the guest's disk, from an offset in bytes on. A refusal says how many leading bytes were written. On a sound image
 /// these are none, or end at a cluster boundary.
-/// Refused in this order: 16 (failed), 12 (dependency), 2 (beyond size) for a range of at least one byte that ends behind the size,
+/// Refused in this order: 16 (failed), 12 (dependency), 2 (beyond size) for a range of at least one byte that ends past the size,
 /// 1 (read-only) for at least one byte; then 9 (table prepared), if a mapping that isn't existing is prepared in an L2 table of
-/// the range. Refused 4 (unaligned table), 7 (compressed), 8 (everything is in use), 13 (limit), 14 (memory) and
-/// 15 (storage) if the work meets them, and 20 (overflow) if an L1 entry past 64 bits would have to be written.
+/// the range. May be refused 4 (unaligned table), 7 (compressed), 8 (everything is in use), 13 (limit), 14 (memory) or
+/// 15 (storage) during the work, and 20 (overflow) if an L1 entry past 64 bits would have to be written.
 pub fn write<S: Storage, F: WrappedFormat<S>>(
     image: &mut Qcow2<S, F>,
     offset: u64,
     bytes: &[u8],
 ) -> Result<(), (ImageError, u64)>
-    ensures image { IsSameImage image.old image.new }
-    ensures faults { NoFewerFaults S.view F.backing image.old image.new
-        × IfErr result (λ (e, n). TellsFault S.view F.backing image.old image.new e)
-        × TellsEachBy S.view F.backing (λ refused. refused.0) image.old image.new result }
-    ensures header_cluster { PreservesHeaderCluster S.view image.old image.new }
-    ensures marks { MatchResult result (λ done. MarksInParts S.view None image.old image.new)
-        (λ (e, n). MarksInParts S.view (Some e) image.old image.new) }
-    ensures early { IfSome (refuses_to_prepare image.old offset (length bytes.now)) (λ e. (result ≡ Err (e, 0)) × (image.new ≡ image.old)) }
-    ensures late { refuses_to_prepare image.old offset (length bytes.now) ≡ None
-        → IfErr result (λ (e, n). IsMetPreparing e × (0 < length bytes.now)) }
-    ensures met { refuses_to_prepare image.old offset (length bytes.now) ≡ None → (out : List (Option Prepared))
-        → (abstract_of S.view F.backing image.old out).is_sound
-        → IfErr result (λ (e, n). MayFailAllocating (HasPinnedMapping out)
-        (IsUnderMappingIn image.old.file.header.fields offset (offset + length bytes.now) out)
-        (CopiesCompressed offset (length bytes.now) true image.new.file.header.fields (known_in S.view image.new.file))
-        (NeedsOverflowingToWrite S.view F.backing image.old offset bytes.now n) e) }
-    ensures taken { refuses_to_prepare image.old offset (length bytes.now) ≡ None → (out : List (Option Prepared))
-        → (abstract_of S.view F.backing image.old out).is_sound
-        → IfErr result (λ (e, n). e ≡ TablePrepared
-        → IsUnderMappingIn image.old.file.header.fields offset (offset + length bytes.now) out) }
-    ensures taken_part { refuses_to_prepare image.old offset (length bytes.now) ≡ None → (out : List (Option Prepared))
-        → (abstract_of S.view F.backing image.old out).is_sound
-        → RespectsMappings S.view F.backing image.old out offset bytes.now result }
-    ensures limit { refuses_to_prepare image.old offset (length bytes.now) ≡ None → (out : List (Option Prepared))
-        → (abstract_of S.view F.backing image.old out).is_sound
-        → IfErr result (λ (e, n). e ≡ Limit → IsLimited S.view F.backing (given_of offset bytes.now ∷ [])
-        (offset + length bytes.now) image.old out) }
-    ensures freeing { (out : List (Option Prepared)) → (abstract_of S.view F.backing image.old out).is_sound
-        → OnOk result (ListsNoMore image.old image.new) }
-    ensures within { IfErr result (λ (e, n). n ≤ length bytes.now) }
-    ensures beyond { IfErr result (λ (e, n). IsRightlyBeyond image.old offset (length bytes.now) e) }
-    ensures cause { IfErr result (λ (e, n). IsOfWriting e) }
-    ensures ends { (out : List (Option Prepared)) → (abstract_of S.view F.backing image.old out).is_sound
-        → IfErr result (λ (e, n). 0 < n → (n < length bytes.now) × EndsCluster image.old (offset + n)) }
+    ensures step { WriteStep S.view F.backing image.old image.new result }
+    ensures fails { WriteFails S.view F.backing image.old image.new result offset (length bytes.now) }
+    ensures sound { (out : List (Option Prepared)) → (abstract_of S.view F.backing image.old out).is_sound
+        → WroteSoundly S.view F.backing image.old image.new result offset bytes.now out }
     ensures sees { Writes S.view F.backing image.old image.new offset bytes.now result }
-    ensures copied { 0 < length bytes.now → (out : List (Option Prepared))
-        → (abstract_of S.view F.backing image.old out).is_sound
-        → OnOk result (LeavesCopied S.view F.backing image.old image.new offset bytes.now (length bytes.now)) }
-    ensures quiet { StaysQuiet S.view image.old image.new }
 {
     let mut done = match write_some(image, offset, bytes) {
         Ok(count) => count,
@@ -355,25 +292,11 @@ fn write_some<S: Storage, F: WrappedFormat<S>>(
     bytes: &[u8],
 ) -> Result<usize, ImageError>
     ensures step { WritingParts S.view F.backing image.old image.new result }
-    ensures early { IfSome (refuses_to_prepare image.old offset (length bytes.now)) (λ e. (result ≡ Err e) × (image.new ≡ image.old)) }
-    ensures late { refuses_to_prepare image.old offset (length bytes.now) ≡ None
-        → IfErr result (λ e. IsMetPreparing e × (0 < length bytes.now)) }
-    ensures sound { refuses_to_prepare image.old offset (length bytes.now) ≡ None → (out : List (Option Prepared))
-        → (abstract_of S.view F.backing image.old out).is_sound
-        → WritesSoundly S.view F.backing image.old image.new offset (length bytes.now) out result }
-    ensures freeing { (out : List (Option Prepared)) → (abstract_of S.view F.backing image.old out).is_sound
-        → OnOk result (ListsNoMore image.old image.new) }
-    ensures some { IfOk result (λ n. 0 < length bytes.now → 0 < n) }
-    ensures within { IfOk result (λ n. n ≤ length bytes.now) }
-    ensures beyond { IfErr result (IsRightlyBeyond image.old offset (length bytes.now)) }
-    ensures cause { IfErr result IsOfWriting }
-    ensures end { IfOk result (λ n. (is_failed image.new ≡ is_failed image.old) × (offset + length bytes.now < 2 ^ 64)) }
-    ensures ends { (out : List (Option Prepared)) → (abstract_of S.view F.backing image.old out).is_sound
-        → IfOk result (λ n. n < length bytes.now → EndsCluster image.old (offset + n)) }
+    ensures fails { RefusesToWrite S.view F.backing image.old image.new result offset (length bytes.now) }
+    ensures answers { WritesPart S.view F.backing image.old image.new offset bytes.now result }
+    ensures sound { (out : List (Option Prepared)) → (abstract_of S.view F.backing image.old out).is_sound
+        → WritesPartSoundly S.view F.backing image.old image.new offset bytes.now out result }
     ensures sees { WritesFirst S.view F.backing image.old image.new offset bytes.now result }
-    ensures copied { 0 < length bytes.now → (out : List (Option Prepared))
-        → (abstract_of S.view F.backing image.old out).is_sound
-        → IfOk result (LeavesCopied S.view F.backing image.old image.new offset bytes.now) }
 {
     let prepared = image.prepare_data_mapping(offset, bytes.len() as u64, true)?;
     let count = bytes.len().min(prepared.length() as usize);
@@ -415,13 +338,10 @@ pub fn run<S: Storage, F: WrappedFormat<S>>(
     image: &mut Qcow2<S, F>,
     commands: &[Command],
 ) -> Vec<Reply>
-    ensures number { number_of image.new ≡ number_of image.old }
-    ensures faults { RunCounts S.view F.backing image.old image.new result.items }
-    ensures header_cluster { HasNoInvalidation (map command_of commands.now) → PreservesHeaderCluster S.view image.old image.new }
-    ensures count { (result.items ≡ []) ⊎ (vec_len result ≡ length commands.now) }
+    ensures step { RunStep S.view F.backing image.old image.new commands.now result }
     ensures runs { RunsThrough S.view F.backing image.old image.new commands.now result.items }
     ensures means { RunRefinesDisk S.view F.backing image.old image.new commands.now result.items }
-    ensures tells { ReportsMatchImage S.view F.backing image.old image.new commands.now result.items }
+    ensures reports { ReportsMatchImage S.view F.backing image.old image.new commands.now result.items }
     ensures maps { LookupsFindContents S.view F.backing image.old image.new commands.now result.items }
     ensures quiet { StaysQuiet S.view image.old image.new }
 {
@@ -447,21 +367,7 @@ fn step<S: Storage, F: WrappedFormat<S>>(
     command: &Command,
 ) -> Reply
     requires { slots.old.image ≡ number_of image.old }
-    ensures keeps { KeepsItself image.old image.new }
-    ensures faults { CommandCounts S.view F.backing image.old image.new result }
-    ensures header_cluster { KeepsUnflushed (command_of command.now)
-        → PreservesHeaderCluster S.view image.old image.new }
-    ensures marks { MarksBy S.view image.old image.new command.now (refusal_in result) }
-    ensures slots { slots.new.image ≡ slots.old.image }
-    ensures command_step { KeepsUnflushed (command_of command.now)
-        → CommandSteps S.view F.backing image.old image.new slots.old slots.new command.now result }
-    ensures finds { Finds slots.old slots.new command.now result }
-    ensures tells { ReplyMatchesImage S.view F.backing image.old image.new slots.old.prepared.items slots.new.prepared.items command.now result }
-    ensures after { SlotsAfter slots.old.prepared.items command.now result slots.new.prepared.items }
-    ensures size { IsTrue (is_failed image.old) → size_of image.new ≡ size_of image.old }
-    ensures causes { RefusalJustified S.view F.backing image.old image.new slots.old.prepared.items
-        (mappings_in slots.old.mappings.items) command.now result }
-    ensures quiet { LeavesQuietly S.view image.old slots.old.prepared.items image.new slots.new.prepared.items }
+    ensures { AnswersCommand S.view F.backing image.old image.new slots.old slots.new command.now result }
 {
     match command {
         Command::Read { offset, length } => match read(alloc, image, *offset, *length) {
@@ -513,17 +419,8 @@ fn get_mapping<S: Storage, F: WrappedFormat<S>>(
     max: u64,
 ) -> Reply
     requires { slots.old.image ≡ number_of image.old }
-    ensures step { CommandStep S.view F.backing image.old image.new result }
-    ensures causes { RefusalJustified S.view F.backing image.old image.new slots.old.prepared.items
-        (mappings_in slots.old.mappings.items) (Command.GetMapping slot offset max) result }
-    ensures slots { slots.new.image ≡ slots.old.image }
-    ensures command_step { CommandSteps S.view F.backing image.old image.new slots.old slots.new (Command.GetMapping slot offset max) result }
-    ensures finds { Finds slots.old slots.new (Command.GetMapping slot offset max) result }
-    ensures after { SlotsAfter slots.old.prepared.items (Command.GetMapping slot offset max) result slots.new.prepared.items }
-    ensures tells { ReplyMatchesImage S.view F.backing image.old image.new slots.old.prepared.items
-        slots.new.prepared.items
+    ensures { AnswersCommand S.view F.backing image.old image.new slots.old slots.new
         (Command.GetMapping slot offset max) result }
-    ensures quiet { LeavesQuietly S.view image.old slots.old.prepared.items image.new slots.new.prepared.items }
 {
     match image.get_mapping(offset, max) {
         Ok((mapping, _)) => {
@@ -543,12 +440,8 @@ fn read_mapped<S: Storage, F: WrappedFormat<S>>(
     length: u64,
 ) -> Reply
     requires { slots.now.image ≡ number_of image.old }
-    ensures step { CommandStep S.view F.backing image.old image.new result }
-    ensures causes { RefusalJustified S.view F.backing image.old image.new slots.now.prepared.items
-        (mappings_in slots.now.mappings.items) (Command.ReadMapped slot at length) result }
-    ensures command_step { CommandSteps S.view F.backing image.old image.new slots.now slots.now (Command.ReadMapped slot at length) result }
-    ensures finds { Finds slots.now slots.now (Command.ReadMapped slot at length) result }
-    ensures quiet { ReadsQuietly S.view image.old image.new }
+    ensures { AnswersCommand S.view F.backing image.old image.new slots.now slots.now
+        (Command.ReadMapped slot at length) result }
 {
     let Some(mapping) = slots.mappings[usize::from(slot)] else {
         return Reply::Misuse;
@@ -573,10 +466,10 @@ fn read_range<S: Storage, F: WrappedFormat<S>>(
     requires { at + length ≤ mapping.now.length }
     ensures step { SpecialStep S.view F.backing image.old image.new result }
     ensures early { IfSome (unusable image.old) (λ e. (result ≡ Err e) × (image.new ≡ image.old)) }
-    ensures late { refuses_mapping image.old mapping.now.image ≡ None → IfErr result (λ e. IsMet e × (0 < length)) }
-    ensures met { refuses_mapping image.old mapping.now.image ≡ None → (out : List (Option Prepared))
+    ensures late { refuses_mapping image.old mapping.now.image ≡ None → IfErr result (λ e. MayFail e × (0 < length)) }
+    ensures may_fail { refuses_mapping image.old mapping.now.image ≡ None → (out : List (Option Prepared))
         → (abstract_of S.view F.backing image.old out).is_sound
-        → IfErr result (IsMetMapped (IsCacheHeld image.old out) (further_by at mapping.now.kind)
+        → IfErr result (MayFailMapped (IsCacheHeld image.old out) (further_by at mapping.now.kind)
         (IsFoundWhole S.view image.old (mapping.now.offset + at) (further_by at mapping.now.kind) length)) }
     ensures outdated { (out : List (Option Prepared)) → (abstract_of S.view F.backing image.old out).is_sound → result ≡ Err OutdatedMapping
         → ¬ IsFoundWhole S.view image.old (mapping.now.offset + at) (further_by at mapping.now.kind) length }
@@ -600,18 +493,8 @@ fn prepare<S: Storage, F: WrappedFormat<S>>(
     overwrite: bool,
 ) -> Reply
     requires { slots.old.image ≡ number_of image.old }
-    ensures step { CommandStep S.view F.backing image.old image.new result }
-    ensures causes { RefusalJustified S.view F.backing image.old image.new slots.old.prepared.items
-        (mappings_in slots.old.mappings.items) (Command.PrepareDataMapping slot offset length overwrite) result }
-    ensures slots { slots.new.image ≡ slots.old.image }
-    ensures command_step { CommandSteps S.view F.backing image.old image.new slots.old slots.new
+    ensures { AnswersCommand S.view F.backing image.old image.new slots.old slots.new
         (Command.PrepareDataMapping slot offset length overwrite) result }
-    ensures finds { Finds slots.old slots.new (Command.PrepareDataMapping slot offset length overwrite) result }
-    ensures after { SlotsAfter slots.old.prepared.items (Command.PrepareDataMapping slot offset length overwrite) result slots.new.prepared.items }
-    ensures tells { ReplyMatchesImage S.view F.backing image.old image.new slots.old.prepared.items
-        slots.new.prepared.items
-        (Command.PrepareDataMapping slot offset length overwrite) result }
-    ensures quiet { LeavesQuietly S.view image.old slots.old.prepared.items image.new slots.new.prepared.items }
 {
     if slots.get(slot).is_some() {
         return Reply::Misuse;
@@ -638,12 +521,8 @@ fn write_mapped<S: Storage, F: WrappedFormat<S>>(
     bytes: &Vec<u8>,
 ) -> Reply
     requires { slots.now.image ≡ number_of image.old }
-    ensures step { CommandStep S.view F.backing image.old image.new result }
-    ensures reading { is_writable image.old ≡ false → image.new ≡ image.old }
-    ensures causes { RefusalJustified S.view F.backing image.old image.new slots.now.prepared.items
-        (mappings_in slots.now.mappings.items) (Command.WriteMapped slot at bytes.now) result }
-    ensures command_step { CommandSteps S.view F.backing image.old image.new slots.now slots.now (Command.WriteMapped slot at bytes.now) result }
-    ensures finds { Finds slots.now slots.now (Command.WriteMapped slot at bytes.now) result }
+    ensures { AnswersCommand S.view F.backing image.old image.new slots.now slots.now
+        (Command.WriteMapped slot at bytes.now) result }
 {
     let Some(prepared) = slots.get(slot) else {
         return Reply::Misuse;
@@ -664,14 +543,8 @@ fn commit<S: Storage, F: WrappedFormat<S>>(
     slot: u8,
 ) -> Reply
     requires { slots.old.image ≡ number_of image.old }
-    ensures step { CommandStep S.view F.backing image.old image.new result }
-    ensures causes { RefusalJustified S.view F.backing image.old image.new slots.old.prepared.items
-        (mappings_in slots.old.mappings.items) (Command.CommitDataMapping slot) result }
-    ensures slots { slots.new.image ≡ slots.old.image }
-    ensures command_step { CommandSteps S.view F.backing image.old image.new slots.old slots.new (Command.CommitDataMapping slot) result }
-    ensures finds { Finds slots.old slots.new (Command.CommitDataMapping slot) result }
-    ensures after { SlotsAfter slots.old.prepared.items (Command.CommitDataMapping slot) result slots.new.prepared.items }
-    ensures quiet { LeavesQuietly S.view image.old slots.old.prepared.items image.new slots.new.prepared.items }
+    ensures { AnswersCommand S.view F.backing image.old image.new slots.old slots.new
+        (Command.CommitDataMapping slot) result }
 {
     let Some(prepared) = slots.put(slot, None) else {
         return Reply::Misuse;
@@ -692,14 +565,8 @@ fn discard<S: Storage, F: WrappedFormat<S>>(
     slot: u8,
 ) -> Reply
     requires { slots.old.image ≡ number_of image.old }
-    ensures step { CommandStep S.view F.backing image.old image.new result }
-    ensures causes { RefusalJustified S.view F.backing image.old image.new slots.old.prepared.items
-        (mappings_in slots.old.mappings.items) (Command.DiscardDataMapping slot) result }
-    ensures slots { slots.new.image ≡ slots.old.image }
-    ensures command_step { CommandSteps S.view F.backing image.old image.new slots.old slots.new (Command.DiscardDataMapping slot) result }
-    ensures finds { Finds slots.old slots.new (Command.DiscardDataMapping slot) result }
-    ensures after { SlotsAfter slots.old.prepared.items (Command.DiscardDataMapping slot) result slots.new.prepared.items }
-    ensures quiet { LeavesQuietly S.view image.old slots.old.prepared.items image.new slots.new.prepared.items }
+    ensures { AnswersCommand S.view F.backing image.old image.new slots.old slots.new
+        (Command.DiscardDataMapping slot) result }
 {
     match slots.put(slot, None) {
         None => Reply::Misuse,
@@ -711,12 +578,7 @@ fn discard<S: Storage, F: WrappedFormat<S>>(
 }
 
 fn flush<S: Storage, F: WrappedFormat<S>>(image: &mut Qcow2<S, F>) -> Reply
-    ensures step { CommandStep S.view F.backing image.old image.new result }
-    ensures causes { (before : List (Option Prepared)) (found : ℕ → Option Mapping)
-        → RefusalJustified S.view F.backing image.old image.new before found Command.Flush result }
-    ensures command_step { (slots : Slots) → CommandSteps S.view F.backing image.old image.new slots slots Command.Flush result }
-    ensures finds { (slots : Slots) → Finds slots slots Command.Flush result }
-    ensures quiet { StaysQuiet S.view image.old image.new }
+    ensures { (slots : Slots) → AnswersCommand S.view F.backing image.old image.new slots slots Command.Flush result }
 {
     if let Err(refusal) = image.flush() {
         return Reply::Refused(refusal);
@@ -725,12 +587,7 @@ fn flush<S: Storage, F: WrappedFormat<S>>(image: &mut Qcow2<S, F>) -> Reply
 }
 
 fn sync<S: Storage, F: WrappedFormat<S>>(image: &mut Qcow2<S, F>) -> Reply
-    ensures step { CommandStep S.view F.backing image.old image.new result }
-    ensures causes { (before : List (Option Prepared)) (found : ℕ → Option Mapping)
-        → RefusalJustified S.view F.backing image.old image.new before found Command.Sync result }
-    ensures command_step { (slots : Slots) → CommandSteps S.view F.backing image.old image.new slots slots Command.Sync result }
-    ensures finds { (slots : Slots) → Finds slots slots Command.Sync result }
-    ensures quiet { ReadsQuietly S.view image.old image.new }
+    ensures { (slots : Slots) → AnswersCommand S.view F.backing image.old image.new slots slots Command.Sync result }
 {
     if let Err(refusal) = image.sync() {
         return Reply::Refused(refusal);
@@ -739,10 +596,7 @@ fn sync<S: Storage, F: WrappedFormat<S>>(image: &mut Qcow2<S, F>) -> Reply
 }
 
 fn invalidate<S: Storage, F: WrappedFormat<S>>(image: &mut Qcow2<S, F>) -> Reply
-    ensures step { InvalidatingCommand S.view F.backing image.old image.new result }
-    ensures causes { (before : List (Option Prepared)) (found : ℕ → Option Mapping)
-        → RefusalJustified S.view F.backing image.old image.new before found Command.InvalidateCache result }
-    ensures finds { (slots : Slots) → Finds slots slots Command.InvalidateCache result }
+    ensures { (slots : Slots) → AnswersCommand S.view F.backing image.old image.new slots slots Command.InvalidateCache result }
 {
     if let Err(refusal) = image.invalidate_cache() {
         return Reply::Refused(refusal);

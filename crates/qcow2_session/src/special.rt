@@ -1,19 +1,14 @@
 //! The commands that read compressed ranges.
-ghost use Rattle.qcow2_session.specs.CallSteps.{CommandStep, SpecialStep};
-ghost use Rattle.std.specs.Prelude.{ℕ, ◌≡◌, ◌<◌, ◌⊎◌, [], List, Option, None, IfErr, IfOk, IfSome, MatchOption, Err};
+ghost use Rattle.qcow2_session.specs.CallSteps.{AnswersCommand, SpecialStep};
+ghost use Rattle.std.specs.Prelude.{◌≡◌, ◌<◌, ◌⊎◌, [], List, Option, None, IfErr, IfOk, IfSome, MatchOption, Err};
 ghost use Rattle.qcow2_alloc.specs.ImageFile.{known_in};
-ghost use Rattle.qcow2_image.specs.declared.mapping.Mapping.{Mapping};
 ghost use Rattle.qcow2_image.specs.Calls.{AnswersCall};
-ghost use Rattle.qcow2_image.specs.MetAlone.{IsCacheHeld, IsMetLooking, IsMetSpecial};
-ghost use Rattle.qcow2_image.specs.Refusals.{IsMet, unusable};
+ghost use Rattle.qcow2_image.specs.MayFail.{IsCacheHeld, MayFailLooking, MayFailSpecial};
+ghost use Rattle.qcow2_image.specs.Refusals.{MayFail, unusable};
 ghost use Rattle.qcow2_alloc.specs.declared.error.ImageError.TheVariants.{Compressed, NotCompressed};
 ghost use Rattle.qcow2_image.specs.ImageInvariant.{abstract_of};
 ghost use Rattle.qcow2_image.specs.declared.prepared.Prepared.{Prepared};
-ghost use Rattle.qcow2_session.specs.Causes.{RefusalJustified};
-ghost use Rattle.qcow2_session.specs.Commands.{IsOwnOffset, TellsPlain, TellsSpecial};
-ghost use Rattle.qcow2_session.specs.Sessions.{CommandSteps, Finds};
-ghost use Rattle.qcow2_image.specs.Unwritten.{ReadsQuietly};
-ghost use Rattle.qcow2_session.specs.Told.{ReplyMatchesImage};
+ghost use Rattle.qcow2_session.specs.Commands.{IsOwnOffset, ReportsPlain, ReportsSpecial};
 ghost use Rattle.qcow2_session.specs.declared.session.Command.TheVariants.{ReadvSpecial, TryReadvSpecial};
 ghost use Rattle.qcow2_session.specs.declared.slots.Slots.{Slots};
 
@@ -29,12 +24,7 @@ pub(crate) fn readv_special<S: Storage, F: WrappedFormat<S>>(
     offset: u64,
     length: u64,
 ) -> Reply
-    ensures step { CommandStep S.view F.backing image.old image.new result }
-    ensures causes { (before : List (Option Prepared)) (found : ℕ → Option Mapping)
-        → RefusalJustified S.view F.backing image.old image.new before found (ReadvSpecial offset length) result }
-    ensures command_step { (slots : Slots) → CommandSteps S.view F.backing image.old image.new slots slots (ReadvSpecial offset length) result }
-    ensures finds { (slots : Slots) → Finds slots slots (ReadvSpecial offset length) result }
-    ensures quiet { ReadsQuietly S.view image.old image.new }
+    ensures { (slots : Slots) → AnswersCommand S.view F.backing image.old image.new slots slots (ReadvSpecial offset length) result }
 {
     match read_range(alloc, image, offset, length) {
         Ok(()) => Reply::Done,
@@ -49,14 +39,8 @@ pub(crate) fn try_readv_special<S: Storage, F: WrappedFormat<S>>(
     offset: u64,
     length: u64,
 ) -> Reply
-    ensures step { CommandStep S.view F.backing image.old image.new result }
-    ensures tells { (before : List (Option Prepared))
-        → ReplyMatchesImage S.view F.backing image.old image.new before before (TryReadvSpecial offset length) result }
-    ensures causes { (before : List (Option Prepared)) (found : ℕ → Option Mapping)
-        → RefusalJustified S.view F.backing image.old image.new before found (TryReadvSpecial offset length) result }
-    ensures command_step { (slots : Slots) → CommandSteps S.view F.backing image.old image.new slots slots (TryReadvSpecial offset length) result }
-    ensures finds { (slots : Slots) → Finds slots slots (TryReadvSpecial offset length) result }
-    ensures quiet { ReadsQuietly S.view image.old image.new }
+    ensures { (slots : Slots) → AnswersCommand S.view F.backing image.old image.new slots slots
+        (TryReadvSpecial offset length) result }
 {
     match try_range(alloc, image, offset, length) {
         Ok(plain) => Reply::NotCompressed(plain),
@@ -72,13 +56,13 @@ fn read_range<S: Storage, F: WrappedFormat<S>>(
 ) -> Result<(), ImageError>
     ensures step { SpecialStep S.view F.backing image.old image.new result }
     ensures early { IfSome (unusable image.old) (λ e. (result ≡ Err e) × (image.new ≡ image.old)) }
-    ensures late { unusable image.old ≡ None → IfErr result (λ e. (IsMet e ⊎ (e ≡ NotCompressed offset)) × (0 < length)) }
-    ensures met { (out : List (Option Prepared)) → (abstract_of S.view F.backing image.old out).is_sound
-        → IfErr result (IsMetSpecial (IsCacheHeld image.old out) offset) }
+    ensures late { unusable image.old ≡ None → IfErr result (λ e. (MayFail e ⊎ (e ≡ NotCompressed offset)) × (0 < length)) }
+    ensures may_fail { (out : List (Option Prepared)) → (abstract_of S.view F.backing image.old out).is_sound
+        → IfErr result (MayFailSpecial (IsCacheHeld image.old out) offset) }
     ensures empty { IfOk result (λ done. length ≡ 0) }
     ensures own { IfErr result (IsOwnOffset offset) }
-    ensures tells { (out : List (Option Prepared)) → (abstract_of S.view F.backing image.old out).is_sound
-        → TellsSpecial (known_in S.view image.old.file) offset length result }
+    ensures reports { (out : List (Option Prepared)) → (abstract_of S.view F.backing image.old out).is_sound
+        → ReportsSpecial (known_in S.view image.old.file) offset length result }
     ensures sees { AnswersCall S.view F.backing image.old image.new [] (λ done was is. is ≡ was) result }
 {
     image.check_read(0, 0)?;
@@ -94,12 +78,12 @@ fn try_range<S: Storage, F: WrappedFormat<S>>(
 ) -> Result<Option<u64>, ImageError>
     ensures step { SpecialStep S.view F.backing image.old image.new result }
     ensures early { IfSome (unusable image.old) (λ e. (result ≡ Err e) × (image.new ≡ image.old)) }
-    ensures late { unusable image.old ≡ None → IfErr result (λ e. IsMet e × (0 < length)) }
-    ensures met { (out : List (Option Prepared)) → (abstract_of S.view F.backing image.old out).is_sound
-        → IfErr result (λ e. IsMetLooking (IsCacheHeld image.old out) e ⊎ (e ≡ Compressed)) }
+    ensures late { unusable image.old ≡ None → IfErr result (λ e. MayFail e × (0 < length)) }
+    ensures may_fail { (out : List (Option Prepared)) → (abstract_of S.view F.backing image.old out).is_sound
+        → IfErr result (λ e. MayFailLooking (IsCacheHeld image.old out) e ⊎ (e ≡ Compressed)) }
     ensures answer { IfOk result (λ plain. MatchOption plain (length ≡ 0) (λ at. at ≡ offset)) }
-    ensures tells { (out : List (Option Prepared)) → (abstract_of S.view F.backing image.old out).is_sound
-        → TellsPlain (known_in S.view image.old.file) offset length result }
+    ensures reports { (out : List (Option Prepared)) → (abstract_of S.view F.backing image.old out).is_sound
+        → ReportsPlain (known_in S.view image.old.file) offset length result }
     ensures sees { AnswersCall S.view F.backing image.old image.new [] (λ plain was is. is ≡ was) result }
 {
     image.check_read(0, 0)?;

@@ -1,4 +1,4 @@
--- The bytes that a writer is known to hold, of texts that may be unknown.
+-- The bytes that a writer is known to have received, for texts that may be unknown.
 use Rattle.std.proofs.Common.{ℕ, List, ◌++◌, Option, Some, None, IfSome, ◌∙◌}
 use Rattle.std.specs.Fmt.{option_append}
 use Rattle.std.specs.Io.KnownBytes.{Appends, Keeps}

@@ -1,4 +1,4 @@
--- Replies that are printed one after the other.
+-- Replies that are printed one after another.
 use Rattle.std.proofs.Common.{◌≡◌, ℕ, List, [], ◌∷◌, ◌++◌, length, Option, Some, None, IfSome, refl, append_assoc, ap, sym, ◌∙◌, ◌+◌, ◌<◌, take, slice_index_or}
 use Rattle.std.proofs.lemmas.List.{append-nil, take_more}
 use Rattle.std.specs.Fmt.{option_append, with_newline}

@@ -1,4 +1,4 @@
--- What a run has done and printed, put together of its parts.
+-- What a run has done and printed, from its parts.
 use Rattle.std.proofs.Common.{◌≡◌, ℕ, Bool, true, false, not, ◌&&◌, List, [], ◌++◌, length, map, if◌then◌else◌, Option, Some, None, IfSome, Vec, Result, Ok, Err, is_ok, IsOk, IfOk, IfErr, OnOk, inl, inr, refl, sym, ap, ◌∙◌, subst, append-nil, eqb-true, arith}
 use Rattle.std.specs.Fmt.{option_append}
 use Rattle.std.specs.Global.{Global}
@@ -20,7 +20,7 @@ use Rattle.qimg.specs.Printing.{is_refusal, text_of}
 use Rattle.qimg.specs.Reading.{is_cut}
 use Rattle.qimg.specs.Program.{ArePrinted, EndsOrLeaves, EndsScript, HasRun, HasRunText, IsClosed}
 
--- two texts were printed, one behind the other, where the second writer's answer is that of the first or another
+-- two texts were printed, one after the other, where the second writer's answer is that of the first or another
 pub printed_both : (first : Option (List ℕ)) (second : List ℕ) (answered printed : Result Bool Error) (old mid new : Option (List ℕ)) → OnOk answered (IfSome first (Appends old mid)) → OnOk printed (IsOk answered) → OnOk printed (Appends mid new second) → OnOk printed (IfSome (option_append first (Some second)) (Appends old new))
 printed_both first second answered (Err e) old mid new a is b = tt
 printed_both first second (Err e) (Ok y) old mid new a is b = let never : false ≡ true = is in absurd cc
@@ -40,7 +40,7 @@ printed_to_the_end first second answer (Err e) (Ok y) (Ok done) old mid late new
 printed_to_the_end first second (Err e) (Ok x) (Ok y) (Ok done) old mid late new a from_answer b from_ended keeps ok = let never : Err e ≡ Ok x = from_answer in absurd cc
 printed_to_the_end first second (Ok w) (Ok x) (Ok y) (Ok done) old mid late new a from_answer b from_ended keeps ok = known_kept old late new (option_append first (Some second)) (appends_known old mid late first (Some second) a b) keeps
 
--- the status of what the run answered is that of what it was told
+-- the status by the run's replies is the status by its result
 pub status_told : (cut before : Bool) (status : ℕ) (answer ended last : Result Bool Error) (written : Result (Unit {0}) Error) → IfOk answer (λ a. a ≡ before) → IfOk ended (λ a. answer ≡ Ok a) → IfOk last (λ a. ended ≡ Ok a) → IfOk last (λ a. (written ≡ Ok tt) × (status ≡ run_status cut a true)) → IfErr last (λ e. (written ≡ Err e) × ((a : Bool) → status ≡ run_status cut a false)) → status ≡ run_status cut before (is_ok written)
 status_told cut before status answer ended (Err e) written is from_answer from_ended done failed = failed.1 before ∙ ap (λ w. run_status cut before (is_ok w)) (sym failed.0)
 status_told cut before status answer (Err e) (Ok y) written is from_answer from_ended done failed = let never : Err e ≡ Ok y = from_ended in absurd cc

@@ -31,7 +31,7 @@ pub data Order : Type 0 where
   syncs : Order
   invalidates : Order
   leaks : Order
-  -- No line means this.
+  -- A meaning that no line has.
   other : Order
 
 abbrev pub order_of_command : Command → Order

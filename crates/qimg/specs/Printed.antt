@@ -23,7 +23,7 @@ abbrev pub flush_text : Result (Unit {0}) ImageError → List ℕ
 flush_text (Ok done) = []
 flush_text (Err e) = refusal_text e
 
--- The line for an unreadable line behind these commands.
+-- The line for an unreadable line after these commands.
 abbrev pub end_text : Bool → ℕ → List ℕ
 end_text is_cut count = if is_cut then (codes "bad line" ␣ decimal (count + 1)) ++ 10 ∷ [] else []
 
@@ -36,7 +36,7 @@ abbrev pub run_status : Bool → Bool → Bool → ℕ
 run_status is_cut accepted written = if is_cut then 2 else if accepted && written then 0 else 1
 
 module _ {S F : Type 0} where
-  -- What a run of these commands prints: the lines of its replies and of the flush behind them, or why no image was opened.
+  -- What a run of these commands prints: the lines of its replies and of the flush after them, or why no image was opened.
   abbrev pub run_text : ℕ → Result (Qcow2 S F × Vec Reply Global) (S × ImageError) → Result (Unit {0}) ImageError → Option (List ℕ)
   run_text count (Ok run) flush = option_append (replies_text count run.1.items) (Some (flush_text flush))
   run_text count (Err refused) flush = Some (refusal_text refused.1)

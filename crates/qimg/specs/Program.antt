@@ -12,7 +12,7 @@ use Rattle.qcow2_alloc.specs.declared.error.ImageError.TheVariants.{Memory}
 use Rattle.qcow2_image.specs.declared.image.Qcow2.{Qcow2}
 use Rattle.qcow2_image.specs.Calls.{FlushesImage}
 use Rattle.qcow2_image.specs.Image.{storage_of_image}
-use Rattle.qcow2_session.specs.Opening.{CountsSinceBefore, Headline, TellsOfOpened}
+use Rattle.qcow2_session.specs.Opening.{CountsSinceBefore, Headline, ReportsOfOpened}
 use Rattle.qcow2_session.specs.declared.session.Command.{Command}
 use Rattle.qcow2_session.specs.declared.session.Reply.{Reply}
 use Rattle.qimg.specs.Lines.{order_of_command}
@@ -52,7 +52,7 @@ module _ {S F : Type 0} (view : S → StorageView) (backing : F → BackingView)
   pub record EndsRun (commands : List Command) : Type 0 where
     pub run : Result (Qcow2 S F × Vec Reply Global) (S × ImageError)
     pub headline : Headline view backing (view start) None commands run
-    pub told : TellsOfOpened view backing (view start) None 1 commands run
+    pub told : ReportsOfOpened view backing (view start) None 1 commands run
     pub counts : CountsSinceBefore view backing (view start) None run
     pub flush : Result (Unit {0}) ImageError
     pub closed : IsClosed run flush
@@ -72,6 +72,6 @@ module _ {S F : Type 0} (view : S → StorageView) (backing : F → BackingView)
     pub printed : OnOk written (IfSome (option_append (run_text (length commands) ran.run ran.flush) (Some (end_text (is_cut stop) (length commands)))) (Appends old new))
     pub status_is : status ≡ run_status (is_cut stop) (is_accepted (length commands) ran.run ran.flush) (is_ok written)
 
-  -- Or there was no memory for the commands: the storage is unchanged, and that was printed.
+  -- The run ended as `EndsScript` says; or there was no memory for the commands, the storage is unchanged, and that was printed.
   abbrev pub EndsOrLeaves : Option (List ℕ) → ℕ → Result (Unit {0}) Error → Option (List ℕ) → Option (List ℕ) → Type 0
   EndsOrLeaves text status written old new = ((status ≡ 1) × (end ≡ start) × OnOk written (Appends old new (refusal_text Memory))) ⊎ EndsScript text status written old new

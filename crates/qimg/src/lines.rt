@@ -16,7 +16,7 @@ const LONGEST: u64 = 1_048_576;
 /// Why a line is no command.
 #[derive(Clone, Copy)]
 pub enum LineError {
-    /// It isn't a line of a command.
+    /// The line is no command.
     Unreadable,
     /// A read failed in it.
     FailedRead,

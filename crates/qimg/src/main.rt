@@ -60,7 +60,7 @@ fn tell(rt: &HostRuntime, file: &str, status: u8, cause: Option<io::Error>) -> u
     status
 }
 
-// Prints an answer that was held back until its work was done, and returns the exit status.
+// Prints an answer that was buffered until its work was done, and returns the exit status.
 fn print_answer(answer: &Vec<u8>, status: u8, output: &mut impl Write) -> u8 {
     let printed = output.write_all(answer);
     match end(printed, output) {

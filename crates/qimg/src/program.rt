@@ -189,7 +189,7 @@ fn print_answers<W: Write>(output: &mut W, count: usize, replies: &[Reply]) -> i
     Ok(!any_refused(replies))
 }
 
-// Prints a refused flush, behind the replies. Returns whether nothing was refused.
+// Prints a refused flush, after the replies. Returns whether nothing was refused.
 fn print_flush<W: Write>(
     output: &mut W,
     answered: io::Result<bool>,

@@ -27,7 +27,7 @@ pub enum ScriptEnd {
 pub struct Script {
     /// The commands, in their order.
     pub commands: Vec<Command>,
-    /// Where they end.
+    /// Where the commands end.
     pub end: ScriptEnd,
 }
 

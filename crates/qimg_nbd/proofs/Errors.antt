@@ -1,4 +1,4 @@
--- What a client is told of a refused call of an image.
+-- What a client is sent for a refused call of an image.
 use Rattle.std.proofs.Common.{[], List, ◌≡◌, ◌⊎◌, inl, inr, ℕ, ◌+◌, ◌<◌, Bool, true, false, Option, Some, None, Result, Ok, Err, refl, sym, ap, subst, ◌∙◌, arith}
 use Rattle.std.specs.Prelude.{◌&&◌, IfSome, IsTrue, nat_lt, not}
 use Rattle.std.specs.Option.{option_or}
@@ -17,11 +17,11 @@ use Rattle.qcow2_disk.specs.Calls.{Clearing}
 use Rattle.qcow2_image.specs.Clearing.{refuses_clearing}
 use Rattle.qcow2_image.specs.Image.{IsSameImage, is_external, is_failed, is_writable, size_of}
 use Rattle.qcow2_image.specs.ImageInvariant.{abstract_of}
-use Rattle.qcow2_image.specs.MetAlone.{IsMetLooking, IsMetReadingRange}
-use Rattle.qcow2_image.specs.Refusals.{IsMetPreparing, passes, refuse_if, refuses_to_prepare, refuses_to_read, unusable}
+use Rattle.qcow2_image.specs.MayFail.{MayFailLooking, MayFailReadingRange}
+use Rattle.qcow2_image.specs.Refusals.{MayFailPreparing, passes, refuse_if, refuses_to_prepare, refuses_to_read, unusable}
 use Rattle.qcow2_image.specs.declared.image.Qcow2.{Qcow2}
 use Rattle.qcow2_image.specs.declared.prepared.Prepared.{Prepared}
-use Rattle.qcow2_image.proofs.HiddenBytes.{header_is}
+use Rattle.qcow2_image.proofs.Images.HiddenBytes.{header_is}
 use Rattle.qcow2_session.specs.Sessions.{IsOfReading}
 use Rattle.nbd_protocol.specs.declared.device.Errno.{Errno}
 use Rattle.nbd_protocol.specs.declared.device.Errno.TheVariants as E
@@ -75,7 +75,7 @@ and_right false b is = absurd cc
 pub beyond : (size offset n : ℕ) → passes size offset n ≡ true → size < offset + n
 beyond size offset n is = grind (arith, common_steps)
 
--- ---- the errors that are told
+-- ---- the errors that are reported
 
 -- a call has one refusal
 pub same_refusal : {T A : Type 0} (r : Result T A) (a b : A) → r ≡ Err a → r ≡ Err b → a ≡ b
@@ -88,7 +88,7 @@ pub fault_told : (e : ImageError) → IsImageFault e → IsFault (error_of e)
 fault_told e (inl is) = subst (λ (x : ImageError). IsFault (error_of x)) (sym is) tt
 fault_told e (inr is) = subst (λ (x : ImageError). IsFault (error_of x)) (sym is) tt
 
-pub looking_told : (held : Type 0) (e : ImageError) → IsMetLooking held e → IsFault (error_of e)
+pub looking_told : (held : Type 0) (e : ImageError) → MayFailLooking held e → IsFault (error_of e)
 looking_told held e (inl fault) = fault_told e fault
 looking_told held e (inr held-so) = subst (λ (x : ImageError). IsFault (error_of x)) (sym held-so.0) tt
 
@@ -112,7 +112,7 @@ change_told d to e only size = tt
 pub reading_only : (e : ImageError) → IsOfReading e → e ≡ I.ReadOnly → ⊥
 reading_only e is only = by (subst (λ (x : ImageError). IsOfReading x) only is) where
   by : IsOfReading I.ReadOnly → ⊥
-  by (inl met) = met
+  by (inl may_fail) = may_fail
   by (inr (inl p)) = absurd cc
   by (inr (inr (inl p))) = absurd cc
   by (inr (inr (inr p))) = absurd cc
@@ -124,19 +124,19 @@ reading_limit f x p e None is early late limit = late refl limit
 reading_limit f x p e (Some r) is early late limit = reads_refused f x p r (sym is) (sym early ∙ limit)
 
 -- a preparation that was not refused at once isn't for that
-pub preparing_only : (e : ImageError) → IsMetPreparing e → e ≡ I.ReadOnly → ⊥
-preparing_only e is only = by (subst (λ (x : ImageError). IsMetPreparing x) only is) where
-  by : IsMetPreparing I.ReadOnly → ⊥
-  by (inl met) = met
+pub preparing_only : (e : ImageError) → MayFailPreparing e → e ≡ I.ReadOnly → ⊥
+preparing_only e is only = by (subst (λ (x : ImageError). MayFailPreparing x) only is) where
+  by : MayFailPreparing I.ReadOnly → ⊥
+  by (inl may_fail) = may_fail
   by (inr p) = absurd cc
 
-pub preparing_beyond : (e : ImageError) → IsMetPreparing e → e ≡ I.BeyondSize → ⊥
-preparing_beyond e is past = by (subst (λ (x : ImageError). IsMetPreparing x) past is) where
-  by : IsMetPreparing I.BeyondSize → ⊥
-  by (inl met) = met
+pub preparing_beyond : (e : ImageError) → MayFailPreparing e → e ≡ I.BeyondSize → ⊥
+preparing_beyond e is past = by (subst (λ (x : ImageError). MayFailPreparing x) past is) where
+  by : MayFailPreparing I.BeyondSize → ⊥
+  by (inl may_fail) = may_fail
   by (inr p) = absurd cc
 
-looking_limit : (held : Type 0) (e : ImageError) → IsMetLooking held e → e ≡ I.Limit → ⊥
+looking_limit : (held : Type 0) (e : ImageError) → MayFailLooking held e → e ≡ I.Limit → ⊥
 looking_limit held e (inl (inl fault)) limit = absurd cc
 looking_limit held e (inl (inr fault)) limit = absurd cc
 looking_limit held e (inr held-so) limit = let p = held-so.0 in absurd cc
@@ -201,17 +201,17 @@ module _ {S F : Type 0} (view : S → StorageView) (backing : F → BackingView)
 
   -- why a read is refused
   pub reading_cause : {T : Type 0} (offset n : ℕ) (r : Result T ImageError) (e : ImageError) → r ≡ Err e → IfSome (refuses_to_read old offset n) (λ x. (r ≡ Err x) × (new ≡ old)) → IsOfReading e → (e ≡ I.BeyondSize → IsTrue (passes (size_of old) offset n))
-      → (refuses_to_read old offset n ≡ None → (out : List (Option Prepared)) → (abstract_of view backing old out).is_sound → IsMetReadingRange out offset (offset + n) old.file.header.fields (known_in view old.file) e)
+      → (refuses_to_read old offset n ≡ None → (out : List (Option Prepared)) → (abstract_of view backing old out).is_sound → MayFailReadingRange out offset (offset + n) old.file.header.fields (known_in view old.file) e)
       → a.is_sound → RefusesToRead a (offset + n) (error_of e)
-  reading_cause offset n r e is early reading past met sound =
+  reading_cause offset n r e is early reading past may_fail sound =
       read_told a (offset + n) e (reading_only e reading)
       (reading_limit (is_failed old) (is_external old) (passes (size_of old) offset n) e (refuses_to_read old offset n) refl
       (if_some_weaker (refuses_to_read old offset n) (λ x. (r ≡ Err x) × (new ≡ old)) (λ x. e ≡ x) (λ x h. same_refusal r e x is h.0) early)
-      (λ none limit. elim (met none [] sound) [ inl looking ↦ looking_limit _ e looking limit | inr compressed ↦ let p = compressed.0 in absurd cc ]))
+      (λ none limit. elim (may_fail none [] sound) [ inl looking ↦ looking_limit _ e looking limit | inr compressed ↦ let p = compressed.0 in absurd cc ]))
       (λ p. let k = beyond (size_of old) offset n (past p) in let s = size_is sound in omega (arith, s, k))
 
   -- why a write is
-  pub writing_cause : (offset n m : ℕ) (r : Result (Unit {0}) (ImageError × ℕ)) (e : ImageError) → r ≡ Err (e, m) → IfSome (refuses_to_prepare old offset n) (λ x. (r ≡ Err (x, 0)) × (new ≡ old)) → (refuses_to_prepare old offset n ≡ None → IsMetPreparing e)
+  pub writing_cause : (offset n m : ℕ) (r : Result (Unit {0}) (ImageError × ℕ)) (e : ImageError) → r ≡ Err (e, m) → IfSome (refuses_to_prepare old offset n) (λ x. (r ≡ Err (x, 0)) × (new ≡ old)) → (refuses_to_prepare old offset n ≡ None → MayFailPreparing e)
       → (e ≡ I.BeyondSize → IsTrue (passes (size_of old) offset n)) → a.is_sound → RefusesToChange a (offset + n) (error_of e)
   writing_cause offset n m r e is early late past sound =
       change_told a (offset + n) e
@@ -225,7 +225,7 @@ module _ {S F : Type 0} (view : S → StorageView) (backing : F → BackingView)
       (λ p. let k = beyond (size_of old) offset n (past p) in let s = size_is sound in omega (arith, s, k))
 
   -- why clearing is
-  pub clearing_cause : {T : Type 0} (offset n : ℕ) (how : Clearing) (r : Result T ImageError) (e : ImageError) → r ≡ Err e → IfSome (refuses_clearing old offset n how) (λ x. (r ≡ Err x) × (new ≡ old)) → (refuses_clearing old offset n how ≡ None → IsMetPreparing e)
+  pub clearing_cause : {T : Type 0} (offset n : ℕ) (how : Clearing) (r : Result T ImageError) (e : ImageError) → r ≡ Err e → IfSome (refuses_clearing old offset n how) (λ x. (r ≡ Err x) × (new ≡ old)) → (refuses_clearing old offset n how ≡ None → MayFailPreparing e)
       → a.is_sound → RefusesToChange a (offset + n) (error_of e)
   clearing_cause offset n how r e is early late sound =
       let by = λ (x : ImageError) (some : refuses_clearing old offset n how ≡ Some x).

@@ -105,7 +105,7 @@ module _ {S F : Type 0} (view : S → StorageView) (backing : F → BackingView)
         elim (front_byte d offset n bytes le i lt) [ inl kept ↦ inl (e ∙ ap byte_of kept) | inr byte ↦ inr (e ∙ ap byte_of byte) ];
   }
 
-  -- of those behind them any may be
+  -- any of the bytes after them may be written
   wrote_some : (offset n : ℕ) (bytes : List ℕ) → n ≤ length bytes → (d : Disk) → WritesSome (guest_of v).disk offset bytes n d → guest_of w ≡ with_disk (guest_of v) d → b.unit ≡ a.unit → MayWrite offset bytes a b
   wrote_some offset n bytes le d some is unit = let c = (guest_of v).disk in record {
     beside = record {

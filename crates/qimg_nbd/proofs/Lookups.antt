@@ -1,4 +1,4 @@
--- What a lookup of an image tells of its disk.
+-- What a lookup of an image reports about its disk.
 use Rattle.std.proofs.Common.{◌≡◌, inl, inr, ℕ, ◌+◌, ◌-◌, ◌/◌, ◌<◌, ◌≤◌, Bool, true, false, [], is_some, refl, sym, ap, ◌∙◌, subst, arith}
 use Rattle.std.specs.Prelude.{IsTrue}
 use Rattle.std.proofs.lemmas.Bool.{cases_lt}
@@ -19,7 +19,7 @@ use Rattle.qcow2_image.specs.ImageInvariant.{ImageInvariant, abstract_of, backin
 use Rattle.qcow2_image.specs.declared.image.Qcow2.{Qcow2}
 use Rattle.qcow2_image.specs.declared.mapping.MappingKind.{MappingKind}
 use Rattle.qcow2_image.specs.declared.mapping.MappingKind.TheVariants as M
-use Rattle.qcow2_image.proofs.HiddenBytes.{header_is}
+use Rattle.qcow2_image.proofs.Images.HiddenBytes.{header_is}
 use Rattle.qcow2_image.proofs.Map.Reading.{none_below, zero_shown}
 use Rattle.nbd_protocol.specs.declared.device.State.{State}
 use Rattle.nbd_protocol.specs.Devices.{Stays, Tells, is_zeros}
@@ -27,7 +27,7 @@ use Rattle.qimg_nbd.specs.Images.{byte_of, device_of, told_state}
 use Rattle.qimg_nbd.proofs.Errors.{size_is}
 use Rattle.qimg_nbd.proofs.Images.{answered_same}
 
--- what is told as zeros was found as zeros
+-- what is reported as zeros was found as zeros
 zeros_found : (k : MappingKind) → IsTrue (is_zeros (told_state k)) → (explicit : Bool) × (found_kind k ≡ K.zeros explicit)
 zeros_found (M.Raw place offset writable) is = absurd cc
 zeros_found (M.Indirect offset) is = absurd cc

@@ -1,4 +1,4 @@
--- The part of a range that clearing answers: numbers.
+-- The part of a range that a clearing call returns, as numbers.
 use Rattle.std.proofs.Common.{◌≡◌, ◌⊎◌, ◌∙◌, inl, inr, ℕ, ◌+◌, ◌-◌, ◌*◌, ◌/◌, ◌%◌, ◌<◌, ◌≤◌, sym, ap, add-mul, mul_assoc, arith, min}
 use native.Mathlib.Nat.{mul-mod_left}
 use Rattle.std.specs.Prelude.{nat_eq, nat_lt, if◌then◌else◌}

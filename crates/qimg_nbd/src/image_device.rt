@@ -29,7 +29,7 @@ impl<S: Storage, F: WrappedFormat<S>> ImageDevice<S, F> {
     }
 }
 
-// The error for a refusal that a client is sent: 12 for memory, 28 for lack of room, 1 for a read-only image, 22 for a range beyond the
+// The error number that a client is sent for a refusal: 12 for memory, 28 for lack of room, 1 for a read-only image, 22 for a range beyond the
 // size, and 5 for all others.
 fn errno_of(refusal: &ImageError) -> Errno
     ensures { result ≡ error_of refusal.now }

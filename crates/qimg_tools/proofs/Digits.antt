@@ -1,4 +1,4 @@
--- Bytes that aren't text.
+-- Bytes that are not text.
 use Rattle.std.proofs.Common.{◌≡◌, ◌<◌, ℕ, List, length, slice_index_or, true, false, Bool, None, refl, arith}
 use Rattle.std.specs.Char.{is_ascii_digit}
 use Rattle.std.specs.List.{All, list_all}

@@ -1,4 +1,4 @@
--- What a new image is asked to be like.
+-- The settings of a new image.
 use Rattle.std.proofs.Common.{◌≡◌, false, refl}
 use Rattle.image_access.specs.declared.storage.PreallocateMode.{PreallocateMode}
 use Rattle.image_access.specs.declared.storage.PreallocateMode.TheVariants as Mode

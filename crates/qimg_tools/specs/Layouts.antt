@@ -9,6 +9,6 @@ use Rattle.qimg_tools.specs.declared.words.Layout.{Layout}
 abbrev pub builder_of : {S : Type 0} → S → ℕ → Layout → Qcow2CreateBuilder S
 builder_of storage size layout = record { image = storage; size = size; preallocate = layout.preallocate; cluster_size = layout.cluster_size; refcount_width = layout.refcount_bits; backing_name = None; backing_format = None }
 
--- The same over a backing file, with its name and format.
+-- A disk of this size, in this layout, over a backing file with its name and format.
 abbrev pub builder_over : {S : Type 0} → S → ℕ → Layout → String Global → String Global → Qcow2CreateBuilder S
 builder_over storage size layout name format = record (builder_of storage size layout) { backing_name = Some name; backing_format = Some format }

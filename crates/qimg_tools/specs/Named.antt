@@ -2,6 +2,6 @@
 use Rattle.std.specs.Prelude.{[], None}
 use Rattle.program_parts.specs.Places.{NameView}
 
--- nothing is known of it, since others may change the folder
+-- Nothing is known of the name, since others may change the folder.
 abbrev pub named : NameView
 named = record { is_honest = ⊥; holds = None; held = [] }

@@ -50,7 +50,7 @@ pub record IsStatusOfErrors (breaches : List Breach) (status : ℕ) : Type 0 whe
   pub some : (status ≡ 0) ⊎ (status ≡ 2)
   pub broken : status ≡ 2 → breaches ≢ []
 
--- The failures that the work may meet.
+-- The failures that may come during the work.
 abbrev pub IsOfWork : Failure → Type 0
 IsOfWork (Refused e) = IsFault e
 IsOfWork (Unprinted cause) = Unit {0}

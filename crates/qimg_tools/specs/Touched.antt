@@ -2,7 +2,7 @@
 use Rattle.std.specs.Prelude.{ℕ, ◌+◌, ◌<◌, ◌≤◌}
 use Rattle.qimg_tools.specs.declared.touched.Range.{Range}
 
--- a range lies on a disk of a size, and has bytes
+-- The range lies on a disk of this size, and has bytes.
 pub record LiesOn (size : ℕ) (range : Range) : Type 0 where
   pub some : 0 < range.length
   pub within : range.start + range.length ≤ size

@@ -10,7 +10,7 @@ pub record IsVerdictOn (max : ℕ) (image : Bytes) (status : ℕ) : Type 0 where
   pub passes : (status ≡ 0) ↔ MayBeTakenIn max image
   pub fails : ¬ MayBeTakenIn max image → status ≡ 2
 
--- Why there is no verdict: a number, with its cause; or that an answer couldn't be printed.
+-- Why there is no verdict: a number, with its cause; or that the result couldn't be printed.
 abbrev pub IsReasonForNoVerdict : Bytes → Failure → Type 0
 IsReasonForNoVerdict image (Refused e) = IsReasonNotToVet image e
 IsReasonForNoVerdict image (Unprinted cause) = Unit {0}

@@ -28,7 +28,7 @@ const LEAKING: u8 = 3;
 /// Prints the report of an image, which is only read, and returns the exit status: 0 if it is consistent without leaked
 /// clusters, 3 with some, and 2 if it isn't consistent. For an image with snapshots, bitmaps or a data file it is 2 if there is an
 /// error in the other parts, and otherwise 0, and the parts that are not covered are named. Refused 19 (metadata) and 13 (limit) for an
-/// unreadable header, L1 table or reftable, and 14 (memory), 15 (storage) and `Unprinted` if the work meets them.
+/// unreadable header, L1 table or reftable, and 14 (memory), 15 (storage) or `Unprinted` during the work.
 pub fn check<S: Storage, W: Write>(
     alloc: Global,
     storage: &mut S,
@@ -167,7 +167,7 @@ pub fn print_breaches<W: Write>(
     writeln!(output, "{}],", end_of_list(breaches.is_empty()))
 }
 
-// Prints the members that tell ranges of the disk.
+// Prints the members with ranges of the disk.
 fn print_ranges<W: Write>(output: &mut W, ranges: Option<&Ranges>) -> io::Result<()> {
     let Some(ranges) = ranges else {
         return write!(output, ", \"guest-ranges\": []");

@@ -1,6 +1,6 @@
 //! Creating images.
 ghost use Rattle.std.specs.Prelude.{◌≡◌, ◌<◌, false, Err, IfErr, IfOk, IsTrue};
-ghost use Rattle.qcow2_alloc.specs.Faults.{FaultsTold};
+ghost use Rattle.qcow2_alloc.specs.Faults.{FaultsReported};
 ghost use Rattle.qcow2_alloc.specs.declared.error.ImageError.TheVariants.{InvalidOption, Limit, Preallocation};
 ghost use Rattle.qcow2_image.specs.Created.{IsAllowed, IsCreated, IsReasonNotToCreate, StopsCreating, allocates_over, longest_disk};
 ghost use Rattle.qimg_tools.specs.Layouts.{builder_of, builder_over};
@@ -12,7 +12,7 @@ use std::alloc::Global;
 
 /// Creates an image with a disk of this size, which reads as zeros, and returns its storage. The layout says how it is allocated. A
 /// layout that images don't have is refused 5 (invalid option), and a size that is too large 13 (limit). Nothing was written
-/// then. Refused 13, 14 (memory) and 15 (storage) if the work meets them.
+/// then. May be refused 13, 14 (memory) or 15 (storage) during the work.
 pub fn create<S: Storage>(
     alloc: Global,
     storage: S,
@@ -26,7 +26,7 @@ pub fn create<S: Storage>(
     ensures stops { (S.view storage).is_honest → StopsCreating layout.preallocate size (S.view storage) (S.view result.0) }
     ensures cause { (S.view storage).is_honest
         → IfErr result.1 (IsReasonNotToCreate S.view (builder_of storage size layout) result.0) }
-    ensures faults { FaultsTold (S.view storage).faults (S.view result.0).faults result.1 }
+    ensures faults { FaultsReported (S.view storage).faults (S.view result.0).faults result.1 }
 {
     let builder = laid_out(storage, size, layout);
     builder.create(alloc)
@@ -56,7 +56,7 @@ pub fn create_over<S: Storage>(
     ensures stops { (S.view storage).is_honest → StopsCreating layout.preallocate size (S.view storage) (S.view result.0) }
     ensures cause { (S.view storage).is_honest
         → IfErr result.1 (IsReasonNotToCreate S.view (builder_over storage size layout name format) result.0) }
-    ensures faults { FaultsTold (S.view storage).faults (S.view result.0).faults result.1 }
+    ensures faults { FaultsReported (S.view storage).faults (S.view result.0).faults result.1 }
 {
     let builder = laid_out(storage, size, layout).backing(name, format);
     builder.create(alloc)

@@ -32,7 +32,7 @@ impl From<io::Error> for Failure {
     }
 }
 
-/// What printing comes to, as a task's answer.
+/// The result of printing, as the result of a task.
 pub fn unless_unprinted(printed: io::Result<()>) -> Result<(), Failure>
     ensures fails { IfErr result IsOfWork }
     ensures printed { OnOk result (printed ≡ Ok tt) }
@@ -43,7 +43,7 @@ pub fn unless_unprinted(printed: io::Result<()>) -> Result<(), Failure>
     }
 }
 
-/// Tells why a task on a file wasn't done. That the message couldn't be written is no matter.
+/// Reports why a task on a file wasn't done. Errors in writing the message are ignored.
 pub fn tell<M: Write>(messages: &mut M, file: &str, failure: &Failure) {
     let _ = match failure {
         Failure::Refused(refusal) => {

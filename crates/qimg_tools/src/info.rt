@@ -45,7 +45,7 @@ struct Facts<'a> {
 }
 
 /// Prints the facts in the header of an image, also of one with unknown features. The image is only read. Refused for its header
-/// 19 (metadata), 13 (limit) and 4 (unaligned table), and 14 (memory), 15 (storage) and `Unprinted` if the work meets them.
+/// 19 (metadata), 13 (limit) and 4 (unaligned table), and 14 (memory), 15 (storage) or `Unprinted` during the work.
 pub fn info<S: Storage, W: Write>(
     alloc: Global,
     storage: &mut S,

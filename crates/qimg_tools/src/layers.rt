@@ -1,4 +1,4 @@
-//! The files of a disk that lies over others.
+//! The files of an image over others.
 
 use crate::converting::{Names, header_size};
 use crate::messages::{refuse, refuse_file, refused};
@@ -8,14 +8,14 @@ use program_parts::Layers;
 use qcow2_image::{ImageError, NoBacking, Qcow2};
 use std::io;
 
-/// The files of an image over others, as words name them.
+/// The files of an image over others, as the words name them.
 #[derive(Clone, Copy)]
 pub struct Files<'a> {
     /// The file of the image, and the one that is written.
     pub names: Names<'a>,
-    /// Those below the image, from the top down.
+    /// The files below the image, from the top down.
     pub below: &'a [&'a str],
-    /// The format of the last one; None where its name in the image above says it.
+    /// The format of the last file; None if the image above names it.
     pub format: Option<Format>,
 }
 
@@ -29,15 +29,15 @@ impl<'a> Files<'a> {
     }
 }
 
-// What an image says of the file below it: that there is one, and its format where that is known here.
+// What an image says of the file below it: that there is one, and its format if this is a known one.
 #[derive(Clone, Copy)]
 struct Named {
     is_named: bool,
     format: Option<Format>,
 }
 
-/// Opens the disk of an image, whose file is open, over the files that words name. No name in an image is followed. What an image lacks
-/// and what is named for none is refused, and so is a file that is to be written. The answer is the status then.
+/// Opens the disk of an image, whose file is open, over the files that the words name. Names in images are not followed. A missing file, one too
+/// many, and a file that is to be written are refused: then the result is the exit status.
 pub fn open_layers(
     rt: &HostRuntime,
     files: &Files<'_>,
@@ -71,8 +71,7 @@ pub fn open_layers(
     Ok(layers)
 }
 
-// The format of the file at a place: what the words say of the last one, and else what the image above it says. Files that lie over
-// others are images.
+// The format of the file at a place: that of the words for the last file, otherwise the one that the image above names. Files over others are images.
 fn format_at(files: &Files<'_>, place: usize, named: Named) -> Option<Format> {
     if place < files.below.len() {
         return Some(named.format.unwrap_or(Format::Qcow2));
@@ -114,7 +113,7 @@ fn push_file(
     }
 }
 
-// Puts an image below the others, which is opened under a number without the file below it.
+// Puts an image below the others. It is opened with this number, without the file below it.
 fn push_image(
     rt: &HostRuntime,
     layers: &mut Layers<StreamedFile>,
@@ -140,7 +139,7 @@ fn push_image(
     }
 }
 
-// The format that a word in an image names.
+// The format that a word in an image means.
 fn format_of(word: Option<&String>) -> Option<Format> {
     match word?.as_bytes() {
         b"raw" => Some(Format::Raw),

@@ -42,7 +42,7 @@ impl Run {
     }
 }
 
-/// How a map is printed, and from which offset on no table of the image says anything of its disk.
+/// How a map is printed, and the offset from which on no table of the image maps its disk.
 #[derive(Clone, Copy)]
 struct Page<'a> {
     file: &'a str,
@@ -52,8 +52,8 @@ struct Page<'a> {
 
 /// Prints the mapping of each run of an image's disk. The image is opened for reading, without its backing disk, and its
 /// storage is returned. Refused as `open_image` is: 19 (metadata), 13 (limit), 4 (unaligned table). An image with a data
-/// file is refused 12 (dependency). All runs are looked up before any is printed. Refused 4, 14 (memory), 15 (storage) and `Unprinted`
-/// if the work meets them.
+/// file is refused 12 (dependency). All runs are looked up before any is printed. May be refused 4, 14 (memory), 15 (storage) or `Unprinted` during
+/// the work.
 pub fn map<S: Storage, W: Write>(
     alloc: Global,
     storage: S,
@@ -76,7 +76,7 @@ pub fn map<S: Storage, W: Write>(
     }
 }
 
-// Where the part of a disk ends that the L1 table has entries for.
+// The end of the part of the disk that the L1 table has entries for.
 fn reach_of(header: &HeaderFields) -> u64
     requires { header.now.cluster_bits ≤ 21 }
 {
@@ -84,7 +84,7 @@ fn reach_of(header: &HeaderFields) -> u64
     (cluster * cluster / 8).saturating_mul(u64::from(header.l1_entries))
 }
 
-// Prints a map once it is known that all of it can be looked up.
+// Prints a map, after all of it was looked up.
 fn print_whole_map<S: Storage, W: Write>(
     image: &mut Qcow2<S>,
     page: &Page<'_>,
@@ -148,7 +148,7 @@ fn print_runs<S: Storage, W: Write>(
     Ok(())
 }
 
-// The run from an offset on, up to the end of the disk. It is one where no table says anything of the disk.
+// The run from an offset on. Where no table maps the disk, it goes up to the end of the disk.
 fn run_at<S: Storage>(
     image: &mut Qcow2<S>,
     start: u64,

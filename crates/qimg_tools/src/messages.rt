@@ -81,7 +81,7 @@ pub fn misused(rt: &HostRuntime, bad: BadWord<'_>) -> u8 {
         "" => writeln!(rt.stderr(), "qimg-tools: {reason}"),
         _ => writeln!(rt.stderr(), "qimg-tools: {word}: {reason}"),
     };
-    let _ = writeln!(rt.stderr(), "qimg-tools --help tells the words");
+    let _ = writeln!(rt.stderr(), "qimg-tools --help lists the options");
     REFUSED
 }
 

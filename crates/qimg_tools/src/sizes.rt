@@ -55,9 +55,9 @@ fn number_of_digits(digits: &[u8]) -> Option<u64>
 pub enum SizeChange {
     /// A number of bytes.
     To(u64),
-    /// This many more than now.
+    /// This many bytes more than now.
     More(u64),
-    /// This many fewer than now.
+    /// This many bytes fewer than now.
     Fewer(u64),
 }
 

@@ -4,7 +4,7 @@ use file_storage::{Replacement, StreamedFile};
 use program_parts::Place;
 use std::io;
 
-/// The name that the file of a conversion gets once it is whole. Until then the file has another one.
+/// The name that the file of a conversion gets when it is complete. Until then the file has another name.
 #[derive(Drop)]
 pub struct Target<'a> {
     rt: &'a HostRuntime,
@@ -21,7 +21,7 @@ impl<'a> Target<'a> {
         }
     }
 
-    /// Removes the file, so that what has the name keeps it. A device stays as it is.
+    /// Removes the new file, so that the old file keeps the name. A device stays as it is.
     pub fn discard(self) {
         let Target { rt, replacement } = self;
         if let Some(replacement) = replacement {

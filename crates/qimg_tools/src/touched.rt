@@ -12,22 +12,22 @@ use qcow2_session::{Breach, Kind};
 use std::alloc::{AllocError, Global};
 use std::collections::BTreeMap;
 
-/// How many ranges are told of one breach.
+/// The greatest number of ranges that are reported for one breach.
 const MOST: usize = 16;
 
 /// A range of a disk: where it begins, and how long it is, in bytes.
 #[derive(Clone, Copy, PartialEq, Eq)]
 pub struct Range {
-    /// Its first byte.
+    /// The first byte of the range.
     pub start: u64,
-    /// How many bytes it has.
+    /// The number of bytes.
     pub length: u64,
 }
 
-/// The ranges that a breach touches, rising.
+/// The ranges that a breach touches, in rising order.
 #[derive(Drop)]
 pub struct Ranges {
-    /// The first of them.
+    /// The first ranges.
     pub first: Vec<Range>,
     /// Whether there are more.
     pub has_more: bool,
@@ -51,9 +51,9 @@ struct Layout {
     data_is_external: bool,
 }
 
-/// The ranges of a disk that stand on what its breaches name, by the L1 table and the L2 tables of an image, which is only read. An L2
-/// table that more than 16 entries name is followed from the first 16. Where the work meets them: `Memory`, `Storage`, and what the L1
-/// table is refused for.
+/// The ranges of a disk that depend on what its breaches name, by the L1 table and the L2 tables of an image, which is only read. An L2 table that
+/// more than 16 entries name is followed only from the first 16. Refused as the L1 table is, and may be refused `Memory` or `Storage` during the
+/// work.
 pub fn touched_by<S: Storage>(
     alloc: Global,
     storage: &mut S,
@@ -113,7 +113,7 @@ impl Touched {
         }
     }
 
-    /// The ranges that a breach touches; None where no bytes of the disk stand there.
+    /// The ranges that a breach touches; None if it touches no bytes of the disk.
     pub fn of(&self, breach: &Breach) -> Option<&Ranges> {
         match *breach {
             Breach::Under { cluster, .. }
@@ -129,7 +129,7 @@ impl Touched {
         }
     }
 
-    // What the clusters of the L1 table stand for, each with as many entries as it has room for.
+    // Adds the ranges that each cluster of the L1 table maps, by its entries.
     fn add_l1_table(
         &mut self,
         layout: Layout,
@@ -149,7 +149,7 @@ impl Touched {
         Ok(())
     }
 
-    // What the L2 tables stand for, and what their entries do.
+    // Adds the ranges that the L2 tables map, and those that their entries map.
     fn add_l2_tables<S: Storage>(
         &mut self,
         alloc: Global,
@@ -176,7 +176,7 @@ impl Touched {
         Ok(())
     }
 
-    // What an L2 table at a place stands for, whose first entry is that of an offset.
+    // Adds the range that an L2 table maps. Its first entry maps the given offset.
     fn add_table(&mut self, layout: Layout, place: u64, start: u64) -> Result<(), AllocError>
         requires bits { IsClusterBits layout.bits }
     {
@@ -185,7 +185,7 @@ impl Touched {
         add(&mut self.clusters, place >> layout.bits, range)
     }
 
-    // What the entries of an L2 table stand for, whose first one is that of an offset.
+    // Adds the ranges that the entries of an L2 table map. The first entry maps the given offset.
     fn add_entries(&mut self, layout: Layout, table: &[u8], start: u64) -> Result<(), AllocError>
         requires bits { IsClusterBits layout.bits }
     {
@@ -206,7 +206,7 @@ impl Touched {
         Ok(())
     }
 
-    // What a guest cluster's mapping names stands for its range.
+    // Adds the range of a guest cluster to what its mapping refers to.
     fn add_mapping(
         &mut self,
         layout: Layout,
@@ -241,7 +241,7 @@ impl Ranges {
         }
     }
 
-    // Adds a range, if there is one, behind the others.
+    // Adds a range, if there is one, after the others.
     fn add(&mut self, range: Option<Range>) -> Result<(), AllocError> {
         let Some(range) = range else {
             return Ok(());
@@ -264,7 +264,7 @@ impl Ranges {
     }
 }
 
-// A place for ranges, where there is none yet.
+// Makes an empty list of ranges, if there is none yet.
 fn want(alloc: Global, named: &mut BTreeMap<u64, Ranges>, place: u64) -> Result<(), AllocError> {
     named.entry(place)?.or_insert(Ranges::none(alloc));
     Ok(())
@@ -281,7 +281,7 @@ fn add(
     }
 }
 
-// Whether a table is read once more, and counts that.
+// Whether a table may be read once more. Counts the reads.
 fn is_followed(known: &mut BTreeMap<u64, usize>, place: u64) -> Result<bool, AllocError> {
     let times = known.entry(place)?.or_insert(0);
     *times = times.saturating_add(1);
@@ -297,7 +297,7 @@ fn covered_by_table(bits: u32) -> u64
     cluster * cluster / 8
 }
 
-// The part of a range that lies on a disk of a size; None where that is none.
+// The part of a range that lies on a disk of this size; None if there is none.
 fn range_of(size: u64, start: u64, length: u64) -> Option<Range>
     ensures { IfSome result (LiesOn size) }
 {

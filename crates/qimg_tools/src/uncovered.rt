@@ -35,7 +35,7 @@ pub fn is_covered(header: &HeaderFields) -> bool
 }
 
 /// Prints the errors of an image that a report doesn't cover completely, and the parts that aren't covered, and returns the exit status: 2 if
-/// there are errors, otherwise 0. Leaked clusters aren't reported. Refused 14 (memory), 15 (storage) and `Unprinted` if the work meets them.
+/// there are errors, otherwise 0. Leaked clusters aren't reported. May be refused 14 (memory), 15 (storage) or `Unprinted` during the work.
 pub fn check_partly<S: Storage, W: Write>(
     alloc: Global,
     storage: &mut S,
@@ -93,7 +93,7 @@ fn status_of_errors(breaches: &[Breach], errors: &[Breach]) -> u8
     }
 }
 
-/// Why tables can't be read which were read before: where they don't read now the storage failed.
+/// Why tables can't be read that were read before: if they are unreadable now, the storage failed.
 pub fn failed(cause: &MetadataError) -> Failure
     ensures { IsOfWork result }
 {

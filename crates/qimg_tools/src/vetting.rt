@@ -1,4 +1,4 @@
-//! Whether an image that a stranger made may be taken in.
+//! Whether to accept an untrusted image.
 ghost use Rattle.std.specs.Prelude.{◌≡◌, ◌↔◌, IfErr, IfOk, IsTrue};
 ghost use Rattle.image_access.specs.Moments.{ContentsStay};
 ghost use Rattle.qcow2_metadata.specs.Bytes.{byte_at};
@@ -28,8 +28,8 @@ pub struct Candidate<'a> {
 }
 
 /// Prints whether an image may be accepted, and if not, why, and returns the exit status: 0 if it may, otherwise 2. The image is
-/// only read, and no name in it is followed. Refused 19 (metadata) and 13 (limit) for an unreadable header, L1 table or reftable, and
-/// 14 (memory), 15 (storage) and `Unprinted` if the work meets them.
+/// only read, and no name in it is followed. Refused 19 (metadata) and 13 (limit) for an unreadable header, L1 table or reftable, and 14 (memory),
+/// 15 (storage) or `Unprinted` during the work.
 pub fn vet<S: Storage, W: Write>(
     alloc: Global,
     storage: &mut S,

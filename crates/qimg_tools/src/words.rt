@@ -21,7 +21,7 @@ pub const USAGE: &str = "usage: qimg-tools info [-f qcow2] [--output human|json]
 SIZE is a number of bytes, or of units of 1024 as in 64k, 512M and 10G.
 OPTIONS are cluster_size=SIZE and refcount_bits=N, and for create preallocation=MODE, with commas between them.
 MODE is off, metadata, falloc or full. -b names a backing file, whose size is taken where none is given. Words behind -- are files and sizes. --json is --output json.
-vet tells whether a stranger's image may be taken in: its bytes are consistent and name no other file.
+vet reports whether a stranger's image may be taken in: its bytes are consistent and name no other file.
 convert takes a file that begins as a qcow2 image as one, unless -f raw is given; -O raw is the default.
 An image over others is converted with --backing for each file below it, from the top down; -F is the last one's format.
 The status is 0, or 1 if something is refused. check also returns 2 for an image that is not consistent,
@@ -98,7 +98,7 @@ pub struct Settings<'a> {
     pub form: Form,
     /// The format of the source, or of the first disk; None if it isn't given.
     pub source: Option<DiskFormat>,
-    /// The format of the second disk that is compared, or of the last backing file; None where nothing is asked for.
+    /// The format of the second disk that is compared, or of the last backing file; None if it isn't given.
     pub other: Option<DiskFormat>,
     /// The backing file of a new image, if it has one.
     pub below: Option<&'a str>,
@@ -121,9 +121,9 @@ pub struct Settings<'a> {
 /// What the words after the program's name ask for.
 #[derive(Drop)]
 pub struct Words<'a> {
-    /// What is to be done.
+    /// The task.
     pub command: Command,
-    /// What the words beside the command ask for.
+    /// The settings in the other words.
     pub settings: Settings<'a>,
     /// The files below an image that is converted, from the top down.
     pub layers: Vec<&'a str>,
@@ -158,8 +158,8 @@ enum Setting {
     Preallocation,
 }
 
-// The settings that words ask for, up to one of them, the option whose value comes next, whether all further words are operands, and the
-// file below an image that the last word names.
+// The settings in the words up to one of them, the option whose value comes next, whether all further words are operands, and the file below an
+// image that the last word names.
 #[derive(Clone, Copy)]
 struct Reading<'a> {
     settings: Settings<'a>,
@@ -204,7 +204,7 @@ pub fn read_words<'a>(alloc: Global, words: &'a [String]) -> Result<Words<'a>, B
     })
 }
 
-// Refuses options that lack the one which they need.
+// Refuses an option without the other option that it needs.
 fn require_partners<'a>(
     command: Command,
     settings: &Settings<'a>,

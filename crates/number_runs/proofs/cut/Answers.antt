@@ -30,8 +30,8 @@ cuts old mid new first n low high left right lie run from in_order past left_is 
 
 pub returns-clause-kept : goal.returns-clause-kept
 returns-clause-kept c =
-    let from = c.requires.from in
-    let order = c.requires.in_order in
+    let from = c.requires.order.0 in
+    let order = c.requires.order.1 in
     let past = c.requires.past in
     let below = c.requires.below in
     let put = c.put.ensures in
@@ -44,8 +44,8 @@ returns-clause-kept c =
 
 pub returns-clause-cut : goal.returns-clause-cut
 returns-clause-cut c = λ is.
-    let from = c.requires.from in
-    let order = c.requires.in_order in
+    let from = c.requires.order.0 in
+    let order = c.requires.order.1 in
     let past = c.requires.past in
     let below = c.requires.below in
     let put = c.put.ensures in
@@ -55,8 +55,8 @@ returns-clause-cut c = λ is.
 
 pub returns-clause-finer : goal.returns-clause-finer
 returns-clause-finer c =
-    let from = c.requires.from in
-    let order = c.requires.in_order in
+    let from = c.requires.order.0 in
+    let order = c.requires.order.1 in
     let past = c.requires.past in
     let below = c.requires.below in
     let put = c.put.ensures in

@@ -1,4 +1,4 @@
--- Who comes to the front, and who goes.
+-- Which entry moves to the front, and which is evicted.
 use Rattle.std.proofs.Common.{◌≡◌, ℕ, Bool, true, false, cond, inl, inr, List, ◌∷◌, Option, Some, None, Result, Ok, Err, refl, ap, ◌∙◌}
 use Rattle.std.specs.Cmp.{IsEquivalence}
 use Rattle.std.specs.Option.{is_some, IsSome, IsNone, option_map, option_map_or}

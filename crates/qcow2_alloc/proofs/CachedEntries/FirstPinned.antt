@@ -1,4 +1,4 @@
--- The first entry with a pin.
+-- The first pinned entry.
 use Rattle.std.proofs.Common.{◌≡◌, ◌<◌, ◌∙◌, inl, inr, Bool, true, false, List, [], ◌∷◌, Option, Some, None, refl, sym, subst, arith}
 use Rattle.std.specs.Prelude.{slice_get, IfSome, IsNone}
 use Rattle.std.specs.Cmp.{IsEquivalence}

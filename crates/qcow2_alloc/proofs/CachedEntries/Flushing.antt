@@ -1,4 +1,4 @@
--- A flush of all entries, up to some entry.
+-- Flushing all entries up to some entry.
 use Rattle.std.proofs.Common.{◌≡◌, List, [], ◌∷◌, ◌++◌, length, Option, Some, None, Bool, true, Result, Ok, Err, refl, sym, ap, ◌∙◌, subst, append_assoc, append-nil, arith}
 use Rattle.std.specs.Option.{option_or, IfSome, IsSome}
 use Rattle.std.specs.Result.{OnOk, OnErr, IfErr, result_err}

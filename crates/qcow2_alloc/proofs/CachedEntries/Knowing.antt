@@ -1,4 +1,4 @@
--- No load and no flush changes the known bytes: those of the store with the modified values laid over.
+-- Loads and flushes leave the known bytes the same: those of the store with the modified values overlaid.
 use Rattle.std.proofs.Common.{◌≡◌, ◌≢◌, ℕ, Bool, true, false, cond, inl, inr, List, [], ◌∷◌, Option, Some, None, Result, Ok, Err, refl, sym, ap, ◌∙◌, subst}
 use Rattle.std.specs.Cmp.{IsEquivalence}
 use Rattle.std.specs.List.{AllByRecursion, IsDistinct}
@@ -12,7 +12,7 @@ use Rattle.qcow2_alloc.specs.declared.async_lru_cache.slot.Slot.{Slot}
 use Rattle.qcow2_alloc.specs.declared.async_lru_cache.error.CacheError.{CacheError}
 use Rattle.qcow2_alloc.specs.declared.async_lru_cache.error.CacheError.TheVariants.{InUse, StillInUse, Memory, Backend}
 use Rattle.qcow2_alloc.specs.AsyncLruCache.{slot_of}
-use Rattle.qcow2_alloc.specs.AsyncLruCacheBackend.{Steps, IsLawful, KeepsBytes, value_laid_over, known_under_key, KeepsKnown, LaysOver}
+use Rattle.qcow2_alloc.specs.AsyncLruCacheBackend.{Steps, IsLawful, KeepsBytes, value_laid_over, known_under_key, KeepsKnown, OverlaysBytes}
 use Rattle.qcow2_alloc.specs.CacheAnswers.{FlushesEntry, FlushesAll, Evicts, HasRoomForEntry, HasNoRoom, InsertsNew, GetsNew, Replaces}
 use Rattle.qcow2_alloc.specs.CachedEntries.{FlushesFound}
 use Rattle.qcow2_alloc.proofs.CachedEntries.Lists.{none_is_none, lookup-from_entry, oldest_free-lookup}
@@ -231,8 +231,8 @@ module _ {S K V E : Type 0} {steps : Steps S K V E} {eq : K → K → Bool} (law
   pub all_keeps : (s : S) (es : List (K × Slot V)) (o : Option E) (t : S) (fs : List (K × Slot V)) → IsDistinct eq (keys_of es) → FlushesAll steps s es o t fs → KeepsKnownBytes s es t fs
   all_keeps s es o t fs d h = record { honest = λ x. (all_apart s es o t fs h x).0; stays = λ x. all_known s es o t fs d h x }
 
-  abbrev pub Lays : K → V → S → List (K × Slot V) → S → List (K × Slot V) → Type 0
-  Lays = LaysOver eq is_modified bytes stored is_honest
+  abbrev pub Overlays : K → V → S → List (K × Slot V) → S → List (K × Slot V) → Type 0
+  Overlays = OverlaysBytes eq is_modified bytes stored is_honest
 
   front_case : (t : S) (es : List (K × Slot V)) (k : K) (v : V) → lookup (eq k) es ≡ None → (j : K) (c : Bool) → eq k j ≡ c
       → shown (cond c (Some (slot_of v 0)) (lookup (eq j) es)) (stored t j) ≡ cond c (value_laid_over is_modified bytes v (seen t es j)) (seen t es j)
@@ -240,7 +240,7 @@ module _ {S K V E : Type 0} {steps : Steps S K V E} {eq : K → K → Bool} (law
   front_case t es k v none j false other = refl
 
   -- a new entry in front
-  front_lays : (s t : S) (es gs : List (K × Slot V)) (k : K) (v : V) → lookup (eq k) gs ≡ None → KeepsKnownBytes s es t gs → Lays k v s es t ((k, slot_of v 0) ∷ gs)
+  front_lays : (s t : S) (es gs : List (K × Slot V)) (k : K) (v : V) → lookup (eq k) gs ≡ None → KeepsKnownBytes s es t gs → Overlays k v s es t ((k, slot_of v 0) ∷ gs)
   front_lays s t es gs k v none h = record {
     honest = h.honest;
     laid = λ x j.
@@ -259,11 +259,11 @@ module _ {S K V E : Type 0} {steps : Steps S K V E} {eq : K → K → Bool} (law
   inserts_keeps size may_flush k v s t es fs left (Err (Backend x)) d h ne = no_room_keeps size may_flush s t es fs (Err (Backend x)) d h.0
 
   pub inserts_lays : (size : ℕ) (may_flush : Bool) (k : K) (v : V) (s t : S) (es fs : List (K × Slot V)) (left : Option V) (r : Result Bool (CacheError K E)) → IsDistinct eq (keys_of es) → lookup (eq k) es ≡ None
-      → InsertsNew steps eq size may_flush k v s es r t fs left → r ≡ Ok true → Lays k v s es t fs
+      → InsertsNew steps eq size may_flush k v s es r t fs left → r ≡ Ok true → Overlays k v s es t fs
   inserts_lays size may_flush k v s t es fs left r d none h is =
       let done = subst (λ y. InsertsNew steps eq size may_flush k v s es y t fs left) is h in
       let gone = room_missing steps eq size may_flush k s es t done.0.0 done.0.1 none in
-      subst (Lays k v s es t) (sym done.0.2) (front_lays s t es done.0.0 k v gone (room_keeps size may_flush s t es done.0.0 d done.0.1))
+      subst (Overlays k v s es t) (sym done.0.2) (front_lays s t es done.0.0 k v gone (room_keeps size may_flush s t es done.0.0 d done.0.1))
 
   -- the entry under the key in front of the others
   module _ (k : K) (e : K × Slot V) (es : List (K × Slot V)) (found : lookup_entry (eq k) es ≡ Some e) where
@@ -295,7 +295,7 @@ module _ {S K V E : Type 0} {steps : Steps S K V E} {eq : K → K → Bool} (law
         ap (value_laid_over is_modified bytes v) (here s t k e.1.value w h x j same ∙ ap (λ o. shown o (stored s j)) (sym was))
     replaced_case v w n s t h x j false other = ap (λ o. shown o (stored t j)) (removed_apart laws es k j other) ∙ ap (shown (lookup (eq j) es)) (there s t k e.1.value w h x j other)
 
-    pub replaces_lays : (v : V) (may_flush : Bool) (s t : S) (fs : List (K × Slot V)) (left : Option V) (r : Result Bool (CacheError K E)) → Replaces steps k e others v may_flush s es r t fs left → r ≡ Ok true → Lays k v s es t fs
+    pub replaces_lays : (v : V) (may_flush : Bool) (s t : S) (fs : List (K × Slot V)) (left : Option V) (r : Result Bool (CacheError K E)) → Replaces steps k e others v may_flush s es r t fs left → r ≡ Ok true → Overlays k v s es t fs
     replaces_lays v may_flush s t fs left r h is =
         let done = subst (λ y. Replaces steps k e others v may_flush s es y t fs left) is h in record {
           honest = λ x. (b.flush_writes s t k e.1.value done.1.0 done.1.1 x).0;
@@ -307,7 +307,7 @@ module _ {S K V E : Type 0} {steps : Steps S K V E} {eq : K → K → Bool} (law
 
   -- what `insert` leaves
   pub record HasInserted (k : K) (o : Option V) (s : S) (es : List (K × Slot V)) (r : Result Bool (CacheError K E)) (t : S) (fs : List (K × Slot V)) : Type 0 where
-    pub laid : IfSome o (λ v. r ≡ Ok true → Lays k v s es t fs)
+    pub laid : IfSome o (λ v. r ≡ Ok true → Overlays k v s es t fs)
     pub known : r ≢ Ok true → KeepsKnownBytes s es t fs
 
   pub inserted : (size : ℕ) (may_flush : Bool) (k : K) (o : Option V) (s t : S) (es fs : List (K × Slot V)) (left : Option V) (r : Result Bool (CacheError K E)) → IsDistinct eq (keys_of es) → lookup (eq k) es ≡ None → IsSome o

@@ -1,5 +1,5 @@
--- What a call does to the pins of the entries: each key keeps its own.
-use Rattle.std.proofs.Common.{◌≡◌, ℕ, ◌<◌, ◌≤◌, Bool, true, false, cond, inl, inr, List, [], ◌∷◌, length, Option, Some, None, Result, Ok, Err, refl, sym, ap, ◌∙◌, subst, arith, nat_lt}
+-- What a call does to the pins of the entries: each key keeps its own pins.
+use Rattle.std.proofs.Common.{◌≡◌, ℕ, ◌<◌, ◌≤◌, Bool, true, false, cond, inl, inr, List, [], ◌∷◌, length, Option, Some, None, Result, refl, sym, ap, ◌∙◌, subst, arith, nat_lt}
 use Rattle.std.proofs.lemmas.Bool.Decides.{nat_tests}
 use Rattle.std.specs.Cmp.{IsEquivalence}
 use Rattle.std.specs.List.{AllByRecursion, IsDistinct}
@@ -9,13 +9,13 @@ use Rattle.std.proofs.lemmas.Map.{lookup-remove_entry}
 use Rattle.lru.specs.LruCache.{promoted}
 use Rattle.qcow2_alloc.specs.declared.async_lru_cache.slot.Slot.{Slot}
 use Rattle.qcow2_alloc.specs.declared.async_lru_cache.error.CacheError.{CacheError}
-use Rattle.qcow2_alloc.specs.declared.async_lru_cache.error.CacheError.TheVariants.{InUse, StillInUse, Memory, Backend}
 use Rattle.qcow2_alloc.specs.AsyncLruCache.{slot_of, pins_at, is_pinned, pinned, oldest_free, KeepsPins}
 use Rattle.qcow2_alloc.specs.AsyncLruCacheBackend.{Steps}
-use Rattle.qcow2_alloc.specs.CacheAnswers.{FlushesEntry, FlushesAll, HasRoomForEntry, HasNoRoom, InsertsNew, GetsNew, Replaces}
+use Rattle.qcow2_alloc.specs.CacheAnswers.{FlushesEntry, FlushesAll, HasRoomForEntry, InsertsNew, GetsNew, Replaces}
 use Rattle.qcow2_alloc.proofs.CachedEntries.Knowing.{lookup_alike, removed_apart, lookup-promoted}
 use Rattle.qcow2_alloc.proofs.CachedEntries.Lists.{oldest_cases, oldest_free-lookup, pinned_kept, pinned_gone, none_is_none, lookup-from_entry}
 use Rattle.qcow2_alloc.proofs.CachedEntries.Room.{room_missing}
+use Rattle.qcow2_alloc.proofs.CachedEntries.Cases.{get_cases, insert_cases, replace_cases}
 
 -- ---- lists in which none is pinned
 module _ {K V : Type 0} where
@@ -217,39 +217,18 @@ module _ {K V : Type 0} (eq : K → K → Bool) where
           | inr r ↦ subst (Kept es) (sym r.rest) (pins_gone es r.entry d r.eviction)
         ]
 
-        no_room_pins : (r : Result Bool (CacheError K E)) (t : S) (fs : List (K × Slot V)) → HasNoRoom steps eq size may_flush s es r t fs → Kept es fs
-        no_room_pins (Ok true) t fs h = absurd h
-        no_room_pins (Ok false) t fs h = pins_same es fs h.3
-        no_room_pins (Err InUse) t fs h = pins_same es fs h.3
-        no_room_pins (Err (StillInUse _)) t fs h = absurd h
-        no_room_pins (Err Memory) t fs h = absurd h
-        no_room_pins (Err (Backend x)) t fs h = pins_same es fs h.same
-
         -- a load of a new key
         pub gets_keep_pins : (k : K) (r : Result Bool (CacheError K E)) (t : S) (fs : List (K × Slot V)) → IsDistinct eq (keys_of es) → lookup (eq k) es ≡ None
             → GetsNew steps eq size may_flush k s es r t fs → Kept es fs
-        gets_keep_pins k (Ok true) t fs d none h =
-            subst (Kept es) (sym h.5) (pins_then es h.1 ((k, slot_of h.2 0) ∷ h.1) (room_pins h.0 h.1 d h.3)
-            (pins_new h.1 k h.2 (room_missing steps eq size may_flush k s es h.0 h.1 h.3 none)))
-        gets_keep_pins k (Ok false) t fs d none h = no_room_pins (Ok false) t fs h
-        gets_keep_pins k (Err InUse) t fs d none h = no_room_pins (Err InUse) t fs h
-        gets_keep_pins k (Err (StillInUse _)) t fs d none h = absurd h
-        gets_keep_pins k (Err Memory) t fs d none h = room_pins h.0 fs d h.2
-        gets_keep_pins k (Err (Backend x)) t fs d none h = elim h [
-          | inl none_free ↦ no_room_pins (Err (Backend x)) t fs none_free
-          | inr failed ↦ room_pins failed.0 fs d failed.1
-        ]
+        gets_keep_pins k r t fs d none =
+            get_cases steps s t es fs k may_flush (Kept es) (pins_same es es refl) eq size (λ q gs room. room_pins q gs d room) r
+            (λ q gs v room _. pins_then es gs ((k, slot_of v 0) ∷ gs) (room_pins q gs d room) (pins_new gs k v (room_missing steps eq size may_flush k s es q gs room none)))
 
         inserts_keep : (k : K) (v : V) (r : Result Bool (CacheError K E)) (t : S) (fs : List (K × Slot V)) (left : Option V) → IsDistinct eq (keys_of es) → lookup (eq k) es ≡ None
             → InsertsNew steps eq size may_flush k v s es r t fs left → Kept es fs
-        inserts_keep k v (Ok true) t fs left d none h =
-            subst (Kept es) (sym h.0.2) (pins_then es h.0.0 ((k, slot_of v 0) ∷ h.0.0) (room_pins t h.0.0 d h.0.1)
-            (pins_new h.0.0 k v (room_missing steps eq size may_flush k s es t h.0.0 h.0.1 none)))
-        inserts_keep k v (Ok false) t fs left d none h = no_room_pins (Ok false) t fs h.0
-        inserts_keep k v (Err InUse) t fs left d none h = no_room_pins (Err InUse) t fs h.0
-        inserts_keep k v (Err (StillInUse _)) t fs left d none h = absurd h
-        inserts_keep k v (Err Memory) t fs left d none h = room_pins t fs d h.0
-        inserts_keep k v (Err (Backend x)) t fs left d none h = no_room_pins (Err (Backend x)) t fs h.0
+        inserts_keep k v r t fs left d none =
+            insert_cases steps s t es fs k may_flush (Kept es) (pins_same es es refl) eq size (λ q gs room. room_pins q gs d room) v r left
+            (λ gs _ room. pins_then es gs ((k, slot_of v 0) ∷ gs) (room_pins t gs d room) (pins_new gs k v (room_missing steps eq size may_flush k s es t gs room none)))
 
         -- a value is put in
         pub inserts_keep_pins : (k : K) (o : Option V) (r : Result Bool (CacheError K E)) (t : S) (fs : List (K × Slot V)) (left : Option V) → IsDistinct eq (keys_of es) → lookup (eq k) es ≡ None → IsSome o
@@ -259,12 +238,7 @@ module _ {K V : Type 0} (eq : K → K → Bool) where
 
       module _ (may_flush : Bool) (s : S) (es : List (K × Slot V)) (k : K) (t : S) (fs : List (K × Slot V)) (left : Option V) where
         replaces_keep : (e : K × Slot V) (v : V) (r : Result Bool (CacheError K E)) → lookup_entry (eq k) es ≡ Some e → Replaces steps k e (remove_entry (eq k) es) v may_flush s es r t fs left → Kept es fs
-        replaces_keep e v (Ok true) found h = subst (Kept es) (sym h.2) (pins_put es k e v found)
-        replaces_keep e v (Ok false) found h = pins_same es fs h.2
-        replaces_keep e v (Err (Backend x)) found h = subst (Kept es) (sym h.2) (pins_put es k e e.1.value found)
-        replaces_keep e v (Err InUse) found h = absurd h
-        replaces_keep e v (Err (StillInUse _)) found h = absurd h
-        replaces_keep e v (Err Memory) found h = absurd h
+        replaces_keep e v r found = replace_cases steps s t es fs k may_flush (Kept es) (pins_same es es refl) e (remove_entry (eq k) es) v r left (pins_put es k e e.1.value found) (λ _. pins_put es k e v found)
 
         replaced_of : (e : Option (K × Slot V)) (o : Option V) (r : Result Bool (CacheError K E)) → lookup_entry (eq k) es ≡ e → IsSome (lookup (eq k) es) → IsSome o
             → IfSome e (λ e. IfSome o (λ v. Replaces steps k e (remove_entry (eq k) es) v may_flush s es r t fs left)) → Kept es fs

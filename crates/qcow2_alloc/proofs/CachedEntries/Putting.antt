@@ -1,4 +1,4 @@
--- What is put into a cache, and what is replaced there.
+-- Inserting a value into a cache, and replacing one there.
 use Rattle.std.proofs.Common.{◌≡◌, ℕ, ◌-◌, ◌^◌, ◌<◌, ◌≤◌, Bool, true, List, ◌∷◌, length, take, Option, Some, None, IfSome, IsSome, refl, ap, ◌∙◌, arith}
 use Rattle.std.proofs.lemmas.Option.{none-some}
 use Rattle.std.proofs.lemmas.Grind.{common_steps}

@@ -1,5 +1,5 @@
--- What a call leaves of the other entries: those that are still there are as they were.
-use Rattle.std.proofs.Common.{◌≡◌, ℕ, Bool, true, false, cond, inl, inr, List, ◌∷◌, Option, Some, None, Result, Ok, Err, eqb, refl, sym, ap, ◌∙◌, subst}
+-- The other entries that are still in the cache after a call are unchanged.
+use Rattle.std.proofs.Common.{◌≡◌, ℕ, Bool, true, false, cond, inl, inr, List, ◌∷◌, Option, Some, None, Result, eqb, refl, sym, ap, ◌∙◌, subst}
 use Rattle.std.specs.Cmp.{IsEquivalence}
 use Rattle.std.specs.List.{IsDistinct}
 use Rattle.std.specs.Option.{option_map, IfSome, IsSome}
@@ -9,12 +9,12 @@ use Rattle.lru.specs.LruCache.{promoted}
 use Rattle.lru.proofs.CallerLemmas.{Contains-lookup_entry}
 use Rattle.qcow2_alloc.specs.declared.async_lru_cache.slot.Slot.{Slot}
 use Rattle.qcow2_alloc.specs.declared.async_lru_cache.error.CacheError.{CacheError}
-use Rattle.qcow2_alloc.specs.declared.async_lru_cache.error.CacheError.TheVariants.{InUse, StillInUse, Memory, Backend}
 use Rattle.qcow2_alloc.specs.AsyncLruCache.{slot_of, value_at, OthersStay}
 use Rattle.qcow2_alloc.specs.AsyncLruCacheBackend.{Steps}
-use Rattle.qcow2_alloc.specs.CacheAnswers.{HasRoomForEntry, HasNoRoom, InsertsNew, GetsNew, Replaces}
+use Rattle.qcow2_alloc.specs.CacheAnswers.{HasRoomForEntry, InsertsNew, GetsNew, Replaces}
 use Rattle.qcow2_alloc.proofs.CachedEntries.Knowing.{removed_apart, lookup-promoted}
 use Rattle.qcow2_alloc.proofs.CachedEntries.Lists.{none_is_none, lookup-from_entry}
+use Rattle.qcow2_alloc.proofs.CachedEntries.Cases.{get_cases, insert_cases, replace_cases}
 
 none_there : {X : Type 0} (o : Option X) → o ≡ None → IsSome o → ⊥
 none_there None is there = cc
@@ -59,33 +59,16 @@ module _ {K V : Type 0} (eq : K → K → Bool) where
           | inr r ↦ subst (OthersStay eq k es) (sym r.rest) (λ j other there. gone_case es r.entry d j (eq r.entry.0 j) refl there)
         ]
 
-        no_room_stays : (r : Result Bool (CacheError K E)) (t : S) (fs : List (K × Slot V)) → HasNoRoom steps eq size may_flush s es r t fs → OthersStay eq k es fs
-        no_room_stays (Ok true) t fs h = absurd h
-        no_room_stays (Ok false) t fs h = stays_same k es fs h.3
-        no_room_stays (Err InUse) t fs h = stays_same k es fs h.3
-        no_room_stays (Err (StillInUse _)) t fs h = absurd h
-        no_room_stays (Err Memory) t fs h = absurd h
-        no_room_stays (Err (Backend x)) t fs h = stays_same k es fs h.same
-
         -- a load of a new key
         pub gets_stay : (r : Result Bool (CacheError K E)) (t : S) (fs : List (K × Slot V)) → IsDistinct eq (keys_of es) → GetsNew steps eq size may_flush k s es r t fs → OthersStay eq k es fs
-        gets_stay (Ok true) t fs d h = subst (OthersStay eq k es) (sym h.5) (new_stays k es h.1 (slot_of h.2 0) (room_stays h.0 h.1 d h.3))
-        gets_stay (Ok false) t fs d h = no_room_stays (Ok false) t fs h
-        gets_stay (Err InUse) t fs d h = no_room_stays (Err InUse) t fs h
-        gets_stay (Err (StillInUse _)) t fs d h = absurd h
-        gets_stay (Err Memory) t fs d h = room_stays h.0 fs d h.2
-        gets_stay (Err (Backend x)) t fs d h = elim h [
-          | inl none_free ↦ no_room_stays (Err (Backend x)) t fs none_free
-          | inr failed ↦ room_stays failed.0 fs d failed.1
-        ]
+        gets_stay r t fs d =
+            get_cases steps s t es fs k may_flush (OthersStay eq k es) (stays_same k es es refl) eq size (λ q gs room. room_stays q gs d room) r
+            (λ q gs v room _. new_stays k es gs (slot_of v 0) (room_stays q gs d room))
 
         inserts_keep : (v : V) (r : Result Bool (CacheError K E)) (t : S) (fs : List (K × Slot V)) (left : Option V) → IsDistinct eq (keys_of es) → InsertsNew steps eq size may_flush k v s es r t fs left → OthersStay eq k es fs
-        inserts_keep v (Ok true) t fs left d h = subst (OthersStay eq k es) (sym h.0.2) (new_stays k es h.0.0 (slot_of v 0) (room_stays t h.0.0 d h.0.1))
-        inserts_keep v (Ok false) t fs left d h = no_room_stays (Ok false) t fs h.0
-        inserts_keep v (Err InUse) t fs left d h = no_room_stays (Err InUse) t fs h.0
-        inserts_keep v (Err (StillInUse _)) t fs left d h = absurd h
-        inserts_keep v (Err Memory) t fs left d h = room_stays t fs d h.0
-        inserts_keep v (Err (Backend x)) t fs left d h = no_room_stays (Err (Backend x)) t fs h.0
+        inserts_keep v r t fs left d =
+            insert_cases steps s t es fs k may_flush (OthersStay eq k es) (stays_same k es es refl) eq size (λ q gs room. room_stays q gs d room) v r left
+            (λ gs _ room. new_stays k es gs (slot_of v 0) (room_stays t gs d room))
 
         -- a value is put in
         pub inserts_stay : (o : Option V) (r : Result Bool (CacheError K E)) (t : S) (fs : List (K × Slot V)) (left : Option V) → IsDistinct eq (keys_of es) → IsSome o
@@ -95,12 +78,8 @@ module _ {K V : Type 0} (eq : K → K → Bool) where
 
       module _ (may_flush : Bool) (s : S) (es : List (K × Slot V)) (k : K) (t : S) (fs : List (K × Slot V)) (left : Option V) where
         replaces_keep : (e : K × Slot V) (v : V) (r : Result Bool (CacheError K E)) → lookup_entry (eq k) es ≡ Some e → Replaces steps k e (remove_entry (eq k) es) v may_flush s es r t fs left → OthersStay eq k es fs
-        replaces_keep e v (Ok true) found h = subst (OthersStay eq k es) (sym h.2) (put_stays k es e (slot_of v e.1.pins) found)
-        replaces_keep e v (Ok false) found h = stays_same k es fs h.2
-        replaces_keep e v (Err (Backend x)) found h = subst (OthersStay eq k es) (sym h.2) (put_stays k es e e.1 found)
-        replaces_keep e v (Err InUse) found h = absurd h
-        replaces_keep e v (Err (StillInUse _)) found h = absurd h
-        replaces_keep e v (Err Memory) found h = absurd h
+        replaces_keep e v r found =
+            replace_cases steps s t es fs k may_flush (OthersStay eq k es) (stays_same k es es refl) e (remove_entry (eq k) es) v r left (put_stays k es e e.1 found) (λ _. put_stays k es e (slot_of v e.1.pins) found)
 
         replaced_of : (o : Option (K × Slot V)) (value : Option V) (r : Result Bool (CacheError K E)) → lookup_entry (eq k) es ≡ o → IsSome (lookup (eq k) es) → IsSome value
             → IfSome o (λ e. IfSome value (λ v. Replaces steps k e (remove_entry (eq k) es) v may_flush s es r t fs left)) → OthersStay eq k es fs

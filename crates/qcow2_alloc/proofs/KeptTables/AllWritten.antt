@@ -1,4 +1,4 @@
--- Caches of which no table is modified stay so, and nothing is written, whatever the tables hold.
+-- If no cached table is modified, none is afterwards, and nothing is written, whatever the tables hold.
 use Rattle.std.proofs.Common.{◌≡◌, ℕ, Bool, true, eqb, Result, Ok, IsSome, ap}
 use Rattle.std.specs.Option.{IsNone}
 use Rattle.std.specs.Map.{lookup}

@@ -1,4 +1,4 @@
--- What is true along the calls of caches of which no cluster has a modified table in both.
+-- What holds throughout calls of caches in which no cluster has a modified table in both.
 use Rattle.std.proofs.Common.{◌≡◌, ◌⊎◌, inl, inr, ℕ, ◌/◌, ◌%◌, ◌^◌, ◌<◌, Bool, false, eqb, List, [], ◌∷◌, ◌++◌, None, refl, sym, ap, ◌∙◌, subst}
 use mathlib.Core.Path.{fun_ext}
 use Rattle.std.specs.List.{AllByRecursion, IsDistinct}

@@ -1,4 +1,4 @@
--- Calls of caches of which no cluster has a modified table in both: nothing known changes, or a table is laid over it, and tables are written in the order that the direction asks for.
+-- Calls of caches in which no cluster has a modified table in both: the known contents stay the same, or a table is overlaid on them, and tables are written in the order of the direction.
 use Rattle.std.proofs.Common.{◌≡◌, ◌⊎◌, inl, inr, ℕ, ◌*◌, ◌/◌, ◌%◌, ◌^◌, ◌<◌, Bool, true, false, eqb, List, [], ◌∷◌, ◌++◌, Option, Some, Result, Ok, IsSome, refl, sym, ap, ◌∙◌, subst}
 use Rattle.std.proofs.lemmas.Nat.{pow_pos}
 use Rattle.std.specs.List.{IsDistinct}

@@ -1,4 +1,4 @@
--- A held table is changed in its place, in caches of which no cluster has a modified table in both.
+-- A cached table is changed in place, in caches in which no cluster has a modified table in both.
 use Rattle.std.proofs.Common.{◌≡◌, ◌⊎◌, inl, inr, ℕ, ◌+◌, ◌-◌, ◌*◌, ◌/◌, ◌%◌, ◌^◌, ◌<◌, ◌&&◌, Bool, true, eqb, List, ◌∷◌, ◌++◌, Option, Some, None, arith, refl, sym, ap, ◌∙◌, subst}
 use Rattle.std.proofs.lemmas.Bool.{cases_Bool}
 use Rattle.std.proofs.lemmas.Nat.{pow_pos, div-mul-add}
@@ -153,8 +153,8 @@ module _ {V : Type 0} (key : ℕ) (es : List (ℕ × Slot V)) (w : V) where
       of None is = tt
       of (Some v) is = if_some (Q v) (value_at (eqb key) (set_at (eqb key) es w)) w (here_of key es w (lookup (eqb key) es) refl v is) (each v is)
 
-module _ {S : Type 0} (caches : MetadataCaches S) (key : ℕ) (noted : Bool) (changes : ℕ) where
-  pub table_changed_apart : (w : L2TableView) → IsDistinct eqb (keys_of caches.l2.entries) → ChangesTableApart caches (record caches { l2 = with_entries caches.l2 (set_at (eqb key) caches.l2.entries w); is_changed = noted; changes = changes }) key
+module _ {S : Type 0} (caches : MetadataCaches S) (key : ℕ) (recorded : Bool) (changes : ℕ) where
+  pub table_changed_apart : (w : L2TableView) → IsDistinct eqb (keys_of caches.l2.entries) → ChangesTableApart caches (record caches { l2 = with_entries caches.l2 (set_at (eqb key) caches.l2.entries w); is_changed = recorded; changes = changes }) key
   table_changed_apart w distinct = both_held key caches.l2.entries w _ (λ v found marked h on_storage are are' current.
       let bits = caches.l2.backend.header.fields.cluster_bits in
       let all : List CachedTable → Bytes → Bytes = λ ts b. known_bytes (cluster_size h) ts (refblocks caches) b in
@@ -166,7 +166,7 @@ module _ {S : Type 0} (caches : MetadataCaches S) (key : ℕ) (noted : Bool) (ch
         outside = known_outside bits (λ (t : L2TableView). t.bytes) (λ t. t.is_modified) (cluster_size h) (ap (λ n. 2 ^ n) are.l2_bits) caches.l2.entries distinct (refblocks caches) all past free on_storage key v w found marked are.apart are'.apart;
       })
 
-  pub block_changed_apart : (w : RefBlockView) → IsDistinct eqb (keys_of caches.rb.entries) → ChangesBlockApart caches (record caches { rb = with_entries caches.rb (set_at (eqb key) caches.rb.entries w); is_changed = noted; changes = changes }) key
+  pub block_changed_apart : (w : RefBlockView) → IsDistinct eqb (keys_of caches.rb.entries) → ChangesBlockApart caches (record caches { rb = with_entries caches.rb (set_at (eqb key) caches.rb.entries w); is_changed = recorded; changes = changes }) key
   block_changed_apart w distinct = both_held key caches.rb.entries w _ (λ v found marked h on_storage are are' current.
       let bits = caches.rb.backend.header.fields.cluster_bits in
       let all : List CachedTable → Bytes → Bytes = λ ts b. known_bytes (cluster_size h) (l2_tables caches) ts b in

@@ -1,4 +1,4 @@
--- Tables are taken off caches of which no cluster has a modified table in both, unwritten.
+-- Tables are dropped unwritten from caches in which no cluster has a modified table in both.
 use Rattle.std.proofs.Common.{◌≡◌, ◌⊎◌, inl, inr, ℕ, ◌+◌, ◌*◌, ◌/◌, ◌%◌, ◌^◌, ◌<◌, ◌&&◌, Bool, true, false, cond, eqb, List, ◌∷◌, ◌++◌, Option, Some, None, IsTrue, arith, refl, sym, ap, ◌∙◌, subst}
 use Rattle.std.proofs.lemmas.Nat.{pow_pos, div-mul-add}
 use Rattle.std.specs.List.{IsDistinct}
@@ -22,7 +22,7 @@ use Rattle.qcow2_alloc.specs.AsyncLruCache.{Cache, can_remove, with_entries}
 use Rattle.qcow2_alloc.specs.TableLaws.{same_number}
 use Rattle.qcow2_alloc.specs.KeptTables.{cached_table, cached_tables}
 use Rattle.qcow2_alloc.specs.MetadataCaches.{rb_at, l2_tables, refblocks}
-use Rattle.qcow2_alloc.specs.ApartCaches.{AreNoMore, NoClusterDirtyInBoth, KnownWithout, TakesOffApart, KnownWithoutBlock, TakesBlockApart}
+use Rattle.qcow2_alloc.specs.ApartCaches.{AreNoMore, NoClusterDirtyInBoth, KnownWithout, EvictsTableApart, KnownWithoutBlock, AllocatesBlockApart}
 use Rattle.qcow2_alloc.proofs.CachedEntries.Lists.{lookup-from_entry}
 use Rattle.qcow2_alloc.proofs.KeptTables.Loaded.{loaded_without}
 use Rattle.qcow2_alloc.proofs.KeptTables.Listing.{loaded_distinct, free_elsewhere, free_of}
@@ -61,7 +61,7 @@ module _ {V : Type 0} (bits : ℕ) (bytes : V → List ℕ) (is_modified : V →
 module _ {S : Type 0} (caches : MetadataCaches S) where
   -- ---- of the L2 tables
   pub tables_taken_apart : (l2 : Cache (L2CacheBackend S) ℕ L2TableView) → l2 ≡ with_entries caches.l2 l2.entries → SomeOf caches.l2.entries l2.entries → IsDistinct eqb (keys_of caches.l2.entries)
-      → TakesOffApart (AreClean (l2_tables caches)) caches (record caches { l2 = l2 })
+      → EvictsTableApart (AreClean (l2_tables caches)) caches (record caches { l2 = l2 })
   tables_taken_apart l2 others some distinct h on_storage are =
       let bits = caches.l2.backend.header.fields.cluster_bits in
       let tables : List (ℕ × Slot L2TableView) → List CachedTable = cached_tables bits (λ (t : L2TableView). t.bytes) (λ t. t.is_modified) in
@@ -174,7 +174,7 @@ module _ {S : Type 0} (caches : MetadataCaches S) where
       }
 
   pub blocks_taken_apart : (rb : Cache (RefBlockCacheBackend S) ℕ RefBlockView) → rb ≡ with_entries caches.rb rb.entries → SomeOf caches.rb.entries rb.entries → IsDistinct eqb (keys_of caches.rb.entries)
-      → TakesOffApart (AreClean (refblocks caches)) caches (record caches { rb = rb })
+      → EvictsTableApart (AreClean (refblocks caches)) caches (record caches { rb = rb })
   blocks_taken_apart rb others some distinct h on_storage are =
       let blocks : List (ℕ × Slot RefBlockView) → List CachedTable = cached_tables caches.rb.backend.header.fields.cluster_bits (λ (b : RefBlockView). b.bytes) (λ b. b.is_modified) in
       let fewer : SomeOf (refblocks caches) (blocks rb.entries) = some_map (cached_table caches.rb.backend.header.fields.cluster_bits (λ (b : RefBlockView). b.bytes) (λ b. b.is_modified)) caches.rb.entries rb.entries some in
@@ -185,7 +185,7 @@ module _ {S : Type 0} (caches : MetadataCaches S) where
 -- ---- a refblock is removed
 module _ {S : Type 0} (caches : MetadataCaches S) (key : ℕ) (b : Bool) (rb : Cache (RefBlockCacheBackend S) ℕ RefBlockView) (told : b ≡ can_remove (eqb key) caches.rb.entries)
     (is : rb ≡ with_entries caches.rb (cond b (remove_entry (eqb key) caches.rb.entries) caches.rb.entries)) (distinct : IsDistinct eqb (keys_of caches.rb.entries)) where
-  found_apart : (o : Option (ℕ × Slot RefBlockView)) → lookup_entry (eqb key) caches.rb.entries ≡ o → b ≡ true → TakesBlockApart caches (record caches { rb = rb }) key
+  found_apart : (o : Option (ℕ × Slot RefBlockView)) → lookup_entry (eqb key) caches.rb.entries ≡ o → b ≡ true → AllocatesBlockApart caches (record caches { rb = rb }) key
   found_apart None none went = absurd (
       let missing = lookup-from_entry (eqb key) caches.rb.entries ∙ ap (option_map (λ (x : ℕ × Slot RefBlockView). x.1)) none in
       let can = sym went ∙ told in
@@ -193,5 +193,5 @@ module _ {S : Type 0} (caches : MetadataCaches S) (key : ℕ) (b : Bool) (rb : C
   found_apart (Some e) some went = λ h on_storage are.
       subst (λ (c : Cache (RefBlockCacheBackend S) ℕ RefBlockView). KnownWithoutBlock h caches (record caches { rb = c }) on_storage key) (sym (rw went at is)) (block_without caches h on_storage are distinct key e some)
 
-  pub removed_apart_block : IsTrue b → TakesBlockApart caches (record caches { rb = rb }) key
+  pub removed_apart_block : IsTrue b → AllocatesBlockApart caches (record caches { rb = rb }) key
   removed_apart_block went = found_apart (lookup_entry (eqb key) caches.rb.entries) refl went

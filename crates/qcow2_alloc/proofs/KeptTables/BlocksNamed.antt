@@ -1,4 +1,4 @@
--- The reftable still names each refblock that it named, and the offset of every table fits into 64 bits.
+-- The reftable still names each refblock that it named before, and the offset of every table fits into 64 bits.
 use Rattle.std.proofs.Common.{◌≡◌, ◌⊎◌, inl, inr, ℕ, ◌*◌, ◌/◌, ◌%◌, ◌^◌, ◌<◌, List, sym, ap, ◌∙◌, subst, arith}
 use Rattle.std.proofs.lemmas.Nat.{mod_below, pow_pos, div-add-mod'}
 use Rattle.qcow2_metadata.specs.Bytes.{Bytes}

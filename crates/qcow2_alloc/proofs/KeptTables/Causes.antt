@@ -13,7 +13,7 @@ use Rattle.qcow2_metadata.specs.L2Table.{L2TableView}
 use Rattle.qcow2_metadata.specs.RefBlock.{RefBlockView}
 use Rattle.qcow2_metadata.specs.TableBytes.{HasPlace, IsOfStorageOrMemory}
 use Rattle.qcow2_laws.specs.CrashInvariant.{Pending}
-use Rattle.qcow2_laws.specs.Caches.{HasL2, HasBlock, AreNamedBlocks}
+use Rattle.qcow2_laws.specs.Caches.{HasL2}
 use Rattle.qcow2_alloc.specs.declared.async_lru_cache.slot.Slot.{Slot}
 use Rattle.qcow2_alloc.specs.declared.async_lru_cache.error.CacheError.{CacheError}
 use Rattle.qcow2_alloc.specs.declared.async_lru_cache.error.CacheError.TheVariants.{InUse, StillInUse, Memory, Backend}
@@ -30,12 +30,13 @@ use Rattle.qcow2_alloc.specs.CachePins.{CachesHaveRoom, AreAllPinned, IsInUseOrF
 use Rattle.qcow2_alloc.specs.ImageError.{of_metadata, of_cache, IsFault}
 use Rattle.qcow2_alloc.specs.ImageStorage.{storage_of}
 use Rattle.qcow2_alloc.specs.TableCaches.{l2_steps, rb_steps, cleared_l2, cleared_rb, IsTableOf, IsBlockOf}
-use Rattle.qcow2_alloc.specs.MetadataCaches.{refblocks, CacheInvariant}
+use Rattle.qcow2_alloc.specs.MetadataCaches.{HavePlaces, CacheInvariant}
 use Rattle.qcow2_alloc.proofs.CachedEntries.Pins.{free_eviction, all_pinned}
 use Rattle.qcow2_alloc.proofs.KeptTables.Flushing.{table_still, block_still}
 use Rattle.qcow2_alloc.proofs.KeptTables.Inserting.{found_or_not, lookup_none}
 use Rattle.qcow2_alloc.proofs.KeptTables.Fetching.{none_or_some}
-use Rattle.qcow2_alloc.proofs.KeptTables.BlocksNamed.{tables_stand, blocks_stand, table_place, block_place}
+use Rattle.qcow2_alloc.proofs.KeptTables.BlocksNamed.{tables_stand, table_place}
+use Rattle.qcow2_alloc.proofs.KeptTables.Places.{places_stand}
 use Rattle.qcow2_alloc.proofs.KeptTables.Standing.{IsCause, IsFull, flush_cause, get_cause, insert_cause, replace_cause}
 
 -- ---- what a lower layer's error becomes
@@ -117,12 +118,12 @@ module _ {S : Type 0} (view : S → StorageView) (old new : ImageStorage S) (cac
       (flush_cause seen caches.l2.backend.header.fields.cluster_bits (λ (t : L2TableView). t.bytes) (λ t. t.is_modified) cleared_l2 (IsTableOf caches.l2.backend.header.fields) (λ v. refl) (table_still caches.l2.backend.header.fields) (HasL2 h on_storage)
       (table_place h on_storage caches.l2.backend.header.fields.cluster_bits sound.l2_format.bits) old new caches.l2.entries l2.entries answer (tables_stand h p caches on_storage sound) flushes))
 
-  pub blocks_flush_refused : AreNamedBlocks h (refblocks caches) on_storage → (rb : Cache (RefBlockCacheBackend S) ℕ RefBlockView) (answer : Result Unit₀ (CacheError ℕ MetadataError))
+  pub blocks_flush_refused : HavePlaces h caches → (rb : Cache (RefBlockCacheBackend S) ℕ RefBlockView) (answer : Result Unit₀ (CacheError ℕ MetadataError))
       → Flushes (rb_steps seen caches.rb.backend.header.fields) old caches.rb.entries answer new rb.entries → (e : CacheError ℕ MetadataError) → answer ≡ Err e → IsFault (of_cache e)
-  blocks_flush_refused named_blocks rb answer flushes e is =
+  blocks_flush_refused places rb answer flushes e is =
       fault_alone ⊥ e (λ none. none) (refused_by (IsCause ⊥) answer e is
-      (flush_cause seen caches.rb.backend.header.fields.cluster_bits (λ (b : RefBlockView). b.bytes) (λ b. b.is_modified) cleared_rb (IsBlockOf caches.rb.backend.header.fields) (λ v. refl) (block_still caches.rb.backend.header.fields) (HasBlock h on_storage)
-      (block_place h on_storage caches.rb.backend.header.fields.cluster_bits sound.rb_format.bits) old new caches.rb.entries rb.entries answer (blocks_stand h p caches on_storage sound named_blocks) flushes))
+      (flush_cause seen caches.rb.backend.header.fields.cluster_bits (λ (b : RefBlockView). b.bytes) (λ b. b.is_modified) cleared_rb (IsBlockOf caches.rb.backend.header.fields) (λ v. refl) (block_still caches.rb.backend.header.fields) (HasPlace caches.rb.backend.header.fields.cluster_bits)
+      (λ k here. here) old new caches.rb.entries rb.entries answer (places_stand h p caches on_storage sound places) flushes))
 
   module _ (may_flush : Bool) (key : ℕ) (answer : Result Bool (CacheError ℕ MetadataError)) (e : CacheError ℕ MetadataError) (is : answer ≡ Err e) where
     -- ---- a load
@@ -141,15 +142,15 @@ module _ {S : Type 0} (view : S → StorageView) (old new : ImageStorage S) (cac
           | inr fault ↦ inr fault
         ]
 
-    pub block_load_refused : CachesHaveRoom caches → AreNamedBlocks h (refblocks caches) on_storage → (rb : Cache (RefBlockCacheBackend S) ℕ RefBlockView) → HasPlace h.cluster_bits key
+    pub block_load_refused : CachesHaveRoom caches → HavePlaces h caches → (rb : Cache (RefBlockCacheBackend S) ℕ RefBlockView) → HasPlace h.cluster_bits key
         → (IsSome (lookup (eqb key) caches.rb.entries) → (answer ≡ Ok true) × (rb.entries ≡ promoted (eqb key) caches.rb.entries) × (new ≡ old))
         → (IsNone (lookup (eqb key) caches.rb.entries) → GetsNew (rb_steps seen caches.rb.backend.header.fields) eqb caches.rb.size may_flush key old caches.rb.entries answer new rb.entries)
         → IsFault (of_cache e)
-    block_load_refused room named_blocks rb here hit miss =
+    block_load_refused room places rb here hit miss =
         let cause : IfErr answer (IsCause (IsFull caches.rb.size caches.rb.entries)) = elim (none_or_some (lookup (eqb key) caches.rb.entries)) [
           | inl there ↦ some_refused answer true (IsCause (IsFull caches.rb.size caches.rb.entries)) (hit there).0
-          | inr missing ↦ get_cause seen caches.rb.backend.header.fields.cluster_bits (λ (b : RefBlockView). b.bytes) (λ b. b.is_modified) cleared_rb (IsBlockOf caches.rb.backend.header.fields) (λ v. refl) (block_still caches.rb.backend.header.fields) (HasBlock h on_storage)
-              (block_place h on_storage caches.rb.backend.header.fields.cluster_bits sound.rb_format.bits) caches.rb.size may_flush old new key caches.rb.entries rb.entries answer (subst (λ n. HasPlace n key) (sym sound.rb_format.bits) here) (blocks_stand h p caches on_storage sound named_blocks) (miss missing)
+          | inr missing ↦ get_cause seen caches.rb.backend.header.fields.cluster_bits (λ (b : RefBlockView). b.bytes) (λ b. b.is_modified) cleared_rb (IsBlockOf caches.rb.backend.header.fields) (λ v. refl) (block_still caches.rb.backend.header.fields) (HasPlace caches.rb.backend.header.fields.cluster_bits)
+              (λ k here. here) caches.rb.size may_flush old new key caches.rb.entries rb.entries answer (subst (λ n. HasPlace n key) (sym sound.rb_format.bits) here) (places_stand h p caches on_storage sound places) (miss missing)
         ] in
         fault_alone (IsFull caches.rb.size caches.rb.entries) e (not_full room) (refused_by (IsCause (IsFull caches.rb.size caches.rb.entries)) answer e is cause)
 
@@ -172,17 +173,17 @@ module _ {S : Type 0} (view : S → StorageView) (old new : ImageStorage S) (cac
           | inr fault ↦ inr fault
         ]
 
-    pub block_put_refused : CachesHaveRoom caches → AreNamedBlocks h (refblocks caches) on_storage → (rb : Cache (RefBlockCacheBackend S) ℕ RefBlockView) (v : RefBlockView) (value left : Option RefBlockView) → value ≡ Some v
+    pub block_put_refused : CachesHaveRoom caches → HavePlaces h caches → (rb : Cache (RefBlockCacheBackend S) ℕ RefBlockView) (v : RefBlockView) (value left : Option RefBlockView) → value ≡ Some v
         → IfSome (lookup_entry (eqb key) caches.rb.entries) (λ e. IfSome value (λ v. Replaces (rb_steps seen caches.rb.backend.header.fields) key e (remove_entry (eqb key) caches.rb.entries) v may_flush old caches.rb.entries answer new rb.entries left))
         → (IsNone (lookup (eqb key) caches.rb.entries) → IfSome value (λ v. InsertsNew (rb_steps seen caches.rb.backend.header.fields) eqb caches.rb.size may_flush key v old caches.rb.entries answer new rb.entries left))
         → IsFault (of_cache e)
-    block_put_refused room named_blocks rb v value left is_value there missing =
+    block_put_refused room places rb v value left is_value there missing =
         let cause : IfErr answer (IsCause (IsFull caches.rb.size caches.rb.entries)) =
         found_or_not (lookup_entry (eqb key) caches.rb.entries)
-        (λ none. insert_cause seen caches.rb.backend.header.fields.cluster_bits (λ (b : RefBlockView). b.bytes) (λ b. b.is_modified) cleared_rb (IsBlockOf caches.rb.backend.header.fields) (λ v. refl) (block_still caches.rb.backend.header.fields) (HasBlock h on_storage)
-        (block_place h on_storage caches.rb.backend.header.fields.cluster_bits sound.rb_format.bits) caches.rb.size may_flush old new key v caches.rb.entries rb.entries answer left (blocks_stand h p caches on_storage sound named_blocks)
+        (λ none. insert_cause seen caches.rb.backend.header.fields.cluster_bits (λ (b : RefBlockView). b.bytes) (λ b. b.is_modified) cleared_rb (IsBlockOf caches.rb.backend.header.fields) (λ v. refl) (block_still caches.rb.backend.header.fields) (HasPlace caches.rb.backend.header.fields.cluster_bits)
+        (λ k here. here) caches.rb.size may_flush old new key v caches.rb.entries rb.entries answer left (places_stand h p caches on_storage sound places)
         (rw is_value at (missing (rw (lookup_none (eqb key) caches.rb.entries none) refl))))
         (λ x some. less_cause (IsFull caches.rb.size caches.rb.entries) answer
-        (replace_cause seen caches.rb.backend.header.fields.cluster_bits (λ (b : RefBlockView). b.bytes) (λ b. b.is_modified) cleared_rb (IsBlockOf caches.rb.backend.header.fields) (λ v. refl) (block_still caches.rb.backend.header.fields) (HasBlock h on_storage)
-        (block_place h on_storage caches.rb.backend.header.fields.cluster_bits sound.rb_format.bits) may_flush old new key v caches.rb.entries rb.entries x answer left some (blocks_stand h p caches on_storage sound named_blocks) (rw is_value at (rw some at there)))) in
+        (replace_cause seen caches.rb.backend.header.fields.cluster_bits (λ (b : RefBlockView). b.bytes) (λ b. b.is_modified) cleared_rb (IsBlockOf caches.rb.backend.header.fields) (λ v. refl) (block_still caches.rb.backend.header.fields) (HasPlace caches.rb.backend.header.fields.cluster_bits)
+        (λ k here. here) may_flush old new key v caches.rb.entries rb.entries x answer left some (places_stand h p caches on_storage sound places) (rw is_value at (rw some at there)))) in
         fault_alone (IsFull caches.rb.size caches.rb.entries) e (not_full room) (refused_by (IsCause (IsFull caches.rb.size caches.rb.entries)) answer e is cause)

@@ -1,4 +1,4 @@
--- Caches that hold nothing.
+-- Empty caches.
 use Rattle.std.proofs.Common.{◌≡◌, ◌==◌, ℕ, inl, [], refl, sym, ap, subst}
 use Rattle.qcow2_metadata.specs.Bytes.{Bytes}
 use Rattle.qcow2_metadata.specs.declared.header.HeaderFields.{HeaderFields}

@@ -1,4 +1,4 @@
--- A table is fetched into the caches.
+-- A table is loaded into the caches.
 use Rattle.std.proofs.Common.{◌≡◌, ◌⊎◌, inl, inr, ℕ, ◌^◌, ◌%◌, Bool, true, false, eqb, List, ◌∷◌, Option, Some, None, Result, Ok, IsSome, refl, sym, ap, subst}
 use Rattle.std.specs.Option.{IsNone}
 use Rattle.std.specs.Map.{lookup}

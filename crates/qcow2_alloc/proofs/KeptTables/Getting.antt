@@ -1,4 +1,4 @@
--- A table is brought to the front of a cache, loaded into it, or goes: all is kept, nothing known changes, and a stop is as safe as before.
+-- A table moves to the front of a cache, is loaded, or is evicted: the invariant holds, the known contents stay the same, and a stop is as safe as before.
 use Rattle.std.proofs.Common.{◌≡◌, ◌⊎◌, ℕ, ◌+◌, ◌*◌, ◌%◌, ◌^◌, ◌<◌, Bool, true, false, eqb, inl, inr, List, ◌∷◌, ◌++◌, Option, Some, None, Result, Ok, Err, refl, sym, ap, ◌∙◌, subst, arith}
 use Rattle.std.proofs.lemmas.Nat.{mod-mul-add, pow_pos}
 use Rattle.std.specs.Option.{option_map_or}

@@ -1,4 +1,4 @@
--- A flush leaves each held table its bytes.
+-- A flush leaves the bytes of each cached table the same.
 use Rattle.std.proofs.Common.{◌≡◌, ℕ, Bool, inl, inr, eqb, List, [], ◌∷◌, Option, Some, None, Result, ap, ◌∙◌}
 use Rattle.std.proofs.lemmas.Bool.{cases_Bool}
 use Rattle.std.specs.Option.{option_map}

@@ -1,4 +1,4 @@
--- Calls of the caches write tables in the order that the direction asks for.
+-- Calls of the caches write tables in the order of the direction.
 use Rattle.std.proofs.Common.{◌≡◌, inl, inr, ℕ, Bool, true, false, eqb, List, [], Option, Some, Result, Ok, Err, IsSome, refl, subst}
 use Rattle.std.specs.Option.{IfSome, IsNone}
 use Rattle.std.specs.Map.{lookup, lookup_entry, remove_entry}

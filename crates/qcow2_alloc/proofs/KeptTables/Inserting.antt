@@ -1,4 +1,4 @@
--- A table is put into the caches.
+-- A table is inserted into the caches.
 use Rattle.std.proofs.Common.{◌≡◌, ℕ, ◌+◌, ◌*◌, ◌<◌, ◌^◌, ◌%◌, Bool, true, false, eqb, List, ◌∷◌, Option, Some, None, Result, Ok, Err, arith, refl, sym, ap, ◌∙◌, subst}
 use Rattle.std.specs.Option.{IfSome, IsNone, option_map}
 use Rattle.std.specs.Map.{lookup, lookup_entry, remove_entry}

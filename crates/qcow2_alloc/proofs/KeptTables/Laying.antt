@@ -1,4 +1,4 @@
--- A modified table is put into the caches: it is laid over what is known.
+-- A modified table is inserted into the caches: it is overlaid on the known contents.
 use Rattle.std.proofs.Common.{◌≡◌, ◌≢◌, ◌⊎◌, inl, inr, ℕ, ◌-◌, ◌/◌, ◌%◌, ◌≤◌, max, true, false, cond, List, [], ◌∷◌, refl, sym, ap, ◌∙◌, subst, arith}
 use Rattle.std.proofs.lemmas.Bool.{cases_Bool, cases_eq, cond-true}
 use mathlib.Core.Path.{fun_ext}

@@ -1,4 +1,4 @@
--- The lists of cached tables change, and nothing that is known: an unmodified table comes, goes, or comes to the front.
+-- The lists of cached tables change, and the known contents don't: an unmodified table is inserted, evicted or moved to the front.
 use Rattle.std.proofs.Common.{◌≡◌, ◌⊎◌, ℕ, ◌+◌, ◌%◌, ◌/◌, ◌<◌, ◌≤◌, arith, true, false, inl, inr, List, [], ◌∷◌, ◌++◌, sym, ap, ◌∙◌, subst}
 use Rattle.qcow2_metadata.specs.Bytes.{Bytes}
 use Rattle.qcow2_metadata.specs.declared.header.HeaderFields.{HeaderFields}

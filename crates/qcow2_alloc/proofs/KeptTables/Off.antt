@@ -43,7 +43,7 @@ use Rattle.qcow2_alloc.specs.CachePins.{CachesHaveRoom, KeepsPinsAndNotes, Leave
 use Rattle.qcow2_alloc.specs.TableLaws.{same_number}
 use Rattle.qcow2_alloc.specs.TableCaches.{IsTableOf, IsBlockOf}
 use Rattle.qcow2_alloc.specs.KeptTables.{cached_table, cached_tables, AreElsewhere, AreLoaded, AreKept, AllValuesFit}
-use Rattle.qcow2_alloc.specs.MetadataCaches.{order_of, l2_tables, refblocks, rb_at, CacheInvariant, Evict, TakesOff, TakenFrom, TakesBlock}
+use Rattle.qcow2_alloc.specs.MetadataCaches.{order_of, l2_tables, refblocks, rb_at, CacheInvariant, Evict, EvictsTable, TakenFrom, AllocatesBlock}
 use Rattle.qcow2_alloc.proofs.CachedEntries.Knowing.{removed_apart}
 use Rattle.qcow2_alloc.proofs.CachedEntries.Lists.{lookup-from_entry}
 use Rattle.qcow2_alloc.proofs.CachedEntries.Pins.{removed_free}
@@ -364,7 +364,7 @@ module _ {S : Type 0} (caches : MetadataCaches S) (key : ℕ) (b : Bool) (rb : C
     changes = counts_none caches.is_changed caches.changes;
   }
 
-  found_of : (o : Option (ℕ × Slot RefBlockView)) → lookup_entry (eqb key) caches.rb.entries ≡ o → b ≡ true → TakesBlock caches (record caches { rb = rb }) key
+  found_of : (o : Option (ℕ × Slot RefBlockView)) → lookup_entry (eqb key) caches.rb.entries ≡ o → b ≡ true → AllocatesBlock caches (record caches { rb = rb }) key
   found_of None none went = absurd (
       let missing = lookup-from_entry (eqb key) caches.rb.entries ∙ ap (option_map (λ (x : ℕ × Slot RefBlockView). x.1)) none in
       let can = sym went ∙ told in
@@ -372,7 +372,7 @@ module _ {S : Type 0} (caches : MetadataCaches S) (key : ℕ) (b : Bool) (rb : C
   found_of (Some e) some went = λ h p on_storage sound.
       subst (λ (c : Cache (RefBlockCacheBackend S) ℕ RefBlockView). TakenFrom h caches (record caches { rb = c }) on_storage key) (sym (rw went at is)) (block_off h p on_storage caches sound key e some)
 
-  pub removed_takes : IsTrue b → TakesBlock caches (record caches { rb = rb }) key
+  pub removed_takes : IsTrue b → AllocatesBlock caches (record caches { rb = rb }) key
   removed_takes went = found_of (lookup_entry (eqb key) caches.rb.entries) refl went
 
 -- ---- what invalidating a cache does
@@ -397,12 +397,12 @@ left_err es fs r (Backend x) is h answer told = absurd (rw is at h)
 
 module _ {S : Type 0} (caches : MetadataCaches S) where
   -- of the L2 tables
-  pub tables_taken : (l2 : Cache (L2CacheBackend S) ℕ L2TableView) → l2 ≡ with_entries caches.l2 l2.entries → SomeOf caches.l2.entries l2.entries → TakesOff (AreClean (l2_tables caches)) caches (record caches { l2 = l2 })
+  pub tables_taken : (l2 : Cache (L2CacheBackend S) ℕ L2TableView) → l2 ≡ with_entries caches.l2 l2.entries → SomeOf caches.l2.entries l2.entries → EvictsTable (AreClean (l2_tables caches)) caches (record caches { l2 = l2 })
   tables_taken l2 others some h p on_storage sound =
       subst (λ (c : Cache (L2CacheBackend S) ℕ L2TableView). Evict (AreClean (l2_tables caches)) h caches (record caches { l2 = c }) on_storage) (sym others) (tables_off h p on_storage caches sound l2.entries some)
 
   -- of the refblocks
-  pub blocks_taken : (rb : Cache (RefBlockCacheBackend S) ℕ RefBlockView) → rb ≡ with_entries caches.rb rb.entries → SomeOf caches.rb.entries rb.entries → TakesOff (AreClean (refblocks caches)) caches (record caches { rb = rb })
+  pub blocks_taken : (rb : Cache (RefBlockCacheBackend S) ℕ RefBlockView) → rb ≡ with_entries caches.rb rb.entries → SomeOf caches.rb.entries rb.entries → EvictsTable (AreClean (refblocks caches)) caches (record caches { rb = rb })
   blocks_taken rb others some h p on_storage sound =
       subst (λ (c : Cache (RefBlockCacheBackend S) ℕ RefBlockView). Evict (AreClean (refblocks caches)) h caches (record caches { rb = c }) on_storage) (sym others) (blocks_off_clean h p on_storage caches sound rb.entries some)
 

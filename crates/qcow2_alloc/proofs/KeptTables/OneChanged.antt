@@ -1,4 +1,4 @@
--- Another value comes in the place of one that is held.
+-- A cached value is replaced by another one.
 use Rattle.std.proofs.Common.{◌≡◌, ℕ, false, cond, eqb, List, Option, Some, None, refl, ap, ◌∙◌}
 use Rattle.std.specs.Cmp.{nat_eq_equiv}
 use Rattle.std.specs.Option.{option_map, option_map_or}

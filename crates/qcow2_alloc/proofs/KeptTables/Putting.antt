@@ -1,5 +1,5 @@
--- A modified table is put into the caches; or nothing is.
-use Rattle.std.proofs.Common.{◌≡◌, ℕ, ◌*◌, ◌%◌, ◌^◌, Bool, true, false, eqb, List, [], ◌∷◌, Option, Some, Result, Ok, Err, OnErr, refl, sym, ap, ◌∙◌, subst}
+-- A modified table is inserted into the caches, or nothing is.
+use Rattle.std.proofs.Common.{◌≡◌, ℕ, ◌*◌, ◌%◌, ◌^◌, Bool, true, false, eqb, List, [], ◌∷◌, Option, Some, Result, Ok, refl, sym, ap, ◌∙◌, subst}
 use Rattle.std.proofs.Math.Nat.{mul-mod_left}
 use Rattle.std.specs.Option.{IfSome, IsNone}
 use Rattle.std.specs.Map.{lookup, lookup_entry, remove_entry}
@@ -33,11 +33,7 @@ use Rattle.qcow2_alloc.proofs.KeptTables.Getting.{HoldsWhatStands, insert_put, r
 use Rattle.qcow2_alloc.proofs.KeptTables.Flushing.{l2_step, table_still}
 use Rattle.qcow2_alloc.proofs.KeptTables.Inserting.{IsTakenOrKept, found_or_not, lookup_none, table_as}
 use Rattle.qcow2_alloc.proofs.KeptTables.Laying.{laid_first, l2_laid}
-use Rattle.qcow2_alloc.proofs.KeptTables.Turning.{safe_then}
-
-pub on_err : {T E : Type 0} {P : Type 0} (r : Result T E) → P → OnErr r P
-on_err (Ok _) p = tt
-on_err (Err _) p = p
+use Rattle.qcow2_alloc.proofs.KeptTables.Switching.{safe_then}
 
 -- where a value may be flushed for it, the value is put in
 pub put_at_last : {V E : Type 0} (key : ℕ) (v : V) (fs : List (ℕ × Slot V)) (answer : Result Bool (CacheError ℕ E)) (left : Option V) (b : Bool) → answer ≡ Ok b → IsTakenOrKept key v true fs answer left → answer ≡ Ok true

@@ -1,4 +1,4 @@
--- A modified refblock is put into the caches; or nothing is.
+-- A modified refblock is inserted into the caches, or nothing is.
 use Rattle.std.proofs.Common.{◌≡◌, ◌⊎◌, ℕ, ◌*◌, ◌/◌, ◌%◌, ◌^◌, Bool, true, false, eqb, List, [], ◌∷◌, Option, Some, Result, Ok, refl, sym, ap, ◌∙◌, subst}
 use Rattle.std.proofs.Math.Nat.{mul-mod_left}
 use Rattle.std.specs.Option.{IfSome, IsNone}

@@ -1,4 +1,4 @@
--- Where nothing has to be written, nothing is.
+-- Nothing is written if nothing has to be.
 use Rattle.std.proofs.Common.{◌≡◌, inl, inr, ℕ, ◌≤◌, Bool, true, false, eqb, List, [], ◌∷◌, length, Option, Some, None, Result, Ok, Err, IsSome, refl, sym, ap, ◌∙◌, subst, arith}
 use Rattle.std.specs.Option.{IfSome, IsNone, option_map}
 use Rattle.std.specs.Map.{lookup, lookup_entry, remove_entry}

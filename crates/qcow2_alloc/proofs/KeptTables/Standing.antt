@@ -1,7 +1,7 @@
 -- The modified tables of a cache lie where the image has tables, whatever is flushed, loaded or inserted. So flushes and loads are refused only by the storage or because memory runs out.
-use Rattle.std.proofs.Common.{◌≡◌, ◌⊎◌, inl, inr, ℕ, ◌+◌, ◌*◌, ◌/◌, ◌^◌, ◌≤◌, Bool, true, false, ◌&&◌, cond, eqb, List, [], ◌∷◌, ◌++◌, length, Option, Some, None, Result, Ok, Err, IfErr, refl, sym, ap, ◌∙◌, subst, arith}
+use Rattle.std.proofs.Common.{◌≡◌, ◌⊎◌, inl, inr, ℕ, ◌+◌, ◌*◌, ◌/◌, ◌^◌, ◌≤◌, Bool, true, false, ◌&&◌, eqb, List, [], ◌∷◌, ◌++◌, length, Option, Some, None, Result, Ok, Err, IfErr, refl, sym, ap, ◌∙◌, subst, arith}
 use Rattle.std.proofs.lemmas.Bool.{cases_Bool, cases_eq}
-use Rattle.std.specs.Option.{option_map_or, option_or, IfSome}
+use Rattle.std.specs.Option.{option_or, IfSome}
 use Rattle.std.specs.Map.{lookup_entry, remove_entry}
 use Rattle.std.proofs.lemmas.Nat.{div-mul-add, pow_pos}
 use Rattle.lru.specs.LruCache.{promoted}
@@ -19,11 +19,12 @@ use Rattle.qcow2_alloc.specs.declared.async_lru_cache.error.CacheError.TheVarian
 use Rattle.qcow2_alloc.specs.AsyncLruCache.{slot_of, oldest_free}
 use Rattle.qcow2_alloc.specs.AsyncLruCacheBackend.{Steps}
 use Rattle.qcow2_alloc.specs.TableSteps.{table_steps}
-use Rattle.qcow2_alloc.specs.CacheAnswers.{Unit₀, FlushesEntry, FlushesAll, Flushes, HasRoomForEntry, HasNoRoom, GetsNew, InsertsNew, Replaces}
+use Rattle.qcow2_alloc.specs.CacheAnswers.{Unit₀, FlushesEntry, FlushesAll, Flushes, HasNoRoom, GetsNew, InsertsNew, Replaces}
 use Rattle.qcow2_alloc.specs.KeptTables.{cached_table, cached_tables, AllValuesFit}
 use Rattle.qcow2_alloc.specs.TableLaws.{same_number}
 use Rattle.qcow2_alloc.proofs.KeptTables.Entries.{split_oldest}
 use Rattle.qcow2_alloc.proofs.KeptTables.Getting.{cluster_aligned}
+use Rattle.qcow2_alloc.proofs.CachedEntries.Each.{IsOfEach, each_flushed, each_found, each_got, each_inserted, each_promoted, each_replaced}
 
 -- what refuses a call of a cache; that all is in use only where this holds
 abbrev pub IsCause : Type 0 → CacheError ℕ MetadataError → Type 0
@@ -52,26 +53,11 @@ module _ {V : Type 0} (is_modified : V → Bool) (IsFit : V → Type 0) (Named :
       differ : (b : Bool) → b ≡ true → b ≡ false → ⊥
       differ b is isnt = cc
 
-  pub stand_removed : (test : ℕ → Bool) (es : List (ℕ × Slot V)) → AreStanding es → AreStanding (remove_entry test es)
-  stand_removed test [] all = tt
-  stand_removed test (e ∷ es) all = elim (test e.0) as (λ b. AreStanding (cond b es (e ∷ remove_entry test es))) [ true ↦ all.1 | false ↦ (all.0, stand_removed test es all.1) ]
-
-  pub stand_entry : (test : ℕ → Bool) (es : List (ℕ × Slot V)) (e : ℕ × Slot V) → lookup_entry test es ≡ Some e → AreStanding es → IsStanding e.0 e.1.value
-  stand_entry test [] e h all = absurd (cc)
-  stand_entry test (f ∷ es) e h all = (elim (test f.0) as (λ b. test f.0 ≡ b → IsStanding e.0 e.1.value) [
-    | true ↦ λ t. let h' = rw t at h in subst (λ (x : ℕ × Slot V). IsStanding x.0 x.1.value) (some_is h') all.0
-    | false ↦ λ t. stand_entry test es e (rw t at h) all.1
-  ]) refl
-    where
-      some_is : {A : Type 0} {a b : A} → Some a ≡ Some b → a ≡ b
-      some_is e = cc
-
-  stand_hit : (test : ℕ → Bool) (es : List (ℕ × Slot V)) (o : Option (ℕ × Slot V)) → lookup_entry test es ≡ o → AreStanding es → AreStanding (option_map_or (λ e. e ∷ remove_entry test es) o es)
-  stand_hit test es None h all = all
-  stand_hit test es (Some e) h all = (stand_entry test es e h all, stand_removed test es all)
+  pub stands_each : IsOfEach IsStanding AreStanding
+  stands_each = record { none = tt; more = λ e es one all. (one, all); first = λ e es all. all.0; rest = λ e es all. all.1 }
 
   pub stand_promoted : (test : ℕ → Bool) (es : List (ℕ × Slot V)) → AreStanding es → AreStanding (promoted test es)
-  stand_promoted test es all = stand_hit test es (lookup_entry test es) refl all
+  stand_promoted test es all = each_promoted stands_each test es all
 
   -- the oldest entry with no pin
   pub stand_oldest : (es : List (ℕ × Slot V)) (e : ℕ × Slot V) → oldest_free es ≡ Some e → AreStanding es → IsStanding e.0 e.1.value
@@ -98,14 +84,6 @@ module _ {S V : Type 0} (view : S → StorageView) (bits : ℕ) (bytes : V → L
   All = AreStanding is_modified IsFit Named
 
   module _ (place : (k : ℕ) → Named k → HasPlace bits k) where
-    one_stands : (s t : S) (e : ℕ × Slot V) (x : Option MetadataError) (d : Slot V) → One e.0 e.1.value → FlushesEntry Steps₀ s e x t d → One e.0 d.value
-    one_stands s t e None d is f = subst (One e.0) (sym f.0.clean) (clean_stands is_modified IsFit Named e.0 (cleared e.1.value) (still e.1.value is.fits) (unmodified e.1.value))
-    one_stands s t e (Some x) d is f = subst (λ (y : Slot V). One e.0 y.value) (sym f.1) is
-
-    pub all_stand : (s t : S) (es fs : List (ℕ × Slot V)) (x : Option MetadataError) → All es → FlushesAll Steps₀ s es x t fs → All fs
-    all_stand s t [] fs x all f = rw f.2 tt
-    all_stand s t (e ∷ es) fs x all f = rw f.8 (one_stands s f.1 e f.0 f.2 all.0 f.5, all_stand f.1 t es f.4 f.3 all.1 f.6)
-
     one_cause : (s t : S) (e : ℕ × Slot V) (x : Option MetadataError) (d : Slot V) → One e.0 e.1.value → FlushesEntry Steps₀ s e x t d → IfSome x IsOfStorageOrMemory
     one_cause s t e None d is f = tt
     one_cause s t e (Some x) d is f = f.0.cause is.fits (place e.0 (is.named f.0.modified))
@@ -119,11 +97,8 @@ module _ {S V : Type 0} (view : S → StorageView) (bits : ℕ) (bytes : V → L
     all_cause s t (e ∷ es) fs x all f = rw f.7 (first_cause f.0 f.3 (one_cause s f.1 e f.0 f.2 all.0 f.5) (all_cause f.1 t es f.4 f.3 all.1 f.6))
 
     pub flush_stands : (s t : S) (es fs : List (ℕ × Slot V)) (r : Result Unit₀ (CacheError ℕ MetadataError)) → All es → Flushes Steps₀ s es r t fs → All fs
-    flush_stands s t es fs (Ok _) all f = all_stand s t es fs None all f
-    flush_stands s t es fs (Err (Backend x)) all f = all_stand s t es fs (Some x) all f
-    flush_stands s t es fs (Err InUse) all f = absurd f
-    flush_stands s t es fs (Err Memory) all f = absurd f
-    flush_stands s t es fs (Err (StillInUse _)) all f = absurd f
+    flush_stands s t es fs r all f =
+        each_flushed (stands_each is_modified IsFit Named) Steps₀ (λ s t k v w flushed one. subst (One k) (sym flushed.clean) (clean_stands is_modified IsFit Named k (cleared v) (still v one.fits) (unmodified v))) s t es fs r f all
 
     pub flush_cause : (s t : S) (es fs : List (ℕ × Slot V)) (r : Result Unit₀ (CacheError ℕ MetadataError)) → All es → Flushes Steps₀ s es r t fs → IfErr r (IsCause ⊥)
     flush_cause s t es fs (Ok _) all f = tt
@@ -133,20 +108,6 @@ module _ {S V : Type 0} (view : S → StorageView) (bits : ℕ) (bytes : V → L
     flush_cause s t es fs (Err (StillInUse _)) all f = absurd f
 
     module _ (size : ℕ) (may_flush : Bool) where
-      room_stands : (s t : S) (es fs : List (ℕ × Slot V)) → All es → HasRoomForEntry Steps₀ eqb size may_flush s es t fs → All fs
-      room_stands s t es fs all room = elim room [
-        | inl there ↦ subst All (sym there.2) all
-        | inr evicts ↦ subst All (sym evicts.rest) (stand_removed is_modified IsFit Named (eqb evicts.entry.0) es all)
-      ]
-
-      no_room_stands : (s t : S) (es fs : List (ℕ × Slot V)) (r : Result Bool (CacheError ℕ MetadataError)) → All es → HasNoRoom Steps₀ eqb size may_flush s es r t fs → All fs
-      no_room_stands s t es fs (Ok true) all h = absurd h
-      no_room_stands s t es fs (Ok false) all h = subst All (sym h.3) all
-      no_room_stands s t es fs (Err InUse) all h = subst All (sym h.3) all
-      no_room_stands s t es fs (Err (StillInUse _)) all h = absurd h
-      no_room_stands s t es fs (Err Memory) all h = absurd h
-      no_room_stands s t es fs (Err (Backend x)) all h = subst All (sym h.same) all
-
       no_room_cause : (s t : S) (es fs : List (ℕ × Slot V)) (r : Result Bool (CacheError ℕ MetadataError)) → All es → HasNoRoom Steps₀ eqb size may_flush s es r t fs → IfErr r (IsCause (IsFull size es))
       no_room_cause s t es fs (Ok true) all h = tt
       no_room_cause s t es fs (Ok false) all h = tt
@@ -156,15 +117,8 @@ module _ {S V : Type 0} (view : S → StorageView) (bits : ℕ) (bytes : V → L
       no_room_cause s t es fs (Err (Backend x)) all h = let is = stand_oldest is_modified IsFit Named es h.entry h.eviction all in h.failed.cause is.fits (place h.entry.0 (is.named h.failed.modified))
 
       pub get_stands : (s t : S) (k : ℕ) (es fs : List (ℕ × Slot V)) (r : Result Bool (CacheError ℕ MetadataError)) → All es → GetsNew Steps₀ eqb size may_flush k s es r t fs → All fs
-      get_stands s t k es fs (Ok true) all (r, gs, v, room, loads, is) = subst All (sym is) (clean_stands is_modified IsFit Named k v loads.fits loads.unmodified, room_stands s r es gs all room)
-      get_stands s t k es fs (Ok false) all h = no_room_stands s t es fs (Ok false) all h
-      get_stands s t k es fs (Err InUse) all h = no_room_stands s t es fs (Err InUse) all h
-      get_stands s t k es fs (Err (StillInUse _)) all h = absurd h
-      get_stands s t k es fs (Err Memory) all (r, v, room, loads) = room_stands s r es fs all room
-      get_stands s t k es fs (Err (Backend x)) all h = elim h [
-        | inl none ↦ no_room_stands s t es fs (Err (Backend x)) all none
-        | inr failed ↦ room_stands s failed.0 es fs all failed.1
-      ]
+      get_stands s t k es fs r all h =
+          each_got (stands_each is_modified IsFit Named) Steps₀ may_flush k s t es fs r all size (λ q v loads. clean_stands is_modified IsFit Named k v loads.fits loads.unmodified) h
 
       pub get_cause : (s t : S) (k : ℕ) (es fs : List (ℕ × Slot V)) (r : Result Bool (CacheError ℕ MetadataError)) → HasPlace bits k → All es → GetsNew Steps₀ eqb size may_flush k s es r t fs → IfErr r (IsCause (IsFull size es))
       get_cause s t k es fs (Ok _) here all h = tt
@@ -178,12 +132,7 @@ module _ {S V : Type 0} (view : S → StorageView) (bits : ℕ) (bytes : V → L
 
       pub insert_stands : (s t : S) (k : ℕ) (v : V) (es fs : List (ℕ × Slot V)) (r : Result Bool (CacheError ℕ MetadataError)) (left : Option V) → (r ≡ Ok true → IsStanding is_modified IsFit Named k v) → All es
           → InsertsNew Steps₀ eqb size may_flush k v s es r t fs left → All fs
-      insert_stands s t k v es fs (Ok true) left is all h = subst All (sym h.0.2) (is refl, room_stands s t es h.0.0 all h.0.1)
-      insert_stands s t k v es fs (Ok false) left is all h = no_room_stands s t es fs (Ok false) all h.0
-      insert_stands s t k v es fs (Err Memory) left is all h = room_stands s t es fs all h.0
-      insert_stands s t k v es fs (Err InUse) left is all h = no_room_stands s t es fs (Err InUse) all h.0
-      insert_stands s t k v es fs (Err (StillInUse _)) left is all h = absurd h
-      insert_stands s t k v es fs (Err (Backend x)) left is all h = no_room_stands s t es fs (Err (Backend x)) all h.0
+      insert_stands s t k v es fs r left is all h = each_inserted (stands_each is_modified IsFit Named) Steps₀ may_flush k s t es fs r all size v left is h
 
       pub insert_cause : (s t : S) (k : ℕ) (v : V) (es fs : List (ℕ × Slot V)) (r : Result Bool (CacheError ℕ MetadataError)) (left : Option V) → All es
           → InsertsNew Steps₀ eqb size may_flush k v s es r t fs left → IfErr r (IsCause (IsFull size es))
@@ -196,18 +145,13 @@ module _ {S V : Type 0} (view : S → StorageView) (bits : ℕ) (bytes : V → L
     module _ (may_flush : Bool) (s t : S) (k : ℕ) (v : V) (es fs : List (ℕ × Slot V)) (e : ℕ × Slot V) where
       pub replace_stands : (r : Result Bool (CacheError ℕ MetadataError)) (left : Option V) → lookup_entry (eqb k) es ≡ Some e → (r ≡ Ok true → IsStanding is_modified IsFit Named e.0 v) → All es
           → Replaces Steps₀ k e (remove_entry (eqb k) es) v may_flush s es r t fs left → All fs
-      replace_stands (Ok true) left found is all h = subst All (sym h.2) (is refl, stand_removed is_modified IsFit Named (eqb k) es all)
-      replace_stands (Ok false) left found is all h = subst All (sym h.2) all
-      replace_stands (Err (Backend x)) left found is all h = subst All (sym h.2) (stand_entry is_modified IsFit Named (eqb k) es e found all, stand_removed is_modified IsFit Named (eqb k) es all)
-      replace_stands (Err InUse) left found is all h = absurd h
-      replace_stands (Err (StillInUse _)) left found is all h = absurd h
-      replace_stands (Err Memory) left found is all h = absurd h
+      replace_stands r left found is all h = each_replaced (stands_each is_modified IsFit Named) Steps₀ may_flush k s t es fs r all v e left found is h
 
       pub replace_cause : (r : Result Bool (CacheError ℕ MetadataError)) (left : Option V) → lookup_entry (eqb k) es ≡ Some e → All es
           → Replaces Steps₀ k e (remove_entry (eqb k) es) v may_flush s es r t fs left → IfErr r (IsCause ⊥)
       replace_cause (Ok _) left found all h = tt
       replace_cause (Err (Backend x)) left found all h =
-          let is = stand_entry is_modified IsFit Named (eqb k) es e found all in
+          let is = each_found (stands_each is_modified IsFit Named) (eqb k) es e found all in
           let own : e.0 ≡ k = sym (same_number k e.0 (Contains-lookup_entry (eqb k) es e found).1) in
           h.1.cause is.fits (subst (HasPlace bits) own (place e.0 (is.named h.1.modified)))
       replace_cause (Err InUse) left found all h = absurd h

@@ -1,4 +1,4 @@
--- One cached table is written, and a whole cache is flushed: all is kept, nothing known changes, and a stop is as safe as before.
+-- One cached table is written, or a whole cache is flushed: the invariant holds, the known contents stay the same, and a stop is as safe as before.
 use Rattle.std.proofs.Common.{◌≡◌, ℕ, ◌+◌, ◌-◌, ◌*◌, ◌/◌, ◌^◌, ◌<◌, ◌≤◌, ◌⊎◌, Bool, true, false, ◌&&◌, cond, inl, inr, List, [], ◌∷◌, ◌++◌, Option, Some, None, Result, Ok, Err, length, refl, sym, ap, ◌∙◌, subst, append_assoc, arith}
 use Rattle.std.proofs.lemmas.Bool.{cases_lt, and_from, le-leb, lt-ltb}
 use mathlib.Core.Path.{fun_ext}
@@ -31,7 +31,7 @@ use Rattle.qcow2_alloc.specs.TableSteps.{FlushesTable, FailsToFlush, table_steps
 use Rattle.qcow2_alloc.specs.CacheAnswers.{FlushesEntry, FlushesAll}
 use Rattle.qcow2_alloc.specs.KeptTables.{cached_table, cached_tables, AreElsewhere, AreKept, IsSafeSince}
 use Rattle.qcow2_alloc.proofs.KeptTables.Loaded.{stays_free, loaded_written, loaded_beside}
-use Rattle.qcow2_alloc.proofs.KeptTables.Turning.{safe_none, safe_then}
+use Rattle.qcow2_alloc.proofs.KeptTables.Switching.{safe_none, safe_then}
 
 -- ---- how safe a stop is while tables are written, as far as it is told
 

@@ -16,7 +16,7 @@ use lru::LruCache;
 use std::alloc::{AllocError, AllocFailed, Global};
 use std::hash::Hash;
 
-// The key of the least recently used entry with no pin.
+// The key of the least recently used entry without a pin.
 pub(crate) fn oldest_free<K: Copy + Eq + Hash, V>(entries: &LruCache<K, Slot<V>>) -> Option<K>
     ensures { result ≡ option_map (λ e. e.0) (oldest_free entries.now.entries) }
 {
@@ -29,7 +29,7 @@ pub(crate) fn oldest_free<K: Copy + Eq + Hash, V>(entries: &LruCache<K, Slot<V>>
     None
 }
 
-// Flushes one entry. Where its key isn't there nothing is done.
+// Flushes one entry. Nothing is done if the key has no entry.
 pub(crate) fn flush_entry<B: AsyncLruCacheBackend>(
     backend: &B,
     store: &mut B::Store,
@@ -78,7 +78,7 @@ pub(crate) fn make_room<B: AsyncLruCacheBackend>(
     Ok(true)
 }
 
-// Loads a value whose key is not there.
+// Loads the value of a key that has no entry.
 pub(crate) fn load_new<B: AsyncLruCacheBackend>(
     backend: &B,
     store: &mut B::Store,
@@ -111,7 +111,7 @@ pub(crate) fn load_new<B: AsyncLruCacheBackend>(
     }
 }
 
-// Puts in a value whose key is not there.
+// Inserts a value under a key that has no entry.
 pub(crate) fn insert_new<B: AsyncLruCacheBackend>(
     backend: &B,
     store: &mut B::Store,
@@ -154,7 +154,7 @@ pub(crate) fn insert_new<B: AsyncLruCacheBackend>(
     }
 }
 
-// Puts a value in the place of one that is there.
+// Replaces the value of an entry.
 pub(crate) fn replace_entry<B: AsyncLruCacheBackend>(
     backend: &B,
     store: &mut B::Store,
@@ -208,7 +208,7 @@ pub(crate) fn flush_all<B: AsyncLruCacheBackend>(
     first
 }
 
-// The key of the most recently used entry with a pin.
+// The key of the most recently used pinned entry.
 pub(crate) fn first_pinned<K: Copy + Eq + Hash, V>(entries: &LruCache<K, Slot<V>>) -> Option<K>
     ensures first { result ≡ option_map (λ e. e.0) (slice_get (pinned entries.now.entries) 0) }
     ensures distinct { IsDistinct K.eq (keys_of entries.now.entries) }
@@ -224,7 +224,7 @@ pub(crate) fn first_pinned<K: Copy + Eq + Hash, V>(entries: &LruCache<K, Slot<V>
     None
 }
 
-// The keys of the entries with a pin, the most recently used first.
+// The keys of the pinned entries, the most recently used first.
 pub(crate) fn pinned_keys<K: Copy + Eq + Hash, V>(
     alloc: Global,
     entries: &LruCache<K, Slot<V>>,
@@ -241,7 +241,7 @@ pub(crate) fn pinned_keys<K: Copy + Eq + Hash, V>(
     Ok(keys)
 }
 
-// Gives each entry with no pin to the backend.
+// Gives each entry without a pin to the backend.
 pub(crate) fn evict_free<B: AsyncLruCacheBackend>(
     backend: &B,
     entries: &mut LruCache<B::Key, Slot<B::Value>>,

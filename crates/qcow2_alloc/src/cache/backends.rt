@@ -1,5 +1,5 @@
 //! What loads and flushes the cached tables.
-use crate::async_lru_cache::AsyncLruCacheBackend;
+use crate::async_lru_cache::{AsyncLruCacheBackend, CacheTypes, CachedValue};
 use crate::table_cache::TableBackend;
 use crate::{ImageStorage, WriteKind};
 use image_access::{Storage, StorageError};
@@ -7,11 +7,27 @@ use qcow2_metadata::{Header, HostCluster, L2Table, MetadataError, RefBlock};
 use std::alloc::Global;
 use std::marker::PhantomData;
 
+impl CachedValue for L2Table {
+    ghost bytes = { λ v. v.bytes };
+
+    ghost is_modified = { λ v. v.is_modified };
+}
+
 /// Loads and flushes L2 tables.
 #[derive(Drop)]
 pub struct L2CacheBackend<S> {
     header: Header,
     storage: PhantomData<S>,
+}
+
+impl<S: Storage> CacheTypes for L2CacheBackend<S> {
+    type Key = HostCluster;
+
+    type Value = L2Table;
+
+    type Error = MetadataError;
+
+    type Store = ImageStorage<S>;
 }
 
 impl<S: Storage> AsyncLruCacheBackend for L2CacheBackend<S> {
@@ -23,15 +39,7 @@ impl<S: Storage> AsyncLruCacheBackend for L2CacheBackend<S> {
     ghost use Rattle.qcow2_alloc.specs.TableCaches.{l2_steps, cleared_l2, IsTableOf};
     ghost use Rattle.qcow2_alloc.specs.TableLaws.{table_laws};
     ghost use Rattle.qcow2_alloc.specs.KeptNotes.{KeepsNotes, kept_same, kept_then};
-    ghost use Rattle.qcow2_alloc.specs.MetFaults.{NotesFaults, met_same, met_then};
-
-    type Key = HostCluster;
-
-    type Value = L2Table;
-
-    type Error = MetadataError;
-
-    type Store = ImageStorage<S>;
+    ghost use Rattle.qcow2_alloc.specs.RecordedFaults.{RecordsFaults, met_same, met_then};
 
     ghost steps = { λ b. l2_steps (λ s. S.view (storage_of s)) b.header.fields };
 
@@ -41,11 +49,7 @@ impl<S: Storage> AsyncLruCacheBackend for L2CacheBackend<S> {
 
     ghost stored = { λ b s k. bytes_at (S.view (storage_of s)).contents (k * 2 ^ b.header.fields.cluster_bits) (2 ^ b.header.fields.cluster_bits) };
 
-    ghost bytes = { λ v. v.bytes };
-
-    ghost is_modified = { λ v. v.is_modified };
-
-    ghost keeps = { λ s t. KeepsNotes S.view s t × NotesFaults S.view s t };
+    ghost keeps = { λ s t. KeepsNotes S.view s t × RecordsFaults S.view s t };
 
     fn load(
         &self,
@@ -58,7 +62,7 @@ impl<S: Storage> AsyncLruCacheBackend for L2CacheBackend<S> {
         }
         match store.load_l2_table(alloc, &self.header, key) {
             Err(MetadataError::Storage(StorageError::Fault)) => {
-                store.note_fault();
+                store.record_fault();
                 Err(MetadataError::Storage(StorageError::Fault))
             }
             loaded => loaded,
@@ -117,7 +121,7 @@ impl<S: Storage> TableBackend for L2CacheBackend<S> {
 impl<S> L2CacheBackend<S> {
     ghost use Rattle.std.specs.Prelude.{◌≡◌};
 
-    /// For the tables of an image with this header.
+    /// A backend for the tables of an image with this header.
     pub(crate) fn new(header: &Header) -> L2CacheBackend<S>
         ensures { result.header.fields ≡ header.now.fields }
     {
@@ -128,11 +132,27 @@ impl<S> L2CacheBackend<S> {
     }
 }
 
+impl CachedValue for RefBlock {
+    ghost bytes = { λ v. v.bytes };
+
+    ghost is_modified = { λ v. v.is_modified };
+}
+
 /// Loads and flushes refblocks.
 #[derive(Drop)]
 pub struct RefBlockCacheBackend<S> {
     header: Header,
     storage: PhantomData<S>,
+}
+
+impl<S: Storage> CacheTypes for RefBlockCacheBackend<S> {
+    type Key = HostCluster;
+
+    type Value = RefBlock;
+
+    type Error = MetadataError;
+
+    type Store = ImageStorage<S>;
 }
 
 impl<S: Storage> AsyncLruCacheBackend for RefBlockCacheBackend<S> {
@@ -144,15 +164,7 @@ impl<S: Storage> AsyncLruCacheBackend for RefBlockCacheBackend<S> {
     ghost use Rattle.qcow2_alloc.specs.TableCaches.{rb_steps, cleared_rb, IsBlockOf};
     ghost use Rattle.qcow2_alloc.specs.TableLaws.{table_laws};
     ghost use Rattle.qcow2_alloc.specs.KeptNotes.{KeepsNotes, kept_same, kept_then};
-    ghost use Rattle.qcow2_alloc.specs.MetFaults.{NotesFaults, met_same, met_then};
-
-    type Key = HostCluster;
-
-    type Value = RefBlock;
-
-    type Error = MetadataError;
-
-    type Store = ImageStorage<S>;
+    ghost use Rattle.qcow2_alloc.specs.RecordedFaults.{RecordsFaults, met_same, met_then};
 
     ghost steps = { λ b. rb_steps (λ s. S.view (storage_of s)) b.header.fields };
 
@@ -162,11 +174,7 @@ impl<S: Storage> AsyncLruCacheBackend for RefBlockCacheBackend<S> {
 
     ghost stored = { λ b s k. bytes_at (S.view (storage_of s)).contents (k * 2 ^ b.header.fields.cluster_bits) (2 ^ b.header.fields.cluster_bits) };
 
-    ghost bytes = { λ v. v.bytes };
-
-    ghost is_modified = { λ v. v.is_modified };
-
-    ghost keeps = { λ s t. KeepsNotes S.view s t × NotesFaults S.view s t };
+    ghost keeps = { λ s t. KeepsNotes S.view s t × RecordsFaults S.view s t };
 
     fn load(
         &self,
@@ -179,7 +187,7 @@ impl<S: Storage> AsyncLruCacheBackend for RefBlockCacheBackend<S> {
         }
         match store.load_refblock(alloc, &self.header, key) {
             Err(MetadataError::Storage(StorageError::Fault)) => {
-                store.note_fault();
+                store.record_fault();
                 Err(MetadataError::Storage(StorageError::Fault))
             }
             loaded => loaded,
@@ -238,7 +246,7 @@ impl<S: Storage> TableBackend for RefBlockCacheBackend<S> {
 impl<S> RefBlockCacheBackend<S> {
     ghost use Rattle.std.specs.Prelude.{◌≡◌};
 
-    /// For the tables of an image with this header.
+    /// A backend for the tables of an image with this header.
     pub(crate) fn new(header: &Header) -> RefBlockCacheBackend<S>
         ensures { result.header.fields ≡ header.now.fields }
     {

@@ -1,4 +1,4 @@
-//! Tables that are loaded from an image's storage, which only reads it.
+//! Loading tables from an image's storage, which is only read.
 ghost use Rattle.std.specs.Prelude.{◌≡◌, ◌*◌, Some, Err, false, length, IfErr, IfOk};
 ghost use Rattle.image_access.specs.Contents.{bytes_at};
 ghost use Rattle.image_access.specs.Moments.{ContentsStay, QuietCalls};
@@ -21,7 +21,7 @@ use qcow2_metadata::{Header, HostCluster, L1Table, L2Table, MetadataError, RefBl
 use std::alloc::Global;
 
 impl<S: Storage> ImageStorage<S> {
-    // Loads the L2 table that lies in a cluster.
+    // Loads the L2 table in a cluster.
     pub(crate) fn load_l2_table(
         &mut self,
         alloc: Global,
@@ -41,7 +41,7 @@ impl<S: Storage> ImageStorage<S> {
         L2Table::load(alloc, &mut self.storage, header, cluster)
     }
 
-    // Loads the refblock that lies in a cluster.
+    // Loads the refblock in a cluster.
     pub(crate) fn load_refblock(
         &mut self,
         alloc: Global,
@@ -61,7 +61,7 @@ impl<S: Storage> ImageStorage<S> {
         RefBlock::load(alloc, &mut self.storage, header, cluster)
     }
 
-    // Loads the reftable of so many entries that lies from a cluster on.
+    // Loads a reftable with this many entries from the start of a cluster on.
     pub(crate) fn load_reftable(
         &mut self,
         alloc: Global,
@@ -89,8 +89,8 @@ impl<S: Storage> ImageStorage<S> {
         RefTable::load(alloc, &mut self.storage, header, cluster, entries)
     }
 
-    /// Loads the header, for an image that is to be written or not. Refused for one that doesn't read 19 (metadata), 13 (limit), then
-    /// 4 (unaligned table) where a table begins off a cluster. Where the work meets them: 14 (memory), 15 (storage).
+    /// Loads the header, for reading or for writing. Refused 19 (metadata) for an unreadable header, then 13 (limit), then 4 (unaligned table) for
+    /// a table that is not aligned. May be refused 14 (memory) or 15 (storage) during the work.
     pub fn load_header(&mut self, alloc: Global, writable: bool) -> Result<Header, MetadataError>
         ensures ok { (S.view (storage_of self.old)).is_honest
             → IfOk result (λ h. IsHeaderIn h (S.view (storage_of self.old)).contents) }
@@ -104,9 +104,9 @@ impl<S: Storage> ImageStorage<S> {
         Header::load(alloc, &mut self.storage, writable)
     }
 
-    /// Loads an L1 table of so many entries that lies from a cluster on. With no entries the storage isn't read. Refused
-    /// 13 (limit) for more than 4,194,304 entries or a begin past 64 bits, and 19 (metadata) where an entry has a bit without meaning.
-    /// Where the work meets them: 14 (memory), 15 (storage).
+    /// Loads an L1 table with this many entries from the start of a cluster on. Without entries nothing is read. Refused 13 (limit) for more than
+    /// 4,194,304 entries or an offset past 64 bits, and 19 (metadata) for a reserved bit in an entry. May be refused 14 (memory) or 15 (storage)
+    /// during the work.
     pub fn load_l1_table(
         &mut self,
         alloc: Global,

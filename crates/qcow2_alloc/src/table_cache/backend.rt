@@ -1,5 +1,5 @@
 //! What a cache of tables has to know of its values.
-ghost use Rattle.std.specs.Prelude.{◌≡◌, true, false};
+ghost use Rattle.std.specs.Prelude.{◌≡◌, true, false, Option};
 
 use crate::async_lru_cache::AsyncLruCacheBackend;
 
@@ -7,13 +7,13 @@ use crate::async_lru_cache::AsyncLruCacheBackend;
 pub trait TableBackend: AsyncLruCacheBackend {
     /// Whether a value differs from what the store should have.
     fn is_modified(value: &Self::Value) -> bool
-        ensures { result ≡ Self.AsyncLruCacheBackend.is_modified value.now };
+        ensures { result ≡ Self.Value.is_modified value.now };
 
     /// Equal keys are the same.
     ghost exact: { (j k : Self.Key) → Self.Key.eq j k ≡ true → j ≡ k };
 
     /// A value that isn't modified may be left as it is at a flush.
-    ghost rests: { (b : Self) (s : Self.Store) (k : Self.Key) (v : Self.Value) → Self.AsyncLruCacheBackend.is_modified v ≡ false
+    ghost rests: { (b : Self) (s : Self.Store) (k : Self.Key) (v : Self.Value) → Self.Value.is_modified v ≡ false
         → (Self.steps b).flushed s k v v s };
 }
 
@@ -22,14 +22,10 @@ pub trait Change<B: TableBackend> {
     /// What it answers.
     type Answer;
 
-    /// Which values it can be made of.
-    ghost accepts: { Self → B.Value → Type 0 };
-
     /// What it makes of a value, with its answer.
-    ghost applied: { Self → B.Value → Self.Answer → B.Value → Type 0 };
+    ghost applied: { Self → B.Value → Option Self.Answer → B.Value → Type 0 };
 
-    /// Changes a value.
-    fn apply(&self, value: &mut B::Value) -> Self::Answer
-        requires { accepts self.now value.old }
+    /// Changes a value. None if the value refuses the change.
+    fn apply(&self, value: &mut B::Value) -> Option<Self::Answer>
         ensures { applied self.now value.old result value.new };
 }

@@ -6,7 +6,7 @@ ghost use Rattle.qcow2_alloc.specs.Uses.{number_at, count_below, IsLastBelow};
 use std::alloc::{AllocError, Global};
 use std::marker::Model;
 
-/// Keys, each under a number, in the rising order of the numbers. Where there is room for one more, it is put in without memory.
+/// Keys, each under a number, in rising order of the numbers. Inserting a key for which there is room needs no memory.
 #[derive(Drop)]
 pub(crate) struct Marks<K: Copy> {
     marks: Vec<(u64, K)>,
@@ -24,7 +24,7 @@ impl<K: Copy> Model for Marks<K> {
 }
 
 impl<K: Copy> Marks<K> {
-    // No keys, and no room.
+    // An empty set without room.
     pub(crate) fn new(alloc: Global) -> Self
         ensures { result.entries ≡ [] }
     {
@@ -33,7 +33,7 @@ impl<K: Copy> Marks<K> {
         }
     }
 
-    // Makes room for so many keys in all. Refused where memory is missing.
+    // Makes room for this many keys in all. Refused if memory runs out.
     pub(crate) fn make_room(&mut self, count: usize) -> Result<(), AllocError>
         ensures entries { self.new.entries ≡ self.old.entries }
         ensures room { OnOk result (count ≤ self.new.room) }
@@ -62,7 +62,7 @@ impl<K: Copy> Marks<K> {
         }
     }
 
-    // Puts a key under a number that has none.
+    // Inserts a key under a number that has none.
     pub(crate) fn put(&mut self, number: u64, key: K)
         requires fits { length self.old.entries < self.old.room }
         requires new { number_at self.old.entries number ≡ None }
@@ -75,7 +75,7 @@ impl<K: Copy> Marks<K> {
         let _room_was_made = self.marks.insert(at, (number, key));
     }
 
-    // Takes out the key under a number that has one.
+    // Removes the key under a number that has one.
     pub(crate) fn take(&mut self, number: u64)
         requires { is_some (number_at self.old.entries number) ≡ true }
         ensures number { number_at self.new.entries number ≡ None }

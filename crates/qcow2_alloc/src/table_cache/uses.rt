@@ -12,8 +12,8 @@ use std::alloc::{AllocError, Global};
 use std::hash::Hash;
 use std::marker::Model;
 
-/// Keys in the order of their last use, and which of them are marked. Each has the number of its last use, and the marked ones are found
-/// by theirs. There is room for the mark of each key, so that marking takes no memory.
+/// Keys in the order of their last use, and which of them are marked. Each key has the number of its last use, by which marked keys are found.
+/// There is room for the mark of each key, so marking needs no memory.
 #[derive(Drop)]
 pub struct Uses<K: Copy + Eq + Hash> {
     next: u64,
@@ -33,7 +33,7 @@ impl<K: Copy + Eq + Hash> Model for Uses<K> {
         × HaveRoom a.marked a.numbers.entries };
 }
 
-// Marks a key under a number that has no mark, where it is to be marked.
+// Marks a key under a number that has no mark, if it is to be marked.
 fn put_mark<K: Copy>(marked: &mut Marks<K>, number: u64, key: K, is_marked: bool)
     requires fits { is_marked ≡ true → length marked.old.entries < marked.old.room }
     requires new { is_marked ≡ true → number_at marked.old.entries number ≡ None }
@@ -48,7 +48,7 @@ fn put_mark<K: Copy>(marked: &mut Marks<K>, number: u64, key: K, is_marked: bool
     }
 }
 
-// Takes the mark under a number, where there is one.
+// Removes the mark under a number, if there is one.
 fn take_mark<K: Copy>(marked: &mut Marks<K>, number: Option<u64>)
     ensures number { IfSome number (λ n. number_at marked.new.entries n ≡ None) }
     ensures others { (n : ℕ) → number ≢ Some n → number_at marked.new.entries n ≡ number_at marked.old.entries n }
@@ -66,7 +66,7 @@ fn take_mark<K: Copy>(marked: &mut Marks<K>, number: Option<u64>)
 }
 
 impl<K: Copy + Eq + Hash> Uses<K> {
-    /// No keys. The first one gets this number. Refused where memory is missing.
+    /// No keys. The first key will get this number. Refused if memory runs out.
     pub fn new(alloc: Global, first: u64) -> Result<Self, AllocError>
         ensures { IfOk result (λ uses. uses ≡ []) }
     {
@@ -78,7 +78,7 @@ impl<K: Copy + Eq + Hash> Uses<K> {
         })
     }
 
-    // Brings a key to the front, marked or not. Refused where memory or a number is missing, and then nothing changed.
+    // Moves a key to the front, marked or not. Refused if memory or the numbers run out; then nothing changed.
     fn place(&mut self, key: K, is_marked: bool) -> Result<(), AllocError>
         ensures ok { OnOk result (self.new ≡ placed (K.eq key) key is_marked self.old) }
         ensures err { OnErr result (self.new ≡ self.old) }
@@ -98,7 +98,7 @@ impl<K: Copy + Eq + Hash> Uses<K> {
         Ok(())
     }
 
-    // The same keys with the same marks, numbered from 0 on. Refused where memory is missing.
+    // A copy with the keys numbered from 0 on. Refused if memory runs out.
     fn renumbered(&self) -> Result<Self, AllocError>
         ensures { IfOk result (λ uses. uses ≡ self.now) }
     {
@@ -113,7 +113,7 @@ impl<K: Copy + Eq + Hash> Uses<K> {
         Ok(anew)
     }
 
-    // Numbers all keys anew where no number is left. Refused where memory is missing, and then nothing changed.
+    // Numbers all keys again if no number is left. Refused if memory runs out; then nothing changed.
     fn make_number(&mut self) -> Result<(), AllocError>
         ensures { self.new ≡ self.old }
     {
@@ -124,8 +124,7 @@ impl<K: Copy + Eq + Hash> Uses<K> {
         Ok(())
     }
 
-    /// Brings a key to the front, marked or not; where it isn't there, it is put in. Refused where memory is missing, and then nothing
-    /// changed.
+    /// Moves a key to the front, marked or not, or inserts it there. Refused if memory runs out; then nothing changed.
     pub fn bring(&mut self, key: K, is_marked: bool) -> Result<(), AllocError>
         ensures ok { OnOk result (self.new ≡ placed (K.eq key) key is_marked self.old) }
         ensures err { OnErr result (self.new ≡ self.old) }
@@ -134,8 +133,8 @@ impl<K: Copy + Eq + Hash> Uses<K> {
         self.place(key, is_marked)
     }
 
-    /// Brings a key to the front with its mark, and answers whether it is there. The key in front keeps its number. Refused where memory
-    /// is missing, and then nothing changed.
+    /// Moves a key to the front with its mark, and returns whether it is in the set. A key that is already in front keeps its number. Refused if
+    /// memory runs out; then nothing changed.
     pub fn touch(&mut self, key: K) -> Result<bool, AllocError>
         ensures there { IfOk result (λ there. there ≡ is_some (lookup (K.eq key) self.old)) }
         ensures ok { OnOk result (self.new ≡ promoted (K.eq key) self.old) }
@@ -151,7 +150,7 @@ impl<K: Copy + Eq + Hash> Uses<K> {
         Ok(true)
     }
 
-    // Whether a key is marked. None where it isn't there.
+    // Whether a key is marked. None if it isn't in the set.
     fn mark_of(&self, key: K) -> Option<bool>
         ensures { result ≡ lookup (K.eq key) self.now }
     {
@@ -161,7 +160,7 @@ impl<K: Copy + Eq + Hash> Uses<K> {
         }
     }
 
-    /// Marks a key that is there. Takes no memory.
+    /// Marks a key of the set. Needs no memory.
     pub fn mark(&mut self, key: K)
         ensures { self.new ≡ set_value (K.eq key) self.old true }
     {
@@ -172,7 +171,7 @@ impl<K: Copy + Eq + Hash> Uses<K> {
         put_mark(&mut self.marked, *number, key, !has_mark);
     }
 
-    /// Takes the mark of a key that is there.
+    /// Removes the mark of a key of the set.
     pub fn unmark(&mut self, key: K)
         ensures { self.new ≡ set_value (K.eq key) self.old false }
     {
@@ -182,7 +181,7 @@ impl<K: Copy + Eq + Hash> Uses<K> {
         take_mark(&mut self.marked, Some(*number));
     }
 
-    /// Takes a key out.
+    /// Removes a key.
     pub fn remove(&mut self, key: K)
         ensures { self.new ≡ remove_entry (K.eq key) self.old }
     {
@@ -207,7 +206,7 @@ impl<K: Copy + Eq + Hash> Uses<K> {
         self.marked.below(self.next)
     }
 
-    /// The marked key that was used last before this one was, which is there.
+    /// The marked key that was used last before the given key of the set.
     pub fn next_marked(&self, key: K) -> Option<K>
         ensures { IsFoundAs K.eq result (first_marked (behind (K.eq key) self.now)) }
     {

@@ -19,7 +19,7 @@ fn three_clusters(alloc: Global) -> Result<TraceStorage, AllocError> {
     TraceStorage::new(alloc, bytes)
 }
 
-// The first cluster that is taken, and how many are, where one is asked for twice.
+// The first cluster that is allocated, and how many are, if one is requested twice.
 fn asked_twice<S: Storage>(
     alloc: Global,
     storage: S,
@@ -94,7 +94,7 @@ fn none_is_taken_behind_those_that_a_reftable_can_count(rt: HostRuntime) -> Resu
     Ok(())
 }
 
-// The cluster that is taken for data, the refblocks are dropped, and the one that is taken then.
+// The cluster that is allocated for data, and the one that is allocated after the refblocks were dropped.
 fn taken_and_forgotten<S: Storage>(alloc: Global, storage: S) -> Result<[u64; 2], ImageError> {
     let mut file = file_of(alloc, storage, Header::new(9, 4, None, None, None))?;
     let mut allocator = Allocator::new(&mut file)?;
@@ -121,7 +121,7 @@ fn counts_that_were_not_written_are_forgotten(rt: HostRuntime) -> Result<(), Fai
     Ok(())
 }
 
-// Whether the tables in clusters 1 to 3 are all spared, and the cluster that is taken for data then, where none is counted.
+// Whether the tables in clusters 1 to 3 are all spared, and the cluster that is then allocated for data, if all refcounts are 0.
 fn lowest_behind_tables<S: Storage>(alloc: Global, storage: S) -> Result<(bool, u64), ImageError> {
     let mut file = file_of(alloc, storage, Header::new(9, 4, None, None, None))?;
     file.header.set_reftable(HostOffset::new(512), 1)?;
@@ -142,7 +142,7 @@ fn tables_are_spared_whatever_their_counts_are(rt: HostRuntime) -> Result<(), Fa
     Ok(())
 }
 
-// 200 refblocks of 64 counts, in clusters 5 to 204 behind their reftable. All count 1, but for one of 0 in each of the last three.
+// 200 refblocks of 64 refcounts, in clusters 5 to 204 after their reftable. All refcounts are 1, except one of 0 in each of the last three.
 fn nearly_full(alloc: Global) -> Result<TraceStorage, AllocError> {
     let mut bytes = vec![in alloc; 0u8; 205 * 512]?;
     for range in 0..200 {

@@ -165,7 +165,7 @@ fn a_refblock_goes_after_the_l2_tables(rt: HostRuntime) -> Result<(), Fail> {
     Ok(())
 }
 
-// The direction turns over a modified refblock.
+// The direction changes while a refblock is modified.
 fn turned<S: Storage>(alloc: Global, storage: S) -> Result<(S, Left), ImageError> {
     let mut it = made(alloc, storage, 2, 2)?;
     it.put_block(alloc, 2)?;

@@ -119,6 +119,38 @@ fn the_pointer_is_written_last(rt: HostRuntime) -> Result<(), Fail> {
     Ok(())
 }
 
+// A reftable of 64 entries without refblocks, from the last cluster of a range on: the run enters two ranges, which lack a refblock each.
+#[test]
+fn new_refblocks_are_written_last_range_first(rt: HostRuntime) -> Result<(), Fail> {
+    let alloc = rt.alloc();
+    let mut start = Vec::with_capacity(alloc, 1024)?;
+    start.extend_from_slice(&[0u8; 1024])?;
+    let mut file = opened(alloc, TraceStorage::new(alloc, start)?, 1)?;
+    let _allocator = grown(&mut file, 4031, 64)?;
+    assert_eq!(rt;
+        file.into_storage().writes(alloc)?.as_slice(),
+        [4032 * 512, 4031 * 512, 4033 * 512, 48].as_slice()
+    );
+    Ok(())
+}
+
+// The same, with a refblock for the second range, whose refcounts rise: it is the later one, and written first.
+#[test]
+fn a_new_refblock_is_written_behind_that_of_a_later_range(rt: HostRuntime) -> Result<(), Fail> {
+    let alloc = rt.alloc();
+    let mut storage = TraceStorage::new(alloc, Vec::new(alloc))?;
+    name_refblock(&mut storage, 1016, 1024, 0)?;
+    let mut start = Vec::with_capacity(alloc, storage.as_slice().len())?;
+    start.extend_from_slice(storage.as_slice())?;
+    let mut file = opened(alloc, TraceStorage::new(alloc, start)?, 1)?;
+    let _allocator = grown(&mut file, 4031, 64)?;
+    assert_eq!(rt;
+        file.into_storage().writes(alloc)?.as_slice(),
+        [1024, 4031 * 512, 4032 * 512, 48].as_slice()
+    );
+    Ok(())
+}
+
 // Whether a growth is refused, whether its new refblock is cached then, and what the header says on the storage.
 fn refused<S: Storage>(alloc: Global, storage: S) -> Result<(bool, bool, u64), ImageError> {
     let mut file = opened(alloc, storage, 1)?;
@@ -150,7 +182,7 @@ fn a_refused_growth_leaves_no_refblock_in_the_cache(rt: HostRuntime) -> Result<(
     Ok(())
 }
 
-// Where an allocation of the test itself is refused, nothing is told of the growth.
+// If an allocation of the test itself is refused, nothing is reported about the growth.
 #[test]
 fn a_growth_without_memory_leaves_no_refblock_in_the_cache(rt: HostRuntime) -> Result<(), Fail> {
     let alloc = rt.alloc();

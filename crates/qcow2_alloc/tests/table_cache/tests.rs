@@ -1,4 +1,4 @@
-ghost use Rattle.std.specs.Prelude.{◌≡◌, ⊤, true};
+ghost use Rattle.std.specs.Prelude.{◌≡◌, Some, true};
 ghost use Rattle.std.proofs.Common.{refl};
 ghost use Rattle.std.proofs.lemmas.Grind.{common_steps};
 ghost use Rattle.std.proofs.Common.{arith};
@@ -28,15 +28,13 @@ struct Renumber {
 impl Change<Pages> for Renumber {
     type Answer = u32;
 
-    ghost accepts = { λ _ _. ⊤ };
+    ghost applied = { λ _ v a w. (w.modified ≡ true) × (a ≡ Some v.number) };
 
-    ghost applied = { λ _ v a w. (w.modified ≡ true) × (a ≡ v.number) };
-
-    fn apply(&self, page: &mut Page) -> u32 {
+    fn apply(&self, page: &mut Page) -> Option<u32> {
         let before = page.number;
         page.number = self.number;
         page.modified = true;
-        before
+        Some(before)
     }
 }
 
@@ -47,12 +45,10 @@ struct Read;
 impl Change<Pages> for Read {
     type Answer = u32;
 
-    ghost accepts = { λ _ _. ⊤ };
+    ghost applied = { λ _ v a w. (w ≡ v) × (a ≡ Some v.number) };
 
-    ghost applied = { λ _ v a w. (w ≡ v) × (a ≡ v.number) };
-
-    fn apply(&self, page: &mut Page) -> u32 {
-        page.number
+    fn apply(&self, page: &mut Page) -> Option<u32> {
+        Some(page.number)
     }
 }
 

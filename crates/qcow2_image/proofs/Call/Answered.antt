@@ -1,4 +1,4 @@
--- What a call that no guest sees does, from its parts.
+-- What a call that guests don't see does, from its parts.
 use Rattle.std.proofs.Common.{◌≡◌, ℕ, ◌/◌, ◌<◌, ◌≤◌, Bool, true, false, List, [], refl, sym, ap, ◌∙◌, subst, arith}
 use Rattle.std.specs.Prelude.{Option, Some, None, IsTrue, slice_get}
 use Rattle.std.specs.Option.{option_map_or}
@@ -21,14 +21,14 @@ use Rattle.qcow2_metadata.specs.declared.header.HeaderFields.{HeaderFields}
 use Rattle.qcow2_alloc.specs.ImageFile.{state_in, contents_in, known_in, nothing_given}
 use Rattle.qcow2_image.specs.declared.image.Qcow2.{Qcow2}
 use Rattle.qcow2_image.specs.declared.prepared.Prepared.{Prepared}
-use Rattle.qcow2_image.specs.ImageInvariant.{below_of, of_data, of_tables, to_free, new_data_by, over_all, pending_in, abstract_of, meaning, is_entered, is_new, is_private, is_hidden, place_of, share_of, backing_bytes, ImageInvariant}
+use Rattle.qcow2_image.specs.ImageInvariant.{below_of, of_data, of_tables, to_free, new_data_by, over_all, pending_in, abstract_of, meaning, is_entered, is_new, is_private, is_hidden, place_of, mapping_of_cluster, backing_bytes, ImageInvariant}
 use Rattle.qcow2_image.specs.MovedTables.{MovesTables}
 use Rattle.qcow2_image.specs.InternalSteps.{pending_with_listed, ListGrows, InternalStep, InternalFreeingStep}
-use Rattle.qcow2_image.proofs.Moved.{format_file_step, format_stay}
-use Rattle.qcow2_image.proofs.Shares.{private_used, used_unlaid}
-use Rattle.qcow2_image.proofs.Sound.{free_more, pending_is}
+use Rattle.qcow2_image.proofs.Images.Moved.{format_file_step, format_stay}
+use Rattle.qcow2_image.proofs.Images.ClusterMappings.{private_used, used_unlaid}
+use Rattle.qcow2_image.proofs.Images.Sound.{free_more, pending_is}
 use Rattle.qcow2_disk.proofs.Compose.{stops_of}
-use Rattle.qcow2_image.proofs.UngivenCovers.{all_stay}
+use Rattle.qcow2_image.proofs.Images.UngivenCovers.{all_stay}
 
 pub same_guest : (a b : Guest) → a.disk ≡ b.disk → a.slots ≡ b.slots → a ≡ b
 same_guest a b disks slots = ap (λ d. record a { disk = d }) disks ∙ ap (λ f. record b { slots = f }) slots
@@ -56,15 +56,15 @@ module _ {S F : Type 0} (view : S → StorageView) (backing : F → BackingView)
     old_data = λ k. let e = ap (λ l. to_free of_data l k) grows.is ∙ free_more of_data old.file.free_list grows.more k in omega arith;
   })
 
-  -- where the header stays, but perhaps for where tables stand
+  -- the header stays the same, except perhaps the offsets of tables
   module _ (same_header : MovesTables old.file.header.fields new.file.header.fields) where
     -- a prepared mapping means what it meant, where its private bytes stay
     module _ (q : Prepared) (own_bytes : (o : ℕ) → IsTrue (is_private view backing old q o) → contents_in view new.file (place_of old.file.header.fields q o) ≡ contents_in view old.file (place_of old.file.header.fields q o)) where
       pub same_private : is_private view backing new q ≡ is_private view backing old q
-      same_private = let test : HeaderFields → ℕ → Bool = λ h o. option_map_or is_entered (share_of h q (o / cluster_size h)) false in ap test same_header
+      same_private = let test : HeaderFields → ℕ → Bool = λ h o. option_map_or is_entered (mapping_of_cluster h q (o / cluster_size h)) false in ap test same_header
 
       same_hidden : is_hidden view backing new q ≡ is_hidden view backing old q
-      same_hidden = let test : HeaderFields → ℕ → Bool = λ h o. option_map_or is_new (share_of h q (o / cluster_size h)) false in ap test same_header
+      same_hidden = let test : HeaderFields → ℕ → Bool = λ h o. option_map_or is_new (mapping_of_cluster h q (o / cluster_size h)) false in ap test same_header
 
       same_place : (o : ℕ) → place_of new.file.header.fields q o ≡ place_of old.file.header.fields q o
       same_place o = ap (λ (h : HeaderFields). place_of h q o) same_header
@@ -90,14 +90,14 @@ module _ {S F : Type 0} (view : S → StorageView) (backing : F → BackingView)
   module _ (p : Pending) (p' : Pending) (sound : ImageInvariant view backing p old out) (holds : (k : ℕ) → over_all new_data_by out k ≤ p.new_data k) (holds_still : (k : ℕ) → over_all new_data_by out k ≤ p'.new_data k) where
     -- though tables may have moved
     module _ (sound' : ImageInvariant view backing p' new out) (same_header : MovesTables old.file.header.fields new.file.header.fields) (bytes : SameUsedBytes (state_in view old.file p) (state_in view new.file p')) where
-      -- at a place that is used the same bytes stand on the storage
+      -- clusters that are used have the same bytes on the storage
       used_bytes : (o : ℕ) → 0 < used_by_guests (state_in view old.file p) (o / cluster_size old.file.header.fields) → 0 < used_by_guests (state_in view new.file p') (o / cluster_size new.file.header.fields) → contents_in view new.file o ≡ contents_in view old.file o
       used_bytes o before after =
           used_unlaid (state_in view new.file p') sound'.file.caches.kept.kept.crash_invariant o after ∙ bytes o before ∙ sym (used_unlaid (state_in view old.file p) sound.file.caches.kept.kept.crash_invariant o before)
 
       private_bytes : (k : ℕ) (q : Prepared) → slice_get out k ≡ Some (Some q) → (o : ℕ) → IsTrue (is_private view backing old q o) → contents_in view new.file (place_of old.file.header.fields q o) ≡ contents_in view old.file (place_of old.file.header.fields q o)
       private_bytes k q at o private =
-          let now : IsTrue (is_private view backing new q o) = ap (λ (h : HeaderFields). option_map_or is_entered (share_of h q (o / cluster_size h)) false) same_header ∙ private in
+          let now : IsTrue (is_private view backing new q o) = ap (λ (h : HeaderFields). option_map_or is_entered (mapping_of_cluster h q (o / cluster_size h)) false) same_header ∙ private in
           let place : place_of new.file.header.fields q o ≡ place_of old.file.header.fields q o = ap (λ (h : HeaderFields). place_of h q o) same_header in
           used_bytes (place_of old.file.header.fields q o) (private_used view backing old out p sound holds k q at o private)
           (subst (λ n. 0 < used_by_guests (state_in view new.file p') (n / cluster_size new.file.header.fields)) place (private_used view backing new out p' sound' holds_still k q at o now))

@@ -1,4 +1,4 @@
--- What a call's parts say of its answer.
+-- What the parts of a call say of its result.
 use Rattle.std.proofs.Common.{◌≡◌, ℕ, Bool, true, false, List, [], refl, sym, subst}
 use Rattle.std.specs.Prelude.{◌&&◌, nat_lt, not, Option, MatchOption, Result, Ok, Err, IsErr, IsErrAnd}
 use Rattle.std.specs.Option.{option_or}

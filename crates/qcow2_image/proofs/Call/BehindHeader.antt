@@ -1,4 +1,4 @@
--- Calls that keep tables away from cluster 0 and leave the bytes there alone, one after another.
+-- Calls that keep tables out of cluster 0 and leave its bytes the same, one after another.
 use Rattle.std.proofs.Common.{◌≡◌, ◌∙◌, ◌⊎◌, inl, inr, ℕ, List, [], ◌∷◌, length, Result, Option, Some, None, true, false, ◌+◌, ◌*◌, ◌/◌, ◌^◌, ◌<◌, ◌≤◌, zero, suc, refl, sym, ap, subst, arith}
 use Rattle.std.specs.Prelude.{IfSome, IsSome}
 use Rattle.std.specs.Int.{w64, to_be_bytes}
@@ -28,18 +28,18 @@ use Rattle.qcow2_image.specs.declared.image.Qcow2.{Qcow2}
 use Rattle.qcow2_image.specs.Image.{IsBegun}
 use Rattle.qcow2_image.specs.BehindHeader.{IsBesideNumbers, IsL1TableBehind, KeepsL1TableBehind, KeepsTablesBehind, NamesTablesBehind, PreservesHeaderCluster, TablesBehindHeader}
 
--- a byte of cluster 0 lies below each offset behind it
+-- a byte of cluster 0 lies below each offset after it
 below_first : (bits o at : ℕ) → o / 2 ^ bits ≡ 0 → 2 ^ bits ≤ at → o < at
 below_first bits o at in_first behind = let low = below_others bits 1 o (omega arith) in_first in omega (arith, low, behind)
 
--- a cluster that isn't cluster 0 begins behind it
+-- a cluster that isn't cluster 0 begins after it
 pub behind_zero : (bits own cluster : ℕ) → own ≡ bits → 0 < cluster → 2 ^ bits ≤ cluster * 2 ^ own
 behind_zero bits own cluster same some =
     let first : 1 * 2 ^ bits ≤ cluster * 2 ^ bits = mul-le 1 (2 ^ bits) cluster (2 ^ bits) (omega (arith, some)) (omega arith) in
     let moved : cluster * 2 ^ own ≡ cluster * 2 ^ bits = ap (λ n. cluster * 2 ^ n) same in
     omega (arith, first, moved)
 
--- a cluster that begins behind the first byte isn't cluster 0
+-- a cluster that begins after the first byte isn't cluster 0
 pub behind_first : (bits cluster offset : ℕ) → cluster * 2 ^ bits ≡ offset → 0 < offset → 0 < cluster
 behind_first bits zero offset is some = absurd (omega (arith, is, some))
 behind_first bits (suc n) offset is some = omega arith
@@ -84,7 +84,7 @@ l1_somewhere h t cluster bytes is at some = record {
 pub named_before : (h h' : HeaderFields) → h' ≡ without_autoclear h → NamesTablesBehind h' → NamesTablesBehind h
 named_before h h' is names = let same = subst NamesTablesBehind is names in record { reftable = same.reftable; l1_table = same.l1_table }
 
--- a table of an L1 table's clusters that was given one behind cluster 0, or changed its entries alone
+-- an L1 table that was placed past cluster 0, or of which only entries changed
 pub l1_placed : (l1 l1' t t' : EntryTableView) (cluster : ℕ) → l1' ≡ l1 → t' ≡ record t { cluster = Some cluster } → t.cluster_bits ≡ l1.cluster_bits → 0 < cluster → KeepsL1TableBehind l1' t'
 l1_placed l1 l1' t t' cluster same is as_wide some = λ bits lies. record {
   l1_bits = ap (λ (x : EntryTableView). x.cluster_bits) is ∙ as_wide ∙ ap (λ (x : EntryTableView). x.cluster_bits) (sym same) ∙ lies.l1_bits;
@@ -148,7 +148,7 @@ module _ {S : Type 0} where
       bytes = λ bits lies honest. quiet_keeps (IsBesideNumbers bits) v v' result calls same honest;
     }
 
-    -- A write beside the bytes that stay. The storage was told before what it is for.
+    -- A write outside of the bytes that stay. The kind of the write was set before.
     pub behind_write : {T : Type 0} {v told v' : StorageView} {caches : MetadataCaches S} (result : Result T StorageError) (at : ℕ) (bytes : List ℕ) → told ≡ v
         → ((bits : ℕ) → TablesBehindHeader bits own l1 caches a → (o : ℕ) → IsBesideNumbers bits o → (o < at) ⊎ (at + length bytes ≤ o))
         → Changes told v' result (λ b. overwritten b at bytes) → Calls told v' result → KeepsTablesBehind own l1 v caches a own l1 v' caches a
@@ -162,7 +162,7 @@ module _ {S : Type 0} where
         written IsKept outside (inl is) = same_kept IsKept told.contents v'.contents is
         written IsKept outside (inr is) = λ o kept. sym (ap (λ l. byte_at l o) is ∙ byte_at-overwritten_outside told.contents at bytes o (outside o kept))
 
-    -- one behind cluster 0
+    -- a table past cluster 0
     pub behind_wrote : {T : Type 0} {v told v' : StorageView} {caches : MetadataCaches S} (result : Result T StorageError) (at : ℕ) (bytes : List ℕ) → told ≡ v → ((bits : ℕ) → TablesBehindHeader bits own l1 caches a → 2 ^ bits ≤ at)
         → Changes told v' result (λ b. overwritten b at bytes) → Calls told v' result → KeepsTablesBehind own l1 v caches a own l1 v' caches a
     behind_wrote result at bytes same behind wrote calls = behind_write result at bytes same (λ bits lies o kept. inl (below_first bits o at kept.0 (behind bits lies))) wrote calls
@@ -199,7 +199,7 @@ module _ {S : Type 0} where
   pub behind_bits : {own own' : ℕ} {l1 : EntryTableView} {v : StorageView} {caches : MetadataCaches S} {a : Option Allocator} → own' ≡ own → KeepsTablesBehind own l1 v caches a own' l1 v caches a
   behind_bits {own} {own'} {l1} {v} {caches} {a} same = subst (λ n. KeepsTablesBehind own l1 v caches a n l1 v caches a) (sym same) behind_none
 
-  -- an L1 table that stands behind cluster 0 where the former one did
+  -- the L1 table lies past cluster 0 if the old one did
   pub behind_l1 : {own : ℕ} {l1 l1' : EntryTableView} {v : StorageView} {caches : MetadataCaches S} {a : Option Allocator} → KeepsL1TableBehind l1 l1' → KeepsTablesBehind own l1 v caches a own l1' v caches a
   behind_l1 {v} keeps = record {
     kept = λ bits lies. record { header = lies.header; l1 = keeps bits lies.l1; caches = lies.caches; reftable = lies.reftable };

@@ -15,7 +15,7 @@ use Rattle.qcow2_image.proofs.Call.Marked.{MayMark}
 use Rattle.qcow2_image.specs.ImageInvariant.{ImageInvariant, pending_in, abstract_of}
 use Rattle.qcow2_disk.proofs.Compose.{stops_as}
 
--- what a refusal leaves: a fault, or want of memory, that marks the image; or the image is marked as before, and no fault was told
+-- what a refusal leaves: a fault, or a failed allocation, that marks the image; or the image is marked as before, and no fault was reported
 abbrev pub IsOutcome : ImageError → Bool → Bool → Type 0
 IsOutcome e before now = ((e ≡ I.Storage) × (now ≡ true)) ⊎ (((e ≡ I.Memory) × (now ≡ true)) ⊎ ((now ≡ before) × (refusal_of e ≡ storage → ⊥)))
 

@@ -1,4 +1,4 @@
--- Calls that no guest sees, from their parts.
+-- Calls that guests don't see, from their parts.
 use Rattle.std.proofs.Common.{◌≡◌, inl, ℕ, ◌<◌, Bool, false, List, [], ◌++◌, refl, sym, ap, ◌∙◌, subst, arith}
 use Rattle.std.specs.Prelude.{Option, Result, Ok, Err, IfOk}
 use Rattle.std.proofs.lemmas.List.{append_assoc}
@@ -114,7 +114,7 @@ module _ {S F : Type 0} (view : S → StorageView) (backing : F → BackingView)
       let kept = first p out sound in
       record { keeps = keeps_then view backing out a b c p p p (λ k h. h) kept (then p out kept.sound); list = still ∙ listed }
 
-  -- what an answer tells of a call that no guest sees
+  -- what the result of a call says that guests don't see
   abbrev pub Tells : (old new : Qcow2 S F) {A : Type 0} → (A → AbstractImage → AbstractImage → Type 0) → Result A ImageError → Type 0
   Tells old new Done (Ok a) = (out : List (Option Prepared)) → let v = abstract_of view backing old out in let w = abstract_of view backing new out in AnsweredEffect v w [] [] (Done a v w)
   Tells old new Done (Err e) = (out : List (Option Prepared)) → let v = abstract_of view backing old out in let w = abstract_of view backing new out in RefusedEffect v w [] [] (refusal_of e) (IsSame v w)

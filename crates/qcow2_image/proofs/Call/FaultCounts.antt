@@ -1,4 +1,4 @@
--- Which calls on an image count a failure of its storage or of the disk below, and how they go together.
+-- Which calls on an image count a failure of its storage or of the backing disk, and how such calls compose.
 use Rattle.std.proofs.Common.{◌≡◌, ◌≤◌, inl, inr, Option, Some, None, Result, Ok, Err, IsErr, IsErrAnd, ap, arith, subst, sym, ◌∙◌}
 use Rattle.std.specs.Option.{IfSome}
 use Rattle.std.proofs.lemmas.Result.{IfErr-weaker}
@@ -10,10 +10,10 @@ use Rattle.qcow2_alloc.specs.declared.error.ImageError.TheVariants.{Storage}
 use Rattle.qcow2_alloc.specs.Faults.{CountsFaults, faults_of}
 use Rattle.qcow2_alloc.proofs.AllocationSteps.{handed_on}
 use Rattle.qcow2_image.specs.declared.image.Qcow2.{Qcow2}
-use Rattle.qcow2_image.specs.Faults.{CountsImageFaults, NoFewerFaults, OneRose, SameFaults, TellsEachIn, TellsFault}
+use Rattle.qcow2_image.specs.Faults.{CountsImageFaults, NoFewerFaults, OneRose, SameFaults, ReportsEachIn, ReportsFault}
 use Rattle.qcow2_image.specs.ImageInvariant.{faults_below}
 
--- less is said where the same refusal isn't told
+-- a weaker statement, if the refusal is another one
 pub unless_weaker : {T E : Type 0} (r : Result T E) (refusal : E) {P Q : Type 0} → (P → Q) → UnlessErr r refusal P → UnlessErr r refusal Q
 unless_weaker (Ok x) refusal implies holds = implies holds
 unless_weaker (Err e) refusal implies holds = λ other. implies (holds other)
@@ -42,7 +42,7 @@ module _ {S F : Type 0} (view : S → StorageView) (backing : F → BackingView)
   pub counted_since : {T : Type 0} (old mid new : Qcow2 S F) (result : Result T ImageError) → SameFaults view backing old mid → CountsImageFaults view backing mid new result → CountsImageFaults view backing old new result
   counted_since old mid new result first told = let fewer = fewer_of old mid first in record {
     no_fewer = record { storage = le_trans fewer.storage told.no_fewer.storage; below = le_trans fewer.below told.no_fewer.below };
-    rose = IfErr-weaker result (TellsFault view backing mid new) (TellsFault view backing old new) (λ e tells is. rose_after old mid new first (tells is)) told.rose;
+    rose = IfErr-weaker result (ReportsFault view backing mid new) (ReportsFault view backing old new) (λ e reports is. rose_after old mid new first (reports is)) told.rose;
     told = unless_weaker result Storage (faults_then old mid new first) told.told;
   }
 
@@ -50,7 +50,7 @@ module _ {S F : Type 0} (view : S → StorageView) (backing : F → BackingView)
   pub counted_still : {T : Type 0} (old mid new : Qcow2 S F) (result : Result T ImageError) → CountsImageFaults view backing old mid result → SameFaults view backing mid new → CountsImageFaults view backing old new result
   counted_still old mid new result told last = let fewer = fewer_of mid new last in record {
     no_fewer = record { storage = le_trans told.no_fewer.storage fewer.storage; below = le_trans told.no_fewer.below fewer.below };
-    rose = IfErr-weaker result (TellsFault view backing old mid) (TellsFault view backing old new) (λ e tells is. rose_before old mid new (tells is) last) told.rose;
+    rose = IfErr-weaker result (ReportsFault view backing old mid) (ReportsFault view backing old new) (λ e reports is. rose_before old mid new (reports is) last) told.rose;
     told = unless_weaker result Storage (λ first. faults_then old mid new first last) told.told;
   }
 
@@ -61,7 +61,7 @@ module _ {S F : Type 0} (view : S → StorageView) (backing : F → BackingView)
     below = ap (λ b. faults_below view backing b) below;
   }
 
-  -- a call behind which the image is marked
+  -- a call after which the image is marked
   pub marked_after : {T : Type 0} (old last new : Qcow2 S F) (result : Result T ImageError) → CountsImageFaults view backing old last result → new ≡ record last { is_failed = new.is_failed } → CountsImageFaults view backing old new result
   marked_after old last new result told rest = counted_still old last new result told (untouched last new (ap (λ (i : Qcow2 S F). i.file.storage) rest) (ap (λ (i : Qcow2 S F). i.backing) rest))
 
@@ -98,11 +98,11 @@ module _ {S F : Type 0} (view : S → StorageView) (backing : F → BackingView)
   pub counted_of : {T A : Type 0} (old new : Qcow2 S F) (e : ImageError) → CountsImageFaults view backing {T = A} old new (Err e) → CountsImageFaults view backing {T = T} old new (Err e)
   counted_of old new e told = record { no_fewer = told.no_fewer; rose = told.rose; told = told.told }
 
-  -- what a call told, of one that begins earlier
-  pub tells_since : (old mid new : Qcow2 S F) (refusal : Option ImageError) → SameFaults view backing old mid → IfSome refusal (TellsFault view backing mid new) → IfSome refusal (TellsFault view backing old new)
+  -- what a call reports, seen from an earlier start
+  pub tells_since : (old mid new : Qcow2 S F) (refusal : Option ImageError) → SameFaults view backing old mid → IfSome refusal (ReportsFault view backing mid new) → IfSome refusal (ReportsFault view backing old new)
   tells_since old mid new None first told = tt
   tells_since old mid new (Some e) first told = λ is. rose_after old mid new first (told is)
 
-  pub each_since : (old mid new : Qcow2 S F) (refusal : Option ImageError) → SameFaults view backing old mid → TellsEachIn view backing mid new refusal → TellsEachIn view backing old new refusal
+  pub each_since : (old mid new : Qcow2 S F) (refusal : Option ImageError) → SameFaults view backing old mid → ReportsEachIn view backing mid new refusal → ReportsEachIn view backing old new refusal
   each_since old mid new None first told = faults_then old mid new first told
   each_since old mid new (Some e) first told = λ other. faults_then old mid new first (told other)

@@ -1,4 +1,4 @@
--- A part that was refused, and clusters that are freed behind the refusal.
+-- A part is refused, and clusters are freed after the refusal.
 use Rattle.std.proofs.Common.{◌≡◌, ℕ, inl, inr, List, sym, subst}
 use Rattle.std.specs.Prelude.{Option}
 use Rattle.image_access.specs.Backing.{BackingView}
@@ -13,14 +13,14 @@ use Rattle.qcow2_image.specs.declared.prepared.Prepared.{Prepared}
 use Rattle.qcow2_image.specs.Found.{l1_index_of}
 use Rattle.qcow2_image.specs.ImageInvariant.{ImageInvariant, pending_in}
 use Rattle.qcow2_image.specs.NewTables.{IsFaultOrLacksTable, MayName}
-use Rattle.qcow2_image.specs.Refusals.{FreesRefused, IsMet, IsMetPreparing}
-use Rattle.qcow2_image.proofs.Prepare.Entering.{may_still}
+use Rattle.qcow2_image.specs.Refusals.{FreesRefused, MayFail, MayFailPreparing}
+use Rattle.qcow2_image.proofs.Prepare.UnlinkedL2Table.{may_still}
 
--- the refusal that is answered behind that is met by the work, where the other one was, and is no prepared table
-pub met_freed : (e e' : ImageError) → IsMet e → (IsMetPreparing e → IsMetPreparing e') → (IsMetPreparing e → e' ≡ TablePrepared → e ≡ TablePrepared) → IsMet e'
-met_freed e e' met cause taken = elim (cause (inl met)) [
+-- the refusal that is reported afterwards comes during the work if the first one did, and is not 9
+pub met_freed : (e e' : ImageError) → MayFail e → (MayFailPreparing e → MayFailPreparing e') → (MayFailPreparing e → e' ≡ TablePrepared → e ≡ TablePrepared) → MayFail e'
+met_freed e e' may_fail cause taken = elim (cause (inl may_fail)) [
   | inl is ↦ is
-  | inr prepared ↦ absurd (subst IsMet (taken (inl met) prepared) met)
+  | inr prepared ↦ absurd (subst MayFail (taken (inl may_fail) prepared) may_fail)
 ]
 
 module _ {S F : Type 0} (view : S → StorageView) (backing : F → BackingView) (out : List (Option Prepared)) (old mid new : Qcow2 S F) (e e' : ImageError)

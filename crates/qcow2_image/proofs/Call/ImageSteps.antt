@@ -1,17 +1,13 @@
--- One part of a call after another leaves an image as each of them does.
+-- Parts of a call one after another leave an image as each of them does.
 use Rattle.std.proofs.Common.{refl, ◌∙◌}
-use Rattle.std.specs.Prelude.{Result}
-use Rattle.image_access.specs.Backing.{BackingView}
 use Rattle.image_access.specs.Moments.{StorageView}
-use Rattle.qcow2_alloc.specs.declared.error.ImageError.{ImageError}
 use Rattle.qcow2_alloc.proofs.KeptMarks.{notes_none, notes_then}
-use Rattle.qcow2_image.specs.ClearingCalls.{PartStep}
 use Rattle.qcow2_image.specs.Image.{ImageStays}
-use Rattle.qcow2_image.specs.ImageSteps.{ImageStep}
+use Rattle.qcow2_image.specs.ImageSteps.{ImageStep, ImageStepWhere}
 use Rattle.qcow2_image.specs.declared.image.Qcow2.{Qcow2}
 use Rattle.qcow2_image.proofs.Call.BehindHeader.{behind_none, behind_then}
 
-stays_then : {S F : Type 0} {a b c : Qcow2 S F} → ImageStays a b → ImageStays b c → ImageStays a c
+pub stays_then : {S F : Type 0} {a b c : Qcow2 S F} → ImageStays a b → ImageStays b c → ImageStays a c
 stays_then first then = record {
   image = record {
     number = then.image.number ∙ first.image.number;
@@ -33,6 +29,6 @@ module _ {S F : Type 0} {view : S → StorageView} where
     header_cluster = behind_then first.header_cluster then.header_cluster;
   }
 
-  -- a part of a clearing
-  pub step_of_part : {backing : F → BackingView} {a b : Qcow2 S F} {result : Result (Unit {0}) ImageError} → PartStep view backing a b result → ImageStep view a b
-  step_of_part part = record { stays = part.stays; notes = part.notes; header_cluster = part.header_cluster }
+  -- one without a condition
+  pub step_where : {premise : Type 0} {a b : Qcow2 S F} → ImageStep view a b → ImageStepWhere view premise a b
+  step_where step = record { stays = step.stays; notes = step.notes; header_cluster = λ _. step.header_cluster }

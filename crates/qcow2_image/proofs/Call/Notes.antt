@@ -1,4 +1,4 @@
--- Steps that leave the storage alone keep what is noted of changes.
+-- Steps that leave the storage the same keep recorded changes.
 use Rattle.std.proofs.Common.{◌≡◌, sym, subst}
 use Rattle.image_access.specs.Moments.{StorageView}
 use Rattle.qcow2_alloc.specs.CachePins.{CountsTableChanges, KeepsPinsAndNotes}

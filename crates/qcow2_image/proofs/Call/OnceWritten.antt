@@ -1,4 +1,4 @@
--- A call begins with no note, does parts that keep the notes, and marks a failure: want of memory fails the image just where a change was counted.
+-- A call begins with no recorded change, does parts that record their changes, and marks a failure: if memory runs out, the image fails exactly if a change was counted.
 use Rattle.std.proofs.Common.{◌≡◌, ◌⊎◌, ℕ, ◌<◌, ◌≤◌, Bool, true, false, Ok, Err, inl, inr, refl, sym, ap, ◌∙◌, subst, arith}
 use Rattle.std.specs.Prelude.{IsTrue, Result, ◌||◌}
 use Rattle.std.proofs.lemmas.Bool.{or_cases, or_left, or_right}
@@ -15,7 +15,7 @@ use Rattle.qcow2_alloc.specs.declared.image_file.ImageFile.{ImageFile}
 use Rattle.qcow2_alloc.specs.declared.image_storage.ImageStorage.{ImageStorage}
 use Rattle.qcow2_image.specs.declared.image.Qcow2.{Qcow2}
 use Rattle.qcow2_image.specs.Image.{IsBegun, has_noted_change, is_failed, with_marks}
-use Rattle.qcow2_image.specs.Noted.{ChangesRose, CommitFailsOnceWritten, CountsImageChanges, FailsOnceWritten, HasMoreChanges, MarksOnceChanged, NoFewerChanges, NotesChanges, NotesPart}
+use Rattle.qcow2_image.specs.Noted.{ChangesRose, CommitFailsOnceWritten, CountsImageChanges, FailsOnceWritten, HasMoreChanges, MarksOnceChanged, NoFewerChanges, RecordsChanges, RecordsPart}
 use Rattle.qcow2_image.specs.Ranges.{ReleasesOneMapping}
 use Rattle.qcow2_image.specs.declared.prepared.CommitRefused.{CommitRefused}
 use Rattle.qcow2_image.specs.Refusals.{MarksFailed}
@@ -27,9 +27,9 @@ rose_later a b c le rose = le_trans rose le
 rose_before : (a b c : ℕ) → a ≤ b → Rose b c → Rose a c
 rose_before a b c le rose = omega (arith, le, rose)
 
--- what was counted anew is noted
+-- a newly counted change is recorded
 counted_noted : (was is : Bool) (before now : ℕ) → CountsChanges was before is now → before < now → IsTrue is
-counted_noted was is before now counts more = elim counts.on [ inl same ↦ absurd (omega (arith, same, more)) | inr noted ↦ noted ]
+counted_noted was is before now counts more = elim counts.on [ inl same ↦ absurd (omega (arith, same, more)) | inr recorded ↦ recorded ]
 
 module _ {S F : Type 0} where
   -- ---- numbers of changes
@@ -53,8 +53,8 @@ module _ {S F : Type 0} where
 
 module _ {S F : Type 0} (view : S → StorageView) where
   -- ---- nothing at all was done
-  pub part_none : (image : Qcow2 S F) → NotesPart view image image
-  part_none image = record { honest = λ h. h; no_fewer = fewer_none image; why = λ noted. inl noted; contents = λ none few honest. refl }
+  pub part_none : (image : Qcow2 S F) → RecordsPart view image image
+  part_none image = record { honest = λ h. h; no_fewer = fewer_none image; why = λ recorded. inl recorded; contents = λ none few honest. refl }
 
   pub once_none : (image : Qcow2 S F) → MarksOnceChanged view image image
   once_none image = record {
@@ -73,7 +73,7 @@ module _ {S F : Type 0} (view : S → StorageView) where
   commit_fails_none image (Ok done) = record { counts = counts_still image; memory = tt }
   commit_fails_none image (Err refused) = record { counts = counts_still image; memory = λ memory. once_none image }
 
-  -- ---- one call behind another, and one that was answered
+  -- ---- one call after another, and one that was answered
   pub counts_on : (a b c : Qcow2 S F) → CountsImageChanges view a b → CountsImageChanges view b c → CountsImageChanges view a c
   counts_on a b c first next = record {
     no_fewer = fewer_then a b c first.no_fewer next.no_fewer;
@@ -84,7 +84,7 @@ module _ {S F : Type 0} (view : S → StorageView) where
   pub answered_counts : {A : Type 0} (old new : Qcow2 S F) (x : A) → CountsImageChanges view old new → FailsOnceWritten view old new (Ok x)
   answered_counts old new x counts = record { counts = counts; memory = λ bad. absurd (cc) }
 
-  pub counts_noted : (old new : Qcow2 S F) → NotesChanges view old new → CountsImageChanges view old new
+  pub counts_noted : (old new : Qcow2 S F) → RecordsChanges view old new → CountsImageChanges view old new
   counts_noted old new notes = record { no_fewer = notes.no_fewer; honest = notes.honest; contents = notes.contents }
 
   -- a mapping was let go
@@ -97,21 +97,21 @@ module _ {S F : Type 0} (view : S → StorageView) where
         contents = λ few honest. ap (λ (s : ImageStorage S). (view (storage_of s)).contents) storage;
       }
 
-  -- ---- a part that keeps the notes
+  -- ---- a part that keeps recorded changes
   module _ (old new : Qcow2 S F) (kept : KeepsFileNotes view old.file new.file) where
     pub kept_fewer : NoFewerChanges old new
     kept_fewer = record { storage = kept.storage.changes.no_fewer; tables = kept.tables.no_fewer }
 
     pub kept_why : IsTrue (has_noted_change new) → IsTrue (has_noted_change old) ⊎ ChangesRose old new
-    kept_why noted = elim (or_cases (is_changed_of new.file.storage) new.file.caches.is_changed noted) [
+    kept_why recorded = elim (or_cases (is_changed_of new.file.storage) new.file.caches.is_changed recorded) [
       | inl storage ↦ elim (kept.storage.changes.why storage) [ inl was ↦ inl (or_left (is_changed_of old.file.storage) old.file.caches.is_changed was) | inr rose ↦ inr (inl rose) ]
       | inr tables ↦ elim (kept.tables.why tables) [ inl was ↦ inl (or_right (is_changed_of old.file.storage) old.file.caches.is_changed was) | inr rose ↦ inr (inr rose) ]
     ]
 
     pub kept_noted : IsTrue (has_noted_change old) → IsTrue (has_noted_change new)
-    kept_noted noted = elim (or_cases (is_changed_of old.file.storage) old.file.caches.is_changed noted) [
-      | inl storage ↦ or_left (is_changed_of new.file.storage) new.file.caches.is_changed (kept.storage.changes.noted storage)
-      | inr tables ↦ or_right (is_changed_of new.file.storage) new.file.caches.is_changed (kept.tables.noted tables)
+    kept_noted recorded = elim (or_cases (is_changed_of old.file.storage) old.file.caches.is_changed recorded) [
+      | inl storage ↦ or_left (is_changed_of new.file.storage) new.file.caches.is_changed (kept.storage.changes.recorded storage)
+      | inr tables ↦ or_right (is_changed_of new.file.storage) new.file.caches.is_changed (kept.tables.recorded tables)
     ]
 
     pub kept_counted : HasMoreChanges old new → IsTrue (has_noted_change new)
@@ -121,43 +121,43 @@ module _ {S F : Type 0} (view : S → StorageView) where
     ]
 
     kept_contents : ¬ IsTrue (has_noted_change new) → ContentsStay (view_in view old.file) (view_in view new.file)
-    kept_contents none = kept.storage.contents (λ noted. none (or_left (is_changed_of new.file.storage) new.file.caches.is_changed noted))
+    kept_contents none = kept.storage.contents (λ recorded. none (or_left (is_changed_of new.file.storage) new.file.caches.is_changed recorded))
 
-  -- one that tells nothing as data
-  pub notes_part : (old new : Qcow2 S F) → KeepsFileNotes view old.file new.file → NotesPart view old new
+  -- one that writes nothing as data
+  pub notes_part : (old new : Qcow2 S F) → KeepsFileNotes view old.file new.file → RecordsPart view old new
   notes_part old new kept = record {
     honest = kept.storage.honest;
     no_fewer = kept_fewer old new kept;
     why = kept_why old new kept;
-    contents = λ none few. kept_contents old new kept (λ noted. elim (kept_why old new kept noted) [ inl was ↦ none was | inr rose ↦ few rose ]);
+    contents = λ none few. kept_contents old new kept (λ recorded. elim (kept_why old new kept recorded) [ inl was ↦ none was | inr rose ↦ few rose ]);
   }
 
-  -- ---- one part behind another, and a part behind a call
-  pub parts_then : (a b c : Qcow2 S F) → NotesPart view a b → NotesPart view b c → NotesPart view a c
+  -- ---- one part after another, and a part after a call
+  pub parts_then : (a b c : Qcow2 S F) → RecordsPart view a b → RecordsPart view b c → RecordsPart view a c
   parts_then a b c first then' = record {
     honest = λ h. then'.honest (first.honest h);
     no_fewer = fewer_then a b c first.no_fewer then'.no_fewer;
-    why = λ noted. elim (then'.why noted) [
+    why = λ recorded. elim (then'.why recorded) [
       | inl was ↦ elim (first.why was) [ inl before ↦ inl before | inr rose ↦ inr (changes_later a b c then'.no_fewer rose) ]
       | inr rose ↦ inr (changes_before a b c first.no_fewer rose)
     ];
     contents = λ none few honest.
         let few_first : ¬ ChangesRose a b = λ rose. few (changes_later a b c then'.no_fewer rose) in
-        then'.contents (λ noted. elim (first.why noted) [ inl was ↦ none was | inr rose ↦ few_first rose ]) (λ rose. few (changes_before a b c first.no_fewer rose)) (first.honest honest)
+        then'.contents (λ recorded. elim (first.why recorded) [ inl was ↦ none was | inr rose ↦ few_first rose ]) (λ rose. few (changes_before a b c first.no_fewer rose)) (first.honest honest)
         ∙ first.contents none few_first honest;
   }
 
-  pub call_then : (a b c : Qcow2 S F) → NotesChanges view a b → NotesPart view b c → NotesChanges view a c
+  pub call_then : (a b c : Qcow2 S F) → RecordsChanges view a b → RecordsPart view b c → RecordsChanges view a c
   call_then a b c first then' = record {
     honest = λ h. then'.honest (first.honest h);
     no_fewer = fewer_then a b c first.no_fewer then'.no_fewer;
-    why = λ noted. elim (then'.why noted) [
+    why = λ recorded. elim (then'.why recorded) [
       | inl was ↦ changes_later a b c then'.no_fewer (first.why was)
       | inr rose ↦ changes_before a b c first.no_fewer rose
     ];
     contents = λ few honest.
         let few_first : ¬ ChangesRose a b = λ rose. few (changes_later a b c then'.no_fewer rose) in
-        then'.contents (λ noted. few_first (first.why noted)) (λ rose. few (changes_before a b c first.no_fewer rose)) (first.honest honest)
+        then'.contents (λ recorded. few_first (first.why recorded)) (λ rose. few (changes_before a b c first.no_fewer rose)) (first.honest honest)
         ∙ first.contents few_first honest;
   }
 
@@ -167,8 +167,8 @@ module _ {S F : Type 0} (view : S → StorageView) where
     tables_same = ap (λ (c : MetadataCaches S). c.changes) begins.caches
 
     pub nothing_noted : ¬ IsTrue (has_noted_change begun)
-    nothing_noted noted = elim (or_cases (is_changed_of begun.file.storage) begun.file.caches.is_changed noted) [
-      | inl storage ↦ absurd (let bad : false ≡ true = sym begins.unnoted ∙ storage in cc)
+    nothing_noted recorded = elim (or_cases (is_changed_of begun.file.storage) begun.file.caches.is_changed recorded) [
+      | inl storage ↦ absurd (let bad : false ≡ true = sym begins.unrecorded ∙ storage in cc)
       | inr tables ↦ absurd (let bad : false ≡ true = sym (ap (λ (c : MetadataCaches S). c.is_changed) begins.caches) ∙ tables in cc)
     ]
 
@@ -185,21 +185,21 @@ module _ {S F : Type 0} (view : S → StorageView) where
     ]
 
     -- and does a part
-    pub notes_begun : (new : Qcow2 S F) → NotesPart view begun new → NotesChanges view old new
+    pub notes_begun : (new : Qcow2 S F) → RecordsPart view begun new → RecordsChanges view old new
     notes_begun new part = record {
       honest = λ h. part.honest (subst (λ (s : S). (view s).is_honest) (sym begins.storage) h);
       no_fewer = record {
         storage = subst (λ n. n ≤ changes_of new.file.storage) begins.counts part.no_fewer.storage;
         tables = subst (λ n. n ≤ new.file.caches.changes) tables_same part.no_fewer.tables;
       };
-      why = λ noted. elim (part.why noted) [ inl was ↦ absurd (nothing_noted was) | inr rose ↦ rose_begun new rose ];
+      why = λ recorded. elim (part.why recorded) [ inl was ↦ absurd (nothing_noted was) | inr rose ↦ rose_begun new rose ];
       contents = λ few. subst (λ (s : S). ContentsStay (view s) (view_in view new.file)) begins.storage (part.contents nothing_noted (λ rose. few (rose_begun new rose)));
     }
 
-    pub part_of_call : (new : Qcow2 S F) → NotesChanges view old new → NotesPart view old new
-    part_of_call new call = record { honest = call.honest; no_fewer = call.no_fewer; why = λ noted. inr (call.why noted); contents = λ none. call.contents }
+    pub part_of_call : (new : Qcow2 S F) → RecordsChanges view old new → RecordsPart view old new
+    part_of_call new call = record { honest = call.honest; no_fewer = call.no_fewer; why = λ recorded. inr (call.why recorded); contents = λ none. call.contents }
 
-    pub notes_since : (new : Qcow2 S F) → KeepsFileNotes view begun.file new.file → NotesPart view old new
+    pub notes_since : (new : Qcow2 S F) → KeepsFileNotes view begun.file new.file → RecordsPart view old new
     notes_since new kept = part_of_call new (notes_begun new (notes_part begun new kept))
 
     pub counts_begun : (new : Qcow2 S F) → KeepsFileNotes view begun.file new.file → CountsImageChanges view old new
@@ -210,7 +210,7 @@ module _ {S F : Type 0} (view : S → StorageView) where
       };
       honest = λ h. kept.storage.honest (subst (λ (s : S). (view s).is_honest) (sym begins.storage) h);
       contents = λ few. subst (λ (s : S). ContentsStay (view s) (view_in view new.file)) begins.storage
-          (kept_contents begun new kept (λ noted. elim (kept_why begun new kept noted) [ inl was ↦ nothing_noted was | inr rose ↦ few (rose_begun new rose) ]));
+          (kept_contents begun new kept (λ recorded. elim (kept_why begun new kept recorded) [ inl was ↦ nothing_noted was | inr rose ↦ few (rose_begun new rose) ]));
     }
 
     -- where it is marked at its end, and wasn't before
@@ -218,10 +218,10 @@ module _ {S F : Type 0} (view : S → StorageView) where
     once_marked {A} mid new done kept same marks is =
         let mark : is_failed new ≡ (is_failed mid || has_noted_change new) = subst (λ (r : Result A ImageError). MarksFailed mid new r) is marks in
         record {
-          contents = λ works. subst (λ (s : S). ContentsStay (view s) (view_in view new.file)) begins.storage (kept_contents begun new kept (λ noted. works (mark ∙ or_right (is_failed mid) (has_noted_change new) noted)));
+          contents = λ works. subst (λ (s : S). ContentsStay (view s) (view_in view new.file)) begins.storage (kept_contents begun new kept (λ recorded. works (mark ∙ or_right (is_failed mid) (has_noted_change new) recorded)));
           changed = λ failed. elim (or_cases (is_failed mid) (has_noted_change new) (sym mark ∙ failed)) [
             | inl was ↦ inl (sym same ∙ was)
-            | inr noted ↦ elim (kept_why begun new kept noted) [ inl before ↦ absurd (nothing_noted before) | inr rose ↦ inr (rose_begun new rose) ]
+            | inr recorded ↦ elim (kept_why begun new kept recorded) [ inl before ↦ absurd (nothing_noted before) | inr rose ↦ inr (rose_begun new rose) ]
           ];
           marked = λ more. mark ∙ or_right (is_failed mid) (has_noted_change new) (kept_counted begun new kept (more_begun new more));
         }
@@ -239,13 +239,13 @@ module _ {S F : Type 0} (view : S → StorageView) where
     pub answered_once : {B : Type 0} (last new : Qcow2 S F) → KeepsFileNotes view begun.file last.file → new ≡ record last { is_failed = new.is_failed } → (x : B) → FailsOnceWritten view old new (Ok x)
     answered_once last new kept rest x = answered_counts old new x (counts_begun new (subst (λ (f : ImageFile S). KeepsFileNotes view begun.file f) (sym (ap (λ (i : Qcow2 S F). i.file) rest)) kept))
 
-  -- Where all was done before it is marked, and it is noted whether anything was counted since the call began.
-  marks_refused : {A : Type 0} (old last new : Qcow2 S F) (done : Result A ImageError) → NotesChanges view old last → (done ≡ Err Memory → IsTrue (is_failed last) → IsTrue (is_failed old) ⊎ ChangesRose old last)
+  -- Everything was done before the image is marked, and whether a change was counted since the call began is recorded.
+  marks_refused : {A : Type 0} (old last new : Qcow2 S F) (done : Result A ImageError) → RecordsChanges view old last → (done ≡ Err Memory → IsTrue (is_failed last) → IsTrue (is_failed old) ⊎ ChangesRose old last)
       → new ≡ with_marks last (is_changed_of new.file.storage) (is_failed new) → (ChangesRose old last → IsTrue (has_noted_change new)) → (IsTrue (has_noted_change new) → IsTrue (has_noted_change last) ⊎ ChangesRose old last)
       → MarksFailed last new done → done ≡ Err Memory → MarksOnceChanged view old new
-  marks_refused {A} old last new done notes failed_last rest noted why marks is =
+  marks_refused {A} old last new done notes failed_last rest recorded why marks is =
       let mark : is_failed new ≡ (is_failed last || has_noted_change new) = subst (λ (r : Result A ImageError). MarksFailed last new r) is marks in
-      let marked : ChangesRose old last → IsTrue (is_failed new) = λ rose. mark ∙ or_right (is_failed last) (has_noted_change new) (noted rose) in
+      let marked : ChangesRose old last → IsTrue (is_failed new) = λ rose. mark ∙ or_right (is_failed last) (has_noted_change new) (recorded rose) in
       record {
         contents = λ works. subst (λ (i : Qcow2 S F). ContentsStay (view_in view old.file) (view_in view i.file)) (sym rest) (notes.contents (λ rose. works (marked rose)));
         changed = λ failed. subst (λ (i : Qcow2 S F). IsTrue (is_failed old) ⊎ ChangesRose old i) (sym rest) (elim (or_cases (is_failed last) (has_noted_change new) (sym mark ∙ failed)) [
@@ -258,16 +258,16 @@ module _ {S F : Type 0} (view : S → StorageView) where
       more_rose : (a b : Qcow2 S F) → HasMoreChanges a b → ChangesRose a b
       more_rose a b more = elim more [ inl lt ↦ inl (omega (arith, lt)) | inr lt ↦ inr (omega (arith, lt)) ]
 
-  pub refused_once : {A : Type 0} (old last new : Qcow2 S F) (done : Result A ImageError) → NotesChanges view old last → (done ≡ Err Memory → IsTrue (is_failed last) → IsTrue (is_failed old) ⊎ ChangesRose old last)
+  pub refused_once : {A : Type 0} (old last new : Qcow2 S F) (done : Result A ImageError) → RecordsChanges view old last → (done ≡ Err Memory → IsTrue (is_failed last) → IsTrue (is_failed old) ⊎ ChangesRose old last)
       → new ≡ with_marks last (is_changed_of new.file.storage) (is_failed new) → (ChangesRose old last → IsTrue (has_noted_change new)) → (IsTrue (has_noted_change new) → IsTrue (has_noted_change last) ⊎ ChangesRose old last)
       → MarksFailed last new done → FailsOnceWritten view old new done
-  refused_once old last new done notes failed_last rest noted why marks = record {
+  refused_once old last new done notes failed_last rest recorded why marks = record {
     counts = subst (λ (i : Qcow2 S F). CountsImageChanges view old i) (sym rest) (record { no_fewer = record { storage = notes.no_fewer.storage; tables = notes.no_fewer.tables }; honest = notes.honest; contents = notes.contents });
-    memory = marks_refused old last new done notes failed_last rest noted why marks;
+    memory = marks_refused old last new done notes failed_last rest recorded why marks;
   }
 
 -- what a refused part of a call marked
 pub failed_part : {S F A : Type 0} (old new : Qcow2 S F) (done : Result A ImageError) → (IsTrue (has_noted_change new) → ChangesRose old new) → MarksFailed old new done → done ≡ Err Memory → IsTrue (is_failed new) → IsTrue (is_failed old) ⊎ ChangesRose old new
 failed_part {A = A} old new done why marks is failed =
     let mark : is_failed new ≡ (is_failed old || has_noted_change new) = subst (λ (r : Result A ImageError). MarksFailed old new r) is marks in
-    elim (or_cases (is_failed old) (has_noted_change new) (sym mark ∙ failed)) [ inl was ↦ inl was | inr noted ↦ inr (why noted) ]
+    elim (or_cases (is_failed old) (has_noted_change new) (sym mark ∙ failed)) [ inl was ↦ inl was | inr recorded ↦ inr (why recorded) ]

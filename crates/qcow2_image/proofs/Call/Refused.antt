@@ -1,4 +1,4 @@
--- A call that was refused: all is as before but for what is to be freed, or it broke off.
+-- A refused call: everything is as before except for the clusters to free, or a fault interrupted the call.
 use Rattle.std.proofs.Common.{◌≡◌, ◌⊎◌, ⊎_elim, inl, inr, ℕ, Bool, true, false, List, [], Option, Some, refl, sym, ap, ◌∙◌, subst, arith}
 use Rattle.std.specs.Prelude.{Result, Ok, Err, IsTrue, slice_set}
 use Rattle.image_access.specs.Backing.{BackingView}
@@ -23,16 +23,16 @@ use Rattle.qcow2_image.proofs.Call.Marked.{MayMark}
 use Rattle.qcow2_image.specs.CallParts.{InternalCall, InterruptedCall, RefusedCall, FindsTable, IsReadied, PreparesRange}
 use Rattle.qcow2_image.specs.InternalSteps.{InterruptedStep, Ensures, InternalFillingStep, RefusedFillingStep, InternalStep, RefusedStep, pending_with_listed}
 use Rattle.qcow2_image.specs.ImageInvariant.{of_data, of_tables, to_free, pending_in, abstract_of, meaning, below_of, ImageInvariant}
-use Rattle.qcow2_image.proofs.Moved.{file_step_then, format_file_step, stay_then, format_stay}
-use Rattle.qcow2_image.proofs.Sound.{free_more}
+use Rattle.qcow2_image.proofs.Images.Moved.{file_step_then, format_file_step, stay_then, format_stay}
+use Rattle.qcow2_image.proofs.Images.Sound.{free_more}
 use Rattle.qcow2_image.proofs.Call.Answered.{same_setting, same_now, sound_now, works_now}
 use Rattle.qcow2_image.proofs.Call.CallOutcomes.{is_fault, outcome, outcome_refused}
 use Rattle.qcow2_image.proofs.Call.Stepped.{Steps, stepped_sound, stepped_works}
-use Rattle.qcow2_image.proofs.UngivenCovers.{all_stay}
+use Rattle.qcow2_image.proofs.Images.UngivenCovers.{all_stay}
 
--- a fault, or want of memory that was noted, marks the image
-pub marks_fault : (e : ImageError) (before marked noted : Bool) → FaultOfTables e → (e ≡ I.Memory → IsTrue noted) → MayMark e before marked → (e ≡ I.Memory → IsTrue noted → IsTrue marked) → IsTrue marked × IsRefusalByFault (refusal_of e)
-marks_fault e before marked noted fault is marks memory = ⊎_elim
+-- an I/O error, or a failed allocation after a recorded change, marks the image
+pub marks_fault : (e : ImageError) (before marked recorded : Bool) → FaultOfTables e → (e ≡ I.Memory → IsTrue recorded) → MayMark e before marked → (e ≡ I.Memory → IsTrue recorded → IsTrue marked) → IsTrue marked × IsRefusalByFault (refusal_of e)
+marks_fault e before marked recorded fault is marks memory = ⊎_elim
     (λ (failed : e ≡ I.Storage). (subst (λ (x : ImageError). MayMark x before marked) failed marks, subst (λ (x : ImageError). IsRefusalByFault (refusal_of x)) (sym failed) tt))
     (λ (want : e ≡ I.Memory). (memory want (is want), subst (λ (x : ImageError). IsRefusalByFault (refusal_of x)) (sym want) tt)) fault
 
@@ -55,7 +55,7 @@ module _ {S F : Type 0} (view : S → StorageView) (backing : F → BackingView)
   pub break_off_so : (old new : Qcow2 S F) (e : ImageError) → InterruptedFileStep view old.file new.file e → cluster_size new.file.header.fields ≡ cluster_size old.file.header.fields → below_of view backing new.backing ≡ below_of view backing old.backing → leaked_in new ≡ leaked_in old → InterruptedCall view backing old new out e
   break_off_so old new e interrupted size below leaks = record {
     fault = interrupted.fault;
-    noted = interrupted.noted;
+    recorded = interrupted.recorded;
     works = record {
       setting = same_setting _ _ size below;
       surplus = λ now. absurd (let f : true ≡ false = now.works in cc);
@@ -83,7 +83,7 @@ module _ {S F : Type 0} (view : S → StorageView) (backing : F → BackingView)
     refused_then e (inl stays) = inl (stays_then stays)
     refused_then e (inr interrupted) = inr (record {
       fault = interrupted.fault;
-      noted = interrupted.noted;
+      recorded = interrupted.recorded;
       works = works_then (abstract_of view backing a out) (abstract_of view backing b out) (abstract_of view backing (record c { is_failed = true }) out) [] [] first.sound first.works interrupted.works;
     })
 
@@ -162,7 +162,7 @@ module _ {S F : Type 0} (view : S → StorageView) (backing : F → BackingView)
 
     module _ (memory : e ≡ I.Memory → IsTrue (has_noted_change new) → IsTrue marked) where
       is_marked : InterruptedCall view backing old new out e → IsTrue marked × IsRefusalByFault (refusal_of e)
-      is_marked interrupted = marks_fault e (is_failed new) marked (has_noted_change new) interrupted.fault interrupted.noted marks memory
+      is_marked interrupted = marks_fault e (is_failed new) marked (has_noted_change new) interrupted.fault interrupted.recorded marks memory
 
       refused_works : RefusedCall view backing old new out e → ImageInvariant view backing (pending_in view backing old out) old out → EffectOnSound (abstract_of view backing old out) (abstract_of view backing failed_now out) [] []
       refused_works (inl stays) sound = (refuses_stayed stays).acts.works sound

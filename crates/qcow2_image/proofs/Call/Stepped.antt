@@ -1,4 +1,4 @@
--- What a call does, from one step of the driver and the mappings that are out then.
+-- What a call does, from one step of the driver and the mappings that are prepared afterwards.
 use Rattle.std.proofs.Common.{◌≡◌, List, [], sym, ap, ◌∙◌, subst}
 use Rattle.std.specs.Prelude.{Option}
 use Rattle.image_access.specs.Backing.{BackingView}
@@ -17,7 +17,7 @@ use Rattle.qcow2_image.specs.declared.image.Qcow2.{Qcow2}
 use Rattle.qcow2_image.specs.declared.prepared.Prepared.{Prepared}
 use Rattle.qcow2_image.specs.ImageInvariant.{backing_bytes, below_of, ImageInvariant, pending_in, abstract_of}
 use Rattle.qcow2_image.proofs.Call.Answered.{same_setting}
-use Rattle.qcow2_image.proofs.Sound.{IsOnly, pending_is}
+use Rattle.qcow2_image.proofs.Images.Sound.{IsOnly, pending_is}
 use Rattle.qcow2_image.specs.Image.{leaked_in}
 use Rattle.qcow2_disk.proofs.Compose.{stops_of}
 

@@ -1,4 +1,4 @@
--- Refusals that meet no limit.
+-- Refusals that are not limits.
 use Rattle.std.proofs.Common.{◌≡◌, inl, inr, refl, sym, subst}
 use Rattle.image_access.specs.declared.error.StorageError.{StorageError}
 use Rattle.image_access.specs.declared.error.StorageError.TheVariants as S
@@ -10,7 +10,7 @@ use Rattle.qcow2_alloc.specs.ImageError.{IsFault, of_metadata, of_storage}
 use Rattle.qcow2_alloc.specs.declared.cache.MetadataCaches.{MetadataCaches}
 use Rattle.qcow2_alloc.specs.declared.error.ImageError.{ImageError}
 use Rattle.qcow2_alloc.specs.declared.error.ImageError.TheVariants as I
-use Rattle.qcow2_image.specs.MetAlone.{IsMetLooking}
+use Rattle.qcow2_image.specs.MayFail.{MayFailLooking}
 use Rattle.qcow2_image.specs.Refusals.{IsUnlimited}
 
 pub storage_fault : (e : StorageError) → IsFault (of_storage e)
@@ -32,7 +32,7 @@ pub in_use_unlimited : {S : Type 0} (caches : MetadataCaches S) (e : ImageError)
 in_use_unlimited caches e (inl used) = subst IsUnlimited (sym used.0) tt
 in_use_unlimited caches e (inr fault) = fault_unlimited e fault
 
-pub looking_unlimited : {Held : Type 0} (e : ImageError) → IsMetLooking Held e → IsUnlimited e
+pub looking_unlimited : {Held : Type 0} (e : ImageError) → MayFailLooking Held e → IsUnlimited e
 looking_unlimited e (inl fault) = fault_unlimited e fault
 looking_unlimited e (inr used) = subst IsUnlimited (sym used.0) tt
 

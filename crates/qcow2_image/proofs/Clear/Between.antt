@@ -33,11 +33,11 @@ use Rattle.qcow2_image.specs.Found.{l1_index_of, l2_index_of}
 use Rattle.qcow2_image.specs.ImageInvariant.{IsPending, IsReadyWith, abstract_of, disk_of, listed_run, pending_in, pins_by}
 use Rattle.qcow2_image.specs.MovedTables.{MovesTables, CoversStay}
 use Rattle.qcow2_image.specs.InternalSteps.{HoldsTable}
-use Rattle.qcow2_image.proofs.Apart.{pins_own}
+use Rattle.qcow2_image.proofs.Images.Apart.{pins_own}
 use Rattle.qcow2_image.proofs.Clear.Cleared.{all_cleared}
-use Rattle.qcow2_image.proofs.Moved.{file_step_then}
-use Rattle.qcow2_image.proofs.Prepare.Taken.{in_same, keeper}
-use Rattle.qcow2_image.proofs.Shares.{over_all_at}
+use Rattle.qcow2_image.proofs.Images.Moved.{file_step_then}
+use Rattle.qcow2_image.proofs.Prepare.RefusedAsPrepared.{in_same, keeper}
+use Rattle.qcow2_image.proofs.Images.ClusterMappings.{over_all_at}
 
 -- ---- numbers
 module _ (size row : ℕ) (some : 0 < size) where
@@ -165,7 +165,7 @@ module _ {S F : Type 0} (view : S → StorageView) (backing : F → BackingView)
         ],
       )
 
--- a cluster that so many clusters behind one has its entry in the same table
+-- a cluster that so many clusters after one has its entry in the same table
 pub entry_behind : (h : HeaderFields) (known : Bytes) (table first n k i : ℕ) → IsEntryAt h known i table (first % entries_per_cluster h) → first / entries_per_cluster h ≡ i → first % entries_per_cluster h + n ≤ entries_per_cluster h → k < n
     → IsEntryAt h known i table ((first + k) % entries_per_cluster h) × ((first + k) / entries_per_cluster h ≡ i)
 entry_behind h known table first n k i at here fits lt =
@@ -206,13 +206,13 @@ module _ {S F : Type 0} (view : S → StorageView) (backing : F → BackingView)
           shows = part.shows ∙ ap (λ (d : Disk). with_disk (guest_of w) d) cleared_same ∙ ap (λ (g : Guest). with_disk g (cleared (setting_of view backing old) (disk_of view backing old) (shown_by how) from to)) first.same;
           header = file_step_then old.file.header.fields mid.file.header.fields new.file.header.fields first.header part.header;
           covers = covers_before how from to old.file.header.fields mid.file.header.fields new.file.header.fields (known_in view old.file) (known_in view mid.file) (known_in view new.file) first.header first.covers part.covers;
-          noted = part.noted;
+          recorded = part.recorded;
         }
 
   pub whole_format : (h h' : HeaderFields) (how : ClearMode) (from to : ℕ) → MovesTables h h' → IsClearable h how from to → IsClearable h' how from to
   whole_format h h' how from to format whole = subst (λ (x : HeaderFields). IsClearable x how from to) (sym format) (record { begins = whole.begins; ends = whole.ends; within = whole.within; version = whole.version })
 
-  -- the entries of whole clusters stand in one table
+  -- the entries of whole clusters lie in one table
   pub fits_table : (old mid : Qcow2 S F) (how : ClearMode) (from to : ℕ) → InternalCall view backing old mid out → IsClearable old.file.header.fields how from to → from < to
       → from / cluster_size mid.file.header.fields % entries_per_cluster mid.file.header.fields + (to - from) / cluster_size mid.file.header.fields ≤ entries_per_cluster mid.file.header.fields
   fits_table old mid how from to found whole_old lt =
@@ -277,7 +277,7 @@ module _ {S F : Type 0} (view : S → StorageView) (backing : F → BackingView)
     at_end : ClearsPart view backing how (g * cluster_size h) ((g + count) * cluster_size h) mid
         (record mid { file = record mid.file { caches = b.file.caches; free_list = mid.file.free_list ++ listed_by how h known g count } }) out
     at_end = all_cleared view backing how (l1_index_of h from) (l2_index_of h from) count mid b.file.caches out found.sound (clears.part out p (l1_index_of h from) may)
-        (clears.noted out p (l1_index_of h from) may (some_count (cluster_size h) (entries_per_cluster h) some_size from to whole.begins whole.ends lt))
+        (clears.recorded out p (l1_index_of h from) may (some_count (cluster_size h) (entries_per_cluster h) some_size from to whole.begins whole.ends lt))
 
     begins_at : g * cluster_size h ≡ from
     begins_at = ap (λ c. c * cluster_size h) g_is ∙ from_is (cluster_size h) (entries_per_cluster h) some_size from to whole.begins whole.ends lt

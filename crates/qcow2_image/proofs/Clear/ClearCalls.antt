@@ -1,4 +1,4 @@
--- Clearing as a call: it is answered, or refused and perhaps marked as failed.
+-- Clearing as a call: it succeeds, or is refused and perhaps marked as failed.
 use Rattle.std.proofs.Common.{◌≡◌, ◌⊎◌, inl, inr, ℕ, ◌+◌, ◌-◌, ◌<◌, ◌≤◌, Bool, true, false, List, [], ◌∷◌, Option, refl, sym, ap, ◌∙◌, subst, arith, min, cond}
 use Rattle.std.specs.Prelude.{IsTrue, IsErr, IsErrAnd, IfSome, MatchOption, Result, Ok, Err, Some, None, nat_lt, not, ◌&&◌}
 use Rattle.std.specs.Option.{option_or}
@@ -39,7 +39,7 @@ use Rattle.qcow2_image.proofs.Call.Refused.{refused_then, refuses_left, stays_ke
 use Rattle.qcow2_image.proofs.Call.CallOutcomes.{outcome_answered}
 use Rattle.qcow2_image.proofs.Clear.Between.{clears_after, whole_format}
 use Rattle.qcow2_image.proofs.Clear.Ranges.{from_whole, to_whole, to_within}
-use Rattle.qcow2_image.proofs.Sizes.{disk_size}
+use Rattle.qcow2_image.proofs.Images.Sizes.{disk_size}
 
 -- ---- what a check of the range answered
 pub err_is : {A : Type 0} {e : ImageError} (r : Result A ImageError) → IsErr r × IsErrAnd r (λ x. x ≡ e) → r ≡ Err e
@@ -205,7 +205,7 @@ module _ {S F : Type 0} (view : S → StorageView) (backing : F → BackingView)
       part_works : (out : List (Option Prepared)) (sound : ImageInvariant view backing (pending_in view backing old out) old out) → EffectOnSound (abstract_of view backing old out) (abstract_of view backing entries out) given_bytes []
       part_works out sound = subst (λ gs. EffectOnSound (abstract_of view backing old out) (abstract_of view backing entries out) gs []) (given_bytes_are out sound) (part out sound).works
 
-      -- what stands for guest clusters then
+      -- the mappings of guest clusters afterwards
       pub clear_covers : r ≡ Ok tt → (out : List (Option Prepared)) → ImageInvariant view backing (pending_in view backing old out) old out
           → ClearsImageCovers how (from_in old offset n) (to_in old offset n) old.file.header.fields (known_in view old.file) freed.file.header.fields (known_in view freed.file)
       clear_covers ok out sound =
@@ -232,7 +232,7 @@ module _ {S F : Type 0} (view : S → StorageView) (backing : F → BackingView)
           let e = abstract_of view backing entries out in
           let f = abstract_of view backing freed out in
           let ended : (sound : ImageInvariant view backing (pending_in view backing old out) old out) → EndsFreeing view backing entries freed out (Err x) = λ sound. subst (EndsFreeing view backing entries freed out) refused (ends out (part out sound).sound) in
-          let failed : (sound : ImageInvariant view backing (pending_in view backing old out) old out) → IsTrue (is_failed freed) = λ sound. (ended sound).2 (part out sound).noted in
+          let failed : (sound : ImageInvariant view backing (pending_in view backing old out) old out) → IsTrue (is_failed freed) = λ sound. (ended sound).2 (part out sound).recorded in
           record {
             acts = record {
               number = number;

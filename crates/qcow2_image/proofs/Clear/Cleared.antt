@@ -1,4 +1,4 @@
--- Entries of a held table are cleared one after another, and what they named is to be freed.
+-- Entries of a cached table are cleared one after another, and the clusters that they named wait to be freed.
 use Rattle.std.proofs.Common.{◌≡◌, inl, inr, ℕ, zero, suc, ◌+◌, ◌-◌, ◌*◌, ◌^◌, ◌<◌, ◌≤◌, true, false, List, [], ◌∷◌, ◌++◌, Option, refl, sym, ap, ◌∙◌, subst, arith, min}
 use Rattle.std.specs.Prelude.{IsSome, IsTrue, nat_le, nat_lt}
 use Rattle.std.proofs.lemmas.Bool.{cases_eq, cases_lt, and_from, and_left, and_right, cond-true, cond-false, le-leb, lt-leb, lt-ltb, le-ltb}
@@ -39,8 +39,8 @@ use Rattle.qcow2_image.proofs.Call.Stepped.{Steps, stepped_sound, stepped_works}
 use Rattle.qcow2_image.proofs.Clear.Entries.{OneCleared, one_cleared}
 use Rattle.qcow2_image.proofs.Commit.Committing.{listed_tables}
 use Rattle.qcow2_image.proofs.Open.Reftables.{reftable_still}
-use Rattle.qcow2_image.proofs.Sound.{free_more}
-use Rattle.qcow2_image.proofs.UngivenCovers.{ungiven_stay}
+use Rattle.qcow2_image.proofs.Images.Sound.{free_more}
+use Rattle.qcow2_image.proofs.Images.UngivenCovers.{ungiven_stay}
 use Rattle.qcow2_disk.specs.UngivenCovers.{IsUngiven}
 use Rattle.qcow2_alloc.proofs.FileInvariants.{file_invariant_of}
 
@@ -141,7 +141,7 @@ module _ {S F : Type 0} (view : S → StorageView) (backing : F → BackingView)
     marks = marks_none a.file.caches;
     new_data = λ some. some;
     part = λ out p row may. none_cleared how row column a out p may.sound;
-    noted = λ out p row may some. absurd (omega (arith, some));
+    recorded = λ out p row may some. absurd (omega (arith, some));
     behind = λ bits are. are;
   }
 
@@ -181,16 +181,16 @@ module _ {S F : Type 0} (view : S → StorageView) (backing : F → BackingView)
       marks = marks_then a.file.caches b.file.caches c.file.caches first.marks clears_here.marks;
       new_data = λ some. clears_here.new_data (first.new_data some);
       part = λ out p row may. next_cleared how t row column n a b.file.caches out p may (first.part out p row (fewer out p row may)) (first.new_data may.found) first.marks c (clears_at out p row may);
-      noted = λ out p row may some.
+      recorded = λ out p row may some.
           let so_far = first.part out p row (fewer out p row may) in
-          (clears_at out p row may).noted a.file.header.fields so_far.now (contents_in view a.file) row so_far.sound_now.file.caches
+          (clears_at out p row may).recorded a.file.header.fields so_far.now (contents_in view a.file) row so_far.sound_now.file.caches
           (record { real = λ none. may.real (sym so_far.table_stays ∙ none); place = so_far.table_stays ∙ may.place; within = let w = may.within in omega (arith, w) }) (first.new_data may.found);
       behind = λ bits are. clears_here.behind bits (first.behind bits are);
     }
 
   -- ---- all are, and what they named is to be freed
   module _ (how : ClearMode) (row column n : ℕ) (a : Qcow2 S F) (caches : MetadataCaches S) (out : List (Option Prepared)) (sound : ImageInvariant view backing (pending_in view backing a out) a out)
-      (all : AreCleared view backing how row column n a caches out (pending_in view backing a out)) (noted : IsTrue caches.is_changed) where
+      (all : AreCleared view backing how row column n a caches out (pending_in view backing a out)) (recorded : IsTrue caches.is_changed) where
     abbrev g : ℕ
     g = guest_at a.file.header.fields row column
 
@@ -240,7 +240,7 @@ module _ {S F : Type 0} (view : S → StorageView) (backing : F → BackingView)
     abbrev given : Bytes → List GivenBytes
     given below = given_shown (disk s'.known below) from to ∷ []
 
-    -- what stands beside the range stays
+    -- mappings outside of the range stay the same
     covers_beside : (c : ℕ) → IsUngiven (cluster_size h') (given (backing_bytes view backing a.backing)) c → cover h' (known_in view a.file) c ≡ cover h' (known_in view final.file) c
     covers_beside c untouched = elim (cases_lt c g) [
       | inl below ↦ all.stays c (inl below)
@@ -341,5 +341,5 @@ module _ {S F : Type 0} (view : S → StorageView) (backing : F → BackingView)
       shows = same_guest _ _ disk_now refl;
       header = refl;
       covers = covers_now;
-      noted = noted;
+      recorded = recorded;
     }

@@ -1,4 +1,4 @@
--- The contract of calls that clear a range: where one is refused at once, where no cluster is whole, and what one begins with that clears some.
+-- The contract of calls that clear a range: if one is refused at once, if no cluster is whole, and how one begins that clears some.
 use Rattle.std.proofs.Common.{◌≡◌, ◌∙◌, inl, inr, ℕ, ◌*◌, ◌<◌, ◌≤◌, Bool, true, false, List, Option, Some, None, Result, Ok, Err, refl, sym, ap, subst, arith}
 use Rattle.std.specs.Prelude.{IfSome, IsErr, IsErrAnd, IsTrue, MatchOption, nat_le, nat_lt, not, ◌&&◌}
 use Rattle.std.specs.Option.{option_or}
@@ -43,14 +43,14 @@ none_early (Some a) P is = absurd cc
 -- what is refused at once marks no image
 early_marks : (a b c d e f : Bool) (x : ImageError)
     → option_or (option_or (refuse_if a I.Failed) (refuse_if b I.Dependency)) (option_or (refuse_if c I.ReadOnly) (option_or (refuse_if d I.BeyondSize) (option_or (refuse_if e I.Version) (refuse_if f I.Overflow)))) ≡ Some x
-    → (before noted : Bool) → failed_after x before noted before
-early_marks true b c d e f x is before noted = let same : I.Failed ≡ x = cc in subst (λ (y : ImageError). failed_after y before noted before) same refl
-early_marks false true c d e f x is before noted = let same : I.Dependency ≡ x = cc in subst (λ (y : ImageError). failed_after y before noted before) same refl
-early_marks false false true d e f x is before noted = let same : I.ReadOnly ≡ x = cc in subst (λ (y : ImageError). failed_after y before noted before) same refl
-early_marks false false false true e f x is before noted = let same : I.BeyondSize ≡ x = cc in subst (λ (y : ImageError). failed_after y before noted before) same refl
-early_marks false false false false true f x is before noted = let same : I.Version ≡ x = cc in subst (λ (y : ImageError). failed_after y before noted before) same refl
-early_marks false false false false false true x is before noted = let same : I.Overflow ≡ x = cc in subst (λ (y : ImageError). failed_after y before noted before) same refl
-early_marks false false false false false false x is before noted = absurd cc
+    → (before recorded : Bool) → failed_after x before recorded before
+early_marks true b c d e f x is before recorded = let same : I.Failed ≡ x = cc in subst (λ (y : ImageError). failed_after y before recorded before) same refl
+early_marks false true c d e f x is before recorded = let same : I.Dependency ≡ x = cc in subst (λ (y : ImageError). failed_after y before recorded before) same refl
+early_marks false false true d e f x is before recorded = let same : I.ReadOnly ≡ x = cc in subst (λ (y : ImageError). failed_after y before recorded before) same refl
+early_marks false false false true e f x is before recorded = let same : I.BeyondSize ≡ x = cc in subst (λ (y : ImageError). failed_after y before recorded before) same refl
+early_marks false false false false true f x is before recorded = let same : I.Version ≡ x = cc in subst (λ (y : ImageError). failed_after y before recorded before) same refl
+early_marks false false false false false true x is before recorded = let same : I.Overflow ≡ x = cc in subst (λ (y : ImageError). failed_after y before recorded before) same refl
+early_marks false false false false false false x is before recorded = absurd cc
 
 -- no guest cluster lies in a range that is empty
 none_between : (h : HeaderFields) (from to g : ℕ) → to ≤ from → is_between h from to g ≡ false
@@ -92,7 +92,7 @@ module _ {S F : Type 0} (view : S → StorageView) (backing : F → BackingView)
     fails_refused = record {
       early = if_some {B = ℕ × ℕ} old (refuses_to_clear old offset n how) e (Err e) refused_so refl;
       late = λ none. not_none none;
-      refused = record { ungiven = ungiven_early view backing old e; lacks = λ none out sound unprepared. not_none none; met = λ none out sound. not_none none };
+      refused = record { ungiven = ungiven_early view backing old e; lacks = λ none out sound unprepared. not_none none; may_fail = λ none out sound. not_none none };
       pinned = λ some none own. not_none none;
       under = λ none some out sound. not_none none;
       freed = λ none some out sound. not_none none;

@@ -1,4 +1,4 @@
--- An entry of a held table is cleared: what its guest cluster is mapped to then, what it names no longer, and that all else stays.
+-- An entry of a cached table is cleared: the new mapping of its guest cluster, the references that it loses, and that everything else stays the same.
 use Rattle.std.proofs.Common.{◌≡◌, inl, inr, ℕ, ◌+◌, ◌*◌, ◌/◌, ◌%◌, ◌<◌, ◌≤◌, Bool, true, false, List, length, Option, Some, None, refl, sym, ap, ◌∙◌, subst, arith, cond}
 use Rattle.std.specs.Prelude.{IsSome, IsTrue, slice_get, ◌==◌, ◌&&◌, ◌≢◌}
 use Rattle.std.proofs.lemmas.Bool.{eq-eqb}
@@ -41,12 +41,12 @@ use Rattle.qcow2_image.specs.declared.discarding.ClearMode.TheVariants.{Uncovere
 use Rattle.qcow2_image.specs.declared.image.Qcow2.{Qcow2}
 use Rattle.qcow2_image.specs.declared.prepared.Prepared.{Prepared}
 use Rattle.qcow2_image.specs.ImageInvariant.{ImageInvariant, IsPending, IsReadyWith, cluster_of, listed_run, of_data, pins_by, to_free}
-use Rattle.qcow2_image.proofs.Inside.{names_inside}
-use Rattle.qcow2_image.proofs.Apart.{pins_own, same_row}
+use Rattle.qcow2_image.proofs.Images.Inside.{names_inside}
+use Rattle.qcow2_image.proofs.Images.Apart.{pins_own, same_row}
 use Rattle.qcow2_image.proofs.Commit.Committing.{cover_now, known_entry_changes, listed_has, counts_now}
 use Rattle.qcow2_image.proofs.Open.Reftables.{reftable_still}
-use Rattle.qcow2_image.proofs.Ready.{still_pending, still_share}
-use Rattle.qcow2_image.proofs.Shares.{over_all_at}
+use Rattle.qcow2_image.proofs.Images.Ready.{still_pending, still_mapping}
+use Rattle.qcow2_image.proofs.Images.ClusterMappings.{over_all_at}
 
 zeros_are : (kept : Option ℕ) → IsZeros (zero_cover kept)
 zeros_are None = tt
@@ -250,7 +250,7 @@ module _ {S F : Type 0} (view : S → StorageView) (backing : F → BackingView)
   same_l1 l = sym (mapped.sound_then.same_top.l1 l) ∙ crash_invariant.same_top.l1 l
 
   -- a mapping that is out lies in another table
-  elsewhere : (j : ℕ) (r : Prepared) → slice_get out j ≡ Some (Some r) → (u : ℕ) → r.table ≡ Some u → IsPending h s.known s.on_storage r u → (i : ℕ) → i < length r.shares.items → cluster_of h r + i ≡ guest → ⊥
+  elsewhere : (j : ℕ) (r : Prepared) → slice_get out j ≡ Some (Some r) → (u : ℕ) → r.table ≡ Some u → IsPending h s.known s.on_storage r u → (i : ℕ) → i < length r.clusters.items → cluster_of h r + i ≡ guest → ⊥
   elsewhere j r there u is ready i lt here =
       let row_is : guest / entries_per_cluster h ≡ row = div-mul-add row (entries_per_cluster h) column at.within in
       let rows : cluster_of h r / entries_per_cluster h ≡ row = sym (same_row h s.known s.on_storage r u ready i lt) ∙ ap (λ n. n / entries_per_cluster h) here ∙ row_is in
@@ -265,8 +265,8 @@ module _ {S F : Type 0} (view : S → StorageView) (backing : F → BackingView)
   still j r there None is ready = ready
   still j r there (Some u) is ready =
       still_pending h s.known s.on_storage known s.on_storage r crash_invariant.same_top.l1 mapped.sound_then.same_top.l1 (λ l marked. refl) u
-      (λ i share has. still_share h s.known s.on_storage known s.on_storage r i
-      (mapped.covers (cluster_of h r + i) (λ same. elsewhere j r there u is ready i (slice_get_within r.shares.items i share has) same)) share (ready.each i share has)) ready
+      (λ i cluster_mapping has. still_mapping h s.known s.on_storage known s.on_storage r i
+      (mapped.covers (cluster_of h r + i) (λ same. elsewhere j r there u is ready i (slice_get_within r.clusters.items i cluster_mapping has) same)) cluster_mapping (ready.each i cluster_mapping has)) ready
 
   final_sound : ImageInvariant view backing after final out
   final_sound = record {

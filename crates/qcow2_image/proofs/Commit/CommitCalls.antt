@@ -1,4 +1,4 @@
--- A commit as a call: its shares are entered, clusters are freed, and it is let go.
+-- A commit as a call: its clusters are entered, clusters are freed, and the mapping is released.
 use Rattle.std.proofs.Common.{◌≡◌, ◌⊎◌, inl, inr, ℕ, Bool, true, false, List, [], ◌∷◌, refl, sym, ap, ◌∙◌, subst, eqb}
 use Rattle.std.specs.Prelude.{Option, Some, None, IsTrue, IsSome, Result, Ok, Err, slice_get, slice_set}
 use Rattle.std.proofs.lemmas.Bool.{cases_eq, cond-true, cond-false, eq-eqb, ne_eqb}
@@ -22,7 +22,7 @@ use Rattle.qcow2_image.proofs.Call.Answered.{same_guest}
 use Rattle.qcow2_image.proofs.Call.Called.{Quietly, quiet_same, quiet_sound, quiet_works}
 use Rattle.qcow2_image.proofs.Call.CallOutcomes.{outcome_answered}
 use Rattle.qcow2_image.proofs.Call.Slots.{get_set_same, set_same, set_set}
-use Rattle.qcow2_image.proofs.Shares.{never_private}
+use Rattle.qcow2_image.proofs.Images.ClusterMappings.{never_private}
 
 -- of an image that isn't sound nothing more is said
 pub refuses_unsound : (v w : AbstractImage) (given : List GivenBytes) (e : Refusal) (still : Type 0) → w.number ≡ v.number → (v.is_sound → ⊥) → (IsTrue v.is_failed → EffectOnFailed v w) → (e ≡ storage → IsTrue w.is_failed) → RefusedEffect v w given [] e still
@@ -66,7 +66,7 @@ module _ {S F : Type 0} (view : S → StorageView) (backing : F → BackingView)
 
     nothing_new : ImageInvariant view backing (pending_in view backing old out) old out → committed (guest_of v0).disk m0 ≡ (guest_of v0).disk
     nothing_new sound =
-        let none : p.shares.items ≡ [] = subst (IsReadyWith old.file.header.fields (known_in view old.file) (contents_in view old.file) p) existing (sound.ready k p placed).mapped in
+        let none : p.clusters.items ≡ [] = subst (IsReadyWith old.file.header.fields (known_in view old.file) (contents_in view old.file) p) existing (sound.ready k p placed).mapped in
         ap (λ f. record (guest_of v0).disk { value = f }) (fun_ext (λ o. cond-false (m0.is_private o) _ _ (never_private view backing old p none o)))
 
     pub commit_existing : AnsweredEffect v0 w0 given_before [] (guest_of w0 ≡ with_slot (with_disk (guest_of v0) (committed (guest_of v0).disk m0)) k None)
@@ -75,7 +75,7 @@ module _ {S F : Type 0} (view : S → StorageView) (backing : F → BackingView)
         outcome_answered view backing old new out (slice_set out k None) given_before (λ sound. works_less v0 w0 [] given_before [] (λ o x never. absurd never) (λ g u. tt) (does.acts.works sound)) (λ sound. (does.answer sound).0) does.acts.number usable
         (λ sound. (does.answer sound).1 ∙ ap (λ d. with_slot (with_disk (guest_of v0) d) k None) (sym (nothing_new sound)))
 
--- ---- it begins, and its shares are entered
+-- ---- the commit begins, and the clusters are entered
 module _ {S F : Type 0} (view : S → StorageView) (backing : F → BackingView) (old : Qcow2 S F) (p : Prepared) where
   module _ (begun entered freed : Qcow2 S F) (q : Prepared) (changed : Bool) (usable : is_failed old ≡ false) (some : IsSome p.table) (r : Result (Unit {0}) ImageError)
       (begins : (out : List (Option Prepared)) → ImageInvariant view backing (pending_in view backing old out) old out → Quietly view backing out old begun)
@@ -122,8 +122,8 @@ module _ {S F : Type 0} (view : S → StorageView) (backing : F → BackingView)
       all : CommitsAll view backing begun entered out k p q
       all = (enters out k placed some begun_sound).0
 
-      noted : IsTrue changed → IsTrue entered.file.caches.is_changed
-      noted = (enters out k placed some begun_sound).1
+      recorded : IsTrue changed → IsTrue entered.file.caches.is_changed
+      recorded = (enters out k placed some begun_sound).1
 
       given_is : given_by_commit b.setting.cluster_size (guest_of b).disk (meaning view backing begun p) ∷ [] ≡ given_bytes
       given_is =
@@ -204,7 +204,7 @@ module _ {S F : Type 0} (view : S → StorageView) (backing : F → BackingView)
       )
 
       pub commit_break_off : IsTrue changed → let w = abstract_of view backing freed (slice_set out k None) in (v.is_sound → IsRefusalByFault (refusal_of x)) × RefusedEffect v w given_bytes [] (refusal_of x) (IsSame v w)
-      commit_break_off is = commit_interruption (λ sound. (failed_freeing sound).2 (noted sound is))
+      commit_break_off is = commit_interruption (λ sound. (failed_freeing sound).2 (recorded sound is))
 
       -- nothing was changed: it is at its place again
       pub commit_kept : (entered ≡ begun) × (q ≡ p) → let w = abstract_of view backing freed (slice_set out k (Some p)) in (v.is_sound → IsRefusalByFault (refusal_of x)) × RefusedEffect v w given_bytes [] (refusal_of x) (IsSame v w)

@@ -1,4 +1,4 @@
--- A share of a prepared mapping is entered in its table: its private bytes become visible.
+-- A cluster of a prepared mapping is entered in its L2 table: its private bytes become visible.
 use Rattle.std.proofs.Common.{◌≡◌, ◌≢◌, ◌⊎◌, inl, inr, ℕ, ◌+◌, ◌-◌, ◌*◌, ◌/◌, ◌%◌, ◌<◌, ◌≤◌, true, false, List, length, [], ◌∷◌, ◌++◌, refl, sym, ap, ◌∙◌, subst, arith, cond, Bool}
 use Rattle.std.specs.Prelude.{Option, Some, None, IsSome, IsTrue, nat_le, nat_lt, ◌&&◌, slice_get, slice_set, ◌==◌, if◌then◌else◌}
 use Rattle.std.specs.Option.{option_map_or}
@@ -50,20 +50,20 @@ use Rattle.qcow2_alloc.specs.ImageFile.{state_in, view_in}
 use Rattle.qcow2_alloc.proofs.FileInvariants.{file_invariant_of}
 use Rattle.qcow2_image.specs.declared.image.Qcow2.{Qcow2}
 use Rattle.qcow2_image.specs.declared.prepared.Prepared.{Prepared}
-use Rattle.qcow2_image.specs.declared.prepared.Share.{Share}
-use Rattle.qcow2_image.specs.declared.prepared.Share.TheVariants.{InPlace, Kept, New}
+use Rattle.qcow2_image.specs.declared.prepared.ClusterMapping.{ClusterMapping}
+use Rattle.qcow2_image.specs.declared.prepared.ClusterMapping.TheVariants.{InPlace, Kept, New}
 use Rattle.qcow2_image.specs.CallParts.{CommitsPart, ShowsPart}
 use Rattle.qcow2_image.specs.InternalSteps.{old_data_by}
-use Rattle.qcow2_image.proofs.Sound.{free_more}
-use Rattle.qcow2_image.specs.ImageInvariant.{to_free, of_data, of_tables, listed_run, new_data_in, new_data_by, pins_by, over_all, pending_in, abstract_of, meaning, is_entered, is_private, cluster_of, host_begin_of, share_of, backing_bytes, IsNewAt, IsShareAt, IsPending, IsReady, IsReadyWith, ImageInvariant}
-use Rattle.qcow2_image.proofs.Apart.{apart_guests}
-use Rattle.qcow2_image.proofs.Ready.{still_pending, still_share}
-use Rattle.qcow2_image.proofs.Inside.{names_inside}
+use Rattle.qcow2_image.proofs.Images.Sound.{free_more}
+use Rattle.qcow2_image.specs.ImageInvariant.{to_free, of_data, of_tables, listed_run, new_data_in, new_data_by, pins_by, over_all, pending_in, abstract_of, meaning, is_entered, is_private, cluster_of, host_begin_of, mapping_of_cluster, backing_bytes, IsNewAt, IsClusterMappingAt, IsPending, IsReady, IsReadyWith, ImageInvariant}
+use Rattle.qcow2_image.proofs.Images.Apart.{apart_guests}
+use Rattle.qcow2_image.proofs.Images.Ready.{still_pending, still_mapping}
+use Rattle.qcow2_image.proofs.Images.Inside.{names_inside}
 use Rattle.qcow2_image.proofs.Open.Reftables.{reftable_still}
 use Rattle.qcow2_image.proofs.Call.Slots.{get_set_other, get_set_same, length_set, over_all_set, slot_set}
 use Rattle.qcow2_image.proofs.Call.Stepped.{Steps, stepped_sound, stepped_works}
-use Rattle.qcow2_image.proofs.Shares.{new_data_less, over_all_at, place_in, private_is}
-use Rattle.qcow2_image.proofs.UngivenCovers.{touches_part, ungiven_stay, touches_own}
+use Rattle.qcow2_image.proofs.Images.ClusterMappings.{new_data_less, over_all_at, place_in, private_is}
+use Rattle.qcow2_image.proofs.Images.UngivenCovers.{touches_part, ungiven_stay, touches_own}
 
 -- ---- the entry of a held table changes to a held cluster
 module _ (s : DriverState) (known' : Bytes) (i j entry : ℕ) (sound : StateInvariant s) (real : table_at s.header s.known i ≢ 0) (within : j < entries_per_cluster s.header)
@@ -118,31 +118,31 @@ pub listed_tables : (run : Option (ℕ × ℕ)) (c : ℕ) → to_free of_tables 
 listed_tables None c = refl
 listed_tables (Some run) c = refl
 
--- the shares of a mapping are those of its whole clusters
-pub ends_at : (h : HeaderFields) (known on_storage : Bytes) (p : Prepared) (t : ℕ) → IsPending h known on_storage p t → rounded_up (cluster_size h) (p.guest + p.length) ≡ (cluster_of h p + length p.shares.items) * cluster_size h
+-- a mapping has a cluster mapping for each of its whole clusters
+pub ends_at : (h : HeaderFields) (known on_storage : Bytes) (p : Prepared) (t : ℕ) → IsPending h known on_storage p t → rounded_up (cluster_size h) (p.guest + p.length) ≡ (cluster_of h p + length p.clusters.items) * cluster_size h
 ends_at h known on_storage p t pending =
     let size = cluster_size h in
-    let n = length p.shares.items in
+    let n = length p.clusters.items in
     let enough = pending.enough in
     let no_more = pending.no_more in
     let some : 0 < cluster_size h = pow_pos h.cluster_bits in
     let g_is : p.guest / cluster_size h * cluster_size h + p.guest % cluster_size h ≡ p.guest = div-add-mod' p.guest (cluster_size h) in
-    let r : (cluster_of h p + length p.shares.items) * cluster_size h ≡ cluster_of h p * cluster_size h + length p.shares.items * cluster_size h = omega arith in
-    let e : p.guest + p.length + cluster_size h - 1 ≡ (cluster_of h p + length p.shares.items) * cluster_size h + (p.guest % cluster_size h + p.length + cluster_size h - 1 - length p.shares.items * cluster_size h) = omega arith in
-    ap (λ o. o / cluster_size h * cluster_size h) e ∙ ap (λ c. c * cluster_size h) (div-mul-add (cluster_of h p + length p.shares.items) (cluster_size h) (p.guest % cluster_size h + p.length + cluster_size h - 1 - length p.shares.items * cluster_size h) (omega arith))
+    let r : (cluster_of h p + length p.clusters.items) * cluster_size h ≡ cluster_of h p * cluster_size h + length p.clusters.items * cluster_size h = omega arith in
+    let e : p.guest + p.length + cluster_size h - 1 ≡ (cluster_of h p + length p.clusters.items) * cluster_size h + (p.guest % cluster_size h + p.length + cluster_size h - 1 - length p.clusters.items * cluster_size h) = omega arith in
+    ap (λ o. o / cluster_size h * cluster_size h) e ∙ ap (λ c. c * cluster_size h) (div-mul-add (cluster_of h p + length p.clusters.items) (cluster_size h) (p.guest % cluster_size h + p.length + cluster_size h - 1 - length p.clusters.items * cluster_size h) (omega arith))
 
--- a share that changes, in the list of all
-share_same : (h : HeaderFields) (p q : Prepared) (i : ℕ) → q.guest ≡ p.guest → q.shares.items ≡ slice_set p.shares.items i InPlace → (g : ℕ) → g ≢ cluster_of h p + i → share_of h q g ≡ share_of h p g
-share_same h p q i same items g other =
-    ap (λ x. cond (nat_le (x / cluster_size h) g) (slice_get q.shares.items (g - x / cluster_size h)) None) same
-    ∙ ap (λ (l : List Share). cond (nat_le (cluster_of h p) g) (slice_get l (g - cluster_of h p)) None) items
+-- a cluster mapping that changes, in the list of all
+mapping_same : (h : HeaderFields) (p q : Prepared) (i : ℕ) → q.guest ≡ p.guest → q.clusters.items ≡ slice_set p.clusters.items i InPlace → (g : ℕ) → g ≢ cluster_of h p + i → mapping_of_cluster h q g ≡ mapping_of_cluster h p g
+mapping_same h p q i same items g other =
+    ap (λ x. cond (nat_le (x / cluster_size h) g) (slice_get q.clusters.items (g - x / cluster_size h)) None) same
+    ∙ ap (λ (l : List ClusterMapping). cond (nat_le (cluster_of h p) g) (slice_get l (g - cluster_of h p)) None) items
     ∙ (elim (cases_lt g (cluster_of h p)) [
       | inl below ↦ let no = lt-leb (cluster_of h p) g below in cond-false (nat_le (cluster_of h p) g) _ _ no ∙ sym (cond-false (nat_le (cluster_of h p) g) _ _ no)
-      | inr above ↦ ap (λ x. cond (nat_le (cluster_of h p) g) x None) (get_set_other p.shares.items i (g - cluster_of h p) InPlace (λ e. other (omega arith)))
+      | inr above ↦ ap (λ x. cond (nat_le (cluster_of h p) g) x None) (get_set_other p.clusters.items i (g - cluster_of h p) InPlace (λ e. other (omega arith)))
     ])
 
-module _ {S F : Type 0} (view : S → StorageView) (backing : F → BackingView) (old : Qcow2 S F) (p like : Prepared) (t i : ℕ) (share : Share) (is_table : p.table ≡ Some t) (was : slice_get p.shares.items i ≡ Some share) (is_entered_now : IsTrue (is_entered share))
-    (items : like.shares.items ≡ slice_set p.shares.items i InPlace) (caches : MetadataCaches S) (marks : KeepsPinsAndNotes old.file.caches caches) (order : order_of caches ≡ order_of old.file.caches) (answer : Option (ℕ × ℕ))
+module _ {S F : Type 0} (view : S → StorageView) (backing : F → BackingView) (old : Qcow2 S F) (p like : Prepared) (t i : ℕ) (cluster_mapping : ClusterMapping) (is_table : p.table ≡ Some t) (was : slice_get p.clusters.items i ≡ Some cluster_mapping) (is_entered_now : IsTrue (is_entered cluster_mapping))
+    (items : like.clusters.items ≡ slice_set p.clusters.items i InPlace) (caches : MetadataCaches S) (marks : KeepsPinsAndNotes old.file.caches caches) (order : order_of caches ≡ order_of old.file.caches) (answer : Option (ℕ × ℕ))
     (out : List (Option Prepared)) (k : ℕ) (placed : slice_get out k ≡ Some (Some p)) (sound : ImageInvariant view backing (pending_in view backing old out) old out) where
   abbrev h : HeaderFields
   h = old.file.header.fields
@@ -155,7 +155,7 @@ module _ {S F : Type 0} (view : S → StorageView) (backing : F → BackingView)
 
   -- what is left of it
   abbrev q : Prepared
-  q = record p { shares = like.shares }
+  q = record p { clusters = like.clusters }
 
   abbrev now : List (Option Prepared)
   now = slice_set out k (Some q)
@@ -163,8 +163,8 @@ module _ {S F : Type 0} (view : S → StorageView) (backing : F → BackingView)
   pending : IsPending h s.known s.on_storage p t
   pending = subst (IsReadyWith h s.known s.on_storage p) is_table (sound.ready k p placed).mapped
 
-  within : i < length p.shares.items
-  within = slice_get_within p.shares.items i share was
+  within : i < length p.clusters.items
+  within = slice_get_within p.clusters.items i cluster_mapping was
 
   abbrev row : ℕ
   row = cluster_of h p / entries_per_cluster h
@@ -182,7 +182,7 @@ module _ {S F : Type 0} (view : S → StorageView) (backing : F → BackingView)
   guest_is = let e : cluster_of h p / entries_per_cluster h * entries_per_cluster h + cluster_of h p % entries_per_cluster h ≡ cluster_of h p = div-add-mod' (cluster_of h p) (entries_per_cluster h) in omega arith
 
   module _ (first : ℕ) (place : first * cluster_size h ≡ host_begin_of h p i) (nameable : IsHostCluster h.cluster_bits first) (found : IsSome (l2_at old.file.caches t)) (maps : MapsCachedEntry old.file.caches caches t column first answer)
-      (stands : IsShareAt h s.known s.on_storage p i share) where
+      (stands : IsClusterMappingAt h s.known s.on_storage p i cluster_mapping) where
     abbrev host : ℕ
     host = first * cluster_size h
 
@@ -199,27 +199,27 @@ module _ {S F : Type 0} (view : S → StorageView) (backing : F → BackingView)
     entry = maps h before s.on_storage row sound.file.caches at_entry pending.copied found nameable
 
     -- ---- of a new cluster
-    module _ (taken old_data : List ClustersToFreeEntry) (is_new : share ≡ New taken old_data) (new_at : IsNewAt h s.known s.on_storage p i taken old_data) where
+    module _ (taken old_data : List ClustersToFreeEntry) (is_new : cluster_mapping ≡ New taken old_data) (new_at : IsNewAt h s.known s.on_storage p i taken old_data) where
       same_first : new_at.first ≡ first
       same_first =
           let e : new_at.first * cluster_size h ≡ new_at.first * cluster_size h + 0 = omega arith in
           sym (ap (λ o. o / cluster_size h) e ∙ div-mul-add new_at.first (cluster_size h) 0 (pow_pos h.cluster_bits)) ∙ ap (λ o. o / cluster_size h) (new_at.place ∙ sym place) ∙ host_first
 
-      mine : (c : ℕ) → new_data_in (share ∷ []) c ≡ in_cluster h c host
+      mine : (c : ℕ) → new_data_in (cluster_mapping ∷ []) c ≡ in_cluster h c host
       mine c =
-          ap (λ (x : Share). new_data_in (x ∷ []) c) is_new ∙ ap (λ l. to_free of_data l c + 0) (new_at.is ∙ ap (λ f. data_entry f 1 ∷ []) same_first)
+          ap (λ (x : ClusterMapping). new_data_in (x ∷ []) c) is_new ∙ ap (λ l. to_free of_data l c + 0) (new_at.is ∙ ap (λ f. data_entry f 1 ∷ []) same_first)
           ∙ (let one = run_one h first c in omega arith)
 
       new_data_there : 0 < before.new_data (host / cluster_size h)
       new_data_there =
-          let less = new_data_less p.shares.items i share was (host / cluster_size h) in
+          let less = new_data_less p.clusters.items i cluster_mapping was (host / cluster_size h) in
           let all = over_all_at new_data_by out k p placed (host / cluster_size h) in
           let one = mine (host / cluster_size h) in
           let own : in_cluster h (host / cluster_size h) host ≡ 1 = in_own h host in
           omega arith
 
     -- what is so of a new cluster, and of one that a zero entry keeps
-    no_table_as : (x : Share) → share ≡ x → IsTrue (is_entered x) → IsShareAt h s.known s.on_storage p i x → named_for_tables h s.on_storage (host / cluster_size h) ≡ 0
+    no_table_as : (x : ClusterMapping) → cluster_mapping ≡ x → IsTrue (is_entered x) → IsClusterMappingAt h s.known s.on_storage p i x → named_for_tables h s.on_storage (host / cluster_size h) ≡ 0
     no_table_as InPlace is entered at = absurd (let e : false ≡ true = entered in cc)
     no_table_as Kept is entered at = beside_tables s HostedKept ((cluster_of h p + i) * cluster_size h) host sound.file.caches.kept.kept.crash_invariant sound.inside (
       host,
@@ -235,7 +235,7 @@ module _ {S F : Type 0} (view : S → StorageView) (backing : F → BackingView)
     )
     no_table_as (New taken old_data) is entered at = beside_tables s HostedHeld 0 host sound.file.caches.kept.kept.crash_invariant sound.inside (new_data_there taken old_data is at)
 
-    takes_as : (x : Share) → share ≡ x → IsTrue (is_entered x) → IsShareAt h s.known s.on_storage p i x → Takes h before.new_data (cover h s.known (guest_at h row column)) (Data host true)
+    takes_as : (x : ClusterMapping) → cluster_mapping ≡ x → IsTrue (is_entered x) → IsClusterMappingAt h s.known s.on_storage p i x → Takes h before.new_data (cover h s.known (guest_at h row column)) (Data host true)
     takes_as InPlace is entered at = absurd (let e : false ≡ true = entered in cc)
     takes_as Kept is entered at = (takes_own h before.new_data (cover h s.known (guest_at h row column)) host host_aligned (ap copied_host (ap (cover h s.known) guest_is ∙ at.entry) ∙ ap Some (sym place))).0
     takes_as (New taken old_data) is entered at = takes_new_data s (guest_at h row column) host sound.file.caches.kept.kept.crash_invariant host_aligned (new_data_there taken old_data is at)
@@ -246,7 +246,7 @@ module _ {S F : Type 0} (view : S → StorageView) (backing : F → BackingView)
         let parts = shares h s.on_storage (host / cluster_size h) in
         let one : in_cluster h (host / cluster_size h) host ≡ 1 = in_own h host in
         let zero : in_cluster h (host / cluster_size h) 0 ≡ 1 = ap (in_cluster h (host / cluster_size h)) (sym none) ∙ one in
-        let no_table = no_table_as share refl is_entered_now stands in
+        let no_table = no_table_as cluster_mapping refl is_entered_now stands in
         absurd (omega arith)
 
     host_fits : IsEntryHost (has_data_file h) host
@@ -260,7 +260,7 @@ module _ {S F : Type 0} (view : S → StorageView) (backing : F → BackingView)
 
     changes : EntryChanges s known row column
     changes = known_entry_changes s known row column (copied_entry host) sound.file.caches.kept.kept.crash_invariant at_entry.real at_entry.within entry.change
-        (subst (λ v. Takes h before.new_data (cover h s.known (guest_at h row column)) v) (sym covers_host) (takes_as share refl is_entered_now stands))
+        (subst (λ v. Takes h before.new_data (cover h s.known (guest_at h row column)) v) (sym covers_host) (takes_as cluster_mapping refl is_entered_now stands))
 
     abbrev values : Bytes → ℕ → Value
     values below o = known_byte (s.on_storage (host + o % cluster_size h))
@@ -269,21 +269,21 @@ module _ {S F : Type 0} (view : S → StorageView) (backing : F → BackingView)
     record Made : Type 0 where
       after : Pending
       mapped : Maps (guest_at h row column) s (record s { pending = after; known = known }) values
-      new_data : (c : ℕ) → after.new_data c + new_data_in (share ∷ []) c ≡ before.new_data c
+      new_data : (c : ℕ) → after.new_data c + new_data_in (cluster_mapping ∷ []) c ≡ before.new_data c
       new_tables : (c : ℕ) → after.new_tables c ≡ 0
-      old_tables : (c : ℕ) → after.old_tables c ≡ before.old_tables c + to_free of_tables (old_data_by share) c
-      old_data : (c : ℕ) → after.old_data c ≡ before.old_data c + to_free of_data (old_data_by share) c
+      old_tables : (c : ℕ) → after.old_tables c ≡ before.old_tables c + to_free of_tables (old_data_by cluster_mapping) c
+      old_data : (c : ℕ) → after.old_data c ≡ before.old_data c + to_free of_data (old_data_by cluster_mapping) c
       surplus : after.surplus ≡ before.surplus
 
-    made_as : (x : Share) → share ≡ x → IsTrue (is_entered x) → IsShareAt h s.known s.on_storage p i x → Made
+    made_as : (x : ClusterMapping) → cluster_mapping ≡ x → IsTrue (is_entered x) → IsClusterMappingAt h s.known s.on_storage p i x → Made
     made_as InPlace is entered at = absurd (let e : false ≡ true = entered in cc)
     made_as Kept is entered at = record {
       after = before;
       mapped = kept_committed s known row column host sound.file.caches.kept.kept.crash_invariant sound.inside changes (ap (cover h s.known) guest_is ∙ at.entry ∙ ap (λ n. Zero (Some (n, true))) (sym place)) covered;
-      new_data = λ c. let none : new_data_in (share ∷ []) c ≡ 0 = ap (λ (x : Share). new_data_in (x ∷ []) c) is in omega arith;
+      new_data = λ c. let none : new_data_in (cluster_mapping ∷ []) c ≡ 0 = ap (λ (x : ClusterMapping). new_data_in (x ∷ []) c) is in omega arith;
       new_tables = λ c. refl;
-      old_tables = λ c. let none : to_free of_tables (old_data_by share) c ≡ 0 = ap (λ (x : Share). to_free of_tables (old_data_by x) c) is in omega arith;
-      old_data = λ c. let none : to_free of_data (old_data_by share) c ≡ 0 = ap (λ (x : Share). to_free of_data (old_data_by x) c) is in omega arith;
+      old_tables = λ c. let none : to_free of_tables (old_data_by cluster_mapping) c ≡ 0 = ap (λ (x : ClusterMapping). to_free of_tables (old_data_by x) c) is in omega arith;
+      old_data = λ c. let none : to_free of_data (old_data_by cluster_mapping) c ≡ 0 = ap (λ (x : ClusterMapping). to_free of_data (old_data_by x) c) is in omega arith;
       surplus = refl;
     }
     made_as (New taken old_data) is entered at =
@@ -294,25 +294,25 @@ module _ {S F : Type 0} (view : S → StorageView) (backing : F → BackingView)
           new_data = λ c.
               let left = committed_new_data s known row column sound.file.caches.kept.kept.crash_invariant changes sound.inside host covered new_data_host c in
               let one = mine taken old_data is at c in
-              let less = new_data_less p.shares.items i share was c in
+              let less = new_data_less p.clusters.items i cluster_mapping was c in
               let all = over_all_at new_data_by out k p placed c in
               omega arith;
           new_tables = λ c. refl;
-          old_tables = λ c. let none : to_free of_tables (old_data_by share) c ≡ 0 = ap (λ (x : Share). to_free of_tables (old_data_by x) c) is ∙ ap (λ l. to_free of_tables l c) at.drops ∙ listed_tables (named_run h.cluster_bits (cover h s.known (cluster_of h p + i))) c in omega arith;
+          old_tables = λ c. let none : to_free of_tables (old_data_by cluster_mapping) c ≡ 0 = ap (λ (x : ClusterMapping). to_free of_tables (old_data_by x) c) is ∙ ap (λ l. to_free of_tables l c) at.drops ∙ listed_tables (named_run h.cluster_bits (cover h s.known (cluster_of h p + i))) c in omega arith;
           old_data = λ c.
               let more = committed_old_data s known row column sound.file.caches.kept.kept.crash_invariant changes sound.inside host covered new_data_host c in
               let named : names h s.known c (guest_at h row column) ≡ run_has (named_run h.cluster_bits (cover h s.known (cluster_of h p + i))) c = ap (names h s.known c) guest_is ∙ names_inside h sound.inside s.known c (cluster_of h p + i) ∙ named_by_cover-run (cover h s.known (cluster_of h p + i)) h c at.reach in
-              let gone : to_free of_data (old_data_by share) c ≡ run_has (named_run h.cluster_bits (cover h s.known (cluster_of h p + i))) c =
-              ap (λ (x : Share). to_free of_data (old_data_by x) c) is ∙ ap (λ l. to_free of_data l c) at.drops ∙ listed_has (named_run h.cluster_bits (cover h s.known (cluster_of h p + i))) c in
+              let gone : to_free of_data (old_data_by cluster_mapping) c ≡ run_has (named_run h.cluster_bits (cover h s.known (cluster_of h p + i))) c =
+              ap (λ (x : ClusterMapping). to_free of_data (old_data_by x) c) is ∙ ap (λ l. to_free of_data l c) at.drops ∙ listed_has (named_run h.cluster_bits (cover h s.known (cluster_of h p + i))) c in
               omega arith;
           surplus = refl;
         }
 
     made : Made
-    made = made_as share refl is_entered_now stands
+    made = made_as cluster_mapping refl is_entered_now stands
 
     abbrev final : Qcow2 S F
-    final = record old { file = record old.file { caches = caches; free_list = old.file.free_list ++ old_data_by share } }
+    final = record old { file = record old.file { caches = caches; free_list = old.file.free_list ++ old_data_by cluster_mapping } }
 
     same_stand : state_in view final.file made.after ≡ record s { pending = made.after; known = known }
     same_stand = ap (λ d. record s { pending = made.after; direction = d; known = known }) order
@@ -323,7 +323,7 @@ module _ {S F : Type 0} (view : S → StorageView) (backing : F → BackingView)
     safe_step : SafeStep s (state_in view final.file made.after) given []
     safe_step = subst (λ x. SafeStep s x given []) (sym same_stand) made.mapped.safe_step
 
-    -- ---- mappings stand ready
+    -- ---- mappings are ready
     -- an L1 entry stays
     same_l1 : (l : ℕ) → l1_entry h known l ≡ l1_entry h s.known l
     same_l1 l = sym (safe_step.sound.same_top.l1 l) ∙ sound.file.caches.kept.kept.crash_invariant.same_top.l1 l
@@ -332,27 +332,27 @@ module _ {S F : Type 0} (view : S → StorageView) (backing : F → BackingView)
     still_other j r apart there None is ready = ready
     still_other j r apart there (Some u) is ready =
         still_pending h s.known s.on_storage known s.on_storage r sound.file.caches.kept.kept.crash_invariant.same_top.l1 safe_step.sound.same_top.l1 (λ l copied. refl) u
-        (λ b other at. still_share h s.known s.on_storage known s.on_storage r b
-        (made.mapped.unseen.covers (cluster_of h r + b) (λ same. apart_guests view backing old out before sound k p placed t is_table pending j r apart there u is ready i b within (slice_get_within r.shares.items b other at) (sym guest_is ∙ sym same))) other (ready.each b other at)) ready
+        (λ b other at. still_mapping h s.known s.on_storage known s.on_storage r b
+        (made.mapped.unseen.covers (cluster_of h r + b) (λ same. apart_guests view backing old out before sound k p placed t is_table pending j r apart there u is ready i b within (slice_get_within r.clusters.items b other at) (sym guest_is ∙ sym same))) other (ready.each b other at)) ready
 
-    share_left : (l : ℕ) (x : Share) → slice_get q.shares.items l ≡ Some x → IsShareAt h known s.on_storage q l x
-    share_left l x at = elim (cases_eq l i) [
+    mapping_left : (l : ℕ) (x : ClusterMapping) → slice_get q.clusters.items l ≡ Some x → IsClusterMappingAt h known s.on_storage q l x
+    mapping_left l x at = elim (cases_eq l i) [
       | inl here ↦
-          let e : Some x ≡ Some InPlace = sym at ∙ ap (λ (y : List Share). slice_get y l) items ∙ ap (slice_get (slice_set p.shares.items i InPlace)) here ∙ get_set_same p.shares.items i InPlace share was in
+          let e : Some x ≡ Some InPlace = sym at ∙ ap (λ (y : List ClusterMapping). slice_get y l) items ∙ ap (slice_get (slice_set p.clusters.items i InPlace)) here ∙ get_set_same p.clusters.items i InPlace cluster_mapping was in
           let same : x ≡ InPlace = cc in
-          subst (λ (y : Share). IsShareAt h known s.on_storage q l y) (sym same)
+          subst (λ (y : ClusterMapping). IsClusterMappingAt h known s.on_storage q l y) (sym same)
           (ap (λ n. cover h known (cluster_of h p + n)) here ∙ ap (cover h known) (sym guest_is) ∙ covered ∙ ap (λ n. Data n true) (place ∙ ap (host_begin_of h p) (sym here)))
       | inr other ↦
-          let there : slice_get p.shares.items l ≡ Some x = sym (get_set_other p.shares.items i l InPlace other) ∙ ap (λ (y : List Share). slice_get y l) (sym items) ∙ at in
-          left_as x (still_share h s.known s.on_storage known s.on_storage p l (made.mapped.unseen.covers (cluster_of h p + l) (λ same. other (let e = guest_is in omega arith))) x (pending.each l x there))
+          let there : slice_get p.clusters.items l ≡ Some x = sym (get_set_other p.clusters.items i l InPlace other) ∙ ap (λ (y : List ClusterMapping). slice_get y l) (sym items) ∙ at in
+          left_as x (still_mapping h s.known s.on_storage known s.on_storage p l (made.mapped.unseen.covers (cluster_of h p + l) (λ same. other (let e = guest_is in omega arith))) x (pending.each l x there))
     ] where
-      left_as : (x : Share) → IsShareAt h known s.on_storage p l x → IsShareAt h known s.on_storage q l x
+      left_as : (x : ClusterMapping) → IsClusterMappingAt h known s.on_storage p l x → IsClusterMappingAt h known s.on_storage q l x
       left_as InPlace at = at
       left_as Kept at = record { first = at.first; place = at.place; nameable = at.nameable; entry = at.entry }
       left_as (New taken old_data) at = record { first = at.first; is = at.is; place = at.place; nameable = at.nameable; entry = at.entry; reach = at.reach; drops = at.drops }
 
-    as_many : length q.shares.items ≡ length p.shares.items
-    as_many = ap (λ (l : List Share). length l) items ∙ length_set p.shares.items i InPlace
+    as_many : length q.clusters.items ≡ length p.clusters.items
+    as_many = ap (λ (l : List ClusterMapping). length l) items ∙ length_set p.clusters.items i InPlace
 
     left_pending : IsPending h known s.on_storage q t
     left_pending =
@@ -365,7 +365,7 @@ module _ {S F : Type 0} (view : S → StorageView) (backing : F → BackingView)
           within = subst (λ n. cluster_of h p % entries_per_cluster h + n ≤ entries_per_cluster h) (sym as_many) pending.within;
           named = record { real = λ none. pending.named.real (sym there ∙ none); place = there ∙ pending.named.place; within = pending.named.within };
           copied = pending.copied;
-          each = share_left;
+          each = mapping_left;
         }
 
     ready_now : (j : ℕ) (r : Prepared) → slice_get now j ≡ Some (Some r) → IsReady view backing final r
@@ -407,13 +407,13 @@ module _ {S F : Type 0} (view : S → StorageView) (backing : F → BackingView)
       only = record {
         new_data = λ c.
             let all = over_all_set new_data_by out k p q placed c in
-            let less = new_data_less p.shares.items i share was c in
-            let mine : new_data_by q c ≡ new_data_in (slice_set p.shares.items i InPlace) c = ap (λ (l : List Share). new_data_in l c) items in
+            let less = new_data_less p.clusters.items i cluster_mapping was c in
+            let mine : new_data_by q c ≡ new_data_in (slice_set p.clusters.items i InPlace) c = ap (λ (l : List ClusterMapping). new_data_in l c) items in
             let left = made.new_data c in
             omega arith;
         new_tables = made.new_tables;
-        old_tables = λ c. let more = free_more of_tables old.file.free_list (old_data_by share) c in let is = made.old_tables c in omega arith;
-        old_data = λ c. let more = free_more of_data old.file.free_list (old_data_by share) c in let is = made.old_data c in omega arith;
+        old_tables = λ c. let more = free_more of_tables old.file.free_list (old_data_by cluster_mapping) c in let is = made.old_tables c in omega arith;
+        old_data = λ c. let more = free_more of_data old.file.free_list (old_data_by cluster_mapping) c in let is = made.old_data c in omega arith;
       };
       safe_step = safe_step;
       since = entry_safe_throughout (view_in view old.file) s (state_in view final.file made.after) row column given refl changes safe_step;
@@ -436,13 +436,13 @@ module _ {S F : Type 0} (view : S → StorageView) (backing : F → BackingView)
 
     -- its guest cluster is in place
     pub mine_in_place : (o : ℕ) → o / cluster_size h ≡ cluster_of h p + i → is_private view backing final q o ≡ false
-    mine_in_place o here = private_is view backing final q o i InPlace here (ap (λ (l : List Share). slice_get l i) items ∙ get_set_same p.shares.items i InPlace share was)
+    mine_in_place o here = private_is view backing final q o i InPlace here (ap (λ (l : List ClusterMapping). slice_get l i) items ∙ get_set_same p.clusters.items i InPlace cluster_mapping was)
 
     was_private : (o : ℕ) → o / cluster_size h ≡ cluster_of h p + i → IsTrue (is_private view backing old p o)
-    was_private o here = private_is view backing old p o i share here was ∙ is_entered_now
+    was_private o here = private_is view backing old p o i cluster_mapping here was ∙ is_entered_now
 
     others_same : (o : ℕ) → o / cluster_size h ≢ cluster_of h p + i → is_private view backing final q o ≡ is_private view backing old p o
-    others_same o other = ap (λ x. option_map_or is_entered x false) (share_same h p q i refl items (o / cluster_size h) other)
+    others_same o other = ap (λ x. option_map_or is_entered x false) (mapping_same h p q i refl items (o / cluster_size h) other)
 
     disk_here : (o : ℕ) → o / cluster_size h ≡ cluster_of h p + i → (disk known below).value o ≡ (committed d m).value o
     disk_here o here =
@@ -493,9 +493,9 @@ module _ {S F : Type 0} (view : S → StorageView) (backing : F → BackingView)
         let at : guest_at h row column * cluster_size h ≡ (cluster_of h p + i) * cluster_size h = ap (λ n. n * cluster_size h) g in
         let r : (cluster_of h p + i) * cluster_size h ≡ cluster_of h p * cluster_size h + i * cluster_size h = omega arith in
         let end = ends_at h s.known s.on_storage p t pending in
-        let more : length p.shares.items ≡ i + 1 + (length p.shares.items - i - 1) = omega arith in
-        let span : (cluster_of h p + length p.shares.items) * cluster_size h ≡ (cluster_of h p + (i + 1 + (length p.shares.items - i - 1))) * cluster_size h = ap (λ n. (cluster_of h p + n) * cluster_size h) more in
-        let parts : (cluster_of h p + (i + 1 + (length p.shares.items - i - 1))) * cluster_size h ≡ cluster_of h p * cluster_size h + i * cluster_size h + cluster_size h + (length p.shares.items - i - 1) * cluster_size h = omega arith in
+        let more : length p.clusters.items ≡ i + 1 + (length p.clusters.items - i - 1) = omega arith in
+        let span : (cluster_of h p + length p.clusters.items) * cluster_size h ≡ (cluster_of h p + (i + 1 + (length p.clusters.items - i - 1))) * cluster_size h = ap (λ n. (cluster_of h p + n) * cluster_size h) more in
+        let parts : (cluster_of h p + (i + 1 + (length p.clusters.items - i - 1))) * cluster_size h ≡ cluster_of h p * cluster_size h + i * cluster_size h + cluster_size h + (length p.clusters.items - i - 1) * cluster_size h = omega arith in
         let from = is.0 in
         let to = is.1 in
         let o_is : o ≡ (cluster_of h p + i) * cluster_size h + (o - (cluster_of h p + i) * cluster_size h) = omega arith in
@@ -511,9 +511,9 @@ module _ {S F : Type 0} (view : S → StorageView) (backing : F → BackingView)
         let at : guest_at h row column * cluster_size h ≡ (cluster_of h p + i) * cluster_size h = ap (λ n. n * cluster_size h) g in
         let r : (cluster_of h p + i) * cluster_size h ≡ cluster_of h p * cluster_size h + i * cluster_size h = omega arith in
         let end = ends_at h s.known s.on_storage p t pending in
-        let more : length p.shares.items ≡ i + 1 + (length p.shares.items - i - 1) = omega (arith, lt) in
-        let span : (cluster_of h p + length p.shares.items) * cluster_size h ≡ (cluster_of h p + (i + 1 + (length p.shares.items - i - 1))) * cluster_size h = ap (λ n. (cluster_of h p + n) * cluster_size h) more in
-        let parts : (cluster_of h p + (i + 1 + (length p.shares.items - i - 1))) * cluster_size h ≡ cluster_of h p * cluster_size h + i * cluster_size h + cluster_size h + (length p.shares.items - i - 1) * cluster_size h = omega arith in
+        let more : length p.clusters.items ≡ i + 1 + (length p.clusters.items - i - 1) = omega (arith, lt) in
+        let span : (cluster_of h p + length p.clusters.items) * cluster_size h ≡ (cluster_of h p + (i + 1 + (length p.clusters.items - i - 1))) * cluster_size h = ap (λ n. (cluster_of h p + n) * cluster_size h) more in
+        let parts : (cluster_of h p + (i + 1 + (length p.clusters.items - i - 1))) * cluster_size h ≡ cluster_of h p * cluster_size h + i * cluster_size h + cluster_size h + (length p.clusters.items - i - 1) * cluster_size h = omega arith in
         let all = whole_count in touches_part (cluster_size h) _ _ _ _ (omega (arith, at, r)) (omega (arith, at, r, end, span, parts, all))
 
     -- it is none of those beside the mapping
@@ -525,9 +525,9 @@ module _ {S F : Type 0} (view : S → StorageView) (backing : F → BackingView)
         let f : p.guest / cluster_size h * cluster_size h + p.guest % cluster_size h ≡ p.guest = div-add-mod' p.guest (cluster_size h) in
         let at : g * cluster_size h ≡ (cluster_of h p + i) * cluster_size h = ap (λ n. n * cluster_size h) is in
         let r : (cluster_of h p + i) * cluster_size h ≡ cluster_of h p * cluster_size h + i * cluster_size h = omega arith in
-        let more : length p.shares.items ≡ i + 1 + (length p.shares.items - i - 1) = omega (arith, lt) in
-        let span : length p.shares.items * cluster_size h ≡ (i + 1 + (length p.shares.items - i - 1)) * cluster_size h = ap (λ n. n * cluster_size h) more in
-        let parts : (i + 1 + (length p.shares.items - i - 1)) * cluster_size h ≡ i * cluster_size h + cluster_size h + (length p.shares.items - i - 1) * cluster_size h = omega arith in
+        let more : length p.clusters.items ≡ i + 1 + (length p.clusters.items - i - 1) = omega (arith, lt) in
+        let span : length p.clusters.items * cluster_size h ≡ (i + 1 + (length p.clusters.items - i - 1)) * cluster_size h = ap (λ n. n * cluster_size h) more in
+        let parts : (i + 1 + (length p.clusters.items - i - 1)) * cluster_size h ≡ i * cluster_size h + cluster_size h + (length p.clusters.items - i - 1) * cluster_size h = omega arith in
         omega (arith, none, f, at, r, span, parts, past)
 
     enters_q : CommitsPart view backing old final out k p q

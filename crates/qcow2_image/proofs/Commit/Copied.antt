@@ -12,16 +12,16 @@ use Rattle.qcow2_alloc.specs.declared.error.ImageError.{ImageError}
 use Rattle.qcow2_alloc.specs.ImageFile.{contents_in, known_in}
 use Rattle.qcow2_image.specs.declared.image.Qcow2.{Qcow2}
 use Rattle.qcow2_image.specs.declared.prepared.Prepared.{Prepared}
-use Rattle.qcow2_image.specs.declared.prepared.Share.TheVariants.{InPlace}
+use Rattle.qcow2_image.specs.declared.prepared.ClusterMapping.TheVariants.{InPlace}
 use Rattle.qcow2_image.specs.CallParts.{CommitsAll, EndsFreeing, EntersAll, IsEntered, InternalCall}
 use Rattle.qcow2_image.specs.ImageInvariant.{cluster_of, host_begin_of, pending_in, IsPending, IsReadyWith, ImageInvariant}
 use Rattle.qcow2_image.specs.Ranges.{ReleasesOneMapping}
 use Rattle.qcow2_image.proofs.Call.Called.{Quietly, quiet_sound}
 use Rattle.qcow2_image.proofs.Call.Slots.{get_set_same}
-use Rattle.qcow2_image.proofs.Moved.{data_moved}
-use Rattle.qcow2_image.proofs.Shares.{byte_cluster, byte_place, byte_share}
+use Rattle.qcow2_image.proofs.Images.Moved.{data_moved}
+use Rattle.qcow2_image.proofs.Images.ClusterMappings.{byte_cluster, byte_place, byte_of_mapping}
 
--- a byte of a mapping whose shares are all in place
+-- a byte of a mapping whose clusters are all in place
 module _ (h : HeaderFields) (p : Prepared) (known on_storage : Bytes) where
   module _ (t : ℕ) (pending : IsPending h known on_storage p t) (i : ℕ) (lt : i < p.length) where
     abbrev index : ℕ
@@ -37,15 +37,15 @@ module _ (h : HeaderFields) (p : Prepared) (known on_storage : Bytes) where
         let same : (p.guest + 0 + i) % cluster_size h ≡ (p.guest + i) % cluster_size h = ap (λ o. o % cluster_size h) none in
         omega (arith, is, same)
 
-    stands : ((j : ℕ) → j < length p.shares.items → slice_get p.shares.items j ≡ Some InPlace) → IsDataAt h known true (p.guest + i) (p.offset + i)
-    stands each = (host_begin_of h p index, ap (cover h known) here ∙ pending.each index InPlace (each index (byte_share h p known on_storage t pending 0 i p.length (omega arith) lt)), place)
+    stands : ((j : ℕ) → j < length p.clusters.items → slice_get p.clusters.items j ≡ Some InPlace) → IsDataAt h known true (p.guest + i) (p.offset + i)
+    stands each = (host_begin_of h p index, ap (cover h known) here ∙ pending.each index InPlace (each index (byte_of_mapping h p known on_storage t pending 0 i p.length (omega arith) lt)), place)
 
-  stand_all : ((j : ℕ) → j < length p.shares.items → slice_get p.shares.items j ≡ Some InPlace) → (table : Option ℕ) → IsSome table → IsReadyWith h known on_storage p table → AreDataAt h known true p.guest p.offset p.length
+  stand_all : ((j : ℕ) → j < length p.clusters.items → slice_get p.clusters.items j ≡ Some InPlace) → (table : Option ℕ) → IsSome table → IsReadyWith h known on_storage p table → AreDataAt h known true p.guest p.offset p.length
   stand_all each None some ready = absurd (let e : false ≡ true = some in cc)
   stand_all each (Some t) some ready = λ i lt. stands t ready i lt each
 
 module _ {S F : Type 0} (view : S → StorageView) where
-  -- so are those of a mapping whose shares were entered
+  -- the bytes of a mapping whose clusters were entered are copied data
   pub stands_entered : (entered : Qcow2 S F) (p q : Prepared) → IsSome p.table → IsEntered p q → IsReadyWith entered.file.header.fields (known_in view entered.file) (contents_in view entered.file) q q.table → AreDataAt entered.file.header.fields (known_in view entered.file) true p.guest p.offset p.length
   stands_entered entered p q some whole ready =
       let many = whole.many in

@@ -1,4 +1,4 @@
--- The shares of a prepared mapping are entered one after another, until nothing of it is private.
+-- The clusters of a prepared mapping are entered one after another, until no byte of it is private.
 use Rattle.qcow2_alloc.specs.KeptMarks.{KeepsFileNotes}
 use Rattle.qcow2_image.proofs.Call.Notes.{same_kept, table_kept}
 use Rattle.qcow2_alloc.proofs.KeptMarks.{notes_none, notes_then}
@@ -32,17 +32,17 @@ use Rattle.qcow2_image.specs.BehindHeader.{PreservesHeaderCluster}
 use Rattle.qcow2_image.proofs.Call.BehindHeader.{behind_by, behind_none, behind_tables, behind_then}
 use Rattle.qcow2_image.specs.declared.image.Qcow2.{Qcow2}
 use Rattle.qcow2_image.specs.declared.prepared.Prepared.{Prepared}
-use Rattle.qcow2_image.specs.declared.prepared.Share.{Share}
-use Rattle.qcow2_image.specs.declared.prepared.Share.TheVariants.{InPlace, Kept, New}
+use Rattle.qcow2_image.specs.declared.prepared.ClusterMapping.{ClusterMapping}
+use Rattle.qcow2_image.specs.declared.prepared.ClusterMapping.TheVariants.{InPlace, Kept, New}
 use Rattle.qcow2_image.specs.CallParts.{CommitsPart, EntersAll, IsEntered, ShowsPart}
 use Rattle.qcow2_image.specs.Image.{ImageStays}
-use Rattle.qcow2_image.specs.InternalSteps.{DropsNothing, EntersShare, old_data_by}
-use Rattle.qcow2_image.specs.ImageInvariant.{cluster_of, host_begin_of, is_entered, pins_by, pending_in, abstract_of, meaning, is_private, IsShareAt, IsPending, IsReadyWith, ImageInvariant}
-use Rattle.qcow2_image.proofs.Apart.{pins_own}
+use Rattle.qcow2_image.specs.InternalSteps.{DropsNothing, EntersMapping, old_data_by}
+use Rattle.qcow2_image.specs.ImageInvariant.{cluster_of, host_begin_of, is_entered, pins_by, pending_in, abstract_of, meaning, is_private, IsClusterMappingAt, IsPending, IsReadyWith, ImageInvariant}
+use Rattle.qcow2_image.proofs.Images.Apart.{pins_own}
 use Rattle.qcow2_image.proofs.Call.Called.{works_none}
 use Rattle.qcow2_image.proofs.Call.Slots.{get_set_other, get_set_same, length_set, set_same, set_set}
 use Rattle.qcow2_image.proofs.Commit.Committing.{enters_part}
-use Rattle.qcow2_image.proofs.Shares.{host_first, over_all_at, private_shared}
+use Rattle.qcow2_image.proofs.Images.ClusterMappings.{host_first, over_all_at, private_shared}
 
 -- ---- what a guest sees, in parts
 -- nothing is shown anew
@@ -134,7 +134,7 @@ module _ {S F : Type 0} (view : S → StorageView) (backing : F → BackingView)
         beside = λ g outside. first.beside g outside ∙ next.beside g (outside_same p.guest q.guest p.length q.length va.setting.cluster_size vb.setting.cluster_size g first.shows.from first.shows.length sizes outside);
       }
 
--- ---- one share is entered
+-- ---- one cluster is entered
 
 -- a table with a pin is held
 slot_new_data : {V : Type 0} (x : Option (Slot V)) → 0 < option_map_or (λ (s : Slot V). s.pins) x 0 → IsSome (option_map (λ (s : Slot V). s.value) x)
@@ -144,18 +144,18 @@ slot_new_data (Some s) some = refl
 pub pinned_new_data : {S : Type 0} (caches : MetadataCaches S) (t : ℕ) → 0 < l2_pins caches t → IsSome (l2_at caches t)
 pinned_new_data caches t some = slot_new_data (lookup (λ k. t == k) caches.l2.entries) some
 
--- the cluster of a share that is entered
+-- the host cluster of a cluster that is entered
 pub record HasFirst (h : HeaderFields) (p : Prepared) (i : ℕ) : Type 0 where
   pub first : ℕ
   pub place : first * cluster_size h ≡ host_begin_of h p i
   pub nameable : IsHostCluster h.cluster_bits first
 
-first_as : (h : HeaderFields) (known on_storage : Bytes) (p : Prepared) (i : ℕ) (share : Share) → IsTrue (is_entered share) → IsShareAt h known on_storage p i share → HasFirst h p i
+first_as : (h : HeaderFields) (known on_storage : Bytes) (p : Prepared) (i : ℕ) (cluster_mapping : ClusterMapping) → IsTrue (is_entered cluster_mapping) → IsClusterMappingAt h known on_storage p i cluster_mapping → HasFirst h p i
 first_as h known on_storage p i InPlace entered at = absurd (let e : false ≡ true = entered in cc)
 first_as h known on_storage p i Kept entered at = record { first = at.first; place = at.place; nameable = at.nameable }
 first_as h known on_storage p i (New taken old_data) entered at = record { first = at.first; place = at.place; nameable = at.nameable }
 
-module _ {S F : Type 0} (view : S → StorageView) (backing : F → BackingView) (old new : Qcow2 S F) (i : ℕ) (p q : Prepared) (enters : EntersShare i p q old new) (out : List (Option Prepared)) (k : ℕ) (placed : slice_get out k ≡ Some (Some p)) (t : ℕ) (is_table : p.table ≡ Some t)
+module _ {S F : Type 0} (view : S → StorageView) (backing : F → BackingView) (old new : Qcow2 S F) (i : ℕ) (p q : Prepared) (enters : EntersMapping i p q old new) (out : List (Option Prepared)) (k : ℕ) (placed : slice_get out k ≡ Some (Some p)) (t : ℕ) (is_table : p.table ≡ Some t)
     (sound : ImageInvariant view backing (pending_in view backing old out) old out) where
   abbrev h : HeaderFields
   h = old.file.header.fields
@@ -163,11 +163,11 @@ module _ {S F : Type 0} (view : S → StorageView) (backing : F → BackingView)
   pending : IsPending h (known_in view old.file) (contents_in view old.file) p t
   pending = subst (IsReadyWith h (known_in view old.file) (contents_in view old.file) p) is_table (sound.ready k p placed).mapped
 
-  stands : IsShareAt h (known_in view old.file) (contents_in view old.file) p i enters.share
-  stands = pending.each i enters.share enters.was
+  stands : IsClusterMappingAt h (known_in view old.file) (contents_in view old.file) p i enters.cluster_mapping
+  stands = pending.each i enters.cluster_mapping enters.was
 
   its : HasFirst h p i
-  its = first_as h (known_in view old.file) (contents_in view old.file) p i enters.share enters.entered stands
+  its = first_as h (known_in view old.file) (contents_in view old.file) p i enters.cluster_mapping enters.entered stands
 
   found : IsSome (l2_at old.file.caches t)
   found = pinned_new_data old.file.caches t (
@@ -180,7 +180,7 @@ module _ {S F : Type 0} (view : S → StorageView) (backing : F → BackingView)
   small = pow_mono sound.file.caches.kept.kept.crash_invariant.top.header_reads.well_formed.in_range.cluster_bits.1
 
   inside : cluster_of h p % entries_per_cluster h + i < entries_per_cluster h
-  inside = let lt = slice_get_within p.shares.items i enters.share enters.was in let within = pending.within in omega arith
+  inside = let lt = slice_get_within p.clusters.items i enters.cluster_mapping enters.was in let within = pending.within in omega arith
 
   index_is : min (cluster_of h p % entries_per_cluster h + i) (2 ^ 64 - 1) ≡ cluster_of h p % entries_per_cluster h + i
   index_is = let few = small in let lt = inside in omega arith
@@ -202,13 +202,13 @@ module _ {S F : Type 0} (view : S → StorageView) (backing : F → BackingView)
       )
 
   pub entered_part : CommitsPart view backing old new out k p q
-  entered_part = enters_part view backing old p q t i enters.share is_table enters.was enters.entered enters.shares enters.mid.file.caches enters.enters.marks enters.enters.order made.0 out k placed sound its.first its.place its.nameable found made.1 stands q enters.mapping new
-      (enters.lists ∙ ap (λ (m : Qcow2 S F). record m { file = record m.file { free_list = m.file.free_list ++ old_data_by enters.share } }) enters.enters.rest)
+  entered_part = enters_part view backing old p q t i enters.cluster_mapping is_table enters.was enters.entered enters.clusters enters.mid.file.caches enters.enters.marks enters.enters.order made.0 out k placed sound its.first its.place its.nameable found made.1 stands q enters.mapping new
+      (enters.lists ∙ ap (λ (m : Qcow2 S F). record m { file = record m.file { free_list = m.file.free_list ++ old_data_by enters.cluster_mapping } }) enters.enters.rest)
 
-  -- a change is noted
+  -- a change is recorded
   pub entered_noted : IsTrue new.file.caches.is_changed
   entered_noted =
-      ap (λ (m : Qcow2 S F). m.file.caches.is_changed) enters.lists ∙ enters.enters.noted t is_table h (pending_in view backing old out) (contents_in view old.file) (cluster_of h p / entries_per_cluster h) sound.file.caches
+      ap (λ (m : Qcow2 S F). m.file.caches.is_changed) enters.lists ∙ enters.enters.recorded t is_table h (pending_in view backing old out) (contents_in view old.file) (cluster_of h p / entries_per_cluster h) sound.file.caches
       (record { real = pending.named.real; place = pending.named.place; within = subst (λ j. j < entries_per_cluster h) (sym index_is) inside }) found (subst (IsHostCluster h.cluster_bits) (sym cluster_is) its.nameable)
 
 -- a table that is there
@@ -216,18 +216,18 @@ pub table_there : (x : Option ℕ) → IsSome x → (t : ℕ) × (x ≡ Some t)
 table_there None some = absurd (let e : false ≡ true = some in cc)
 table_there (Some t) some = (t, refl)
 
--- where each share is in place, nothing is private
-pub all_in_place : {S F : Type 0} (view : S → StorageView) (backing : F → BackingView) (image : Qcow2 S F) (p : Prepared) → ((j : ℕ) → j < length p.shares.items → slice_get p.shares.items j ≡ Some InPlace) → (o : ℕ) → is_private view backing image p o ≡ false
+-- if each cluster is in place, nothing is private
+pub all_in_place : {S F : Type 0} (view : S → StorageView) (backing : F → BackingView) (image : Qcow2 S F) (p : Prepared) → ((j : ℕ) → j < length p.clusters.items → slice_get p.clusters.items j ≡ Some InPlace) → (o : ℕ) → is_private view backing image p o ≡ false
 all_in_place view backing image p each o = by_test (is_private view backing image p o) refl where
   by_test : (b : Bool) → is_private view backing image p o ≡ b → is_private view backing image p o ≡ false
   by_test false isnt = isnt
   by_test true private =
       let shared = private_shared view backing image p o private in
-      let e : Some shared.share ≡ Some InPlace = sym shared.is ∙ each shared.index (slice_get_within p.shares.items shared.index shared.share shared.is) in
-      let same : shared.share ≡ InPlace = cc in
+      let e : Some shared.cluster_mapping ≡ Some InPlace = sym shared.is ∙ each shared.index (slice_get_within p.clusters.items shared.index shared.cluster_mapping shared.is) in
+      let same : shared.cluster_mapping ≡ InPlace = cc in
       absurd (let f : true ≡ false = sym shared.entered ∙ ap is_entered same in cc)
 
--- ---- the first shares are entered
+-- ---- the first clusters are entered
 -- a cached table and what is to be freed change, as they may have before
 rest_entered : {S F : Type 0} (old now mid new : Qcow2 S F) (more : List ClustersToFreeEntry) → now ≡ record old { file = record old.file { caches = now.file.caches; free_list = now.file.free_list } } → mid ≡ record now { file = record now.file { caches = mid.file.caches } }
     → new ≡ record mid { file = record mid.file { free_list = mid.file.free_list ++ more } } → new ≡ record old { file = record old.file { caches = new.file.caches; free_list = new.file.free_list } }
@@ -241,10 +241,10 @@ module _ {S F : Type 0} (view : S → StorageView) (backing : F → BackingView)
     pub stays : ImageStays old now
     pub rest : now ≡ record old { file = record old.file { caches = now.file.caches; free_list = now.file.free_list } }
     pub none : entered ≡ false → (now ≡ old) × (q ≡ p)
-    pub mapping : q ≡ record p { shares = q.shares }
+    pub mapping : q ≡ record p { clusters = q.clusters }
     pub table : q.table ≡ p.table
-    pub count : length q.shares.items ≡ length p.shares.items
-    pub in_place : (j : ℕ) → j < n → slice_get q.shares.items j ≡ Some InPlace
+    pub count : length q.clusters.items ≡ length p.clusters.items
+    pub in_place : (j : ℕ) → j < n → slice_get q.clusters.items j ≡ Some InPlace
     pub parts : (out : List (Option Prepared)) (k : ℕ) → slice_get out k ≡ Some (Some p) → IsSome p.table → ImageInvariant view backing (pending_in view backing old out) old out
         → CommitsPart view backing old now out k p q × (IsTrue entered → IsTrue now.file.caches.is_changed)
     pub notes : KeepsFileNotes view old.file now.file
@@ -268,7 +268,7 @@ module _ {S F : Type 0} (view : S → StorageView) (backing : F → BackingView)
 
   module _ (old now new : Qcow2 S F) (p q r : Prepared) (n : ℕ) (entered : Bool) (first : EntersFirst old now p q n entered) where
     -- the next one is in place
-    pub first_false : (new ≡ now) × (r ≡ q) × (slice_get q.shares.items n ≡ Some InPlace) → EntersFirst old new p r (n + 1) entered
+    pub first_false : (new ≡ now) × (r ≡ q) × (slice_get q.clusters.items n ≡ Some InPlace) → EntersFirst old new p r (n + 1) entered
     first_false same =
         subst (λ (x : Qcow2 S F). EntersFirst old x p r (n + 1) entered) (sym same.0) (subst (λ (x : Prepared). EntersFirst old now p x (n + 1) entered) (sym same.1)
         (record {
@@ -279,7 +279,7 @@ module _ {S F : Type 0} (view : S → StorageView) (backing : F → BackingView)
           table = first.table;
           count = first.count;
           in_place = λ j lt. elim (cases_eq j n) [
-            | inl here ↦ ap (slice_get q.shares.items) here ∙ same.2
+            | inl here ↦ ap (slice_get q.clusters.items) here ∙ same.2
             | inr other ↦ first.in_place j (omega arith)
           ];
           parts = first.parts;
@@ -289,18 +289,18 @@ module _ {S F : Type 0} (view : S → StorageView) (backing : F → BackingView)
         }))
 
     -- what is in place drops nothing
-    left_of : (q r : Prepared) (n : ℕ) → EntersShare n q r now new → DropsNothing q → DropsNothing r
-    left_of q r n enters none i share at = elim (cases_eq i n) [
+    left_of : (q r : Prepared) (n : ℕ) → EntersMapping n q r now new → DropsNothing q → DropsNothing r
+    left_of q r n enters none i cluster_mapping at = elim (cases_eq i n) [
       | inl here ↦
-          let there : Some share ≡ Some InPlace =
-          sym at ∙ ap (λ (l : List Share). slice_get l i) enters.shares ∙ ap (slice_get (slice_set q.shares.items n InPlace)) here ∙ get_set_same q.shares.items n InPlace enters.share enters.was in
-          let is : share ≡ InPlace = cc in
+          let there : Some cluster_mapping ≡ Some InPlace =
+          sym at ∙ ap (λ (l : List ClusterMapping). slice_get l i) enters.clusters ∙ ap (slice_get (slice_set q.clusters.items n InPlace)) here ∙ get_set_same q.clusters.items n InPlace enters.cluster_mapping enters.was in
+          let is : cluster_mapping ≡ InPlace = cc in
           ap old_data_by is
-      | inr other ↦ none i share (sym (ap (λ (l : List Share). slice_get l i) enters.shares ∙ get_set_other q.shares.items n i InPlace other) ∙ at)
+      | inr other ↦ none i cluster_mapping (sym (ap (λ (l : List ClusterMapping). slice_get l i) enters.clusters ∙ get_set_other q.clusters.items n i InPlace other) ∙ at)
     ]
 
     -- or it is entered
-    pub first_true : EntersShare n q r now new → ImageStays now new → EntersFirst old new p r (n + 1) true
+    pub first_true : EntersMapping n q r now new → ImageStays now new → EntersFirst old new p r (n + 1) true
     first_true enters stays =
         let table : r.table ≡ q.table = ap (λ (x : Prepared). x.table) enters.mapping in
         record {
@@ -308,14 +308,14 @@ module _ {S F : Type 0} (view : S → StorageView) (backing : F → BackingView)
             image = record { number = stays.image.number ∙ first.stays.image.number; size = stays.image.size ∙ first.stays.image.size; writable = stays.image.writable ∙ first.stays.image.writable; external = stays.image.external ∙ first.stays.image.external };
             failed = stays.failed ∙ first.stays.failed;
           };
-          rest = rest_entered old now enters.mid new (old_data_by enters.share) first.rest enters.enters.rest enters.lists;
+          rest = rest_entered old now enters.mid new (old_data_by enters.cluster_mapping) first.rest enters.enters.rest enters.lists;
           none = λ never. absurd (let e : true ≡ false = never in cc);
-          mapping = enters.mapping ∙ ap (λ (x : Prepared). record x { shares = r.shares }) first.mapping;
+          mapping = enters.mapping ∙ ap (λ (x : Prepared). record x { clusters = r.clusters }) first.mapping;
           table = table ∙ first.table;
-          count = ap (λ (l : List Share). length l) enters.shares ∙ length_set q.shares.items n InPlace ∙ first.count;
+          count = ap (λ (l : List ClusterMapping). length l) enters.clusters ∙ length_set q.clusters.items n InPlace ∙ first.count;
           in_place = λ j lt. elim (cases_eq j n) [
-            | inl here ↦ ap (λ (l : List Share). slice_get l j) enters.shares ∙ ap (slice_get (slice_set q.shares.items n InPlace)) here ∙ get_set_same q.shares.items n InPlace enters.share enters.was
-            | inr other ↦ ap (λ (l : List Share). slice_get l j) enters.shares ∙ get_set_other q.shares.items n j InPlace other ∙ first.in_place j (omega arith)
+            | inl here ↦ ap (λ (l : List ClusterMapping). slice_get l j) enters.clusters ∙ ap (slice_get (slice_set q.clusters.items n InPlace)) here ∙ get_set_same q.clusters.items n InPlace enters.cluster_mapping enters.was
+            | inr other ↦ ap (λ (l : List ClusterMapping). slice_get l j) enters.clusters ∙ get_set_other q.clusters.items n j InPlace other ∙ first.in_place j (omega arith)
           ];
           parts = λ out k placed some sound.
               let before = (first.parts out k placed some sound).0 in
@@ -327,21 +327,21 @@ module _ {S F : Type 0} (view : S → StorageView) (backing : F → BackingView)
           notes = notes_then first.notes (notes_then (table_kept now enters.mid (ap (λ (m : Qcow2 S F). m.file.storage) enters.enters.rest) enters.enters.marks) (same_kept enters.mid new (ap (λ (m : Qcow2 S F). m.file.storage) enters.lists) (ap (λ (m : Qcow2 S F). m.file.caches) enters.lists)));
           quiet = λ none.
               let before = first.quiet none in
-              let last : new.file.free_list ≡ enters.mid.file.free_list ++ old_data_by enters.share = ap (λ (m : Qcow2 S F). m.file.free_list) enters.lists in
+              let last : new.file.free_list ≡ enters.mid.file.free_list ++ old_data_by enters.cluster_mapping = ap (λ (m : Qcow2 S F). m.file.free_list) enters.lists in
               let rest : enters.mid.file.free_list ≡ now.file.free_list = ap (λ (m : Qcow2 S F). m.file.free_list) enters.enters.rest in (
-                λ i share at. left_of q r n enters before.0 i share at,
-                last ∙ ap (λ l. enters.mid.file.free_list ++ l) (before.0 n enters.share enters.was) ∙ append-nil enters.mid.file.free_list ∙ rest ∙ before.1,
+                λ i cluster_mapping at. left_of q r n enters before.0 i cluster_mapping at,
+                last ∙ ap (λ l. enters.mid.file.free_list ++ l) (before.0 n enters.cluster_mapping enters.was) ∙ append-nil enters.mid.file.free_list ∙ rest ∙ before.1,
               );
           behind = behind_then first.behind (behind_then (behind_by view enters.enters.rest (behind_tables enters.enters.behind)) (behind_by view enters.lists behind_none));
         }
 
   -- all are
-  pub enters_all : (old now : Qcow2 S F) (p q : Prepared) (n : ℕ) (entered : Bool) → EntersFirst old now p q n entered → n ≡ length p.shares.items → EntersAll view backing old now p q entered
+  pub enters_all : (old now : Qcow2 S F) (p q : Prepared) (n : ℕ) (entered : Bool) → EntersFirst old now p q n entered → n ≡ length p.clusters.items → EntersAll view backing old now p q entered
   enters_all old now p q n entered first all = λ out k placed some sound.
       let parts = first.parts out k placed some sound in
       let many = first.count in
       (record { part = parts.0; visible = all_in_place view backing now q (λ j lt. first.in_place j (omega arith)) }, parts.1)
 
   -- and all are in place
-  pub entered_whole : (old now : Qcow2 S F) (p q : Prepared) (n : ℕ) (entered : Bool) → EntersFirst old now p q n entered → n ≡ length p.shares.items → IsEntered p q
+  pub entered_whole : (old now : Qcow2 S F) (p q : Prepared) (n : ℕ) (entered : Bool) → EntersFirst old now p q n entered → n ≡ length p.clusters.items → IsEntered p q
   entered_whole old now p q n entered first all = record { mapping = first.mapping; table = first.table; many = first.count; in_place = λ j lt. first.in_place j (omega (arith, lt, all)) }

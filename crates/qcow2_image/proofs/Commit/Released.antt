@@ -1,4 +1,4 @@
--- A prepared mapping is let go: its place is free, and its cluster is to be freed.
+-- A prepared mapping is released: its slot is empty, and its new clusters wait to be freed.
 use Rattle.std.proofs.Common.{◌≡◌, inl, inr, ℕ, ◌+◌, ◌-◌, ◌≤◌, Bool, true, false, List, [], ◌++◌, refl, sym, ap, ◌∙◌, subst, arith, cond}
 use Rattle.std.specs.Prelude.{Option, Some, None, slice_get, slice_set, nat_le, nat_lt, ◌&&◌}
 use Rattle.std.proofs.lemmas.Bool.{cases_lt}
@@ -25,13 +25,13 @@ use Rattle.qcow2_alloc.specs.ImageFile.{state_in, view_in, contents_in, known_in
 use Rattle.qcow2_metadata.specs.Entries.{count}
 use Rattle.qcow2_image.specs.declared.image.Qcow2.{Qcow2}
 use Rattle.qcow2_image.specs.declared.prepared.Prepared.{Prepared}
-use Rattle.qcow2_image.specs.declared.prepared.Share.{Share}
+use Rattle.qcow2_image.specs.declared.prepared.ClusterMapping.{ClusterMapping}
 use Rattle.qcow2_image.specs.Calls.{Discards}
 use Rattle.qcow2_image.specs.InternalSteps.{freed_by}
 use Rattle.qcow2_image.specs.ImageInvariant.{of_data, of_tables, new_data_by, pins_by, pending_in, abstract_of, meaning, backing_bytes, IsReadyWith, ImageInvariant}
 use Rattle.qcow2_image.proofs.Call.Answered.{same_guest}
-use Rattle.qcow2_image.proofs.Shares.{IsOfData, freed_data, freed_tables, of_data_at, over_all_at, ready_table}
-use Rattle.qcow2_image.proofs.Sound.{free_more}
+use Rattle.qcow2_image.proofs.Images.ClusterMappings.{IsOfData, freed_data, freed_tables, of_data_at, over_all_at, ready_table}
+use Rattle.qcow2_image.proofs.Images.Sound.{free_more}
 use Rattle.qcow2_image.proofs.Open.Reftables.{reftable_still}
 use Rattle.qcow2_image.proofs.Call.Slots.{others_left, over_all_left, slot_set}
 use Rattle.qcow2_image.proofs.Call.Stepped.{Steps, stepped_sound, stepped_works}
@@ -58,7 +58,7 @@ run_few first n k = elim (nat_le first k && nat_lt k (first + n)) as (λ (b : Bo
 module _ {S F : Type 0} (view : S → StorageView) (backing : F → BackingView) (old : Qcow2 S F) (p : Prepared) (caches : MetadataCaches S) (tables : SameTables old.file.caches caches)
     (pins : (c : ℕ) → l2_pins caches c ≡ l2_pins old.file.caches c - pins_by p c) where
   abbrev pub left : Qcow2 S F
-  left = record old { file = record old.file { free_list = old.file.free_list ++ freed_by p.shares.items; caches = caches } }
+  left = record old { file = record old.file { free_list = old.file.free_list ++ freed_by p.clusters.items; caches = caches } }
 
   abbrev h : HeaderFields
   h = old.file.header.fields
@@ -93,10 +93,10 @@ module _ {S F : Type 0} (view : S → StorageView) (backing : F → BackingView)
       release_prepared_safe_step = subst (λ s. SafeStep before s nothing_given []) (sym same_stand)
           (pending_is_changed.old_data before (new_data_by p) sound.file.caches.kept.kept.crash_invariant new_data_few (λ c some. let all = over_all_at new_data_by out k p at c in omega arith))
 
-      as_data : (i : ℕ) (share : Share) → slice_get p.shares.items i ≡ Some share → IsOfData share
-      as_data i share is =
-          let pending = ready_table view backing old (known_in view old.file) (contents_in view old.file) p i share is (sound.ready k p at).mapped in
-          of_data_at h (known_in view old.file) (contents_in view old.file) p i share (pending.2.each i share is)
+      as_data : (i : ℕ) (cluster_mapping : ClusterMapping) → slice_get p.clusters.items i ≡ Some cluster_mapping → IsOfData cluster_mapping
+      as_data i cluster_mapping is =
+          let pending = ready_table view backing old (known_in view old.file) (contents_in view old.file) p i cluster_mapping is (sound.ready k p at).mapped in
+          of_data_at h (known_in view old.file) (contents_in view old.file) p i cluster_mapping (pending.2.each i cluster_mapping is)
 
       release_prepared_sound : ImageInvariant view backing after left (slice_set out k None)
       release_prepared_sound = record {
@@ -121,8 +121,8 @@ module _ {S F : Type 0} (view : S → StorageView) (backing : F → BackingView)
         only = record {
           new_data = λ c. let all = over_all_left new_data_by out k p at c in omega arith;
           new_tables = λ c. refl;
-          old_tables = λ c. let more = free_more of_tables old.file.free_list (freed_by p.shares.items) c in let none = freed_tables p.shares.items as_data c in omega arith;
-          old_data = λ c. let more = free_more of_data old.file.free_list (freed_by p.shares.items) c in let one = freed_data p.shares.items c in omega arith;
+          old_tables = λ c. let more = free_more of_tables old.file.free_list (freed_by p.clusters.items) c in let none = freed_tables p.clusters.items as_data c in omega arith;
+          old_data = λ c. let more = free_more of_data old.file.free_list (freed_by p.clusters.items) c in let one = freed_data p.clusters.items c in omega arith;
         };
         safe_step = release_prepared_safe_step;
         since = pending_safe_throughout (view_in view old.file) before (state_in view left.file after) refl release_prepared_safe_step;

@@ -1,5 +1,5 @@
 -- Why an image is not created: the refusals of its parts, and when a fault of the storage is reported.
-use Rattle.std.proofs.Common.{[], List, ◌≡◌, ◌≢◌, inl, inr, ℕ, ◌+◌, ◌^◌, ◌<◌, ◌≤◌, true, Option, Some, None, Result, Ok, Err, refl, sym, ap, ◌∙◌, subst, arith}
+use Rattle.std.proofs.Common.{[], ◌≡◌, ◌≢◌, ◌⊎◌, inl, inr, ℕ, ◌+◌, ◌^◌, ◌<◌, ◌≤◌, true, Option, Some, None, Result, Ok, Err, refl, sym, ap, ◌∙◌, subst, arith}
 use Rattle.std.specs.Prelude.{IfErr, IsTrue, not}
 use Rattle.std.specs.Option.{option_or}
 use Rattle.std.specs.Int.{bit_at, trailing_zeros, w64}
@@ -13,15 +13,14 @@ use Rattle.image_access.proofs.EachMomentSince.{rose_since}
 use Rattle.qcow2_alloc.specs.declared.error.ImageError.{ImageError}
 use Rattle.qcow2_alloc.specs.declared.error.ImageError.TheVariants as I
 use Rattle.qcow2_metadata.specs.Bytes.{byte_at}
-use Rattle.qcow2_metadata.specs.Header.{HeaderView, header}
-use Rattle.qcow2_metadata.specs.HeaderWrite.{CanBeNew, new_header}
+use Rattle.qcow2_metadata.specs.Header.{header}
+use Rattle.qcow2_metadata.specs.HeaderWrite.{CanBeNew}
 use Rattle.qcow2_metadata.specs.Consistent.{IsConsistent}
 use Rattle.qcow2_laws.specs.NewImages.{IsNewImage}
 use Rattle.qcow2_laws.proofs.NewImages.{new_image_consistent}
 use Rattle.qcow2_disk.specs.AbstractImages.{IsOpened}
-use Rattle.qcow2_alloc.specs.Faults.{FaultsTold}
-use Rattle.qcow2_image.proofs.Prepare.Lacked.{limits_as}
-use Rattle.qcow2_image.proofs.Sizes.{sound_is_usable}
+use Rattle.qcow2_alloc.specs.Faults.{FaultsReported}
+use Rattle.qcow2_image.proofs.Images.Sizes.{sound_is_usable}
 use Rattle.qcow2_alloc.specs.ImageError.{IsFault}
 use Rattle.qcow2_image.specs.declared.image.Missing.TheVariants as N
 use Rattle.qcow2_image.specs.declared.image.Qcow2.{Qcow2}
@@ -29,31 +28,30 @@ use Rattle.qcow2_image.specs.CountedOpening.{OpeningCounts}
 use Rattle.qcow2_image.specs.Faults.{CountsImageFaults}
 use Rattle.qcow2_image.specs.Image.{is_writable, storage_of_image}
 use Rattle.qcow2_image.specs.ImageInvariant.{abstract_of, faults_below}
-use Rattle.qcow2_image.specs.Created.{CantEnlarge, HasLogarithms, IsAllowed, IsReasonAgainst, backing_format_in, backing_name_in, IsCreated, IsReasonNotToCreate, IsReasonNotToCreateOpen, LacksPlaceCreating, longest_disk, none_below}
+use Rattle.qcow2_image.specs.Created.{HasLogarithms, IsAllowed, IsReasonAgainst, backing_format_in, backing_name_in, IsCreated, IsReasonNotToCreate, IsReasonNotToCreateOpen, LacksPlaceCreating, longest_disk}
 use Rattle.qcow2_image.specs.declared.builder.Qcow2CreateBuilder.{Qcow2CreateBuilder}
-use Rattle.qcow2_image.specs.Readable.{IsRefusedRightly, OpensRightly}
-use Rattle.qcow2_image.specs.Refusals.{IsFaultOrLimit, IsMet, IsUnlimited, refuse_if}
+use Rattle.qcow2_image.specs.Readable.{IsJustifiedRefusal, OpensRightly}
+use Rattle.qcow2_image.specs.Refusals.{IsFaultOrLimit, MayFail, IsUnlimited, refuse_if}
 use Rattle.qcow2_image.specs.Resizing.{refuses_to_resize}
-use Rattle.qcow2_metadata.specs.declared.header.HeaderFields.{HeaderFields}
 use Rattle.qcow2_image.proofs.Create.Faults.{opening_fault}
 use Rattle.qcow2_image.proofs.Create.NewDisks.{new_disk_consistent}
 
-fault_met : (e : ImageError) → IsFault e → IsMet e
-fault_met e fault = elim fault [ inl storage ↦ subst IsMet (sym storage) tt | inr memory ↦ subst IsMet (sym memory) tt ]
+fault_met : (e : ImageError) → IsFault e → MayFail e
+fault_met e fault = elim fault [ inl storage ↦ subst MayFail (sym storage) tt | inr memory ↦ subst MayFail (sym memory) tt ]
 
-pub faults_met : {T : Type 0} (r : Result T ImageError) → IfErr r IsFault → IfErr r IsMet
+pub faults_met : {T : Type 0} (r : Result T ImageError) → IfErr r IsFault → IfErr r MayFail
 faults_met (Ok x) fault = tt
 faults_met (Err e) fault = fault_met e fault
 
 -- the opening of a consistent image isn't refused for a limit
-no_limit : (contents : _) → IsConsistent (byte_at contents) → IsRefusedRightly contents true N.Nothing I.Limit → ⊥
+no_limit : (contents : _) → IsConsistent (byte_at contents) → IsJustifiedRefusal contents true N.Nothing I.Limit → ⊥
 no_limit contents consistent why = elim why [
   | inl limits ↦ limits.1 consistent.header_reads.within_limits
   | inr refused ↦ elim refused.1 [ inl none ↦ absurd none | inr past ↦ let far = past.2 in let fits = consistent.reftable_fits in absurd (omega (arith, far, fits)) ]
 ]
 
 -- a new image isn't refused for a limit
-pub opening_unlimited : (contents : _) (e : ImageError) → IsNewImage (header (byte_at contents)) (byte_at contents) → IsRefusedRightly contents true N.Nothing e → IsUnlimited e
+pub opening_unlimited : (contents : _) (e : ImageError) → IsNewImage (header (byte_at contents)) (byte_at contents) → IsJustifiedRefusal contents true N.Nothing e → IsUnlimited e
 opening_unlimited contents I.Metadata new why = tt
 opening_unlimited contents I.Limit new why = no_limit contents (new_image_consistent (header (byte_at contents)) (byte_at contents) new) why
 opening_unlimited contents I.UnalignedTable new why = tt
@@ -65,19 +63,19 @@ opening_unlimited contents e new why = absurd why
 -- ---- failures of the storage
 
 module _ {S F : Type 0} (view : S → StorageView) where
-  -- an opening that is refused, and what it is told as
-  pub told_opening : {T : Type 0} (before : ℕ) (storage : S) (e : ImageError) → OpeningCounts {F = F} view before (Err (storage, e)) → FaultsTold {T = T} before (view storage).faults (Err e)
+  -- an opening that is refused, and the refusal that is reported
+  pub told_opening : {T : Type 0} (before : ℕ) (storage : S) (e : ImageError) → OpeningCounts {F = F} view before (Err (storage, e)) → FaultsReported {T = T} before (view storage).faults (Err e)
   told_opening before storage e counts = record { no_fewer = counts.no_fewer; rose = λ is. counts.rose (cc is); told = counts.told }
 
   -- an image that is opened, changed and closed, with no disk below that fails
   pub told_closed : {T : Type 0} (backing : F → BackingView) → ((b : F) → (backing b).faults ≡ 0) → (before : ℕ) (old new : Qcow2 S F) (last : S) (r : Result T ImageError) → (view (storage_of_image old)).faults ≡ before → CountsImageFaults view backing old new r
-      → last ≡ storage_of_image new → FaultsTold before (view last).faults r
-  told_closed {T} backing none before old new last r first counts is = subst (λ (s : S). FaultsTold before (view s).faults r) (sym is) (by r counts) where
+      → last ≡ storage_of_image new → FaultsReported before (view last).faults r
+  told_closed {T} backing none before old new last r first counts is = subst (λ (s : S). FaultsReported before (view s).faults r) (sym is) (by r counts) where
     below : (disk : Option F) → faults_below view backing disk ≡ 0
     below None = refl
     below (Some b) = none b
 
-    by : (r : Result T ImageError) → CountsImageFaults view backing old new r → FaultsTold before (view (storage_of_image new)).faults r
+    by : (r : Result T ImageError) → CountsImageFaults view backing old new r → FaultsReported before (view (storage_of_image new)).faults r
     by (Ok x) counts = record { no_fewer = omega (arith, first, counts.no_fewer.storage); rose = λ is. absurd (cc is); told = counts.told.storage ∙ first }
     by (Err e) counts = record {
       no_fewer = omega (arith, first, counts.no_fewer.storage);
@@ -164,42 +162,21 @@ module _ {S : Type 0} (builder : Qcow2CreateBuilder S) where
     reasons_of (Ok x) why lacks = tt
     reasons_of (Err e) why lacks = reason_of e why lacks
 
+    -- what refuses the new image
+    pub reasons_made : (e : ImageError) → IsReasonAgainst builder e ⊎ IsFault e → IsReasonNotToCreate view builder storage e
+    reasons_made e (inl why) = reason_against e why
+    reasons_made e (inr fault) = fault_reason e fault
+
   module _ (view : S → StorageView) where
-    -- a new image stands, and its disk can't be made larger
-    module _ (bits order : ℕ) (v : HeaderView) (is : v ≡ new_header bits order (backing_name_in builder) (backing_format_in builder) None) (contents : List ℕ) (new_image : IsNewImage v.fields (byte_at contents)) where
-      header_new : header (byte_at contents) ≡ (new_header bits order (backing_name_in builder) (backing_format_in builder) None).fields
-      header_new = new_image.header_is ∙ ap (λ (w : HeaderView). w.fields) is
-
-      pub stands_new : IsNewImage (header (byte_at contents)) (byte_at contents)
-      stands_new = subst (λ (h : HeaderFields). IsNewImage h (byte_at contents)) (sym new_image.header_is) new_image
-
-      pub stands_third : (header (byte_at contents)).version ≡ 3
-      stands_third = ap (λ (h : HeaderFields). h.version) header_new
-
-      pub stands_uncleared : (header (byte_at contents)).autoclear ≡ 0
-      stands_uncleared = ap (λ (h : HeaderFields). h.autoclear) header_new
-
-      pub lacks_creating : builder.cluster_size ≡ 2 ^ bits → builder.refcount_width ≡ 2 ^ order → {T : Type 0} (storage : S) (r : Result T ImageError) → IfErr r (λ e. e ≡ I.Limit → CantEnlarge view none_below builder.preallocate builder.size contents storage)
-          → IfErr r (λ e. e ≡ I.Limit → LacksPlaceCreating view builder storage)
-      lacks_creating clusters counts storage r lacks =
-          limits_as r
-          (λ cant. record {
-            contents = contents;
-            new_image = stands_new;
-            clusters = ap (λ (h : HeaderFields). 2 ^ h.cluster_bits) header_new ∙ sym clusters;
-            counts = ap (λ (h : HeaderFields). 2 ^ h.refcount_order) header_new ∙ sym counts;
-            lacks = cant;
-          }) lacks
-
     -- the image that was made is opened
     module _ (storage last : S) (made : IsCreated builder (view storage)) where
       consistent : IsConsistent (byte_at (view storage).contents)
       consistent = new_disk_consistent builder.preallocate builder.size (byte_at (view storage).contents) made.new_disk
 
-      opening_reason : (e : ImageError) → IsRefusedRightly (view storage).contents true N.Nothing e → IsReasonNotToCreateOpen view builder (last, e)
+      opening_reason : (e : ImageError) → IsJustifiedRefusal (view storage).contents true N.Nothing e → IsReasonNotToCreateOpen view builder (last, e)
       opening_reason e why = elim (opening_fault (view storage).contents consistent e why) [
         | inl fault ↦ fault_reason view last e fault
-        | inr is ↦ absurd (no_limit (view storage).contents consistent (subst (λ (x : ImageError). IsRefusedRightly (view storage).contents true N.Nothing x) is why))
+        | inr is ↦ absurd (no_limit (view storage).contents consistent (subst (λ (x : ImageError). IsJustifiedRefusal (view storage).contents true N.Nothing x) is why))
       ]
 
     pub opening_reasons : {F : Type 0} (storage : S) (r : Result (Qcow2 S F) (S × ImageError)) → IsCreated builder (view storage) → OpensRightly (view storage) true N.Nothing r

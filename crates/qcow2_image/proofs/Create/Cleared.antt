@@ -1,4 +1,4 @@
--- A storage is emptied, if it isn't empty: at each moment since it has what it had, or nothing.
+-- A storage is emptied, unless it is empty: at each moment since, it has its old contents or none.
 use Rattle.std.proofs.Common.{◌≡◌, ◌⊎◌, inl, inr, ⊎_elim, ℕ, ◌≤◌, List, [], ◌∷◌, length, Result, sym, ◌∙◌, subst, arith}
 use Rattle.image_access.specs.Contents.{resized}
 use Rattle.image_access.specs.declared.error.StorageError.{StorageError}

@@ -1,5 +1,5 @@
 -- An unwritten image is opened, grown and flushed: what a stop leaves meanwhile, and what the storage holds then.
-use Rattle.std.proofs.Common.{◌≡◌, ◌⊎◌, inl, inr, ⊎_elim, ℕ, ◌^◌, max, List, [], ◌∷◌, ◌++◌, None, Some, Result, Ok, Err, refl, sym, ap, ◌∙◌, subst, arith, false}
+use Rattle.std.proofs.Common.{◌≡◌, ◌⊎◌, inl, inr, ⊎_elim, ℕ, ◌^◌, List, [], ◌∷◌, ◌++◌, None, Some, Result, Ok, Err, refl, sym, ap, ◌∙◌, subst, arith, false}
 use Rattle.std.specs.Prelude.{IfOk, OnOk, Option, is_some, option_map}
 use Rattle.std.specs.String.{string_bytes}
 use Rattle.image_access.specs.Backing.{BackingView}
@@ -11,7 +11,6 @@ use Rattle.qcow2_image.proofs.Open.SameHeaders.{alone_still, names_still, not_ne
 use Rattle.qcow2_metadata.specs.HeaderLoad.{IsHeaderIn}
 use Rattle.qcow2_disk.specs.HeaderRest.{KeepsHeaderRest}
 use Rattle.qcow2_metadata.specs.Bytes.{Bytes, byte_at}
-use Rattle.qcow2_metadata.specs.Consistent.{IsConsistent}
 use Rattle.qcow2_metadata.specs.declared.header.HeaderFields.{HeaderFields}
 use Rattle.qcow2_metadata.specs.Header.{HeaderView, cluster_size, header}
 use Rattle.qcow2_metadata.specs.HeaderWrite.{new_header, new_fields, HasNewNames}
@@ -27,13 +26,14 @@ use Rattle.qcow2_alloc.specs.ImageFile.{nothing_given, view_in}
 use Rattle.qcow2_image.specs.declared.builder.Qcow2CreateBuilder.{Qcow2CreateBuilder}
 use Rattle.qcow2_image.specs.declared.image.Missing.TheVariants as N
 use Rattle.qcow2_image.specs.declared.image.Qcow2.{Qcow2}
-use Rattle.qcow2_image.specs.Created.{backing_format_in, backing_name_in, IsNewDisk, IsUnwritten, ShowsZeros, IsStopOfCreating, StopsCreating, StaysCreating, IsNewHeader, IsCreated, Enlarges, HasLostNone}
-use Rattle.qcow2_image.specs.Growing.{FitsSize, SameFormat, GrowsWhole, ReachesSize}
-use Rattle.qcow2_image.specs.Image.{size_of, storage_of_image}
-use Rattle.qcow2_image.specs.Opened.{IsKeptSince, Opens, storage_after, needs_another}
+use Rattle.qcow2_image.specs.Created.{backing_format_in, backing_name_in, IsUnwritten, IsStopOfCreating, StopsCreating, StaysCreating, IsNewHeader, IsCreated, Enlarges, IsMade, WritesThree}
+use Rattle.qcow2_image.specs.Growing.{FitsSize, SameFormat, ReachesSize}
+use Rattle.qcow2_image.specs.Image.{storage_of_image}
+use Rattle.qcow2_image.specs.Opened.{IsKeptSince, needs_another}
 use Rattle.qcow2_image.specs.ImageInvariant.{abstract_of}
 use Rattle.qcow2_disk.proofs.HeaderRest.{header_rest_same, header_rest_then}
 use Rattle.qcow2_image.proofs.Create.NewDisks.{new_disk_consistent, unwritten_covers, unwritten_new, starts_unwritten}
+use Rattle.qcow2_laws.proofs.NewImages.{new_image_exact}
 use Rattle.qcow2_image.proofs.Create.ThreeWrites.{new_unwritten}
 
 disk_size : (b backing : Bytes) → (disk b backing).size ≡ (header b).size
@@ -73,22 +73,11 @@ unwritten_either size old c unwritten kept = ⊎_elim
 pub opens_unwritten : (n : ℕ) (old new : StorageView) → IsUnwritten n (byte_at old.contents) → IsKeptSince old new → IsUnwritten n (byte_at new.contents)
 opens_unwritten n old new unwritten since = unwritten_still n (byte_at old.contents) (byte_at new.contents) unwritten (λ backing m ok. since.contents backing m ok ok)
 
--- what is kept of an image that shows zeros shows them
-zeros_still : (n : ℕ) (b c : Bytes) → ShowsZeros n b → ((backing : Bytes) (m : Checkpoint) → StopOkEverywhere backing m b → StopOkEverywhere backing (checkpoint_with [] [] m) c) → ShowsZeros n c
-zeros_still n b c shows keep =
-    let start : StopOkEverywhere (λ o. 0) (checkpoint_at (disk b (λ o. 0)) b) b = record { consistent = shows.consistent; rest = header_rest_same b; size = inl refl; values = λ o. inl refl } in
-    let kept : StopOkEverywhere (λ o. 0) (checkpoint_with [] [] (checkpoint_at (disk b (λ o. 0)) b)) c = keep (λ o. 0) (checkpoint_at (disk b (λ o. 0)) b) start in
-    record {
-      consistent = kept.consistent;
-      size = ⊎_elim (λ same. sym (disk_size c (λ o. 0)) ∙ same ∙ disk_size b (λ o. 0) ∙ shows.size) (λ none. absurd none) kept.size;
-      zeros = λ o. ⊎_elim (λ same. same ∙ shows.zeros o) (λ none. absurd none) (kept.values o);
-    }
-
 pub opening_stops : (mode : PreallocateMode) (size : ℕ) (old new : StorageView) → IsUnwritten 0 (byte_at old.contents) → IsKeptSince old new → StopsCreating mode size old new
 opening_stops mode size old new unwritten since =
     passes_if (λ c. IsStopOfCreating mode size (byte_at c)) (λ c kept. inr (inl (unwritten_new mode 0 (byte_at c) (unwritten_still 0 (byte_at old.contents) (byte_at c) unwritten (λ backing m ok. kept backing m ok ok))))) since.moments
 
--- ---- it is made larger and flushed, where no place is taken
+-- ---- the image is grown and flushed, if no cluster is allocated
 module _ (size : ℕ) (old new : StorageView) (known : Bytes) (unwritten : IsUnwritten 0 (byte_at old.contents)) (clean : known ≡ byte_at old.contents) (since : SafeThroughout old new known nothing_given (size ∷ [])) where
   as_known : (backing : Bytes) (m : Checkpoint) → LeavesKept backing m old → StopOkEverywhere backing m known
   as_known backing m ok = subst (StopOkEverywhere backing m) (sym clean) ok
@@ -108,27 +97,6 @@ module _ (size : ℕ) (old new : StorageView) (known : Bytes) (unwritten : IsUnw
 -- the headers on the storages are those of the images
 pub format_stored : (h h' k k' : HeaderFields) → h ≡ k → h' ≡ k' → SameFormat k k' → SameFormat h h'
 format_stored h h' k k' is is' format = subst (λ x. SameFormat x h') (sym is) (subst (λ x. SameFormat k x) (sym is') format)
-
-module _ {S F : Type 0} (view : S → StorageView) (backing : F → BackingView) (size : ℕ) (old new : Qcow2 S F) (unwritten : IsUnwritten 0 (byte_at (view_in view old.file).contents)) (opened : IsOpened (abstract_of view backing old [])) where
-  pub enlarged : (r : Result (Unit {0}) ImageError) → GrowsWhole view backing old new size r → Enlarges Mode.None size (view_in view old.file) (view_in view new.file) r
-  enlarged (Ok x) grows =
-      let extends = grows.1 in
-      let old_is = opened.sound.file.caches.kept.kept.crash_invariant.top.header_is in
-      let new_is = extends.sound.file.caches.kept.kept.crash_invariant.top.header_is in
-      let none : size_of old ≡ 0 = ap (λ (h : HeaderFields). h.size) (sym old_is) ∙ unwritten.size in
-      let is : (header (byte_at (view_in view new.file).contents)).size ≡ size = ap (λ (h : HeaderFields). h.size) new_is ∙ grows.2 ∙ ap (λ n. max n size) none ∙ omega arith in
-      let disk_is = grown_unwritten size (view_in view old.file) (view_in view new.file) _ unwritten opened.clean extends.since is in
-      record {
-        stays = record { honest = extends.sound.file.honest; moments = growing_stops size (view_in view old.file) (view_in view new.file) _ unwritten opened.clean extends.since };
-        new_disk = disk_is;
-        covers = unwritten_covers size (byte_at (view_in view new.file).contents) disk_is;
-        format = format_stored _ _ old.file.header.fields new.file.header.fields old_is new_is extends.format;
-        no_autoclear = λ none. ap (λ (h : HeaderFields). h.autoclear) new_is ∙ extends.autoclear ∙ ap (λ (h : HeaderFields). h.autoclear) (sym old_is) ∙ none;
-        reaches = subst ReachesSize (sym new_is) (grows.3 (omega (arith, none)));
-        l1_length = λ _ fits. subst FitsSize (sym new_is) (grows.4 (subst FitsSize old_is fits));
-        rest = grown_rest size (view_in view old.file) (view_in view new.file) _ unwritten opened.clean extends.since;
-      }
-  enlarged (Err e) lasts = growing_stops size (view_in view old.file) (view_in view new.file) _ unwritten opened.clean lasts
 
 -- ---- it was opened before that
 module _ {S F : Type 0} (view : S → StorageView) (backing : F → BackingView) (mode : PreallocateMode) (size : ℕ) (start : S) (mid : Qcow2 S F) (unwritten : IsUnwritten 0 (byte_at (view start).contents)) (since : IsKeptSince (view start) (view (storage_of_image mid)))
@@ -175,85 +143,88 @@ new_header_is v bits order name format is names = record {
   names = names;
 }
 
-module _ {S : Type 0} (view : S → StorageView) (builder : Qcow2CreateBuilder S) (bits order : ℕ) (v : HeaderView) (is : v ≡ new_header bits order (backing_name_in builder) (backing_format_in builder) None) (start mid last : S) (same : start ≡ builder.image)
+module _ {S : Type 0} (view : S → StorageView) (builder : Qcow2CreateBuilder S) (bits order : ℕ) (v : HeaderView) (is : v ≡ new_header bits order (backing_name_in builder) (backing_format_in builder) None) (start mid : S)
     (three : StaysCreating Mode.None 0 (view start) (view mid) × IsNewImage v.fields (byte_at (view mid).contents)) where
   pub unwritten : IsUnwritten 0 (byte_at (view mid).contents)
   unwritten = new_unwritten v.fields (byte_at (view mid).contents) three.1 (ap (λ (w : HeaderView). w.fields.size) is)
 
-  pub creating_stops : (r : Result (Unit {0}) ImageError) → Enlarges builder.preallocate builder.size (view mid) (view last) r → StopsCreating builder.preallocate builder.size (view builder.image) (view last)
-  creating_stops r enlarges =
-      subst (λ (s : S). StopsCreating builder.preallocate builder.size (view s) (view last)) same
-      (passes_on (λ c. IsStopOfCreating builder.preallocate builder.size (byte_at c)) (stops_at_none builder.preallocate builder.size (view start) (view mid) three.0.moments) (stops_of r enlarges) (λ c stop. stop))
+  pub made_empty : builder.cluster_size ≡ 2 ^ bits → builder.refcount_width ≡ 2 ^ order → IsHeaderIn v (view mid).contents → IsMade view builder mid
+  made_empty clusters counts stands =
+      let new_is : header (byte_at (view mid).contents) ≡ new_fields bits order (backing_name_in builder) (backing_format_in builder) None = three.1.header_is ∙ ap (λ (w : HeaderView). w.fields) is in
+      record {
+        created = record {
+          honest = three.0.honest;
+          new_disk = unwritten;
+          covers = unwritten_covers 0 (byte_at (view mid).contents) unwritten;
+          version = ap (λ (k : HeaderFields). k.version) new_is;
+          clusters = ap (λ (k : HeaderFields). 2 ^ k.cluster_bits) new_is ∙ sym clusters;
+          counts = ap (λ (k : HeaderFields). 2 ^ k.refcount_order) new_is ∙ sym counts;
+          reaches = subst ReachesSize (sym new_is) (omega arith);
+          l1_length = subst FitsSize (sym new_is) (λ _. refl, λ some. absurd (omega (arith, some)));
+          no_leaks = new_image_exact v.fields (byte_at (view mid).contents) three.1;
+          names = record {
+            header = v;
+            stands = stands;
+            backing_is = ap (λ (w : HeaderView). w.backing_name) is;
+            format_is = ap (λ (w : HeaderView). w.backing_format) is;
+            data_file_is = ap (λ (w : HeaderView). w.data_file_name) is;
+          };
+          no_backing_file = λ none. ap (λ (k : HeaderFields). k.backing_offset) new_is ∙ ap (λ (o : Option _). (new_fields bits order (option_map string_bytes o) (backing_format_in builder) None).backing_offset) none;
+          no_autoclear = ap (λ (k : HeaderFields). k.autoclear) new_is;
+          no_compatible = ap (λ (k : HeaderFields). k.compatible) new_is;
+          alone = λ unnamed.
+              let none : needs_another v ≡ false = ap (λ (w : HeaderView). needs_another w) is ∙ ap (λ (o : Option _). is_some (option_map string_bytes o)) unnamed in
+              not_needed N.OtherFiles v (view mid).contents stands none;
+        };
+        new_image = subst (λ (h : HeaderFields). IsNewImage h (byte_at (view mid).contents)) (sym three.1.header_is) three.1;
+      }
+
+pub made_by : {S : Type 0} (view : S → StorageView) (builder : Qcow2CreateBuilder S) (bits order : ℕ) (v : HeaderView) (is : v ≡ new_header bits order (backing_name_in builder) (backing_format_in builder) None) (start mid : S) (r : Result (Unit {0}) ImageError)
+    → WritesThree v.fields (view start) (view mid) r → builder.cluster_size ≡ 2 ^ bits → builder.refcount_width ≡ 2 ^ order → OnOk r (IsHeaderIn v (view mid).contents) → IfOk r (λ done. IsMade view builder mid)
+made_by view builder bits order v is start mid (Ok x) three clusters counts stands = made_empty view builder bits order v is start mid three clusters counts stands
+made_by view builder bits order v is start mid (Err e) three clusters counts stands = tt
+
+pub three_stops : (h : HeaderFields) (old new : StorageView) (r : Result (Unit {0}) ImageError) → WritesThree h old new r → StopsCreating Mode.None 0 old new
+three_stops h old new (Ok x) three = three.0.moments
+three_stops h old new (Err e) stays = stays.moments
+
+-- ---- its disk is grown
+module _ {S : Type 0} (view : S → StorageView) (builder : Qcow2CreateBuilder S) (mid last : S) where
+  pub creating_stops : (start : StorageView) → StopsCreating Mode.None 0 start (view mid) → (r : Result (Unit {0}) ImageError) → Enlarges builder.preallocate builder.size (view mid) (view last) r → StopsCreating builder.preallocate builder.size start (view last)
+  creating_stops start first r enlarges =
+      passes_on (λ c. IsStopOfCreating builder.preallocate builder.size (byte_at c)) (stops_at_none builder.preallocate builder.size start (view mid) first) (stops_of r enlarges) (λ c stop. stop)
     where
       stops_of : (r : Result (Unit {0}) ImageError) → Enlarges builder.preallocate builder.size (view mid) (view last) r → StopsCreating builder.preallocate builder.size (view mid) (view last)
       stops_of (Ok x) done = done.stays.moments
       stops_of (Err e) stops = stops
 
-  -- the header keeps what it was made of
-  header_then : SameFormat (header (byte_at (view mid).contents)) (header (byte_at (view last).contents)) → header (byte_at (view last).contents) ≡ with_places (new_fields bits order (backing_name_in builder) (backing_format_in builder) None) (places_of (header (byte_at (view last).contents)))
-  header_then format = format ∙ ap (λ h. with_places h (places_of (header (byte_at (view last).contents)))) (three.1.header_is ∙ ap (λ (w : HeaderView). w.fields) is)
-
-  pub created_so : builder.cluster_size ≡ 2 ^ bits → builder.refcount_width ≡ 2 ^ order → (r : Result (Unit {0}) ImageError) → Enlarges builder.preallocate builder.size (view mid) (view last) r → OnOk r (HasNoLeaks (byte_at (view last).contents)) → IsHeaderIn v (view mid).contents → IfOk r (λ done. IsCreated builder (view last))
-  created_so clusters counts (Ok x) done exact stands = let h = header_then done.format in record {
-    honest = done.stays.honest;
-    new_disk = done.new_disk;
-    covers = done.covers;
-    version = ap (λ (k : HeaderFields). k.version) h;
-    clusters = ap (λ (k : HeaderFields). 2 ^ k.cluster_bits) h ∙ sym clusters;
-    counts = ap (λ (k : HeaderFields). 2 ^ k.refcount_order) h ∙ sym counts;
-    reaches = done.reaches;
-    l1_length =
-        let new_is = three.1.header_is ∙ ap (λ (w : HeaderView). w.fields) is in
-        done.l1_length (ap (λ (k : HeaderFields). k.autoclear) new_is) (subst FitsSize (sym new_is) (λ _. refl, λ some. absurd (omega (arith, some))));
-    no_leaks = exact;
-    names = record {
-      header = record v { fields = header (byte_at (view last).contents) };
-      stands = names_still (view mid).contents (view last).contents (new_disk_consistent builder.preallocate builder.size (byte_at (view last).contents) done.new_disk) done.rest v stands;
-      backing_is = ap (λ (w : HeaderView). w.backing_name) is;
-      format_is = ap (λ (w : HeaderView). w.backing_format) is;
-      data_file_is = ap (λ (w : HeaderView). w.data_file_name) is;
-    };
-    no_backing_file = λ none. ap (λ (k : HeaderFields). k.backing_offset) h ∙ ap (λ (o : Option _). (new_fields bits order (option_map string_bytes o) (backing_format_in builder) None).backing_offset) none;
-    no_autoclear = done.no_autoclear (ap (λ (k : HeaderFields). k.autoclear) (three.1.header_is ∙ ap (λ (w : HeaderView). w.fields) is));
-    no_compatible = ap (λ (k : HeaderFields). k.compatible) h;
-    alone = λ unnamed.
-        let none : needs_another v ≡ false = ap (λ (w : HeaderView). needs_another w) is ∙ ap (λ (o : Option _). is_some (option_map string_bytes o)) unnamed in
-        alone_still (view mid).contents (view last).contents unwritten.consistent (new_disk_consistent builder.preallocate builder.size (byte_at (view last).contents) done.new_disk) done.rest (not_needed N.OtherFiles v (view mid).contents stands none);
-  }
-  created_so clusters counts (Err e) stops exact stands = tt
-
--- ---- and is opened then
-new_still : (mode : PreallocateMode) (n : ℕ) (b c : Bytes) → IsNewDisk mode n b → ((backing : Bytes) (m : Checkpoint) → StopOkEverywhere backing m b → StopOkEverywhere backing (checkpoint_with [] [] m) c) → IsNewDisk mode n c
-new_still Mode.None n b c disk_is kept = unwritten_still n b c disk_is kept
-new_still Mode.Zero n b c disk_is kept = zeros_still n b c disk_is kept
-new_still Mode.FormatAllocate n b c disk_is kept = zeros_still n b c disk_is kept
-new_still Mode.FullAllocate n b c disk_is kept = zeros_still n b c disk_is kept
-new_still Mode.WriteData n b c disk_is kept = zeros_still n b c disk_is kept
-
-new_opened : (mode : PreallocateMode) (n : ℕ) (old new : StorageView) → IsNewDisk mode n (byte_at old.contents) → IsKeptSince old new → IsNewDisk mode n (byte_at new.contents)
-new_opened mode n old new disk_is since = new_still mode n (byte_at old.contents) (byte_at new.contents) disk_is (λ backing m ok. since.contents backing m ok ok)
-
--- what was created is opened
-module _ {S : Type 0} (view : S → StorageView) (builder : Qcow2CreateBuilder S) (storage last : S) (made : IsCreated builder (view storage)) where
-  whole : IsConsistent (byte_at (view storage).contents)
-  whole = new_disk_consistent builder.preallocate builder.size (byte_at (view storage).contents) made.new_disk
-
-  pub none_lost : {F : Type 0} (backing : F → BackingView) (result : Result (Qcow2 S F) (S × ImageError)) → IfOk result (Opens view backing (view storage)) → IfOk result (λ image. HasLostNone (abstract_of view backing image []))
-  none_lost backing (Ok image) opens = let opened = opens made.honest whole in record { counted = λ k. ap (λ (f : ℕ → ℕ). f k) opened.surplus ∙ made.no_leaks k; leaks = opened.leaks }
-  none_lost backing (Err e) opens = tt
-
-pub made_so : {S : Type 0} (view : S → StorageView) (builder : Qcow2CreateBuilder S) (storage : S) (done : Result (Unit {0}) ImageError) (x : Unit {0}) → done ≡ Ok x → IfOk done (λ d. IsCreated builder (view storage)) → IsCreated builder (view storage)
-made_so view builder storage done x is created = subst (λ (r : Result (Unit {0}) ImageError). IfOk r (λ d. IsCreated builder (view storage))) is created
+  pub created_then : IsMade view builder mid → (r : Result (Unit {0}) ImageError) → Enlarges builder.preallocate builder.size (view mid) (view last) r → OnOk r (HasNoLeaks (byte_at (view last).contents)) → IfOk r (λ done. IsCreated builder (view last))
+  created_then made (Err e) stops exact = tt
+  created_then made (Ok x) done exact =
+      let was = made.created in
+      let consistent = new_disk_consistent builder.preallocate builder.size (byte_at (view last).contents) done.new_disk in
+      record {
+        honest = done.stays.honest;
+        new_disk = done.new_disk;
+        covers = done.covers;
+        version = ap (λ (k : HeaderFields). k.version) done.format ∙ was.version;
+        clusters = ap (λ (k : HeaderFields). 2 ^ k.cluster_bits) done.format ∙ was.clusters;
+        counts = ap (λ (k : HeaderFields). 2 ^ k.refcount_order) done.format ∙ was.counts;
+        reaches = done.reaches;
+        l1_length = done.l1_length was.no_autoclear was.l1_length;
+        no_leaks = exact;
+        names = record {
+          header = record was.names.header { fields = header (byte_at (view last).contents) };
+          stands = names_still (view mid).contents (view last).contents consistent done.rest was.names.header was.names.stands;
+          backing_is = was.names.backing_is;
+          format_is = was.names.format_is;
+          data_file_is = was.names.data_file_is;
+        };
+        no_backing_file = λ none. ap (λ (k : HeaderFields). k.backing_offset) done.format ∙ was.no_backing_file none;
+        no_autoclear = done.no_autoclear was.no_autoclear;
+        no_compatible = ap (λ (k : HeaderFields). k.compatible) done.format ∙ was.no_compatible;
+        alone = λ unnamed. alone_still (view mid).contents (view last).contents was.new_disk.consistent consistent done.rest (was.alone unnamed);
+      }
 
 pub refused_open : {S F : Type 0} (storage image : S) (refusal reason : ImageError) (done : Result (Unit {0}) ImageError) → done ≡ Err refusal → (done ≡ Err reason) × (storage ≡ image) → ◌≡◌ {A = Result (Qcow2 S F) (Option S × ImageError)} (Err (Some storage, refusal)) (Err (Some image, reason))
 refused_open storage image refusal reason done is refused = let told = refused.0 in let same = refused.1 in cc
-
-pub opened_new : {S F : Type 0} (view : S → StorageView) (backing : F → BackingView) (builder : Qcow2CreateBuilder S) (storage : S) (done : Result (Unit {0}) ImageError) (x : Unit {0}) → done ≡ Ok x → IfOk done (λ d. IsCreated builder (view storage))
-    → (result : Result (Qcow2 S F) (S × ImageError)) → IfOk result (Opens view backing (view storage)) → ((view storage).is_honest → IsConsistent (byte_at (view storage).contents) → IsKeptSince (view storage) (view (storage_after result)))
-    → IfOk result (λ image. IsNewDisk builder.preallocate builder.size (abstract_of view backing image []).known)
-opened_new view backing builder storage done x is created (Err e) opens since = tt
-opened_new view backing builder storage done x is created (Ok image) opens since =
-    let made : IsCreated builder (view storage) = subst (λ (r : Result (Unit {0}) ImageError). IfOk r (λ d. IsCreated builder (view storage))) is created in
-    let consistent = new_disk_consistent builder.preallocate builder.size (byte_at (view storage).contents) made.new_disk in
-    let opened = opens made.honest consistent in
-    subst (IsNewDisk builder.preallocate builder.size) (sym opened.opened.clean) (new_opened builder.preallocate builder.size (view storage) (view_in view image.file) made.new_disk (since made.honest consistent))

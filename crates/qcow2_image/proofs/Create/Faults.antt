@@ -1,4 +1,4 @@
--- What refuses creating beside a limit: faults alone.
+-- Creating is refused only for a limit or a fault.
 use Rattle.std.proofs.Common.{◌≡◌, ◌⊎◌, inl, inr, ℕ, ◌<◌, ◌≤◌, true, false, List, [], None, Result, Ok, Err, refl, sym, ap, ◌∙◌, subst, arith}
 use Rattle.std.specs.Prelude.{IfErr, IsTrue, is_some}
 use Rattle.std.proofs.lemmas.Bool.{cases_lt}
@@ -27,13 +27,14 @@ use Rattle.qcow2_image.specs.Created.{IsUnmapped, IsUnwritten}
 use Rattle.qcow2_image.specs.Growing.{SameFormat}
 use Rattle.qcow2_image.specs.Image.{size_of}
 use Rattle.qcow2_image.specs.ImageInvariant.{abstract_of}
-use Rattle.qcow2_image.specs.MetAlone.{HasCompressedIn, IsMetGrowing}
-use Rattle.qcow2_image.specs.Readable.{IsRefusedRightly, IsTableRefused}
+use Rattle.qcow2_image.specs.MayFail.{HasCompressedIn, MayFailGrowing}
+use Rattle.qcow2_image.specs.Readable.{IsJustifiedRefusal, IsTableRefused}
 use Rattle.qcow2_image.specs.Refusals.{IsFaultOrLimit}
 use Rattle.qcow2_image.specs.Resizing.{takes_over}
 use Rattle.qcow2_image.specs.declared.image.Missing.TheVariants as N
 use Rattle.qcow2_image.specs.declared.image.Qcow2.{Qcow2}
 use Rattle.qcow2_image.proofs.Create.NewDisks.{unwritten_uncovered}
+use Rattle.qcow2_image.proofs.Prepare.RefusedAsPrepared.{if_err}
 
 -- want of memory
 pub memory_fault : (e : MetadataError) → e ≡ M.Memory → IsFault (of_metadata e)
@@ -51,7 +52,7 @@ module _ (contents : List ℕ) (consistent : IsConsistent (byte_at contents)) wh
     | inr reftable ↦ let entry = reftable.2.1 in entry.unread (consistent.reftable_reads entry.index entry.within)
   ]
 
-  pub opening_fault : (e : ImageError) → IsRefusedRightly contents true N.Nothing e → IsFaultOrLimit e
+  pub opening_fault : (e : ImageError) → IsJustifiedRefusal contents true N.Nothing e → IsFaultOrLimit e
   opening_fault I.Metadata why = absurd (elim why [ inl ill ↦ ill consistent.header_reads.well_formed | inr refused ↦ no_unread refused ])
   opening_fault I.Limit why = inr refl
   opening_fault I.UnalignedTable why = absurd (why.1 on_clusters)
@@ -62,7 +63,7 @@ module _ (contents : List ℕ) (consistent : IsConsistent (byte_at contents)) wh
 
 -- ---- a larger disk
 
--- no mode takes clusters over a disk below that isn't there
+-- no mode allocates clusters over a disk below that isn't there
 takes_none : {S F : Type 0} (image : Qcow2 S F) (mode : PreallocateMode) → is_some image.backing ≡ false → IsTrue (takes_over image mode) → ⊥
 takes_none image Mode.None alone takes = absurd (let bad : false ≡ true = takes in cc)
 takes_none image Mode.Zero alone takes = absurd (let bad : false ≡ true = takes in cc)
@@ -78,8 +79,8 @@ module _ {S F : Type 0} (view : S → StorageView) (old : Qcow2 S F) (unmapped :
   none_compressed : (from to : ℕ) → HasCompressedIn from to old.file.header.fields (known_in view old.file) → ⊥
   none_compressed from to some = subst (λ (v : L2Mapping). IsCompressed v) (unmapped.covers some.guest) some.is
 
-  filling_fault : (mode : PreallocateMode) (from to : ℕ) (e : ImageError) → IsMetGrowing [] mode from to old.file.header.fields (known_in view old.file) e → IsFaultOrLimit e
-  filling_fault mode from to e met = elim met [
+  filling_fault : (mode : PreallocateMode) (from to : ℕ) (e : ImageError) → MayFailGrowing [] mode from to old.file.header.fields (known_in view old.file) e → IsFaultOrLimit e
+  filling_fault mode from to e may_fail = elim may_fail [
     | inl taking ↦ elim taking [
       | inl alone ↦ elim alone [
         | inl plain ↦ plain
@@ -90,13 +91,18 @@ module _ {S F : Type 0} (view : S → StorageView) (old : Qcow2 S F) (unmapped :
     | inr version ↦ absurd (let third = unmapped.version in let below = version.1.1 in omega (arith, third, below))
   ]
 
-  pub grown_fault : (new : Qcow2 S F) (size to : ℕ) (mode : PreallocateMode) (r : Result (Unit {0}) ImageError) → is_some old.backing ≡ false → (size ≤ size_of old → (r ≡ Ok tt) × (new ≡ old))
-      → (size_of old < size → IfErr r (λ e. IsMetGrowing [] mode (size_of old) to old.file.header.fields (known_in view old.file) e ⊎ ((e ≡ I.Preallocation) × IsTrue (takes_over old mode)))) → IfErr r IsFaultOrLimit
-  grown_fault new size to mode (Ok x) alone no_larger met = tt
-  grown_fault new size to mode (Err e) alone no_larger met = elim (cases_lt (size_of old) size) [
+  pub grown_refused : (new : Qcow2 S F) (size to : ℕ) (mode : PreallocateMode) (r : Result (Unit {0}) ImageError) → (size ≤ size_of old → (r ≡ Ok tt) × (new ≡ old))
+      → (size_of old < size → IfErr r (λ e. MayFailGrowing [] mode (size_of old) to old.file.header.fields (known_in view old.file) e ⊎ ((e ≡ I.Preallocation) × IsTrue (takes_over old mode))))
+      → IfErr r (λ e. IsFaultOrLimit e ⊎ ((e ≡ I.Preallocation) × IsTrue (takes_over old mode)))
+  grown_refused new size to mode (Ok x) no_larger may_fail = tt
+  grown_refused new size to mode (Err e) no_larger may_fail = elim (cases_lt (size_of old) size) [
     | inr le ↦ absurd (let bad = (no_larger le).0 in cc)
-    | inl lt ↦ elim (met lt) [ inl filling ↦ filling_fault mode (size_of old) to e filling | inr over ↦ absurd (takes_none old mode alone over.1) ]
+    | inl lt ↦ elim (may_fail lt) [ inl filling ↦ inl (filling_fault mode (size_of old) to e filling) | inr over ↦ inr over ]
   ]
+
+  pub grown_fault : (new : Qcow2 S F) (size to : ℕ) (mode : PreallocateMode) (r : Result (Unit {0}) ImageError) → is_some old.backing ≡ false → (size ≤ size_of old → (r ≡ Ok tt) × (new ≡ old))
+      → (size_of old < size → IfErr r (λ e. MayFailGrowing [] mode (size_of old) to old.file.header.fields (known_in view old.file) e ⊎ ((e ≡ I.Preallocation) × IsTrue (takes_over old mode)))) → IfErr r IsFaultOrLimit
+  grown_fault new size to mode r alone no_larger may_fail = if_err r (λ e why. elim why [ inl fault ↦ fault | inr over ↦ absurd (takes_none old mode alone over.1) ]) (grown_refused new size to mode r no_larger may_fail)
 
 -- an unwritten image of version 3 was opened
 pub unmapped_opened : {S F : Type 0} (view : S → StorageView) (backing : F → BackingView) (image : Qcow2 S F) (h : HeaderFields) (n : ℕ) → IsOpened (abstract_of view backing image []) → IsUnwritten n (byte_at (view_in view image.file).contents)

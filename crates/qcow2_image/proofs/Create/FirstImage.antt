@@ -1,4 +1,4 @@
--- The three clusters of a new image: before the header is there it is no image, and then it is a new one.
+-- The three clusters of a new image: before the header is written the storage holds no image, afterwards a new one.
 use Rattle.std.proofs.Common.{◌≡◌, inl, inr, ℕ, ◌+◌, ◌*◌, ◌/◌, ◌%◌, ◌^◌, ◌<◌, ◌≤◌, false, List, [], ◌++◌, length, replicate, Option, sym, ap, ◌∙◌, subst, arith, lit<}
 use Rattle.std.specs.Prelude.{◌==◌, ◌&&◌, ◌||◌, if◌then◌else◌, is_some, unwrap_or}
 use Rattle.std.proofs.lemmas.Bool.{cases_lt, cond-false, ne_eqb}
@@ -77,7 +77,7 @@ module _ (v : HeaderView) (new : IsNewHeader v) where
     clusters : h.reftable_clusters ≡ 1
     clusters = ap (λ (f : HeaderFields). f.reftable_clusters) fields
 
-    -- behind the header all stays
+    -- all bytes after the header stay the same
     behind : (o : ℕ) → cluster_size h ≤ o → byte_at c3 o ≡ byte_at c2 o
     behind o past = let fits = header_fits in byte_at-overwritten_behind c2 0 (header_bytes v) o (omega (arith, fits, past))
 

@@ -1,4 +1,4 @@
--- A new image has no leaks: growing and flushing leave each surplus, and at the end nothing is pending.
+-- A new image has no leaks: growing and flushing keep each surplus, and at the end nothing is pending.
 use Rattle.qcow2_image.specs.Limits.{IfLimit}
 use Rattle.std.proofs.Common.{◌≡◌, inl, inr, ℕ, ◌+◌, ◌-◌, ◌<◌, ◌≤◌, List, [], Result, Ok, Err, ap, ◌∙◌, subst, arith}
 use Rattle.std.specs.Prelude.{IsTrue, OnOk}
@@ -22,13 +22,8 @@ use Rattle.qcow2_image.specs.Image.{HasNothingToFree, is_writable, size_of}
 use Rattle.qcow2_image.specs.ImageInvariant.{abstract_of, new_data_by, of_data, of_tables, over_all, surplus_in, to_free}
 use Rattle.qcow2_image.specs.Resizing.{GrowsTo, IsResized, size_after}
 
--- a larger disk alone is refused
-pub taking_limited : (C : Type 0) (old size : ℕ) (r : Result (Unit {0}) ImageError) → (size ≤ old → r ≡ Ok tt) → (old < size → IfLimit r C) → IfLimit r C
-taking_limited C old size (Ok x) no_larger limit = tt
-taking_limited C old size (Err e) no_larger limit = limit (elim (cases_lt old size) [ inl lt ↦ lt | inr le ↦ absurd (let no : Err e ≡ Ok tt = no_larger le in cc) ])
-
 module _ {S F : Type 0} (view : S → StorageView) (backing : F → BackingView) where
-  -- place is taken
+  -- clusters are allocated
   pub surplus_taken : (old new : Qcow2 S F) (size : ℕ) (mode : PreallocateMode) (r : Result (Unit {0}) ImageError) → (abstract_of view backing old []).is_sound → (size ≤ size_of old → (r ≡ Ok tt) × (new ≡ old))
       → (size_of old < size → IsResized (size_after r (size_of old) size) old new) → GrowsTo view backing old new size mode r → OnOk r (KeepsSurplus view backing old new)
   surplus_taken old new size mode (Ok x) sound no_larger image sees =

@@ -23,9 +23,9 @@ use Rattle.qcow2_disk.proofs.HeaderRest.{header_rest_same}
 use Rattle.qcow2_disk.proofs.Stops.{given_split}
 use Rattle.qcow2_image.specs.Created.{IsCoverOf, IsNewDisk, IsPreallocated, IsUnwritten, ShowsZeros}
 use Rattle.qcow2_image.specs.MovedTables.{CoversStay}
-use Rattle.qcow2_image.proofs.Preallocate.Grown.{up_least}
+use Rattle.qcow2_image.proofs.Preallocate.FilledGrowth.{up_least}
 use Rattle.qcow2_image.proofs.Preallocate.Zeros.{shown_zeros}
-use Rattle.qcow2_image.proofs.Sizing.Tails.{least_up}
+use Rattle.qcow2_image.proofs.Resize.TailSteps.{least_up}
 
 -- ---- unwritten images
 unwritten_zeros : (n : ℕ) (b : Bytes) → IsUnwritten n b → ShowsZeros n b
@@ -78,7 +78,7 @@ unwritten_uncovered n b unwritten g =
 pub unwritten_covers : (n : ℕ) (b : Bytes) → IsUnwritten n b → IsPreallocated Mode.None n b
 unwritten_covers n b unwritten = record { inside = λ g lt. unwritten_uncovered n b unwritten g; behind = λ g le. unwritten_uncovered n b unwritten g }
 
--- ---- what a mode leaves for guest clusters for which nothing stood
+-- ---- what a mode leaves for guest clusters that were unmapped
 module _ (mode : PreallocateMode) (hides : shows_old mode ≡ false) (size : ℕ) (h : HeaderFields) (k : Bytes) (m : HeaderFields) (km : Bytes) (b : Bytes) (none : (g : ℕ) → cover h k g ≡ Uncovered)
     (filled : FilledCovers (cluster_size h) (first_zeros (cluster_size h) 0 size mode) 0 (rounded_up (cluster_size h) size) h k m km) (stay : CoversStay m km (header b) b) where
   abbrev cs : ℕ

@@ -1,4 +1,4 @@
--- Clusters that are listed are freed: no guest sees it.
+-- Listed clusters are freed, which guests don't see.
 use Rattle.qcow2_alloc.specs.ImageStorage.{is_changed_of}
 use Rattle.std.proofs.lemmas.Bool.{or_right}
 use Rattle.std.proofs.Common.{◌≡◌, ⊎_elim, inl, inr, ℕ, ◌<◌, Bool, false, List, [], Option, Some, refl, sym, ap, ◌∙◌, subst, arith}
@@ -34,11 +34,11 @@ use Rattle.qcow2_image.proofs.Call.Marked.{MayMarkBy}
 use Rattle.qcow2_image.specs.ImageInvariant.{ImageInvariant, pending_in, abstract_of}
 use Rattle.qcow2_image.proofs.Call.Answered.{freeing_step_kept, still_seen}
 use Rattle.qcow2_image.proofs.Call.Called.{copied_then}
-use Rattle.qcow2_image.proofs.Moving.{file_tidied}
+use Rattle.qcow2_image.proofs.Images.Moving.{file_tidied}
 use Rattle.qcow2_image.proofs.Call.Refused.{break_off, marks_fault, refuses_left, stays_stepped}
 use Rattle.qcow2_image.proofs.Call.CallOutcomes.{outcome_answered}
-use Rattle.qcow2_image.proofs.UngivenCovers.{all_stay}
-use Rattle.qcow2_image.proofs.Moved.{format_stay}
+use Rattle.qcow2_image.proofs.Images.UngivenCovers.{all_stay}
+use Rattle.qcow2_image.proofs.Images.Moved.{format_stay}
 
 module _ {S F : Type 0} (view : S → StorageView) (backing : F → BackingView) (out : List (Option Prepared)) where
   pub freeing_step_then : (a b c : Qcow2 S F) (p q r : Pending) → ((k : ℕ) → 0 < p.new_data k → 0 < q.new_data k) → InternalFreeingStep view backing p q a b out → InternalFreeingStep view backing q r b c out → InternalFreeingStep view backing p r a c out
@@ -93,7 +93,7 @@ module _ {S F : Type 0} (view : S → StorageView) (backing : F → BackingView)
     | inr interruption ↦ inr (record {
       interrupted = record {
         fault = interruption.interrupted.fault;
-        noted = interruption.interrupted.noted;
+        recorded = interruption.interrupted.recorded;
         since = steps_safe_throughout (view_in view a.file) (view_in view b.file) (view_in view c.file) (state_in view a.file (with_listed p a.file.free_list)) (state_in view b.file (with_listed p a.file.free_list)) nothing_given nothing_given [] [] refl first.since first.safe_step interruption.interrupted.since;
       };
       header = format_then a.file.header.fields b.file.header.fields c.file.header.fields first.unseen.header interruption.header;
@@ -147,10 +147,10 @@ module _ {S F : Type 0} (view : S → StorageView) (backing : F → BackingView)
   module _ (out : List (Option Prepared)) (sound : ImageInvariant view backing (pending_in view backing old out) old out) where
     pub ends_freeing : (r : Result (Unit {0}) ImageError) → MayMarkBy r (is_failed new) marked → IfErr r (λ e. e ≡ I.Memory → IsTrue (has_noted_change new) → IsTrue marked) → (IsTrue old.file.caches.is_changed → IsTrue new.file.caches.is_changed)
         → IfErr r FaultOfTables → FreesListed view backing (beside view backing old out) old new out r → EndsFreeing view backing old (record new { is_failed = marked }) out r
-    ends_freeing (Ok done) marks memory noted fault frees =
+    ends_freeing (Ok done) marks memory recorded fault frees =
         subst (λ (f : Bool). EndsFreeing view backing old (record new { is_failed = f }) out (Ok done)) (sym marks) (let stays = tidy_stays view backing old out new sound frees in record { works = stays.works; sound = stays.sound; same = stays.same; header = stays.header; covers = stays.covers })
-    ends_freeing (Err e) marks memory noted fault frees = (
+    ends_freeing (Err e) marks memory recorded fault frees = (
       refuses_left view backing out old usable new marked number e marks memory (λ s. freed_refused view backing old out new e s frees),
       ⊎_elim (λ (failed : e ≡ I.Storage). subst (λ (x : ImageError). IsRefusalByFault (refusal_of x)) (sym failed) tt) (λ (want : e ≡ I.Memory). subst (λ (x : ImageError). IsRefusalByFault (refusal_of x)) (sym want) tt) fault,
-      λ changed. (marks_fault e (is_failed new) marked (has_noted_change new) fault (λ _. or_right (is_changed_of new.file.storage) new.file.caches.is_changed (noted changed)) marks memory).0,
+      λ changed. (marks_fault e (is_failed new) marked (has_noted_change new) fault (λ _. or_right (is_changed_of new.file.storage) new.file.caches.is_changed (recorded changed)) marks memory).0,
     )

@@ -1,4 +1,4 @@
--- An image whose tables were dropped and read anew, from the parts of the call.
+-- An image whose tables were dropped and read again, from the parts of the call.
 use Rattle.std.proofs.Common.{◌≡◌, ℕ, ◌<◌, ◌≤◌, ◌*◌, List, inl, inr, Result, Ok, Err, refl, sym, ap, ◌∙◌, subst}
 use Rattle.std.specs.Prelude.{IfSome, IsErrAnd, IsSome, OnOk, Option}
 use Rattle.image_access.specs.Backing.{BackingView}
@@ -19,7 +19,7 @@ use Rattle.qcow2_alloc.proofs.KeptMarks.{notes_then}
 use Rattle.qcow2_image.specs.Image.{is_writable, leaked_in, ImageStays, IsBegun}
 use Rattle.qcow2_image.specs.ImageInvariant.{HasL1Table, ImageInvariant}
 use Rattle.qcow2_image.specs.ImageSteps.{ImageStep}
-use Rattle.qcow2_image.specs.Invalidated.{ArePlacesFor, DropsCached, RespectsPrepared, HoldsNoTable, IsAsStored, IsAtRest, IsReasonAgainstPlaces, IsReasonAgainstReading, IsOfPrepared, IsReasonNotToRead, IsStillInUse, KeepsTables, ReadsAnew, ReadsPlaces, TakesTables, reftable_in}
+use Rattle.qcow2_image.specs.Invalidated.{ArePlacesFor, DropsCached, RespectsPrepared, HoldsNoTable, IsAsStored, IsAtRest, IsReasonAgainstPlaces, IsReasonAgainstReading, IsOfPrepared, IsReasonNotToRead, IsStillInUse, KeepsTables, ReadsAnew, ReadsPlaces, ReplacesTables, reftable_in}
 use Rattle.qcow2_image.specs.PinnedTables.{HasPinnedTable}
 use Rattle.qcow2_image.specs.Readable.{IsReasonAgainstTables}
 use Rattle.qcow2_image.specs.Unwritten.{ContentsStayThroughout}
@@ -116,7 +116,7 @@ module _ {S F : Type 0} (view : S → StorageView) (a b d : Qcow2 S F) (step : I
     few = subst (λ (v : HeaderView). w.fields.reftable_clusters * entries_per_cluster v.fields ≤ 1048576) (sym placed_header) are.few;
   }
 
-  module _ (e : Qcow2 S F) (tables : TakesTables view d e) where
+  module _ (e : Qcow2 S F) (tables : ReplacesTables view d e) where
     pub anew_then : ReadsAnew view a e
     anew_then =
         let first = step_then step places.part in
@@ -180,12 +180,12 @@ module _ {S F : Type 0} (view : S → StorageView) (old new : Qcow2 S F) where
         ]
       ]
 
--- ---- while a mapping is prepared, and where it is told so
+-- ---- while a mapping is prepared, and if that is reported
 module _ {S F : Type 0} (old : Qcow2 S F) where
   pub heeds_all : (r : Result (Unit {0}) ImageError) → HasPinnedTable old → RespectsPrepared old r → IsErrAnd r IsOfPrepared
   heeds_all (Ok x) has none = absurd (none has)
-  heeds_all (Err (I.StillInUse tables)) has heeds = inl tt
-  heeds_all (Err I.Memory) has heeds = inr refl
+  heeds_all (Err (I.StillInUse tables)) has respects = inl tt
+  heeds_all (Err I.Memory) has respects = inr refl
   heeds_all (Err e) has none = absurd (none has)
 
   pub told_in_use : (view : S → StorageView) (new : Qcow2 S F) (P : Type 0) → (HasPinnedTable old → P) → CachesHaveRoom old.file.caches → (e : ImageError) → IsReasonAgainstReading view old new e → IsStillInUse e → P
@@ -202,8 +202,8 @@ module _ {S F : Type 0} (view : S → StorageView) (old begun : Qcow2 S F) (begi
 
   pub heeds_begun : (r : Result (Unit {0}) ImageError) → RespectsPrepared begun r → RespectsPrepared old r
   heeds_begun (Ok x) none = λ has. none (has_begun has)
-  heeds_begun (Err (I.StillInUse tables)) heeds = tt
-  heeds_begun (Err I.Memory) heeds = tt
+  heeds_begun (Err (I.StillInUse tables)) respects = tt
+  heeds_begun (Err I.Memory) respects = tt
   heeds_begun (Err e) none = λ has. none (has_begun has)
 
   room_begun : CachesHaveRoom old.file.caches → CachesHaveRoom begun.file.caches

@@ -1,4 +1,4 @@
--- Tables are dropped of an image at rest: no guest sees it.
+-- Tables of an image at rest are dropped, which guests don't see.
 use Rattle.std.proofs.lemmas.Bool.{cases_Bool}
 use Rattle.std.proofs.Common.{◌≡◌, ℕ, ◌<◌, ◌/◌, ◌==◌, Bool, false, inl, inr, List, [], ◌∷◌, length, map, Option, Some, None, Result, Ok, Err, refl, sym, ap, ◌∙◌, subst, arith}
 use Rattle.std.specs.Prelude.{◌≢◌, IfErr, IfSome, OnOk}
@@ -18,7 +18,7 @@ use Rattle.qcow2_alloc.specs.CachePins.{l2_pins, CachesHaveRoom, LeavesPinned}
 use Rattle.qcow2_alloc.specs.BehindHeader.{KeepBehindHeader}
 use Rattle.qcow2_alloc.specs.ImageFile.{contents_in, known_in, view_in}
 use Rattle.qcow2_alloc.specs.KeptTables.{cached_tables}
-use Rattle.qcow2_alloc.specs.MetadataCaches.{known_of, l2_tables, order_of, refblocks, AreAllWritten, CacheInvariant, Evict, TakesOff, InternalCacheStep}
+use Rattle.qcow2_alloc.specs.MetadataCaches.{known_of, l2_tables, order_of, refblocks, AreAllWritten, CacheInvariant, Evict, EvictsTable, InternalCacheStep}
 use Rattle.qcow2_alloc.specs.declared.async_lru_cache.slot.Slot.{Slot}
 use Rattle.qcow2_alloc.specs.declared.clusters_to_free.ClustersToFreeEntry.{ClustersToFreeEntry}
 use Rattle.qcow2_alloc.specs.declared.error.ImageError.{ImageError}
@@ -28,7 +28,7 @@ use Rattle.qcow2_alloc.specs.KeptAllocators.{IsAllocatorOf}
 use Rattle.qcow2_alloc.specs.LowestRuns.{SearchesAnew}
 use Rattle.qcow2_alloc.specs.declared.allocation.Allocator.{Allocator}
 use Rattle.qcow2_alloc.specs.declared.cache.MetadataCaches.{MetadataCaches}
-use Rattle.qcow2_alloc.proofs.KeptTables.Turning.{safe_none}
+use Rattle.qcow2_alloc.proofs.KeptTables.Switching.{safe_none}
 use Rattle.qcow2_alloc.proofs.CachedEntries.FirstPinned.{none_pinned}
 use Rattle.qcow2_alloc.proofs.CachedEntries.Lists.{pinned_gone, pinned_kept}
 use Rattle.qcow2_alloc.proofs.CachedEntries.Pins.{pinned_twice}
@@ -50,7 +50,7 @@ use Rattle.qcow2_image.specs.declared.prepared.Prepared.{Prepared}
 
 module _ {S : Type 0} (h : HeaderFields) (p : Pending) (v : StorageView) (caches caches' : MetadataCaches S) (sound : CacheInvariant h p caches (byte_at v.contents))
     (rest : known_of h caches (byte_at v.contents) ≡ byte_at v.contents) {U : Type 0} (off : Evict U h caches caches' (byte_at v.contents)) where
-  -- what is known is what stands there still
+  -- the known bytes are still those on the storage
   pub rests_still : known_of h caches' (byte_at v.contents) ≡ byte_at v.contents
   rests_still = fun_ext (λ o. elim (off.known (o / cluster_size h)) [
     | inl stands ↦ stands o refl
@@ -67,7 +67,7 @@ module _ {S : Type 0} (h : HeaderFields) (p : Pending) (v : StorageView) (caches
     since = safe_none v (known_of h caches (byte_at v.contents));
   }
 
--- the tables in memory give way to others that are those on the storage too
+-- the tables in memory are replaced by others that are also those on the storage
 module _ {S F : Type 0} (view : S → StorageView) (backing : F → BackingView) (p : Pending) (a b : Qcow2 S F) (out : List (Option Prepared)) (step : InternalStep view backing p p a b out) where
   pub with_tables : (table : EntryTableView) (allocator : Option Allocator) → HasL1Table view backing b.file table → IfSome allocator (IsAllocatorOf view b.file) → leaked_by allocator ≡ leaked_in b
       → InternalStep view backing p p a (record b { l1_table = table; allocator = allocator }) out
@@ -93,7 +93,7 @@ module _ {S F : Type 0} (view : S → StorageView) (backing : F → BackingView)
   }
 
 -- ---- an image at rest whose tables are dropped
-module _ {S F : Type 0} (view : S → StorageView) (backing : F → BackingView) (image : Qcow2 S F) (caches' : MetadataCaches S) (list' : List ClustersToFreeEntry) (none : list' ≡ []) {U : Type 0} (taken : TakesOff U image.file.caches caches')
+module _ {S F : Type 0} (view : S → StorageView) (backing : F → BackingView) (image : Qcow2 S F) (caches' : MetadataCaches S) (list' : List ClustersToFreeEntry) (none : list' ≡ []) {U : Type 0} (taken : EvictsTable U image.file.caches caches')
     (order : order_of caches' ≡ order_of image.file.caches) (room : CachesHaveRoom image.file.caches → CachesHaveRoom caches') (pins : (table : ℕ) → l2_pins caches' table ≡ l2_pins image.file.caches table)
     (rest : IsAtRest view image) (p : Pending) (out : List (Option Prepared)) (sound : ImageInvariant view backing p image out) where
   off : Evict U image.file.header.fields image.file.caches caches' (contents_in view image.file)
@@ -139,39 +139,11 @@ module _ {V : Type 0} where
   pub none_held : (es : List (ℕ × Slot V)) → es ≡ [] → (c : ℕ) → value_at (λ k. c == k) es ≡ None
   none_held es is c = ap (λ (l : List (ℕ × Slot V)). value_at (λ k. c == k) l) is
 
-  pub not_of_storage : (es fs : List (ℕ × Slot V)) (r : Result (Unit {0}) ImageError) → LeavesPinned es r fs → IfErr r (λ e. e ≢ I.Storage)
-  not_of_storage es fs (Ok x) left = tt
-  not_of_storage es fs (Err e) left = λ is. absurd (elim left.1 [
-    | inl memory ↦ let bad : I.Memory ≡ I.Storage = sym memory.0 ∙ is in cc
-    | inr used ↦ let bad : I.StillInUse used.0 ≡ I.Storage = sym used.1 ∙ is in cc
-  ])
-
   -- where entries were in use some have a pin
   pub lacks_room : (es fs : List (ℕ × Slot V)) (e : ImageError) → LeavesPinned es (Err e) fs → ¬ (pinned es ≡ [])
   lacks_room es fs e left none = let some = left.0 in let empty = ap length none in absurd (omega (arith, some, empty))
 
 module _ {S F : Type 0} (view : S → StorageView) (backing : F → BackingView) (old new : Qcow2 S F) where
-  -- no storage is called
-  pub counted_held : (r : Result (Unit {0}) ImageError) → SameFaults view backing old new → IfErr r (λ e. e ≢ I.Storage) → CountsImageFaults view backing old new r
-  counted_held (Ok x) same other = counted_ok view backing old new x same
-  counted_held (Err e) same other = record { no_fewer = fewer_of view backing old new same; rose = λ is. absurd (other is); told = λ _. same }
-
-  -- no mapping was prepared
-  pub none_in_use : (none : pinned old.file.caches.l2.entries ≡ []) → ¬ HasPinnedTable old
-  none_in_use none has = let no = none_pinned (λ k. has.cluster == k) old.file.caches.l2.entries none in let some = has.pins in absurd (omega (arith, no, some))
-
-  pub heeds_none : ¬ HasPinnedTable old → (r : Result (Unit {0}) ImageError) → RespectsPrepared old r
-  heeds_none none (Ok x) = none
-  heeds_none none (Err (I.StillInUse tables)) = tt
-  heeds_none none (Err I.Memory) = tt
-  heeds_none none (Err e) = none
-
-  pub heeds_left : (e : ImageError) → LeavesPinned old.file.caches.l2.entries (Err e) new.file.caches.l2.entries → RespectsPrepared {T = Unit {0}} old (Err e)
-  heeds_left e left = elim left.1 [
-    | inl memory ↦ subst (λ (x : ImageError). RespectsPrepared {T = Unit {0}} old (Err x)) (sym memory.0) tt
-    | inr used ↦ subst (λ (x : ImageError). RespectsPrepared {T = Unit {0}} old (Err x)) (sym used.1) tt
-  ]
-
   pub why_left : (e : ImageError) → LeavesPinned old.file.caches.l2.entries (Err e) new.file.caches.l2.entries → ((c : ℕ) → l2_pins new.file.caches c ≡ l2_pins old.file.caches c) → IsReasonAgainstReading view old new e
   why_left e left pins = elim left.1 [
     | inl memory ↦ subst (IsReasonAgainstReading view old new) (sym memory.0) (inl tt)

@@ -1,4 +1,4 @@
--- Entries of a cache that all have a pin, as invalidating it leaves them.
+-- Entries of a cache that are all pinned, as invalidating the cache leaves them.
 use Rattle.std.proofs.lemmas.Bool.Decides.{nat_tests}
 use Rattle.std.proofs.Common.{◌≡◌, ℕ, ◌<◌, ◌==◌, Bool, true, false, List, [], ◌∷◌, length, inl, inr, refl, sym, ap, ◌∙◌, subst, arith}
 use Rattle.std.specs.Prelude.{IsSome, Option, Some, None}

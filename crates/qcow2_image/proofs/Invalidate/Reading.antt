@@ -1,4 +1,4 @@
--- What is read anew is what stood there.
+-- Reading the tables again returns what was in memory.
 use Rattle.std.proofs.Common.{◌≡◌, inl, inr, ℕ, Bool, List, Option, Some, None, Result, refl, sym, ap, ◌∙◌, subst, arith}
 use Rattle.image_access.specs.Backing.{BackingView}
 use Rattle.image_access.specs.Moments.{StorageView, ContentsStay, EachMomentSince, IsLeftBy}
@@ -76,7 +76,7 @@ module _ {S F : Type 0} (view : S → StorageView) (backing : F → BackingView)
       let honest = sound.file.honest in
       still_moved view backing image out p sound storage' (silent.1.honest honest) (passes_if _ (λ c is. is ∙ sym (silent.0 honest)) silent.1) (silent.0 honest)
 
--- ---- what reading keeps of notes, and of the header's cluster
+-- ---- what reading keeps of recorded changes, and of the header's cluster
 module _ {S : Type 0} (view : S → StorageView) where
   pub kept_silent : (a b : ImageStorage S) → SameNotes a b → ((view (storage_of a)).is_honest → ContentsStayThroughout (view (storage_of a)) (view (storage_of b))) → ((view (storage_of a)).is_honest → (view (storage_of b)).is_honest) → KeepsNotes view a b
   kept_silent a b same silent honest = record {
@@ -91,7 +91,7 @@ module _ {S : Type 0} (view : S → StorageView) where
   pub notes_through : (a b c : ImageStorage S) → SameNotes a b → SameNotes b c → SameNotes a c
   notes_through a b c first then = record { note = then.note ∙ first.note; count = then.count ∙ first.count }
 
--- tables stay behind the header while its storage is read
+-- tables stay out of the header's cluster while the storage is read
 pub behind_silent : {S : Type 0} {own own' : ℕ} {l1 l1' : EntryTableView} {v v' : StorageView} {caches : MetadataCaches S} {o o' : Option Allocator} → ((bits : ℕ) → TablesBehindHeader bits own l1 caches o → TablesBehindHeader bits own' l1' caches o')
     → (v.is_honest → ContentsStayThroughout v v') → KeepsTablesBehind own l1 v caches o own' l1' v' caches o'
 behind_silent {v = v} {v' = v'} kept silent = record {
@@ -138,7 +138,7 @@ module _ {S F : Type 0} (view : S → StorageView) (old : Qcow2 S F) (storage' :
     silent = silent;
   }
 
--- the L1 table that was read stands behind the header, and the other tables as before
+-- the L1 table that was read lies past the header's cluster, and the other tables lie where they lay
 pub l1_behind : {S : Type 0} {bits own : ℕ} {l1 table : EntryTableView} {caches : MetadataCaches S} {o : Option Allocator} → TablesBehindHeader bits own l1 caches o → IsL1TableBehind own table → TablesBehindHeader bits own table caches o
 l1_behind {table = table} lies l1 = record { header = lies.header; l1 = subst (λ n. IsL1TableBehind n table) lies.header l1; caches = lies.caches; reftable = lies.reftable }
 

@@ -1,4 +1,4 @@
--- Why reading anew is refused: on a sound image for a fault or want of memory alone.
+-- Reading the tables of a sound image again is refused only for a fault.
 use Rattle.std.proofs.Common.{◌≡◌, ℕ, ◌*◌, ◌<◌, Bool, inl, inr, refl, sym, subst, arith}
 use Rattle.image_access.specs.declared.error.StorageError.TheVariants as S
 use Rattle.qcow2_metadata.specs.Bytes.{Bytes}

@@ -1,4 +1,4 @@
--- Tables that are read by a header without names, and taken over with the places where they stand.
+-- Tables are read with a header without names, and replace those in memory together with their pointers.
 use Rattle.std.proofs.Common.{◌≡◌, ◌∙◌, ◌<◌, ◌≤◌, Bool, false, true, ℕ, IsTrue, inl, inr, List, Option, Some, None, Result, Ok, Err, refl, sym, ap, subst}
 use Rattle.std.proofs.lemmas.Bool.{cases_lt}
 use Rattle.std.specs.Prelude.{IfSome, OnErr}
@@ -15,9 +15,9 @@ use Rattle.qcow2_alloc.specs.declared.cache.MetadataCaches.{MetadataCaches}
 use Rattle.qcow2_alloc.specs.declared.error.ImageError.{ImageError}
 use Rattle.qcow2_alloc.specs.declared.image_file.ImageFile.{ImageFile}
 use Rattle.qcow2_image.specs.BehindHeader.{KeepsTablesBehind, NamesTablesBehind, TablesBehindHeader}
-use Rattle.qcow2_image.specs.Faults.{CountsImageFaults, TellsEach}
+use Rattle.qcow2_image.specs.Faults.{CountsImageFaults, ReportsEach}
 use Rattle.qcow2_image.specs.ImageInvariant.{HasL1Table, ImageInvariant}
-use Rattle.qcow2_image.specs.Invalidated.{KeepsTables, ReadsTables, TakesTables, reftable_in}
+use Rattle.qcow2_image.specs.Invalidated.{KeepsTables, ReadsTables, ReplacesTables, reftable_in}
 use Rattle.qcow2_image.specs.InternalSteps.{InternalStep}
 use Rattle.qcow2_image.specs.declared.image.Qcow2.{Qcow2}
 use Rattle.qcow2_image.specs.declared.prepared.Prepared.{Prepared}
@@ -96,7 +96,7 @@ module _ {S F : Type 0} (view : S → StorageView) (backing : F → BackingView)
       subst (λ (x : HeaderView). HasL1Table view backing (record file { header = x }) t × IfSome o (λ a. HasReftable view (record file { header = x }) a.reftable)) (renumbered w file.header.fields same) (l1_same file w t has.0, reftable_same file w o has.1)
 
   -- what it counts
-  told_named : {T : Type 0} (old mid : Qcow2 S F) (w v : HeaderView) (r : Result T ImageError) → TellsEach view backing (with_header old w) mid r → TellsEach view backing old (with_header mid v) r
+  told_named : {T : Type 0} (old mid : Qcow2 S F) (w v : HeaderView) (r : Result T ImageError) → ReportsEach view backing (with_header old w) mid r → ReportsEach view backing old (with_header mid v) r
   told_named old mid w v (Ok x) told = record { storage = told.storage; below = told.below }
   told_named old mid w v (Err e) told = λ other. let same = told other in record { storage = same.storage; below = same.below }
 
@@ -125,7 +125,7 @@ module _ {S F : Type 0} (view : S → StorageView) (old mid : Qcow2 S F) (w : He
         subst (λ n. KeepsTablesBehind n old.l1_table (view_in view old.file) old.file.caches old.allocator v.fields.cluster_bits mid.l1_table (view_in view mid.file) mid.file.caches mid.allocator) bits
         (subst (λ n. KeepsTablesBehind w.fields.cluster_bits old.l1_table (view_in view old.file) old.file.caches old.allocator n mid.l1_table (view_in view mid.file) mid.file.caches mid.allocator) last kept)
 
-    pub all_taken : TakesTables view old (with_header mid v)
+    pub all_taken : ReplacesTables view old (with_header mid v)
     all_taken = record {
       part = record {
         stays = record {
@@ -161,7 +161,7 @@ module _ {S F : Type 0} (view : S → StorageView) (old mid : Qcow2 S F) (w : He
         subst (λ (m : MetadataCaches S). KeepsTablesBehind old.file.header.fields.cluster_bits old.l1_table (view_in view old.file) old.file.caches old.allocator old.file.header.fields.cluster_bits mid.l1_table (view_in view mid.file) m mid.allocator) (sym same_caches)
         (behind_silent {own = old.file.header.fields.cluster_bits} {own' = old.file.header.fields.cluster_bits} {l1 = old.l1_table} {l1' = mid.l1_table} {v = view_in view old.file} {v' = view_in view mid.file} {caches = old.file.caches} {o = old.allocator} {o' = mid.allocator} behind_kept read.silent)
 
-    pub none_taken : TakesTables view old (with_header mid old.file.header)
+    pub none_taken : ReplacesTables view old (with_header mid old.file.header)
     none_taken = record {
       part = record {
         stays = record {
@@ -193,7 +193,7 @@ pub on_refused_map : {A E : Type 0} {P Q : Type 0} (r : Result A E) → (P → Q
 on_refused_map (Ok x) follows holds = tt
 on_refused_map (Err e) follows holds = follows holds
 
--- where a number isn't told as above a limit
+-- if a number is not reported as above a limit
 pub not_above : (limit n : ℕ) (b : Bool) → b ≡ false → (limit < n → IsTrue b) → n ≤ limit
 not_above limit n b isnt above = elim (cases_lt limit n) [
   | inl more ↦ absurd (let yes : b ≡ true = above more in let bad : false ≡ true = sym isnt ∙ yes in cc)

@@ -1,4 +1,4 @@
--- A held table of a sound file reads: the host clusters that its entries name are aligned.
+-- A cached table of a sound file is readable: the host clusters that its entries name are aligned.
 use Rattle.std.proofs.Common.{◌≡◌, ℕ, ◌+◌, ◌*◌, ◌/◌, ◌%◌, ◌^◌, ◌<◌, Some, None, sym, ap, ◌∙◌, subst}
 use Rattle.std.proofs.lemmas.Nat.{div-mul-add, mod-mul-add, mod_below}
 use Rattle.image_access.specs.Moments.{StorageView}

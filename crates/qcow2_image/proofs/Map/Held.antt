@@ -142,12 +142,12 @@ module _ {S F : Type 0} where
   }
 
   module _ {A : Type 0} (offset : ℕ) (kind : MappingKind) (n : ℕ) where
-    -- so a part that isn't refused 10 heeds them
+    -- so a part that isn't refused 10 respects them
     pub heeds_then : (image : Qcow2 S F) (result : Result A ImageError) → (result ≡ Err OutdatedMapping → ⊥) → IsHeldAs image offset kind n → FitsTables image offset kind n result
     heeds_then image (Ok done) current is = is
     heeds_then image (Err e) current is = λ outdated. absurd (current (ap Err outdated))
 
-    -- as it does behind calls that leave the tables in memory
+    -- the same after calls that leave the tables in memory unchanged
     pub heeds_on : (old new : Qcow2 S F) (result : Result A ImageError) → KeepsHeld old new → FitsTables old offset kind n result → FitsTables new offset kind n result
     heeds_on old new (Ok done) keeps is = held_as old new offset kind n keeps is
     heeds_on old new (Err e) keeps isnt = λ outdated is. isnt outdated (held_as new old offset kind n (keeps_back keeps) is)

@@ -1,4 +1,4 @@
--- Tables are loaded, written and evicted, and bytes are read: no guest sees it.
+-- Tables are loaded, written and evicted, and bytes are read, which guests don't see.
 use Rattle.std.proofs.Common.{◌≡◌, ℕ, ◌+◌, List, [], refl, sym, ap, ◌∙◌, subst, arith}
 use Rattle.std.specs.Prelude.{Option, IfSome, Result, Ok, Err, IfOk}
 use Rattle.image_access.specs.Backing.{BackingView}
@@ -30,12 +30,12 @@ use Rattle.qcow2_image.specs.declared.image.Qcow2.{Qcow2}
 use Rattle.qcow2_image.specs.declared.prepared.Prepared.{Prepared}
 use Rattle.qcow2_image.specs.ImageInvariant.{cluster_of, ImageInvariant}
 use Rattle.qcow2_image.specs.InternalSteps.{InternalStep}
-use Rattle.qcow2_image.proofs.Ready.{still_ready}
+use Rattle.qcow2_image.proofs.Images.Ready.{still_ready}
 use Rattle.qcow2_alloc.proofs.FileSteps.{cached_safe_throughout}
-use Rattle.qcow2_alloc.proofs.KeptTables.Turning.{safe_none, safe_keep}
+use Rattle.qcow2_alloc.proofs.KeptTables.Switching.{safe_none, safe_keep}
 use Rattle.qcow2_alloc.proofs.FileInvariants.{file_invariant_of}
 
--- of two sound stands with the same header and the same known bytes the tables above are the same on the storage
+-- in two sound states with the same header and the same known bytes, the tables above are the same on the storage
 module _ (s s' : DriverState) (sound : StateInvariant s) (sound' : StateInvariant s') (header : s'.header ≡ s.header) (known : s'.known ≡ s.known) where
   same_l1 : (i : ℕ) → l1_entry s.header s'.on_storage i ≡ l1_entry s.header s.on_storage i
   same_l1 i = subst (λ h. l1_entry h s'.on_storage i ≡ l1_entry h s'.known i) header (sound'.same_top.l1 i) ∙ ap (λ b. l1_entry s.header b i) known ∙ sym (sound.same_top.l1 i)
@@ -93,7 +93,7 @@ module _ {S F : Type 0} (view : S → StorageView) (backing : F → BackingView)
       leaks = refl;
     }
 
--- where all tables are written, what is known is what stands on the storage
+-- if all tables are written, the known bytes are those on the storage
 pub all_known : {S : Type 0} (h : HeaderFields) (caches : MetadataCaches S) (on_storage : Bytes) → AreAllWritten caches → known_of h caches on_storage ≡ on_storage
 all_known h caches on_storage written = clean_known (cluster_size h) (l2_tables caches) (known (cluster_size h) (refblocks caches) on_storage) written.0 ∙ clean_known (cluster_size h) (refblocks caches) on_storage written.1
 

@@ -36,7 +36,7 @@ use Rattle.qcow2_image.specs.Image.{size_of}
 use Rattle.qcow2_disk.specs.Found.{Kind, raw, indirect, zeros, special, eof, kind_at, rest_of_table, IsCompressed, IsFound as IsFoundOf}
 use Rattle.qcow2_image.specs.declared.mapping.Place.TheVariants.{Image, DataFile}
 use Rattle.qcow2_image.specs.declared.prepared.Prepared.{Prepared}
-use Rattle.qcow2_image.specs.MetAlone.{IsSpecial}
+use Rattle.qcow2_image.specs.MayFail.{IsSpecial}
 use Rattle.qcow2_image.specs.InternalSteps.{InternalStep}
 use Rattle.qcow2_image.specs.Found.{found_kind, mapping_of, l1_index_of, AreAlikeBehind, IsAlikeTo, IsRunBehind, IsFoundInImage, IsFoundWhole, IsMappedAs}
 
@@ -77,7 +77,7 @@ module _ (h : HeaderFields) (offset : ℕ) (sizes : Sizes h) where
       div-div-eq-div-mul (offset + i) (cluster_size h) (entries_per_cluster h) ∙ ap (λ n. n / whole) e ∙ div-mul-add (offset / whole) whole (offset % whole + i) (omega (arith, lt))
       ∙ sym (div-div-eq-div-mul offset (cluster_size h) (entries_per_cluster h))
 
-  -- without an L2 table all of it is uncovered
+  -- without an L2 table all of it is unmapped
   pub none_found : (known : Bytes) (limit : ℕ) → limit ≤ rest_of_table h offset → table_at h known (l1_index_of h offset) ≡ 0 → IsLongestRun h known offset limit limit
   none_found known limit le none =
       let here : cover h known (offset / cluster_size h) ≡ Uncovered = cover_none h known (offset / cluster_size h) none in
@@ -96,7 +96,7 @@ module _ (h : HeaderFields) (offset : ℕ) (sizes : Sizes h) where
     abbrev pub rest : ℕ
     rest = cluster_size h - offset % cluster_size h
 
-    -- the cluster behind so many bytes, as the table says
+    -- the cluster after so many bytes, as the table says
     said : (k : ℕ) → rest + k * cluster_size h < max → mapping_of t (offset / cluster_size h + k + 1) ≡ cover h known (offset / cluster_size h + k + 1)
     said k lt =
         let begins = run_begins h known offset k in
@@ -104,7 +104,7 @@ module _ (h : HeaderFields) (offset : ℕ) (sizes : Sizes h) where
         ap (λ n. n / cluster_size h) (begins ∙ omega arith) ∙ div-mul-add (offset / cluster_size h + k + 1) (cluster_size h) 0 sizes.some in
         says (offset / cluster_size h + k + 1) (ap (λ n. n / entries_per_cluster h) (sym at) ∙ same_table (cluster_size h - offset % cluster_size h + k * cluster_size h) (omega (arith, lt, within)))
 
-    -- the table's word of a cluster behind is the word of what is known
+    -- the table's mapping of a later cluster is the known one
     alike_there : (k : ℕ) → rest + k * cluster_size h < max → IsAlikeTo t (offset / cluster_size h) (k + 1)
         → IsAlike (k * cluster_size h + cluster_size h) (cover h known (offset / cluster_size h)) (cover h known (offset / cluster_size h + k + 1))
     alike_there k lt alike =
@@ -161,7 +161,7 @@ cached_says view file p t table i cluster sound shows at here =
     let each = λ (index : ℕ) (lt : index < entries_per_cluster h). shows h p (contents_in view file) i index sound.caches (record { real = at.real; place = at.place; within = lt }) in
     says_known h (known_in view file) t i sizes at.real (each (cluster % entries_per_cluster h) at.within).format (λ index lt. (each index lt).entry) cluster here
 
--- the mapping that is told so
+-- the mapping that is reported so
 abbrev told_of : Kind → MappingKind
 told_of (raw external offset writable) = M.Raw (if external then DataFile else Image) offset writable
 told_of (indirect offset) = M.Indirect offset
@@ -177,7 +177,7 @@ told_back (M.Zero explicit) = refl
 told_back (M.Special offset) = refl
 told_back M.Eof = refl
 
--- kinds that are told alike are the same
+-- kinds that are reported alike are the same
 pub same_kind : (a b : MappingKind) → found_kind a ≡ found_kind b → a ≡ b
 same_kind a b same = sym (told_back a) ∙ ap told_of same ∙ told_back b
 
@@ -205,10 +205,10 @@ none_past view image offset n some whole = ⊎_elim
     (λ lt. kind_within image.file.header.fields (is_some image.backing) offset (cover image.file.header.fields (known_in view image.file) (offset / cluster_size image.file.header.fields)) (whole.run lt).kind_is)
     (λ past. absurd (let none = (whole.past past).1 in omega arith)) (cases_lt offset (size_of image))
 
--- ---- where the same stands for each guest cluster, the same is found
+-- ---- where each guest cluster has the same mapping, the same is found
 
 module _ (h : HeaderFields) (place clusters : ℕ) (known known' : Bytes) (covers : SameCovers h known known') where
-  -- by what stands for each of them, a byte behind an offset is mapped like that at it
+  -- by the mappings of their guest clusters, a byte after an offset is mapped like the byte at it
   abbrev AreAlike : (offset i : ℕ) → (ℕ → L2Mapping) → Type 0
   AreAlike offset i covered = IsAlike (((offset + i) / cluster_size h - offset / cluster_size h) * cluster_size h) (covered (offset / cluster_size h)) (covered ((offset + i) / cluster_size h))
 
@@ -229,7 +229,7 @@ module _ (h : HeaderFields) (place clusters : ℕ) (known known' : Bytes) (cover
     };
   }
 
--- what is found whole behind a step that no guest sees was found so before
+-- a range that is found whole after a step that guests don't see was found so before
 pub found_before : {S F : Type 0} (view : S → StorageView) (backing : F → BackingView) (old new : Qcow2 S F) (out : List (Option Prepared)) (p p' : Pending) (offset n : ℕ) (kind : MappingKind) → InternalStep view backing p p' old new out
     → IsFoundWhole view new offset kind n → IsFoundWhole view old offset kind n
 found_before view backing old new out p p' offset n kind step whole =
@@ -239,7 +239,7 @@ found_before view backing old new out p p' offset n kind step whole =
     (subst (λ (b : Bool). IsFoundOf (with_reftable h new.file.header.fields.reftable_offset new.file.header.fields.reftable_clusters) known b offset n (found_kind kind) n) (ap (λ (x : Bool × Bytes). x.0) step.below)
     (subst (λ (x : HeaderFields). IsFoundOf x known (is_some new.backing) offset n (found_kind kind) n) step.unseen.header whole))
 
--- and what was found whole before is found so behind it
+-- a range that was found whole before such a step is found so after it
 pub found_after : {S F : Type 0} (view : S → StorageView) (backing : F → BackingView) (old new : Qcow2 S F) (out : List (Option Prepared)) (p p' : Pending) (offset n : ℕ) (kind : MappingKind) → InternalStep view backing p p' old new out
     → IsFoundWhole view old offset kind n → IsFoundWhole view new offset kind n
 found_after view backing old new out p p' offset n kind step whole =
@@ -266,7 +266,7 @@ module _ (h : HeaderFields) (known : Bytes) (backed : Bool) (offset : ℕ) where
     };
   }
 
-  -- so is one of data that stands in a row, within one L2 table and below the size
+  -- a run of contiguous data, within one L2 table and below the size, is one too
   pub data_found : (copied : Bool) (place n : ℕ) → 0 < n → offset + n ≤ h.size → n ≤ rest_of_table h offset → AreDataAt h known copied offset place n → IsFoundOf h known backed offset n (raw false place copied) n
   data_found copied place n some below within each = record {
     past = λ past. absurd (omega (arith, past, below, some));

@@ -1,4 +1,4 @@
--- Tables are loaded and evicted, and bytes are read, of an image of which no cached table is modified: nothing is written, whatever it holds.
+-- Tables are loaded and evicted, and bytes are read, in an image without modified cached tables: nothing is written, whatever the image contains.
 use Rattle.std.proofs.Common.{◌≡◌, Bool, Result, sym, ap, subst, ◌∙◌}
 use Rattle.image_access.specs.Moments.{StorageView, ContentsStay, EachMomentSince, IsLeftBy, QuietCalls}
 use Rattle.image_access.proofs.EachMomentSince.{passes_if}

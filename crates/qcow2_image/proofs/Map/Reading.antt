@@ -1,4 +1,4 @@
--- The bytes that a run of clusters mapped alike shows.
+-- The bytes that a guest sees in a run of clusters that are mapped alike.
 use Rattle.std.proofs.Common.{◌≡◌, ℕ, ◌+◌, ◌/◌, ◌%◌, ◌<◌, Bool, true, false, refl, sym, ap, ◌∙◌, is_some}
 use Rattle.std.specs.Prelude.{Option, Some, None, if◌then◌else◌}
 use Rattle.image_access.specs.Backing.{BackingView}
@@ -35,7 +35,7 @@ module _ (s : DriverState) (sound : StateInvariant s) (inside : s.header.incompa
     no_raw true e = absurd cc
     no_raw false e = absurd cc
 
-  -- zeros, which an uncovered cluster without a backing disk shows too
+  -- zeros, which an unmapped cluster without a backing disk shows too
   pub zero_shown : (v : L2Mapping) → cover s.header s.known (offset / cluster_size s.header) ≡ v → (backed ≡ false → (o : ℕ) → backing o ≡ 0) → (explicit : Bool) → zeros explicit ≡ kind_at s.header backed offset v
       → (i : ℕ) → i < n → (disk s.known backing).value (offset + i) ≡ known_byte 0
   zero_shown (Data start copied) is none explicit kind i lt = absurd cc

@@ -1,4 +1,4 @@
--- The autoclear bits are cleared beside caches that hold nothing modified: the file is as sound as before, and has the same tables.
+-- The autoclear bits are cleared while no cached table is modified: the file is as sound as before, and has the same tables.
 use Rattle.std.proofs.Common.{◌≡◌, ◌≢◌, inl, inr, ℕ, List, [], Result, sym, ap, ◌∙◌, subst}
 use Rattle.std.proofs.lemmas.Bool.{cases_eq}
 use Rattle.image_access.specs.Backing.{BackingView}

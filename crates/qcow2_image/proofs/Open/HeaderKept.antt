@@ -1,4 +1,4 @@
--- Numbers of the header are written while all entries of the L1 table and the reftable stay: the file is as sound as before, with the header that has them.
+-- Header numbers are written while all entries of the L1 table and the reftable stay the same: the file is as sound as before, with the new header.
 use Rattle.std.proofs.Common.{◌≡◌, ◌⊎◌, inl, ℕ, refl, sym}
 use Rattle.image_access.specs.Moments.{StorageView}
 use Rattle.qcow2_metadata.specs.Bytes.{Bytes}

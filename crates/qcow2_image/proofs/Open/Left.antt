@@ -1,4 +1,4 @@
--- What opening leaves of a storage, part after part.
+-- What opening leaves of a storage, part by part.
 use Rattle.std.proofs.Common.{◌≡◌, ◌≢◌, ◌⊎◌, inl, inr, ℕ, ◌≤◌, Bool, true, false, List, Result, Ok, Err, refl, sym, ap, ◌∙◌, subst}
 use Rattle.std.specs.Prelude.{◌&&◌, ◌==◌, not, if◌then◌else◌, IsOk}
 use Rattle.std.proofs.lemmas.Bool.{cases_eq, ne_eqb}

@@ -1,4 +1,4 @@
--- A sound image names its tables behind cluster 0, since the header's cluster is named for the header alone.
+-- The pointers of a sound image lead past cluster 0, since only the header refers to cluster 0.
 use Rattle.std.proofs.Common.{◌≡◌, ◌≢◌, ◌∙◌, ◌⊎◌, inl, inr, ℕ, ◌+◌, ◌*◌, ◌/◌, ◌%◌, ◌<◌, ◌≤◌, List, [], Result, Ok, Err, zero, suc, refl, sym, ap, subst, arith}
 use Rattle.std.proofs.lemmas.Nat.{mul-le, pow_pos}
 use Rattle.std.specs.Prelude.{IfOk}
@@ -97,7 +97,7 @@ module _ {S F : Type 0} (view : S → StorageView) (backing : F → BackingView)
   pub opened_behind : (image : Qcow2 S F) → IsOpened (abstract_of view backing image []) → NamesTablesBehind image.file.header.fields
   opened_behind image opened = names_behind _ _ _ _ _ opened.sound.file.caches.kept.kept.crash_invariant
 
-  -- It lies behind cluster 0 where it was opened from a consistent image, or names its tables there.
+  -- The image's tables lie past cluster 0 if it was opened from a consistent image, or if its header names them there.
   pub lies_if : (Honest : Type 0) (storage : StorageView) (r : Result (Qcow2 S F) (S × ImageError)) → (Honest → storage.is_honest × IsConsistent (byte_at storage.contents)) → IfOk r (Opens view backing storage)
       → IfOk r (λ image. NamesTablesBehind image.file.header.fields → LiesBehindHeader image) → IfOk r (λ image. Honest ⊎ NamesTablesBehind image.file.header.fields → LiesBehindHeader image)
   lies_if Honest storage (Ok image) made opens lies = λ which. elim which [ inl honest ↦ let from = made honest in lies (opened_behind image (opens from.0 from.1).opened) | inr names ↦ lies names ]

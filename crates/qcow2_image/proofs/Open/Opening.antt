@@ -33,9 +33,9 @@ use Rattle.qcow2_image.specs.declared.image.Qcow2.{Qcow2}
 use Rattle.qcow2_image.specs.Image.{is_failed}
 use Rattle.qcow2_image.specs.Opened.{IsFresh, StaysFresh, IsLoaded, IsKeptSince, SameNames, HasNamesIn}
 use Rattle.qcow2_image.specs.ImageInvariant.{HasL1Table, IsHonestBacking, ImageInvariant, of_data, of_tables, to_free, pending_in, abstract_of}
-use Rattle.qcow2_image.proofs.Sound.{pending_is}
+use Rattle.qcow2_image.proofs.Images.Sound.{pending_is}
 
--- names that stay are still those that stand there
+-- names that stay are still those in the contents
 pub named_still : (old new : HeaderView) (contents : List ℕ) → IsHeaderIn old contents → SameNames old new → HasNamesIn new contents
 named_still old new contents is same = record { fields = refl; reads = is.reads; backing_name = same.0 ∙ is.backing_name; backing_format = same.1 ∙ is.backing_format; data_file_name = same.2 ∙ is.data_file_name }
 
@@ -97,7 +97,7 @@ module _ {S F : Type 0} (view : S → StorageView) (backing : F → BackingView)
   new_tables_then p old new new_tables rest honest same =
       subst (StaysFresh view backing p old) (sym rest) (new_tables_read p old new.storage new_tables (honest new_tables.sound.honest) (same new_tables.sound.honest))
 
-  -- the storage is told what is written next
+  -- the kind of the next write is set
   pub told_new_tables : (p : Pending) (old file : ImageFile S) (told : ImageStorage S) → IsFresh view backing p old → file ≡ record old { storage = file.storage } → ((view_in view old).is_honest → (view_in view file).is_honest)
       → ((view_in view old).is_honest → (view_in view file).contents ≡ (view_in view old).contents) → EachMomentSince (view_in view old) (view_in view file) (IsLeftBy (view_in view file)) → storage_of told ≡ storage_of file.storage
       → IsFresh view backing p (record file { storage = told }) × IsKeptSince (view_in view old) (view (storage_of told))

@@ -1,4 +1,4 @@
--- An image that was just opened, over another disk.
+-- An image that was just opened, over another backing disk.
 use Rattle.std.proofs.Common.{Bool, [], ℕ, Option}
 use Rattle.std.specs.Prelude.{Ok}
 use Rattle.image_access.specs.Backing.{BackingView}

@@ -1,4 +1,4 @@
--- An image opens where its contents read, and else is refused for that.
+-- An image opens if its contents are readable, and otherwise is refused for that.
 use Rattle.std.proofs.Common.{◌≡◌, ℕ, ◌^◌, ◌<◌, Bool, true, false, List, Result, subst, inl, inr, arith}
 use Rattle.image_access.specs.Moments.{StorageView}
 use Rattle.image_access.specs.declared.error.StorageError.{StorageError}
@@ -17,7 +17,7 @@ use Rattle.qcow2_alloc.specs.ImageFile.{contents_in, view_in}
 use Rattle.qcow2_alloc.specs.declared.image_file.ImageFile.{ImageFile}
 use Rattle.qcow2_alloc.specs.LoadedTables.{IsReasonAgainstReftable, L1TableReads}
 use Rattle.qcow2_image.specs.Opened.{needs_missing}
-use Rattle.qcow2_image.specs.Readable.{HeaderSuits, IsReadable, IsReasonAgainstTables, IsRefusedRightly, NeededTablesRead}
+use Rattle.qcow2_image.specs.Readable.{HeaderSuits, IsReadable, IsReasonAgainstTables, IsJustifiedRefusal, NeededTablesRead}
 use Rattle.qcow2_image.specs.declared.image.Missing.{Missing}
 use Rattle.qcow2_image.proofs.Open.SameHeaders.{not_needed}
 
@@ -26,7 +26,7 @@ pub none_reads : (h : HeaderFields) (b : Bytes) → h.l1_entries ≡ 0 → L1Tab
 none_reads h b none = λ i lt. absurd (omega (arith, lt, none))
 
 -- a header that isn't loaded
-pub header_refused : (contents : List ℕ) (writable : Bool) (missing : Missing) (e : MetadataError) → IsReasonToRefuse (header (byte_at contents)) (byte_at contents) writable e → IsRefusedRightly contents writable missing (of_metadata e)
+pub header_refused : (contents : List ℕ) (writable : Bool) (missing : Missing) (e : MetadataError) → IsReasonToRefuse (header (byte_at contents)) (byte_at contents) writable e → IsJustifiedRefusal contents writable missing (of_metadata e)
 header_refused contents writable missing (M.Storage S.Fault) why = tt
 header_refused contents writable missing (M.Storage S.Memory) why = tt
 header_refused contents writable missing M.Memory why = tt
@@ -36,7 +36,7 @@ header_refused contents writable missing M.Limit why = inl why
 header_refused contents writable missing M.Format why = inl why
 
 -- tables that aren't
-tables_refused : (contents : List ℕ) (writable : Bool) (missing : Missing) (e : ImageError) → HeaderSuits contents writable missing → IsReasonAgainstTables (header (byte_at contents)) (byte_at contents) writable e → IsRefusedRightly contents writable missing e
+tables_refused : (contents : List ℕ) (writable : Bool) (missing : Missing) (e : ImageError) → HeaderSuits contents writable missing → IsReasonAgainstTables (header (byte_at contents)) (byte_at contents) writable e → IsJustifiedRefusal contents writable missing e
 tables_refused contents writable missing I.Metadata suits why = inr (suits, why)
 tables_refused contents writable missing I.Limit suits why = inr (suits, why)
 tables_refused contents writable missing I.UnalignedTable suits why = elim why [ inl off ↦ absurd (off suits.on_clusters.l1_table) | inr off ↦ absurd (off.2 (suits.on_clusters.reftable off.0)) ]
@@ -47,8 +47,8 @@ tables_refused contents writable missing e suits why = elim why [ inl none ↦ a
 -- ---- a storage whose header was loaded
 module _ {S T : Type 0} (view : S → StorageView) (old mid last : S) (same : mid ≡ old) (writable : Bool) (missing : Missing) (result : Result T MetadataError) (read : OnlyReads (view mid) (view last) result) (v : HeaderView)
     (there : (view mid).is_honest → IsHeaderIn v (view mid).contents) (aligned : HasAlignedTables v.fields writable) where
-  pub needs_so : needs_missing missing v ≡ true → (view old).is_honest → IsRefusedRightly (view old).contents writable missing I.Dependency
-  needs_so needs = subst (λ s. (view s).is_honest → IsRefusedRightly (view s).contents writable missing I.Dependency) same (λ honest. let is = there honest in
+  pub needs_so : needs_missing missing v ≡ true → (view old).is_honest → IsJustifiedRefusal (view old).contents writable missing I.Dependency
+  needs_so needs = subst (λ s. (view s).is_honest → IsJustifiedRefusal (view s).contents writable missing I.Dependency) same (λ honest. let is = there honest in
       (subst (λ h. HasAlignedTables h writable) is.fields aligned, record { header = v; stands = is; needs = needs }))
 
   suits_so : needs_missing missing v ≡ false → (view mid).is_honest → HeaderSuits (view mid).contents writable missing
@@ -65,8 +65,8 @@ module _ {S T : Type 0} (view : S → StorageView) (old mid last : S) (same : mi
         (subst (λ h. NeededTablesRead h (byte_at (view last).contents) writable) (there honest).fields (reads (read.honest honest)));
   })
 
-  pub refused_rightly : (e : ImageError) → needs_missing missing v ≡ false → ((view last).is_honest → IsReasonAgainstTables v.fields (byte_at (view last).contents) writable e) → (view old).is_honest → IsRefusedRightly (view old).contents writable missing e
-  refused_rightly e none why = subst (λ s. (view s).is_honest → IsRefusedRightly (view s).contents writable missing e) same (λ honest. tables_refused (view mid).contents writable missing e (suits_so none honest)
+  pub refused_rightly : (e : ImageError) → needs_missing missing v ≡ false → ((view last).is_honest → IsReasonAgainstTables v.fields (byte_at (view last).contents) writable e) → (view old).is_honest → IsJustifiedRefusal (view old).contents writable missing e
+  refused_rightly e none why = subst (λ s. (view s).is_honest → IsJustifiedRefusal (view s).contents writable missing e) same (λ honest. tables_refused (view mid).contents writable missing e (suits_so none honest)
       (subst (λ (c : List ℕ). IsReasonAgainstTables (header (byte_at (view mid).contents)) (byte_at c) writable e) (read.same honest)
       (subst (λ h. IsReasonAgainstTables h (byte_at (view last).contents) writable e) (there honest).fields (why (read.honest honest)))))
 

@@ -1,4 +1,4 @@
--- The allocator is one of its file, still, where no count and no entry of the reftable changes.
+-- The allocator still belongs to its file if no refcount and no reftable entry changes.
 use Rattle.std.proofs.Common.{◌≡◌, ◌/◌, Option, Some, sym, ap, ◌∙◌, ℕ, arith}
 use Rattle.std.specs.Prelude.{IfSome}
 use Rattle.image_access.specs.Moments.{StorageView}

@@ -1,4 +1,4 @@
--- The bytes of an image hold only one header; and an image that needs another file is refused for that.
+-- The bytes of an image hold only one header, and an image that needs another file is refused for that.
 use Rattle.std.proofs.Common.{◌≡◌, ◌≢◌, ◌⊎◌, Result, ◌/◌, ◌%◌, ℕ, is_some, List, true, false, Bool, refl, sym, ap, ◌∙◌, subst, inl, inr}
 use Rattle.std.specs.Prelude.{◌||◌, ◌==◌}
 use Rattle.image_access.specs.Moments.{StorageView}
@@ -20,7 +20,7 @@ use Rattle.qcow2_alloc.specs.ImageError.{of_metadata, IsFault}
 use Rattle.qcow2_image.specs.Opened.{needs_missing, needs_another, NeedsAnother, NeedsMissing}
 use Rattle.qcow2_image.specs.declared.image.Missing.{Missing}
 use Rattle.qcow2_image.specs.declared.image.Missing.TheVariants as N
-use Rattle.qcow2_image.specs.Refusals.{IsMet}
+use Rattle.qcow2_image.specs.Refusals.{MayFail}
 use Rattle.qcow2_image.specs.Unwritten.{ContentsStayThroughout}
 
 -- what it needs is the same for both
@@ -50,9 +50,9 @@ lacks_so N.OtherFiles v w contents is it = needs_so v w contents is it
 pub some_missing : (missing : Missing) (v : HeaderView) → needs_missing missing v ≡ true → missing ≢ N.Nothing
 some_missing missing v needs none = let bad : false ≡ true = ap (λ (m : Missing). needs_missing m v) (sym none) ∙ needs in cc
 
--- what is met where the work is isn't a missing file
-pub not_missing : (e : ImageError) → IsMet e → e ≡ Dependency → ⊥
-not_missing e met is = subst IsMet is met
+-- a refusal that comes during the work is not a missing file
+pub not_missing : (e : ImageError) → MayFail e → e ≡ Dependency → ⊥
+not_missing e may_fail is = subst MayFail is may_fail
 
 -- a header that needs no file that is missing isn't that of an image that does
 pub not_needed : (missing : Missing) (v : HeaderView) (contents : List ℕ) → IsHeaderIn v contents → needs_missing missing v ≡ false → NeedsMissing missing contents → ⊥

@@ -118,7 +118,7 @@ module _ (cs : ℕ) (some : 0 < cs) where
     covers_before from mid to low high before then =
         both mid to from mid from to (λ g t. elim (in_one from mid to low high g t) [ inl second ↦ inr second | inr earlier ↦ inl earlier ]) (second_in from mid to low high) (first_in from mid to low high) before then
 
-    -- a step that leaves what stands, and then such a part
+    -- a step that keeps all mappings, and then such a part
     pub stay_covers : (from to : ℕ) → CoversStay a ka b kb → FilledCovers cs first from to b kb c kc → FilledCovers cs first from to a ka c kc
     stay_covers from to same then = record {
       beside = λ g outside. same g ∙ then.beside g outside;
@@ -126,7 +126,7 @@ module _ (cs : ℕ) (some : 0 < cs) where
       copied = then.copied;
     }
 
-    -- and then a step that leaves what stands
+    -- and then a step that keeps all mappings
     pub covers_stay : (from to : ℕ) → FilledCovers cs first from to a ka b kb → CoversStay b kb c kc → FilledCovers cs first from to a ka c kc
     covers_stay from to before same = record {
       beside = λ g outside. before.beside g outside ∙ same g;

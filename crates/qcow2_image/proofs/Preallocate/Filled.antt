@@ -25,26 +25,26 @@ use Rattle.qcow2_image.specs.declared.image.Qcow2.{Qcow2}
 use Rattle.qcow2_image.specs.declared.prepared.Prepared.{Prepared}
 use Rattle.qcow2_image.specs.ImageInvariant.{ImageInvariant, abstract_of, disk_of, pending_in}
 use Rattle.qcow2_image.specs.Found.{l1_index_of}
-use Rattle.qcow2_image.specs.MetAlone.{KeepsL1Place}
+use Rattle.qcow2_image.specs.MayFail.{KeepsL1Place}
 use Rattle.qcow2_image.specs.MovedTables.{MovesTables}
 use Rattle.qcow2_image.specs.Preallocation.{ChangesFree, FilledCovers, FillsOrRefuses, FillsPart, FillsSome, InterruptedGiving, IsUnderMappingIn, MayBeZero, RefusedFill, given_by_zeros}
-use Rattle.qcow2_image.specs.Refusals.{IsMet, IsUnlimited}
+use Rattle.qcow2_image.specs.Refusals.{MayFail, IsUnlimited}
 use Rattle.qcow2_image.proofs.Call.Called.{works_none}
 use Rattle.qcow2_image.proofs.Clear.ClearCalls.{under_before}
 use Rattle.qcow2_image.proofs.Clear.Ranges.{table_end, table_whole}
-use Rattle.qcow2_image.proofs.Grow.Lengths.{place_same, reaching_stays, reaching_stays_shorter, reaching_stays_then}
-use Rattle.qcow2_image.proofs.Moved.{file_step_then}
-use Rattle.qcow2_image.proofs.Prepare.Lacked.{limited_from, limited_less, other_limit}
+use Rattle.qcow2_image.proofs.Grow.L1Lengths.{place_same, reaching_stays, reaching_stays_shorter, reaching_stays_then}
+use Rattle.qcow2_image.proofs.Images.Moved.{file_step_then}
+use Rattle.qcow2_image.proofs.Prepare.LimitCauses.{limited_from, limited_less, other_limit}
 use Rattle.std.proofs.lemmas.Nat.{pow_pos}
 use Rattle.qcow2_image.proofs.Preallocate.Covers.{covers_before, covers_cleared, covers_from, covers_none, covers_stay, covers_then}
 use Rattle.qcow2_image.proofs.Preallocate.Pieces.{none_of}
-use Rattle.qcow2_image.proofs.Preallocate.Untaken.{untaken_before, untaken_none, untaken_then, untaken_zeros}
+use Rattle.qcow2_image.proofs.Preallocate.NoPreparedEntries.{untaken_before, untaken_none, untaken_then, untaken_zeros}
 use Rattle.qcow2_image.proofs.Preallocate.Zeros.{may_none, may_then, may_wider, may_zeroed, shown_zeros, zeroed_before, zeroed_none, zeroed_then, zeros_wider, zeros_touch}
-use Rattle.qcow2_image.proofs.UngivenCovers.{touches_part}
+use Rattle.qcow2_image.proofs.Images.UngivenCovers.{touches_part}
 
--- what comes where the work meets it isn't that a table is prepared
-pub met_taken : {A : Type 0} (e : ImageError) → IsMet e → e ≡ I.TablePrepared → A
-met_taken e met is = absurd (subst (λ (x : ImageError). IsMet x) is met)
+-- a refusal that comes during the work is not 9
+pub met_taken : {A : Type 0} (e : ImageError) → MayFail e → e ≡ I.TablePrepared → A
+met_taken e may_fail is = absurd (subst (λ (x : ImageError). MayFail x) is may_fail)
 
 -- a prepared table of a part is one of the whole, by the header before
 pub taken_wider : (h h' : HeaderFields) (from to from' to' : ℕ) (out : List (Option Prepared)) → MovesTables h h' → from' ≤ from → to ≤ to' → IsUnderMappingIn h' from to out → IsUnderMappingIn h from' to' out
@@ -83,9 +83,9 @@ module _ {S F : Type 0} (view : S → StorageView) (backing : F → BackingView)
   -- a sound image that is marked as failed
   pub given_broken : (given : List GivenBytes) (old new : Qcow2 S F) (e : ImageError) → FaultOfTables e → (e ≡ I.Memory → IsTrue (has_noted_change new)) → ImageInvariant view backing (pending_in view backing new out) new out
       → EffectOnSound (abstract_of view backing old out) (abstract_of view backing new out) given [] → InterruptedGiving view backing given old new out e
-  given_broken given old new e fault noted sound works = record {
+  given_broken given old new e fault recorded sound works = record {
     fault = fault;
-    noted = noted;
+    recorded = recorded;
     works = record {
       setting = works.setting;
       surplus = λ now. absurd (let f : true ≡ false = now.works in cc);
@@ -117,7 +117,7 @@ module _ {S F : Type 0} (view : S → StorageView) (backing : F → BackingView)
     may = may_none from to (disk_of view backing old);
     shows = stays.same;
   })
-  fill_unseen old new from to e (inr interrupted) = inr (record { fault = interrupted.fault; noted = interrupted.noted; works = none_of _ _ (given_by_zeros from to ∷ []) interrupted.works })
+  fill_unseen old new from to e (inr interrupted) = inr (record { fault = interrupted.fault; recorded = interrupted.recorded; works = none_of _ _ (given_by_zeros from to ∷ []) interrupted.works })
 
   -- nothing was done
   some_none : (image : Qcow2 S F) (from to : ℕ) → ImageInvariant view backing (pending_in view backing image out) image out → FillsSome view backing from to image image out
@@ -186,7 +186,7 @@ module _ {S F : Type 0} (view : S → StorageView) (backing : F → BackingView)
     broken_after : (e : ImageError) → InterruptedGiving view backing (given_by_zeros x' y' ∷ []) b c out e → InterruptedGiving view backing (given_by_zeros from to ∷ []) a c out e
     broken_after e then = record {
       fault = then.fault;
-      noted = then.noted;
+      recorded = then.recorded;
       works = works_then (abstract_of view backing a out) (abstract_of view backing b out) (abstract_of view backing (record c { is_failed = true }) out) (given_by_zeros from to ∷ []) [] first.sound (wider_works a b x y from to low high first.works)
           (wider_works b (record c { is_failed = true }) x' y' from to low' high' then.works);
     }
@@ -217,10 +217,10 @@ module _ {S F : Type 0} (view : S → StorageView) (backing : F → BackingView)
     }
 
     -- that is refused
-    pub fills_refused : (to' : ℕ) (e : ImageError) → to ≤ to' → IsMet e → IsUnlimited e → RefusedCall view backing b c out e → c.file.header ≡ b.file.header → RefusedFill view backing from to' a c out e
-    fills_refused to' e high met unlimited then same = record {
+    pub fills_refused : (to' : ℕ) (e : ImageError) → to ≤ to' → MayFail e → IsUnlimited e → RefusedCall view backing b c out e → c.file.header ≡ b.file.header → RefusedFill view backing from to' a c out e
+    fills_refused to' e high may_fail unlimited then same = record {
       left = left_after a b c zeros from to' from to from to' (omega arith) high (omega arith) (omega arith) first e (fill_unseen b c from to' e then);
-      taken = met_taken e met;
+      taken = met_taken e may_fail;
       limit = other_limit _ e unlimited;
     }
 

@@ -1,4 +1,4 @@
--- A larger disk that was refused, and clusters that are freed behind the refusal.
+-- A growth is refused, and clusters are freed after the refusal.
 use Rattle.std.proofs.Common.{◌≡◌, ◌⊎◌, ◌∙◌, inl, inr, ℕ, true, List, [], sym, subst}
 use Rattle.std.specs.Prelude.{Option, Result, Err}
 use Rattle.image_access.specs.Backing.{BackingView}
@@ -43,7 +43,7 @@ module _ {S F : Type 0} (view : S → StorageView) (backing : F → BackingView)
               may = part.may;
               shows = still.same ∙ part.shows;
             })
-            | inr broken ↦ inr (record { fault = broken.fault; noted = broken.noted; works = works_then a m failed given [] part.sound part.works (works_less m failed [] given [] (λ o x never. absurd never) (λ g u. tt) broken.works) })
+            | inr broken ↦ inr (record { fault = broken.fault; recorded = broken.recorded; works = works_then a m failed given [] part.sound part.works (works_less m failed [] given [] (λ o x never. absurd never) (λ g u. tt) broken.works) })
           ]
           | inr broken ↦ let is = fault broken.fault in inr (subst (λ (x : ImageError). InterruptedGiving view backing given old new out x) (sym is.0) (subst (λ (image : Qcow2 S F). InterruptedGiving view backing given old image out e) (sym is.1) broken))
         ]

@@ -28,10 +28,10 @@ use Rattle.qcow2_image.specs.declared.prepared.Prepared.{Prepared}
 use Rattle.qcow2_image.specs.CallParts.{AreCopied, EntersAll, IsEntered, IsReadied, IsWriteOutcome, PutsPart, RefusedCall, StaysBeside, WritesBytes}
 use Rattle.qcow2_image.specs.Calls.{Discards}
 use Rattle.qcow2_image.specs.Ranges.{ReleasesOneMapping}
-use Rattle.qcow2_image.specs.declared.prepared.Share.TheVariants.{InPlace}
+use Rattle.qcow2_image.specs.declared.prepared.ClusterMapping.TheVariants.{InPlace}
 use Rattle.qcow2_image.specs.ImageInvariant.{ImageInvariant, IsPending, IsReadyWith, cluster_of, abstract_of, disk_of, image_abstraction, meaning, pending_in}
 use Rattle.qcow2_image.specs.L1Entries.{ReachingStays}
-use Rattle.qcow2_image.specs.MetAlone.{KeepsL1Place}
+use Rattle.qcow2_image.specs.MayFail.{KeepsL1Place}
 use Rattle.qcow2_image.specs.MovedTables.{MovesTables}
 use Rattle.qcow2_image.specs.Preallocation.{ChangesFree, FilledCovers, Touches, CommitsWhole, FillsPart, FillsSome, InterruptedGiving, given_by_zeros}
 use Rattle.qcow2_alloc.proofs.PlacedBlocks.{file_sizes}
@@ -39,18 +39,18 @@ use Rattle.qcow2_image.specs.Clearing.{IsUnderMapping}
 use Rattle.qcow2_image.specs.Found.{l1_index_of}
 use Rattle.qcow2_image.specs.Preparing.{IsAnswered}
 use Rattle.qcow2_image.proofs.Clear.ClearCalls.{under_after}
-use Rattle.qcow2_image.proofs.Moved.{data_moved}
+use Rattle.qcow2_image.proofs.Images.Moved.{data_moved}
 use Rattle.qcow2_image.proofs.Call.Slots.{get_set_same, set_set}
 use Rattle.qcow2_image.proofs.Commit.CommitCalls.{all_shown, commit_existing}
 use Rattle.qcow2_image.proofs.Commit.Copied.{stands_entered, stands_released}
-use Rattle.qcow2_image.proofs.Free.{free_places}
+use Rattle.qcow2_image.proofs.Images.Free.{free_places}
 use Rattle.qcow2_image.proofs.Preallocate.Covers.{boundary, covers_own}
-use Rattle.qcow2_image.proofs.Grow.Lengths.{index_moved, place_same, reaching_stays}
+use Rattle.qcow2_image.proofs.Grow.L1Lengths.{index_moved, place_same, reaching_stays}
 use Rattle.qcow2_image.proofs.Preallocate.Filled.{given_broken}
 use Rattle.qcow2_image.proofs.Preallocate.Pieces.{filled_shows, filled_sound, filled_works, gone_same, gone_works, none_of}
-use Rattle.qcow2_image.proofs.Preallocate.Untaken.{never_two, same_row}
+use Rattle.qcow2_image.proofs.Preallocate.NoPreparedEntries.{never_two, same_row}
 use Rattle.qcow2_image.proofs.Preallocate.Zeros.{may_none, zeros_of}
-use Rattle.qcow2_image.proofs.Shares.{never_private}
+use Rattle.qcow2_image.proofs.Images.ClusterMappings.{never_private}
 use Rattle.qcow2_image.proofs.Write.Hosted.{hosts_behind_header}
 use Rattle.qcow2_image.proofs.Write.PutParts.{puts_covers, puts_written}
 
@@ -86,9 +86,9 @@ by_table : (table : Option ℕ) (n len rest : ℕ) → (IsNone table → len ≡
 by_table None n len rest none some past = let all = none refl in absurd (omega (arith, all, past))
 by_table (Some t) n len rest none some past = some refl past
 
--- a cluster that a mapping touches is one of its shares
-touched_share : (cs first guest len many g : ℕ) → 0 < cs → first ≡ guest / cs → guest % cs + len ≤ many * cs → guest < g * cs + cs → g * cs < guest + len → (first ≤ g) × (g - first < many)
-touched_share cs first guest len many g some is enough low high =
+-- a cluster that a mapping touches has one of its cluster mappings
+touched_mapping : (cs first guest len many g : ℕ) → 0 < cs → first ≡ guest / cs → guest % cs + len ≤ many * cs → guest < g * cs + cs → g * cs < guest + len → (first ≤ g) × (g - first < many)
+touched_mapping cs first guest len many g some is enough low high =
     let f : guest / cs * cs + guest % cs ≡ guest = div-add-mod' guest cs in
     let below = mod_below guest cs some in
     let reach : guest / cs ≤ g = elim (cases_lt g (guest / cs)) [
@@ -110,13 +110,13 @@ touched_share cs first guest len many g some is enough low high =
     (omega (arith, is, reach), omega (arith, is, near))
 
 module _ {S F : Type 0} (view : S → StorageView) (backing : F → BackingView) where
-  -- the clusters of a mapping whose shares are all in place are copied data
+  -- the guest clusters of a mapping whose clusters are all in place are copied data
   copied_as : (image : Qcow2 S F) (p q : Prepared) → q.guest ≡ p.guest → q.length ≡ p.length → IsEntered p q → (t : ℕ) → IsPending image.file.header.fields (known_in view image.file) (contents_in view image.file) q t → AreCopied view p.guest (p.guest + p.length) image
   copied_as image p q same long entered t pending g low high =
       let h = image.file.header.fields in
       let many = entered.many in
       let enough = pending.enough in
-      let at = touched_share (cluster_size h) (cluster_of h q) q.guest q.length (length q.shares.items) g (pow_pos h.cluster_bits) refl enough (omega (arith, same, low)) (omega (arith, same, long, high)) in
+      let at = touched_mapping (cluster_size h) (cluster_of h q) q.guest q.length (length q.clusters.items) g (pow_pos h.cluster_bits) refl enough (omega (arith, same, low)) (omega (arith, same, long, high)) in
       let first = at.0 in
       let back : cluster_of h q + (g - cluster_of h q) ≡ g = omega (arith, first) in
       let near = at.1 in
@@ -186,12 +186,12 @@ module _ {S F : Type 0} (view : S → StorageView) (backing : F → BackingView)
     long : length (zeros_of p.length) ≡ p.length
     long = length-replicate p.length 0
 
-    -- an existing mapping is data where it stands
+    -- an existing mapping is data at its place
     in_place : p.table ≡ None → AreDataAt mid.file.header.fields (known_in view mid.file) true (p.guest + 0) (p.offset + 0) (length (zeros_of p.length))
     in_place none i lt =
         let all = long in
-        let shares = subst (IsReadyWith mid.file.header.fields (known_in view mid.file) (contents_in view mid.file) p) none (ready.sound.ready 0 p refl).mapped in
-        let was = answered.in_place i (omega (arith, lt, all)) (never_private view backing mid p shares (from + i)) in
+        let clusters = subst (IsReadyWith mid.file.header.fields (known_in view mid.file) (contents_in view mid.file) p) none (ready.sound.ready 0 p refl).mapped in
+        let was = answered.in_place i (omega (arith, lt, all)) (never_private view backing mid p clusters (from + i)) in
         let from_is = ready.prepared.from in
         let at : from + i ≡ p.guest + 0 + i = omega (arith, from_is) in
         let place : p.offset + i ≡ p.offset + 0 + i = omega arith in
@@ -216,7 +216,7 @@ module _ {S F : Type 0} (view : S → StorageView) (backing : F → BackingView)
           puts_written view backing (Some p ∷ out) 0 p 0 (zeros_of p.length) refl mid ready.sound (omega (arith, all)) in_place storage honest time r
           (subst (λ k. IsWriteOutcome r (view_in view mid.file).contents (overwritten (view_in view mid.file).contents k (zeros_of p.length)) (view (storage_of storage)).contents) at is)
 
-      -- what stands for each guest cluster stays
+      -- the mapping of each guest cluster stays the same
       pub zeros_covers : (view (storage_of storage)).contents ≡ overwritten (view_in view mid.file).contents p.offset (zeros_of p.length)
           → (g : ℕ) → cover mid.file.header.fields (known_in view mid.file) g ≡ cover mid.file.header.fields (known_in view (record mid { file = record mid.file { storage = storage } }).file) g
       zeros_covers is =
@@ -229,9 +229,9 @@ module _ {S F : Type 0} (view : S → StorageView) (backing : F → BackingView)
     existing_copied : 0 < p.length → p.table ≡ None → (g : ℕ) → from < g * cluster_size old.file.header.fields + cluster_size old.file.header.fields → g * cluster_size old.file.header.fields < from + p.length → is_copied_data (cover mid.file.header.fields (known_in view mid.file) g) ≡ true
     existing_copied some none g low high =
         let h = old.file.header.fields in
-        let shares = subst (IsReadyWith mid.file.header.fields (known_in view mid.file) (contents_in view mid.file) p) none (ready.sound.ready 0 p refl).mapped in
+        let clusters = subst (IsReadyWith mid.file.header.fields (known_in view mid.file) (contents_in view mid.file) p) none (ready.sound.ready 0 p refl).mapped in
         let hit = byte_in (cluster_size h) (pow_pos h.cluster_bits) from p.length g low high some in
-        let was = answered.in_place hit.index hit.within (never_private view backing mid p shares (from + hit.index)) in
+        let was = answered.in_place hit.index hit.within (never_private view backing mid p clusters (from + hit.index)) in
         ap is_copied_data (sym (ready.covers g) ∙ ap (cover h (known_in view old.file)) (sym hit.here) ∙ was.1)
 
     -- a mapping that isn't existing lies under no other's L2 table
@@ -302,7 +302,7 @@ module _ {S F : Type 0} (view : S → StorageView) (backing : F → BackingView)
           })
           some_then still (inr interrupted) = inr (record {
             fault = interrupted.fault;
-            noted = interrupted.noted;
+            recorded = interrupted.recorded;
             works = works_then (abstract_of view backing old out) (abstract_of view backing gone out) (abstract_of view backing (record new { is_failed = true }) out) (given_by_zeros from (from + p.length) ∷ []) [] sound_now works_now (none_of _ _ (given_by_zeros from (from + p.length) ∷ []) interrupted.works);
           })
 
@@ -338,14 +338,14 @@ module _ {S F : Type 0} (view : S → StorageView) (backing : F → BackingView)
     pub all_header : (mid2 : Qcow2 S F) (r : Result (Unit {0}) ImageError) → WritesBytes view mid mid2 p.offset (replicate count 0) r → mid2.file.header ≡ mid.file.header
     all_header mid2 r w = ap (λ (image : Qcow2 S F). image.file.header) w.rest
 
-    -- what stands for each guest cluster stays
+    -- the mapping of each guest cluster stays the same
     all_still : (mid2 : Qcow2 S F) → WritesBytes view mid mid2 p.offset (replicate count 0) (Ok tt) → (g : ℕ) → cover mid.file.header.fields (known_in view mid.file) g ≡ cover mid2.file.header.fields (known_in view mid2.file) g
     all_still mid2 w =
         subst (λ (image : Qcow2 S F). (g : ℕ) → cover mid.file.header.fields (known_in view mid.file) g ≡ cover image.file.header.fields (known_in view image.file) g) (sym w.rest)
         (zeros_covers out old mid p from n sound ready answered all_fits mid2.file.storage (w.honest ready.sound.file.honest) (w.time ready.sound.file.honest)
         (w.written ready.sound.file.honest ∙ ap (λ k. overwritten ((view_in view mid.file).contents) p.offset (zeros_of k)) all_counted))
 
-    -- what stands for guest clusters then
+    -- the mappings of guest clusters afterwards
     all_covers : 0 < p.length → (mid2 new : Qcow2 S F) → WritesBytes view mid mid2 p.offset (replicate count 0) (Ok tt) → CommitsWhole view backing mid2 new (Some p ∷ out) 0 p (None ∷ out) → (first : ℕ) → from + p.length ≤ first
         → FilledCovers (cluster_size old.file.header.fields) first from (from + p.length) old.file.header.fields (known_in view old.file) new.file.header.fields (known_in view new.file)
     all_covers some mid2 new w commits first high =

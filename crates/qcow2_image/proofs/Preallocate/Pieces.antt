@@ -1,4 +1,4 @@
--- Zeros are put into a mapping that is prepared at a place of its own, and it is committed.
+-- Zeros are put into a mapping that is prepared in a slot of its own, and the mapping is committed.
 use Rattle.std.proofs.Common.{◌≡◌, ◌⊎◌, ⊎_elim, inl, inr, ℕ, suc, eqb, ◌+◌, ◌≤◌, ◌<◌, length, List, [], ◌∷◌, Option, Some, None, true, refl, sym, ap, ◌∙◌, subst, arith}
 use Rattle.std.proofs.lemmas.List.{length-replicate}
 use Rattle.std.proofs.lemmas.Bool.{cond-false, ne_eqb}
@@ -12,8 +12,8 @@ use Rattle.qcow2_disk.specs.Calls.{EffectOnSound, with_disk, with_slot}
 use Rattle.qcow2_disk.proofs.Compose.{TouchesLess, shown_is, works_less, works_then, stops_none}
 use Rattle.qcow2_image.specs.Preallocation.{given_by_zeros}
 use Rattle.qcow2_image.proofs.Preallocate.Zeros.{commit_within, filled, put_within, zeros_of}
-use Rattle.qcow2_image.proofs.UngivenCovers.{touches_part}
-use Rattle.qcow2_image.proofs.WholeClusters.{commit_touches}
+use Rattle.qcow2_image.proofs.Images.UngivenCovers.{touches_part}
+use Rattle.qcow2_image.proofs.Images.WholeClusters.{commit_touches}
 
 -- nothing is given
 pub none_of : (v w : AbstractImage) (given : List GivenBytes) → EffectOnSound v w [] [] → EffectOnSound v w given []

@@ -1,4 +1,4 @@
--- Zeros on a disk, in parts, and through a mapping that is prepared, put and committed.
+-- Zeros on a disk, in parts, and through a mapping that is prepared, written and committed.
 use Rattle.std.proofs.Common.{◌≡◌, ◌⊎◌, ⊎_elim, inl, inr, ℕ, ◌+◌, ◌-◌, ◌<◌, ◌≤◌, List, [], ◌∷◌, length, true, false, refl, sym, ap, ◌∙◌, subst, arith, min}
 use Rattle.std.specs.Prelude.{replicate}
 use Rattle.std.proofs.lemmas.Bool.{cases_lt, cases_Bool, cond-true, cond-false}
@@ -13,7 +13,7 @@ use Rattle.qcow2_disk.specs.Stops.{IsGiven}
 use Rattle.qcow2_disk.proofs.ForUsers.{laid_inside, laid_outside, put_given}
 use Rattle.qcow2_disk.proofs.Within.{within_is}
 use Rattle.qcow2_image.specs.Preallocation.{MayBeZero, given_by_zeros}
-use Rattle.qcow2_image.proofs.UngivenCovers.{touches_less}
+use Rattle.qcow2_image.proofs.Images.UngivenCovers.{touches_less}
 use Rattle.qcow2_disk.proofs.Compose.{TouchesLess}
 
 -- where an offset lies

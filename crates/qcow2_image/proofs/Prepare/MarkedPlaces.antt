@@ -1,4 +1,4 @@
--- Places in a sound file that may be written as they are lie behind cluster 0.
+-- Host clusters of a sound file that may be written in place lie past cluster 0.
 use Rattle.std.proofs.Common.{◌≡◌, ℕ, ◌+◌, ◌*◌, ◌/◌, ◌%◌, ◌<◌, ◌≤◌, Option, Some, None, refl, ap, ◌∙◌, arith}
 use Rattle.std.specs.Prelude.{IfSome}
 use Rattle.std.proofs.lemmas.Nat.{mod-mul-add, pow_pos}

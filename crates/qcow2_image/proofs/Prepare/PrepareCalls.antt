@@ -1,4 +1,4 @@
--- Preparing as a call: it is answered, or refused and perhaps marked as failed.
+-- Preparing as a call: it succeeds, or is refused and perhaps marked as failed.
 use Rattle.std.proofs.Common.{◌≡◌, ℕ, Bool, false, List, [], Option, Some, refl, sym, subst}
 use Rattle.std.specs.Prelude.{Result, Ok, Err, IfErr, IsTrue, slice_set}
 use Rattle.image_access.specs.Backing.{BackingView}

@@ -1,4 +1,4 @@
--- A range is prepared: by its L2 table, and then in that.
+-- A range is prepared: first its L2 table, then the range in that table.
 use Rattle.std.proofs.Common.{◌≡◌, ⊎_elim, ℕ, Bool, true, false, List, Option, Some, None, refl, sym, ap, ◌∙◌, subst, arith}
 use Rattle.std.specs.Prelude.{IsTrue, slice_get, slice_set}
 use mathlib.Core.Path.{fun_ext}
@@ -10,11 +10,11 @@ use Rattle.qcow2_laws.proofs.SafeSteps.{safe_step_none, safe_throughout_none}
 use Rattle.qcow2_alloc.specs.ImageFile.{state_in, view_in, contents_in, known_in, nothing_given}
 use Rattle.qcow2_image.specs.declared.image.Qcow2.{Qcow2}
 use Rattle.qcow2_image.specs.declared.prepared.Prepared.{Prepared}
-use Rattle.qcow2_image.specs.declared.prepared.Share.{Share}
+use Rattle.qcow2_image.specs.declared.prepared.ClusterMapping.{ClusterMapping}
 use Rattle.qcow2_image.specs.Image.{number_of}
 use Rattle.qcow2_image.specs.CallParts.{IsExisting, IsReadied}
 use Rattle.qcow2_image.specs.ImageInvariant.{new_data_in, new_data_by, pins_by, pins_of, over_all, pending_in, abstract_of, meaning, is_private, IsReady, IsReadyWith, ImageInvariant}
-use Rattle.qcow2_image.proofs.Shares.{never_private as no_private}
+use Rattle.qcow2_image.proofs.Images.ClusterMappings.{never_private as no_private}
 use Rattle.qcow2_image.proofs.Call.Answered.{same_guest}
 use Rattle.qcow2_image.proofs.Call.Slots.{get_set, over_all_put, slot_set}
 use Rattle.qcow2_image.proofs.Call.Stepped.{Steps, stepped_sound, stepped_works}
@@ -23,7 +23,7 @@ module _ {S F : Type 0} (view : S → StorageView) (backing : F → BackingView)
   -- ---- a mapping of which nothing is kept
   module _ (image : Qcow2 S F) (sound : ImageInvariant view backing (pending_in view backing image out) image out) (p : Prepared) (offset n : ℕ) (existing : IsExisting p (number_of image) offset n) (k : ℕ) (free : slice_get out k ≡ Some None) where
     nothing_new_data : (c : ℕ) → new_data_by p c ≡ 0
-    nothing_new_data c = ap (λ (l : List Share). new_data_in l c) existing.shares
+    nothing_new_data c = ap (λ (l : List ClusterMapping). new_data_in l c) existing.clusters
 
     nothing_pinned : (c : ℕ) → pins_by p c ≡ 0
     nothing_pinned c = ap (λ x. pins_of x c) existing.table
@@ -37,7 +37,7 @@ module _ {S F : Type 0} (view : S → StorageView) (backing : F → BackingView)
     existing_ready : (j : ℕ) (r : Prepared) → slice_get (slice_set out k (Some p)) j ≡ Some (Some r) → IsReady view backing image r
     existing_ready j r at = ⊎_elim
         (λ (e : Some r ≡ Some p). let same : r ≡ p = cc in subst (λ (x : Prepared). IsReady view backing image x) (sym same)
-        (record { own = existing.image; mapped = subst (λ t. IsReadyWith image.file.header.fields (known_in view image.file) (contents_in view image.file) p t) (sym existing.table) existing.shares }))
+        (record { own = existing.image; mapped = subst (λ t. IsReadyWith image.file.header.fields (known_in view image.file) (contents_in view image.file) p t) (sym existing.table) existing.clusters }))
         (λ there. sound.ready j r there) (get_set out k j (Some p) (Some r) at)
 
     existing_steps : Steps view backing image image out (slice_set out k (Some p)) nothing_given (pending_in view backing image out)
@@ -65,7 +65,7 @@ module _ {S F : Type 0} (view : S → StorageView) (backing : F → BackingView)
 
     never_private : (o : ℕ) → IsTrue (is_private view backing image p o) → ⊥
     never_private o private =
-        absurd (let e : true ≡ false = sym private ∙ no_private view backing image p existing.shares o in cc)
+        absurd (let e : true ≡ false = sym private ∙ no_private view backing image p existing.clusters o in cc)
 
     pub readied_existing : (overwrite : Bool) → IsReadied view backing image image out k offset n overwrite p
     readied_existing overwrite = record {

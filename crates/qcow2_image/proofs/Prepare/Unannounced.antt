@@ -1,4 +1,4 @@
--- What isn't announced of a cluster has to be copied into the new one. So a compressed cluster is in the way only where a byte of it isn't announced.
+-- Bytes of a cluster that the caller did not promise to overwrite are copied into the new one. So a compressed cluster is refused only if it has such a byte.
 use Rattle.std.proofs.Common.{◌≡◌, ◌⊎◌, inl, inr, ℕ, ◌+◌, ◌-◌, ◌*◌, ◌/◌, ◌%◌, ◌<◌, ◌≤◌, Bool, true, false, Option, Some, None, refl, sym, ◌∙◌, subst, arith, min}
 use Rattle.std.specs.Prelude.{IfSome, nat_lt, ◌&&◌, ◌==◌}
 use Rattle.std.proofs.lemmas.Bool.{and_from, and_left, and_right, cases_eq, cases_lt, cond-false, cond-true, eq-eqb, le-leb, le-ltb, lt-leb, lt-ltb}
@@ -12,7 +12,7 @@ use Rattle.qcow2_disk.specs.Found.{IsCompressed}
 use Rattle.qcow2_disk.specs.GrownCovers.{Touches}
 use Rattle.qcow2_disk.proofs.Within.{within_is}
 use Rattle.qcow2_image.specs.CopyRange.{announced_range_of, copy_range_of, uncut_copy_range}
-use Rattle.qcow2_image.specs.MetAlone.{CopiesCompressed, HasCompressedIn, HasUnannounced, IsCopiedCompressed}
+use Rattle.qcow2_image.specs.MayFail.{CopiesCompressed, HasCompressedIn, HasUnannounced, IsCopiedCompressed}
 use Rattle.qcow2_image.specs.MovedTables.{CoversStay}
 use Rattle.qcow2_image.specs.declared.copy_range.CopyRange.{CopyRange}
 

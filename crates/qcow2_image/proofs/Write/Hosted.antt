@@ -1,4 +1,4 @@
--- Where the bytes of a prepared mapping lie: each has a place of its own, outside of cluster 0.
+-- Where the bytes of a prepared mapping lie: each has an offset of its own in the file, outside of cluster 0.
 use Rattle.std.proofs.Common.{◌≡◌, inl, inr, ℕ, ◌+◌, ◌/◌, ◌%◌, ◌<◌, ◌≤◌, true, List, refl, sym, ap, ◌∙◌, subst, arith}
 use Rattle.std.specs.Prelude.{Option, Some, None, slice_get, get_or}
 use Rattle.std.proofs.Math.Nat.{div-eq_of_lt}
@@ -24,22 +24,22 @@ use Rattle.qcow2_alloc.specs.declared.clusters_to_free.ClustersToFreeEntry.{Clus
 use Rattle.qcow2_alloc.specs.ImageFile.{state_in, contents_in, known_in}
 use Rattle.qcow2_image.specs.declared.image.Qcow2.{Qcow2}
 use Rattle.qcow2_image.specs.declared.prepared.Prepared.{Prepared}
-use Rattle.qcow2_image.specs.declared.prepared.Share.{Share}
-use Rattle.qcow2_image.specs.declared.prepared.Share.TheVariants.{InPlace, Kept, New}
-use Rattle.qcow2_image.specs.ImageInvariant.{to_free, of_data, new_data_by, pending_in, cluster_of, share_of, host_begin_of, IsNewAt, IsShareAt, IsPending, IsReadyWith, ImageInvariant}
-use Rattle.qcow2_image.proofs.Shares.{byte_cluster, byte_place, byte_share, new_data_at, new_data_once, host_cluster, no_share, over_all_at, share_here}
+use Rattle.qcow2_image.specs.declared.prepared.ClusterMapping.{ClusterMapping}
+use Rattle.qcow2_image.specs.declared.prepared.ClusterMapping.TheVariants.{InPlace, Kept, New}
+use Rattle.qcow2_image.specs.ImageInvariant.{to_free, of_data, new_data_by, pending_in, cluster_of, mapping_of_cluster, host_begin_of, IsNewAt, IsClusterMappingAt, IsPending, IsReadyWith, ImageInvariant}
+use Rattle.qcow2_image.proofs.Images.ClusterMappings.{byte_cluster, byte_place, byte_of_mapping, new_data_at, new_data_once, host_cluster, no_cluster_mapping, over_all_at, mapping_here}
 
--- how the bytes of a guest cluster have a place to themselves, by its share
-abbrev pub hosted_as : Option Share → Hosting
+-- each byte of a guest cluster has a place of its own, by its cluster mapping
+abbrev pub hosted_as : Option ClusterMapping → Hosting
 hosted_as None = HostedInPlace
 hosted_as (Some InPlace) = HostedInPlace
 hosted_as (Some Kept) = HostedKept
 hosted_as (Some (New taken old_data)) = HostedHeld
 
 abbrev pub hosting_in : HeaderFields → Prepared → ℕ → Hosting
-hosting_in h q o = hosted_as (share_of h q (o / cluster_size h))
+hosting_in h q o = hosted_as (mapping_of_cluster h q (o / cluster_size h))
 
--- a place in a cluster that stands for no table lies behind the first cluster
+-- a place in a cluster that has no table lies past cluster 0
 pub behind_tables : (h : HeaderFields) (b : Bytes) (place : ℕ) → named_for_tables h b (place / cluster_size h) ≡ 0 → cluster_size h ≤ place
 behind_tables h b place none = elim (cases_lt place (cluster_size h)) [
   | inr behind ↦ behind
@@ -67,19 +67,19 @@ module _ {S F : Type 0} (view : S → StorageView) (backing : F → BackingView)
   size = cluster_size h
 
   -- a new cluster of it is held
-  new_data_mine : (j : ℕ) (taken old_data : List ClustersToFreeEntry) → slice_get q.shares.items j ≡ Some (New taken old_data) → (stands : IsNewAt h s.known s.on_storage q j taken old_data) → 0 < new_data_by q stands.first
-  new_data_mine j taken old_data is_share stands =
+  new_data_mine : (j : ℕ) (taken old_data : List ClustersToFreeEntry) → slice_get q.clusters.items j ≡ Some (New taken old_data) → (stands : IsNewAt h s.known s.on_storage q j taken old_data) → 0 < new_data_by q stands.first
+  new_data_mine j taken old_data is_cluster_mapping stands =
       let one : to_free of_data taken stands.first ≡ 1 = ap (λ l. to_free of_data l stands.first) stands.is ∙ new_data_once stands.first in
-      let mine = new_data_at q.shares.items j taken old_data is_share stands.first in
+      let mine = new_data_at q.clusters.items j taken old_data is_cluster_mapping stands.first in
       omega (arith, one, mine)
 
-  hosted_share : (i j : ℕ) (share : Share) → (q.guest + at + i) / size ≡ cluster_of h q + j → q.offset + at + i ≡ host_begin_of h q j + (q.guest + at + i) % size → slice_get q.shares.items j ≡ Some share → IsShareAt h s.known s.on_storage q j share
-      → IsHostedAt s (hosted_as (Some share)) (q.guest + at + i) (q.offset + at + i) × (IsHeld (hosted_as (Some share)) → 0 < new_data_by q ((q.offset + at + i) / size))
-  hosted_share i j InPlace here place is_share stands = ((host_begin_of h q j, ap (cover h s.known) here ∙ stands, sym place), λ never. absurd never)
-  hosted_share i j Kept here place is_share stands = ((host_begin_of h q j, ap (cover h s.known) here ∙ stands.entry, sym place), λ never. absurd never)
-  hosted_share i j (New taken old_data) here place is_share stands =
+  hosted_mapping : (i j : ℕ) (cluster_mapping : ClusterMapping) → (q.guest + at + i) / size ≡ cluster_of h q + j → q.offset + at + i ≡ host_begin_of h q j + (q.guest + at + i) % size → slice_get q.clusters.items j ≡ Some cluster_mapping → IsClusterMappingAt h s.known s.on_storage q j cluster_mapping
+      → IsHostedAt s (hosted_as (Some cluster_mapping)) (q.guest + at + i) (q.offset + at + i) × (IsHeld (hosted_as (Some cluster_mapping)) → 0 < new_data_by q ((q.offset + at + i) / size))
+  hosted_mapping i j InPlace here place is_cluster_mapping stands = ((host_begin_of h q j, ap (cover h s.known) here ∙ stands, sym place), λ never. absurd never)
+  hosted_mapping i j Kept here place is_cluster_mapping stands = ((host_begin_of h q j, ap (cover h s.known) here ∙ stands.entry, sym place), λ never. absurd never)
+  hosted_mapping i j (New taken old_data) here place is_cluster_mapping stands =
       let there : (q.offset + at + i) / size ≡ stands.first = ap (λ n. n / size) place ∙ host_cluster h q j stands.first stands.place (q.guest + at + i) in
-      let mine = new_data_mine j taken old_data is_share stands in
+      let mine = new_data_mine j taken old_data is_cluster_mapping stands in
       let all = over_all_at new_data_by out k q placed stands.first in
       (subst (λ c. 0 < before.new_data c) (sym there) (omega (arith, mine, all)), λ _. subst (λ c. 0 < new_data_by q c) (sym there) mine)
 
@@ -89,16 +89,16 @@ module _ {S F : Type 0} (view : S → StorageView) (backing : F → BackingView)
       let j = (q.guest % size + at + i) / size in
       let here = byte_cluster h q s.known s.on_storage t pending at i n fits lt in
       let place = byte_place h q s.known s.on_storage t pending at i n fits lt in
-      let found = slice_get-get_or q.shares.items ((q.guest % size + at + i) / size) InPlace (byte_share h q s.known s.on_storage t pending at i n fits lt) in
-      let share = get_or q.shares.items ((q.guest % size + at + i) / size) InPlace in
-      subst (λ (x : Option Share). IsHostedAt s (hosted_as x) (q.guest + at + i) (q.offset + at + i) × (IsHeld (hosted_as x) → 0 < new_data_by q ((q.offset + at + i) / size)))
-      (sym (ap (share_of h q) here ∙ share_here h q ((q.guest % size + at + i) / size) ∙ found)) (hosted_share i j share here place found (pending.each j share found))
+      let found = slice_get-get_or q.clusters.items ((q.guest % size + at + i) / size) InPlace (byte_of_mapping h q s.known s.on_storage t pending at i n fits lt) in
+      let cluster_mapping = get_or q.clusters.items ((q.guest % size + at + i) / size) InPlace in
+      subst (λ (x : Option ClusterMapping). IsHostedAt s (hosted_as x) (q.guest + at + i) (q.offset + at + i) × (IsHeld (hosted_as x) → 0 < new_data_by q ((q.offset + at + i) / size)))
+      (sym (ap (mapping_of_cluster h q) here ∙ mapping_here h q ((q.guest % size + at + i) / size) ∙ found)) (hosted_mapping i j cluster_mapping here place found (pending.each j cluster_mapping found))
 
   pub hosted_with : (t : Option ℕ) → q.table ≡ t → IsReadyWith h s.known s.on_storage q t → (i : ℕ) → i < n
       → IsHostedAt s (hosting_in h q (q.guest + at + i)) (q.guest + at + i) (q.offset + at + i) × (IsHeld (hosting_in h q (q.guest + at + i)) → 0 < new_data_by q ((q.offset + at + i) / size))
   hosted_with None none ready i lt =
-      subst (λ (x : Option Share). IsHostedAt s (hosted_as x) (q.guest + at + i) (q.offset + at + i) × (IsHeld (hosted_as x) → 0 < new_data_by q ((q.offset + at + i) / size)))
-      (sym (no_share h q ready ((q.guest + at + i) / size))) (in_place none i lt, λ never. absurd never)
+      subst (λ (x : Option ClusterMapping). IsHostedAt s (hosted_as x) (q.guest + at + i) (q.offset + at + i) × (IsHeld (hosted_as x) → 0 < new_data_by q ((q.offset + at + i) / size)))
+      (sym (no_cluster_mapping h q ready ((q.guest + at + i) / size))) (in_place none i lt, λ never. absurd never)
   hosted_with (Some t) some pending i lt = hosts_pending t pending i lt
 
   pub all_hosted : (i : ℕ) → i < n → IsHostedAt s (hosting_in h q (q.guest + at + i)) (q.guest + at + i) (q.offset + at + i)

@@ -1,4 +1,4 @@
--- Bytes are put into a prepared mapping: by one write, over what is in place, and into what is private.
+-- Bytes are put into a prepared mapping by one write, over bytes in place and private ones.
 use Rattle.std.proofs.Common.{◌≡◌, ◌≢◌, inl, inr, ℕ, ◌+◌, ◌-◌, ◌*◌, ◌/◌, ◌%◌, ◌<◌, ◌≤◌, Bool, true, false, List, length, [], ◌∷◌, refl, sym, ap, ◌∙◌, subst, arith, cond, eqb}
 use Rattle.std.specs.Prelude.{Option, Some, None, IsTrue, slice_get, if◌then◌else◌}
 use Rattle.std.specs.Option.{option_map_or}
@@ -37,16 +37,16 @@ use Rattle.qcow2_alloc.specs.ImageStorage.{storage_of}
 use Rattle.qcow2_alloc.specs.ImageFile.{state_in, view_in, contents_in, known_in}
 use Rattle.qcow2_image.specs.declared.image.Qcow2.{Qcow2}
 use Rattle.qcow2_image.specs.declared.prepared.Prepared.{Prepared}
-use Rattle.qcow2_image.specs.declared.prepared.Share.{Share}
-use Rattle.qcow2_image.specs.declared.prepared.Share.TheVariants.{InPlace, Kept, New}
+use Rattle.qcow2_image.specs.declared.prepared.ClusterMapping.{ClusterMapping}
+use Rattle.qcow2_image.specs.declared.prepared.ClusterMapping.TheVariants.{InPlace, Kept, New}
 use Rattle.qcow2_image.specs.CallParts.{put_guest}
-use Rattle.qcow2_image.specs.ImageInvariant.{new_data_by, pending_in, abstract_of, meaning, is_entered, is_new, is_private, cluster_of, place_of, share_of, backing_bytes, IsReadyWith, ImageInvariant}
-use Rattle.qcow2_image.proofs.Inside.{names_inside}
-use Rattle.qcow2_image.proofs.Apart.{apart_guests}
+use Rattle.qcow2_image.specs.ImageInvariant.{new_data_by, pending_in, abstract_of, meaning, is_entered, is_new, is_private, cluster_of, place_of, mapping_of_cluster, backing_bytes, IsReadyWith, ImageInvariant}
+use Rattle.qcow2_image.proofs.Images.Inside.{names_inside}
+use Rattle.qcow2_image.proofs.Images.Apart.{apart_guests}
 use Rattle.qcow2_image.proofs.Call.Answered.{same_guest, same_mapping, same_meaning}
 use Rattle.qcow2_image.proofs.Call.Slots.{over_all_two}
 use Rattle.qcow2_image.proofs.Call.Stepped.{Steps, stepped_works, stepped_sound}
-use Rattle.qcow2_image.proofs.Shares.{Standing, in_new, in_kept, byte_cluster, byte_share, over_all_at, private_shared, private_stands, ready_table}
+use Rattle.qcow2_image.proofs.Images.ClusterMappings.{Standing, in_new, in_kept, byte_cluster, byte_of_mapping, over_all_at, private_shared, private_stands, ready_table}
 use Rattle.qcow2_image.proofs.Write.Hosted.{all_hosted, hosted_as, hosted_with, hosting_in, hosts_no_table}
 use Rattle.qcow2_image.proofs.Write.Written.{written, writes, but, there, steps_written}
 
@@ -55,7 +55,7 @@ laid_same : {A : Type 0} (place n : ℕ) (top under under' : ℕ → A) (o : ℕ
 unfolding laid_over
 laid_same place n top under under' o same = ap (λ u. if is_within place n o then top (o - place) else u) same
 
-hosted_private : (m : Option Share) → is_hosted_privately (hosted_as m) ≡ option_map_or is_entered m false
+hosted_private : (m : Option ClusterMapping) → is_hosted_privately (hosted_as m) ≡ option_map_or is_entered m false
 hosted_private None = refl
 hosted_private (Some InPlace) = refl
 hosted_private (Some Kept) = refl
@@ -71,8 +71,8 @@ put_has d m at bytes i lt shown =
     cond-false _ _ _ (ap m.is_hidden here ∙ shown) ∙ ap (λ n. known_byte (byte_at bytes n)) there in
     inl (omega arith, omega (arith, lt), sym is)
 
--- so it is by each share
-given_as : (d : Disk) (m : PreparedMapping) (at : ℕ) (bytes : List ℕ) (i : ℕ) → i < length bytes → (x : Option Share) → m.is_hidden (m.from + at + i) ≡ option_map_or is_new x false
+-- this holds for each cluster mapping
+given_as : (d : Disk) (m : PreparedMapping) (at : ℕ) (bytes : List ℕ) (i : ℕ) → i < length bytes → (x : Option ClusterMapping) → m.is_hidden (m.from + at + i) ≡ option_map_or is_new x false
     → IsGivenAt (given_by_put d m at bytes ∷ []) (hosted_as x) (m.from + at + i) (byte_at bytes i)
 given_as d m at bytes i lt None is = put_has d m at bytes i lt is
 given_as d m at bytes i lt (Some InPlace) is = put_has d m at bytes i lt is
@@ -120,13 +120,13 @@ module _ {S F : Type 0} (view : S → StorageView) (backing : F → BackingView)
   -- ---- so one write goes over them
   run : WritesRun hosting (q.guest + at) (q.offset + at) bytes given_bytes s (state_in view new.file before)
   run = run_written s (contents_in view new.file) (known_in view new.file) hosting (q.guest + at) (q.offset + at) bytes given_bytes sound.file.caches.kept.kept.crash_invariant sound.inside hosts
-      (λ i lt. given_as (guest_of (abstract_of view backing old out)).disk m at bytes i lt (share_of h q ((q.guest + at + i) / size)) refl)
+      (λ i lt. given_as (guest_of (abstract_of view backing old out)).disk m at bytes i lt (mapping_of_cluster h q ((q.guest + at + i) / size)) refl)
       (writes view backing old out sound storage (q.offset + at) bytes is no_table) (there view backing old out sound storage (q.offset + at) bytes is)
 
   steps : Steps view backing old new out out (λ _. given_bytes) before
   steps = steps_written view backing old out sound storage (q.offset + at) bytes is no_table (λ _. given_bytes) honest time run.safe_step run.covers
 
-  -- what stands for each guest cluster stays
+  -- the mapping of each guest cluster stays the same
   pub put_covers : (g : ℕ) → cover h (known_in view old.file) g ≡ cover h (known_in view new.file) g
   put_covers g = run.covers g
 
@@ -138,7 +138,7 @@ module _ {S F : Type 0} (view : S → StorageView) (backing : F → BackingView)
 
   -- ---- what the disk shows
   put_shows : (d : Disk) (o : ℕ) → cond (is_hosted_privately (hosting o)) (d.value o) ((with_bytes d (q.guest + at) bytes).value o) ≡ (put_disk d m at bytes).value o
-  put_shows d o = ap (λ b. cond b (d.value o) ((with_bytes d (q.guest + at) bytes).value o)) (hosted_private (share_of h q (o / size)))
+  put_shows d o = ap (λ b. cond b (d.value o) ((with_bytes d (q.guest + at) bytes).value o)) (hosted_private (mapping_of_cluster h q (o / size)))
 
   disk_is : disk (known_in view new.file) (backing_bytes view backing old.backing) ≡ put_disk (guest_of (abstract_of view backing old out)).disk m at bytes
   disk_is =
@@ -149,7 +149,7 @@ module _ {S F : Type 0} (view : S → StorageView) (backing : F → BackingView)
   place_is : (o : ℕ) → IsTrue (is_private view backing old q o) → place_of h q o + q.guest ≡ q.offset + o
   place_is o private =
       let shared = private_shared view backing old q o private in
-      let pending = (ready_table view backing old s.known s.on_storage q shared.index shared.share shared.is (sound.ready k q placed).mapped).2 in
+      let pending = (ready_table view backing old s.known s.on_storage q shared.index shared.cluster_mapping shared.is (sound.ready k q placed).mapped).2 in
       let begins = pending.begins in
       let o_is : o / size * size + o % size ≡ o = div-add-mod' o size in
       let g_is : q.guest / size * size + q.guest % size ≡ q.guest = div-add-mod' q.guest size in
@@ -213,9 +213,9 @@ module _ {S F : Type 0} (view : S → StorageView) (backing : F → BackingView)
       elsewhere None none ready i lt same = absurd (let stands = in_place none i lt in let e : Data stands.0 true ≡ Zero (Some (host, true)) = sym stands.1 ∙ ap (cover h s.known) same ∙ kept in cc)
       elsewhere (Some t) some pending i lt same =
           let shared = private_shared view backing old r o private in
-          let ready = ready_table view backing old s.known s.on_storage r shared.index shared.share shared.is (sound.ready j r there_is).mapped in
+          let ready = ready_table view backing old s.known s.on_storage r shared.index shared.cluster_mapping shared.is (sound.ready j r there_is).mapped in
           absurd (apart_guests view backing old out before sound k q placed t some pending j r apart there_is ready.0 ready.1 ready.2
-          ((q.guest % size + at + i) / size) shared.index (byte_share h q s.known s.on_storage t pending at i (length bytes) fits lt) (slice_get_within r.shares.items shared.index shared.share shared.is)
+          ((q.guest % size + at + i) / size) shared.index (byte_of_mapping h q s.known s.on_storage t pending at i (length bytes) fits lt) (slice_get_within r.clusters.items shared.index shared.cluster_mapping shared.is)
           (sym (byte_cluster h q s.known s.on_storage t pending at i (length bytes) fits lt) ∙ same ∙ shared.here))
 
       kept_kept : contents_in view new.file place ≡ contents_in view old.file place

@@ -45,7 +45,7 @@ use Rattle.qcow2_disk.proofs.ForUsers.{laid_outside}
 use mathlib.Core.Path.{fun_ext}
 use Rattle.qcow2_image.proofs.Write.Put.{put_covers, put_works, put_sound, put_seen}
 
--- what is mapped in place stands in a row
+-- what is mapped in place is contiguous
 mapped_data : (h : HeaderFields) (known : Bytes) (offset n host : ℕ) (backed : Bool) (v : L2Mapping) → cover h known (offset / cluster_size h) ≡ v → raw false host true ≡ kind_at h backed offset v
     → ((w : L2Mapping) → cover h known (offset / cluster_size h) ≡ w → (start : ℕ) (copied : Bool) → w ≡ Data start copied → AreDataAt h known copied offset (start + offset % cluster_size h) n) → AreDataAt h known true offset host n
 mapped_data h known offset n host backed (Data start copied) is kind given =

@@ -1,4 +1,4 @@
--- What a put writes by one write, and what it leaves before that.
+-- The single write of a put, and what the put leaves before it.
 use Rattle.std.proofs.Common.{◌≡◌, ℕ, ◌+◌, Bool, List, [], Option, IsSome, Result, Ok, Err, inl, refl, sym, ap, ◌∙◌, subst}
 use Rattle.image_access.specs.Backing.{BackingView}
 use Rattle.image_access.specs.Contents.{overwritten}
@@ -19,8 +19,8 @@ use Rattle.qcow2_image.specs.InternalSteps.{InternalFillingStep, InternalStep}
 use Rattle.qcow2_laws.specs.CrashInvariant.{Pending}
 use Rattle.qcow2_image.proofs.Call.Called.{Quietly, listed}
 use Rattle.qcow2_image.proofs.Call.Refused.{image_step_stays, stays_kept, stays_then}
-use Rattle.qcow2_image.proofs.Prepare.Filling.{image_step_none}
-use Rattle.qcow2_image.proofs.Prepare.Gaining.{listed_after_same}
+use Rattle.qcow2_image.proofs.Prepare.InternalWrites.{image_step_none}
+use Rattle.qcow2_image.proofs.Prepare.FirstCluster.{listed_after_same}
 
 -- a call that changes nothing
 pub unseen_none : {S F : Type 0} (view : S → StorageView) (backing : F → BackingView) (image : Qcow2 S F) (out : List (Option Prepared)) → ImageInvariant view backing (pending_in view backing image out) image out → InternalCall view backing image image out

@@ -32,9 +32,9 @@ use Rattle.qcow2_alloc.proofs.FileInvariants.{file_invariant_of}
 use Rattle.qcow2_image.specs.declared.image.Qcow2.{Qcow2}
 use Rattle.qcow2_image.specs.declared.prepared.Prepared.{Prepared}
 use Rattle.qcow2_image.specs.ImageInvariant.{cluster_of, pending_in, ImageInvariant, backing_bytes}
-use Rattle.qcow2_image.proofs.Ready.{still_ready}
+use Rattle.qcow2_image.proofs.Images.Ready.{still_ready}
 use Rattle.qcow2_image.proofs.Call.Stepped.{Steps}
-use Rattle.qcow2_image.proofs.UngivenCovers.{all_stay}
+use Rattle.qcow2_image.proofs.Images.UngivenCovers.{all_stay}
 
 module _ {S F : Type 0} {p : Pending} (view : S → StorageView) (backing : F → BackingView) (old : Qcow2 S F) (out : List (Option Prepared)) (sound : ImageInvariant view backing p old out)
     (storage : ImageStorage S) (host : ℕ) (bytes : List ℕ) (is : (view (storage_of storage)).contents ≡ overwritten (view_in view old.file).contents host bytes) where
@@ -50,7 +50,7 @@ module _ {S F : Type 0} {p : Pending} (view : S → StorageView) (backing : F �
   pub there : (i : ℕ) → i < length bytes → contents_in view written.file (host + i) ≡ byte_at bytes i
   there i lt = ap (λ c. byte_at c (host + i)) is ∙ byte_at-overwritten (view_in view old.file).contents host bytes i lt
 
-  -- no table stands where a byte is written
+  -- no table lies where a byte is written
   module _ (free : (i : ℕ) → i < length bytes → named_for_tables h (contents_in view old.file) ((host + i) / cluster_size h) ≡ 0) where
     free_at : (o : ℕ) → (contents_in view old.file o ≡ contents_in view written.file o) ⊎ (named_for_tables h (contents_in view old.file) (o / cluster_size h) ≡ 0)
     free_at o = elim (cases_lt o host) [
@@ -86,7 +86,7 @@ module _ {S F : Type 0} {p : Pending} (view : S → StorageView) (backing : F �
       ]);
     }
 
-    -- a step that keeps what stands for each guest cluster
+    -- a step that keeps the mapping of each guest cluster
     module _ (given : Bytes → List GivenBytes) (honest : (view (storage_of storage)).is_honest) (time : EachMomentSince (view_in view old.file) (view (storage_of storage)) (IsLeftBy (view (storage_of storage))))
         (safe_step : SafeStep (state_in view old.file p) (state_in view written.file p) given [])
         (covers : SameCovers h (known_in view old.file) (known_in view written.file)) where

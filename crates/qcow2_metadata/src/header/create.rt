@@ -18,7 +18,7 @@ fn length_of(name: Option<&str>) -> usize
     }
 }
 
-/// The bytes of a name's extension.
+/// The size of a name's extension in bytes.
 fn extension_size(name: Option<&str>) -> usize
     requires { IsShort (option_copied name) }
     ensures value { result ≡ extension_size_of (option_copied name.entry) }
@@ -30,7 +30,7 @@ fn extension_size(name: Option<&str>) -> usize
     }
 }
 
-/// Where the name of the backing file stands: behind the numbers, the extensions and their end.
+/// The offset of the backing file's name: after the numbers, the extensions and their end.
 fn name_place(format: Option<&str>, data_file: Option<&str>) -> usize
     requires format { IsShort (option_copied format) }
     requires data_file { IsShort (option_copied data_file) }
@@ -84,8 +84,8 @@ fn new_fields(
 
 impl Header {
     #[tactic(auto, using(crate::proofs::NewHeader::short_name))]
-    /// Whether a new header has room for these names in its cluster, and knows such clusters and counts: bits of 9 to 21, and an order of
-    /// 0 to 6.
+    /// Whether a new header has room for these names in its cluster, and allows the cluster size (9 to 21 bits) and the refcount
+    /// order (0 to 6).
     pub fn fits(
         cluster_bits: u32,
         refcount_order: u32,
@@ -107,8 +107,7 @@ impl Header {
         name_place(backing_format, data_file_name) + name <= size
     }
 
-    /// The header of a new image of version 3: size 0, no L1 table, and a reftable of one cluster behind the header's.
-    /// `fits` is the test.
+    /// The header of a new image of version 3: size 0, no L1 table, and a reftable of one cluster after the header's. `fits` must hold.
     pub fn new(
         cluster_bits: u32,
         refcount_order: u32,

@@ -1,4 +1,4 @@
-//! The extensions of a header, and the names that stand in cluster 0.
+//! The extensions of a header, and the names in cluster 0.
 
 ghost use Rattle.std.specs.Prelude.{◌≡◌, ◌+◌, ◌<◌, ◌≤◌, List, [], ◌∷◌, ℕ, length, option_copied, IfOk, IfErr, OnOk, IfSome, IfNone, IsUtf8};
 ghost use Rattle.qcow2_metadata.specs.Bytes.{byte_at};

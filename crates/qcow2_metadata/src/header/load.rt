@@ -16,13 +16,13 @@ use crate::{HeaderFields, MAGIC, MAX_L1_ENTRIES, MAX_REFTABLE_ENTRIES, MetadataE
 use image_access::{Storage, StorageError};
 use std::alloc::{AllocError, Global};
 
-/// The bytes of the header of version 2.
+/// The size of a version 2 header in bytes.
 const OLD_HEADER_LENGTH: u32 = 72;
 
-/// The bytes of the header of version 3, without further fields.
+/// The size of a version 3 header in bytes, without additional fields.
 pub(super) const HEADER_LENGTH: u32 = 104;
 
-/// The numbers at their places.
+/// Reads the numbers of a header at their offsets.
 #[tactic(auto, unfolding(crate::specs::Header::header))]
 fn read_fields(bytes: &[u8]) -> HeaderFields
     requires { 104 ≤ length bytes.now }
@@ -65,7 +65,7 @@ pub(crate) fn cluster_bytes(cluster_bits: u32) -> u64
     1 << cluster_bits
 }
 
-/// Whether this driver knows the version and each feature that it must know.
+/// Whether this driver knows the version and each incompatible feature.
 fn is_known(fields: &HeaderFields) -> bool
     ensures { IsTrue result ↔ ((fields.now.magic ≡ 0x514649fb) × ((fields.now.version ≡ 2) ⊎ (fields.now.version ≡ 3))
         × (fields.now.crypt_method ≡ 0) × ((fields.now.incompatible ≡ 0) ⊎ (fields.now.incompatible ≡ 4))) }
@@ -139,7 +139,7 @@ fn has_aligned_tables(fields: &HeaderFields, writable: bool) -> bool
     fields.l1_offset % size == 0 && (!writable || fields.reftable_offset % size == 0)
 }
 
-/// The text in memory of its own.
+/// A copy of a text.
 fn owned(alloc: Global, text: Option<&str>) -> Result<Option<String>, AllocError>
     ensures { IfOk result (λ owned. option_map string_bytes owned ≡ option_copied text.entry) }
 {
@@ -176,7 +176,7 @@ pub(crate) fn read_first_cluster<S: Storage>(
     Ok((fields, cluster))
 }
 
-/// Refuses a header that doesn't read, by its numbers and the bytes of cluster 0.
+/// Refuses an unreadable header, by its numbers and the bytes of cluster 0.
 pub(crate) fn require_readable(fields: &HeaderFields, cluster: &[u8]) -> Result<(), MetadataError>
     requires in_range { IsInRange fields.now }
     requires whole { length cluster.now ≡ cluster_size fields.now }
@@ -192,7 +192,7 @@ pub(crate) fn require_readable(fields: &HeaderFields, cluster: &[u8]) -> Result<
     Ok(())
 }
 
-/// The header with these numbers and the names that stand in cluster 0.
+/// The header with these numbers and the names in cluster 0.
 fn from_first_cluster(
     alloc: Global,
     fields: HeaderFields,
@@ -223,9 +223,9 @@ fn from_first_cluster(
 }
 
 impl Header {
-    /// Reads the header, with its extensions and names, from cluster 0. Refused `Format` where it doesn't read, then `Limit` where a
-    /// table is too long. Then `Unaligned` where the L1 table, or to write the reftable, isn't on a cluster. Where the work meets them:
-    /// `Memory`, `Storage`.
+    /// Reads the header, with its extensions and names, from cluster 0. Refused `Format` if it isn't readable, then `Limit` if a table
+    /// is too long, then `Unaligned` if the L1 table, or for writing the reftable, isn't aligned. May be refused `Memory` or `Storage` during the
+    /// work.
     pub fn load<S: Storage>(
         alloc: Global,
         storage: &mut S,

@@ -13,7 +13,7 @@ use super::{Header, HeaderFields};
 use image_access::{Storage, StorageError};
 use std::alloc::{AllocError, Global};
 
-/// A number of four or eight bytes, the highest first.
+/// A number of four or eight bytes, the most significant first.
 #[derive(Clone, Copy)]
 pub(crate) enum Number {
     Four(u32),
@@ -141,8 +141,8 @@ impl Header {
         Ok(bytes)
     }
 
-    /// Writes the header and its names at the beginning of the image. It is made for the header of a new image: other extensions of a
-    /// header that was loaded are lost. Refused `Memory` where its bytes have no room, and as the storage is.
+    /// Writes the header and its names at the beginning of the image. Call it only for a new image: other extensions of a header that was loaded
+    /// would be lost. Refused `Memory` if there is no memory for its bytes, and as the storage refuses.
     pub fn write<S: Storage>(&self, alloc: Global, storage: &mut S) -> Result<(), StorageError>
         ensures written { Changes (S.view storage.old) (S.view storage.new) result (header_written self.now) }
         ensures reads { HasNewNames self.now → IsHeaderIn self.now (header_written self.now (S.view storage.old).contents) }
@@ -178,7 +178,7 @@ fn eight_and_four(eight: u64, four: u32) -> [u8; 12]
 }
 
 impl Header {
-    /// Writes the size in its place. Refused as the storage is.
+    /// Writes the size. Refused as the storage refuses.
     #[tactic(auto, using(crate::proofs::WrittenHeader::size_after))]
     pub fn write_size<S: Storage>(&self, storage: &mut S) -> Result<(), StorageError>
         ensures written { Changes (S.view storage.old) (S.view storage.new) result (size_written self.now.fields) }
@@ -191,7 +191,7 @@ impl Header {
         storage.write(24, &self.fields.size.to_be_bytes())
     }
 
-    /// Writes the place and the length of the L1 table. Refused as the storage is.
+    /// Writes the offset and the length of the L1 table. Refused as the storage refuses.
     #[tactic(auto, using(crate::proofs::WrittenHeader::l1_table_after))]
     pub fn write_l1_table_pointer<S: Storage>(&self, storage: &mut S) -> Result<(), StorageError>
         ensures written { Changes (S.view storage.old) (S.view storage.new) result (l1_table_pointer_written self.now.fields) }
@@ -207,7 +207,7 @@ impl Header {
         storage.write(36, &pointer)
     }
 
-    /// Writes the place and the length of the reftable. Refused as the storage is.
+    /// Writes the offset and the length of the reftable. Refused as the storage refuses.
     #[tactic(auto, using(crate::proofs::WrittenHeader::reftable_after))]
     pub fn write_reftable_pointer<S: Storage>(&self, storage: &mut S) -> Result<(), StorageError>
         ensures written { Changes (S.view storage.old) (S.view storage.new) result (reftable_pointer_written self.now.fields) }
@@ -223,7 +223,7 @@ impl Header {
         storage.write(48, &pointer)
     }
 
-    /// Clears the autoclear bits in the image and here, if one is set. Refused as the storage is, they stay here.
+    /// Clears the autoclear bits in the image and in memory, if one is set. Refused as the storage refuses; the bits in memory then stay.
     #[tactic(auto, using(crate::proofs::WrittenHeader::autoclear_after))]
     pub fn clear_autoclear<S: Storage>(&mut self, storage: &mut S) -> Result<(), StorageError>
         ensures written { self.old.fields.autoclear ≢ 0 → Changes (S.view storage.old) (S.view storage.new) result autoclear_cleared }

@@ -9,7 +9,7 @@ returns-in_err-taken g c = λ w. inr (search rules, refl, refl)
 
 pub returns-then-taken : goal.returns-then-taken
 returns-then-taken g c = λ w. let r = c.args.request.now in let k = c.in_ok-taken.ensures.taken c.if-taken.true in let s = c.answer.ensures (λ p. k.0) in
-    inl (c.take_payload.new.buffer.items, k.0 ∙ length_written r w, k.1, (s.0, inl s.1, s.2))
+    inl (c.read_payload.new.buffer.items, k.0 ∙ length_written r w, k.1, (s.0, inl s.1, s.2))
 
 pub returns : goal.returns
 returns g c = λ w. let r = c.args.request.now in let k = c.in_ok-taken.ensures.skipped in

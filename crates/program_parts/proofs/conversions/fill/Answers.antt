@@ -3,7 +3,7 @@ use Rattle.qcow2_alloc.specs.ImageError.{of_storage}
 use Rattle.qcow2_alloc.proofs.AllocationSteps.{fault_of_storage}
 use Rattle.qcow2_alloc.proofs.KeptTables.Causes.{given_err}
 use Rattle.qcow2_image.specs.Image.{size_of}
-use Rattle.qcow2_session.specs.Conversions.{IsMetImporting}
+use Rattle.qcow2_session.specs.Conversions.{MayFailImporting}
 use Rattle.qcow2_alloc.specs.declared.error.ImageError.TheVariants.{InvalidOption}
 use Rattle.qcow2_session.proofs.Counting.{converted, converting_else, converting_part, converting_raw, so_far_none, so_far_part}
 use Rattle.qcow2_session.proofs.Turns.{refused_is}
@@ -52,20 +52,20 @@ returns-clause-stands g c = λ n opened image. once_imported g.S.Storage.view g.
 pub returns-then-branch-count-clause-stands : goal.returns-then-branch-count-clause-stands
 returns-then-branch-count-clause-stands g c = λ n opened image. once_imported g.S.Storage.view g.F.BackingDisk.backing c.args.image.now c.to_qcow2.new.image n _ c.to_qcow2.ensures.any opened image
 
-pub returns-in_err-count-clause-met : goal.returns-in_err-count-clause-met
-returns-in_err-count-clause-met g c = λ honest same opened.
+pub returns-in_err-count-clause-may_fail : goal.returns-in_err-count-clause-may_fail
+returns-in_err-count-clause-may_fail g c = λ honest same opened.
     let view = g.S.Storage.view in
     let e = c.in_err-count.field-0.0 in
-    let met = IsMetImporting view 0 (size_of c.args.image.now) c.to_qcow2.new.image [] in
-    given_err _ e met c.from_residual.ensures
-    (met_importing met c.to_qcow2.result e c.in_err-count.was same (c.to_qcow2.ensures.option honest) (c.to_qcow2.ensures.met (may_be_read view g.F.BackingDisk.backing c.args.image.now opened) [] opened.sound))
+    let may_fail = MayFailImporting view 0 (size_of c.args.image.now) c.to_qcow2.new.image [] in
+    given_err _ e may_fail c.from_residual.ensures
+    (met_importing may_fail c.to_qcow2.result e c.in_err-count.was same (c.to_qcow2.ensures.fails.option honest) (c.to_qcow2.ensures.fails.may_fail (may_be_read view g.F.BackingDisk.backing c.args.image.now opened) [] opened.sound))
 
-pub returns-in_err-size-clause-met : goal.returns-in_err-size-clause-met
-returns-in_err-size-clause-met g c = λ honest same opened.
-    given_err _ (of_storage c.in_err-size.field-0.0) (IsMetImporting g.S.Storage.view 0 (size_of c.args.image.now) c.to_qcow2.new.image []) c.from_residual-in_err-size.ensures (inl (inl (fault_of_storage c.in_err-size.field-0.0)))
+pub returns-in_err-size-clause-may_fail : goal.returns-in_err-size-clause-may_fail
+returns-in_err-size-clause-may_fail g c = λ honest same opened.
+    given_err _ (of_storage c.in_err-size.field-0.0) (MayFailImporting g.S.Storage.view 0 (size_of c.args.image.now) c.to_qcow2.new.image []) c.from_residual-in_err-size.ensures (inl (inl (fault_of_storage c.in_err-size.field-0.0)))
 
-pub returns-then-branch-count-clause-met : goal.returns-then-branch-count-clause-met
-returns-then-branch-count-clause-met g c = λ honest same opened.
+pub returns-then-branch-count-clause-may_fail : goal.returns-then-branch-count-clause-may_fail
+returns-then-branch-count-clause-may_fail g c = λ honest same opened.
     let left = c.to_qcow2.ensures.step.raw_left honest in
     absurd (c.if-branch-count.true (c.in_ok-size.ensures.size left.0 ∙ ap length left.1 ∙ sym (((c.in_ok-count.ensures.sees honest []).answer opened.sound).1.0)))
 

@@ -1,6 +1,6 @@
 use Rattle.std.proofs.Common.{◌≡◌, ℕ, Result, Ok, Err, refl, sym, ap, ◌∙◌, subst, length, ◌<◌, inl, inr}
 use Rattle.std.specs.Prelude.{IfOk}
-use Rattle.qcow2_alloc.specs.Faults.{FaultsTold}
+use Rattle.qcow2_alloc.specs.Faults.{FaultsReported}
 use Rattle.qcow2_alloc.specs.declared.error.ImageError.{ImageError}
 use Rattle.qcow2_image.proofs.Create.Causes.{told_opening, fault_reason}
 use Rattle.program_parts.proofs.Counted.{both_of, both_retold, both_since, image_refused, raw_refused}
@@ -9,7 +9,7 @@ use Rattle.qcow2_metadata.specs.Header.{header}
 use Rattle.qcow2_image.specs.declared.builder.Qcow2CreateBuilder.{Qcow2CreateBuilder}
 use Rattle.qcow2_image.specs.Image.{storage_of_image}
 use Rattle.qcow2_image.proofs.Create.NewDisks.{new_disk_consistent}
-use Rattle.program_parts.specs.Conversions.{CountsBoth, IsImageMade, IsImageOf, IsImageOfSize, IsStopOfMaking, IsMetOnceCreated, asked_for}
+use Rattle.program_parts.specs.Conversions.{CountsBoth, IsImageMade, IsImageOf, IsImageOfSize, IsStopOfMaking, MayFailOnceCreated, asked_for}
 use Rattle.qcow2_metadata.specs.declared.header.HeaderFields.{HeaderFields}
 use Rattle.image_access.specs.Moments.{EachMomentSince}
 use Rattle.program_parts.proofs.Imported.{of_ok, ok_both, ok_then, has_image, made_of}
@@ -75,7 +75,7 @@ returns-in-Err-created-clause-faults g c =
     ∙ ap (λ (b : Qcow2CreateBuilder g.row.S.Denot). b.image) c.size-2.ensures ∙ ap (λ (b : Qcow2CreateBuilder g.row.S.Denot). b.image) c.new.ensures
     in
     let first = ap (λ s. (view s).faults) image_is in
-    both_retold _ _ _ _ c.in-Err-created.e (image_refused _ _ _ _ _ c.in-Err-created.e first c.in-Ok.ensures.calls.cause.told (subst (λ (r : Result _ _). FaultsTold (view c.refcount_width.result.image).faults (view c.create-storage.result.0).faults r) c.in-Err-created.is c.create-storage.ensures.faults))
+    both_retold _ _ _ _ c.in-Err-created.e (image_refused _ _ _ _ _ c.in-Err-created.e first c.in-Ok.ensures.calls.cause.told (subst (λ (r : Result _ _). FaultsReported (view c.refcount_width.result.image).faults (view c.create-storage.result.0).faults r) c.in-Err-created.is c.create-storage.ensures.faults))
 
 pub returns-in-Err-open_alone-clause-faults : goal.returns-in-Err-open_alone-clause-faults
 returns-in-Err-open_alone-clause-faults g c =
@@ -85,7 +85,7 @@ returns-in-Err-open_alone-clause-faults g c =
     ∙ ap (λ (b : Qcow2CreateBuilder g.row.S.Denot). b.image) c.size-2.ensures ∙ ap (λ (b : Qcow2CreateBuilder g.row.S.Denot). b.image) c.new.ensures
     in
     let first = ap (λ s. (view s).faults) image_is in
-    let made = (subst (λ (r : Result _ _). FaultsTold (view c.refcount_width.result.image).faults (view c.create-storage.result.0).faults r) c.in_default.is c.create-storage.ensures.faults).told in
+    let made = (subst (λ (r : Result _ _). FaultsReported (view c.refcount_width.result.image).faults (view c.create-storage.result.0).faults r) c.in_default.is c.create-storage.ensures.faults).told in
     image_refused _ _ _ _ _ c.in-Err-open_alone.e (made ∙ first) c.in-Ok.ensures.calls.cause.told (told_opening view (view c.create-storage.result.0).faults c.in-Err-open_alone.storage c.in-Err-open_alone.e c.in-Err-open_alone.ensures.step.faults)
 
 pub returns-in-Ok-open_alone-clause-faults : goal.returns-in-Ok-open_alone-clause-faults
@@ -96,7 +96,7 @@ returns-in-Ok-open_alone-clause-faults g c =
     ∙ ap (λ (b : Qcow2CreateBuilder g.row.S.Denot). b.image) c.size-2.ensures ∙ ap (λ (b : Qcow2CreateBuilder g.row.S.Denot). b.image) c.new.ensures
     in
     let first = ap (λ s. (view s).faults) image_is in
-    let made = (subst (λ (r : Result _ _). FaultsTold (view c.refcount_width.result.image).faults (view c.create-storage.result.0).faults r) c.in_default.is c.create-storage.ensures.faults).told in
+    let made = (subst (λ (r : Result _ _). FaultsReported (view c.refcount_width.result.image).faults (view c.create-storage.result.0).faults r) c.in_default.is c.create-storage.ensures.faults).told in
     both_since _ _ _ _ _ _ _ (c.in-Ok-open_alone.ensures.step.faults.told ∙ made ∙ first) c.in-Ok.ensures.calls.cause.told (both_of view _ (λ b. refl) c.in-Ok-open_alone.image c.fill-imported.new.image c.into_storage.result _ _ c.fill-imported.result c.fill-imported.ensures.faults c.into_storage.ensures)
 
 pub returns-in-Err-created-clause-stops : goal.returns-in-Err-created-clause-stops
@@ -247,6 +247,6 @@ returns-in-Ok-open_alone-clause-cause g c = λ raw_honest honest.
     let is = (c.in-Ok-open_alone.ensures.opens created.honest first.consistent).opened in
     let then = once_opened n made opened first (c.in-Ok-open_alone.ensures.step.since created.honest first.consistent) in
     let sized = ap (λ (h : HeaderFields). h.size) (header_is view _ image is opened.contents refl) ∙ then.size in
-    err_then c.fill-imported.result (λ e met. inr (subst (λ k. IsMetOnceCreated view k c.into_storage.result e) size_is met))
+    err_then c.fill-imported.result (λ e may_fail. inr (subst (λ k. MayFailOnceCreated view k c.into_storage.result e) size_is may_fail))
     (met_once_created view n image c.fill-imported.new.image c.into_storage.result c.fill-imported.result c.into_storage.ensures sized c.in-Ok-open_alone.ensures.image.writable_is c.fill-imported.ensures.image (c.fill-imported.ensures.stands n is then)
-    (c.fill-imported.ensures.met (c.size.ensures.calls.honest raw_honest) (ap length (c.size.ensures.same raw_honest) ∙ sym size_is ∙ sym sized) is))
+    (c.fill-imported.ensures.may_fail (c.size.ensures.calls.honest raw_honest) (ap length (c.size.ensures.same raw_honest) ∙ sym size_is ∙ sym sized) is))

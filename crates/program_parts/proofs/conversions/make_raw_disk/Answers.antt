@@ -69,7 +69,7 @@ returns-in-Ok-clause-cause g c = λ honest.
     met_exporting contents c.args.raw.now _ c.to_raw-copied.result c.flushed-exported.result (c.in-Ok.ensures.step.cause honest) c.flushed-exported.ensures.cause c.to_raw-copied.ensures.cause
     (λ consistent.
     let opened = (c.in-Ok.ensures.opens honest consistent).opened in
-    met_disks view _ c.in-Ok.image opened contents (c.in-Ok.ensures.step.storage.contents honest).contents c.to_raw-copied.result (c.to_raw-copied.ensures.met (may_be_read view _ c.in-Ok.image opened) [] opened.sound))
+    met_disks view _ c.in-Ok.image opened contents (c.in-Ok.ensures.step.storage.contents honest).contents c.to_raw-copied.result (c.to_raw-copied.ensures.may_fail (may_be_read view _ c.in-Ok.image opened) [] opened.sound))
 
 pub returns-in-Ok-clause-another : goal.returns-in-Ok-clause-another
 returns-in-Ok-clause-another g c = λ honest needs. absurd (c.in-Ok.ensures.step.another honest needs).0

@@ -1,6 +1,6 @@
 use Rattle.std.proofs.Common.{◌+◌, ◌-◌, ◌*◌, ◌/◌, ◌^◌, ◌≤◌, min, inl, ap, ◌∙◌, sym, arith}
 use Rattle.qcow2_metadata.specs.RefBlock.{count_at}
-use Rattle.qcow2_alloc.proofs.RunBlocks.{raised_kept, counts_next}
+use Rattle.qcow2_alloc.proofs.RunBlocks.{raised_kept, raised_modified, counts_next}
 use Rattle.qcow2_alloc.proofs.new_refblocks.run_block.Goals as goal
 
 pub counting-preserved : goal.counting-preserved
@@ -16,6 +16,7 @@ counting-preserved c =
       bits = kept.1 ∙ c.counting.invariant.bits;
       order = kept.2 ∙ c.counting.invariant.order;
       whole = kept.3 c.counting.invariant.whole;
+      modified = raised_modified old new c.increment.result c.increment.ensures.unchanged c.increment.ensures.same c.counting.invariant.modified;
       low = c.counting.invariant.low;
       high = c.counting.invariant.high ∙ sym (ap (λ n. min c.args.end (c.args.begin + 2 ^ n * 8 / 2 ^ new.refcount_order)) kept.1 ∙ ap (λ n. min c.args.end (c.args.begin + 2 ^ old.cluster_bits * 8 / 2 ^ n)) kept.2);
       few = inl (let lt = c.counting-test.true in omega (arith, lt));
@@ -24,3 +25,6 @@ counting-preserved c =
 
 pub returns-clause-whole : goal.returns-clause-whole
 returns-clause-whole c = c.counting.invariant.whole
+
+pub returns-clause-modified : goal.returns-clause-modified
+returns-clause-modified c = c.counting.invariant.modified

@@ -1,4 +1,4 @@
-use Rattle.std.proofs.Common.{◌≡◌, ◌⊎◌, ℕ, ◌+◌, ◌-◌, ◌≤◌, max, min, Some}
+use Rattle.std.proofs.Common.{◌≡◌, ◌⊎◌, ℕ, ◌+◌, ◌-◌, ◌≤◌, max, min, true, Some}
 use Rattle.qcow2_metadata.specs.RefBlock.{IsRefBlock, count_at, counts_of}
 use Rattle.qcow2_alloc.specs.Allocation.{run_at}
 use Rattle.qcow2_alloc.proofs.new_refblocks.run_block.Given as goal
@@ -10,6 +10,7 @@ invariant-counting l = record {
   bits : l.block.cluster_bits ≡ l.header.fields.cluster_bits;
   order : l.block.refcount_order ≡ l.header.fields.refcount_order;
   whole : IsRefBlock l.block;
+  modified : l.block.is_modified ≡ true;
   low : l.low ≡ max l.first l.begin;
   high : l.high ≡ min l.end (l.begin + counts_of l.block);
   few : (l.counted ≤ l.high) ⊎ (l.counted ≡ l.low);

@@ -30,14 +30,14 @@ some_counts b whole =
 
 pub returns-clause-counts : goal.returns-clause-counts
 returns-clause-counts c = λ i.
-    let zeros : (i : ℕ) → count_at c.set_cluster.new.self i ≡ 0 = λ i. ap (λ (b : RefBlockView). count_at b i) c.set_cluster.ensures ∙ c.in_ok-block.ensures.zeros i in
+    let zeros = c.in_ok-block.ensures.zeros in
     elim c.if-counts_itself.branch [
       | then-counts_itself+then-counts-gt0 w ↦
           ap (λ (b : RefBlockView). count_at b i) w.block-is
-          ∙ raised c.set_cluster.new.self w.increment.new.self w.increment.result zeros w.increment.ensures.full w.increment.ensures.counted (λ done. ap (λ (b : RefBlockView). b.refcount_order) (w.increment.ensures.same done)) i
+          ∙ raised c.in_ok-block.block w.increment.new.self w.increment.result zeros w.increment.ensures.full w.increment.ensures.counted (λ done. ap (λ (b : RefBlockView). b.refcount_order) (w.increment.ensures.same done)) i
           ∙ ap (λ d. first_counts d i) (sym w.if-counts_itself.true)
       | else-counts_itself w ↦ elim w.else-counts_itself.branch [
-        | else-counts_itself-via-then-counts_itself+else-counts-gt0 w' ↦ absurd (let some = some_counts c.set_cluster.new.self w'.counts.ensures.whole in let is = w'.counts.ensures.value in let none = w'.if-counts-gt0.false in omega arith)
+        | else-counts_itself-via-then-counts_itself+else-counts-gt0 w' ↦ absurd (let some = some_counts c.in_ok-block.block w'.counts.ensures.whole in let is = w'.counts.ensures.value in let none = w'.if-counts-gt0.false in omega arith)
         | else-counts_itself-via-else-counts_itself w' ↦ ap (λ (b : RefBlockView). count_at b i) w.block-is ∙ zeros i ∙ ap (λ d. first_counts d i) (sym w'.if-counts_itself.false)
       ]
     ]

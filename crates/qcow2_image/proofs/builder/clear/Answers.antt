@@ -4,7 +4,7 @@ use Rattle.image_access.specs.Moments.{Calls, Changes}
 use Rattle.qcow2_alloc.specs.ImageStorage.{storage_of}
 use Rattle.qcow2_alloc.specs.ImageError.{of_storage}
 use Rattle.qcow2_image.proofs.Call.Unlimited.{storage_fault}
-use Rattle.qcow2_image.proofs.Prepare.Lacked.{hands_fault}
+use Rattle.qcow2_image.proofs.Prepare.LimitCauses.{hands_fault}
 use Rattle.qcow2_image.proofs.Create.Cleared.{asked_first, cut_to_none}
 use Rattle.qcow2_image.proofs.builder.clear.Goals as goal
 
@@ -16,7 +16,7 @@ returns-in_err-clear-clause-time g c = λ honest.
     let new = storage_of c.clear.new.self in
     let still = c.size.ensures.calls.honest honest in
     asked_first c.size.result c.clear.result (λ t le. g.S.Storage.counts_now old t honest le) (λ t le. g.S.Storage.counts_now mid t still le) c.size.ensures.calls (c.size.ensures.same honest)
-    (subst (λ s. Calls (view s) (view new) c.clear.result) c.set_write_kind.ensures.storage c.clear.ensures.calls) (subst (λ s. Changes (view s) (view new) c.clear.result (λ b. resized b 0)) c.set_write_kind.ensures.storage c.clear.ensures.cleared) still
+    (subst (λ s. Calls (view s) (view new) c.clear.result) c.set_write_kind.ensures.storage c.clear.ensures.writes.calls) (subst (λ s. Changes (view s) (view new) c.clear.result (λ b. resized b 0)) c.set_write_kind.ensures.storage c.clear.ensures.writes.written) still
 
 pub returns-clause-time : goal.returns-clause-time
 returns-clause-time g c = λ honest.
@@ -26,12 +26,12 @@ returns-clause-time g c = λ honest.
     let new = storage_of c.clear.new.self in
     let still = c.size.ensures.calls.honest honest in
     asked_first c.size.result c.clear.result (λ t le. g.S.Storage.counts_now old t honest le) (λ t le. g.S.Storage.counts_now mid t still le) c.size.ensures.calls (c.size.ensures.same honest)
-    (subst (λ s. Calls (view s) (view new) c.clear.result) c.set_write_kind.ensures.storage c.clear.ensures.calls) (subst (λ s. Changes (view s) (view new) c.clear.result (λ b. resized b 0)) c.set_write_kind.ensures.storage c.clear.ensures.cleared) still
+    (subst (λ s. Calls (view s) (view new) c.clear.result) c.set_write_kind.ensures.storage c.clear.ensures.writes.calls) (subst (λ s. Changes (view s) (view new) c.clear.result (λ b. resized b 0)) c.set_write_kind.ensures.storage c.clear.ensures.writes.written) still
 
 pub returns-clause-cleared : goal.returns-clause-cleared
 returns-clause-cleared g c = λ honest.
     let view = g.S.Storage.view in
-    cut_to_none (view (storage_of c.set_write_kind.new.self)).contents _ (c.in_ok-clear.ensures.cleared (subst (λ s. (view s).is_honest) (sym c.set_write_kind.ensures.storage) (c.size.ensures.calls.honest honest)))
+    cut_to_none (view (storage_of c.set_write_kind.new.self)).contents _ (c.in_ok-clear.ensures.writes.written (subst (λ s. (view s).is_honest) (sym c.set_write_kind.ensures.storage) (c.size.ensures.calls.honest honest)))
 
 pub returns-in_err-size-clause-fault : goal.returns-in_err-size-clause-fault
 returns-in_err-size-clause-fault g c = hands_fault c.from_residual.result (of_storage c.in_err-size.field-0.0) c.from_residual.ensures (storage_fault c.in_err-size.field-0.0)

@@ -1,60 +1,77 @@
-use Rattle.std.proofs.Common.{[], refl, subst}
+use Rattle.std.proofs.Common.{[], ◌<◌, refl, inl, inr, Err, Ok}
+use Rattle.std.proofs.lemmas.Bool.{cases_lt}
 use Rattle.qcow2_image.proofs.Call.FaultCounts.{counted_on, counted_since, untouched}
+use Rattle.qcow2_image.specs.Image.{size_of}
 use Rattle.qcow2_alloc.specs.ImageFile.{view_in}
 use Rattle.qcow2_alloc.proofs.AllocationSteps.{handed_on}
-use Rattle.qcow2_image.specs.Created.{Enlarges, GrowsBy}
+use Rattle.qcow2_image.specs.Created.{Enlarges}
 use Rattle.qcow2_image.proofs.Create.Causes.{usable_opened}
-use Rattle.qcow2_image.proofs.Create.Leaks.{no_leaks_flushed}
-use Rattle.qcow2_image.proofs.Create.TakingPlace.{grown_by, refused_by}
-use Rattle.qcow2_image.proofs.Prepare.Lacked.{faults_or_limit, faults_unlimited, hands_either, hands_limit, unlimited_all}
+use Rattle.qcow2_image.proofs.Create.Faults.{grown_fault}
+use Rattle.qcow2_image.proofs.Create.Leaks.{left_taking, no_leaks_flushed, surplus_taken}
+use Rattle.qcow2_image.proofs.Create.AllocatingPlace.{grown_by, stops_by}
+use Rattle.qcow2_image.proofs.Prepare.LimitCauses.{faults_or_limit, faults_unlimited, hands_either, hands_limit, unlimited_all}
 use Rattle.qcow2_image.proofs.builder.grow_and_flush.Goals as goal
 
-pub returns-in_err-grow_by-clause-enlarges : goal.returns-in_err-grow_by-clause-enlarges
-returns-in_err-grow_by-clause-enlarges g c = λ opened writable alone unwritten.
+pub returns-in_err-resize_grow-clause-enlarges : goal.returns-in_err-resize_grow-clause-enlarges
+returns-in_err-resize_grow-clause-enlarges g c = λ opened writable alone unwritten.
     let view = g.S.Storage.view in
-    let below = g.F.BackingDisk.backing in
     let old = c.args.image.now in
-    let mid = c.grow_by.new.image in
-    handed_on (Enlarges c.args.mode c.args.size (view_in view old.file) (view_in view mid.file)) c.from_residual.result c.in_err-grow_by.field-0.0 c.from_residual.ensures
-    (refused_by view below c.args.size old mid opened writable alone unwritten c.args.mode c.in_err-grow_by.field-0.0 (subst (GrowsBy view below c.args.mode old mid c.args.size) c.in_err-grow_by.was c.grow_by.ensures.grows))
+    let mid = c.resize_grow.new.self in
+    let does = c.in_err-resize_grow.ensures in
+    handed_on (Enlarges c.args.mode c.args.size (view_in view old.file) (view_in view mid.file)) c.from_residual.result c.in_err-resize_grow.field-0.0 c.from_residual.ensures
+    (stops_by view g.F.BackingDisk.backing c.args.size old mid opened writable unwritten c.args.mode (inr alone) (Err c.in_err-resize_grow.field-0.0)
+    (record { no_larger = does.no_larger; image = does.image; sees = does.sees; tables = λ usable lt sound. (does.sound [] sound).tables usable lt; last = λ sound. (does.sound [] sound).last }))
 
 pub returns-clause-enlarges : goal.returns-clause-enlarges
 returns-clause-enlarges g c = λ opened writable alone unwritten.
-    let view = g.S.Storage.view in
-    let below = g.F.BackingDisk.backing in
-    let old = c.args.image.now in
-    let mid = c.grow_by.new.image in
-    grown_by view below c.args.size old mid opened writable alone unwritten c.args.mode c.in_ok-grow_by.field-0 (subst (GrowsBy view below c.args.mode old mid c.args.size) c.in_ok-grow_by.was c.grow_by.ensures.grows)
+    let does = c.in_ok-resize_grow.ensures in
+    grown_by g.S.Storage.view g.F.BackingDisk.backing c.args.size c.args.image.now c.resize_grow.new.self opened writable unwritten alone c.args.mode c.in_ok-resize_grow.field-0
+    (record { no_larger = does.no_larger; image = does.image; sees = does.sees; tables = λ usable lt sound. (does.sound [] sound).tables usable lt; last = λ sound. (does.sound [] sound).last })
     c.flush.new.self c.flush.result c.flush.ensures.step.image.size c.flush.ensures.sees c.flush.ensures.writes
 
-pub returns-in_err-grow_by-clause-fault : goal.returns-in_err-grow_by-clause-fault
-returns-in_err-grow_by-clause-fault g c = λ usable writable alone sound unmapped. hands_either c.from_residual.result c.in_err-grow_by.field-0.0 c.from_residual.ensures (c.in_err-grow_by.ensures.fault usable writable alone sound unmapped)
+pub returns-in_err-resize_grow-clause-fault : goal.returns-in_err-resize_grow-clause-fault
+returns-in_err-resize_grow-clause-fault g c = λ usable writable alone sound unmapped.
+    let does = c.in_err-resize_grow.ensures in
+    hands_either c.from_residual.result c.in_err-resize_grow.field-0.0 c.from_residual.ensures
+    (grown_fault g.S.Storage.view c.args.image.now unmapped c.resize_grow.new.self c.args.size _ c.args.mode (Err c.in_err-resize_grow.field-0.0) alone (does.no_larger usable) (λ lt. (does.sound [] sound).may_fail usable lt))
 
 pub returns-clause-fault : goal.returns-clause-fault
-returns-clause-fault g c = λ usable writable alone sound unmapped. faults_or_limit c.flush.result (c.flush.ensures.fault [] (c.in_ok-grow_by.ensures.surplus usable sound).sound)
+returns-clause-fault g c = λ usable writable alone sound unmapped.
+    let does = c.in_ok-resize_grow.ensures in
+    faults_or_limit c.flush.result (c.flush.ensures.fails.fault []
+    (surplus_taken g.S.Storage.view g.F.BackingDisk.backing c.args.image.now c.resize_grow.new.self c.args.size c.args.mode (Ok c.in_ok-resize_grow.field-0) sound (does.no_larger usable) does.image does.sees).sound)
 
-pub returns-in_err-grow_by-clause-faults : goal.returns-in_err-grow_by-clause-faults
-returns-in_err-grow_by-clause-faults g c =
+pub returns-in_err-resize_grow-clause-faults : goal.returns-in_err-resize_grow-clause-faults
+returns-in_err-resize_grow-clause-faults g c =
     let old = c.args.image.now in
-    counted_on g.S.Storage.view g.F.BackingDisk.backing old old c.grow_by.new.image c.grow_by.result c.in_err-grow_by.field-0.0 c.from_residual.result (untouched g.S.Storage.view g.F.BackingDisk.backing old old refl refl)
-    c.grow_by.ensures.faults c.in_err-grow_by.was c.from_residual.ensures
+    counted_on g.S.Storage.view g.F.BackingDisk.backing old old c.resize_grow.new.self c.resize_grow.result c.in_err-resize_grow.field-0.0 c.from_residual.result (untouched g.S.Storage.view g.F.BackingDisk.backing old old refl refl)
+    c.resize_grow.ensures.step.faults c.in_err-resize_grow.was c.from_residual.ensures
 
 pub returns-clause-faults : goal.returns-clause-faults
-returns-clause-faults g c = counted_since g.S.Storage.view g.F.BackingDisk.backing c.args.image.now c.grow_by.new.image c.flush.new.self c.flush.result c.in_ok-grow_by.ensures.faults.told c.flush.ensures.step.faults
+returns-clause-faults g c = counted_since g.S.Storage.view g.F.BackingDisk.backing c.args.image.now c.resize_grow.new.self c.flush.new.self c.flush.result c.in_ok-resize_grow.ensures.step.faults.told c.flush.ensures.step.faults
 
 pub returns-clause-leaks : goal.returns-clause-leaks
 returns-clause-leaks g c = λ opened writable none.
     let view = g.S.Storage.view in
     let below = g.F.BackingDisk.backing in
-    let grew = c.in_ok-grow_by.ensures.surplus (usable_opened view below c.args.image.now opened writable) opened.sound in
-    no_leaks_flushed view below c.args.image.now c.grow_by.new.image c.flush.new.self grew writable none c.flush.result c.flush.ensures.sees c.flush.ensures.emptied
+    let old = c.args.image.now in
+    let does = c.in_ok-resize_grow.ensures in
+    let grew = surplus_taken view below old c.resize_grow.new.self c.args.size c.args.mode (Ok c.in_ok-resize_grow.field-0) opened.sound (does.no_larger (usable_opened view below old opened writable)) does.image does.sees in
+    no_leaks_flushed view below old c.resize_grow.new.self c.flush.new.self grew writable none c.flush.result c.flush.ensures.sees c.flush.ensures.emptied
 
-pub returns-in_err-grow_by-clause-limit : goal.returns-in_err-grow_by-clause-limit
-returns-in_err-grow_by-clause-limit g c = λ usable sound.
-    hands_limit c.from_residual.result c.in_err-grow_by.field-0.0 c.from_residual.ensures
-    (c.in_err-grow_by.ensures.limit usable sound)
+pub returns-in_err-resize_grow-clause-limit : goal.returns-in_err-resize_grow-clause-limit
+returns-in_err-resize_grow-clause-limit g c = λ usable sound.
+    let view = g.S.Storage.view in
+    let below = g.F.BackingDisk.backing in
+    let old = c.args.image.now in
+    let e = c.in_err-resize_grow.field-0.0 in
+    let does = c.in_err-resize_grow.ensures in
+    hands_limit c.from_residual.result e c.from_residual.ensures (λ is.
+    let lt : size_of old < c.args.size = elim (cases_lt (size_of old) c.args.size) [ inl lt ↦ lt | inr le ↦ absurd (let no = (does.no_larger usable le).0 in cc) ] in
+    ((does.sound [] sound).limit usable lt is, left_taking view below old c.resize_grow.new.self c.args.size c.args.mode (Err e) sound (does.image lt) does.sees is))
 
 pub returns-clause-limit : goal.returns-clause-limit
 returns-clause-limit g c = λ usable sound.
-    let grew = c.in_ok-grow_by.ensures.surplus usable sound in
-    unlimited_all c.flush.result _ (faults_unlimited c.flush.result (c.flush.ensures.fault [] grew.sound))
+    let does = c.in_ok-resize_grow.ensures in
+    let grew = surplus_taken g.S.Storage.view g.F.BackingDisk.backing c.args.image.now c.resize_grow.new.self c.args.size c.args.mode (Ok c.in_ok-resize_grow.field-0) sound (does.no_larger usable) does.image does.sees in
+    unlimited_all c.flush.result _ (faults_unlimited c.flush.result (c.flush.ensures.fails.fault [] grew.sound))

@@ -9,7 +9,7 @@ use Rattle.qcow2_image.proofs.Create.Causes.{opening_unlimited, told_closed, tol
 use Rattle.qcow2_image.proofs.Create.Faults.{opening_fault, unmapped_opened}
 use Rattle.qcow2_image.proofs.Create.Creating.{opening_stops, opens_unwritten, enlarged_so, unwritten_mid}
 use Rattle.qcow2_image.proofs.Open.Left.{opened_none}
-use Rattle.qcow2_image.proofs.Prepare.Lacked.{limits_as, other_limit}
+use Rattle.qcow2_image.proofs.Prepare.LimitCauses.{limits_as, other_limit}
 use Rattle.qcow2_image.proofs.builder.grow_new_image.Goals as goal
 
 pub returns-in-Err-clause-enlarges : goal.returns-in-Err-clause-enlarges
@@ -67,14 +67,14 @@ returns-in-Ok-clause-limit g c = λ honest unwritten new_image uncleared.
     let image = c.in-Ok.image in
     let is = (c.in-Ok.ensures.opens honest unwritten.consistent).opened in
     limits_as c.grow_and_flush-done.result
-    (λ met. record {
+    (λ may_fail. record {
       opened = image;
       is_opened = is;
       stands = (c.in-Ok.ensures.step.storage.contents honest).contents ∙ opened_none true contents uncleared;
       emptied = c.in-Ok.ensures.list honest unwritten.consistent;
-      limit = met.0;
+      limit = may_fail.0;
       left = c.grow_and_flush-done.new.image;
       is_left = sym c.into_storage.ensures;
-      leaves = met.1;
+      leaves = may_fail.1;
     })
     (c.grow_and_flush-done.ensures.limit (usable_opened view below image is c.in-Ok.ensures.image.writable_is) is.sound)

@@ -2,31 +2,28 @@ use Rattle.qcow2_session.proofs.Marking.{cleared_at_once}
 use Rattle.qcow2_disk.specs.Calls.{to_kept_zero}
 use Rattle.qcow2_session.proofs.Cleared.{clears_command_step, clearing_counted, range_told}
 use Rattle.qcow2_session.proofs.Unwritten.{clear_same}
+use Rattle.qcow2_session.proofs.Quiet.{quiet_left}
 use Rattle.std.proofs.Common.{refl, rules}
 use Rattle.qcow2_session.specs.declared.session.Command.TheVariants as C
 use Rattle.qcow2_session.proofs.Causing.{clears_rightly, if_err_to}
 use Rattle.qcow2_session.proofs.clearing.ensure_zero.Goals as goal
 
-pub returns-clause-command_step : goal.returns-clause-command_step
-returns-clause-command_step g c = λ slots x s stands founds.
-    clears_command_step g.S.Storage.view g.F.BackingDisk.backing c.args.image.now c.ensure_zero_mapping.new.self to_kept_zero c.args.offset c.args.length slots.prepared.items x s c.ensure_zero_mapping.result c.range_reply.result c.range_reply.ensures stands
-    c.ensure_zero_mapping.ensures.fails.early c.ensure_zero_mapping.ensures.sound.covers c.ensure_zero_mapping.ensures.sound.sees
-
-pub returns-clause-reading : goal.returns-clause-reading
-returns-clause-reading g c = λ reading. clear_same c.args.image.now reading _ _ c.ensure_zero_mapping.ensures.fails.early
-
-pub returns-clause-causes : goal.returns-clause-causes
-returns-clause-causes g c = λ before found.
-    clears_rightly g.S.Storage.view g.F.BackingDisk.backing c.args.image.now c.ensure_zero_mapping.new.self before c.args.offset c.args.length to_kept_zero (C.EnsureZeroMapping c.args.offset c.args.length) refl (λ le. le) (λ e met. met) (λ e met. met) (λ _ heeds. heeds) (λ _ never. (λ is. absurd (never is), λ is. absurd is))
-    c.ensure_zero_mapping.result c.range_reply.result c.range_reply.ensures c.ensure_zero_mapping.ensures.fails.early c.ensure_zero_mapping.ensures.fails.late (λ none sound. if_err_to c.ensure_zero_mapping.result (λ e refused. refused.met none before sound) c.ensure_zero_mapping.ensures.fails.refused) c.ensure_zero_mapping.ensures.sound.nothing (λ none some sound. c.ensure_zero_mapping.ensures.fails.under none some before sound)
-
-pub returns-clause-tells : goal.returns-clause-tells
-returns-clause-tells g c = λ before. range_told g.S.Storage.view g.F.BackingDisk.backing c.args.image.now c.ensure_zero_mapping.new.self c.args.offset c.args.length c.ensure_zero_mapping.result c.range_reply.result c.range_reply.ensures c.ensure_zero_mapping.ensures.sound.range
-
-pub returns-clause-step : goal.returns-clause-step
-returns-clause-step g c = record {
-  image = search rules;
-  header_cluster = search rules;
-  faults = clearing_counted g.S.Storage.view g.F.BackingDisk.backing c.args.image.now c.ensure_zero_mapping.new.self c.ensure_zero_mapping.result c.range_reply.result c.range_reply.ensures c.ensure_zero_mapping.ensures.step.faults;
+pub returns : goal.returns
+returns g c = λ slots. record {
+  keeps = search rules;
+  size = search rules;
+  counts = clearing_counted g.S.Storage.view g.F.BackingDisk.backing c.args.image.now c.ensure_zero_mapping.new.self c.ensure_zero_mapping.result c.range_reply.result c.range_reply.ensures c.ensure_zero_mapping.ensures.step.faults;
   marks = cleared_at_once g.S.Storage.view c.args.image.now c.ensure_zero_mapping.new.self c.ensure_zero_mapping.result c.range_reply.result c.range_reply.ensures c.ensure_zero_mapping.ensures.step.once_written c.ensure_zero_mapping.ensures.step.marks;
+  header_cluster = λ _. search rules;
+  slots = refl;
+  steps = λ _ x s stands founds.
+      clears_command_step g.S.Storage.view g.F.BackingDisk.backing c.args.image.now c.ensure_zero_mapping.new.self to_kept_zero c.args.offset c.args.length slots.prepared.items x s c.ensure_zero_mapping.result c.range_reply.result c.range_reply.ensures stands
+      c.ensure_zero_mapping.ensures.fails.early c.ensure_zero_mapping.ensures.sound.covers c.ensure_zero_mapping.ensures.sound.sees;
+  finds = search rules;
+  after = refl;
+  reports = range_told g.S.Storage.view g.F.BackingDisk.backing c.args.image.now c.ensure_zero_mapping.new.self c.args.offset c.args.length c.ensure_zero_mapping.result c.range_reply.result c.range_reply.ensures c.ensure_zero_mapping.ensures.sound.range;
+  causes = let before = slots.prepared.items in
+      clears_rightly g.S.Storage.view g.F.BackingDisk.backing c.args.image.now c.ensure_zero_mapping.new.self before c.args.offset c.args.length to_kept_zero (C.EnsureZeroMapping c.args.offset c.args.length) refl (λ le. le) (λ e may_fail. may_fail) (λ e may_fail. may_fail) (λ _ respects. respects) (λ _ never. (λ is. absurd (never is), λ is. absurd is))
+      c.ensure_zero_mapping.result c.range_reply.result c.range_reply.ensures c.ensure_zero_mapping.ensures.fails.early c.ensure_zero_mapping.ensures.fails.late (λ none sound. if_err_to c.ensure_zero_mapping.result (λ e refused. refused.may_fail none before sound) c.ensure_zero_mapping.ensures.fails.refused) c.ensure_zero_mapping.ensures.sound.nothing (λ none some sound. c.ensure_zero_mapping.ensures.fails.under none some before sound);
+  quiet = λ reading existing. quiet_left g.S.Storage.view c.args.image.now c.ensure_zero_mapping.new.self slots.prepared.items (clear_same c.args.image.now reading _ _ c.ensure_zero_mapping.ensures.fails.early) reading existing;
 }

@@ -5,8 +5,8 @@ use Rattle.qcow2_session.proofs.Counting.{converted, converting_part, so_far_non
 use Rattle.qcow2_session.proofs.Converting.{does_nothing, interrupted_if, interrupted_then}
 use Rattle.std.specs.Prelude.{IfErr}
 use Rattle.qcow2_alloc.specs.ImageFile.{known_in}
-use Rattle.qcow2_image.specs.MetAlone.{IsMetReadingRange}
-use Rattle.qcow2_session.proofs.MetOnSound.{reads_part}
+use Rattle.qcow2_image.specs.MayFail.{MayFailReadingRange}
+use Rattle.qcow2_session.proofs.FailingOnSound.{reads_part}
 use Rattle.qcow2_session.proofs.Exporting.{part_of_disk, unchanged_refused, fills_more}
 use Rattle.qcow2_session.proofs.Told.{same_then}
 use Rattle.qcow2_session.proofs.Turns.{refused_is, none_within, does_if, does_then}
@@ -51,8 +51,8 @@ returns-clause-sees g c = λ h.
     let done : c.loop-at.at ≡ c.args.size = omega (arith, c.loop-at.invariant.within, c.loop-at-test.false) in
     subst (λ k. Fills g.S.Storage.view g.F.BackingDisk.backing c.args.image.now 0 k (g.R.Storage.view c.args.raw.now).contents (g.R.Storage.view c.loop-at.raw).contents) done (c.loop-at.invariant.filled h)
 
-pub returns-in_err-count-clause-met : goal.returns-in_err-count-clause-met
-returns-in_err-count-clause-met g c = λ none size out sound.
+pub returns-in_err-count-clause-may_fail : goal.returns-in_err-count-clause-may_fail
+returns-in_err-count-clause-may_fail g c = λ none size out sound.
     let view = g.S.Storage.view in
     let below = g.F.BackingDisk.backing in
     let old = c.args.image.now in
@@ -62,9 +62,9 @@ returns-in_err-count-clause-met g c = λ none size out sound.
     let upto : at + (c.args.size - at) ≤ c.args.size = omega (arith, c.loop-at-test.true) in
     let so_far = c.loop-at.invariant.same out in
     let still = (so_far.answer sound).0 in
-    subst (λ r. IfErr r (IsMetReadingRange out 0 c.args.size c.args.image.now.file.header.fields (known_in g.S.Storage.view c.args.image.now.file))) (sym (refused_is _ e c.from_residual.ensures))
+    subst (λ r. IfErr r (MayFailReadingRange out 0 c.args.size c.args.image.now.file.header.fields (known_in g.S.Storage.view c.args.image.now.file))) (sym (refused_is _ e c.from_residual.ensures))
     (reads_part view below out old mid sound still (so_far.acts.works sound) 0 c.args.size at (at + (c.args.size - at)) e (omega arith) upto
-    (c.in_err-count.ensures.met (part_of_disk old mid c.loop-at.invariant.image at (c.args.size - at) (omega (arith, upto, size)) still.works none) out still))
+    (c.in_err-count.ensures.may_fail (part_of_disk old mid c.loop-at.invariant.image at (c.args.size - at) (omega (arith, upto, size)) still.works none) out still))
 
 pub returns-in_err-count-clause-step : goal.returns-in_err-count-clause-step
 returns-in_err-count-clause-step g c = record {

@@ -8,7 +8,7 @@ use Rattle.qcow2_image.specs.ImageInvariant.{abstract_of}
 use Rattle.std.specs.Prelude.{IfErr}
 use Rattle.qcow2_alloc.proofs.AllocationSteps.{fault_of_storage}
 use Rattle.qcow2_alloc.specs.ImageFile.{known_in}
-use Rattle.qcow2_image.specs.MetAlone.{IsMetReadingRange}
+use Rattle.qcow2_image.specs.MayFail.{MayFailReadingRange}
 use Rattle.qcow2_session.specs.Conversions.{IsFilledUpTo}
 use Rattle.qcow2_session.proofs.Converting.{interrupted, interrupted_here}
 use Rattle.qcow2_session.proofs.Counting.{converted, converting_image, converting_raw, so_far_call, so_far_none}
@@ -30,13 +30,13 @@ returns-clause-sees g c = λ honest out sound size le filled.
     (subst (λ n. IsFilledUpTo d size (c.args.at + n) (overwritten (g.R.Storage.view c.args.raw.now).contents c.args.at c.read_into.new.bytes)) long
     (filled_more d size c.args.at (g.R.Storage.view c.args.raw.now).contents c.read_into.new.bytes filled shows.1.0 (omega (arith, le, long))))
 
-pub returns-in_err-read_into-clause-met : goal.returns-in_err-read_into-clause-met
-returns-in_err-read_into-clause-met g c = λ none out sound.
-    subst (λ r. IfErr r (IsMetReadingRange out c.args.at (c.args.at + length c.args.bytes.now) c.args.image.now.file.header.fields (known_in g.S.Storage.view c.args.image.now.file))) (sym (refused_is _ c.in_err-read_into.field-0.0 c.from_residual.ensures)) (c.in_err-read_into.ensures.met none out sound)
+pub returns-in_err-read_into-clause-may_fail : goal.returns-in_err-read_into-clause-may_fail
+returns-in_err-read_into-clause-may_fail g c = λ none out sound.
+    subst (λ r. IfErr r (MayFailReadingRange out c.args.at (c.args.at + length c.args.bytes.now) c.args.image.now.file.header.fields (known_in g.S.Storage.view c.args.image.now.file))) (sym (refused_is _ c.in_err-read_into.field-0.0 c.from_residual.ensures)) (c.in_err-read_into.ensures.fails.may_fail none out sound)
 
-pub returns-in_err-write-clause-met : goal.returns-in_err-write-clause-met
-returns-in_err-write-clause-met g c = λ none out sound.
-    subst (λ r. IfErr r (IsMetReadingRange out c.args.at (c.args.at + length c.args.bytes.now) c.args.image.now.file.header.fields (known_in g.S.Storage.view c.args.image.now.file))) (sym (refused_is _ (of_storage c.in_err-write.field-0.0) c.from_residual-in_err-write.ensures)) (inl (inl (fault_of_storage c.in_err-write.field-0.0)))
+pub returns-in_err-write-clause-may_fail : goal.returns-in_err-write-clause-may_fail
+returns-in_err-write-clause-may_fail g c = λ none out sound.
+    subst (λ r. IfErr r (MayFailReadingRange out c.args.at (c.args.at + length c.args.bytes.now) c.args.image.now.file.header.fields (known_in g.S.Storage.view c.args.image.now.file))) (sym (refused_is _ (of_storage c.in_err-write.field-0.0) c.from_residual-in_err-write.ensures)) (inl (inl (fault_of_storage c.in_err-write.field-0.0)))
 
 pub returns-in_err-read_into-clause-step : goal.returns-in_err-read_into-clause-step
 returns-in_err-read_into-clause-step g c = record {

@@ -5,12 +5,12 @@ use Rattle.qcow2_alloc.specs.ImageFile.{known_in}
 use Rattle.qcow2_alloc.proofs.KeptTables.AllWritten.{written_then}
 use Rattle.qcow2_disk.specs.AbstractImages.{guest_of}
 use Rattle.qcow2_image.specs.ImageInvariant.{abstract_of}
-use Rattle.qcow2_image.specs.MetAlone.{IsMetReadingRange}
+use Rattle.qcow2_image.specs.MayFail.{MayFailReadingRange}
 use Rattle.qcow2_image.proofs.Call.BehindHeader.{behind_then}
 use Rattle.qcow2_session.proofs.Converting.{interrupted, interrupted_if, interrupted_then}
 use Rattle.qcow2_session.proofs.Counting.{converted, converting_image, converting_part, so_far_call, so_far_none, so_far_part, so_far_then}
 use Rattle.qcow2_session.proofs.Exporting.{fills_more, filled_same, unchanged_refused}
-use Rattle.qcow2_session.proofs.MetOnSound.{reads_part}
+use Rattle.qcow2_session.proofs.FailingOnSound.{reads_part}
 use Rattle.qcow2_session.proofs.Parts.{part_reads}
 use Rattle.qcow2_session.proofs.Told.{same_then}
 use Rattle.qcow2_session.proofs.Turns.{does_if, does_then, none_within, refused_is}
@@ -27,9 +27,9 @@ returns-in_err-passed-clause-step g c = record {
   quiet = c.zero_run.ensures.step.quiet;
 }
 
-pub returns-in_err-passed-clause-met : goal.returns-in_err-passed-clause-met
-returns-in_err-passed-clause-met g c = λ none out sound.
-    subst (λ r. IfErr r (IsMetReadingRange out c.args.at (c.args.at + c.args.max) c.args.image.now.file.header.fields (known_in g.S.Storage.view c.args.image.now.file))) (sym (refused_is _ c.in_err-passed.field-0.0 c.from_residual.ensures)) (c.in_err-passed.ensures.met out sound)
+pub returns-in_err-passed-clause-may_fail : goal.returns-in_err-passed-clause-may_fail
+returns-in_err-passed-clause-may_fail g c = λ none out sound.
+    subst (λ r. IfErr r (MayFailReadingRange out c.args.at (c.args.at + c.args.max) c.args.image.now.file.header.fields (known_in g.S.Storage.view c.args.image.now.file))) (sym (refused_is _ c.in_err-passed.field-0.0 c.from_residual.ensures)) (c.in_err-passed.ensures.may_fail out sound)
 
 pub returns-then-passed-gt0-clause-step : goal.returns-then-passed-gt0-clause-step
 returns-then-passed-gt0-clause-step g c = record {
@@ -66,8 +66,8 @@ returns-in_err-export_at-clause-step g c =
       quiet = written_then view c.zero_run.ensures.step.quiet c.export_at.ensures.step.quiet;
     }
 
-pub returns-in_err-export_at-clause-met : goal.returns-in_err-export_at-clause-met
-returns-in_err-export_at-clause-met g c = λ none out sound.
+pub returns-in_err-export_at-clause-may_fail : goal.returns-in_err-export_at-clause-may_fail
+returns-in_err-export_at-clause-may_fail g c = λ none out sound.
     let view = g.S.Storage.view in
     let below = g.F.BackingDisk.backing in
     let old = c.args.image.now in
@@ -79,9 +79,9 @@ returns-in_err-export_at-clause-met g c = λ none out sound.
     let upto : at + count ≤ at + c.args.max = omega (arith, c.min-count.ensures, long) in
     let so_far = does_if (λ h. h.1) (c.in_ok-passed.ensures.sees out) in
     let still = (so_far.answer sound).0 in
-    subst (λ r. IfErr r (IsMetReadingRange out at (at + c.args.max) old.file.header.fields (known_in view old.file))) (sym (refused_is _ e c.from_residual-in_err-export_at.ensures))
+    subst (λ r. IfErr r (MayFailReadingRange out at (at + c.args.max) old.file.header.fields (known_in view old.file))) (sym (refused_is _ e c.from_residual-in_err-export_at.ensures))
     (reads_part view below out old mid sound still (so_far.acts.works sound) at (at + c.args.max) at (at + count) e (omega arith) upto
-    (c.in_err-export_at.ensures.met (part_reads old mid c.zero_run.ensures.step.image at c.args.max at count (omega arith) upto c.in_ok-passed.ensures.step.marks.fails none) out still))
+    (c.in_err-export_at.ensures.may_fail (part_reads old mid c.zero_run.ensures.step.image at c.args.max at count (omega arith) upto c.in_ok-passed.ensures.step.marks.fails none) out still))
 
 pub returns-clause-step : goal.returns-clause-step
 returns-clause-step g c =

@@ -1,4 +1,4 @@
-use Rattle.qcow2_image.proofs.Prepare.Lacked.{limited_joined}
+use Rattle.qcow2_image.proofs.Prepare.LimitCauses.{limited_joined}
 use Rattle.qcow2_session.proofs.convert.import_all.Goals as goal
 use Rattle.std.proofs.Common.{sym, ◌≡◌, ◌+◌, ◌-◌, ◌%◌, ◌<◌, ◌≤◌, ◌++◌, drop, length, take, refl, ap, ◌∙◌, subst, arith, min, ℕ, rules}
 use Rattle.std.proofs.Math.Nat.{zero-mod, add-mod_right}
@@ -9,7 +9,7 @@ use Rattle.qcow2_disk.specs.Disk.{with_bytes}
 use Rattle.qcow2_disk.specs.AbstractImages.{guest_of, Setting}
 use Rattle.qcow2_image.specs.ImageInvariant.{abstract_of}
 use Rattle.std.specs.Prelude.{IfErr, Ok}
-use Rattle.qcow2_session.specs.Conversions.{ImportsAnyOf, IsMetImporting, IsReasonNotToWrite}
+use Rattle.qcow2_session.specs.Conversions.{ImportsAnyOf, MayFailImporting, IsReasonNotToWrite}
 use Rattle.qcow2_session.proofs.Counting.{converted, converting_part, so_far_none, so_far_part, so_far_then}
 use Rattle.qcow2_session.proofs.Differing.{part_kept}
 use Rattle.qcow2_session.proofs.Exporting.{part_of_disk}
@@ -109,11 +109,11 @@ returns-in_err-import_at-clause-late g c = λ none size out sound.
     subst (λ r. IfErr r (IsReasonNotToWrite g.S.Storage.view g.F.BackingDisk.backing c.args.image.now c.import_at.new.image 0 c.args.size out)) (sym (refused_is _ c.in_err-import_at.field-0.0 c.from_residual.ensures))
     (reason_within g.S.Storage.view g.F.BackingDisk.backing c.args.image.now c.loop-at.image c.import_at.new.image c.loop-at.invariant.image (ap (λ (x : Setting). x.cluster_size) (first.acts.works sound).setting) 0 c.args.size c.loop-at.at (c.loop-at.at + count)
     (omega arith) (omega (arith, c.min-count.ensures, c.loop-at-test.true, long)) out c.in_err-import_at.field-0.0
-    (λ met. limited_joined upto (record { image = c.loop-at.invariant.image; header_cluster = c.loop-at.invariant.behind }) now _ (first.acts.works sound) met)
+    (λ may_fail. limited_joined upto (record { image = c.loop-at.invariant.image; header_cluster = c.loop-at.invariant.behind }) now _ (first.acts.works sound) may_fail)
     (c.in_err-import_at.ensures.late (part_of_disk c.args.image.now c.loop-at.image c.loop-at.invariant.image c.loop-at.at count (omega (arith, c.min-count.ensures, c.loop-at-test.true, long, size)) now.works none) out now))
 
-pub returns-in_err-import_at-clause-met : goal.returns-in_err-import_at-clause-met
-returns-in_err-import_at-clause-met g c = λ none size out sound.
+pub returns-in_err-import_at-clause-may_fail : goal.returns-in_err-import_at-clause-may_fail
+returns-in_err-import_at-clause-may_fail g c = λ none size out sound.
     let e = c.in_err-import_at.field-0.0 in
     let new = c.import_at.new.image in
     let at = c.loop-at.at in
@@ -121,9 +121,9 @@ returns-in_err-import_at-clause-met g c = λ none size out sound.
     let long : count ≡ c.min-count.result = grind (arith, common_steps) in
     let upto : at + count ≤ c.args.size = omega (arith, c.min-count.ensures, c.loop-at-test.true, long) in
     let now = ((c.loop-at.invariant.any.2 out).answer sound).0 in
-    subst (λ r. IfErr r (IsMetImporting g.S.Storage.view 0 c.args.size c.import_at.new.image out)) (sym (refused_is _ e c.from_residual.ensures))
+    subst (λ r. IfErr r (MayFailImporting g.S.Storage.view 0 c.args.size c.import_at.new.image out)) (sym (refused_is _ e c.from_residual.ensures))
     (importing_within g.S.Storage.view new out 0 c.args.size at (at + count) e (omega arith) upto
-    (c.in_err-import_at.ensures.met (part_of_disk c.args.image.now c.loop-at.image c.loop-at.invariant.image at count (omega (arith, upto, size)) now.works none) out now))
+    (c.in_err-import_at.ensures.may_fail (part_of_disk c.args.image.now c.loop-at.image c.loop-at.invariant.image at count (omega (arith, upto, size)) now.works none) out now))
 
 pub returns-in_err-import_at-clause-differs : goal.returns-in_err-import_at-clause-differs
 returns-in_err-import_at-clause-differs g c = λ honest size.

@@ -5,14 +5,14 @@ use Rattle.image_access.specs.Contents.{bytes_at}
 use Rattle.qcow2_disk.specs.AbstractImages.{Setting}
 use Rattle.qcow2_image.specs.Refusals.{refuses_to_read}
 use Rattle.qcow2_image.proofs.Call.FaultCounts.{faults_then}
-use Rattle.qcow2_image.proofs.Call.MetErrors.{storage_met}
+use Rattle.qcow2_image.proofs.Call.FailingErrors.{storage_met}
 use Rattle.qcow2_image.proofs.Call.Unlimited.{storage_unlimited}
-use Rattle.qcow2_image.proofs.Prepare.Lacked.{limited_from, other_limit}
+use Rattle.qcow2_image.proofs.Prepare.LimitCauses.{limited_from, other_limit}
 use Rattle.qcow2_session.proofs.ImportLimits.{reading_unlimited}
 use Rattle.qcow2_alloc.proofs.AllocationSteps.{fault_of_storage}
 use Rattle.qcow2_alloc.specs.ImageFile.{known_in}
-use Rattle.qcow2_image.specs.MetAlone.{IsMetReadingRange}
-use Rattle.qcow2_session.specs.Conversions.{IsMetImporting, IsReasonNotToWrite}
+use Rattle.qcow2_image.specs.MayFail.{MayFailReadingRange}
+use Rattle.qcow2_session.specs.Conversions.{MayFailImporting, IsReasonNotToWrite}
 use Rattle.qcow2_session.proofs.Reasons.{read_importing, write_importing, write_reason}
 use Rattle.std.proofs.lemmas.Grind.{common_steps}
 use Rattle.qcow2_alloc.specs.ImageError.{of_storage}
@@ -48,7 +48,7 @@ returns-in-Ok-clause-sees g c = λ honest.
 pub returns-in-Err-clause-sees : goal.returns-in-Err-clause-sees
 returns-in-Err-clause-sees g c = λ honest.
     at_unwritten g.S.Storage.view g.F.BackingDisk.backing c.args.image.now c.write.new.image c.args.at _ c.read_into.new.image c.read_into.new.bytes c.in_ok-read_into.ensures.sees c.read.new.buf (c.in_ok-read.ensures.read honest)
-    c.in-Err.refusal _ c.in-Err.ensures.sees c.in-Err.ensures.ends
+    c.in-Err.refusal _ c.in-Err.ensures.sees (λ out sound. (c.in-Err.ensures.sound out sound).ends)
 
 pub returns-in_err-read-clause-any : goal.returns-in_err-read-clause-any
 returns-in_err-read-clause-any g c = (
@@ -85,7 +85,7 @@ returns-in-Err-clause-any g c = (
   c.read.new.buf,
   grind (arith, common_steps),
   at_unwritten g.S.Storage.view g.F.BackingDisk.backing c.args.image.now c.write.new.image c.args.at _ c.read_into.new.image c.read_into.new.bytes c.in_ok-read_into.ensures.sees c.read.new.buf refl
-      c.in-Err.refusal _ c.in-Err.ensures.sees c.in-Err.ensures.ends,
+      c.in-Err.refusal _ c.in-Err.ensures.sees (λ out sound. (c.in-Err.ensures.sound out sound).ends),
 )
 
 pub returns-in_err-read-clause-late : goal.returns-in_err-read-clause-late
@@ -99,7 +99,7 @@ returns-in_err-read_into-clause-late g c = λ none out sound.
     let e = c.in_err-read_into.field-0.0 in
     let free = subst (λ n. refuses_to_read c.args.image.now c.args.at n ≡ None) (sym c.requires) none in
     subst (λ r. IfErr r (IsReasonNotToWrite g.S.Storage.view g.F.BackingDisk.backing c.args.image.now c.read_into.new.image c.args.at (c.args.at + length c.args.wanted.now) out)) (sym (refused_is _ c.in_err-read_into.field-0.0 c.from_residual-in_err-read_into.ensures))
-    (inl ((c.in_err-read_into.ensures.late free).0, other_limit _ e (reading_unlimited out c.args.at _ old.file.header.fields (known_in g.S.Storage.view old.file) e (c.in_err-read_into.ensures.met free out sound))))
+    (inl ((c.in_err-read_into.ensures.fails.late free).0, other_limit _ e (reading_unlimited out c.args.at _ old.file.header.fields (known_in g.S.Storage.view old.file) e (c.in_err-read_into.ensures.fails.may_fail free out sound))))
 
 pub returns-in-Err-clause-late : goal.returns-in-Err-clause-late
 returns-in-Err-clause-late g c = λ none out sound.
@@ -110,37 +110,37 @@ returns-in-Err-clause-late g c = λ none out sound.
     let below = g.F.BackingDisk.backing in
     subst (λ n. IsReasonNotToWrite view below c.args.image.now c.write.new.image c.args.at (c.args.at + n) out c.in-Err.refusal) long
     (write_reason view below c.args.image.now c.read_into.new.image c.write.new.image c.in_ok-read_into.ensures.step.image (ap (λ (x : Setting). x.cluster_size) (first.acts.works sound).setting) c.args.at (length c.read.new.buf) now.works
-    (subst (λ n. refuses_to_read c.args.image.now c.args.at n ≡ None) (sym long) none) out c.in-Err.refusal _ _ c.in-Err.ensures.early c.in-Err.ensures.late (λ free t. c.in-Err.ensures.taken free out now t)
+    (subst (λ n. refuses_to_read c.args.image.now c.args.at n ≡ None) (sym long) none) out c.in-Err.refusal _ _ c.in-Err.ensures.fails.early c.in-Err.ensures.fails.late (λ free t. (c.in-Err.ensures.sound out now).taken free t)
     (λ free is. (
       given_of c.args.at c.read.new.buf ∷ [],
       limited_from (omega arith) (omega arith) (record { image = c.read_into.ensures.step.image; header_cluster = c.read_into.ensures.step.header_cluster }) now
-          (none_of _ _ (given_of c.args.at c.read.new.buf ∷ []) (first.acts.works sound)) (c.in-Err.ensures.limit free out now is),
+          (none_of _ _ (given_of c.args.at c.read.new.buf ∷ []) (first.acts.works sound)) ((c.in-Err.ensures.sound out now).limit free is),
     )))
 
-pub returns-in_err-read-clause-met : goal.returns-in_err-read-clause-met
-returns-in_err-read-clause-met g c = λ none out sound.
-    subst (λ r. IfErr r (IsMetImporting g.S.Storage.view c.args.at (c.args.at + length c.args.wanted.now) c.args.image.now out)) (sym (refused_is _ (of_storage c.in_err-read.field-0.0) c.from_residual.ensures)) (inl (inl (fault_of_storage c.in_err-read.field-0.0)))
+pub returns-in_err-read-clause-may_fail : goal.returns-in_err-read-clause-may_fail
+returns-in_err-read-clause-may_fail g c = λ none out sound.
+    subst (λ r. IfErr r (MayFailImporting g.S.Storage.view c.args.at (c.args.at + length c.args.wanted.now) c.args.image.now out)) (sym (refused_is _ (of_storage c.in_err-read.field-0.0) c.from_residual.ensures)) (inl (inl (fault_of_storage c.in_err-read.field-0.0)))
 
-pub returns-in_err-read_into-clause-met : goal.returns-in_err-read_into-clause-met
-returns-in_err-read_into-clause-met g c = λ none out sound.
+pub returns-in_err-read_into-clause-may_fail : goal.returns-in_err-read_into-clause-may_fail
+returns-in_err-read_into-clause-may_fail g c = λ none out sound.
     let view = g.S.Storage.view in
     let old = c.args.image.now in
     let at = c.args.at in
     let e = c.in_err-read_into.field-0.0 in
-    subst (λ r. IfErr r (IsMetImporting g.S.Storage.view c.args.at (c.args.at + length c.args.wanted.now) c.read_into.new.image out)) (sym (refused_is _ e c.from_residual-in_err-read_into.ensures))
+    subst (λ r. IfErr r (MayFailImporting g.S.Storage.view c.args.at (c.args.at + length c.args.wanted.now) c.read_into.new.image out)) (sym (refused_is _ e c.from_residual-in_err-read_into.ensures))
     (read_importing view c.read_into.new.image g.F.BackingDisk.backing old out at (at + length c.args.wanted.now) e sound (c.in_err-read_into.ensures.sees out)
-    (subst (λ n. IsMetReadingRange out at (at + n) old.file.header.fields (known_in view old.file) e) c.requires (c.in_err-read_into.ensures.met (subst (λ n. refuses_to_read old at n ≡ None) (sym c.requires) none) out sound)))
+    (subst (λ n. MayFailReadingRange out at (at + n) old.file.header.fields (known_in view old.file) e) c.requires (c.in_err-read_into.ensures.fails.may_fail (subst (λ n. refuses_to_read old at n ≡ None) (sym c.requires) none) out sound)))
 
-pub returns-in-Err-clause-met : goal.returns-in-Err-clause-met
-returns-in-Err-clause-met g c = λ none out sound.
+pub returns-in-Err-clause-may_fail : goal.returns-in-Err-clause-may_fail
+returns-in-Err-clause-may_fail g c = λ none out sound.
     let old = c.args.image.now in
     let at = c.args.at in
     let e = c.in-Err.refusal in
     let now = ((c.in_ok-read_into.ensures.sees out).answer sound).0 in
     let long : length c.read.new.buf ≡ length c.args.wanted.now = grind (arith, common_steps) in
-    subst (λ n. IsMetImporting g.S.Storage.view at (at + n) c.write.new.image out e) long
-    (write_importing g.S.Storage.view c.write.new.image out old c.read_into.new.image c.in_ok-read_into.ensures.step.image c.write.ensures.image.writable at (length c.read.new.buf) now.works
-    (subst (λ n. refuses_to_read old at n ≡ None) (sym long) none) e _ _ c.in-Err.ensures.early (λ unrefused. c.in-Err.ensures.met unrefused out now))
+    subst (λ n. MayFailImporting g.S.Storage.view at (at + n) c.write.new.image out e) long
+    (write_importing g.S.Storage.view c.write.new.image out old c.read_into.new.image c.in_ok-read_into.ensures.step.image c.write.ensures.step.image.writable at (length c.read.new.buf) now.works
+    (subst (λ n. refuses_to_read old at n ≡ None) (sym long) none) e _ _ c.in-Err.ensures.fails.early (λ unrefused. (c.in-Err.ensures.sound out now).may_fail unrefused))
 
 pub returns-in_err-read-clause-differs : goal.returns-in_err-read-clause-differs
 returns-in_err-read-clause-differs g c = λ honest.
@@ -148,7 +148,7 @@ returns-in_err-read-clause-differs g c = λ honest.
 
 pub returns-in_err-read_into-clause-differs : goal.returns-in_err-read_into-clause-differs
 returns-in_err-read_into-clause-differs g c = λ honest.
-    reading_differs g.S.Storage.view g.F.BackingDisk.backing c.args.image.now c.args.at (bytes_at (g.R.Storage.view c.args.raw.now).contents c.args.at (length c.args.wanted.now)) c.in_err-read_into.field-0.0 _ (refused_is _ c.in_err-read_into.field-0.0 c.from_residual-in_err-read_into.ensures) c.in_err-read_into.ensures.cause
+    reading_differs g.S.Storage.view g.F.BackingDisk.backing c.args.image.now c.args.at (bytes_at (g.R.Storage.view c.args.raw.now).contents c.args.at (length c.args.wanted.now)) c.in_err-read_into.field-0.0 _ (refused_is _ c.in_err-read_into.field-0.0 c.from_residual-in_err-read_into.ensures) c.in_err-read_into.ensures.fails.cause
 
 pub returns-in-Err-clause-differs : goal.returns-in-Err-clause-differs
 returns-in-Err-clause-differs g c = λ honest.
@@ -190,9 +190,9 @@ pub returns-in-Ok-clause-step : goal.returns-in-Ok-clause-step
 returns-in-Ok-clause-step g c = record {
   image = search rules;
   raw_left = search rules;
-  faults = converted _ _ _ _ _ _ _ (so_far_then g.S.Storage.view g.F.BackingDisk.backing c.args.image.now c.read_into.new.image c.write.new.image (so_far_call g.S.Storage.view g.F.BackingDisk.backing c.args.image.now c.read_into.new.image c.in_ok-read_into.ensures.step.faults.told c.in_ok-read_into.ensures.step.marks) (so_far_call g.S.Storage.view g.F.BackingDisk.backing c.read_into.new.image c.write.new.image c.in-Ok.ensures.faults.2 c.in-Ok.ensures.marks)) (c.in_ok-read.ensures.calls.cause.told);
-  quiet = λ reading. written_then g.S.Storage.view c.read_into.ensures.step.quiet (c.write.ensures.quiet (c.read_into.ensures.step.image.writable ∙ reading));
-  header_cluster = behind_then c.read_into.ensures.step.header_cluster c.write.ensures.header_cluster;
+  faults = converted _ _ _ _ _ _ _ (so_far_then g.S.Storage.view g.F.BackingDisk.backing c.args.image.now c.read_into.new.image c.write.new.image (so_far_call g.S.Storage.view g.F.BackingDisk.backing c.args.image.now c.read_into.new.image c.in_ok-read_into.ensures.step.faults.told c.in_ok-read_into.ensures.step.marks) (so_far_call g.S.Storage.view g.F.BackingDisk.backing c.read_into.new.image c.write.new.image c.in-Ok.ensures.step.faults.2 c.in-Ok.ensures.step.marks)) (c.in_ok-read.ensures.calls.cause.told);
+  quiet = λ reading. written_then g.S.Storage.view c.read_into.ensures.step.quiet (c.write.ensures.step.quiet (c.read_into.ensures.step.image.writable ∙ reading));
+  header_cluster = behind_then c.read_into.ensures.step.header_cluster c.write.ensures.step.header_cluster;
 }
 
 pub returns-in-Err-clause-step : goal.returns-in-Err-clause-step
@@ -201,12 +201,12 @@ returns-in-Err-clause-step g c = record {
   raw_left = search rules;
   faults = let first = c.in_ok-read_into.ensures.step.faults.told in
       record {
-        no_fewer = fewer_since g.S.Storage.view g.F.BackingDisk.backing c.args.image.now c.read_into.new.image c.write.new.image first c.write.ensures.faults.0;
+        no_fewer = fewer_since g.S.Storage.view g.F.BackingDisk.backing c.args.image.now c.read_into.new.image c.write.new.image first c.write.ensures.step.faults.0;
         raw = c.read.ensures.calls.cause.no_fewer;
-        rose = image_tells g.S.Storage.view g.F.BackingDisk.backing c.args.image.now c.read_into.new.image c.write.new.image (g.R.Storage.view c.args.raw.now).faults (g.R.Storage.view c.read.new.self).faults c.in-Err.refusal first c.in-Err.ensures.faults.1 c.in-Err.ensures.marks.fails;
-        told = λ other. (faults_then g.S.Storage.view g.F.BackingDisk.backing c.args.image.now c.read_into.new.image c.write.new.image first (c.in-Err.ensures.faults.2 other), c.in_ok-read.ensures.calls.cause.told);
-        marks = image_marks g.S.Storage.view g.F.BackingDisk.backing c.args.image.now c.read_into.new.image c.write.new.image c.in-Err.refusal (so_far_call g.S.Storage.view g.F.BackingDisk.backing c.args.image.now c.read_into.new.image c.in_ok-read_into.ensures.step.faults.told c.in_ok-read_into.ensures.step.marks) c.in-Err.ensures.marks;
+        rose = image_tells g.S.Storage.view g.F.BackingDisk.backing c.args.image.now c.read_into.new.image c.write.new.image (g.R.Storage.view c.args.raw.now).faults (g.R.Storage.view c.read.new.self).faults c.in-Err.refusal first c.in-Err.ensures.step.faults.1 c.in-Err.ensures.step.marks.fails;
+        told = λ other. (faults_then g.S.Storage.view g.F.BackingDisk.backing c.args.image.now c.read_into.new.image c.write.new.image first (c.in-Err.ensures.step.faults.2 other), c.in_ok-read.ensures.calls.cause.told);
+        marks = image_marks g.S.Storage.view g.F.BackingDisk.backing c.args.image.now c.read_into.new.image c.write.new.image c.in-Err.refusal (so_far_call g.S.Storage.view g.F.BackingDisk.backing c.args.image.now c.read_into.new.image c.in_ok-read_into.ensures.step.faults.told c.in_ok-read_into.ensures.step.marks) c.in-Err.ensures.step.marks;
       };
-  quiet = λ reading. written_then g.S.Storage.view c.read_into.ensures.step.quiet (c.write.ensures.quiet (c.read_into.ensures.step.image.writable ∙ reading));
-  header_cluster = behind_then c.read_into.ensures.step.header_cluster c.write.ensures.header_cluster;
+  quiet = λ reading. written_then g.S.Storage.view c.read_into.ensures.step.quiet (c.write.ensures.step.quiet (c.read_into.ensures.step.image.writable ∙ reading));
+  header_cluster = behind_then c.read_into.ensures.step.header_cluster c.write.ensures.step.header_cluster;
 }

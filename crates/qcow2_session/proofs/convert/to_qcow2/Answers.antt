@@ -3,14 +3,14 @@ use Rattle.std.specs.Prelude.{IfErr}
 use Rattle.image_access.specs.Moments.{HasCause}
 use Rattle.qcow2_image.specs.Image.{size_of}
 use Rattle.qcow2_image.specs.Refusals.{refuses_to_read}
-use Rattle.qcow2_image.proofs.Call.MetErrors.{storage_met, tables_met}
+use Rattle.qcow2_image.proofs.Call.FailingErrors.{storage_met, tables_met}
 use Rattle.qcow2_image.proofs.Call.Unlimited.{fault_unlimited, storage_unlimited}
-use Rattle.qcow2_image.proofs.Prepare.Lacked.{other_limit}
+use Rattle.qcow2_image.proofs.Prepare.LimitCauses.{other_limit}
 use Rattle.std.proofs.Common.{◌≡◌, ◌⊎◌, ◌-◌, inl, inr, refl, sym, ap, ◌∙◌, subst, length, Ok, Err, rules}
 use Rattle.qcow2_alloc.proofs.AllocationSteps.{fault_of_storage}
 use Rattle.qcow2_alloc.specs.ImageError.{of_storage}
 use Rattle.qcow2_alloc.specs.declared.error.ImageError.TheVariants.{InvalidOption, Memory}
-use Rattle.qcow2_session.specs.Conversions.{DiffersWhereKept, Imports, ImportsAll, IsMetImporting, IsReasonNotToWrite, IsRefusedUnequal}
+use Rattle.qcow2_session.specs.Conversions.{DiffersWhereKept, Imports, ImportsAll, MayFailImporting, IsReasonNotToWrite, IsRefusedUnequal}
 use Rattle.qcow2_session.specs.Sessions.{IsOfReading}
 use Rattle.qcow2_session.proofs.Counting.{converted, converting_else, converting_image, converting_part, converting_raw, so_far_call, so_far_none, so_far_part, so_far_then}
 use Rattle.qcow2_session.proofs.Differing.{early_reading, option_other, reading_differs, reading_other, size_untold}
@@ -106,100 +106,114 @@ returns-clause-any g c =
           (λ out sound. any.1 ∙ c.if-size.false ∙ c.size-2.ensures.sees out sound) any.2 c.in_ok-flush.ensures.sees,
     )
 
-pub returns-in_err-size-clause-late : goal.returns-in_err-size-clause-late
-returns-in_err-size-clause-late g c = λ none out sound. subst (λ r. IfErr r (λ e. (e ≡ InvalidOption) ⊎ IsReasonNotToWrite g.S.Storage.view g.F.BackingDisk.backing c.args.image.now c.args.image.now 0 (size_of c.args.image.now) out e)) (sym (refused_is _ (of_storage c.in_err-size.field-0.0) c.from_residual-in_err-size.ensures)) (inr (inl (storage_met c.in_err-size.field-0.0, other_limit _ (of_storage c.in_err-size.field-0.0) (storage_unlimited c.in_err-size.field-0.0))))
+pub returns-in_err-check_read-clause-fails : goal.returns-in_err-check_read-clause-fails
+returns-in_err-check_read-clause-fails g c = record {
+  early = search rules;
+  unequal = search rules;
+  option = search rules;
+  cause = search rules;
+  late = search rules;
+  may_fail = λ none out sound. absurd (refused_none (refuses_to_read c.args.image.now 0 0) c.in_err-check_read.field-0.0 c.in_err-check_read.ensures.refusal none);
+  differs = λ honest.
+      reading_differs g.S.Storage.view g.F.BackingDisk.backing c.args.image.now 0 (g.R.Storage.view c.args.raw.now).contents c.in_err-check_read.field-0.0 _ (refused_is _ c.in_err-check_read.field-0.0 c.from_residual.ensures) (subst (λ r. IfErr r IsOfReading) c.in_err-check_read.was (early_reading c.args.image.now 0 0 c.check_read.result c.check_read.ensures.refusal));
+}
 
-pub returns-then-size-clause-late : goal.returns-then-size-clause-late
-returns-then-size-clause-late g c = λ none out sound. inl refl
+pub returns-in_err-size-clause-fails : goal.returns-in_err-size-clause-fails
+returns-in_err-size-clause-fails g c = record {
+  early = search rules;
+  unequal = λ honest differ.
+      let before = (g.R.Storage.view c.args.raw.now).faults in
+      let now = (g.R.Storage.view c.size.new.self).faults in (
+        subst (λ r. IsRefusedUnequal (refuses_to_read c.args.image.now 0 0) before now r) (sym (refused_is _ (of_storage c.in_err-size.field-0.0) c.from_residual-in_err-size.ensures))
+            (size_untold (refuses_to_read c.args.image.now 0 0) c.in_err-size.field-0.0 before now (subst (λ r. HasCause before now r) c.in_err-size.was c.size.ensures.calls.cause)),
+        refl,
+      );
+  option = search rules;
+  cause = search rules;
+  late = λ none out sound. subst (λ r. IfErr r (λ e. (e ≡ InvalidOption) ⊎ IsReasonNotToWrite g.S.Storage.view g.F.BackingDisk.backing c.args.image.now c.args.image.now 0 (size_of c.args.image.now) out e)) (sym (refused_is _ (of_storage c.in_err-size.field-0.0) c.from_residual-in_err-size.ensures)) (inr (inl (storage_met c.in_err-size.field-0.0, other_limit _ (of_storage c.in_err-size.field-0.0) (storage_unlimited c.in_err-size.field-0.0))));
+  may_fail = λ none out sound.
+      subst (λ r. IfErr r (λ e. (e ≡ InvalidOption) ⊎ MayFailImporting g.S.Storage.view 0 (size_of c.args.image.now) c.args.image.now out e)) (sym (refused_is _ (of_storage c.in_err-size.field-0.0) c.from_residual-in_err-size.ensures)) (inr (inl (inl (fault_of_storage c.in_err-size.field-0.0))));
+  differs = λ honest.
+      reading_differs g.S.Storage.view g.F.BackingDisk.backing c.args.image.now 0 (g.R.Storage.view c.args.raw.now).contents (of_storage c.in_err-size.field-0.0) _ (refused_is _ (of_storage c.in_err-size.field-0.0) c.from_residual-in_err-size.ensures) (inl (storage_met c.in_err-size.field-0.0));
+}
 
-pub returns-in_err-wanted-clause-late : goal.returns-in_err-wanted-clause-late
-returns-in_err-wanted-clause-late g c = λ none out sound. subst (λ r. IfErr r (λ e. (e ≡ InvalidOption) ⊎ IsReasonNotToWrite g.S.Storage.view g.F.BackingDisk.backing c.args.image.now c.args.image.now 0 (size_of c.args.image.now) out e)) (sym (refused_is _ Memory c.from_residual-in_err-wanted.ensures)) (inr (inl (tt, other_limit _ Memory tt)))
+pub returns-then-size-clause-fails : goal.returns-then-size-clause-fails
+returns-then-size-clause-fails g c = record {
+  early = search rules;
+  unequal = search rules;
+  option = search rules;
+  cause = search rules;
+  late = λ none out sound. inl refl;
+  may_fail = λ none out sound. inl refl;
+  differs = λ honest out sound kept shows. option_other kept;
+}
 
-pub returns-in_err-present-clause-late : goal.returns-in_err-present-clause-late
-returns-in_err-present-clause-late g c = λ none out sound. subst (λ r. IfErr r (λ e. (e ≡ InvalidOption) ⊎ IsReasonNotToWrite g.S.Storage.view g.F.BackingDisk.backing c.args.image.now c.args.image.now 0 (size_of c.args.image.now) out e)) (sym (refused_is _ Memory c.from_residual-in_err-present.ensures)) (inr (inl (tt, other_limit _ Memory tt)))
+pub returns-in_err-wanted-clause-fails : goal.returns-in_err-wanted-clause-fails
+returns-in_err-wanted-clause-fails g c = record {
+  early = search rules;
+  unequal = search rules;
+  option = search rules;
+  cause = search rules;
+  late = λ none out sound. subst (λ r. IfErr r (λ e. (e ≡ InvalidOption) ⊎ IsReasonNotToWrite g.S.Storage.view g.F.BackingDisk.backing c.args.image.now c.args.image.now 0 (size_of c.args.image.now) out e)) (sym (refused_is _ Memory c.from_residual-in_err-wanted.ensures)) (inr (inl (tt, other_limit _ Memory tt)));
+  may_fail = λ none out sound. subst (λ r. IfErr r (λ e. (e ≡ InvalidOption) ⊎ MayFailImporting g.S.Storage.view 0 (size_of c.args.image.now) c.args.image.now out e)) (sym (refused_is _ Memory c.from_residual-in_err-wanted.ensures)) (inr (inl (inl (inr refl))));
+  differs = λ honest.
+      reading_differs g.S.Storage.view g.F.BackingDisk.backing c.args.image.now 0 (g.R.Storage.view c.args.raw.now).contents Memory _ (refused_is _ Memory c.from_residual-in_err-wanted.ensures) (inl tt);
+}
 
-pub returns-in_err-import_all-clause-late : goal.returns-in_err-import_all-clause-late
-returns-in_err-import_all-clause-late g c = λ none out sound.
-    let e = c.in_err-import_all.field-0.0 in
-    let size_is = c.if-size.false ∙ c.size-2.ensures.value in
-    subst (λ r. IfErr r (λ e. (e ≡ InvalidOption) ⊎ IsReasonNotToWrite g.S.Storage.view g.F.BackingDisk.backing c.args.image.now c.import_all.new.image 0 (size_of c.args.image.now) out e)) (sym (refused_is _ e c.from_residual-in_err-import_all.ensures))
-    (inr (subst (λ n. IsReasonNotToWrite g.S.Storage.view g.F.BackingDisk.backing c.args.image.now c.import_all.new.image 0 n out e) size_is (c.in_err-import_all.ensures.late none size_is out sound)))
+pub returns-in_err-present-clause-fails : goal.returns-in_err-present-clause-fails
+returns-in_err-present-clause-fails g c = record {
+  early = search rules;
+  unequal = search rules;
+  option = search rules;
+  cause = search rules;
+  late = λ none out sound. subst (λ r. IfErr r (λ e. (e ≡ InvalidOption) ⊎ IsReasonNotToWrite g.S.Storage.view g.F.BackingDisk.backing c.args.image.now c.args.image.now 0 (size_of c.args.image.now) out e)) (sym (refused_is _ Memory c.from_residual-in_err-present.ensures)) (inr (inl (tt, other_limit _ Memory tt)));
+  may_fail = λ none out sound. subst (λ r. IfErr r (λ e. (e ≡ InvalidOption) ⊎ MayFailImporting g.S.Storage.view 0 (size_of c.args.image.now) c.args.image.now out e)) (sym (refused_is _ Memory c.from_residual-in_err-present.ensures)) (inr (inl (inl (inr refl))));
+  differs = λ honest.
+      reading_differs g.S.Storage.view g.F.BackingDisk.backing c.args.image.now 0 (g.R.Storage.view c.args.raw.now).contents Memory _ (refused_is _ Memory c.from_residual-in_err-present.ensures) (inl tt);
+}
 
-pub returns-in_err-flush-clause-late : goal.returns-in_err-flush-clause-late
-returns-in_err-flush-clause-late g c = λ none out sound.
-    let now = ((c.in_ok-import_all.ensures.any.2 out).answer sound).0 in
-    subst (λ r. IfErr r (λ e. (e ≡ InvalidOption) ⊎ IsReasonNotToWrite g.S.Storage.view g.F.BackingDisk.backing c.args.image.now c.flush.new.self 0 (size_of c.args.image.now) out e)) (sym (refused_is _ c.in_err-flush.field-0.0 c.from_residual-in_err-flush.ensures)) (inr (inl (tables_met c.in_err-flush.field-0.0 (c.in_err-flush.ensures.late now.works), other_limit _ c.in_err-flush.field-0.0 (fault_unlimited c.in_err-flush.field-0.0 (c.in_err-flush.ensures.fault out now)))))
+pub returns-in_err-import_all-clause-fails : goal.returns-in_err-import_all-clause-fails
+returns-in_err-import_all-clause-fails g c = record {
+  early = search rules;
+  unequal = search rules;
+  option = search rules;
+  cause = search rules;
+  late = λ none out sound.
+      let e = c.in_err-import_all.field-0.0 in
+      let size_is = c.if-size.false ∙ c.size-2.ensures.value in
+      subst (λ r. IfErr r (λ e. (e ≡ InvalidOption) ⊎ IsReasonNotToWrite g.S.Storage.view g.F.BackingDisk.backing c.args.image.now c.import_all.new.image 0 (size_of c.args.image.now) out e)) (sym (refused_is _ e c.from_residual-in_err-import_all.ensures))
+      (inr (subst (λ n. IsReasonNotToWrite g.S.Storage.view g.F.BackingDisk.backing c.args.image.now c.import_all.new.image 0 n out e) size_is (c.in_err-import_all.ensures.late none size_is out sound)));
+  may_fail = λ none out sound.
+      let e = c.in_err-import_all.field-0.0 in
+      let is = c.if-size.false ∙ c.size-2.ensures.value in
+      subst (λ r. IfErr r (λ e. (e ≡ InvalidOption) ⊎ MayFailImporting g.S.Storage.view 0 (size_of c.args.image.now) c.import_all.new.image out e)) (sym (refused_is _ e c.from_residual-in_err-import_all.ensures))
+      (inr (subst (λ n. MayFailImporting g.S.Storage.view 0 n c.import_all.new.image out e) is (c.in_err-import_all.ensures.may_fail none is out sound)));
+  differs = λ honest.
+      let e = c.in_err-import_all.field-0.0 in
+      let left = c.size.ensures.same honest in
+      subst (λ r. IfErr r (DiffersWhereKept g.S.Storage.view g.F.BackingDisk.backing c.args.image.now 0 (g.R.Storage.view c.args.raw.now).contents)) (sym (refused_is _ e c.from_residual-in_err-import_all.ensures))
+      (subst (λ b. DiffersWhereKept g.S.Storage.view g.F.BackingDisk.backing c.args.image.now 0 b e) left
+      (c.in_err-import_all.ensures.differs (c.size.ensures.calls.honest honest) (c.in_ok-size.ensures.size honest ∙ ap length (sym left))));
+}
 
-pub returns-in_err-check_read-clause-met : goal.returns-in_err-check_read-clause-met
-returns-in_err-check_read-clause-met g c = λ none out sound. absurd (refused_none (refuses_to_read c.args.image.now 0 0) c.in_err-check_read.field-0.0 c.in_err-check_read.ensures.refusal none)
-
-pub returns-in_err-size-clause-met : goal.returns-in_err-size-clause-met
-returns-in_err-size-clause-met g c = λ none out sound.
-    subst (λ r. IfErr r (λ e. (e ≡ InvalidOption) ⊎ IsMetImporting g.S.Storage.view 0 (size_of c.args.image.now) c.args.image.now out e)) (sym (refused_is _ (of_storage c.in_err-size.field-0.0) c.from_residual-in_err-size.ensures)) (inr (inl (inl (fault_of_storage c.in_err-size.field-0.0))))
-
-pub returns-then-size-clause-met : goal.returns-then-size-clause-met
-returns-then-size-clause-met g c = λ none out sound. inl refl
-
-pub returns-in_err-wanted-clause-met : goal.returns-in_err-wanted-clause-met
-returns-in_err-wanted-clause-met g c = λ none out sound. subst (λ r. IfErr r (λ e. (e ≡ InvalidOption) ⊎ IsMetImporting g.S.Storage.view 0 (size_of c.args.image.now) c.args.image.now out e)) (sym (refused_is _ Memory c.from_residual-in_err-wanted.ensures)) (inr (inl (inl (inr refl))))
-
-pub returns-in_err-present-clause-met : goal.returns-in_err-present-clause-met
-returns-in_err-present-clause-met g c = λ none out sound. subst (λ r. IfErr r (λ e. (e ≡ InvalidOption) ⊎ IsMetImporting g.S.Storage.view 0 (size_of c.args.image.now) c.args.image.now out e)) (sym (refused_is _ Memory c.from_residual-in_err-present.ensures)) (inr (inl (inl (inr refl))))
-
-pub returns-in_err-import_all-clause-met : goal.returns-in_err-import_all-clause-met
-returns-in_err-import_all-clause-met g c = λ none out sound.
-    let e = c.in_err-import_all.field-0.0 in
-    let is = c.if-size.false ∙ c.size-2.ensures.value in
-    subst (λ r. IfErr r (λ e. (e ≡ InvalidOption) ⊎ IsMetImporting g.S.Storage.view 0 (size_of c.args.image.now) c.import_all.new.image out e)) (sym (refused_is _ e c.from_residual-in_err-import_all.ensures))
-    (inr (subst (λ n. IsMetImporting g.S.Storage.view 0 n c.import_all.new.image out e) is (c.in_err-import_all.ensures.met none is out sound)))
-
-pub returns-in_err-flush-clause-met : goal.returns-in_err-flush-clause-met
-returns-in_err-flush-clause-met g c = λ none out sound.
-    let now = ((c.in_ok-import_all.ensures.any.2 out).answer sound).0 in
-    subst (λ r. IfErr r (λ e. (e ≡ InvalidOption) ⊎ IsMetImporting g.S.Storage.view 0 (size_of c.args.image.now) c.flush.new.self out e)) (sym (refused_is _ c.in_err-flush.field-0.0 c.from_residual-in_err-flush.ensures)) (inr (inl (inl (c.in_err-flush.ensures.fault out now))))
-
-pub returns-in_err-size-clause-unequal : goal.returns-in_err-size-clause-unequal
-returns-in_err-size-clause-unequal g c = λ honest differ.
-    let before = (g.R.Storage.view c.args.raw.now).faults in
-    let now = (g.R.Storage.view c.size.new.self).faults in (
-      subst (λ r. IsRefusedUnequal (refuses_to_read c.args.image.now 0 0) before now r) (sym (refused_is _ (of_storage c.in_err-size.field-0.0) c.from_residual-in_err-size.ensures))
-          (size_untold (refuses_to_read c.args.image.now 0 0) c.in_err-size.field-0.0 before now (subst (λ r. HasCause before now r) c.in_err-size.was c.size.ensures.calls.cause)),
-      refl,
-    )
-
-pub returns-in_err-check_read-clause-differs : goal.returns-in_err-check_read-clause-differs
-returns-in_err-check_read-clause-differs g c = λ honest.
-    reading_differs g.S.Storage.view g.F.BackingDisk.backing c.args.image.now 0 (g.R.Storage.view c.args.raw.now).contents c.in_err-check_read.field-0.0 _ (refused_is _ c.in_err-check_read.field-0.0 c.from_residual.ensures) (subst (λ r. IfErr r IsOfReading) c.in_err-check_read.was (early_reading c.args.image.now 0 0 c.check_read.result c.check_read.ensures.refusal))
-
-pub returns-in_err-size-clause-differs : goal.returns-in_err-size-clause-differs
-returns-in_err-size-clause-differs g c = λ honest.
-    reading_differs g.S.Storage.view g.F.BackingDisk.backing c.args.image.now 0 (g.R.Storage.view c.args.raw.now).contents (of_storage c.in_err-size.field-0.0) _ (refused_is _ (of_storage c.in_err-size.field-0.0) c.from_residual-in_err-size.ensures) (inl (storage_met c.in_err-size.field-0.0))
-
-pub returns-then-size-clause-differs : goal.returns-then-size-clause-differs
-returns-then-size-clause-differs g c = λ honest out sound kept shows. option_other kept
-
-pub returns-in_err-wanted-clause-differs : goal.returns-in_err-wanted-clause-differs
-returns-in_err-wanted-clause-differs g c = λ honest.
-    reading_differs g.S.Storage.view g.F.BackingDisk.backing c.args.image.now 0 (g.R.Storage.view c.args.raw.now).contents Memory _ (refused_is _ Memory c.from_residual-in_err-wanted.ensures) (inl tt)
-
-pub returns-in_err-present-clause-differs : goal.returns-in_err-present-clause-differs
-returns-in_err-present-clause-differs g c = λ honest.
-    reading_differs g.S.Storage.view g.F.BackingDisk.backing c.args.image.now 0 (g.R.Storage.view c.args.raw.now).contents Memory _ (refused_is _ Memory c.from_residual-in_err-present.ensures) (inl tt)
-
-pub returns-in_err-import_all-clause-differs : goal.returns-in_err-import_all-clause-differs
-returns-in_err-import_all-clause-differs g c = λ honest.
-    let e = c.in_err-import_all.field-0.0 in
-    let left = c.size.ensures.same honest in
-    subst (λ r. IfErr r (DiffersWhereKept g.S.Storage.view g.F.BackingDisk.backing c.args.image.now 0 (g.R.Storage.view c.args.raw.now).contents)) (sym (refused_is _ e c.from_residual-in_err-import_all.ensures))
-    (subst (λ b. DiffersWhereKept g.S.Storage.view g.F.BackingDisk.backing c.args.image.now 0 b e) left
-    (c.in_err-import_all.ensures.differs (c.size.ensures.calls.honest honest) (c.in_ok-size.ensures.size honest ∙ ap length (sym left))))
-
-pub returns-in_err-flush-clause-differs : goal.returns-in_err-flush-clause-differs
-returns-in_err-flush-clause-differs g c = λ honest.
-    let e = c.in_err-flush.field-0.0 in
-    subst (λ r. IfErr r (DiffersWhereKept g.S.Storage.view g.F.BackingDisk.backing c.args.image.now 0 (g.R.Storage.view c.args.raw.now).contents)) (sym (refused_is _ e c.from_residual-in_err-flush.ensures))
-    (λ out sound kept shows.
-    reading_other e (inl (tables_met e (c.in_err-flush.ensures.late (((c.in_ok-import_all.ensures.any.2 out).answer sound).0).works))) kept)
+pub returns-in_err-flush-clause-fails : goal.returns-in_err-flush-clause-fails
+returns-in_err-flush-clause-fails g c = record {
+  early = search rules;
+  unequal = search rules;
+  option = search rules;
+  cause = search rules;
+  late = λ none out sound.
+      let now = ((c.in_ok-import_all.ensures.any.2 out).answer sound).0 in
+      subst (λ r. IfErr r (λ e. (e ≡ InvalidOption) ⊎ IsReasonNotToWrite g.S.Storage.view g.F.BackingDisk.backing c.args.image.now c.flush.new.self 0 (size_of c.args.image.now) out e)) (sym (refused_is _ c.in_err-flush.field-0.0 c.from_residual-in_err-flush.ensures)) (inr (inl (tables_met c.in_err-flush.field-0.0 (c.in_err-flush.ensures.fails.late now.works), other_limit _ c.in_err-flush.field-0.0 (fault_unlimited c.in_err-flush.field-0.0 (c.in_err-flush.ensures.fails.fault out now)))));
+  may_fail = λ none out sound.
+      let now = ((c.in_ok-import_all.ensures.any.2 out).answer sound).0 in
+      subst (λ r. IfErr r (λ e. (e ≡ InvalidOption) ⊎ MayFailImporting g.S.Storage.view 0 (size_of c.args.image.now) c.flush.new.self out e)) (sym (refused_is _ c.in_err-flush.field-0.0 c.from_residual-in_err-flush.ensures)) (inr (inl (inl (c.in_err-flush.ensures.fails.fault out now))));
+  differs = λ honest.
+      let e = c.in_err-flush.field-0.0 in
+      subst (λ r. IfErr r (DiffersWhereKept g.S.Storage.view g.F.BackingDisk.backing c.args.image.now 0 (g.R.Storage.view c.args.raw.now).contents)) (sym (refused_is _ e c.from_residual-in_err-flush.ensures))
+      (λ out sound kept shows.
+      reading_other e (inl (tables_met e (c.in_err-flush.ensures.fails.late (((c.in_ok-import_all.ensures.any.2 out).answer sound).0).works))) kept);
+}
 
 pub returns-in_err-check_read-clause-step : goal.returns-in_err-check_read-clause-step
 returns-in_err-check_read-clause-step g c = record {

@@ -7,10 +7,10 @@ use Rattle.std.specs.Prelude.{IfErr}
 use Rattle.qcow2_alloc.proofs.AllocationSteps.{fault_of_storage}
 use Rattle.qcow2_alloc.specs.ImageFile.{known_in}
 use Rattle.qcow2_image.specs.Image.{size_of}
-use Rattle.qcow2_image.specs.MetAlone.{IsMetReadingRange}
+use Rattle.qcow2_image.specs.MayFail.{MayFailReadingRange}
 use Rattle.qcow2_image.specs.Refusals.{refuses_to_read}
 use Rattle.qcow2_session.proofs.Marking.{refused_none}
-use Rattle.qcow2_session.proofs.MetOnSound.{memory_looking}
+use Rattle.qcow2_session.proofs.FailingOnSound.{memory_looking}
 use Rattle.qcow2_session.proofs.Counting.{converted, converting_else, converting_part, converting_raw, so_far_none, so_far_part}
 use Rattle.qcow2_session.proofs.Exporting.{unchanged_refused, filled_first, filled_all}
 use Rattle.qcow2_session.proofs.Turns.{refused_is}
@@ -27,31 +27,31 @@ returns-clause-sees g c = λ honest out sound.
     (filled_first d (g.R.Storage.view c.args.raw.now).contents (g.R.Storage.view c.resize.new.self).contents (g.R.Storage.view c.resize-2.new.self).contents c.size-size.result (c.in_ok-resize.ensures.resized honest) (c.in_ok-resize-2.ensures.resized cut)))
     (c.size-size.ensures.sees out sound)
 
-pub returns-in_err-check_read-clause-met : goal.returns-in_err-check_read-clause-met
-returns-in_err-check_read-clause-met g c = λ none out sound. absurd (refused_none (refuses_to_read c.args.image.now 0 0) c.in_err-check_read.field-0.0 c.in_err-check_read.ensures.refusal none)
+pub returns-in_err-check_read-clause-may_fail : goal.returns-in_err-check_read-clause-may_fail
+returns-in_err-check_read-clause-may_fail g c = λ none out sound. absurd (refused_none (refuses_to_read c.args.image.now 0 0) c.in_err-check_read.field-0.0 c.in_err-check_read.ensures.refusal none)
 
-pub returns-in_err-zeros-clause-met : goal.returns-in_err-zeros-clause-met
-returns-in_err-zeros-clause-met g c = λ none out sound.
-    subst (λ r. IfErr r (IsMetReadingRange out 0 (size_of c.args.image.now) c.args.image.now.file.header.fields (known_in g.S.Storage.view c.args.image.now.file))) (sym (refused_is _ Memory c.from_residual-in_err-zeros.ensures)) (inl (memory_looking Memory refl))
+pub returns-in_err-zeros-clause-may_fail : goal.returns-in_err-zeros-clause-may_fail
+returns-in_err-zeros-clause-may_fail g c = λ none out sound.
+    subst (λ r. IfErr r (MayFailReadingRange out 0 (size_of c.args.image.now) c.args.image.now.file.header.fields (known_in g.S.Storage.view c.args.image.now.file))) (sym (refused_is _ Memory c.from_residual-in_err-zeros.ensures)) (inl (memory_looking Memory refl))
 
-pub returns-in_err-bytes-clause-met : goal.returns-in_err-bytes-clause-met
-returns-in_err-bytes-clause-met g c = λ none out sound.
-    subst (λ r. IfErr r (IsMetReadingRange out 0 (size_of c.args.image.now) c.args.image.now.file.header.fields (known_in g.S.Storage.view c.args.image.now.file))) (sym (refused_is _ Memory c.from_residual-in_err-bytes.ensures)) (inl (memory_looking Memory refl))
+pub returns-in_err-bytes-clause-may_fail : goal.returns-in_err-bytes-clause-may_fail
+returns-in_err-bytes-clause-may_fail g c = λ none out sound.
+    subst (λ r. IfErr r (MayFailReadingRange out 0 (size_of c.args.image.now) c.args.image.now.file.header.fields (known_in g.S.Storage.view c.args.image.now.file))) (sym (refused_is _ Memory c.from_residual-in_err-bytes.ensures)) (inl (memory_looking Memory refl))
 
-pub returns-in_err-resize-clause-met : goal.returns-in_err-resize-clause-met
-returns-in_err-resize-clause-met g c = λ none out sound.
-    subst (λ r. IfErr r (IsMetReadingRange out 0 (size_of c.args.image.now) c.args.image.now.file.header.fields (known_in g.S.Storage.view c.args.image.now.file))) (sym (refused_is _ (of_storage c.in_err-resize.field-0.0) c.from_residual-in_err-resize.ensures)) (inl (inl (fault_of_storage c.in_err-resize.field-0.0)))
+pub returns-in_err-resize-clause-may_fail : goal.returns-in_err-resize-clause-may_fail
+returns-in_err-resize-clause-may_fail g c = λ none out sound.
+    subst (λ r. IfErr r (MayFailReadingRange out 0 (size_of c.args.image.now) c.args.image.now.file.header.fields (known_in g.S.Storage.view c.args.image.now.file))) (sym (refused_is _ (of_storage c.in_err-resize.field-0.0) c.from_residual-in_err-resize.ensures)) (inl (inl (fault_of_storage c.in_err-resize.field-0.0)))
 
-pub returns-in_err-resize-2-clause-met : goal.returns-in_err-resize-2-clause-met
-returns-in_err-resize-2-clause-met g c = λ none out sound.
-    subst (λ r. IfErr r (IsMetReadingRange out 0 (size_of c.args.image.now) c.args.image.now.file.header.fields (known_in g.S.Storage.view c.args.image.now.file))) (sym (refused_is _ (of_storage c.in_err-resize-2.field-0.0) c.from_residual-in_err-resize-2.ensures)) (inl (inl (fault_of_storage c.in_err-resize-2.field-0.0)))
+pub returns-in_err-resize-2-clause-may_fail : goal.returns-in_err-resize-2-clause-may_fail
+returns-in_err-resize-2-clause-may_fail g c = λ none out sound.
+    subst (λ r. IfErr r (MayFailReadingRange out 0 (size_of c.args.image.now) c.args.image.now.file.header.fields (known_in g.S.Storage.view c.args.image.now.file))) (sym (refused_is _ (of_storage c.in_err-resize-2.field-0.0) c.from_residual-in_err-resize-2.ensures)) (inl (inl (fault_of_storage c.in_err-resize-2.field-0.0)))
 
-pub returns-in_err-export_all-clause-met : goal.returns-in_err-export_all-clause-met
-returns-in_err-export_all-clause-met g c = λ none out sound.
+pub returns-in_err-export_all-clause-may_fail : goal.returns-in_err-export_all-clause-may_fail
+returns-in_err-export_all-clause-may_fail g c = λ none out sound.
     let e = c.in_err-export_all.field-0.0 in
     let is = c.size-size.ensures.value in
-    subst (λ r. IfErr r (IsMetReadingRange out 0 (size_of c.args.image.now) c.args.image.now.file.header.fields (known_in g.S.Storage.view c.args.image.now.file))) (sym (refused_is _ e c.from_residual-in_err-export_all.ensures))
-    (subst (λ n. IsMetReadingRange out 0 n c.args.image.now.file.header.fields (known_in g.S.Storage.view c.args.image.now.file) e) is (c.in_err-export_all.ensures.met none is out sound))
+    subst (λ r. IfErr r (MayFailReadingRange out 0 (size_of c.args.image.now) c.args.image.now.file.header.fields (known_in g.S.Storage.view c.args.image.now.file))) (sym (refused_is _ e c.from_residual-in_err-export_all.ensures))
+    (subst (λ n. MayFailReadingRange out 0 n c.args.image.now.file.header.fields (known_in g.S.Storage.view c.args.image.now.file) e) is (c.in_err-export_all.ensures.may_fail none is out sound))
 
 pub returns-in_err-export_all-clause-step : goal.returns-in_err-export_all-clause-step
 returns-in_err-export_all-clause-step g c = record {

@@ -7,13 +7,13 @@ use Rattle.qcow2_disk.specs.Disk.{Disk}
 use Rattle.qcow2_disk.specs.Found.{Kind, IsFoundIn}
 use Rattle.qcow2_image.specs.Calls.{AnswersCall}
 use Rattle.qcow2_image.specs.Found.{found_kind}
-use Rattle.qcow2_image.specs.MetAlone.{IsMetReadingRange}
-use Rattle.qcow2_image.proofs.Call.MetErrors.{tables_met}
+use Rattle.qcow2_image.specs.MayFail.{MayFailReadingRange}
+use Rattle.qcow2_image.proofs.Call.FailingErrors.{tables_met}
 use Rattle.qcow2_session.specs.Sessions.{IsOfReading}
 use Rattle.qcow2_session.proofs.Causing.{mapping_reading}
 use Rattle.qcow2_session.proofs.Exporting.{zeros_there}
 use Rattle.qcow2_session.proofs.Marking.{in_parts, parts_answered, parts_handed, refused_at_once}
-use Rattle.qcow2_session.proofs.MetOnSound.{looking_prepared}
+use Rattle.qcow2_session.proofs.FailingOnSound.{looking_prepared}
 use Rattle.qcow2_session.proofs.Turns.{does_if, does_why, refused_is}
 use Rattle.qcow2_session.proofs.convert.zero_run.Goals as goal
 
@@ -24,11 +24,11 @@ returns-in_err-mapping-clause-sees g c =
 
 pub returns-in_err-mapping-clause-cause : goal.returns-in_err-mapping-clause-cause
 returns-in_err-mapping-clause-cause g c = subst (λ r. IfErr r IsOfReading) (sym (refused_is _ c.in_err-mapping.field-0.0 c.from_residual.ensures))
-    (mapping_reading _ _ c.args.image.now c.in_err-mapping.field-0.0 c.in_err-mapping.ensures.early (λ none. tables_met c.in_err-mapping.field-0.0 (c.in_err-mapping.ensures.late none)))
+    (mapping_reading _ _ c.args.image.now c.in_err-mapping.field-0.0 c.in_err-mapping.ensures.refusals.early (λ none. tables_met c.in_err-mapping.field-0.0 (c.in_err-mapping.ensures.refusals.late none)))
 
-pub returns-in_err-mapping-clause-met : goal.returns-in_err-mapping-clause-met
-returns-in_err-mapping-clause-met g c = λ out sound. subst (λ r. IfErr r (IsMetReadingRange out c.args.at (c.args.at + c.args.max) c.args.image.now.file.header.fields (known_in g.S.Storage.view c.args.image.now.file))) (sym (refused_is _ c.in_err-mapping.field-0.0 c.from_residual.ensures))
-    (inl (looking_prepared c.args.image.now out c.in_err-mapping.field-0.0 (c.in_err-mapping.ensures.met out sound)))
+pub returns-in_err-mapping-clause-may_fail : goal.returns-in_err-mapping-clause-may_fail
+returns-in_err-mapping-clause-may_fail g c = λ out sound. subst (λ r. IfErr r (MayFailReadingRange out c.args.at (c.args.at + c.args.max) c.args.image.now.file.header.fields (known_in g.S.Storage.view c.args.image.now.file))) (sym (refused_is _ c.in_err-mapping.field-0.0 c.from_residual.ensures))
+    (inl (looking_prepared c.args.image.now out c.in_err-mapping.field-0.0 ((c.in_err-mapping.ensures.sound out sound).may_fail)))
 
 pub returns-in_err-mapping-clause-step : goal.returns-in_err-mapping-clause-step
 returns-in_err-mapping-clause-step g c = record {
@@ -51,7 +51,7 @@ returns-in-Zero-clause-sees g c = λ out.
     does_if (λ h. (h.1, h.0)) (does_why
     (λ sound.
     let still = (c.in_ok-mapping.ensures.sees out).answer sound in
-    let found = subst (λ (k : Kind). IsFoundIn (known_in view new.file) (is_some new.backing) c.args.at c.args.max k n) (ap found_kind c.in-Zero.is) (c.in_ok-mapping.ensures.run out sound) in
+    let found = subst (λ (k : Kind). IsFoundIn (known_in view new.file) (is_some new.backing) c.args.at c.args.max k n) (ap found_kind c.in-Zero.is) ((c.in_ok-mapping.ensures.sound out sound).run) in
     subst (λ (d : Disk). Shows d c.args.at (replicate n 0)) (ap (λ (x : Guest). x.disk) still.1) (zeros_there view below new out still.0 c.args.at c.args.max n c.in-Zero.explicit found))
     (c.in_ok-mapping.ensures.sees out))
 

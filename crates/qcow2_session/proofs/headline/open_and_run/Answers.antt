@@ -8,7 +8,7 @@ use Rattle.qcow2_disk.specs.Runs.{RefinesDisk, started}
 use Rattle.qcow2_disk.proofs.RunSteps.{begins}
 use Rattle.qcow2_disk.proofs.Headline.{from_bytes, stop_consistent}
 use Rattle.qcow2_image.specs.ImageInvariant.{abstract_of, backing_bytes, image_abstraction}
-use Rattle.qcow2_image.proofs.Free.{whole}
+use Rattle.qcow2_image.proofs.Images.Free.{whole}
 use Rattle.qcow2_image.specs.Opened.{IsKeptSince}
 use Rattle.qcow2_image.specs.Image.{storage_of_image}
 use Rattle.qcow2_session.specs.Commands.{command_of, reply_of}
@@ -27,7 +27,7 @@ backed_is backing None = refl
 backed_is backing (Some disk) = refl
 
 pub returns-clause-number : goal.returns-clause-number
-returns-clause-number g c = c.run-replies.ensures.number ∙ c.in-Ok.ensures.ok.0
+returns-clause-number g c = c.run-replies.ensures.step.number ∙ c.in-Ok.ensures.ok.0
 
 pub returns-clause-another : goal.returns-clause-another
 returns-clause-another g c = λ honest needs. absurd ((c.in-Ok.ensures.another honest needs).0)
@@ -72,8 +72,8 @@ returns-clause-again g c = λ unflushed honest consistent stays k had.
     opens_again k (stop_consistent ((image_abstraction view below).setting all.opened) (started (abstract_of view below all.opened [])) all.refines.end commands replies all.refines.run (byte_at k) (all.stops k had)))
     (returns-clause-headline g c honest consistent stays unflushed)
 
-pub returns-clause-tells : goal.returns-clause-tells
-returns-clause-tells g c =
+pub returns-clause-reports : goal.returns-clause-reports
+returns-clause-reports g c =
     let view = g.S.Storage.view in
     let below = g.F.BackingDisk.backing in
     let opened = c.in-Ok.image in
@@ -85,18 +85,18 @@ returns-clause-tells g c =
       works = c.in-Ok.ensures.ok.1;
       counts = c.in-Ok.ensures.faults;
       leaves = c.in-Ok.ensures.storage;
-      run = c.run-replies.ensures.tells;
+      run = c.run-replies.ensures.reports;
       behind = c.in-Ok.ensures.header_cluster;
-      header_cluster = c.run-replies.ensures.header_cluster;
+      header_cluster = c.run-replies.ensures.step.header_cluster;
       is = λ honest consistent stays. c.in-Ok.ensures.opens stays honest consistent;
       begins = λ honest consistent stays. let is = c.in-Ok.ensures.opens stays honest consistent in begins (abstract_of view below opened []) is.opened.sound (whole view below opened [] is.opened.sound) is.opened.clean;
     }
 
 pub returns-clause-faults : goal.returns-clause-faults
-returns-clause-faults g c = (c.in-Ok.image, c.in-Ok.ensures.over, c.in-Ok.ensures.faults, c.run-replies.ensures.faults)
+returns-clause-faults g c = (c.in-Ok.image, c.in-Ok.ensures.over, c.in-Ok.ensures.faults, c.run-replies.ensures.step.faults)
 
-pub returns-in-Err-clause-tells : goal.returns-in-Err-clause-tells
-returns-in-Err-clause-tells g c = (c.in-Err.ensures.cause, c.in-Err.ensures.storage)
+pub returns-in-Err-clause-reports : goal.returns-in-Err-clause-reports
+returns-in-Err-clause-reports g c = (c.in-Err.ensures.cause, c.in-Err.ensures.storage)
 
 pub returns-in-Err-clause-headline : goal.returns-in-Err-clause-headline
 returns-in-Err-clause-headline g c = λ honest consistent.

@@ -10,7 +10,7 @@ use Rattle.qcow2_session.proofs.Meanings.{found_at, none_at, does_commit, refuse
 use Rattle.qcow2_session.proofs.Answering.{not_both, not_old_tables, kept_is}
 use Rattle.qcow2_disk.specs.AbstractImages.{abstract_image}
 use Rattle.qcow2_image.specs.Calls.{refusal_of, Commits, reason_of}
-use Rattle.qcow2_image.proofs.Sizing.Shrinking.{fault_of}
+use Rattle.qcow2_image.proofs.Resize.Shrinking.{fault_of}
 use Rattle.qcow2_session.proofs.Unwritten.{existing_set}
 use Rattle.qcow2_session.specs.Told.{AreExisting}
 use Rattle.qcow2_session.specs.declared.session.Command.TheVariants as C
@@ -24,125 +24,114 @@ use Rattle.qcow2_image.proofs.Map.Quiet.{reads_none}
 use Rattle.qcow2_session.proofs.Quiet.{quiet_commit}
 use Rattle.qcow2_session.proofs.session.commit.Goals as goal
 
-pub returns-in_default-clause-command_step : goal.returns-in_default-clause-command_step
-returns-in_default-clause-command_step g c = λ x s stands founds.
-    let spec = image_abstraction g.S.Storage.view g.F.BackingDisk.backing in
-    let out = c.args.slots.now.prepared.items in
-    subst (λ (o : List (Option _)). RefinesCommand x (abstract_image spec c.args.image.now out) (abstract_image spec c.args.image.now o) s (commit c.args.slot) misuse) (sym (c.put.ensures.is ∙ set_found out c.args.slot None c.in_default.ensures.was))
-    (none_as x (abstract_image spec c.args.image.now out) s _ _ misuse refl stands (record { sized = λ _. tt; failed = λ _. tt; may = λ _. tt }) (λ _. (none_at spec c.args.image.now out c.args.slot c.in_default.ensures.was, refl)) (λ f. f) (λ _ _. refl) tt)
-
 pub fill-requires-clause-free : goal.fill-requires-clause-free
 fill-requires-clause-free g c =
     subst (λ (o : List (Option _)). slice_get o c.args.slot ≡ Some None) (sym c.put.ensures.is) (get_set_same c.args.slots.now.prepared.items c.args.slot None (Some c.in-Some.prepared) c.in-Some.ensures.was)
 
-pub returns-in-Ok-clause-command_step : goal.returns-in-Ok-clause-command_step
-returns-in-Ok-clause-command_step g c = λ x s stands founds.
-    let spec = image_abstraction g.S.Storage.view g.F.BackingDisk.backing in
-    let out = c.args.slots.now.prepared.items in
-    subst (λ (o : List (Option _)). RefinesCommand x (abstract_image spec c.args.image.now out) (abstract_image spec c.commit_data_mapping.new.self o) s (commit c.args.slot) done) (sym c.put.ensures.is)
-    (done_as x _ _ s _ _ _ refl stands (record { sized = λ _. tt; failed = λ f. absurd (not_both (c.in-Ok.ensures.failed (c.in-Some.ensures.own ∙ c.put.ensures.image ∙ c.requires) f)); may = λ _. tt }) (does_commit s.found c.args.slot _ (found_at spec c.args.image.now out c.args.slot c.in-Some.prepared c.in-Some.ensures.was)
-    (c.in-Ok.ensures.sees out c.args.slot c.in-Some.ensures.was)) (λ f. f) (λ _ _. refl) (λ _. tt))
-
-pub returns-in-Err-Spent-clause-command_step : goal.returns-in-Err-Spent-clause-command_step
-returns-in-Err-Spent-clause-command_step g c = λ x s stands founds.
-    let spec = image_abstraction g.S.Storage.view g.F.BackingDisk.backing in
-    let out = c.args.slots.now.prepared.items in
-    subst (λ (o : List (Option _)). RefinesCommand x (abstract_image spec c.args.image.now out) (abstract_image spec c.commit_data_mapping.new.self o) s (commit c.args.slot) (refused (refusal_of c.in-Err-Spent.refusal))) (sym c.put.ensures.is)
-    (refused_as x _ _ s _ _ _ _ refl stands (record { sized = λ _. tt; failed = λ f. absurd (not_old_tables c.in-Err-Spent.field-0-is (c.in-Err-Spent.ensures.failed (c.in-Some.ensures.own ∙ c.put.ensures.image ∙ c.requires) f)); may = λ _. tt })
-    (refuses_commit s.found c.args.slot _ (found_at spec c.args.image.now out c.args.slot c.in-Some.prepared c.in-Some.ensures.was)
-    (subst (λ r. Commits g.S.Storage.view g.F.BackingDisk.backing c.args.image.now c.commit_data_mapping.new.self c.in-Some.prepared (Err r)) c.in-Err-Spent.field-0-is c.in-Err-Spent.ensures.sees out c.args.slot c.in-Some.ensures.was).1) (λ f. f) (λ f. f) (λ _ _. refl) tt)
-
-pub returns-in-Err-Kept-clause-command_step : goal.returns-in-Err-Kept-clause-command_step
-returns-in-Err-Kept-clause-command_step g c = λ x s stands founds.
-    let spec = image_abstraction g.S.Storage.view g.F.BackingDisk.backing in
-    let out = c.args.slots.now.prepared.items in
-    subst (λ (o : List (Option _)). RefinesCommand x (abstract_image spec c.args.image.now out) (abstract_image spec c.commit_data_mapping.new.self o) s (commit c.args.slot) (refused (refusal_of c.in-Err-Kept.refusal)))
-    (sym (c.fill.ensures.is ∙ ap (λ (o : List (Option _)). slice_set o c.args.slot (Some c.in-Err-Kept.prepared)) c.put.ensures.is ∙ set_twice out c.args.slot None (Some c.in-Err-Kept.prepared)))
-    (refused_as x _ _ s _ _ _ _ refl stands (record { sized = λ _. tt; failed = λ f. kept_is c.in-Err-Kept.field-0-is (c.in-Err-Kept.ensures.failed (c.in-Some.ensures.own ∙ c.put.ensures.image ∙ c.requires) f); may = λ _. tt })
-    (refuses_commit s.found c.args.slot _ (found_at spec c.args.image.now out c.args.slot c.in-Some.prepared c.in-Some.ensures.was)
-    (subst (λ r. Commits g.S.Storage.view g.F.BackingDisk.backing c.args.image.now c.commit_data_mapping.new.self c.in-Some.prepared (Err r)) c.in-Err-Kept.field-0-is c.in-Err-Kept.ensures.sees out c.args.slot c.in-Some.ensures.was).1) (λ f. f) (λ f. f) (λ _ _. refl) tt)
-
-pub returns-in_default-clause-causes : goal.returns-in_default-clause-causes
-returns-in_default-clause-causes g c = is_misused g.S.Storage.view g.F.BackingDisk.backing c.args.image.now c.args.image.now c.args.slots.now.prepared.items (C.CommitDataMapping c.args.slot) (λ _. c.in_default.ensures.was, λ _. refl) refl tt
-
-pub returns-in-Ok-clause-causes : goal.returns-in-Ok-clause-causes
-returns-in-Ok-clause-causes g c =
-    let own = c.in-Some.ensures.own ∙ c.put.ensures.image ∙ c.requires in
-    is_done g.S.Storage.view g.F.BackingDisk.backing c.args.image.now c.commit_data_mapping.new.self c.args.slots.now.prepared.items (C.CommitDataMapping c.args.slot) R.Done (λ is. absurd cc) (λ is. absurd cc, λ free. absurd (not_free c.args.slots.now.prepared.items c.args.slot c.in-Some.ensures.was free)) refl
-    (where_failed _ (is_failed c.args.image.now) (λ f. absurd (not_both (c.in-Ok.ensures.failed own f)))) (λ _ _. tt)
-
-pub returns-in-Err-Spent-clause-causes : goal.returns-in-Err-Spent-clause-causes
-returns-in-Err-Spent-clause-causes g c =
-    let own = c.in-Some.ensures.own ∙ c.put.ensures.image ∙ c.requires in
-    is_refused g.S.Storage.view g.F.BackingDisk.backing c.args.image.now c.commit_data_mapping.new.self c.args.slots.now.prepared.items (C.CommitDataMapping c.args.slot) c.in-Err-Spent.refusal (R.Refused c.in-Err-Spent.refusal) (λ is. absurd cc) (λ is. absurd cc, λ free. absurd (not_free c.args.slots.now.prepared.items c.args.slot c.in-Some.ensures.was free)) refl
-    (where_failed _ (is_failed c.args.image.now) (λ f. absurd (not_old_tables c.in-Err-Spent.field-0-is (c.in-Err-Spent.ensures.failed own f))))
-    (λ none. subst (λ r. IsOfTables (reason_of r)) c.in-Err-Spent.field-0-is (c.in-Err-Spent.ensures.late own (not_failed (is_failed c.args.image.now) none)))
-    (λ _ _. tt) (λ none idle. let no = (c.in-Err-Spent.ensures.existing own (not_failed (is_failed c.args.image.now) none) (subst (λ p. IsNone (table_of p)) (same_mapping c.args.slots.now.prepared.items c.args.slot c.in-Some.ensures.was idle.1) idle.2)).0 in absurd cc) (λ _ sound. fault_of c.in-Err-Spent.refusal ((subst (λ r. Commits g.S.Storage.view g.F.BackingDisk.backing c.args.image.now c.commit_data_mapping.new.self c.in-Some.prepared (Err r)) c.in-Err-Spent.field-0-is c.in-Err-Spent.ensures.sees c.args.slots.now.prepared.items c.args.slot c.in-Some.ensures.was).0 sound))
-
-pub returns-in-Err-Kept-clause-causes : goal.returns-in-Err-Kept-clause-causes
-returns-in-Err-Kept-clause-causes g c =
-    let own = c.in-Some.ensures.own ∙ c.put.ensures.image ∙ c.requires in
-    is_refused g.S.Storage.view g.F.BackingDisk.backing c.args.image.now c.commit_data_mapping.new.self c.args.slots.now.prepared.items (C.CommitDataMapping c.args.slot) c.in-Err-Kept.refusal (R.Refused c.in-Err-Kept.refusal) (λ is. absurd cc) (λ is. absurd cc, λ free. absurd (not_free c.args.slots.now.prepared.items c.args.slot c.in-Some.ensures.was free)) refl
-    (where_failed _ (is_failed c.args.image.now) (λ f. (kept_error c.in-Err-Kept.field-0-is (c.in-Err-Kept.ensures.failed own f).0, (c.in-Err-Kept.ensures.failed own f).1)))
-    (λ none. subst (λ r. IsOfTables (reason_of r)) c.in-Err-Kept.field-0-is (c.in-Err-Kept.ensures.late own (not_failed (is_failed c.args.image.now) none)))
-    (λ _ _. tt) (λ none idle. let no = (c.in-Err-Kept.ensures.existing own (not_failed (is_failed c.args.image.now) none) (subst (λ p. IsNone (table_of p)) (same_mapping c.args.slots.now.prepared.items c.args.slot c.in-Some.ensures.was idle.1) idle.2)).0 in absurd cc) (λ _ sound. fault_of c.in-Err-Kept.refusal ((subst (λ r. Commits g.S.Storage.view g.F.BackingDisk.backing c.args.image.now c.commit_data_mapping.new.self c.in-Some.prepared (Err r)) c.in-Err-Kept.field-0-is c.in-Err-Kept.ensures.sees c.args.slots.now.prepared.items c.args.slot c.in-Some.ensures.was).0 sound))
-
-pub returns-in_default-clause-after : goal.returns-in_default-clause-after
-returns-in_default-clause-after g c = c.put.ensures.is ∙ set_found c.args.slots.now.prepared.items c.args.slot None c.in_default.ensures.was
-
-pub returns-in-Ok-clause-after : goal.returns-in-Ok-clause-after
-returns-in-Ok-clause-after g c = (c.in-Some.prepared, c.in-Some.ensures.was, c.put.ensures.is)
-
-pub returns-in-Err-Spent-clause-after : goal.returns-in-Err-Spent-clause-after
-returns-in-Err-Spent-clause-after g c =
-    let own = c.in-Some.ensures.own ∙ c.put.ensures.image ∙ c.requires in
-    inr (
-      where_works (IsOfTables c.in-Err-Spent.refusal) (is_failed c.args.image.now) (λ f. not_old_tables c.in-Err-Spent.field-0-is (c.in-Err-Spent.ensures.failed own f))
-          (λ works. subst (λ r. IsOfTables (reason_of r)) c.in-Err-Spent.field-0-is (c.in-Err-Spent.ensures.late own works)),
-      (c.in-Some.prepared, c.in-Some.ensures.was, c.put.ensures.is),
-    )
-
-pub returns-in-Err-Kept-clause-after : goal.returns-in-Err-Kept-clause-after
-returns-in-Err-Kept-clause-after g c =
-    let q = c.in-Err-Kept.prepared in
-    inl (c.fill.ensures.is ∙ ap (λ (o : List (Option _)). slice_set o c.args.slot (Some q)) c.put.ensures.is
-    ∙ set_again c.args.slots.now.prepared.items c.args.slot None (Some q) (Some c.in-Some.prepared) c.in-Some.ensures.was (ap Some (kept_same c.in-Some.prepared c.in-Err-Kept.field-0-is c.in-Err-Kept.ensures.kept)))
-
-pub returns-in-Ok-clause-quiet : goal.returns-in-Ok-clause-quiet
-returns-in-Ok-clause-quiet g c = λ reading existing. record { reading = c.commit_data_mapping.ensures.image.writable ∙ reading; quiet = quiet_commit g.S.Storage.view c.args.image.now c.commit_data_mapping.new.self (c.commit_data_mapping.ensures.failed (c.in-Some.ensures.own ∙ c.put.ensures.image ∙ c.requires)) (λ works. c.commit_data_mapping.ensures.existing (c.in-Some.ensures.own ∙ c.put.ensures.image ∙ c.requires) works (existing c.args.slot c.in-Some.prepared c.in-Some.ensures.was)); existing = subst AreExisting (sym c.put.ensures.is) (existing_set c.args.slots.now.prepared.items c.args.slot None existing tt) }
-
-pub returns-in-Err-Spent-clause-quiet : goal.returns-in-Err-Spent-clause-quiet
-returns-in-Err-Spent-clause-quiet g c = λ reading existing. record { reading = c.commit_data_mapping.ensures.image.writable ∙ reading; quiet = quiet_commit g.S.Storage.view c.args.image.now c.commit_data_mapping.new.self (c.commit_data_mapping.ensures.failed (c.in-Some.ensures.own ∙ c.put.ensures.image ∙ c.requires)) (λ works. c.commit_data_mapping.ensures.existing (c.in-Some.ensures.own ∙ c.put.ensures.image ∙ c.requires) works (existing c.args.slot c.in-Some.prepared c.in-Some.ensures.was)); existing = subst AreExisting (sym c.put.ensures.is) (existing_set c.args.slots.now.prepared.items c.args.slot None existing tt) }
-
-pub returns-in-Err-Kept-clause-quiet : goal.returns-in-Err-Kept-clause-quiet
-returns-in-Err-Kept-clause-quiet g c = λ reading existing. record {
-  reading = c.commit_data_mapping.ensures.image.writable ∙ reading;
-  quiet = quiet_commit g.S.Storage.view c.args.image.now c.commit_data_mapping.new.self (c.commit_data_mapping.ensures.failed (c.in-Some.ensures.own ∙ c.put.ensures.image ∙ c.requires)) (λ works. c.commit_data_mapping.ensures.existing (c.in-Some.ensures.own ∙ c.put.ensures.image ∙ c.requires) works (existing c.args.slot c.in-Some.prepared c.in-Some.ensures.was));
-  existing = subst AreExisting (sym (c.fill.ensures.is ∙ ap (λ (o : List (Option _)). slice_set o c.args.slot (Some c.in-Err-Kept.prepared)) c.put.ensures.is
-      ∙ set_again c.args.slots.now.prepared.items c.args.slot None (Some c.in-Err-Kept.prepared) (Some c.in-Some.prepared) c.in-Some.ensures.was (ap Some (kept_same c.in-Some.prepared c.in-Err-Kept.field-0-is c.in-Err-Kept.ensures.kept)))) existing;
+pub returns-in_default : goal.returns-in_default
+returns-in_default g c = record {
+  keeps = search rules;
+  size = search rules;
+  counts = search rules;
+  marks = at_rest g.S.Storage.view None c.args.image.now refl;
+  header_cluster = λ _. behind_none;
+  slots = search rules;
+  steps = λ _ x s stands founds.
+      let spec = image_abstraction g.S.Storage.view g.F.BackingDisk.backing in
+      let out = c.args.slots.now.prepared.items in
+      subst (λ (o : List (Option _)). RefinesCommand x (abstract_image spec c.args.image.now out) (abstract_image spec c.args.image.now o) s (commit c.args.slot) misuse) (sym (c.put.ensures.is ∙ set_found out c.args.slot None c.in_default.ensures.was))
+      (none_as x (abstract_image spec c.args.image.now out) s _ _ misuse refl stands (record { sized = λ _. tt; failed = λ _. tt; may = λ _. tt }) (λ _. (none_at spec c.args.image.now out c.args.slot c.in_default.ensures.was, refl)) (λ f. f) (λ _ _. refl) tt);
+  finds = search rules;
+  after = c.put.ensures.is ∙ set_found c.args.slots.now.prepared.items c.args.slot None c.in_default.ensures.was;
+  reports = tt;
+  causes = is_misused g.S.Storage.view g.F.BackingDisk.backing c.args.image.now c.args.image.now c.args.slots.now.prepared.items (C.CommitDataMapping c.args.slot) (λ _. c.in_default.ensures.was, λ _. refl) refl tt;
+  quiet = λ reading existing. record { reading = reading; quiet = reads_none g.S.Storage.view c.args.image.now; existing = subst AreExisting (sym c.put.ensures.is) (existing_set c.args.slots.now.prepared.items c.args.slot None existing tt) };
 }
 
-pub returns-in_default-clause-quiet : goal.returns-in_default-clause-quiet
-returns-in_default-clause-quiet g c = λ reading existing. record { reading = reading; quiet = reads_none g.S.Storage.view c.args.image.now; existing = subst AreExisting (sym c.put.ensures.is) (existing_set c.args.slots.now.prepared.items c.args.slot None existing tt) }
-
-pub returns-in_default-clause-step : goal.returns-in_default-clause-step
-returns-in_default-clause-step g c = record { image = search rules; faults = search rules; header_cluster = behind_none; marks = at_rest g.S.Storage.view None c.args.image.now refl }
-
-pub returns-in-Ok-clause-step : goal.returns-in-Ok-clause-step
-returns-in-Ok-clause-step g c = record { image = search rules; faults = search rules; header_cluster = search rules; marks = record { fails = c.in-Ok.ensures.marks; counts = c.in-Ok.ensures.once_written.counts; memory = λ bad. absurd (cc) } }
-
-pub returns-in-Err-Spent-clause-step : goal.returns-in-Err-Spent-clause-step
-returns-in-Err-Spent-clause-step g c = record {
-  image = search rules;
-  faults = search rules;
-  header_cluster = search rules;
-  marks = subst (λ r. MarksAtOnce g.S.Storage.view (Some (reason_of r)) c.args.image.now c.commit_data_mapping.new.self) c.in-Err-Spent.field-0-is (commit_at_once g.S.Storage.view c.args.image.now c.commit_data_mapping.new.self _ c.in-Err-Spent.ensures.once_written c.in-Err-Spent.ensures.marks);
+pub returns-in-Ok : goal.returns-in-Ok
+returns-in-Ok g c = record {
+  keeps = search rules;
+  size = search rules;
+  counts = search rules;
+  marks = record { fails = c.in-Ok.ensures.step.marks; counts = c.in-Ok.ensures.step.once_written.counts; memory = λ bad. absurd (cc) };
+  header_cluster = λ _. search rules;
+  slots = search rules;
+  steps = λ _ x s stands founds.
+      let spec = image_abstraction g.S.Storage.view g.F.BackingDisk.backing in
+      let out = c.args.slots.now.prepared.items in
+      subst (λ (o : List (Option _)). RefinesCommand x (abstract_image spec c.args.image.now out) (abstract_image spec c.commit_data_mapping.new.self o) s (commit c.args.slot) done) (sym c.put.ensures.is)
+      (done_as x _ _ s _ _ _ refl stands (record { sized = λ _. tt; failed = λ f. absurd (not_both (c.in-Ok.ensures.refusals.failed (c.in-Some.ensures.own ∙ c.put.ensures.image ∙ c.requires) f)); may = λ _. tt }) (does_commit s.found c.args.slot _ (found_at spec c.args.image.now out c.args.slot c.in-Some.prepared c.in-Some.ensures.was)
+      (c.in-Ok.ensures.sees out c.args.slot c.in-Some.ensures.was)) (λ f. f) (λ _ _. refl) (λ _. tt));
+  finds = search rules;
+  after = (c.in-Some.prepared, c.in-Some.ensures.was, c.put.ensures.is);
+  reports = tt;
+  causes = let own = c.in-Some.ensures.own ∙ c.put.ensures.image ∙ c.requires in
+      is_done g.S.Storage.view g.F.BackingDisk.backing c.args.image.now c.commit_data_mapping.new.self c.args.slots.now.prepared.items (C.CommitDataMapping c.args.slot) R.Done (λ is. absurd cc) (λ is. absurd cc, λ free. absurd (not_free c.args.slots.now.prepared.items c.args.slot c.in-Some.ensures.was free)) refl
+      (where_failed _ (is_failed c.args.image.now) (λ f. absurd (not_both (c.in-Ok.ensures.refusals.failed own f)))) (λ _ _. tt);
+  quiet = λ reading existing. record { reading = c.commit_data_mapping.ensures.step.image.writable ∙ reading; quiet = quiet_commit g.S.Storage.view c.args.image.now c.commit_data_mapping.new.self (c.commit_data_mapping.ensures.refusals.failed (c.in-Some.ensures.own ∙ c.put.ensures.image ∙ c.requires)) (λ works. c.commit_data_mapping.ensures.existing (c.in-Some.ensures.own ∙ c.put.ensures.image ∙ c.requires) works (existing c.args.slot c.in-Some.prepared c.in-Some.ensures.was)); existing = subst AreExisting (sym c.put.ensures.is) (existing_set c.args.slots.now.prepared.items c.args.slot None existing tt) };
 }
 
-pub returns-in-Err-Kept-clause-step : goal.returns-in-Err-Kept-clause-step
-returns-in-Err-Kept-clause-step g c = record {
-  image = search rules;
-  faults = search rules;
-  header_cluster = search rules;
-  marks = subst (λ r. MarksAtOnce g.S.Storage.view (Some (reason_of r)) c.args.image.now c.commit_data_mapping.new.self) c.in-Err-Kept.field-0-is (commit_at_once g.S.Storage.view c.args.image.now c.commit_data_mapping.new.self _ c.in-Err-Kept.ensures.once_written c.in-Err-Kept.ensures.marks);
+pub returns-in-Err-Spent : goal.returns-in-Err-Spent
+returns-in-Err-Spent g c = record {
+  keeps = search rules;
+  size = search rules;
+  counts = search rules;
+  marks = subst (λ r. MarksAtOnce g.S.Storage.view (Some (reason_of r)) c.args.image.now c.commit_data_mapping.new.self) c.in-Err-Spent.field-0-is (commit_at_once g.S.Storage.view c.args.image.now c.commit_data_mapping.new.self _ c.in-Err-Spent.ensures.step.once_written c.in-Err-Spent.ensures.step.marks);
+  header_cluster = λ _. search rules;
+  slots = search rules;
+  steps = λ _ x s stands founds.
+      let spec = image_abstraction g.S.Storage.view g.F.BackingDisk.backing in
+      let out = c.args.slots.now.prepared.items in
+      subst (λ (o : List (Option _)). RefinesCommand x (abstract_image spec c.args.image.now out) (abstract_image spec c.commit_data_mapping.new.self o) s (commit c.args.slot) (refused (refusal_of c.in-Err-Spent.refusal))) (sym c.put.ensures.is)
+      (refused_as x _ _ s _ _ _ _ refl stands (record { sized = λ _. tt; failed = λ f. absurd (not_old_tables c.in-Err-Spent.field-0-is (c.in-Err-Spent.ensures.refusals.failed (c.in-Some.ensures.own ∙ c.put.ensures.image ∙ c.requires) f)); may = λ _. tt })
+      (refuses_commit s.found c.args.slot _ (found_at spec c.args.image.now out c.args.slot c.in-Some.prepared c.in-Some.ensures.was)
+      (subst (λ r. Commits g.S.Storage.view g.F.BackingDisk.backing c.args.image.now c.commit_data_mapping.new.self c.in-Some.prepared (Err r)) c.in-Err-Spent.field-0-is c.in-Err-Spent.ensures.sees out c.args.slot c.in-Some.ensures.was).1) (λ f. f) (λ f. f) (λ _ _. refl) tt);
+  finds = search rules;
+  after = let own = c.in-Some.ensures.own ∙ c.put.ensures.image ∙ c.requires in
+      inr (
+        where_works (IsOfTables c.in-Err-Spent.refusal) (is_failed c.args.image.now) (λ f. not_old_tables c.in-Err-Spent.field-0-is (c.in-Err-Spent.ensures.refusals.failed own f))
+            (λ works. subst (λ r. IsOfTables (reason_of r)) c.in-Err-Spent.field-0-is (c.in-Err-Spent.ensures.refusals.late own works)),
+        (c.in-Some.prepared, c.in-Some.ensures.was, c.put.ensures.is),
+      );
+  reports = tt;
+  causes = let own = c.in-Some.ensures.own ∙ c.put.ensures.image ∙ c.requires in
+      is_refused g.S.Storage.view g.F.BackingDisk.backing c.args.image.now c.commit_data_mapping.new.self c.args.slots.now.prepared.items (C.CommitDataMapping c.args.slot) c.in-Err-Spent.refusal (R.Refused c.in-Err-Spent.refusal) (λ is. absurd cc) (λ is. absurd cc, λ free. absurd (not_free c.args.slots.now.prepared.items c.args.slot c.in-Some.ensures.was free)) refl
+      (where_failed _ (is_failed c.args.image.now) (λ f. absurd (not_old_tables c.in-Err-Spent.field-0-is (c.in-Err-Spent.ensures.refusals.failed own f))))
+      (λ none. subst (λ r. IsOfTables (reason_of r)) c.in-Err-Spent.field-0-is (c.in-Err-Spent.ensures.refusals.late own (not_failed (is_failed c.args.image.now) none)))
+      (λ _ _. tt) (λ none idle. let no = (c.in-Err-Spent.ensures.existing own (not_failed (is_failed c.args.image.now) none) (subst (λ p. IsNone (table_of p)) (same_mapping c.args.slots.now.prepared.items c.args.slot c.in-Some.ensures.was idle.1) idle.2)).0 in absurd cc) (λ _ sound. fault_of c.in-Err-Spent.refusal ((subst (λ r. Commits g.S.Storage.view g.F.BackingDisk.backing c.args.image.now c.commit_data_mapping.new.self c.in-Some.prepared (Err r)) c.in-Err-Spent.field-0-is c.in-Err-Spent.ensures.sees c.args.slots.now.prepared.items c.args.slot c.in-Some.ensures.was).0 sound));
+  quiet = λ reading existing. record { reading = c.commit_data_mapping.ensures.step.image.writable ∙ reading; quiet = quiet_commit g.S.Storage.view c.args.image.now c.commit_data_mapping.new.self (c.commit_data_mapping.ensures.refusals.failed (c.in-Some.ensures.own ∙ c.put.ensures.image ∙ c.requires)) (λ works. c.commit_data_mapping.ensures.existing (c.in-Some.ensures.own ∙ c.put.ensures.image ∙ c.requires) works (existing c.args.slot c.in-Some.prepared c.in-Some.ensures.was)); existing = subst AreExisting (sym c.put.ensures.is) (existing_set c.args.slots.now.prepared.items c.args.slot None existing tt) };
+}
+
+pub returns-in-Err-Kept : goal.returns-in-Err-Kept
+returns-in-Err-Kept g c = record {
+  keeps = search rules;
+  size = search rules;
+  counts = search rules;
+  marks = subst (λ r. MarksAtOnce g.S.Storage.view (Some (reason_of r)) c.args.image.now c.commit_data_mapping.new.self) c.in-Err-Kept.field-0-is (commit_at_once g.S.Storage.view c.args.image.now c.commit_data_mapping.new.self _ c.in-Err-Kept.ensures.step.once_written c.in-Err-Kept.ensures.step.marks);
+  header_cluster = λ _. search rules;
+  slots = search rules;
+  steps = λ _ x s stands founds.
+      let spec = image_abstraction g.S.Storage.view g.F.BackingDisk.backing in
+      let out = c.args.slots.now.prepared.items in
+      subst (λ (o : List (Option _)). RefinesCommand x (abstract_image spec c.args.image.now out) (abstract_image spec c.commit_data_mapping.new.self o) s (commit c.args.slot) (refused (refusal_of c.in-Err-Kept.refusal)))
+      (sym (c.fill.ensures.is ∙ ap (λ (o : List (Option _)). slice_set o c.args.slot (Some c.in-Err-Kept.prepared)) c.put.ensures.is ∙ set_twice out c.args.slot None (Some c.in-Err-Kept.prepared)))
+      (refused_as x _ _ s _ _ _ _ refl stands (record { sized = λ _. tt; failed = λ f. kept_is c.in-Err-Kept.field-0-is (c.in-Err-Kept.ensures.refusals.failed (c.in-Some.ensures.own ∙ c.put.ensures.image ∙ c.requires) f); may = λ _. tt })
+      (refuses_commit s.found c.args.slot _ (found_at spec c.args.image.now out c.args.slot c.in-Some.prepared c.in-Some.ensures.was)
+      (subst (λ r. Commits g.S.Storage.view g.F.BackingDisk.backing c.args.image.now c.commit_data_mapping.new.self c.in-Some.prepared (Err r)) c.in-Err-Kept.field-0-is c.in-Err-Kept.ensures.sees out c.args.slot c.in-Some.ensures.was).1) (λ f. f) (λ f. f) (λ _ _. refl) tt);
+  finds = search rules;
+  after = let q = c.in-Err-Kept.prepared in
+      inl (c.fill.ensures.is ∙ ap (λ (o : List (Option _)). slice_set o c.args.slot (Some q)) c.put.ensures.is
+      ∙ set_again c.args.slots.now.prepared.items c.args.slot None (Some q) (Some c.in-Some.prepared) c.in-Some.ensures.was (ap Some (kept_same c.in-Some.prepared c.in-Err-Kept.field-0-is c.in-Err-Kept.ensures.refusals.kept)));
+  reports = tt;
+  causes = let own = c.in-Some.ensures.own ∙ c.put.ensures.image ∙ c.requires in
+      is_refused g.S.Storage.view g.F.BackingDisk.backing c.args.image.now c.commit_data_mapping.new.self c.args.slots.now.prepared.items (C.CommitDataMapping c.args.slot) c.in-Err-Kept.refusal (R.Refused c.in-Err-Kept.refusal) (λ is. absurd cc) (λ is. absurd cc, λ free. absurd (not_free c.args.slots.now.prepared.items c.args.slot c.in-Some.ensures.was free)) refl
+      (where_failed _ (is_failed c.args.image.now) (λ f. (kept_error c.in-Err-Kept.field-0-is (c.in-Err-Kept.ensures.refusals.failed own f).0, (c.in-Err-Kept.ensures.refusals.failed own f).1)))
+      (λ none. subst (λ r. IsOfTables (reason_of r)) c.in-Err-Kept.field-0-is (c.in-Err-Kept.ensures.refusals.late own (not_failed (is_failed c.args.image.now) none)))
+      (λ _ _. tt) (λ none idle. let no = (c.in-Err-Kept.ensures.existing own (not_failed (is_failed c.args.image.now) none) (subst (λ p. IsNone (table_of p)) (same_mapping c.args.slots.now.prepared.items c.args.slot c.in-Some.ensures.was idle.1) idle.2)).0 in absurd cc) (λ _ sound. fault_of c.in-Err-Kept.refusal ((subst (λ r. Commits g.S.Storage.view g.F.BackingDisk.backing c.args.image.now c.commit_data_mapping.new.self c.in-Some.prepared (Err r)) c.in-Err-Kept.field-0-is c.in-Err-Kept.ensures.sees c.args.slots.now.prepared.items c.args.slot c.in-Some.ensures.was).0 sound));
+  quiet = λ reading existing. record {
+    reading = c.commit_data_mapping.ensures.step.image.writable ∙ reading;
+    quiet = quiet_commit g.S.Storage.view c.args.image.now c.commit_data_mapping.new.self (c.commit_data_mapping.ensures.refusals.failed (c.in-Some.ensures.own ∙ c.put.ensures.image ∙ c.requires)) (λ works. c.commit_data_mapping.ensures.existing (c.in-Some.ensures.own ∙ c.put.ensures.image ∙ c.requires) works (existing c.args.slot c.in-Some.prepared c.in-Some.ensures.was));
+    existing = subst AreExisting (sym (c.fill.ensures.is ∙ ap (λ (o : List (Option _)). slice_set o c.args.slot (Some c.in-Err-Kept.prepared)) c.put.ensures.is
+        ∙ set_again c.args.slots.now.prepared.items c.args.slot None (Some c.in-Err-Kept.prepared) (Some c.in-Some.prepared) c.in-Some.ensures.was (ap Some (kept_same c.in-Some.prepared c.in-Err-Kept.field-0-is c.in-Err-Kept.ensures.refusals.kept)))) existing;
+  };
 }

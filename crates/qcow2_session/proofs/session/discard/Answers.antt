@@ -17,47 +17,43 @@ use Rattle.qcow2_image.proofs.Map.Quiet.{reads_none}
 use Rattle.qcow2_session.proofs.Quiet.{quiet_release}
 use Rattle.qcow2_session.proofs.session.discard.Goals as goal
 
-pub returns-in-None-clause-command_step : goal.returns-in-None-clause-command_step
-returns-in-None-clause-command_step g c = λ x s stands founds.
-    let view = abstract_of g.S.Storage.view g.F.BackingDisk.backing c.args.image.now in
-    let out = c.args.slots.now.prepared.items in
-    subst (λ (o : List (Option _)). RefinesCommand x (view out) (view o) s (discard c.args.slot) misuse) (sym (c.put.ensures.is ∙ set_found out c.args.slot None c.in-None.ensures.was))
-    (none_as x (view out) s _ _ misuse refl stands (record { sized = λ _. tt; failed = λ _. tt; may = λ _. tt }) (λ _. (none_at (image_abstraction g.S.Storage.view g.F.BackingDisk.backing) c.args.image.now out c.args.slot c.in-None.ensures.was, refl)) (λ f. f) (λ _ _. refl) tt)
+pub returns-in-None : goal.returns-in-None
+returns-in-None g c = record {
+  keeps = search rules;
+  size = search rules;
+  counts = search rules;
+  marks = at_rest g.S.Storage.view None c.args.image.now refl;
+  header_cluster = λ _. behind_none;
+  slots = search rules;
+  steps = λ _ x s stands founds.
+      let view = abstract_of g.S.Storage.view g.F.BackingDisk.backing c.args.image.now in
+      let out = c.args.slots.now.prepared.items in
+      subst (λ (o : List (Option _)). RefinesCommand x (view out) (view o) s (discard c.args.slot) misuse) (sym (c.put.ensures.is ∙ set_found out c.args.slot None c.in-None.ensures.was))
+      (none_as x (view out) s _ _ misuse refl stands (record { sized = λ _. tt; failed = λ _. tt; may = λ _. tt }) (λ _. (none_at (image_abstraction g.S.Storage.view g.F.BackingDisk.backing) c.args.image.now out c.args.slot c.in-None.ensures.was, refl)) (λ f. f) (λ _ _. refl) tt);
+  finds = search rules;
+  after = c.put.ensures.is ∙ set_found c.args.slots.now.prepared.items c.args.slot None c.in-None.ensures.was;
+  reports = tt;
+  causes = is_misused g.S.Storage.view g.F.BackingDisk.backing c.args.image.now c.args.image.now c.args.slots.now.prepared.items (C.DiscardDataMapping c.args.slot) (λ _. c.in-None.ensures.was, λ _. refl) refl tt;
+  quiet = λ reading existing. record { reading = reading; quiet = reads_none g.S.Storage.view c.args.image.now; existing = subst AreExisting (sym c.put.ensures.is) (existing_set c.args.slots.now.prepared.items c.args.slot None existing tt) };
+}
 
-pub returns-in-Some-clause-command_step : goal.returns-in-Some-clause-command_step
-returns-in-Some-clause-command_step g c = λ x s stands founds.
-    let spec = image_abstraction g.S.Storage.view g.F.BackingDisk.backing in
-    let out = c.args.slots.now.prepared.items in
-    subst (λ (o : List (Option _)). RefinesCommand x (abstract_image spec c.args.image.now out) (abstract_image spec c.release.new.image o) s (discard c.args.slot) done) (sym c.put.ensures.is)
-    (done_as x _ _ s _ _ _ refl stands (record { sized = λ _. tt; failed = λ _. tt; may = λ _. tt }) (does_discard s.found c.args.slot _ (found_at spec c.args.image.now out c.args.slot c.in-Some.prepared c.in-Some.ensures.was) (c.release.ensures.sees out c.args.slot c.in-Some.ensures.was)) (λ f. f) (λ _ _. refl) (λ _. tt))
-
-pub returns-in-None-clause-causes : goal.returns-in-None-clause-causes
-returns-in-None-clause-causes g c = is_misused g.S.Storage.view g.F.BackingDisk.backing c.args.image.now c.args.image.now c.args.slots.now.prepared.items (C.DiscardDataMapping c.args.slot) (λ _. c.in-None.ensures.was, λ _. refl) refl tt
-
-pub returns-in-Some-clause-causes : goal.returns-in-Some-clause-causes
-returns-in-Some-clause-causes g c =
-    is_done g.S.Storage.view g.F.BackingDisk.backing c.args.image.now c.release.new.image c.args.slots.now.prepared.items (C.DiscardDataMapping c.args.slot) R.Done (λ is. absurd cc) (λ is. absurd cc, λ free. absurd (not_free c.args.slots.now.prepared.items c.args.slot c.in-Some.ensures.was free)) refl tt (λ _ _. tt)
-
-pub returns-in-None-clause-after : goal.returns-in-None-clause-after
-returns-in-None-clause-after g c = c.put.ensures.is ∙ set_found c.args.slots.now.prepared.items c.args.slot None c.in-None.ensures.was
-
-pub returns-in-Some-clause-after : goal.returns-in-Some-clause-after
-returns-in-Some-clause-after g c = (c.in-Some.prepared, c.in-Some.ensures.was, c.put.ensures.is)
-
-pub returns-in-Some-clause-quiet : goal.returns-in-Some-clause-quiet
-returns-in-Some-clause-quiet g c = λ reading existing. record { reading = c.release.ensures.image.writable ∙ reading; quiet = quiet_release g.S.Storage.view c.args.image.now c.release.new.image c.release.ensures.rest; existing = subst AreExisting (sym c.put.ensures.is) (existing_set c.args.slots.now.prepared.items c.args.slot None existing tt) }
-
-pub returns-in-None-clause-quiet : goal.returns-in-None-clause-quiet
-returns-in-None-clause-quiet g c = λ reading existing. record { reading = reading; quiet = reads_none g.S.Storage.view c.args.image.now; existing = subst AreExisting (sym c.put.ensures.is) (existing_set c.args.slots.now.prepared.items c.args.slot None existing tt) }
-
-pub returns-in-None-clause-step : goal.returns-in-None-clause-step
-returns-in-None-clause-step g c = record { image = search rules; faults = search rules; header_cluster = behind_none; marks = at_rest g.S.Storage.view None c.args.image.now refl }
-
-pub returns-in-Some-clause-step : goal.returns-in-Some-clause-step
-returns-in-Some-clause-step g c = record {
-  image = search rules;
-  faults = search rules;
-  header_cluster = search rules;
+pub returns-in-Some : goal.returns-in-Some
+returns-in-Some g c = record {
+  keeps = search rules;
+  size = search rules;
+  counts = search rules;
   marks = let released = counts_released g.S.Storage.view c.args.image.now c.release.new.image c.release.ensures.rest in
       record { fails = c.release.ensures.marks; counts = released; memory = λ bad. absurd (cc) };
+  header_cluster = λ _. search rules;
+  slots = search rules;
+  steps = λ _ x s stands founds.
+      let spec = image_abstraction g.S.Storage.view g.F.BackingDisk.backing in
+      let out = c.args.slots.now.prepared.items in
+      subst (λ (o : List (Option _)). RefinesCommand x (abstract_image spec c.args.image.now out) (abstract_image spec c.release.new.image o) s (discard c.args.slot) done) (sym c.put.ensures.is)
+      (done_as x _ _ s _ _ _ refl stands (record { sized = λ _. tt; failed = λ _. tt; may = λ _. tt }) (does_discard s.found c.args.slot _ (found_at spec c.args.image.now out c.args.slot c.in-Some.prepared c.in-Some.ensures.was) (c.release.ensures.sees out c.args.slot c.in-Some.ensures.was)) (λ f. f) (λ _ _. refl) (λ _. tt));
+  finds = search rules;
+  after = (c.in-Some.prepared, c.in-Some.ensures.was, c.put.ensures.is);
+  reports = tt;
+  causes = is_done g.S.Storage.view g.F.BackingDisk.backing c.args.image.now c.release.new.image c.args.slots.now.prepared.items (C.DiscardDataMapping c.args.slot) R.Done (λ is. absurd cc) (λ is. absurd cc, λ free. absurd (not_free c.args.slots.now.prepared.items c.args.slot c.in-Some.ensures.was free)) refl tt (λ _ _. tt);
+  quiet = λ reading existing. record { reading = c.release.ensures.image.writable ∙ reading; quiet = quiet_release g.S.Storage.view c.args.image.now c.release.new.image c.release.ensures.rest; existing = subst AreExisting (sym c.put.ensures.is) (existing_set c.args.slots.now.prepared.items c.args.slot None existing tt) };
 }

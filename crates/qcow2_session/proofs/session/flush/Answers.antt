@@ -1,7 +1,7 @@
 use Rattle.qcow2_session.proofs.Marking.{answered_at_once, refused_at_once}
 use Rattle.std.proofs.Common.{refl, sym, ◌∙◌, rules}
 use Rattle.qcow2_disk.proofs.RunSteps.{refused_as, flushed_as}
-use Rattle.qcow2_image.proofs.Free.{whole}
+use Rattle.qcow2_image.proofs.Images.Free.{whole}
 use Rattle.qcow2_session.proofs.Answering.{error_is, none_to_free, not_both}
 use Rattle.qcow2_image.specs.Image.{is_failed}
 use Rattle.qcow2_session.specs.declared.session.Command.TheVariants as C
@@ -9,40 +9,38 @@ use Rattle.qcow2_session.specs.declared.session.Reply.TheVariants as R
 use Rattle.qcow2_session.proofs.Causing.{is_answered, is_refused, not_failed, same_error, where_failed}
 use Rattle.qcow2_session.proofs.session.flush.Goals as goal
 
-pub returns-in-Err-clause-command_step : goal.returns-in-Err-clause-command_step
-returns-in-Err-clause-command_step g c = λ slots x s stands founds. refused_as x _ _ s _ _ _ _ refl stands (record { sized = λ _. tt; failed = λ f. error_is (c.in-Err.ensures.early f); may = λ _. tt }) (c.in-Err.ensures.sees slots.prepared.items) (λ f. f) (λ f. f) (λ _ _. refl) tt
-
-pub returns-clause-command_step : goal.returns-clause-command_step
-returns-clause-command_step g c = λ slots x s stands founds. flushed_as x _ _ s _ _ _ refl stands (record { sized = λ _. tt; failed = λ f. absurd (not_both (c.in_default.ensures.early f)); may = λ _. tt }) (c.in_default.ensures.sees slots.prepared.items) (whole g.S.Storage.view g.F.BackingDisk.backing _ slots.prepared.items) (λ f. f) (λ _ _. refl)
-    (none_to_free g.S.Storage.view g.F.BackingDisk.backing c.flush.new.self slots.prepared.items (λ writes. c.in_default.ensures.emptied (sym c.flush.ensures.step.image.writable ∙ writes)))
-
-pub returns-in-Err-clause-causes : goal.returns-in-Err-clause-causes
-returns-in-Err-clause-causes g c = λ before found.
-    is_refused g.S.Storage.view g.F.BackingDisk.backing c.args.image.now c.flush.new.self before C.Flush c.in-Err.refusal (R.Refused c.in-Err.refusal) (λ is. absurd cc) (λ is. absurd cc, λ is. absurd is) refl
-    (where_failed _ (is_failed c.args.image.now) (λ f. (same_error (c.in-Err.ensures.early f).0, (c.in-Err.ensures.early f).1))) (λ none. c.in-Err.ensures.late (not_failed (is_failed c.args.image.now) none)) (λ _ _. tt) (λ _ is. is) (λ _ sound. c.in-Err.ensures.fault before sound)
-
-pub returns-clause-causes : goal.returns-clause-causes
-returns-clause-causes g c = λ before found.
-    is_answered g.S.Storage.view g.F.BackingDisk.backing c.args.image.now c.flush.new.self before C.Flush _ tt R.Done (λ is. absurd cc) (λ is. absurd cc, λ is. absurd is) refl (where_failed _ (is_failed c.args.image.now) (λ f. c.in_default.ensures.early f)) (λ _ _. tt)
-
-pub returns-in-Err-clause-quiet : goal.returns-in-Err-clause-quiet
-returns-in-Err-clause-quiet g c = c.flush.ensures.quiet
-
-pub returns-clause-quiet : goal.returns-clause-quiet
-returns-clause-quiet g c = c.flush.ensures.quiet
-
-pub returns-in-Err-clause-step : goal.returns-in-Err-clause-step
-returns-in-Err-clause-step g c = record {
-  image = search rules;
-  faults = search rules;
-  header_cluster = search rules;
+pub returns-in-Err : goal.returns-in-Err
+returns-in-Err g c = λ slots. record {
+  keeps = search rules;
+  size = search rules;
+  counts = search rules;
   marks = refused_at_once g.S.Storage.view c.args.image.now c.flush.new.self c.in-Err.refusal c.in-Err.ensures.step.once_written c.in-Err.ensures.step.marks;
+  header_cluster = λ _. search rules;
+  slots = refl;
+  steps = λ _ x s stands founds. refused_as x _ _ s _ _ _ _ refl stands (record { sized = λ _. tt; failed = λ f. error_is (c.in-Err.ensures.early f); may = λ _. tt }) (c.in-Err.ensures.sees slots.prepared.items) (λ f. f) (λ f. f) (λ _ _. refl) tt;
+  finds = search rules;
+  after = refl;
+  reports = tt;
+  causes = let before = slots.prepared.items in
+      is_refused g.S.Storage.view g.F.BackingDisk.backing c.args.image.now c.flush.new.self before C.Flush c.in-Err.refusal (R.Refused c.in-Err.refusal) (λ is. absurd cc) (λ is. absurd cc, λ is. absurd is) refl
+      (where_failed _ (is_failed c.args.image.now) (λ f. (same_error (c.in-Err.ensures.early f).0, (c.in-Err.ensures.early f).1))) (λ none. c.in-Err.ensures.fails.late (not_failed (is_failed c.args.image.now) none)) (λ _ _. tt) (λ _ is. is) (λ _ sound. c.in-Err.ensures.fails.fault before sound);
+  quiet = λ reading existing. record { reading = c.flush.ensures.step.image.writable ∙ reading; quiet = c.flush.ensures.quiet reading; existing = existing };
 }
 
-pub returns-clause-step : goal.returns-clause-step
-returns-clause-step g c = record {
-  image = search rules;
-  faults = search rules;
-  header_cluster = search rules;
+pub returns : goal.returns
+returns g c = λ slots. record {
+  keeps = search rules;
+  size = search rules;
+  counts = search rules;
   marks = answered_at_once g.S.Storage.view c.args.image.now c.flush.new.self c.in_default.ensures.step.once_written c.in_default.ensures.step.marks;
+  header_cluster = λ _. search rules;
+  slots = refl;
+  steps = λ _ x s stands founds. flushed_as x _ _ s _ _ _ refl stands (record { sized = λ _. tt; failed = λ f. absurd (not_both (c.in_default.ensures.early f)); may = λ _. tt }) (c.in_default.ensures.sees slots.prepared.items) (whole g.S.Storage.view g.F.BackingDisk.backing _ slots.prepared.items) (λ f. f) (λ _ _. refl)
+      (none_to_free g.S.Storage.view g.F.BackingDisk.backing c.flush.new.self slots.prepared.items (λ writes. c.in_default.ensures.emptied (sym c.flush.ensures.step.image.writable ∙ writes)));
+  finds = search rules;
+  after = refl;
+  reports = tt;
+  causes = let before = slots.prepared.items in
+      is_answered g.S.Storage.view g.F.BackingDisk.backing c.args.image.now c.flush.new.self before C.Flush _ tt R.Done (λ is. absurd cc) (λ is. absurd cc, λ is. absurd is) refl (where_failed _ (is_failed c.args.image.now) (λ f. c.in_default.ensures.early f)) (λ _ _. tt);
+  quiet = λ reading existing. record { reading = c.flush.ensures.step.image.writable ∙ reading; quiet = c.flush.ensures.quiet reading; existing = existing };
 }

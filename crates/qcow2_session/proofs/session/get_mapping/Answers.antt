@@ -19,75 +19,59 @@ use Rattle.qcow2_session.proofs.Told.{none_refused}
 use Rattle.qcow2_session.proofs.Unwritten.{set_or_was}
 use Rattle.qcow2_session.proofs.session.get_mapping.Goals as goal
 
-pub returns-in-Ok-clause-command_step : goal.returns-in-Ok-clause-command_step
-returns-in-Ok-clause-command_step g c = λ x s stands founds.
-    done_as x _ _ s _ _ _ refl stands (record { sized = λ _. tt; failed = λ f. absurd (not_both (unusable_first c.args.image.now _ c.in-Ok.ensures.early f)); may = λ _. tt })
-    (does_if (λ same. (c.in-Ok.ensures.own.1, omega (arith, c.in-Ok.ensures.own, c.in-Ok.ensures.within), same)) (c.in-Ok.ensures.sees c.args.slots.now.prepared.items)) (λ f. f) (λ _ _. refl)
-    (λ sound. (
-      subst (λ n. IsFoundIn (known_in g.S.Storage.view c.get_mapping.new.self.file) (is_some c.get_mapping.new.self.backing) c.args.offset c.args.max (found_kind c.in-Ok.mapping.kind) n) (sym c.in-Ok.ensures.own.2) (c.in-Ok.ensures.run c.args.slots.now.prepared.items sound),
-      c.get_mapping.ensures.known c.args.slots.now.prepared.items sound,
-    ))
-
-pub returns-in-Ok-clause-finds : goal.returns-in-Ok-clause-finds
-returns-in-Ok-clause-finds g c = λ k.
-    let mappings = c.args.slots.now.mappings.items in
-    let found = found_set mappings c.args.slot c.in-Ok.mapping k (omega (arith, c.args.slots.now.all_mappings, c.ranges.slot)) in
-    ap (λ n. mappings_in (slice_set mappings n (Some c.in-Ok.mapping)) k) c.from.ensures ∙ found
-
-pub returns-in-Err-clause-command_step : goal.returns-in-Err-clause-command_step
-returns-in-Err-clause-command_step g c = λ x s stands founds. refused_as x _ _ s _ _ _ _ refl stands
-    (lookup_answer g.S.Storage.view g.F.BackingDisk.backing c.args.image.now c.args.slots.now.prepared.items c.args.slot c.args.offset c.args.max _ (λ f. error_is (unusable_first c.args.image.now _ c.in-Err.ensures.early f))
-    (λ usable past. let no = (c.in-Err.ensures.past usable past).0 in absurd cc)) (c.in-Err.ensures.sees c.args.slots.now.prepared.items) (λ f. f) (λ f. f) (λ _ _. refl) tt
-
-pub returns-in-Ok-clause-tells : goal.returns-in-Ok-clause-tells
-returns-in-Ok-clause-tells g c = record {
-  own = c.in-Ok.ensures.own.0 ∙ sym c.get_mapping.ensures.step.image.number;
-  from = c.in-Ok.ensures.own.1;
-  within = omega (arith, c.in-Ok.ensures.own.2, c.in-Ok.ensures.within);
-  past = λ past. let none = (c.in-Ok.ensures.past (none_refused _ (unusable c.args.image.now) _ c.in-Ok.ensures.early) past).1 in (none.0, c.in-Ok.ensures.own.2 ∙ none.1);
-}
-
-pub returns-in-Err-clause-causes : goal.returns-in-Err-clause-causes
-returns-in-Err-clause-causes g c =
-    is_refused g.S.Storage.view g.F.BackingDisk.backing c.args.image.now c.get_mapping.new.self c.args.slots.now.prepared.items (C.GetMapping c.args.slot c.args.offset c.args.max) c.in-Err.refusal (R.Refused c.in-Err.refusal) (λ is. absurd cc) (λ is. absurd cc, λ is. absurd is) refl
-    (begun_with _ _ _ (unusable c.args.image.now) c.in-Err.ensures.early) c.in-Err.ensures.late (λ _ _. tt) (λ none past. let no = (c.in-Err.ensures.past none past).0 in absurd cc) (λ _ sound. c.in-Err.ensures.met c.args.slots.now.prepared.items sound)
-
-pub returns-in-Ok-clause-causes : goal.returns-in-Ok-clause-causes
-returns-in-Ok-clause-causes g c =
-    is_answered g.S.Storage.view g.F.BackingDisk.backing c.args.image.now c.get_mapping.new.self c.args.slots.now.prepared.items (C.GetMapping c.args.slot c.args.offset c.args.max) _ _ (R.Mapping c.in-Ok.mapping) (λ is. absurd cc) (λ is. absurd cc, λ is. absurd is) refl c.in-Ok.ensures.early (λ _ _. tt)
-
 pub invariant_of-slots-clause-looked_up : goal.invariant_of-slots-clause-looked_up
 invariant_of-slots-clause-looked_up g c = λ k m at.
-    ⊎_elim (λ (new : Some m ≡ Some c.in-Ok.mapping). ap (λ (x : Mapping). x.image) (some_error new) ∙ c.in-Ok.ensures.own.0 ∙ sym c.requires) (λ was. c.args.slots.now.looked_up k m was)
+    ⊎_elim (λ (new : Some m ≡ Some c.in-Ok.mapping). ap (λ (x : Mapping). x.image) (some_error new) ∙ c.in-Ok.ensures.found.own.0 ∙ sym c.requires) (λ was. c.args.slots.now.looked_up k m was)
     (set_or_was c.args.slots.now.mappings.items c.from.result k (Some c.in-Ok.mapping) (Some m) at)
 
 pub invariant_of-slots-clause-all_mappings : goal.invariant_of-slots-clause-all_mappings
 invariant_of-slots-clause-all_mappings g c = length_set c.args.slots.now.mappings.items c.from.result (Some c.in-Ok.mapping) ∙ c.args.slots.now.all_mappings
 
-pub returns-in-Ok-clause-after : goal.returns-in-Ok-clause-after
-returns-in-Ok-clause-after g c = refl
-
-pub returns-in-Err-clause-after : goal.returns-in-Err-clause-after
-returns-in-Err-clause-after g c = refl
-
-pub returns-in-Ok-clause-quiet : goal.returns-in-Ok-clause-quiet
-returns-in-Ok-clause-quiet g c = λ reading existing. record { reading = c.get_mapping.ensures.step.image.writable ∙ reading; quiet = c.get_mapping.ensures.step.quiet; existing = existing }
-
-pub returns-in-Err-clause-quiet : goal.returns-in-Err-clause-quiet
-returns-in-Err-clause-quiet g c = λ reading existing. record { reading = c.get_mapping.ensures.step.image.writable ∙ reading; quiet = c.get_mapping.ensures.step.quiet; existing = existing }
-
-pub returns-in-Err-clause-step : goal.returns-in-Err-clause-step
-returns-in-Err-clause-step g c = record {
-  image = search rules;
-  faults = search rules;
-  header_cluster = search rules;
-  marks = refused_at_once g.S.Storage.view c.args.image.now c.get_mapping.new.self c.in-Err.refusal c.in-Err.ensures.step.once_written c.in-Err.ensures.step.marks;
+pub returns-in-Ok : goal.returns-in-Ok
+returns-in-Ok g c = record {
+  keeps = search rules;
+  size = search rules;
+  counts = search rules;
+  marks = answered_at_once g.S.Storage.view c.args.image.now c.get_mapping.new.self c.in-Ok.ensures.step.once_written c.in-Ok.ensures.step.marks;
+  header_cluster = λ _. search rules;
+  slots = search rules;
+  steps = λ _ x s stands founds.
+      done_as x _ _ s _ _ _ refl stands (record { sized = λ _. tt; failed = λ f. absurd (not_both (unusable_first c.args.image.now _ c.in-Ok.ensures.refusals.early f)); may = λ _. tt })
+      (does_if (λ same. (c.in-Ok.ensures.found.own.1, omega (arith, c.in-Ok.ensures.found.own, c.in-Ok.ensures.found.within), same)) (c.in-Ok.ensures.sees c.args.slots.now.prepared.items)) (λ f. f) (λ _ _. refl)
+      (λ sound. (
+        subst (λ n. IsFoundIn (known_in g.S.Storage.view c.get_mapping.new.self.file) (is_some c.get_mapping.new.self.backing) c.args.offset c.args.max (found_kind c.in-Ok.mapping.kind) n) (sym c.in-Ok.ensures.found.own.2) ((c.in-Ok.ensures.sound c.args.slots.now.prepared.items sound).run),
+        (c.get_mapping.ensures.sound c.args.slots.now.prepared.items sound).known,
+      ));
+  finds = λ k.
+      let mappings = c.args.slots.now.mappings.items in
+      let found = found_set mappings c.args.slot c.in-Ok.mapping k (omega (arith, c.args.slots.now.all_mappings, c.ranges.slot)) in
+      ap (λ n. mappings_in (slice_set mappings n (Some c.in-Ok.mapping)) k) c.from.ensures ∙ found;
+  after = refl;
+  reports = record {
+    own = c.in-Ok.ensures.found.own.0 ∙ sym c.get_mapping.ensures.step.image.number;
+    from = c.in-Ok.ensures.found.own.1;
+    within = omega (arith, c.in-Ok.ensures.found.own.2, c.in-Ok.ensures.found.within);
+    past = λ past. let none = (c.in-Ok.ensures.refusals.past (none_refused _ (unusable c.args.image.now) _ c.in-Ok.ensures.refusals.early) past).1 in (none.0, c.in-Ok.ensures.found.own.2 ∙ none.1);
+  };
+  causes = is_answered g.S.Storage.view g.F.BackingDisk.backing c.args.image.now c.get_mapping.new.self c.args.slots.now.prepared.items (C.GetMapping c.args.slot c.args.offset c.args.max) _ _ (R.Mapping c.in-Ok.mapping) (λ is. absurd cc) (λ is. absurd cc, λ is. absurd is) refl c.in-Ok.ensures.refusals.early (λ _ _. tt);
+  quiet = λ reading existing. record { reading = c.get_mapping.ensures.step.image.writable ∙ reading; quiet = c.get_mapping.ensures.step.quiet; existing = existing };
 }
 
-pub returns-in-Ok-clause-step : goal.returns-in-Ok-clause-step
-returns-in-Ok-clause-step g c = record {
-  image = search rules;
-  faults = search rules;
-  header_cluster = search rules;
-  marks = answered_at_once g.S.Storage.view c.args.image.now c.get_mapping.new.self c.in-Ok.ensures.step.once_written c.in-Ok.ensures.step.marks;
+pub returns-in-Err : goal.returns-in-Err
+returns-in-Err g c = record {
+  keeps = search rules;
+  size = search rules;
+  counts = search rules;
+  marks = refused_at_once g.S.Storage.view c.args.image.now c.get_mapping.new.self c.in-Err.refusal c.in-Err.ensures.step.once_written c.in-Err.ensures.step.marks;
+  header_cluster = λ _. search rules;
+  slots = search rules;
+  steps = λ _ x s stands founds. refused_as x _ _ s _ _ _ _ refl stands
+      (lookup_answer g.S.Storage.view g.F.BackingDisk.backing c.args.image.now c.args.slots.now.prepared.items c.args.slot c.args.offset c.args.max _ (λ f. error_is (unusable_first c.args.image.now _ c.in-Err.ensures.refusals.early f))
+      (λ usable past. let no = (c.in-Err.ensures.refusals.past usable past).0 in absurd cc)) (c.in-Err.ensures.sees c.args.slots.now.prepared.items) (λ f. f) (λ f. f) (λ _ _. refl) tt;
+  finds = search rules;
+  after = refl;
+  reports = tt;
+  causes = is_refused g.S.Storage.view g.F.BackingDisk.backing c.args.image.now c.get_mapping.new.self c.args.slots.now.prepared.items (C.GetMapping c.args.slot c.args.offset c.args.max) c.in-Err.refusal (R.Refused c.in-Err.refusal) (λ is. absurd cc) (λ is. absurd cc, λ is. absurd is) refl
+      (begun_with _ _ _ (unusable c.args.image.now) c.in-Err.ensures.refusals.early) c.in-Err.ensures.refusals.late (λ _ _. tt) (λ none past. let no = (c.in-Err.ensures.refusals.past none past).0 in absurd cc) (λ _ sound. (c.in-Err.ensures.sound c.args.slots.now.prepared.items sound).may_fail);
+  quiet = λ reading existing. record { reading = c.get_mapping.ensures.step.image.writable ∙ reading; quiet = c.get_mapping.ensures.step.quiet; existing = existing };
 }

@@ -10,7 +10,7 @@ use Rattle.qcow2_metadata.specs.Header.{header}
 use Rattle.qcow2_metadata.specs.declared.header.HeaderFields.{HeaderFields}
 use Rattle.qcow2_disk.specs.Mappings.{IsPrivateIn, IsHiddenIn}
 use Rattle.qcow2_alloc.specs.ImageFile.{known_in}
-use Rattle.qcow2_image.proofs.HiddenBytes.{header_is, hidden_in}
+use Rattle.qcow2_image.proofs.Images.HiddenBytes.{header_is, hidden_in}
 use Rattle.qcow2_session.proofs.Meanings.{taken, untaken, none_at, found_at, so_in_slot, host_at, prepared_at, does_prepare}
 use Rattle.qcow2_session.proofs.Places.{get_set_same}
 use Rattle.qcow2_session.proofs.Answering.{preparing_first, prepares_answer, error_is, not_both}
@@ -28,127 +28,114 @@ use Rattle.qcow2_image.proofs.Map.Quiet.{reads_none}
 use Rattle.qcow2_session.proofs.Quiet.{quiet_image, quiet_left}
 use Rattle.qcow2_session.proofs.session.prepare.Goals as goal
 
-pub returns-then-is_some-clause-command_step : goal.returns-then-is_some-clause-command_step
-returns-then-is_some-clause-command_step g c = λ x s stands founds. none_as x _ s _ _ misuse refl stands (record { sized = λ _. tt; failed = λ _. tt; may = λ _. tt }) (λ _. (taken (image_abstraction g.S.Storage.view g.F.BackingDisk.backing) c.args.image.now c.args.slots.now.prepared.items c.args.slot c.get.result c.get.ensures (sym c.is_some.ensures ∙ c.if-is_some.true), refl)) (λ f. f) (λ _ _. refl) tt
-
-pub returns-in-Err-clause-command_step : goal.returns-in-Err-clause-command_step
-returns-in-Err-clause-command_step g c = λ x s stands founds. refused_as x _ _ s _ _ _ _ refl stands (record { sized = λ _. tt; failed = λ f. error_is (preparing_first c.args.image.now _ c.args.offset c.args.length c.in-Err.ensures.early f); may = λ _. tt }) (c.in-Err.ensures.sees c.args.slots.now.prepared.items) (λ f. f) (λ f. f) (λ _ _. refl) tt
-
-pub returns-in-Ok-clause-command_step : goal.returns-in-Ok-clause-command_step
-returns-in-Ok-clause-command_step g c = λ x s stands founds.
-    let spec = image_abstraction g.S.Storage.view g.F.BackingDisk.backing in
-    let out = c.args.slots.now.prepared.items in
-    let free = untaken spec c.args.image.now out c.args.slot c.get.result c.get.ensures (sym c.is_some.ensures ∙ c.if-is_some.false) in
-    subst (λ (o : List (Option _)). RefinesCommand x (abstract_image spec c.args.image.now out) (abstract_image spec c.prepare_data_mapping.new.self o) s (prepare c.args.slot c.args.offset c.args.length c.args.overwrite) (prepared_is c.offset.result c.length.result c.is_nonblocking.result)) (sym c.fill.ensures.is)
-    (done_as x _ _ s _ _ _ refl stands (prepares_answer g.S.Storage.view g.F.BackingDisk.backing c.args.image.now out _ (λ e h. not_both h) c.args.slot c.args.offset c.args.length c.args.overwrite c.offset.result c.length.result c.is_nonblocking.result c.in-Ok.ensures.early)
-    (does_prepare s.found c.args.slot c.args.offset c.args.length c.args.overwrite (spec.means c.prepare_data_mapping.new.self c.in-Ok.prepared) c.offset.result c.length.result c.is_nonblocking.result (none_at spec c.args.image.now out c.args.slot free) (sym c.length.ensures)
-    (c.in-Ok.ensures.sees out c.args.slot free)) (λ f. f) (λ _ _. refl)
-    (λ sound.
-    let new = c.prepare_data_mapping.new.self in
-    let out' = slice_set out c.args.slot (Some c.in-Ok.prepared) in
-    let there = get_set_same out c.args.slot (Some c.in-Ok.prepared) None free in
-    let is-at = found_at spec new out' c.args.slot c.in-Ok.prepared there in
-    let known = known_in g.S.Storage.view c.args.image.now.file in
-    record {
-      written = host_at spec new out' c.args.slot c.in-Ok.prepared there ∙ prepared_at c.offset.ensures c.length.ensures c.is_nonblocking.ensures;
-      private = λ some. so_in_slot (abstract_image spec new out') c.args.slot (spec.means new c.in-Ok.prepared) (λ m. IsPrivateIn (header known) known m) is-at
-          (subst (λ (h : HeaderFields). IsPrivateIn h known (spec.means new c.in-Ok.prepared)) (sym (header_is g.S.Storage.view g.F.BackingDisk.backing c.args.image.now out sound)) (c.in-Ok.ensures.maps some out sound).private);
-      hidden = so_in_slot (abstract_image spec new out') c.args.slot (spec.means new c.in-Ok.prepared) (λ m. IsHiddenIn (header (known_in g.S.Storage.view new.file)) (known_in g.S.Storage.view new.file) m) is-at
-          (hidden_in g.S.Storage.view g.F.BackingDisk.backing new out' ((c.in-Ok.ensures.sees out c.args.slot free).answer sound).0 c.args.slot c.in-Ok.prepared there);
-    }))
-
-pub returns-in-Ok-clause-tells : goal.returns-in-Ok-clause-tells
-returns-in-Ok-clause-tells g c = λ sound.
-    let old = c.args.image.now in
-    let out = c.args.slots.now.prepared.items in
-    let p = c.in-Ok.prepared in
-    let free = untaken (image_abstraction g.S.Storage.view g.F.BackingDisk.backing) old out c.args.slot c.get.result c.get.ensures (sym c.is_some.ensures ∙ c.if-is_some.false) in (
-      p,
-      subst (λ (o : List (Option _)). slice_get o c.args.slot ≡ Some (Some p)) (sym c.fill.ensures.is) (get_set_same out c.args.slot (Some p) None free),
-      record {
-        nothing = λ none. (c.in-Ok.ensures.nothing (ap (λ n. refuses_to_prepare old c.args.offset n) (sym none) ∙ none_refused _ (refuses_to_prepare old c.args.offset c.args.length) p c.in-Ok.ensures.early) none).1;
-        answered = λ some. c.in-Ok.ensures.maps some out sound;
-      },
-    )
-
-pub returns-then-is_some-clause-causes : goal.returns-then-is_some-clause-causes
-returns-then-is_some-clause-causes g c = is_misused g.S.Storage.view g.F.BackingDisk.backing c.args.image.now c.args.image.now c.args.slots.now.prepared.items (C.PrepareDataMapping c.args.slot c.args.offset c.args.length c.args.overwrite) (λ _. holds c.args.slots.now.prepared.items c.args.slot c.get.result c.get.ensures (sym c.is_some.ensures ∙ c.if-is_some.true), λ _. refl) refl (λ is. absurd cc)
-
-pub returns-in-Err-clause-causes : goal.returns-in-Err-clause-causes
-returns-in-Err-clause-causes g c =
-    let free = untaken (image_abstraction g.S.Storage.view g.F.BackingDisk.backing) c.args.image.now c.args.slots.now.prepared.items c.args.slot c.get.result c.get.ensures (sym c.is_some.ensures ∙ c.if-is_some.false) in
-    let e = c.in-Err.refusal in
-    is_refused g.S.Storage.view g.F.BackingDisk.backing c.args.image.now c.prepare_data_mapping.new.self c.args.slots.now.prepared.items (C.PrepareDataMapping c.args.slot c.args.offset c.args.length c.args.overwrite) e (R.Refused e) (λ is. absurd cc) (λ is. absurd cc, λ is. absurd (not_free c.args.slots.now.prepared.items c.args.slot is.1 free)) refl
-    (begun_with _ _ _ (refuses_to_prepare c.args.image.now c.args.offset c.args.length) c.in-Err.ensures.early) c.in-Err.ensures.late
-    (λ none sound. elim (cases_lt 0 c.args.length) [
-      | inl some ↦ c.in-Err.ensures.met none some c.args.slots.now.prepared.items sound
-      | inr least ↦ absurd (let empty : c.args.length ≡ 0 = omega (arith, least) in let no = (c.in-Err.ensures.nothing (ap (λ n. refuses_to_prepare c.args.image.now c.args.offset n) (sym empty) ∙ none) empty).0 in cc)
-    ])
-    (λ none empty. let no = (c.in-Err.ensures.nothing (ap (λ n. refuses_to_prepare c.args.image.now c.args.offset n) (sym empty) ∙ none) empty).0 in absurd cc)
-    (λ none sound is. c.in-Err.ensures.taken none c.args.slots.now.prepared.items sound (some_error is))
-
-pub returns-in-Ok-clause-causes : goal.returns-in-Ok-clause-causes
-returns-in-Ok-clause-causes g c =
-    let free = untaken (image_abstraction g.S.Storage.view g.F.BackingDisk.backing) c.args.image.now c.args.slots.now.prepared.items c.args.slot c.get.result c.get.ensures (sym c.is_some.ensures ∙ c.if-is_some.false) in
-    is_answered g.S.Storage.view g.F.BackingDisk.backing c.args.image.now c.prepare_data_mapping.new.self c.args.slots.now.prepared.items (C.PrepareDataMapping c.args.slot c.args.offset c.args.length c.args.overwrite) _ c.in-Ok.prepared (R.Prepared c.offset.result c.length.result c.is_nonblocking.result) (λ is. absurd cc) (λ is. absurd cc, λ is. absurd (not_free c.args.slots.now.prepared.items c.args.slot is.1 free)) refl
-    c.in-Ok.ensures.early
-    (λ none sound.
-    let view = g.S.Storage.view in
-    let below = g.F.BackingDisk.backing in
-    let old = c.args.image.now in
-    let new = c.prepare_data_mapping.new.self in
-    let p = c.in-Ok.prepared in
-    let out = c.args.slots.now.prepared.items in
-    let sees = c.in-Ok.ensures.sees out c.args.slot free in
-    prepared_untaken view below old.file.header.fields (known_in view old.file) new out c.args.slot p (meaning view below new p) c.args.offset c.args.length free (sees.answer sound).0
-    (ap (λ (x : Setting). x.cluster_size) (sees.acts.works sound).setting) (sees.answer sound).1.0.from (λ some. c.in-Ok.ensures.maps some out sound))
-
-pub returns-then-is_some-clause-after : goal.returns-then-is_some-clause-after
-returns-then-is_some-clause-after g c = refl
-
-pub returns-in-Err-clause-after : goal.returns-in-Err-clause-after
-returns-in-Err-clause-after g c = refl
-
-pub returns-in-Ok-clause-after : goal.returns-in-Ok-clause-after
-returns-in-Ok-clause-after g c =
-    let free = untaken (image_abstraction g.S.Storage.view g.F.BackingDisk.backing) c.args.image.now c.args.slots.now.prepared.items c.args.slot c.get.result c.get.ensures (sym c.is_some.ensures ∙ c.if-is_some.false) in
-    (c.in-Ok.prepared, (free, c.fill.ensures.is), c.offset.ensures, c.length.ensures, c.is_nonblocking.ensures)
-
-pub returns-in-Ok-clause-quiet : goal.returns-in-Ok-clause-quiet
-returns-in-Ok-clause-quiet g c = λ reading existing.
-    let old = c.args.image.now in
-    let same = prepare_same old reading _ c.args.offset c.args.length c.prepare_data_mapping.ensures.early c.prepare_data_mapping.ensures.nothing in
-    let p = nothing_prepared old reading _ c.in-Ok.prepared c.args.offset c.args.length c.in-Ok.ensures.early c.in-Ok.ensures.nothing in
-    record {
-      reading = ap is_writable same ∙ reading;
-      quiet = quiet_image g.S.Storage.view old c.prepare_data_mapping.new.self same;
-      existing = subst AreExisting (sym c.fill.ensures.is) (existing_set c.args.slots.now.prepared.items c.args.slot (Some c.in-Ok.prepared) existing p.0);
-    }
-
-pub returns-in-Err-clause-quiet : goal.returns-in-Err-clause-quiet
-returns-in-Err-clause-quiet g c = λ reading existing.
-    let old = c.args.image.now in
-    let same = prepare_same old reading _ c.args.offset c.args.length c.prepare_data_mapping.ensures.early c.prepare_data_mapping.ensures.nothing in
-    quiet_left g.S.Storage.view old c.prepare_data_mapping.new.self c.args.slots.now.prepared.items same reading existing
-
-pub returns-then-is_some-clause-quiet : goal.returns-then-is_some-clause-quiet
-returns-then-is_some-clause-quiet g c = λ reading existing. record { reading = reading; quiet = reads_none g.S.Storage.view c.args.image.now; existing = existing }
-
-pub returns-then-is_some-clause-step : goal.returns-then-is_some-clause-step
-returns-then-is_some-clause-step g c = record { image = search rules; faults = search rules; header_cluster = behind_none; marks = at_rest g.S.Storage.view None c.args.image.now refl }
-
-pub returns-in-Err-clause-step : goal.returns-in-Err-clause-step
-returns-in-Err-clause-step g c = record {
-  image = search rules;
-  faults = search rules;
-  header_cluster = search rules;
-  marks = refused_at_once g.S.Storage.view c.args.image.now c.prepare_data_mapping.new.self c.in-Err.refusal c.in-Err.ensures.step.once_written c.in-Err.ensures.step.marks;
+pub returns-then-is_some : goal.returns-then-is_some
+returns-then-is_some g c = record {
+  keeps = search rules;
+  size = search rules;
+  counts = search rules;
+  marks = at_rest g.S.Storage.view None c.args.image.now refl;
+  header_cluster = λ _. behind_none;
+  slots = search rules;
+  steps = λ _ x s stands founds. none_as x _ s _ _ misuse refl stands (record { sized = λ _. tt; failed = λ _. tt; may = λ _. tt }) (λ _. (taken (image_abstraction g.S.Storage.view g.F.BackingDisk.backing) c.args.image.now c.args.slots.now.prepared.items c.args.slot c.get.result c.get.ensures (sym c.is_some.ensures ∙ c.if-is_some.true), refl)) (λ f. f) (λ _ _. refl) tt;
+  finds = search rules;
+  after = refl;
+  reports = tt;
+  causes = is_misused g.S.Storage.view g.F.BackingDisk.backing c.args.image.now c.args.image.now c.args.slots.now.prepared.items (C.PrepareDataMapping c.args.slot c.args.offset c.args.length c.args.overwrite) (λ _. holds c.args.slots.now.prepared.items c.args.slot c.get.result c.get.ensures (sym c.is_some.ensures ∙ c.if-is_some.true), λ _. refl) refl (λ is. absurd cc);
+  quiet = λ reading existing. record { reading = reading; quiet = reads_none g.S.Storage.view c.args.image.now; existing = existing };
 }
 
-pub returns-in-Ok-clause-step : goal.returns-in-Ok-clause-step
-returns-in-Ok-clause-step g c = record {
-  image = search rules;
-  faults = search rules;
-  header_cluster = search rules;
+pub returns-in-Err : goal.returns-in-Err
+returns-in-Err g c = record {
+  keeps = search rules;
+  size = search rules;
+  counts = search rules;
+  marks = refused_at_once g.S.Storage.view c.args.image.now c.prepare_data_mapping.new.self c.in-Err.refusal c.in-Err.ensures.step.once_written c.in-Err.ensures.step.marks;
+  header_cluster = λ _. search rules;
+  slots = search rules;
+  steps = λ _ x s stands founds. refused_as x _ _ s _ _ _ _ refl stands (record { sized = λ _. tt; failed = λ f. error_is (preparing_first c.args.image.now _ c.args.offset c.args.length c.in-Err.ensures.refusals.early f); may = λ _. tt }) (c.in-Err.ensures.sees c.args.slots.now.prepared.items) (λ f. f) (λ f. f) (λ _ _. refl) tt;
+  finds = search rules;
+  after = refl;
+  reports = tt;
+  causes = let free = untaken (image_abstraction g.S.Storage.view g.F.BackingDisk.backing) c.args.image.now c.args.slots.now.prepared.items c.args.slot c.get.result c.get.ensures (sym c.is_some.ensures ∙ c.if-is_some.false) in
+      let e = c.in-Err.refusal in
+      is_refused g.S.Storage.view g.F.BackingDisk.backing c.args.image.now c.prepare_data_mapping.new.self c.args.slots.now.prepared.items (C.PrepareDataMapping c.args.slot c.args.offset c.args.length c.args.overwrite) e (R.Refused e) (λ is. absurd cc) (λ is. absurd cc, λ is. absurd (not_free c.args.slots.now.prepared.items c.args.slot is.1 free)) refl
+      (begun_with _ _ _ (refuses_to_prepare c.args.image.now c.args.offset c.args.length) c.in-Err.ensures.refusals.early) c.in-Err.ensures.refusals.late
+      (λ none sound. elim (cases_lt 0 c.args.length) [
+        | inl some ↦ (c.in-Err.ensures.sound c.args.slots.now.prepared.items sound).may_fail none some
+        | inr least ↦ absurd (let empty : c.args.length ≡ 0 = omega (arith, least) in let no = (c.in-Err.ensures.refusals.nothing (ap (λ n. refuses_to_prepare c.args.image.now c.args.offset n) (sym empty) ∙ none) empty).0 in cc)
+      ])
+      (λ none empty. let no = (c.in-Err.ensures.refusals.nothing (ap (λ n. refuses_to_prepare c.args.image.now c.args.offset n) (sym empty) ∙ none) empty).0 in absurd cc)
+      (λ none sound is. (c.in-Err.ensures.sound c.args.slots.now.prepared.items sound).taken none (some_error is));
+  quiet = λ reading existing.
+      let old = c.args.image.now in
+      let same = prepare_same old reading _ c.args.offset c.args.length c.prepare_data_mapping.ensures.refusals.early c.prepare_data_mapping.ensures.refusals.nothing in
+      quiet_left g.S.Storage.view old c.prepare_data_mapping.new.self c.args.slots.now.prepared.items same reading existing;
+}
+
+pub returns-in-Ok : goal.returns-in-Ok
+returns-in-Ok g c = record {
+  keeps = search rules;
+  size = search rules;
+  counts = search rules;
   marks = answered_at_once g.S.Storage.view c.args.image.now c.prepare_data_mapping.new.self c.in-Ok.ensures.step.once_written c.in-Ok.ensures.step.marks;
+  header_cluster = λ _. search rules;
+  slots = search rules;
+  steps = λ _ x s stands founds.
+      let spec = image_abstraction g.S.Storage.view g.F.BackingDisk.backing in
+      let out = c.args.slots.now.prepared.items in
+      let free = untaken spec c.args.image.now out c.args.slot c.get.result c.get.ensures (sym c.is_some.ensures ∙ c.if-is_some.false) in
+      subst (λ (o : List (Option _)). RefinesCommand x (abstract_image spec c.args.image.now out) (abstract_image spec c.prepare_data_mapping.new.self o) s (prepare c.args.slot c.args.offset c.args.length c.args.overwrite) (prepared_is c.offset.result c.length.result c.is_nonblocking.result)) (sym c.fill.ensures.is)
+      (done_as x _ _ s _ _ _ refl stands (prepares_answer g.S.Storage.view g.F.BackingDisk.backing c.args.image.now out _ (λ e h. not_both h) c.args.slot c.args.offset c.args.length c.args.overwrite c.offset.result c.length.result c.is_nonblocking.result c.in-Ok.ensures.refusals.early)
+      (does_prepare s.found c.args.slot c.args.offset c.args.length c.args.overwrite (spec.means c.prepare_data_mapping.new.self c.in-Ok.prepared) c.offset.result c.length.result c.is_nonblocking.result (none_at spec c.args.image.now out c.args.slot free) (sym c.length.ensures)
+      (c.in-Ok.ensures.sees out c.args.slot free)) (λ f. f) (λ _ _. refl)
+      (λ sound.
+      let new = c.prepare_data_mapping.new.self in
+      let out' = slice_set out c.args.slot (Some c.in-Ok.prepared) in
+      let there = get_set_same out c.args.slot (Some c.in-Ok.prepared) None free in
+      let is-at = found_at spec new out' c.args.slot c.in-Ok.prepared there in
+      let known = known_in g.S.Storage.view c.args.image.now.file in
+      record {
+        written = host_at spec new out' c.args.slot c.in-Ok.prepared there ∙ prepared_at c.offset.ensures c.length.ensures c.is_nonblocking.ensures;
+        private = λ some. so_in_slot (abstract_image spec new out') c.args.slot (spec.means new c.in-Ok.prepared) (λ m. IsPrivateIn (header known) known m) is-at
+            (subst (λ (h : HeaderFields). IsPrivateIn h known (spec.means new c.in-Ok.prepared)) (sym (header_is g.S.Storage.view g.F.BackingDisk.backing c.args.image.now out sound)) ((c.in-Ok.ensures.sound out sound).maps some).private);
+        hidden = so_in_slot (abstract_image spec new out') c.args.slot (spec.means new c.in-Ok.prepared) (λ m. IsHiddenIn (header (known_in g.S.Storage.view new.file)) (known_in g.S.Storage.view new.file) m) is-at
+            (hidden_in g.S.Storage.view g.F.BackingDisk.backing new out' ((c.in-Ok.ensures.sees out c.args.slot free).answer sound).0 c.args.slot c.in-Ok.prepared there);
+      }));
+  finds = search rules;
+  after = let free = untaken (image_abstraction g.S.Storage.view g.F.BackingDisk.backing) c.args.image.now c.args.slots.now.prepared.items c.args.slot c.get.result c.get.ensures (sym c.is_some.ensures ∙ c.if-is_some.false) in
+      (c.in-Ok.prepared, (free, c.fill.ensures.is), c.offset.ensures, c.length.ensures, c.is_nonblocking.ensures);
+  reports = λ sound.
+      let old = c.args.image.now in
+      let out = c.args.slots.now.prepared.items in
+      let p = c.in-Ok.prepared in
+      let free = untaken (image_abstraction g.S.Storage.view g.F.BackingDisk.backing) old out c.args.slot c.get.result c.get.ensures (sym c.is_some.ensures ∙ c.if-is_some.false) in (
+        p,
+        subst (λ (o : List (Option _)). slice_get o c.args.slot ≡ Some (Some p)) (sym c.fill.ensures.is) (get_set_same out c.args.slot (Some p) None free),
+        record {
+          nothing = λ none. (c.in-Ok.ensures.refusals.nothing (ap (λ n. refuses_to_prepare old c.args.offset n) (sym none) ∙ none_refused _ (refuses_to_prepare old c.args.offset c.args.length) p c.in-Ok.ensures.refusals.early) none).1;
+          answered = λ some. (c.in-Ok.ensures.sound out sound).maps some;
+        },
+      );
+  causes = let free = untaken (image_abstraction g.S.Storage.view g.F.BackingDisk.backing) c.args.image.now c.args.slots.now.prepared.items c.args.slot c.get.result c.get.ensures (sym c.is_some.ensures ∙ c.if-is_some.false) in
+      is_answered g.S.Storage.view g.F.BackingDisk.backing c.args.image.now c.prepare_data_mapping.new.self c.args.slots.now.prepared.items (C.PrepareDataMapping c.args.slot c.args.offset c.args.length c.args.overwrite) _ c.in-Ok.prepared (R.Prepared c.offset.result c.length.result c.is_nonblocking.result) (λ is. absurd cc) (λ is. absurd cc, λ is. absurd (not_free c.args.slots.now.prepared.items c.args.slot is.1 free)) refl
+      c.in-Ok.ensures.refusals.early
+      (λ none sound.
+      let view = g.S.Storage.view in
+      let below = g.F.BackingDisk.backing in
+      let old = c.args.image.now in
+      let new = c.prepare_data_mapping.new.self in
+      let p = c.in-Ok.prepared in
+      let out = c.args.slots.now.prepared.items in
+      let sees = c.in-Ok.ensures.sees out c.args.slot free in
+      prepared_untaken view below old.file.header.fields (known_in view old.file) new out c.args.slot p (meaning view below new p) c.args.offset c.args.length free (sees.answer sound).0
+      (ap (λ (x : Setting). x.cluster_size) (sees.acts.works sound).setting) (sees.answer sound).1.0.from (λ some. (c.in-Ok.ensures.sound out sound).maps some));
+  quiet = λ reading existing.
+      let old = c.args.image.now in
+      let same = prepare_same old reading _ c.args.offset c.args.length c.prepare_data_mapping.ensures.refusals.early c.prepare_data_mapping.ensures.refusals.nothing in
+      let p = nothing_prepared old reading _ c.in-Ok.prepared c.args.offset c.args.length c.in-Ok.ensures.refusals.early c.in-Ok.ensures.refusals.nothing in
+      record {
+        reading = ap is_writable same ∙ reading;
+        quiet = quiet_image g.S.Storage.view old c.prepare_data_mapping.new.self same;
+        existing = subst AreExisting (sym c.fill.ensures.is) (existing_set c.args.slots.now.prepared.items c.args.slot (Some c.in-Ok.prepared) existing p.0);
+      };
 }

@@ -7,12 +7,12 @@ use Rattle.qcow2_image.specs.ImageInvariant.{abstract_of}
 use Rattle.qcow2_session.specs.Sessions.{Reads}
 use Rattle.qcow2_session.proofs.Turns.{refused_is, does_if}
 use Rattle.std.specs.Prelude.{IfErr}
-use Rattle.qcow2_image.specs.Refusals.{IsMet, refuses_to_read}
+use Rattle.qcow2_image.specs.Refusals.{MayFail, refuses_to_read}
 use Rattle.qcow2_session.proofs.Marking.{at_rest, in_parts, memory_marks, parts_handed, unmarked, refused_none}
 use Rattle.qcow2_image.proofs.Call.BehindHeader.{behind_none}
-use Rattle.qcow2_image.specs.MetAlone.{IsMetReadingRange}
+use Rattle.qcow2_image.specs.MayFail.{MayFailReadingRange}
 use Rattle.qcow2_alloc.specs.ImageFile.{known_in}
-use Rattle.qcow2_session.proofs.MetOnSound.{memory_looking}
+use Rattle.qcow2_session.proofs.FailingOnSound.{memory_looking}
 use Rattle.qcow2_session.proofs.session.read.Goals as goal
 
 pub returns-in_err-read_into-clause-sees : goal.returns-in_err-read_into-clause-sees
@@ -25,22 +25,37 @@ returns-clause-sees g c = λ out.
     let whole : take c.in_ok-bytes.bytes.len (c.read_into.new.bytes ++ drop (length c.read_into.new.bytes) c.in_ok-bytes.bytes.items) ≡ c.read_into.new.bytes = grind (arith, common_steps) in
     does_if (λ h. (grind (arith, common_steps), subst (λ b. Shows (guest_of (abstract_of g.S.Storage.view g.F.BackingDisk.backing c.args.image.now out)).disk c.args.offset b) (sym whole) h.0, h.1)) (c.in_ok-read_into.ensures.sees out)
 
-pub returns-in_err-read_into-clause-late : goal.returns-in_err-read_into-clause-late
-returns-in_err-read_into-clause-late g c = λ none.
-    subst (λ r. IfErr r (λ e. IsMet e × (0 < c.args.length))) (sym (refused_is _ c.in_err-read_into.field-0.0 c.from_residual-in_err-read_into.ensures))
-    (let met = c.in_err-read_into.ensures.late (grind (arith, common_steps)) in (met.0, grind (arith, common_steps)))
+pub returns-in_err-check_read-clause-fails : goal.returns-in_err-check_read-clause-fails
+returns-in_err-check_read-clause-fails g c = record {
+  early = search rules;
+  late = search rules;
+  may_fail = λ none out sound. absurd (refused_none (refuses_to_read c.args.image.now c.args.offset c.args.length) c.in_err-check_read.field-0.0 c.in_err-check_read.ensures.refusal none);
+  beyond = search rules;
+  cause = search rules;
+}
 
-pub returns-in_err-check_read-clause-met : goal.returns-in_err-check_read-clause-met
-returns-in_err-check_read-clause-met g c = λ none out sound. absurd (refused_none (refuses_to_read c.args.image.now c.args.offset c.args.length) c.in_err-check_read.field-0.0 c.in_err-check_read.ensures.refusal none)
+pub returns-in_err-bytes-clause-fails : goal.returns-in_err-bytes-clause-fails
+returns-in_err-bytes-clause-fails g c = record {
+  early = search rules;
+  late = search rules;
+  may_fail = λ none out sound. subst (λ r. IfErr r (MayFailReadingRange out c.args.offset (c.args.offset + c.args.length) c.args.image.now.file.header.fields (known_in g.S.Storage.view c.args.image.now.file))) (sym (refused_is _ c.in_err-bytes.field-0.0 c.from_residual-in_err-bytes.ensures)) (inl (memory_looking c.in_err-bytes.field-0.0 c.in_err-bytes.ensures.cause.0));
+  beyond = search rules;
+  cause = search rules;
+}
 
-pub returns-in_err-bytes-clause-met : goal.returns-in_err-bytes-clause-met
-returns-in_err-bytes-clause-met g c = λ none out sound. subst (λ r. IfErr r (IsMetReadingRange out c.args.offset (c.args.offset + c.args.length) c.args.image.now.file.header.fields (known_in g.S.Storage.view c.args.image.now.file))) (sym (refused_is _ c.in_err-bytes.field-0.0 c.from_residual-in_err-bytes.ensures)) (inl (memory_looking c.in_err-bytes.field-0.0 c.in_err-bytes.ensures.cause.0))
-
-pub returns-in_err-read_into-clause-met : goal.returns-in_err-read_into-clause-met
-returns-in_err-read_into-clause-met g c = λ none out sound.
-    let long : length c.deref_mut.result.now ≡ c.args.length = grind (arith, common_steps) in
-    subst (λ r. IfErr r (IsMetReadingRange out c.args.offset (c.args.offset + c.args.length) c.args.image.now.file.header.fields (known_in g.S.Storage.view c.args.image.now.file))) (sym (refused_is _ c.in_err-read_into.field-0.0 c.from_residual-in_err-read_into.ensures))
-    ((rw long at c.in_err-read_into.ensures.met) none out sound)
+pub returns-in_err-read_into-clause-fails : goal.returns-in_err-read_into-clause-fails
+returns-in_err-read_into-clause-fails g c = record {
+  early = search rules;
+  late = λ none.
+      subst (λ r. IfErr r (λ e. MayFail e × (0 < c.args.length))) (sym (refused_is _ c.in_err-read_into.field-0.0 c.from_residual-in_err-read_into.ensures))
+      (let may_fail = c.in_err-read_into.ensures.fails.late (grind (arith, common_steps)) in (may_fail.0, grind (arith, common_steps)));
+  may_fail = λ none out sound.
+      let long : length c.deref_mut.result.now ≡ c.args.length = grind (arith, common_steps) in
+      subst (λ r. IfErr r (MayFailReadingRange out c.args.offset (c.args.offset + c.args.length) c.args.image.now.file.header.fields (known_in g.S.Storage.view c.args.image.now.file))) (sym (refused_is _ c.in_err-read_into.field-0.0 c.from_residual-in_err-read_into.ensures))
+      ((rw long at c.in_err-read_into.ensures.fails).may_fail none out sound);
+  beyond = search rules;
+  cause = search rules;
+}
 
 pub returns-in_err-bytes-clause-step : goal.returns-in_err-bytes-clause-step
 returns-in_err-bytes-clause-step g c = record {

@@ -12,15 +12,15 @@ use Rattle.qcow2_session.proofs.Turns.{refused_is, refuses_here, none_within, do
 use Rattle.qcow2_session.proofs.Told.{same_then}
 use Rattle.qcow2_image.proofs.Call.BehindHeader.{behind_none, behind_then}
 use Rattle.qcow2_image.proofs.Call.FaultCounts.{counted_on, faults_then}
-use Rattle.qcow2_image.specs.Refusals.{IsMet, refuses_to_read}
+use Rattle.qcow2_image.specs.Refusals.{MayFail, refuses_to_read}
 use Rattle.qcow2_session.proofs.Parts.{part_reads}
 use Rattle.qcow2_session.proofs.Marking.{at_rest, in_parts, parts_answered, parts_behind, parts_beyond, parts_handed, unmarked, refused_none}
 use Rattle.qcow2_session.proofs.Counting.{none_counted}
 use Rattle.qcow2_session.proofs.Converting.{does_nothing}
 use Rattle.qcow2_alloc.proofs.KeptTables.AllWritten.{written_none, written_then}
-use Rattle.qcow2_image.specs.MetAlone.{IsMetReadingRange}
+use Rattle.qcow2_image.specs.MayFail.{MayFailReadingRange}
 use Rattle.qcow2_alloc.specs.ImageFile.{known_in}
-use Rattle.qcow2_session.proofs.MetOnSound.{reads_part}
+use Rattle.qcow2_session.proofs.FailingOnSound.{reads_part}
 use Rattle.qcow2_session.proofs.session.read_into.Goals as goal
 
 pub returns-in_default-clause-sees : goal.returns-in_default-clause-sees
@@ -63,32 +63,6 @@ returns-clause-sees g c = λ out.
     let all : take c.loop-done.done c.loop-done.bytes ≡ c.loop-done.bytes = grind (arith, common_steps) in
     does_if (λ h. (subst (λ b. Shows (guest_of (abstract_of g.S.Storage.view g.F.BackingDisk.backing c.args.image.now out)).disk c.args.offset b) all h.0, h.1)) (c.loop-done.invariant.shown out)
 
-pub returns-in_default-clause-beyond : goal.returns-in_default-clause-beyond
-returns-in_default-clause-beyond g c = λ is. absurd (c.in_default.ensures (omega (arith, c.loop-done.invariant.end, c.loop-done-test.true)))
-
-pub returns-in_err-done-clause-beyond : goal.returns-in_err-done-clause-beyond
-returns-in_err-done-clause-beyond g c =
-    subst (λ r. IfErr r (IsRightlyBeyond c.args.image.now c.args.offset (length c.args.bytes.now))) (sym (refused_is _ c.in_err-done.field-0.0 c.from_residual-in_err-done.ensures))
-    (let part = take (length c.loop-done.bytes - c.loop-done.done) (drop c.loop-done.done c.loop-done.bytes) in
-    let rest : length part ≡ length c.loop-done.bytes - c.loop-done.done = grind (arith, common_steps) in
-    part_refused c.args.image.now c.loop-done.image c.args.offset (length c.args.bytes.now) c.in-Some.at (length part) c.in_err-done.field-0.0 c.loop-done.invariant.image.size (omega (arith, c.in-Some.ensures.1))
-    (omega (arith, rest, c.in-Some.ensures.1, c.loop-done.invariant.within, c.loop-done.auto.bytes)) (c.in_err-done.ensures.beyond (omega (arith, rest, c.loop-done-test.true))))
-
-pub returns-in_default-clause-late : goal.returns-in_default-clause-late
-returns-in_default-clause-late g c = λ none. absurd (c.in_default.ensures (omega (arith, c.loop-done.invariant.end, c.loop-done-test.true)))
-
-pub returns-in_err-done-clause-late : goal.returns-in_err-done-clause-late
-returns-in_err-done-clause-late g c = λ none.
-    subst (λ r. IfErr r (λ e. IsMet e × (0 < length c.args.bytes.now))) (sym (refused_is _ c.in_err-done.field-0.0 c.from_residual-in_err-done.ensures))
-    (let part = take (length c.loop-done.bytes - c.loop-done.done) (drop c.loop-done.done c.loop-done.bytes) in
-    let rest : length part ≡ length c.loop-done.bytes - c.loop-done.done = grind (arith, common_steps) in (
-      c.in_err-done.ensures.late
-          (part_reads c.args.image.now c.loop-done.image c.loop-done.invariant.image c.args.offset (length c.args.bytes.now) c.in-Some.at (length part) (omega (arith, c.in-Some.ensures.1))
-          (omega (arith, rest, c.in-Some.ensures.1, c.loop-done.invariant.within, c.loop-done.auto.bytes)) c.loop-done.invariant.works none)
-          (omega (arith, rest, c.loop-done-test.true)),
-      omega (arith, c.loop-done.auto.bytes, c.loop-done-test.true),
-    ))
-
 pub loop-done-init : goal.loop-done-init
 loop-done-init g c = record {
   faults = none_counted g.S.Storage.view g.F.BackingDisk.backing c.args.image.now;
@@ -103,26 +77,57 @@ loop-done-init g c = record {
   shown = λ out. does_if (λ same. (λ i lt. absurd (let none : i < length (take 0 c.args.bytes.now) = lt in grind (arith, common_steps)), same)) (does_nothing (abstract_of g.S.Storage.view g.F.BackingDisk.backing c.args.image.now out));
 }
 
-pub returns-in_err-check_read-clause-met : goal.returns-in_err-check_read-clause-met
-returns-in_err-check_read-clause-met g c = λ none out sound. absurd (refused_none (refuses_to_read c.args.image.now c.args.offset (length c.args.bytes.now)) c.in_err-check_read.field-0.0 c.in_err-check_read.ensures.refusal none)
+pub returns-in_err-check_read-clause-fails : goal.returns-in_err-check_read-clause-fails
+returns-in_err-check_read-clause-fails g c = record {
+  early = search rules;
+  late = search rules;
+  may_fail = λ none out sound. absurd (refused_none (refuses_to_read c.args.image.now c.args.offset (length c.args.bytes.now)) c.in_err-check_read.field-0.0 c.in_err-check_read.ensures.refusal none);
+  beyond = search rules;
+  cause = search rules;
+}
 
-pub returns-in_default-clause-met : goal.returns-in_default-clause-met
-returns-in_default-clause-met g c = λ none out sound. absurd (c.in_default.ensures (omega (arith, c.loop-done.invariant.end, c.loop-done-test.true)))
+pub returns-in_default-clause-fails : goal.returns-in_default-clause-fails
+returns-in_default-clause-fails g c = record {
+  early = search rules;
+  late = λ none. absurd (c.in_default.ensures (omega (arith, c.loop-done.invariant.end, c.loop-done-test.true)));
+  may_fail = λ none out sound. absurd (c.in_default.ensures (omega (arith, c.loop-done.invariant.end, c.loop-done-test.true)));
+  beyond = λ is. absurd (c.in_default.ensures (omega (arith, c.loop-done.invariant.end, c.loop-done-test.true)));
+  cause = search rules;
+}
 
-pub returns-in_err-done-clause-met : goal.returns-in_err-done-clause-met
-returns-in_err-done-clause-met g c = λ none out sound.
-    let old = c.args.image.now in
-    let mid = c.loop-done.image in
-    let n = length c.args.bytes.now in
-    let part = take (length c.loop-done.bytes - c.loop-done.done) (drop c.loop-done.done c.loop-done.bytes) in
-    let rest : length part ≡ length c.loop-done.bytes - c.loop-done.done = grind (arith, common_steps) in
-    let from : c.args.offset ≤ c.in-Some.at = omega (arith, c.in-Some.ensures.1) in
-    let upto : c.in-Some.at + length part ≤ c.args.offset + n = omega (arith, rest, c.in-Some.ensures.1, c.loop-done.invariant.within, c.loop-done.auto.bytes) in
-    let so_far = c.loop-done.invariant.shown out in
-    let still = (so_far.answer sound).0 in
-    subst (λ r. IfErr r (IsMetReadingRange out c.args.offset (c.args.offset + length c.args.bytes.now) c.args.image.now.file.header.fields (known_in g.S.Storage.view c.args.image.now.file))) (sym (refused_is _ c.in_err-done.field-0.0 c.from_residual-in_err-done.ensures))
-    (reads_part g.S.Storage.view g.F.BackingDisk.backing out old mid sound still (so_far.acts.works sound) c.args.offset (c.args.offset + n) c.in-Some.at (c.in-Some.at + length part) c.in_err-done.field-0.0 from upto
-    (c.in_err-done.ensures.met (part_reads old mid c.loop-done.invariant.image c.args.offset n c.in-Some.at (length part) from upto c.loop-done.invariant.works none) (omega (arith, rest, c.loop-done-test.true)) out still))
+pub returns-in_err-done-clause-fails : goal.returns-in_err-done-clause-fails
+returns-in_err-done-clause-fails g c = record {
+  early = search rules;
+  late = λ none.
+      subst (λ r. IfErr r (λ e. MayFail e × (0 < length c.args.bytes.now))) (sym (refused_is _ c.in_err-done.field-0.0 c.from_residual-in_err-done.ensures))
+      (let part = take (length c.loop-done.bytes - c.loop-done.done) (drop c.loop-done.done c.loop-done.bytes) in
+      let rest : length part ≡ length c.loop-done.bytes - c.loop-done.done = grind (arith, common_steps) in (
+        c.in_err-done.ensures.late
+            (part_reads c.args.image.now c.loop-done.image c.loop-done.invariant.image c.args.offset (length c.args.bytes.now) c.in-Some.at (length part) (omega (arith, c.in-Some.ensures.1))
+            (omega (arith, rest, c.in-Some.ensures.1, c.loop-done.invariant.within, c.loop-done.auto.bytes)) c.loop-done.invariant.works none)
+            (omega (arith, rest, c.loop-done-test.true)),
+        omega (arith, c.loop-done.auto.bytes, c.loop-done-test.true),
+      ));
+  may_fail = λ none out sound.
+      let old = c.args.image.now in
+      let mid = c.loop-done.image in
+      let n = length c.args.bytes.now in
+      let part = take (length c.loop-done.bytes - c.loop-done.done) (drop c.loop-done.done c.loop-done.bytes) in
+      let rest : length part ≡ length c.loop-done.bytes - c.loop-done.done = grind (arith, common_steps) in
+      let from : c.args.offset ≤ c.in-Some.at = omega (arith, c.in-Some.ensures.1) in
+      let upto : c.in-Some.at + length part ≤ c.args.offset + n = omega (arith, rest, c.in-Some.ensures.1, c.loop-done.invariant.within, c.loop-done.auto.bytes) in
+      let so_far = c.loop-done.invariant.shown out in
+      let still = (so_far.answer sound).0 in
+      subst (λ r. IfErr r (MayFailReadingRange out c.args.offset (c.args.offset + length c.args.bytes.now) c.args.image.now.file.header.fields (known_in g.S.Storage.view c.args.image.now.file))) (sym (refused_is _ c.in_err-done.field-0.0 c.from_residual-in_err-done.ensures))
+      (reads_part g.S.Storage.view g.F.BackingDisk.backing out old mid sound still (so_far.acts.works sound) c.args.offset (c.args.offset + n) c.in-Some.at (c.in-Some.at + length part) c.in_err-done.field-0.0 from upto
+      (c.in_err-done.ensures.may_fail (part_reads old mid c.loop-done.invariant.image c.args.offset n c.in-Some.at (length part) from upto c.loop-done.invariant.works none) (omega (arith, rest, c.loop-done-test.true)) out still));
+  beyond = subst (λ r. IfErr r (IsRightlyBeyond c.args.image.now c.args.offset (length c.args.bytes.now))) (sym (refused_is _ c.in_err-done.field-0.0 c.from_residual-in_err-done.ensures))
+      (let part = take (length c.loop-done.bytes - c.loop-done.done) (drop c.loop-done.done c.loop-done.bytes) in
+      let rest : length part ≡ length c.loop-done.bytes - c.loop-done.done = grind (arith, common_steps) in
+      part_refused c.args.image.now c.loop-done.image c.args.offset (length c.args.bytes.now) c.in-Some.at (length part) c.in_err-done.field-0.0 c.loop-done.invariant.image.size (omega (arith, c.in-Some.ensures.1))
+      (omega (arith, rest, c.in-Some.ensures.1, c.loop-done.invariant.within, c.loop-done.auto.bytes)) (c.in_err-done.ensures.beyond (omega (arith, rest, c.loop-done-test.true))));
+  cause = search rules;
+}
 
 pub returns-in_err-done-clause-step : goal.returns-in_err-done-clause-step
 returns-in_err-done-clause-step g c = record {

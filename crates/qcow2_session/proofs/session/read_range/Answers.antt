@@ -6,15 +6,15 @@ use Rattle.qcow2_image.specs.ImageInvariant.{abstract_of}
 use Rattle.qcow2_session.specs.Sessions.{Reads}
 use Rattle.qcow2_session.proofs.Turns.{refused_is, refused_some, does_if}
 use Rattle.std.specs.Prelude.{IfErr}
-use Rattle.qcow2_image.specs.Refusals.{IsMet, unusable}
+use Rattle.qcow2_image.specs.Refusals.{MayFail, unusable}
 use Rattle.qcow2_image.specs.Found.{IsFoundWhole, further_by}
 use Rattle.qcow2_session.proofs.Marking.{answered_at_once, at_rest, memory_marks, none_answered, once_handed, refused_at_once, unchecked, unmarked}
 use Rattle.qcow2_alloc.specs.declared.error.ImageError.TheVariants.{Memory, OutdatedMapping}
-use Rattle.qcow2_image.proofs.Sizes.{sound_is_usable}
+use Rattle.qcow2_image.proofs.Images.Sizes.{sound_is_usable}
 use Rattle.qcow2_session.proofs.Causing.{same_error}
 use Rattle.qcow2_image.proofs.Call.BehindHeader.{behind_none}
-use Rattle.qcow2_session.proofs.MetOnSound.{memory_looking}
-use Rattle.qcow2_image.specs.MetAlone.{IsCacheHeld, IsMetMapped}
+use Rattle.qcow2_session.proofs.FailingOnSound.{memory_looking}
+use Rattle.qcow2_image.specs.MayFail.{IsCacheHeld, MayFailMapped}
 use Rattle.qcow2_session.proofs.session.read_range.Goals as goal
 
 pub returns-in_err-read_mapped-clause-sees : goal.returns-in_err-read_mapped-clause-sees
@@ -30,20 +30,20 @@ returns-clause-sees g c = λ out.
 pub returns-in_err-read_mapped-clause-late : goal.returns-in_err-read_mapped-clause-late
 returns-in_err-read_mapped-clause-late g c = λ none.
     let long : length c.deref_mut.result.now ≡ c.args.length = grind (arith, common_steps) in
-    subst (λ r. IfErr r (λ e. IsMet e × (0 < c.args.length))) (sym (refused_is _ c.in_err-read_mapped.field-0.0 c.from_residual-in_err-read_mapped.ensures))
-    (refused_some IsMet c.args.length (Err c.in_err-read_mapped.field-0.0) tt (c.in_err-read_mapped.ensures.late none) (λ empty. (c.in_err-read_mapped.ensures.nothing none (long ∙ empty)).0))
+    subst (λ r. IfErr r (λ e. MayFail e × (0 < c.args.length))) (sym (refused_is _ c.in_err-read_mapped.field-0.0 c.from_residual-in_err-read_mapped.ensures))
+    (refused_some MayFail c.args.length (Err c.in_err-read_mapped.field-0.0) tt (c.in_err-read_mapped.ensures.refusals.late none) (λ empty. (c.in_err-read_mapped.ensures.refusals.nothing none (long ∙ empty)).0))
 
 pub returns-in_err-read_mapped-clause-outdated : goal.returns-in_err-read_mapped-clause-outdated
 returns-in_err-read_mapped-clause-outdated g c = λ out sound is.
     let long : length c.deref_mut.result.now ≡ c.args.length = grind (arith, common_steps) in
     subst (λ n. ¬ IsFoundWhole g.S.Storage.view c.args.image.now (c.args.mapping.now.offset + c.args.at) (further_by c.args.at c.args.mapping.now.kind) n) long
-    (c.in_err-read_mapped.ensures.outdated out sound (ap Err (same_error (sym (refused_is _ c.in_err-read_mapped.field-0.0 c.from_residual-in_err-read_mapped.ensures) ∙ is))))
+    ((c.in_err-read_mapped.ensures.sound out sound).outdated (ap Err (same_error (sym (refused_is _ c.in_err-read_mapped.field-0.0 c.from_residual-in_err-read_mapped.ensures) ∙ is))))
 
 pub returns-clause-mapped : goal.returns-clause-mapped
 returns-clause-mapped g c = λ some out sound.
     let long : length c.deref_mut.result.now ≡ c.args.length = grind (arith, common_steps) in
     subst (λ n. IsFoundWhole g.S.Storage.view c.args.image.now (c.args.mapping.now.offset + c.args.at) (further_by c.args.at c.args.mapping.now.kind) n) long
-    (c.in_ok-read_mapped.ensures.mapped (subst (λ n. 0 < n) (sym long) some) out sound)
+    ((c.in_ok-read_mapped.ensures.sound out sound).mapped (subst (λ n. 0 < n) (sym long) some))
 
 pub returns-in_err-check_read-clause-outdated : goal.returns-in_err-check_read-clause-outdated
 returns-in_err-check_read-clause-outdated g c = λ out sound is. absurd (unchecked (unusable c.args.image.now) c.in_err-check_read.field-0.0 c.in_err-check_read.ensures.refusal (sound_is_usable g.S.Storage.view g.F.BackingDisk.backing c.args.image.now out sound))
@@ -63,16 +63,16 @@ returns-in_err-bytes-clause-mapped g c = λ some out sound. none_answered _ c.in
 pub returns-in_err-read_mapped-clause-mapped : goal.returns-in_err-read_mapped-clause-mapped
 returns-in_err-read_mapped-clause-mapped g c = λ some out sound. none_answered _ c.in_err-read_mapped.field-0.0 (IsFoundWhole g.S.Storage.view c.args.image.now (c.args.mapping.now.offset + c.args.at) (further_by c.args.at c.args.mapping.now.kind) c.args.length) (refused_is _ c.in_err-read_mapped.field-0.0 c.from_residual-in_err-read_mapped.ensures)
 
-pub returns-in_err-check_read-clause-met : goal.returns-in_err-check_read-clause-met
-returns-in_err-check_read-clause-met g c = λ none out sound. absurd (unchecked (unusable c.args.image.now) c.in_err-check_read.field-0.0 c.in_err-check_read.ensures.refusal (sound_is_usable g.S.Storage.view g.F.BackingDisk.backing c.args.image.now out sound))
+pub returns-in_err-check_read-clause-may_fail : goal.returns-in_err-check_read-clause-may_fail
+returns-in_err-check_read-clause-may_fail g c = λ none out sound. absurd (unchecked (unusable c.args.image.now) c.in_err-check_read.field-0.0 c.in_err-check_read.ensures.refusal (sound_is_usable g.S.Storage.view g.F.BackingDisk.backing c.args.image.now out sound))
 
-pub returns-in_err-bytes-clause-met : goal.returns-in_err-bytes-clause-met
-returns-in_err-bytes-clause-met g c = λ none out sound. subst (λ r. IfErr r (IsMetMapped (IsCacheHeld c.args.image.now out) (further_by c.args.at c.args.mapping.now.kind) (IsFoundWhole g.S.Storage.view c.args.image.now (c.args.mapping.now.offset + c.args.at) (further_by c.args.at c.args.mapping.now.kind) c.args.length))) (sym (refused_is _ c.in_err-bytes.field-0.0 c.from_residual-in_err-bytes.ensures)) (inl (inl (memory_looking c.in_err-bytes.field-0.0 c.in_err-bytes.ensures.cause.0)))
+pub returns-in_err-bytes-clause-may_fail : goal.returns-in_err-bytes-clause-may_fail
+returns-in_err-bytes-clause-may_fail g c = λ none out sound. subst (λ r. IfErr r (MayFailMapped (IsCacheHeld c.args.image.now out) (further_by c.args.at c.args.mapping.now.kind) (IsFoundWhole g.S.Storage.view c.args.image.now (c.args.mapping.now.offset + c.args.at) (further_by c.args.at c.args.mapping.now.kind) c.args.length))) (sym (refused_is _ c.in_err-bytes.field-0.0 c.from_residual-in_err-bytes.ensures)) (inl (inl (memory_looking c.in_err-bytes.field-0.0 c.in_err-bytes.ensures.cause.0)))
 
-pub returns-in_err-read_mapped-clause-met : goal.returns-in_err-read_mapped-clause-met
-returns-in_err-read_mapped-clause-met g c = λ none out sound.
+pub returns-in_err-read_mapped-clause-may_fail : goal.returns-in_err-read_mapped-clause-may_fail
+returns-in_err-read_mapped-clause-may_fail g c = λ none out sound.
     let long : length c.deref_mut.result.now ≡ c.args.length = grind (arith, common_steps) in
-    subst (λ r. IfErr r (IsMetMapped (IsCacheHeld c.args.image.now out) (further_by c.args.at c.args.mapping.now.kind) (IsFoundWhole g.S.Storage.view c.args.image.now (c.args.mapping.now.offset + c.args.at) (further_by c.args.at c.args.mapping.now.kind) c.args.length))) (sym (refused_is _ c.in_err-read_mapped.field-0.0 c.from_residual-in_err-read_mapped.ensures)) ((rw long at c.in_err-read_mapped.ensures.met) none out sound)
+    subst (λ r. IfErr r (MayFailMapped (IsCacheHeld c.args.image.now out) (further_by c.args.at c.args.mapping.now.kind) (IsFoundWhole g.S.Storage.view c.args.image.now (c.args.mapping.now.offset + c.args.at) (further_by c.args.at c.args.mapping.now.kind) c.args.length))) (sym (refused_is _ c.in_err-read_mapped.field-0.0 c.from_residual-in_err-read_mapped.ensures)) (rw long at ((c.in_err-read_mapped.ensures.sound out sound).may_fail none))
 
 pub returns-in_err-bytes-clause-step : goal.returns-in_err-bytes-clause-step
 returns-in_err-bytes-clause-step g c = record {

@@ -10,18 +10,18 @@ use Rattle.qcow2_session.proofs.Bytes.{shows_as}
 use Rattle.qcow2_session.proofs.Turns.{refused_is, refuses_here, none_within, does_if, refuses_if, does_then, refuses_then}
 use Rattle.std.specs.Prelude.{IfErr, length}
 use Rattle.qcow2_image.specs.Image.{size_of}
-use Rattle.qcow2_image.specs.Refusals.{IsMet, unusable, passes}
+use Rattle.qcow2_image.specs.Refusals.{MayFail, unusable, passes}
 use Rattle.qcow2_alloc.specs.declared.error.ImageError.TheVariants.{BeyondSize}
 use Rattle.qcow2_session.proofs.Causing.{mapping_reading, fits_below, then_none}
 use Rattle.qcow2_session.proofs.Parts.{mapping_usable}
-use Rattle.qcow2_image.proofs.Call.MetErrors.{tables_met}
+use Rattle.qcow2_image.proofs.Call.FailingErrors.{tables_met}
 use Rattle.qcow2_image.proofs.Call.BehindHeader.{behind_then}
 use Rattle.qcow2_alloc.proofs.KeptTables.AllWritten.{written_then}
 use Rattle.qcow2_image.proofs.Call.FaultCounts.{counted_on}
 use Rattle.qcow2_image.specs.Found.{IsFoundWhole, further_by}
-use Rattle.qcow2_image.specs.MetAlone.{IsMetReadingRange}
+use Rattle.qcow2_image.specs.MayFail.{MayFailReadingRange}
 use Rattle.qcow2_alloc.specs.ImageFile.{known_in}
-use Rattle.qcow2_session.proofs.MetOnSound.{found_there, looking_prepared, reads_found}
+use Rattle.qcow2_session.proofs.FailingOnSound.{found_there, looking_prepared, reads_found}
 use Rattle.qcow2_session.proofs.session.read_some.Goals as goal
 
 pub returns-in_err-mapping-clause-sees : goal.returns-in_err-mapping-clause-sees
@@ -43,42 +43,42 @@ returns-in_err-read_mapped-clause-sees g c =
 pub returns-clause-sees : goal.returns-clause-sees
 returns-clause-sees g c = λ out.
     let first : c.read_mapped.new.bytes ≡ take c.in_ok-mapping.found (c.read_mapped.new.bytes ++ drop c.in_ok-mapping.found c.args.bytes.now) = grind (arith, common_steps) in
-    let place : c.in_ok-mapping.mapping.offset + 0 ≡ c.args.offset = omega (arith, c.in_ok-mapping.ensures.own.1) in
+    let place : c.in_ok-mapping.mapping.offset + 0 ≡ c.args.offset = omega (arith, c.in_ok-mapping.ensures.found.own.1) in
     does_if (λ h. (shows_as (ap (λ (v : Guest). v.disk) h.0) place first h.1.1, h.1.0 ∙ h.0))
     (does_then (λ _ _. none_within (abstract_of g.S.Storage.view g.F.BackingDisk.backing c.get_mapping.new.self out) []) (c.in_ok-mapping.ensures.sees out) (c.in_ok-read_mapped.ensures.sees out))
 
 pub returns-in_err-mapping-clause-cause : goal.returns-in_err-mapping-clause-cause
 returns-in_err-mapping-clause-cause g c = subst (λ r. IfErr r IsOfReading) (sym (refused_is _ c.in_err-mapping.field-0.0 c.from_residual.ensures))
-    (mapping_reading _ _ c.args.image.now c.in_err-mapping.field-0.0 c.in_err-mapping.ensures.early (λ none. tables_met c.in_err-mapping.field-0.0 (c.in_err-mapping.ensures.late none)))
+    (mapping_reading _ _ c.args.image.now c.in_err-mapping.field-0.0 c.in_err-mapping.ensures.refusals.early (λ none. tables_met c.in_err-mapping.field-0.0 (c.in_err-mapping.ensures.refusals.late none)))
 
 pub returns-in_err-mapping-clause-late : goal.returns-in_err-mapping-clause-late
 returns-in_err-mapping-clause-late g c = λ none some.
     let first = then_none (unusable c.args.image.now) (passes (size_of c.args.image.now) c.args.offset (length c.args.bytes.now)) BeyondSize none in
-    subst (λ r. IfErr r IsMet) (sym (refused_is _ c.in_err-mapping.field-0.0 c.from_residual.ensures)) (tables_met c.in_err-mapping.field-0.0 (c.in_err-mapping.ensures.late first.0))
+    subst (λ r. IfErr r MayFail) (sym (refused_is _ c.in_err-mapping.field-0.0 c.from_residual.ensures)) (tables_met c.in_err-mapping.field-0.0 (c.in_err-mapping.ensures.refusals.late first.0))
 
 pub returns-then-count-eq0-clause-late : goal.returns-then-count-eq0-clause-late
 returns-then-count-eq0-clause-late g c = λ none some.
     let first = then_none (unusable c.args.image.now) (passes (size_of c.args.image.now) c.args.offset (length c.args.bytes.now)) BeyondSize none in
-    let found = c.in_ok-mapping.ensures.some (fits_below (size_of c.args.image.now) c.args.offset (length c.args.bytes.now) first.1 some) (omega (arith, some)) in
+    let found = c.in_ok-mapping.ensures.found.some (fits_below (size_of c.args.image.now) c.args.offset (length c.args.bytes.now) first.1 some) (omega (arith, some)) in
     absurd (omega (arith, found))
 
 pub returns-in_err-read_mapped-clause-late : goal.returns-in_err-read_mapped-clause-late
 returns-in_err-read_mapped-clause-late g c = λ none some.
     let first = then_none (unusable c.args.image.now) (passes (size_of c.args.image.now) c.args.offset (length c.args.bytes.now)) BeyondSize none in
-    subst (λ r. IfErr r IsMet) (sym (refused_is _ c.in_err-read_mapped.field-0.0 c.from_residual-in_err-read_mapped.ensures))
-    (c.in_err-read_mapped.ensures.late (mapping_usable c.args.image.now c.get_mapping.new.self c.get_mapping.ensures.step.image c.in_ok-mapping.mapping.image c.in_ok-mapping.ensures.own.0 c.in_ok-mapping.ensures.step.marks first.0))
+    subst (λ r. IfErr r MayFail) (sym (refused_is _ c.in_err-read_mapped.field-0.0 c.from_residual-in_err-read_mapped.ensures))
+    (c.in_err-read_mapped.ensures.refusals.late (mapping_usable c.args.image.now c.get_mapping.new.self c.get_mapping.ensures.step.image c.in_ok-mapping.mapping.image c.in_ok-mapping.ensures.found.own.0 c.in_ok-mapping.ensures.step.marks first.0))
 
-pub returns-in_err-mapping-clause-met : goal.returns-in_err-mapping-clause-met
-returns-in_err-mapping-clause-met g c = λ none some out sound. subst (λ r. IfErr r (IsMetReadingRange out c.args.offset (c.args.offset + length c.args.bytes.now) c.args.image.now.file.header.fields (known_in g.S.Storage.view c.args.image.now.file))) (sym (refused_is _ c.in_err-mapping.field-0.0 c.from_residual.ensures)) (inl (looking_prepared c.args.image.now out c.in_err-mapping.field-0.0 (c.in_err-mapping.ensures.met out sound)))
+pub returns-in_err-mapping-clause-may_fail : goal.returns-in_err-mapping-clause-may_fail
+returns-in_err-mapping-clause-may_fail g c = λ none some out sound. subst (λ r. IfErr r (MayFailReadingRange out c.args.offset (c.args.offset + length c.args.bytes.now) c.args.image.now.file.header.fields (known_in g.S.Storage.view c.args.image.now.file))) (sym (refused_is _ c.in_err-mapping.field-0.0 c.from_residual.ensures)) (inl (looking_prepared c.args.image.now out c.in_err-mapping.field-0.0 ((c.in_err-mapping.ensures.sound out sound).may_fail)))
 
-pub returns-then-count-eq0-clause-met : goal.returns-then-count-eq0-clause-met
-returns-then-count-eq0-clause-met g c = λ none some out sound.
+pub returns-then-count-eq0-clause-may_fail : goal.returns-then-count-eq0-clause-may_fail
+returns-then-count-eq0-clause-may_fail g c = λ none some out sound.
     let first = then_none (unusable c.args.image.now) (passes (size_of c.args.image.now) c.args.offset (length c.args.bytes.now)) BeyondSize none in
-    let found = c.in_ok-mapping.ensures.some (fits_below (size_of c.args.image.now) c.args.offset (length c.args.bytes.now) first.1 some) (omega (arith, some)) in
+    let found = c.in_ok-mapping.ensures.found.some (fits_below (size_of c.args.image.now) c.args.offset (length c.args.bytes.now) first.1 some) (omega (arith, some)) in
     absurd (omega (arith, found))
 
-pub returns-in_err-read_mapped-clause-met : goal.returns-in_err-read_mapped-clause-met
-returns-in_err-read_mapped-clause-met g c = λ none some out sound.
+pub returns-in_err-read_mapped-clause-may_fail : goal.returns-in_err-read_mapped-clause-may_fail
+returns-in_err-read_mapped-clause-may_fail g c = λ none some out sound.
     let view = g.S.Storage.view in
     let below = g.F.BackingDisk.backing in
     let old = c.args.image.now in
@@ -87,18 +87,18 @@ returns-in_err-read_mapped-clause-met g c = λ none some out sound.
     let m = c.in_ok-mapping.mapping in
     let e = c.in_err-read_mapped.field-0.0 in
     let first = then_none (unusable old) (passes (size_of old) c.args.offset n) BeyondSize none in
-    let usable = mapping_usable old mid c.get_mapping.ensures.step.image m.image c.in_ok-mapping.ensures.own.0 c.in_ok-mapping.ensures.step.marks first.0 in
+    let usable = mapping_usable old mid c.get_mapping.ensures.step.image m.image c.in_ok-mapping.ensures.found.own.0 c.in_ok-mapping.ensures.step.marks first.0 in
     let still = ((c.in_ok-mapping.ensures.sees out).answer sound).0 in
-    let found = c.in_ok-mapping.ensures.run out sound in
+    let found = (c.in_ok-mapping.ensures.sound out sound).run in
     let lies : c.args.offset < size_of mid = let s = c.get_mapping.ensures.step.image.size in let b = fits_below (size_of old) c.args.offset n first.1 some in omega (arith, s, b) in
-    let begin : m.offset + 0 ≡ c.args.offset = let own = c.in_ok-mapping.ensures.own.1 in omega (arith, own) in
+    let begin : m.offset + 0 ≡ c.args.offset = let own = c.in_ok-mapping.ensures.found.own.1 in omega (arith, own) in
     let long : length (take c.in_ok-mapping.found c.args.bytes.now) ≡ c.in_ok-mapping.found = grind (arith, common_steps) in
     let whole = subst (λ k. IsFoundWhole view mid k (further_by 0 m.kind) (length (take c.in_ok-mapping.found c.args.bytes.now))) (sym begin)
     (subst (λ k. IsFoundWhole view mid c.args.offset (further_by 0 m.kind) k) (sym long) (found_there view below out mid still c.args.offset n c.in_ok-mapping.found m.kind (omega (arith, c.ranges.offset.fits)) lies found)) in
-    subst (λ r. IfErr r (IsMetReadingRange out c.args.offset (c.args.offset + length c.args.bytes.now) c.args.image.now.file.header.fields (known_in g.S.Storage.view c.args.image.now.file))) (sym (refused_is _ e c.from_residual-in_err-read_mapped.ensures))
-    (reads_found view below out old mid sound still c.args.offset n n c.in_ok-mapping.found m.kind e some lies (c.get_mapping.ensures.known out sound) found
-    (λ outdated. c.in_err-read_mapped.ensures.outdated out still (ap Err outdated) whole)
-    (c.in_err-read_mapped.ensures.met usable out still))
+    subst (λ r. IfErr r (MayFailReadingRange out c.args.offset (c.args.offset + length c.args.bytes.now) c.args.image.now.file.header.fields (known_in g.S.Storage.view c.args.image.now.file))) (sym (refused_is _ e c.from_residual-in_err-read_mapped.ensures))
+    (reads_found view below out old mid sound still c.args.offset n n c.in_ok-mapping.found m.kind e some lies ((c.get_mapping.ensures.sound out sound).known) found
+    (λ outdated. (c.in_err-read_mapped.ensures.sound out still).outdated (ap Err outdated) whole)
+    ((c.in_err-read_mapped.ensures.sound out still).may_fail usable))
 
 pub returns-clause-step : goal.returns-clause-step
 returns-clause-step g c = record {

@@ -1,7 +1,7 @@
 use Rattle.std.proofs.Common.{sym, subst, [], ◌∷◌, ◌++◌, Option, rules}
 use Rattle.qcow2_image.specs.ImageInvariant.{image_abstraction}
 use Rattle.qcow2_session.specs.Sessions.{ReleasesMappings}
-use Rattle.qcow2_image.proofs.Free.{free_places}
+use Rattle.qcow2_image.proofs.Images.Free.{free_places}
 use Rattle.qcow2_session.proofs.Places.{last_none, last_release}
 use Rattle.qcow2_image.proofs.Call.BehindHeader.{behind_none}
 use Rattle.qcow2_session.proofs.Quiet.{quiet_release}

@@ -1,4 +1,4 @@
-use Rattle.std.proofs.Common.{◌≡◌, ◌+◌, ◌∙◌, refl, sym, ap, inl, inr, ⊎_elim, subst, arith, [], ◌∷◌, ◌++◌, None, take, map, is_some}
+use Rattle.std.proofs.Common.{rules, ◌≡◌, ◌+◌, ◌∙◌, refl, sym, ap, inl, inr, ⊎_elim, subst, arith, [], ◌∷◌, ◌++◌, None, take, map, is_some}
 use Rattle.std.specs.Prelude.{replicate}
 use Rattle.std.proofs.lemmas.Grind.{common_steps}
 use Rattle.std.proofs.lemmas.List.{take_more, take_all, map-append}
@@ -6,7 +6,7 @@ use Rattle.qcow2_image.specs.ImageInvariant.{abstract_of, image_abstraction}
 use Rattle.qcow2_disk.specs.Runs.{HasNoInvalidation, RefinesWholeRun, begun, started}
 use Rattle.qcow2_disk.proofs.RunSteps.{begins, completes, refines_the_disk}
 use Rattle.qcow2_session.specs.Commands.{command_of, reply_of}
-use Rattle.qcow2_image.proofs.Free.{free_places, nothing_since, whole}
+use Rattle.qcow2_image.proofs.Images.Free.{free_places, nothing_since, whole}
 use Rattle.qcow2_alloc.specs.ImageFile.{contents_in}
 use Rattle.qcow2_session.proofs.LookingUp.{looked_up, none_said}
 use Rattle.qcow2_session.proofs.Meanings.{ranges_after}
@@ -44,7 +44,7 @@ loop-command-preserved g c = record {
       let parts = none_before (take c.loop-command.command-index c.args.commands.now) c.command-item.result (subst (λ l. HasNoInvalidation (map command_of l)) split none) in
       behind_then (c.loop-command.invariant.behind parts.0) (c.step-reply.ensures.header_cluster parts.1);
   faults = subst (λ l. RunCounts g.S.Storage.view g.F.BackingDisk.backing c.args.image.now c.step-reply.new.image l) (sym c.push_reserved.ensures.items)
-      (run_counts_more g.S.Storage.view g.F.BackingDisk.backing c.args.image.now c.loop-command.image c.step-reply.new.image c.loop-command.replies.items c.step-reply.result c.loop-command.invariant.faults c.step-reply.ensures.faults);
+      (run_counts_more g.S.Storage.view g.F.BackingDisk.backing c.args.image.now c.loop-command.image c.step-reply.new.image c.loop-command.replies.items c.step-reply.result c.loop-command.invariant.faults c.step-reply.ensures.counts);
   own = c.step-reply.ensures.slots ∙ c.loop-command.invariant.own ∙ sym c.step-reply.ensures.keeps.number;
   keeps = itself_then c.loop-command.invariant.keeps c.step-reply.ensures.keeps;
   answered = c.push_reserved.ensures.len ∙ ap (λ n. n + 1) c.loop-command.invariant.answered;
@@ -63,7 +63,7 @@ loop-command-preserved g c = record {
       subst (λ l. GoesOn spec x first free next out (begun s) (map command_of (take (done + 1) commands)) l found) (sym (ap (λ l. map reply_of l) c.push_reserved.ensures.items ∙ map-append reply_of replies (c.step-reply.result ∷ [])))
       (subst (λ k. GoesOn spec x first free next out (begun s) k (map reply_of replies ++ reply_of c.step-reply.result ∷ []) found) (sym (map_more command_of commands done c.command-item.result split))
       (command_step_on spec x first c.loop-command.image next free c.loop-command.slots.prepared.items out (begun s) (map command_of (take done commands)) (map reply_of replies)
-      c.loop-command.slots.mappings.items found (command_of c.command-item.result) (reply_of c.step-reply.result) (c.loop-command.invariant.ran parts.0 x s stands) (c.step-reply.ensures.command_step parts.1 x) (λ k. ap range_of (c.step-reply.ensures.finds k) ∙ ranges_after (mappings_in c.loop-command.slots.mappings.items) c.command-item.result c.step-reply.result k)));
+      c.loop-command.slots.mappings.items found (command_of c.command-item.result) (reply_of c.step-reply.result) (c.loop-command.invariant.ran parts.0 x s stands) (c.step-reply.ensures.steps parts.1 x) (λ k. ap range_of (c.step-reply.ensures.finds k) ∙ ranges_after (mappings_in c.loop-command.slots.mappings.items) c.command-item.result c.step-reply.result k)));
   told =
       let view = g.S.Storage.view in
       let below = g.F.BackingDisk.backing in
@@ -75,12 +75,9 @@ loop-command-preserved g c = record {
       subst (λ l. IsToldSoFar view below c.args.image.now now (take (done + 1) commands) l) (sym c.push_reserved.ensures.items)
       (subst (λ l. IsToldSoFar view below c.args.image.now now l (c.loop-command.replies.items ++ c.step-reply.result ∷ [])) (sym split)
       (told_more view below c.args.image.now before now (take done commands) c.loop-command.replies.items c.command-item.result c.step-reply.result c.loop-command.invariant.told
-      (record { keeps = c.step-reply.ensures.keeps; tells = c.step-reply.ensures.tells; slots = c.step-reply.ensures.after; causes = c.step-reply.ensures.causes; finds = c.step-reply.ensures.finds; counts = c.step-reply.ensures.faults; failed = c.step-reply.ensures.marks; size = c.step-reply.ensures.size; quiet = c.step-reply.ensures.quiet })
-      c.step-reply.ensures.command_step));
+      (record { keeps = c.step-reply.ensures.keeps; reports = c.step-reply.ensures.reports; slots = c.step-reply.ensures.after; causes = c.step-reply.ensures.causes; finds = c.step-reply.ensures.finds; counts = c.step-reply.ensures.counts; failed = c.step-reply.ensures.marks; size = c.step-reply.ensures.size; quiet = c.step-reply.ensures.quiet })
+      c.step-reply.ensures.steps));
 }
-
-pub returns-clause-number : goal.returns-clause-number
-returns-clause-number g c = c.discard_all.ensures.step.image.number ∙ c.loop-command.invariant.keeps.number
 
 pub returns-clause-runs : goal.returns-clause-runs
 returns-clause-runs g c = λ none x s stands.
@@ -115,17 +112,8 @@ pub returns-in_default-new-clause-maps : goal.returns-in_default-new-clause-maps
 returns-in_default-new-clause-maps g c = λ none opened.
     none_said (contents_in g.S.Storage.view c.args.image.now.file) (is_some c.args.image.now.backing) (map command_of c.args.commands.now) c.new-in_default-new.result.items c.new-in_default-new.ensures.items
 
-pub returns-in_default-clause-faults : goal.returns-in_default-clause-faults
-returns-in_default-clause-faults g c = subst (λ l. RunCounts g.S.Storage.view g.F.BackingDisk.backing c.args.image.now c.args.image.now l) (sym c.new.ensures.items) (none_counted g.S.Storage.view g.F.BackingDisk.backing c.args.image.now)
-
-pub returns-in_default-new-clause-faults : goal.returns-in_default-new-clause-faults
-returns-in_default-new-clause-faults g c = subst (λ l. RunCounts g.S.Storage.view g.F.BackingDisk.backing c.args.image.now c.args.image.now l) (sym c.new-in_default-new.ensures.items) (none_counted g.S.Storage.view g.F.BackingDisk.backing c.args.image.now)
-
-pub returns-clause-faults : goal.returns-clause-faults
-returns-clause-faults g c = run_counts_still g.S.Storage.view g.F.BackingDisk.backing c.args.image.now c.loop-command.image c.discard_all.new.image c.loop-command.replies.items c.loop-command.invariant.faults c.discard_all.ensures.step.faults
-
-pub returns-clause-tells : goal.returns-clause-tells
-returns-clause-tells g c =
+pub returns-clause-reports : goal.returns-clause-reports
+returns-clause-reports g c =
     let all : take c.loop-command.command-index c.args.commands.now ≡ c.args.commands.now = take_all c.loop-command.command-index c.args.commands.now c.loop-command-test.false in
     let told = c.loop-command.invariant.told in
     inr (subst (λ k. IsReportedRun g.S.Storage.view g.F.BackingDisk.backing c.args.image.now c.discard_all.new.image k c.loop-command.replies.items) all (record {
@@ -138,16 +126,31 @@ returns-clause-tells g c =
       failed = c.discard_all.ensures.step.marks;
     }))
 
-pub returns-clause-header_cluster : goal.returns-clause-header_cluster
-returns-clause-header_cluster g c = λ none.
-    let all : take c.loop-command.command-index c.args.commands.now ≡ c.args.commands.now = take_all c.loop-command.command-index c.args.commands.now c.loop-command-test.false in
-    behind_then (c.loop-command.invariant.behind (subst (λ k. HasNoInvalidation (map command_of k)) (sym all) none)) c.discard_all.ensures.step.header_cluster
+pub returns-clause-step : goal.returns-clause-step
+returns-clause-step g c = record {
+  number = c.discard_all.ensures.step.image.number ∙ c.loop-command.invariant.keeps.number;
+  faults = run_counts_still g.S.Storage.view g.F.BackingDisk.backing c.args.image.now c.loop-command.image c.discard_all.new.image c.loop-command.replies.items c.loop-command.invariant.faults c.discard_all.ensures.step.faults;
+  header_cluster = λ none.
+      let all : take c.loop-command.command-index c.args.commands.now ≡ c.args.commands.now = take_all c.loop-command.command-index c.args.commands.now c.loop-command-test.false in
+      behind_then (c.loop-command.invariant.behind (subst (λ k. HasNoInvalidation (map command_of k)) (sym all) none)) c.discard_all.ensures.step.header_cluster;
+  count = search rules;
+}
 
-pub returns-in_default-clause-header_cluster : goal.returns-in_default-clause-header_cluster
-returns-in_default-clause-header_cluster g c = λ _. behind_none
+pub returns-in_default-clause-step : goal.returns-in_default-clause-step
+returns-in_default-clause-step g c = record {
+  number = search rules;
+  faults = subst (λ l. RunCounts g.S.Storage.view g.F.BackingDisk.backing c.args.image.now c.args.image.now l) (sym c.new.ensures.items) (none_counted g.S.Storage.view g.F.BackingDisk.backing c.args.image.now);
+  header_cluster = λ _. behind_none;
+  count = search rules;
+}
 
-pub returns-in_default-new-clause-header_cluster : goal.returns-in_default-new-clause-header_cluster
-returns-in_default-new-clause-header_cluster g c = λ _. behind_none
+pub returns-in_default-new-clause-step : goal.returns-in_default-new-clause-step
+returns-in_default-new-clause-step g c = record {
+  number = search rules;
+  faults = subst (λ l. RunCounts g.S.Storage.view g.F.BackingDisk.backing c.args.image.now c.args.image.now l) (sym c.new-in_default-new.ensures.items) (none_counted g.S.Storage.view g.F.BackingDisk.backing c.args.image.now);
+  header_cluster = λ _. behind_none;
+  count = search rules;
+}
 
 pub returns-clause-quiet : goal.returns-clause-quiet
 returns-clause-quiet g c = λ reading.
@@ -169,4 +172,4 @@ returns-clause-maps g c = λ none opened.
     (λ (told : IsReportedRun view below old new commands replies).
     let steps = told.steps none before.setting (started before) (begins before opened.sound (whole view below old [] opened.sound) opened.clean) in
     looked_up view below before.setting b (first_point old) (begun (started before)) steps.0 commands replies told.points steps.1 refl opened.clean)
-    (returns-clause-tells g c)
+    (returns-clause-reports g c)

@@ -11,7 +11,7 @@ use Rattle.qcow2_image.specs.Calls.{refusal_of, Commits, reason_of}
 use Rattle.qcow2_image.specs.Faults.{CountsImageFaults}
 use Rattle.qcow2_image.specs.Image.{is_writable, number_of, size_of}
 use Rattle.qcow2_image.specs.Prepared.{IsHandedBackBy, image_of, length_of, guest_offset_of, offset_of, table_of}
-use Rattle.qcow2_image.specs.Refusals.{refuses_mapping, refuses_to_prepare, IsMet, IsMetPreparing}
+use Rattle.qcow2_image.specs.Refusals.{refuses_mapping, refuses_to_prepare, MayFail, MayFailPreparing}
 use Rattle.qcow2_image.specs.declared.prepared.CommitRefused.TheVariants.{Kept}
 use Rattle.qcow2_image.specs.ImageInvariant.{abstract_of, image_abstraction, meaning}
 use Rattle.qcow2_disk.specs.Alike.{AreDataAt}
@@ -20,7 +20,7 @@ use Rattle.qcow2_session.proofs.Bytes.{cut_long, cut_part, cut_short}
 use Rattle.qcow2_session.proofs.Chunks.{may_write_none, put_refused, written, commit_old_tables, commit_kept}
 use Rattle.qcow2_session.proofs.Writing.{chunk_ends}
 use Rattle.qcow2_session.proofs.WrittenParts.{no_more_then}
-use Rattle.qcow2_image.proofs.Free.{free_places}
+use Rattle.qcow2_image.proofs.Images.Free.{free_places}
 use Rattle.qcow2_session.proofs.Told.{none_refused}
 use Rattle.qcow2_session.proofs.Turns.{refused_is, none_within, refuses_if, refuses_less, nothing_refused}
 use Rattle.qcow2_session.proofs.Unwritten.{nothing_prepared, prepare_same, put_same}
@@ -35,7 +35,7 @@ use Rattle.qcow2_image.proofs.Call.FaultCounts.{counted_still, faults_then}
 use Rattle.qcow2_session.proofs.Counting.{commit_since}
 use Rattle.qcow2_session.proofs.Parts.{mapping_usable, not_failed_yet, prepares_usable, prepares_within, prepares_writable, put_met, under_taken}
 use Rattle.qcow2_alloc.specs.ImageError.{IsOfTables}
-use Rattle.qcow2_image.proofs.Call.MetErrors.{tables_met}
+use Rattle.qcow2_image.proofs.Call.FailingErrors.{tables_met}
 use Rattle.qcow2_image.proofs.Call.BehindHeader.{behind_then}
 use Rattle.qcow2_alloc.proofs.KeptTables.AllWritten.{written_then}
 use Rattle.qcow2_session.proofs.Untaken.{untaken_beside}
@@ -43,14 +43,14 @@ use Rattle.qcow2_session.proofs.Quiet.{quiet_commit, quiet_image, quiet_release}
 use Rattle.qcow2_session.proofs.Copied.{existing_or_not, kept_data, part_copied}
 use Rattle.qcow2_alloc.specs.ImageFile.{known_in}
 use Rattle.qcow2_image.proofs.Call.Unlimited.{fault_unlimited}
-use Rattle.qcow2_image.proofs.Prepare.Lacked.{limited_upto, other_limit}
-use Rattle.qcow2_image.proofs.Sizing.Shrinking.{fault_of}
+use Rattle.qcow2_image.proofs.Prepare.LimitCauses.{limited_upto, other_limit}
+use Rattle.qcow2_image.proofs.Resize.Shrinking.{fault_of}
 use Rattle.qcow2_image.specs.L1Entries.{NeedsOverflowingL1Entry}
 use Rattle.qcow2_image.specs.Limits.{IfLimit, IsLimited}
-use Rattle.qcow2_image.specs.MetAlone.{CopiesCompressed, IsCacheHeld, MayFailAllocating}
-use Rattle.qcow2_session.proofs.MetOnSound.{existing_found, existing_long, existing_near, put_unlimited, compressed_behind, put_looking}
+use Rattle.qcow2_image.specs.MayFail.{CopiesCompressed, IsCacheHeld, MayFailAllocating}
+use Rattle.qcow2_session.proofs.FailingOnSound.{existing_found, existing_long, existing_near, put_unlimited, compressed_behind, put_looking}
 use Rattle.qcow2_image.specs.Backings.{HasPinnedMapping}
-use Rattle.qcow2_image.proofs.Prepare.MetTaking.{taking_as}
+use Rattle.qcow2_image.proofs.Prepare.FailingAllocations.{taking_as}
 
 -- what refused a call that begins another one before any work refused that one
 one_cause : {A E : Type 0} (r : Result A E) (e x : E) → r ≡ Err e → r ≡ Err x → e ≡ x
@@ -93,7 +93,7 @@ returns-in-Err-clause-sees g c = λ out.
     let below = g.F.BackingDisk.backing in
     let p = c.in_ok-prepared.prepared in
     put_refused (image_abstraction view below) (free_places view below) (λ _. refl) c.args.image.now c.prepare_data_mapping.new.self p out c.args.offset (length c.args.bytes.now) c.args.bytes.now (take c.min-count.result c.args.bytes.now)
-    (cut_long c.min-count.result (length_of p) c.args.bytes.now (c.min-count.ensures ∙ ap (λ k. min (length c.args.bytes.now) k) c.length.ensures)) (cut_short c.min-count.result c.args.bytes.now) (cut_part c.min-count.result c.args.bytes.now) (pow_pos c.args.image.now.file.header.fields.cluster_bits) (none_long c.args.image.now c.args.offset (length c.args.bytes.now) c.prepare_data_mapping.new.self c.prepare_data_mapping.result p c.prepare_data_mapping.ensures.early c.prepare_data_mapping.ensures.nothing c.in_ok-prepared.was) (λ past. past) (c.in_ok-prepared.ensures.sees (None ∷ out) 0 refl)
+    (cut_long c.min-count.result (length_of p) c.args.bytes.now (c.min-count.ensures ∙ ap (λ k. min (length c.args.bytes.now) k) c.length.ensures)) (cut_short c.min-count.result c.args.bytes.now) (cut_part c.min-count.result c.args.bytes.now) (pow_pos c.args.image.now.file.header.fields.cluster_bits) (none_long c.args.image.now c.args.offset (length c.args.bytes.now) c.prepare_data_mapping.new.self c.prepare_data_mapping.result p c.prepare_data_mapping.ensures.refusals.early c.prepare_data_mapping.ensures.refusals.nothing c.in_ok-prepared.was) (λ past. past) (c.in_ok-prepared.ensures.sees (None ∷ out) 0 refl)
     c.write_mapped.new.self c.release.new.image (refusal_of c.in-Err.refusal) (c.in-Err.ensures.sees (Some p ∷ out) 0 refl) (c.release.ensures.sees (Some p ∷ out) 0 refl)
 
 pub returns-in-Ok-clause-sees : goal.returns-in-Ok-clause-sees
@@ -108,7 +108,7 @@ returns-in-Ok-clause-sees g c = λ out.
     let chunk = take count c.args.bytes.now in
     let long : length chunk ≡ min n (length_of p) = cut_long count (length_of p) c.args.bytes.now (c.min-count.ensures ∙ ap (λ k. min n k) c.length.ensures) in
     written (image_abstraction view below) (free_places view below) (λ _. refl) old mid p out c.args.offset n chunk chunk long (omega arith) (λ i lt. refl) (pow_pos old.file.header.fields.cluster_bits)
-    (none_of_none (length chunk) n (length_of p) long (none_long old c.args.offset n mid c.prepare_data_mapping.result p c.prepare_data_mapping.ensures.early c.prepare_data_mapping.ensures.nothing c.in_ok-prepared.was)) (λ past. omega (arith, past, long)) (c.in_ok-prepared.ensures.sees (None ∷ out) 0 refl)
+    (none_of_none (length chunk) n (length_of p) long (none_long old c.args.offset n mid c.prepare_data_mapping.result p c.prepare_data_mapping.ensures.refusals.early c.prepare_data_mapping.ensures.refusals.nothing c.in_ok-prepared.was)) (λ past. omega (arith, past, long)) (c.in_ok-prepared.ensures.sees (None ∷ out) 0 refl)
     c.write_mapped.new.self (c.in_default.ensures.sees (Some p ∷ out) 0 refl) c.commit_data_mapping.new.self (c.in-Ok.ensures.sees (Some p ∷ out) 0 refl)
 
 pub returns-in-Err-Spent-clause-sees : goal.returns-in-Err-Spent-clause-sees
@@ -118,7 +118,7 @@ returns-in-Err-Spent-clause-sees g c = λ out.
     let p = c.in_ok-prepared.prepared in
     let refused = subst (λ r. Commits view below c.write_mapped.new.self c.commit_data_mapping.new.self p (Err r)) c.in-Err-Spent.field-0-is c.in-Err-Spent.ensures.sees (Some p ∷ out) 0 refl in
     commit_old_tables (image_abstraction view below) (free_places view below) (λ _. refl) c.args.image.now c.prepare_data_mapping.new.self p out c.args.offset (length c.args.bytes.now) c.args.bytes.now (take c.min-count.result c.args.bytes.now)
-    (cut_long c.min-count.result (length_of p) c.args.bytes.now (c.min-count.ensures ∙ ap (λ k. min (length c.args.bytes.now) k) c.length.ensures)) (cut_short c.min-count.result c.args.bytes.now) (cut_part c.min-count.result c.args.bytes.now) (pow_pos c.args.image.now.file.header.fields.cluster_bits) (none_long c.args.image.now c.args.offset (length c.args.bytes.now) c.prepare_data_mapping.new.self c.prepare_data_mapping.result p c.prepare_data_mapping.ensures.early c.prepare_data_mapping.ensures.nothing c.in_ok-prepared.was) (λ past. past) (c.in_ok-prepared.ensures.sees (None ∷ out) 0 refl)
+    (cut_long c.min-count.result (length_of p) c.args.bytes.now (c.min-count.ensures ∙ ap (λ k. min (length c.args.bytes.now) k) c.length.ensures)) (cut_short c.min-count.result c.args.bytes.now) (cut_part c.min-count.result c.args.bytes.now) (pow_pos c.args.image.now.file.header.fields.cluster_bits) (none_long c.args.image.now c.args.offset (length c.args.bytes.now) c.prepare_data_mapping.new.self c.prepare_data_mapping.result p c.prepare_data_mapping.ensures.refusals.early c.prepare_data_mapping.ensures.refusals.nothing c.in_ok-prepared.was) (λ past. past) (c.in_ok-prepared.ensures.sees (None ∷ out) 0 refl)
     c.write_mapped.new.self (c.in_default.ensures.sees (Some p ∷ out) 0 refl) c.commit_data_mapping.new.self (refusal_of c.in-Err-Spent.refusal) refused.0 refused.1
 
 pub returns-in-Err-Kept-clause-sees : goal.returns-in-Err-Kept-clause-sees
@@ -126,25 +126,12 @@ returns-in-Err-Kept-clause-sees g c = λ out.
     let view = g.S.Storage.view in
     let below = g.F.BackingDisk.backing in
     let p = c.in_ok-prepared.prepared in
-    let same : c.in-Err-Kept.prepared ≡ p = subst (λ r. IsHandedBackBy p r) c.in-Err-Kept.field-0-is c.in-Err-Kept.ensures.kept in
+    let same : c.in-Err-Kept.prepared ≡ p = subst (λ r. IsHandedBackBy p r) c.in-Err-Kept.field-0-is c.in-Err-Kept.ensures.refusals.kept in
     let refused = subst (λ r. Commits view below c.write_mapped.new.self c.commit_data_mapping.new.self p (Err r)) (c.in-Err-Kept.field-0-is ∙ ap (λ q. Kept c.in-Err-Kept.refusal q) same) c.in-Err-Kept.ensures.sees (Some p ∷ out) 0 refl in
     commit_kept (image_abstraction view below) (free_places view below) (λ _. refl) c.args.image.now c.prepare_data_mapping.new.self p out c.args.offset (length c.args.bytes.now) c.args.bytes.now (take c.min-count.result c.args.bytes.now)
-    (cut_long c.min-count.result (length_of p) c.args.bytes.now (c.min-count.ensures ∙ ap (λ k. min (length c.args.bytes.now) k) c.length.ensures)) (cut_short c.min-count.result c.args.bytes.now) (cut_part c.min-count.result c.args.bytes.now) (pow_pos c.args.image.now.file.header.fields.cluster_bits) (none_long c.args.image.now c.args.offset (length c.args.bytes.now) c.prepare_data_mapping.new.self c.prepare_data_mapping.result p c.prepare_data_mapping.ensures.early c.prepare_data_mapping.ensures.nothing c.in_ok-prepared.was) (λ past. past) (c.in_ok-prepared.ensures.sees (None ∷ out) 0 refl)
+    (cut_long c.min-count.result (length_of p) c.args.bytes.now (c.min-count.ensures ∙ ap (λ k. min (length c.args.bytes.now) k) c.length.ensures)) (cut_short c.min-count.result c.args.bytes.now) (cut_part c.min-count.result c.args.bytes.now) (pow_pos c.args.image.now.file.header.fields.cluster_bits) (none_long c.args.image.now c.args.offset (length c.args.bytes.now) c.prepare_data_mapping.new.self c.prepare_data_mapping.result p c.prepare_data_mapping.ensures.refusals.early c.prepare_data_mapping.ensures.refusals.nothing c.in_ok-prepared.was) (λ past. past) (c.in_ok-prepared.ensures.sees (None ∷ out) 0 refl)
     c.write_mapped.new.self (c.in_default.ensures.sees (Some p ∷ out) 0 refl) c.commit_data_mapping.new.self c.release-in-Err-Kept.new.image (refusal_of c.in-Err-Kept.refusal) refused.0 refused.1
     (c.release-in-Err-Kept.ensures.sees (Some p ∷ out) 0 (ap (λ q. Some (Some q)) (sym same)))
-
-pub returns-in-Err-clause-early : goal.returns-in-Err-clause-early
-returns-in-Err-clause-early g c =
-    nothing_refused _ _ (refuses_to_prepare c.args.image.now c.args.offset (length c.args.bytes.now)) c.prepare_data_mapping.result c.in_ok-prepared.prepared c.prepare_data_mapping.ensures.early c.in_ok-prepared.was
-
-pub returns-in-Ok-clause-ends : goal.returns-in-Ok-clause-ends
-returns-in-Ok-clause-ends g c = λ out sound short.
-    let old = c.args.image.now in
-    let mid = c.prepare_data_mapping.new.self in
-    let maps = c.in_ok-prepared.ensures.maps (omega arith) out sound in
-    let prepared = c.in_ok-prepared.ensures.sees (None ∷ out) 0 refl in
-    let same : cluster_size_of mid ≡ cluster_size_of old = ap (λ (x : Setting). x.cluster_size) (prepared.acts.works ((free_places g.S.Storage.view g.F.BackingDisk.backing).free old [] out sound)).setting in
-    chunk_ends old mid c.args.offset (length c.args.bytes.now) c.min-count.result (length_of c.in_ok-prepared.prepared) (c.min-count.ensures ∙ ap (λ k. min (length c.args.bytes.now) k) c.length.ensures) short same (λ less. (maps.short less).cluster)
 
 -- more than none
 some_bytes : (n : ℕ) → (n ≡ 0 → ⊥) → 0 < n
@@ -153,134 +140,84 @@ some_bytes n none = elim (cases_lt 0 n) [
   | inr least ↦ absurd (none (omega (arith, least)))
 ]
 
-pub returns-in_err-prepared-clause-late : goal.returns-in_err-prepared-clause-late
-returns-in_err-prepared-clause-late g c = λ none.
-    let old = c.args.image.now in
-    let n = length c.args.bytes.now in
-    subst (λ r. IfErr r (λ e. IsMetPreparing e × (0 < n))) (sym (refused_is _ c.in_err-prepared.field-0.0 c.from_residual.ensures))
-    (c.in_err-prepared.ensures.late none, some_bytes n (λ empty. let no = (c.in_err-prepared.ensures.nothing (ap (λ k. refuses_to_prepare old c.args.offset k) (sym empty) ∙ none) empty).0 in absurd cc))
+pub returns-in-Err-clause-fails : goal.returns-in-Err-clause-fails
+returns-in-Err-clause-fails g c = record {
+  early = nothing_refused _ _ (refuses_to_prepare c.args.image.now c.args.offset (length c.args.bytes.now)) c.prepare_data_mapping.result c.in_ok-prepared.prepared c.prepare_data_mapping.ensures.refusals.early c.in_ok-prepared.was;
+  late = λ none.
+      let old = c.args.image.now in
+      let mid = c.prepare_data_mapping.new.self in
+      let p = c.in_ok-prepared.prepared in
+      let n = length c.args.bytes.now in (
+        inl (put_met old mid c.prepare_data_mapping.ensures.step.image (image_of p) c.args.offset n (length (take c.min-count.result c.args.bytes.now)) c.in-Err.refusal
+            c.in_ok-prepared.ensures.answer.own c.in_ok-prepared.ensures.step.marks (λ empty. grind (arith, common_steps)) none c.in-Err.ensures.refusals.late (λ usable empty. let no = (c.in-Err.ensures.refusals.nothing usable empty).0 in absurd cc)),
+        some_bytes n (λ empty.
+            let usable = mapping_usable old mid c.prepare_data_mapping.ensures.step.image (image_of p) c.in_ok-prepared.ensures.answer.own c.in_ok-prepared.ensures.step.marks (prepares_usable old c.args.offset n none) in
+            let no = (c.in-Err.ensures.refusals.nothing usable (grind (arith, common_steps))).0 in absurd cc),
+      );
+  beyond = search rules;
+  cause = search rules;
+}
 
-pub returns-in-Err-clause-late : goal.returns-in-Err-clause-late
-returns-in-Err-clause-late g c = λ none.
-    let old = c.args.image.now in
-    let mid = c.prepare_data_mapping.new.self in
-    let p = c.in_ok-prepared.prepared in
-    let n = length c.args.bytes.now in (
-      inl (put_met old mid c.prepare_data_mapping.ensures.step.image (image_of p) c.args.offset n (length (take c.min-count.result c.args.bytes.now)) c.in-Err.refusal
-          c.in_ok-prepared.ensures.own c.in_ok-prepared.ensures.step.marks (λ empty. grind (arith, common_steps)) none c.in-Err.ensures.late (λ usable empty. let no = (c.in-Err.ensures.nothing usable empty).0 in absurd cc)),
-      some_bytes n (λ empty.
-          let usable = mapping_usable old mid c.prepare_data_mapping.ensures.step.image (image_of p) c.in_ok-prepared.ensures.own c.in_ok-prepared.ensures.step.marks (prepares_usable old c.args.offset n none) in
-          let no = (c.in-Err.ensures.nothing usable (grind (arith, common_steps))).0 in absurd cc),
-    )
+pub returns-in-Err-Spent-clause-fails : goal.returns-in-Err-Spent-clause-fails
+returns-in-Err-Spent-clause-fails g c = record {
+  early = search rules;
+  late = λ none.
+      let old = c.args.image.now in
+      let n = length c.args.bytes.now in
+      let own = c.in_ok-prepared.ensures.answer.own ∙ sym (c.write_mapped.ensures.step.image.number ∙ c.prepare_data_mapping.ensures.step.image.number) in
+      let works = c.in_default.ensures.step.marks ∙ c.in_ok-prepared.ensures.step.marks ∙ not_failed_yet old c.prepare_data_mapping.new.self c.prepare_data_mapping.ensures.step.image (prepares_usable old c.args.offset n none) in (
+        inl (tables_met c.in-Err-Spent.refusal (subst (λ r. IsOfTables (reason_of r)) c.in-Err-Spent.field-0-is (c.in-Err-Spent.ensures.refusals.late own works))),
+        some_bytes n (λ empty.
+            let nothing = (c.in_ok-prepared.ensures.refusals.nothing (ap (λ k. refuses_to_prepare old c.args.offset k) (sym empty) ∙ none) empty).1 in
+            let no = (c.in-Err-Spent.ensures.existing own works nothing.0).0 in absurd cc),
+      );
+  beyond = search rules;
+  cause = let old = c.args.image.now in
+      let n = length c.args.bytes.now in
+      let none = none_refused _ (refuses_to_prepare old c.args.offset n) c.in_ok-prepared.prepared c.in_ok-prepared.ensures.refusals.early in
+      let own = c.in_ok-prepared.ensures.answer.own ∙ sym (c.write_mapped.ensures.step.image.number ∙ c.prepare_data_mapping.ensures.step.image.number) in
+      let works = c.in_default.ensures.step.marks ∙ c.in_ok-prepared.ensures.step.marks ∙ not_failed_yet old c.prepare_data_mapping.new.self c.prepare_data_mapping.ensures.step.image (prepares_usable old c.args.offset n none) in
+      inl (inl (tables_met c.in-Err-Spent.refusal (subst (λ r. IsOfTables (reason_of r)) c.in-Err-Spent.field-0-is (c.in-Err-Spent.ensures.refusals.late own works))));
+}
 
-pub returns-in-Err-Spent-clause-late : goal.returns-in-Err-Spent-clause-late
-returns-in-Err-Spent-clause-late g c = λ none.
-    let old = c.args.image.now in
-    let n = length c.args.bytes.now in
-    let own = c.in_ok-prepared.ensures.own ∙ sym (c.write_mapped.ensures.step.image.number ∙ c.prepare_data_mapping.ensures.step.image.number) in
-    let works = c.in_default.ensures.step.marks ∙ c.in_ok-prepared.ensures.step.marks ∙ not_failed_yet old c.prepare_data_mapping.new.self c.prepare_data_mapping.ensures.step.image (prepares_usable old c.args.offset n none) in (
-      inl (tables_met c.in-Err-Spent.refusal (subst (λ r. IsOfTables (reason_of r)) c.in-Err-Spent.field-0-is (c.in-Err-Spent.ensures.late own works))),
-      some_bytes n (λ empty.
-          let nothing = (c.in_ok-prepared.ensures.nothing (ap (λ k. refuses_to_prepare old c.args.offset k) (sym empty) ∙ none) empty).1 in
-          let no = (c.in-Err-Spent.ensures.existing own works nothing.0).0 in absurd cc),
-    )
+pub returns-in-Err-Kept-clause-fails : goal.returns-in-Err-Kept-clause-fails
+returns-in-Err-Kept-clause-fails g c = record {
+  early = search rules;
+  late = λ none.
+      let old = c.args.image.now in
+      let n = length c.args.bytes.now in
+      let own = c.in_ok-prepared.ensures.answer.own ∙ sym (c.write_mapped.ensures.step.image.number ∙ c.prepare_data_mapping.ensures.step.image.number) in
+      let works = c.in_default.ensures.step.marks ∙ c.in_ok-prepared.ensures.step.marks ∙ not_failed_yet old c.prepare_data_mapping.new.self c.prepare_data_mapping.ensures.step.image (prepares_usable old c.args.offset n none) in (
+        inl (tables_met c.in-Err-Kept.refusal (subst (λ r. IsOfTables (reason_of r)) c.in-Err-Kept.field-0-is (c.in-Err-Kept.ensures.refusals.late own works))),
+        some_bytes n (λ empty.
+            let nothing = (c.in_ok-prepared.ensures.refusals.nothing (ap (λ k. refuses_to_prepare old c.args.offset k) (sym empty) ∙ none) empty).1 in
+            let no = (c.in-Err-Kept.ensures.existing own works nothing.0).0 in absurd cc),
+      );
+  beyond = search rules;
+  cause = let old = c.args.image.now in
+      let n = length c.args.bytes.now in
+      let none = none_refused _ (refuses_to_prepare old c.args.offset n) c.in_ok-prepared.prepared c.in_ok-prepared.ensures.refusals.early in
+      let own = c.in_ok-prepared.ensures.answer.own ∙ sym (c.write_mapped.ensures.step.image.number ∙ c.prepare_data_mapping.ensures.step.image.number) in
+      let works = c.in_default.ensures.step.marks ∙ c.in_ok-prepared.ensures.step.marks ∙ not_failed_yet old c.prepare_data_mapping.new.self c.prepare_data_mapping.ensures.step.image (prepares_usable old c.args.offset n none) in
+      inl (inl (tables_met c.in-Err-Kept.refusal (subst (λ r. IsOfTables (reason_of r)) c.in-Err-Kept.field-0-is (c.in-Err-Kept.ensures.refusals.late own works))));
+}
 
-pub returns-in-Err-Kept-clause-late : goal.returns-in-Err-Kept-clause-late
-returns-in-Err-Kept-clause-late g c = λ none.
-    let old = c.args.image.now in
-    let n = length c.args.bytes.now in
-    let own = c.in_ok-prepared.ensures.own ∙ sym (c.write_mapped.ensures.step.image.number ∙ c.prepare_data_mapping.ensures.step.image.number) in
-    let works = c.in_default.ensures.step.marks ∙ c.in_ok-prepared.ensures.step.marks ∙ not_failed_yet old c.prepare_data_mapping.new.self c.prepare_data_mapping.ensures.step.image (prepares_usable old c.args.offset n none) in (
-      inl (tables_met c.in-Err-Kept.refusal (subst (λ r. IsOfTables (reason_of r)) c.in-Err-Kept.field-0-is (c.in-Err-Kept.ensures.late own works))),
-      some_bytes n (λ empty.
-          let nothing = (c.in_ok-prepared.ensures.nothing (ap (λ k. refuses_to_prepare old c.args.offset k) (sym empty) ∙ none) empty).1 in
-          let no = (c.in-Err-Kept.ensures.existing own works nothing.0).0 in absurd cc),
-    )
-
-pub returns-in-Err-Spent-clause-cause : goal.returns-in-Err-Spent-clause-cause
-returns-in-Err-Spent-clause-cause g c =
-    let old = c.args.image.now in
-    let n = length c.args.bytes.now in
-    let none = none_refused _ (refuses_to_prepare old c.args.offset n) c.in_ok-prepared.prepared c.in_ok-prepared.ensures.early in
-    let own = c.in_ok-prepared.ensures.own ∙ sym (c.write_mapped.ensures.step.image.number ∙ c.prepare_data_mapping.ensures.step.image.number) in
-    let works = c.in_default.ensures.step.marks ∙ c.in_ok-prepared.ensures.step.marks ∙ not_failed_yet old c.prepare_data_mapping.new.self c.prepare_data_mapping.ensures.step.image (prepares_usable old c.args.offset n none) in
-    inl (inl (tables_met c.in-Err-Spent.refusal (subst (λ r. IsOfTables (reason_of r)) c.in-Err-Spent.field-0-is (c.in-Err-Spent.ensures.late own works))))
-
-pub returns-in-Err-Kept-clause-cause : goal.returns-in-Err-Kept-clause-cause
-returns-in-Err-Kept-clause-cause g c =
-    let old = c.args.image.now in
-    let n = length c.args.bytes.now in
-    let none = none_refused _ (refuses_to_prepare old c.args.offset n) c.in_ok-prepared.prepared c.in_ok-prepared.ensures.early in
-    let own = c.in_ok-prepared.ensures.own ∙ sym (c.write_mapped.ensures.step.image.number ∙ c.prepare_data_mapping.ensures.step.image.number) in
-    let works = c.in_default.ensures.step.marks ∙ c.in_ok-prepared.ensures.step.marks ∙ not_failed_yet old c.prepare_data_mapping.new.self c.prepare_data_mapping.ensures.step.image (prepares_usable old c.args.offset n none) in
-    inl (inl (tables_met c.in-Err-Kept.refusal (subst (λ r. IsOfTables (reason_of r)) c.in-Err-Kept.field-0-is (c.in-Err-Kept.ensures.late own works))))
-
-pub returns-in_err-prepared-clause-early : goal.returns-in_err-prepared-clause-early
-returns-in_err-prepared-clause-early g c =
-    early_handed _ (refuses_to_prepare c.args.image.now c.args.offset (length c.args.bytes.now)) c.prepare_data_mapping.result c.in_err-prepared.field-0.0 c.from_residual.result
-    c.prepare_data_mapping.ensures.early c.in_err-prepared.was (refused_is _ c.in_err-prepared.field-0.0 c.from_residual.ensures)
+pub returns-in_err-prepared-clause-fails : goal.returns-in_err-prepared-clause-fails
+returns-in_err-prepared-clause-fails g c = record {
+  early = early_handed _ (refuses_to_prepare c.args.image.now c.args.offset (length c.args.bytes.now)) c.prepare_data_mapping.result c.in_err-prepared.field-0.0 c.from_residual.result
+      c.prepare_data_mapping.ensures.refusals.early c.in_err-prepared.was (refused_is _ c.in_err-prepared.field-0.0 c.from_residual.ensures);
+  late = λ none.
+      let old = c.args.image.now in
+      let n = length c.args.bytes.now in
+      subst (λ r. IfErr r (λ e. MayFailPreparing e × (0 < n))) (sym (refused_is _ c.in_err-prepared.field-0.0 c.from_residual.ensures))
+      (c.in_err-prepared.ensures.refusals.late none, some_bytes n (λ empty. let no = (c.in_err-prepared.ensures.refusals.nothing (ap (λ k. refuses_to_prepare old c.args.offset k) (sym empty) ∙ none) empty).0 in absurd cc));
+  beyond = search rules;
+  cause = search rules;
+}
 
 -- so many of the first bytes are put
 chunk_long : (n m : ℕ) (bytes : List ℕ) → n ≡ min (length bytes) m → length (take n bytes) ≡ n
 chunk_long n m bytes is = grind (arith, common_steps)
-
-pub returns-in-Ok-clause-copied : goal.returns-in-Ok-clause-copied
-returns-in-Ok-clause-copied g c = λ some out sound.
-    let view = g.S.Storage.view in
-    let below = g.F.BackingDisk.backing in
-    let old = c.args.image.now in
-    let mid = c.prepare_data_mapping.new.self in
-    let put = c.write_mapped.new.self in
-    let new = c.commit_data_mapping.new.self in
-    let p = c.in_ok-prepared.prepared in
-    let offset = c.args.offset in
-    let count = c.min-count.result in
-    let n = length c.args.bytes.now in
-    let count_is : count ≡ min n (length_of p) = c.min-count.ensures ∙ ap (λ k. min n k) c.length.ensures in
-    let long : length (take count c.args.bytes.now) ≡ count = chunk_long count (length_of p) c.args.bytes.now count_is in
-    let less : 0 < length_of p = c.in_ok-prepared.ensures.some some in
-    let any : 0 < count = omega (arith, count_is, some, less) in
-    let prepared = (c.in_ok-prepared.ensures.sees (None ∷ out) 0 refl).answer ((free_places view below).free old [] out sound) in
-    let ready = (c.in_default.ensures.sees (Some p ∷ out) 0 refl).answer prepared.0 in
-    let from_is : guest_offset_of p ≡ offset = prepared.1.0.from in
-    let none = none_refused _ (refuses_to_prepare old offset n) p c.in_ok-prepared.ensures.early in
-    let usable = mapping_usable old mid c.prepare_data_mapping.ensures.step.image (image_of p) c.in_ok-prepared.ensures.own c.in_ok-prepared.ensures.step.marks (prepares_usable old offset n none) in
-    let own = c.in_ok-prepared.ensures.own ∙ sym (c.write_mapped.ensures.step.image.number ∙ c.prepare_data_mapping.ensures.step.image.number) in
-    let stood : AreDataAt new.file.header.fields (known_in view new.file) true (guest_offset_of p) (offset_of p) count =
-    existing_or_not (table_of p)
-    (λ existing.
-    kept_data view below put (Some p ∷ out) ready.0 new (guest_offset_of p) (offset_of p) (length (take count c.args.bytes.now)) count long (c.commit_data_mapping.ensures.existing own ready.0.works (ap is_some existing)).1
-    (c.in_default.ensures.held usable existing (omega (arith, any, long))))
-    (λ table i lt. c.in-Ok.ensures.copied (Some p ∷ out) 0 refl ready.0 table i (omega (arith, lt, count_is))) in
-    let chunk = take count c.args.bytes.now in
-    let cut : length chunk ≡ min n (length_of p) = cut_long count (length_of p) c.args.bytes.now count_is in
-    let done = written (image_abstraction view below) (free_places view below) (λ _. refl) old mid p out c.args.offset n chunk chunk cut (omega arith) (λ i lt. refl) (pow_pos old.file.header.fields.cluster_bits)
-    (none_of_none (length chunk) n (length_of p) cut (none_long old c.args.offset n mid c.prepare_data_mapping.result p c.prepare_data_mapping.ensures.early c.prepare_data_mapping.ensures.nothing c.in_ok-prepared.was)) (λ past. omega (arith, past, cut)) (c.in_ok-prepared.ensures.sees (None ∷ out) 0 refl)
-    put (c.in_default.ensures.sees (Some p ∷ out) 0 refl) new (c.in-Ok.ensures.sees (Some p ∷ out) 0 refl) in
-    let all = subst (λ k. AreDataAt new.file.header.fields (known_in view new.file) true offset (offset_of p) k) (sym long) (subst (λ k. AreDataAt new.file.header.fields (known_in view new.file) true k (offset_of p) count) from_is stood) in
-    subst (LeavesCopied view below old new offset c.args.bytes.now) long
-    (part_copied view below old mid new out sound (done.answer sound).0 offset p c.args.bytes.now chunk (omega (arith, any, long)) (omega (arith, cut)) from_is (c.in_ok-prepared.ensures.maps some out sound) c.in_ok-prepared.ensures.sees
-    (done.acts.works sound) all)
-
-pub returns-in-Ok-clause-freeing : goal.returns-in-Ok-clause-freeing
-returns-in-Ok-clause-freeing g c = λ out sound.
-    let old = c.args.image.now in
-    let p = c.in_ok-prepared.prepared in
-    let n = length c.args.bytes.now in
-    let prepared = (c.in_ok-prepared.ensures.sees (None ∷ out) 0 refl).answer ((free_places g.S.Storage.view g.F.BackingDisk.backing).free old [] out sound) in
-    let ready = (c.in_default.ensures.sees (Some p ∷ out) 0 refl).answer prepared.0 in
-    let own = c.in_ok-prepared.ensures.own ∙ sym (c.write_mapped.ensures.step.image.number ∙ c.prepare_data_mapping.ensures.step.image.number) in
-    existing_or_not (table_of p)
-    (λ existing.
-    let none = ap is_some existing in
-    let stays = c.in-Ok.ensures.freeing (Some p ∷ out) 0 refl ready.0 none ∙ c.write_mapped.ensures.freeing in
-    no_more_then old c.prepare_data_mapping.new.self c.commit_data_mapping.new.self (c.in_ok-prepared.ensures.freeing out sound none) (inl stays))
-    (λ table. elim (cases_Bool (is_writable old)) [
-      | inl writable ↦ inr (c.in-Ok.ensures.emptied own table (c.write_mapped.ensures.step.image.writable ∙ c.prepare_data_mapping.ensures.step.image.writable ∙ writable))
-      | inr reading ↦
-          let nothing = nothing_prepared old reading _ p c.args.offset n c.in_ok-prepared.ensures.early c.in_ok-prepared.ensures.nothing in
-          absurd (let no : false ≡ true = sym nothing.0 ∙ table in cc)
-    ])
 
 pub returns-in-Err-clause-step : goal.returns-in-Err-clause-step
 returns-in-Err-clause-step g c = record {
@@ -293,9 +230,9 @@ returns-in-Err-clause-step g c = record {
       let view = g.S.Storage.view in
       let old = c.args.image.now in
       let mid = c.prepare_data_mapping.new.self in
-      let made = prepare_same old reading _ c.args.offset (length c.args.bytes.now) c.prepare_data_mapping.ensures.early c.prepare_data_mapping.ensures.nothing in
+      let made = prepare_same old reading _ c.args.offset (length c.args.bytes.now) c.prepare_data_mapping.ensures.refusals.early c.prepare_data_mapping.ensures.refusals.nothing in
       let put = c.write_mapped.new.self in
-      let same : put ≡ old = put_same mid (ap is_writable made ∙ reading) _ (refuses_mapping mid (image_of c.in_ok-prepared.prepared)) _ c.write_mapped.ensures.early c.write_mapped.ensures.read_only c.write_mapped.ensures.nothing ∙ made in
+      let same : put ≡ old = put_same mid (ap is_writable made ∙ reading) _ (refuses_mapping mid (image_of c.in_ok-prepared.prepared)) _ c.write_mapped.ensures.refusals.early c.write_mapped.ensures.refusals.read_only c.write_mapped.ensures.refusals.nothing ∙ made in
       written_then view (quiet_image view old put same) (quiet_release view put c.release.new.image c.release.ensures.rest);
 }
 
@@ -303,19 +240,19 @@ pub returns-in-Ok-clause-step : goal.returns-in-Ok-clause-step
 returns-in-Ok-clause-step g c = record {
   image = search rules;
   faults = search rules;
-  header_cluster = behind_then (behind_then c.prepare_data_mapping.ensures.step.header_cluster c.write_mapped.ensures.step.header_cluster) c.commit_data_mapping.ensures.header_cluster;
-  marks = parts_answered g.S.Storage.view c.args.image.now c.commit_data_mapping.new.self (c.in-Ok.ensures.marks ∙ c.in_default.ensures.step.marks ∙ c.in_ok-prepared.ensures.step.marks) (counts_on g.S.Storage.view c.args.image.now c.write_mapped.new.self c.commit_data_mapping.new.self (counts_on g.S.Storage.view c.args.image.now c.prepare_data_mapping.new.self c.write_mapped.new.self c.in_ok-prepared.ensures.step.once_written.counts c.in_default.ensures.step.once_written.counts) c.in-Ok.ensures.once_written.counts);
+  header_cluster = behind_then (behind_then c.prepare_data_mapping.ensures.step.header_cluster c.write_mapped.ensures.step.header_cluster) c.commit_data_mapping.ensures.step.header_cluster;
+  marks = parts_answered g.S.Storage.view c.args.image.now c.commit_data_mapping.new.self (c.in-Ok.ensures.step.marks ∙ c.in_default.ensures.step.marks ∙ c.in_ok-prepared.ensures.step.marks) (counts_on g.S.Storage.view c.args.image.now c.write_mapped.new.self c.commit_data_mapping.new.self (counts_on g.S.Storage.view c.args.image.now c.prepare_data_mapping.new.self c.write_mapped.new.self c.in_ok-prepared.ensures.step.once_written.counts c.in_default.ensures.step.once_written.counts) c.in-Ok.ensures.step.once_written.counts);
   quiet = λ reading.
       let view = g.S.Storage.view in
       let old = c.args.image.now in
       let mid = c.prepare_data_mapping.new.self in
-      let made = prepare_same old reading _ c.args.offset (length c.args.bytes.now) c.prepare_data_mapping.ensures.early c.prepare_data_mapping.ensures.nothing in
+      let made = prepare_same old reading _ c.args.offset (length c.args.bytes.now) c.prepare_data_mapping.ensures.refusals.early c.prepare_data_mapping.ensures.refusals.nothing in
       let put = c.write_mapped.new.self in
       let p = c.in_ok-prepared.prepared in
-      let same : put ≡ old = put_same mid (ap is_writable made ∙ reading) _ (refuses_mapping mid (image_of p)) _ c.write_mapped.ensures.early c.write_mapped.ensures.read_only c.write_mapped.ensures.nothing ∙ made in
-      let none = nothing_prepared old reading _ p c.args.offset (length c.args.bytes.now) c.in_ok-prepared.ensures.early c.in_ok-prepared.ensures.nothing in
-      let own = c.in_ok-prepared.ensures.own ∙ sym (ap number_of same) in
-      written_then view (quiet_image view old put same) (quiet_commit view put c.commit_data_mapping.new.self (c.commit_data_mapping.ensures.failed own) (λ works. c.commit_data_mapping.ensures.existing own works none.0));
+      let same : put ≡ old = put_same mid (ap is_writable made ∙ reading) _ (refuses_mapping mid (image_of p)) _ c.write_mapped.ensures.refusals.early c.write_mapped.ensures.refusals.read_only c.write_mapped.ensures.refusals.nothing ∙ made in
+      let none = nothing_prepared old reading _ p c.args.offset (length c.args.bytes.now) c.in_ok-prepared.ensures.refusals.early c.in_ok-prepared.ensures.refusals.nothing in
+      let own = c.in_ok-prepared.ensures.answer.own ∙ sym (ap number_of same) in
+      written_then view (quiet_image view old put same) (quiet_commit view put c.commit_data_mapping.new.self (c.commit_data_mapping.ensures.refusals.failed own) (λ works. c.commit_data_mapping.ensures.existing own works none.0));
 }
 
 pub returns-in-Err-Spent-clause-step : goal.returns-in-Err-Spent-clause-step
@@ -324,20 +261,20 @@ returns-in-Err-Spent-clause-step g c = record {
   faults = let view = g.S.Storage.view in
       let below = g.F.BackingDisk.backing in
       let first = faults_then view below c.args.image.now c.prepare_data_mapping.new.self c.write_mapped.new.self c.in_ok-prepared.ensures.step.faults.told c.in_default.ensures.step.faults.told in
-      commit_since view below c.args.image.now c.write_mapped.new.self c.commit_data_mapping.new.self c.in-Err-Spent.field-0 c.in-Err-Spent.refusal (ap reason_of c.in-Err-Spent.field-0-is) first c.in-Err-Spent.ensures.faults;
-  header_cluster = behind_then (behind_then c.prepare_data_mapping.ensures.step.header_cluster c.write_mapped.ensures.step.header_cluster) c.commit_data_mapping.ensures.header_cluster;
-  marks = parts_behind g.S.Storage.view (Some c.in-Err-Spent.refusal) c.args.image.now c.write_mapped.new.self c.commit_data_mapping.new.self (c.in_default.ensures.step.marks ∙ c.in_ok-prepared.ensures.step.marks) (counts_on g.S.Storage.view c.args.image.now c.prepare_data_mapping.new.self c.write_mapped.new.self c.in_ok-prepared.ensures.step.once_written.counts c.in_default.ensures.step.once_written.counts) (in_parts g.S.Storage.view (subst (λ r. MarksAtOnce g.S.Storage.view (Some (reason_of r)) c.write_mapped.new.self c.commit_data_mapping.new.self) c.in-Err-Spent.field-0-is (commit_at_once g.S.Storage.view c.write_mapped.new.self c.commit_data_mapping.new.self _ c.in-Err-Spent.ensures.once_written c.in-Err-Spent.ensures.marks)));
+      commit_since view below c.args.image.now c.write_mapped.new.self c.commit_data_mapping.new.self c.in-Err-Spent.field-0 c.in-Err-Spent.refusal (ap reason_of c.in-Err-Spent.field-0-is) first c.in-Err-Spent.ensures.step.faults;
+  header_cluster = behind_then (behind_then c.prepare_data_mapping.ensures.step.header_cluster c.write_mapped.ensures.step.header_cluster) c.commit_data_mapping.ensures.step.header_cluster;
+  marks = parts_behind g.S.Storage.view (Some c.in-Err-Spent.refusal) c.args.image.now c.write_mapped.new.self c.commit_data_mapping.new.self (c.in_default.ensures.step.marks ∙ c.in_ok-prepared.ensures.step.marks) (counts_on g.S.Storage.view c.args.image.now c.prepare_data_mapping.new.self c.write_mapped.new.self c.in_ok-prepared.ensures.step.once_written.counts c.in_default.ensures.step.once_written.counts) (in_parts g.S.Storage.view (subst (λ r. MarksAtOnce g.S.Storage.view (Some (reason_of r)) c.write_mapped.new.self c.commit_data_mapping.new.self) c.in-Err-Spent.field-0-is (commit_at_once g.S.Storage.view c.write_mapped.new.self c.commit_data_mapping.new.self _ c.in-Err-Spent.ensures.step.once_written c.in-Err-Spent.ensures.step.marks)));
   quiet = λ reading.
       let view = g.S.Storage.view in
       let old = c.args.image.now in
       let mid = c.prepare_data_mapping.new.self in
-      let made = prepare_same old reading _ c.args.offset (length c.args.bytes.now) c.prepare_data_mapping.ensures.early c.prepare_data_mapping.ensures.nothing in
+      let made = prepare_same old reading _ c.args.offset (length c.args.bytes.now) c.prepare_data_mapping.ensures.refusals.early c.prepare_data_mapping.ensures.refusals.nothing in
       let put = c.write_mapped.new.self in
       let p = c.in_ok-prepared.prepared in
-      let same : put ≡ old = put_same mid (ap is_writable made ∙ reading) _ (refuses_mapping mid (image_of p)) _ c.write_mapped.ensures.early c.write_mapped.ensures.read_only c.write_mapped.ensures.nothing ∙ made in
-      let none = nothing_prepared old reading _ p c.args.offset (length c.args.bytes.now) c.in_ok-prepared.ensures.early c.in_ok-prepared.ensures.nothing in
-      let own = c.in_ok-prepared.ensures.own ∙ sym (ap number_of same) in
-      written_then view (quiet_image view old put same) (quiet_commit view put c.commit_data_mapping.new.self (c.commit_data_mapping.ensures.failed own) (λ works. c.commit_data_mapping.ensures.existing own works none.0));
+      let same : put ≡ old = put_same mid (ap is_writable made ∙ reading) _ (refuses_mapping mid (image_of p)) _ c.write_mapped.ensures.refusals.early c.write_mapped.ensures.refusals.read_only c.write_mapped.ensures.refusals.nothing ∙ made in
+      let none = nothing_prepared old reading _ p c.args.offset (length c.args.bytes.now) c.in_ok-prepared.ensures.refusals.early c.in_ok-prepared.ensures.refusals.nothing in
+      let own = c.in_ok-prepared.ensures.answer.own ∙ sym (ap number_of same) in
+      written_then view (quiet_image view old put same) (quiet_commit view put c.commit_data_mapping.new.self (c.commit_data_mapping.ensures.refusals.failed own) (λ works. c.commit_data_mapping.ensures.existing own works none.0));
 }
 
 pub returns-in-Err-Kept-clause-step : goal.returns-in-Err-Kept-clause-step
@@ -347,22 +284,22 @@ returns-in-Err-Kept-clause-step g c = record {
       let below = g.F.BackingDisk.backing in
       let e = c.in-Err-Kept.refusal in
       let first = faults_then view below c.args.image.now c.prepare_data_mapping.new.self c.write_mapped.new.self c.in_ok-prepared.ensures.step.faults.told c.in_default.ensures.step.faults.told in
-      let told : CountsImageFaults view below {T = ℕ} c.args.image.now c.commit_data_mapping.new.self (Err e) = commit_since view below c.args.image.now c.write_mapped.new.self c.commit_data_mapping.new.self c.in-Err-Kept.field-0 e (ap reason_of c.in-Err-Kept.field-0-is) first c.in-Err-Kept.ensures.faults in
+      let told : CountsImageFaults view below {T = ℕ} c.args.image.now c.commit_data_mapping.new.self (Err e) = commit_since view below c.args.image.now c.write_mapped.new.self c.commit_data_mapping.new.self c.in-Err-Kept.field-0 e (ap reason_of c.in-Err-Kept.field-0-is) first c.in-Err-Kept.ensures.step.faults in
       counted_still view below c.args.image.now c.commit_data_mapping.new.self c.release-in-Err-Kept.new.image (Err e) told c.release-in-Err-Kept.ensures.faults;
-  header_cluster = behind_then (behind_then (behind_then c.prepare_data_mapping.ensures.step.header_cluster c.write_mapped.ensures.step.header_cluster) c.commit_data_mapping.ensures.header_cluster) c.release-in-Err-Kept.ensures.header_cluster;
+  header_cluster = behind_then (behind_then (behind_then c.prepare_data_mapping.ensures.step.header_cluster c.write_mapped.ensures.step.header_cluster) c.commit_data_mapping.ensures.step.header_cluster) c.release-in-Err-Kept.ensures.header_cluster;
   marks = parts_before g.S.Storage.view (Some c.in-Err-Kept.refusal) c.args.image.now c.commit_data_mapping.new.self c.release-in-Err-Kept.new.image c.release-in-Err-Kept.ensures.marks (counts_released g.S.Storage.view c.commit_data_mapping.new.self c.release-in-Err-Kept.new.image c.release-in-Err-Kept.ensures.rest)
-      (parts_behind g.S.Storage.view (Some c.in-Err-Kept.refusal) c.args.image.now c.write_mapped.new.self c.commit_data_mapping.new.self (c.in_default.ensures.step.marks ∙ c.in_ok-prepared.ensures.step.marks) (counts_on g.S.Storage.view c.args.image.now c.prepare_data_mapping.new.self c.write_mapped.new.self c.in_ok-prepared.ensures.step.once_written.counts c.in_default.ensures.step.once_written.counts) (in_parts g.S.Storage.view (subst (λ r. MarksAtOnce g.S.Storage.view (Some (reason_of r)) c.write_mapped.new.self c.commit_data_mapping.new.self) c.in-Err-Kept.field-0-is (commit_at_once g.S.Storage.view c.write_mapped.new.self c.commit_data_mapping.new.self _ c.in-Err-Kept.ensures.once_written c.in-Err-Kept.ensures.marks))));
+      (parts_behind g.S.Storage.view (Some c.in-Err-Kept.refusal) c.args.image.now c.write_mapped.new.self c.commit_data_mapping.new.self (c.in_default.ensures.step.marks ∙ c.in_ok-prepared.ensures.step.marks) (counts_on g.S.Storage.view c.args.image.now c.prepare_data_mapping.new.self c.write_mapped.new.self c.in_ok-prepared.ensures.step.once_written.counts c.in_default.ensures.step.once_written.counts) (in_parts g.S.Storage.view (subst (λ r. MarksAtOnce g.S.Storage.view (Some (reason_of r)) c.write_mapped.new.self c.commit_data_mapping.new.self) c.in-Err-Kept.field-0-is (commit_at_once g.S.Storage.view c.write_mapped.new.self c.commit_data_mapping.new.self _ c.in-Err-Kept.ensures.step.once_written c.in-Err-Kept.ensures.step.marks))));
   quiet = λ reading.
       let view = g.S.Storage.view in
       let old = c.args.image.now in
       let mid = c.prepare_data_mapping.new.self in
-      let made = prepare_same old reading _ c.args.offset (length c.args.bytes.now) c.prepare_data_mapping.ensures.early c.prepare_data_mapping.ensures.nothing in
+      let made = prepare_same old reading _ c.args.offset (length c.args.bytes.now) c.prepare_data_mapping.ensures.refusals.early c.prepare_data_mapping.ensures.refusals.nothing in
       let put = c.write_mapped.new.self in
       let p = c.in_ok-prepared.prepared in
-      let same : put ≡ old = put_same mid (ap is_writable made ∙ reading) _ (refuses_mapping mid (image_of p)) _ c.write_mapped.ensures.early c.write_mapped.ensures.read_only c.write_mapped.ensures.nothing ∙ made in
-      let none = nothing_prepared old reading _ p c.args.offset (length c.args.bytes.now) c.in_ok-prepared.ensures.early c.in_ok-prepared.ensures.nothing in
-      let own = c.in_ok-prepared.ensures.own ∙ sym (ap number_of same) in
-      let second = written_then view (quiet_image view old put same) (quiet_commit view put c.commit_data_mapping.new.self (c.commit_data_mapping.ensures.failed own) (λ works. c.commit_data_mapping.ensures.existing own works none.0)) in
+      let same : put ≡ old = put_same mid (ap is_writable made ∙ reading) _ (refuses_mapping mid (image_of p)) _ c.write_mapped.ensures.refusals.early c.write_mapped.ensures.refusals.read_only c.write_mapped.ensures.refusals.nothing ∙ made in
+      let none = nothing_prepared old reading _ p c.args.offset (length c.args.bytes.now) c.in_ok-prepared.ensures.refusals.early c.in_ok-prepared.ensures.refusals.nothing in
+      let own = c.in_ok-prepared.ensures.answer.own ∙ sym (ap number_of same) in
+      let second = written_then view (quiet_image view old put same) (quiet_commit view put c.commit_data_mapping.new.self (c.commit_data_mapping.ensures.refusals.failed own) (λ works. c.commit_data_mapping.ensures.existing own works none.0)) in
       written_then view second (quiet_release view c.commit_data_mapping.new.self c.release-in-Err-Kept.new.image c.release-in-Err-Kept.ensures.rest);
 }
 
@@ -374,116 +311,199 @@ returns-in_err-prepared-clause-step g c = record {
   marks = parts_handed g.S.Storage.view _ c.in_err-prepared.field-0.0 c.args.image.now c.prepare_data_mapping.new.self (refused_is _ c.in_err-prepared.field-0.0 c.from_residual.ensures) (in_parts g.S.Storage.view (refused_at_once g.S.Storage.view c.args.image.now c.prepare_data_mapping.new.self c.in_err-prepared.field-0.0 c.in_err-prepared.ensures.step.once_written c.in_err-prepared.ensures.step.marks));
   quiet = λ reading.
       let old = c.args.image.now in
-      quiet_image g.S.Storage.view old c.prepare_data_mapping.new.self (prepare_same old reading _ c.args.offset (length c.args.bytes.now) c.prepare_data_mapping.ensures.early c.prepare_data_mapping.ensures.nothing);
+      quiet_image g.S.Storage.view old c.prepare_data_mapping.new.self (prepare_same old reading _ c.args.offset (length c.args.bytes.now) c.prepare_data_mapping.ensures.refusals.early c.prepare_data_mapping.ensures.refusals.nothing);
 }
 
 pub returns-in_err-prepared-clause-sound : goal.returns-in_err-prepared-clause-sound
-returns-in_err-prepared-clause-sound g c = λ none out sound.
-    let view = g.S.Storage.view in
-    let old = c.args.image.now in
-    let n = length c.args.bytes.now in
-    let some = some_bytes n (λ empty. let no = (c.in_err-prepared.ensures.nothing (ap (λ k. refuses_to_prepare old c.args.offset k) (sym empty) ∙ none) empty).0 in absurd cc) in
-    let new = c.prepare_data_mapping.new.self in
-    let e = c.in_err-prepared.field-0.0 in
-    let call = c.in_err-prepared.ensures.sees out in
-    record {
-      met = subst (λ r. IfErr r (MayFailAllocating (HasPinnedMapping out) (IsUnderMapping old.file.header.fields c.args.offset out) (CopiesCompressed c.args.offset n true new.file.header.fields (known_in view new.file)) (NeedsOverflowingL1Entry old c.args.offset))) (sym (refused_is _ e c.from_residual.ensures))
-          (⊎_elim (λ still. taking_as (λ held. held) (λ taken. under_taken taken) (compressed_behind view g.F.BackingDisk.backing out old new sound still.0 (call.acts.works sound) c.args.offset n) (λ far. far) e (c.in_err-prepared.ensures.met none some out sound)) (λ failed. inl (inl (inl (fault_of e failed.0)))) (call.answer sound));
-      taken = subst (λ r. RespectsFirst g.S.Storage.view g.F.BackingDisk.backing old out c.args.offset n r) (sym (refused_is _ c.in_err-prepared.field-0.0 c.from_residual.ensures))
-          (λ is. (
-            elim (cases_lt 0 n) [
-              | inl some ↦ some
-              | inr least ↦ absurd (let empty : n ≡ 0 = omega (arith, least) in let no = (c.in_err-prepared.ensures.nothing (ap (λ k. refuses_to_prepare old c.args.offset k) (sym empty) ∙ none) empty).0 in cc)
-            ],
-            c.in_err-prepared.ensures.taken none out sound is,
-          ));
-      limit = subst (λ r. IfLimit r (IsLimited view g.F.BackingDisk.backing [] (c.args.offset + n) old out)) (sym (refused_is _ e c.from_residual.ensures))
-          (λ is. limited_upto (omega (arith, some)) (c.in_err-prepared.ensures.limit none some out sound is));
-    }
+returns-in_err-prepared-clause-sound g c = λ out sound. record {
+  refused = λ none.
+      let view = g.S.Storage.view in
+      let old = c.args.image.now in
+      let n = length c.args.bytes.now in
+      let some = some_bytes n (λ empty. let no = (c.in_err-prepared.ensures.refusals.nothing (ap (λ k. refuses_to_prepare old c.args.offset k) (sym empty) ∙ none) empty).0 in absurd cc) in
+      let new = c.prepare_data_mapping.new.self in
+      let e = c.in_err-prepared.field-0.0 in
+      let call = c.in_err-prepared.ensures.sees out in
+      record {
+        may_fail = subst (λ r. IfErr r (MayFailAllocating (HasPinnedMapping out) (IsUnderMapping old.file.header.fields c.args.offset out) (CopiesCompressed c.args.offset n true new.file.header.fields (known_in view new.file)) (NeedsOverflowingL1Entry old c.args.offset))) (sym (refused_is _ e c.from_residual.ensures))
+            (⊎_elim (λ still. taking_as (λ held. held) (λ taken. under_taken taken) (compressed_behind view g.F.BackingDisk.backing out old new sound still.0 (call.acts.works sound) c.args.offset n) (λ far. far) e ((c.in_err-prepared.ensures.sound out sound).may_fail none some)) (λ failed. inl (inl (inl (fault_of e failed.0)))) (call.answer sound));
+        taken = subst (λ r. RespectsFirst g.S.Storage.view g.F.BackingDisk.backing old out c.args.offset n r) (sym (refused_is _ c.in_err-prepared.field-0.0 c.from_residual.ensures))
+            (λ is. (
+              elim (cases_lt 0 n) [
+                | inl some ↦ some
+                | inr least ↦ absurd (let empty : n ≡ 0 = omega (arith, least) in let no = (c.in_err-prepared.ensures.refusals.nothing (ap (λ k. refuses_to_prepare old c.args.offset k) (sym empty) ∙ none) empty).0 in cc)
+              ],
+              (c.in_err-prepared.ensures.sound out sound).taken none is,
+            ));
+        limit = subst (λ r. IfLimit r (IsLimited view g.F.BackingDisk.backing [] (c.args.offset + n) old out)) (sym (refused_is _ e c.from_residual.ensures))
+            (λ is. limited_upto (omega (arith, some)) ((c.in_err-prepared.ensures.sound out sound).limit none some is));
+      };
+  freeing = search rules;
+  ends = search rules;
+  copied = search rules;
+}
 
 pub returns-in-Ok-clause-sound : goal.returns-in-Ok-clause-sound
-returns-in-Ok-clause-sound g c = λ none out sound.
-    let view = g.S.Storage.view in
-    let below = g.F.BackingDisk.backing in
-    let old = c.args.image.now in
-    let mid = c.prepare_data_mapping.new.self in
-    let p = c.in_ok-prepared.prepared in
-    let n = length c.args.bytes.now in
-    let call = c.in_ok-prepared.ensures.sees (None ∷ out) 0 refl in
-    let free_place = (free_places view below).free old [] out sound in
-    let prepared = call.answer free_place in
-    let same : cluster_size_of mid ≡ cluster_size_of old = ap (λ (x : Setting). x.cluster_size) (call.acts.works free_place).setting in
-    record {
-      met = search rules;
-      limit = search rules;
-      taken = λ some. let maps = c.in_ok-prepared.ensures.maps some out sound in
-          let count_is : c.min-count.result ≡ min n (length_of p) = c.min-count.ensures ∙ ap (λ k. min n k) c.length.ensures in
-          let within = maps.within in (
-            omega (arith, count_is, within),
-            untaken_beside view below old.file.header.fields (known_in view old.file) mid out p (meaning view below mid p) c.args.offset n prepared.0 same prepared.1.0.from maps,
-          );
-    }
+returns-in-Ok-clause-sound g c = λ out sound. record {
+  refused = λ none.
+      let view = g.S.Storage.view in
+      let below = g.F.BackingDisk.backing in
+      let old = c.args.image.now in
+      let mid = c.prepare_data_mapping.new.self in
+      let p = c.in_ok-prepared.prepared in
+      let n = length c.args.bytes.now in
+      let call = c.in_ok-prepared.ensures.sees (None ∷ out) 0 refl in
+      let free_place = (free_places view below).free old [] out sound in
+      let prepared = call.answer free_place in
+      let same : cluster_size_of mid ≡ cluster_size_of old = ap (λ (x : Setting). x.cluster_size) (call.acts.works free_place).setting in
+      record {
+        may_fail = search rules;
+        limit = search rules;
+        taken = λ some. let maps = (c.in_ok-prepared.ensures.sound out sound).maps some in
+            let count_is : c.min-count.result ≡ min n (length_of p) = c.min-count.ensures ∙ ap (λ k. min n k) c.length.ensures in
+            let within = maps.within in (
+              omega (arith, count_is, within),
+              untaken_beside view below old.file.header.fields (known_in view old.file) mid out p (meaning view below mid p) c.args.offset n prepared.0 same prepared.1.0.from maps,
+            );
+      };
+  freeing =
+      let old = c.args.image.now in
+      let p = c.in_ok-prepared.prepared in
+      let n = length c.args.bytes.now in
+      let prepared = (c.in_ok-prepared.ensures.sees (None ∷ out) 0 refl).answer ((free_places g.S.Storage.view g.F.BackingDisk.backing).free old [] out sound) in
+      let ready = (c.in_default.ensures.sees (Some p ∷ out) 0 refl).answer prepared.0 in
+      let own = c.in_ok-prepared.ensures.answer.own ∙ sym (c.write_mapped.ensures.step.image.number ∙ c.prepare_data_mapping.ensures.step.image.number) in
+      existing_or_not (table_of p)
+      (λ existing.
+      let none = ap is_some existing in
+      let stays = (c.in-Ok.ensures.stands (Some p ∷ out) 0 refl ready.0).freeing none ∙ c.write_mapped.ensures.step.list in
+      no_more_then old c.prepare_data_mapping.new.self c.commit_data_mapping.new.self ((c.in_ok-prepared.ensures.sound out sound).freeing none) (inl stays))
+      (λ table. elim (cases_Bool (is_writable old)) [
+        | inl writable ↦ inr (c.in-Ok.ensures.emptied own table (c.write_mapped.ensures.step.image.writable ∙ c.prepare_data_mapping.ensures.step.image.writable ∙ writable))
+        | inr reading ↦
+            let nothing = nothing_prepared old reading _ p c.args.offset n c.in_ok-prepared.ensures.refusals.early c.in_ok-prepared.ensures.refusals.nothing in
+            absurd (let no : false ≡ true = sym nothing.0 ∙ table in cc)
+      ]);
+  ends = λ short.
+      let old = c.args.image.now in
+      let mid = c.prepare_data_mapping.new.self in
+      let maps = (c.in_ok-prepared.ensures.sound out sound).maps (omega arith) in
+      let prepared = c.in_ok-prepared.ensures.sees (None ∷ out) 0 refl in
+      let same : cluster_size_of mid ≡ cluster_size_of old = ap (λ (x : Setting). x.cluster_size) (prepared.acts.works ((free_places g.S.Storage.view g.F.BackingDisk.backing).free old [] out sound)).setting in
+      chunk_ends old mid c.args.offset (length c.args.bytes.now) c.min-count.result (length_of c.in_ok-prepared.prepared) (c.min-count.ensures ∙ ap (λ k. min (length c.args.bytes.now) k) c.length.ensures) short same (λ less. (maps.short less).cluster);
+  copied = λ some.
+      let view = g.S.Storage.view in
+      let below = g.F.BackingDisk.backing in
+      let old = c.args.image.now in
+      let mid = c.prepare_data_mapping.new.self in
+      let put = c.write_mapped.new.self in
+      let new = c.commit_data_mapping.new.self in
+      let p = c.in_ok-prepared.prepared in
+      let offset = c.args.offset in
+      let count = c.min-count.result in
+      let n = length c.args.bytes.now in
+      let count_is : count ≡ min n (length_of p) = c.min-count.ensures ∙ ap (λ k. min n k) c.length.ensures in
+      let long : length (take count c.args.bytes.now) ≡ count = chunk_long count (length_of p) c.args.bytes.now count_is in
+      let less : 0 < length_of p = c.in_ok-prepared.ensures.answer.some some in
+      let any : 0 < count = omega (arith, count_is, some, less) in
+      let prepared = (c.in_ok-prepared.ensures.sees (None ∷ out) 0 refl).answer ((free_places view below).free old [] out sound) in
+      let ready = (c.in_default.ensures.sees (Some p ∷ out) 0 refl).answer prepared.0 in
+      let from_is : guest_offset_of p ≡ offset = prepared.1.0.from in
+      let none = none_refused _ (refuses_to_prepare old offset n) p c.in_ok-prepared.ensures.refusals.early in
+      let usable = mapping_usable old mid c.prepare_data_mapping.ensures.step.image (image_of p) c.in_ok-prepared.ensures.answer.own c.in_ok-prepared.ensures.step.marks (prepares_usable old offset n none) in
+      let own = c.in_ok-prepared.ensures.answer.own ∙ sym (c.write_mapped.ensures.step.image.number ∙ c.prepare_data_mapping.ensures.step.image.number) in
+      let stood : AreDataAt new.file.header.fields (known_in view new.file) true (guest_offset_of p) (offset_of p) count =
+      existing_or_not (table_of p)
+      (λ existing.
+      kept_data view below put (Some p ∷ out) ready.0 new (guest_offset_of p) (offset_of p) (length (take count c.args.bytes.now)) count long (c.commit_data_mapping.ensures.existing own ready.0.works (ap is_some existing)).1
+      (c.in_default.ensures.held usable existing (omega (arith, any, long))))
+      (λ table i lt. (c.in-Ok.ensures.stands (Some p ∷ out) 0 refl ready.0).copied table i (omega (arith, lt, count_is))) in
+      let chunk = take count c.args.bytes.now in
+      let cut : length chunk ≡ min n (length_of p) = cut_long count (length_of p) c.args.bytes.now count_is in
+      let done = written (image_abstraction view below) (free_places view below) (λ _. refl) old mid p out c.args.offset n chunk chunk cut (omega arith) (λ i lt. refl) (pow_pos old.file.header.fields.cluster_bits)
+      (none_of_none (length chunk) n (length_of p) cut (none_long old c.args.offset n mid c.prepare_data_mapping.result p c.prepare_data_mapping.ensures.refusals.early c.prepare_data_mapping.ensures.refusals.nothing c.in_ok-prepared.was)) (λ past. omega (arith, past, cut)) (c.in_ok-prepared.ensures.sees (None ∷ out) 0 refl)
+      put (c.in_default.ensures.sees (Some p ∷ out) 0 refl) new (c.in-Ok.ensures.sees (Some p ∷ out) 0 refl) in
+      let all = subst (λ k. AreDataAt new.file.header.fields (known_in view new.file) true offset (offset_of p) k) (sym long) (subst (λ k. AreDataAt new.file.header.fields (known_in view new.file) true k (offset_of p) count) from_is stood) in
+      subst (LeavesCopied view below old new offset c.args.bytes.now) long
+      (part_copied view below old mid new out sound (done.answer sound).0 offset p c.args.bytes.now chunk (omega (arith, any, long)) (omega (arith, cut)) from_is ((c.in_ok-prepared.ensures.sound out sound).maps some) c.in_ok-prepared.ensures.sees
+      (done.acts.works sound) all);
+}
 
 pub returns-in-Err-clause-sound : goal.returns-in-Err-clause-sound
-returns-in-Err-clause-sound g c = λ none out sound.
-    let view = g.S.Storage.view in
-    let old = c.args.image.now in
-    let below = g.F.BackingDisk.backing in
-    let p = c.in_ok-prepared.prepared in
-    let n = length c.args.bytes.now in
-    let mid = c.prepare_data_mapping.new.self in
-    let usable = mapping_usable old c.prepare_data_mapping.new.self c.prepare_data_mapping.ensures.step.image (image_of p) c.in_ok-prepared.ensures.own c.in_ok-prepared.ensures.step.marks (prepares_usable old c.args.offset n none) in
-    let some : 0 < n = some_bytes n (λ empty. let no = (c.in-Err.ensures.nothing usable (grind (arith, common_steps))).0 in absurd cc) in
-    let prepared = (c.in_ok-prepared.ensures.sees (None ∷ out) 0 refl).answer ((free_places g.S.Storage.view g.F.BackingDisk.backing).free old [] out sound) in
-    let offset = c.args.offset in
-    let count = c.min-count.result in
-    record {
-      met = let usable = mapping_usable old mid c.prepare_data_mapping.ensures.step.image (image_of p) c.in_ok-prepared.ensures.own c.in_ok-prepared.ensures.step.marks (prepares_usable old offset n none) in
-          let call = c.in_ok-prepared.ensures.sees (None ∷ out) 0 refl in
-          let free_place = (free_places view below).free old [] out sound in
-          let prepared = call.answer free_place in
-          let same : cluster_size_of mid ≡ cluster_size_of old = ap (λ (x : Setting). x.cluster_size) (call.acts.works free_place).setting in
-          let maps = c.in_ok-prepared.ensures.maps some out sound in
-          let fits : offset + n ≤ size_of mid = let s = c.prepare_data_mapping.ensures.step.image.size in let b = prepares_within old offset n none some in omega (arith, s, b) in
-          let long : table_of p ≡ None → length (take count c.args.bytes.now) ≡ n = λ existing.
-          let whole = existing_long view below out old mid p offset n prepared.0 same maps some existing in
-          let count_is : count ≡ min n (length_of p) = c.min-count.ensures ∙ ap (λ k. min n k) c.length.ensures in
-          chunk_long count (length_of p) c.args.bytes.now count_is ∙ (grind (arith, common_steps, count_is, whole)) in
-          elim (put_looking (IsCacheHeld mid (Some p ∷ out)) out p c.in-Err.refusal (λ held. held.1) (λ existing. existing_near view below out old mid p offset n prepared.0 same maps some existing)
-          (λ existing outdated. c.in-Err.ensures.outdated existing (Some p ∷ out) prepared.0 (ap Err outdated) (existing_found view below out old mid p offset n prepared.0 same maps some existing fits prepared.1.0.from (length (take count c.args.bytes.now)) (long existing)))
-          (c.in-Err.ensures.met (Some p ∷ out) 0 refl prepared.0 (c.prepare_data_mapping.ensures.step.image.writable ∙ prepares_writable old offset n none some))) [ inl fault ↦ inl (inl (inl fault)) | inr used ↦ inr (inl used) ];
-      taken = λ is. absurd (subst IsMet is (put_met c.args.image.now c.prepare_data_mapping.new.self c.prepare_data_mapping.ensures.step.image (image_of c.in_ok-prepared.prepared) c.args.offset (length c.args.bytes.now) (length (take c.min-count.result c.args.bytes.now)) c.in-Err.refusal
-          c.in_ok-prepared.ensures.own c.in_ok-prepared.ensures.step.marks (λ empty. grind (arith, common_steps)) none c.in-Err.ensures.late (λ usable empty. let no = (c.in-Err.ensures.nothing usable empty).0 in absurd cc)));
-      limit = other_limit _ c.in-Err.refusal (put_unlimited _ p 0 c.in-Err.refusal (c.in-Err.ensures.met (Some p ∷ out) 0 refl prepared.0 (c.prepare_data_mapping.ensures.step.image.writable ∙ prepares_writable old c.args.offset n none some)));
-    }
+returns-in-Err-clause-sound g c = λ out sound. record {
+  refused = λ none.
+      let view = g.S.Storage.view in
+      let old = c.args.image.now in
+      let below = g.F.BackingDisk.backing in
+      let p = c.in_ok-prepared.prepared in
+      let n = length c.args.bytes.now in
+      let mid = c.prepare_data_mapping.new.self in
+      let usable = mapping_usable old c.prepare_data_mapping.new.self c.prepare_data_mapping.ensures.step.image (image_of p) c.in_ok-prepared.ensures.answer.own c.in_ok-prepared.ensures.step.marks (prepares_usable old c.args.offset n none) in
+      let some : 0 < n = some_bytes n (λ empty. let no = (c.in-Err.ensures.refusals.nothing usable (grind (arith, common_steps))).0 in absurd cc) in
+      let prepared = (c.in_ok-prepared.ensures.sees (None ∷ out) 0 refl).answer ((free_places g.S.Storage.view g.F.BackingDisk.backing).free old [] out sound) in
+      let offset = c.args.offset in
+      let count = c.min-count.result in
+      record {
+        may_fail = let usable = mapping_usable old mid c.prepare_data_mapping.ensures.step.image (image_of p) c.in_ok-prepared.ensures.answer.own c.in_ok-prepared.ensures.step.marks (prepares_usable old offset n none) in
+            let call = c.in_ok-prepared.ensures.sees (None ∷ out) 0 refl in
+            let free_place = (free_places view below).free old [] out sound in
+            let prepared = call.answer free_place in
+            let same : cluster_size_of mid ≡ cluster_size_of old = ap (λ (x : Setting). x.cluster_size) (call.acts.works free_place).setting in
+            let maps = (c.in_ok-prepared.ensures.sound out sound).maps some in
+            let fits : offset + n ≤ size_of mid = let s = c.prepare_data_mapping.ensures.step.image.size in let b = prepares_within old offset n none some in omega (arith, s, b) in
+            let long : table_of p ≡ None → length (take count c.args.bytes.now) ≡ n = λ existing.
+            let whole = existing_long view below out old mid p offset n prepared.0 same maps some existing in
+            let count_is : count ≡ min n (length_of p) = c.min-count.ensures ∙ ap (λ k. min n k) c.length.ensures in
+            chunk_long count (length_of p) c.args.bytes.now count_is ∙ (grind (arith, common_steps, count_is, whole)) in
+            elim (put_looking (IsCacheHeld mid (Some p ∷ out)) out p c.in-Err.refusal (λ held. held.1) (λ existing. existing_near view below out old mid p offset n prepared.0 same maps some existing)
+            (λ existing outdated. (c.in-Err.ensures.sound (Some p ∷ out) prepared.0).outdated existing (ap Err outdated) (existing_found view below out old mid p offset n prepared.0 same maps some existing fits prepared.1.0.from (length (take count c.args.bytes.now)) (long existing)))
+            ((c.in-Err.ensures.sound (Some p ∷ out) prepared.0).may_fail 0 refl (c.prepare_data_mapping.ensures.step.image.writable ∙ prepares_writable old offset n none some))) [ inl fault ↦ inl (inl (inl fault)) | inr used ↦ inr (inl used) ];
+        taken = λ is. absurd (subst MayFail is (put_met c.args.image.now c.prepare_data_mapping.new.self c.prepare_data_mapping.ensures.step.image (image_of c.in_ok-prepared.prepared) c.args.offset (length c.args.bytes.now) (length (take c.min-count.result c.args.bytes.now)) c.in-Err.refusal
+            c.in_ok-prepared.ensures.answer.own c.in_ok-prepared.ensures.step.marks (λ empty. grind (arith, common_steps)) none c.in-Err.ensures.refusals.late (λ usable empty. let no = (c.in-Err.ensures.refusals.nothing usable empty).0 in absurd cc)));
+        limit = other_limit _ c.in-Err.refusal (put_unlimited _ p 0 c.in-Err.refusal ((c.in-Err.ensures.sound (Some p ∷ out) prepared.0).may_fail 0 refl (c.prepare_data_mapping.ensures.step.image.writable ∙ prepares_writable old c.args.offset n none some)));
+      };
+  freeing = search rules;
+  ends = search rules;
+  copied = search rules;
+}
 
 pub returns-in-Err-Spent-clause-sound : goal.returns-in-Err-Spent-clause-sound
-returns-in-Err-Spent-clause-sound g c = λ none out sound.
-    let view = g.S.Storage.view in
-    let below = g.F.BackingDisk.backing in
-    let p = c.in_ok-prepared.prepared in
-    let ready = (c.in_default.ensures.sees (Some p ∷ out) 0 refl).answer ((c.in_ok-prepared.ensures.sees (None ∷ out) 0 refl).answer ((free_places view below).free c.args.image.now [] out sound)).0 in
-    let refused = subst (λ r. Commits view below c.write_mapped.new.self c.commit_data_mapping.new.self p (Err r)) c.in-Err-Spent.field-0-is c.in-Err-Spent.ensures.sees (Some p ∷ out) 0 refl in
-    record {
-      met = inl (inl (inl (fault_of c.in-Err-Spent.refusal (refused.0 ready.0))));
-      taken = λ is. absurd (subst IsOfTables is (subst (λ r. IsOfTables (reason_of r)) c.in-Err-Spent.field-0-is
-          (c.in-Err-Spent.ensures.late (c.in_ok-prepared.ensures.own ∙ sym (c.write_mapped.ensures.step.image.number ∙ c.prepare_data_mapping.ensures.step.image.number))
-          (c.in_default.ensures.step.marks ∙ c.in_ok-prepared.ensures.step.marks ∙ not_failed_yet c.args.image.now c.prepare_data_mapping.new.self c.prepare_data_mapping.ensures.step.image (prepares_usable c.args.image.now c.args.offset (length c.args.bytes.now) none)))));
-      limit = other_limit _ c.in-Err-Spent.refusal (fault_unlimited c.in-Err-Spent.refusal (fault_of c.in-Err-Spent.refusal (refused.0 ready.0)));
-    }
+returns-in-Err-Spent-clause-sound g c = λ out sound. record {
+  refused = λ none.
+      let view = g.S.Storage.view in
+      let below = g.F.BackingDisk.backing in
+      let p = c.in_ok-prepared.prepared in
+      let ready = (c.in_default.ensures.sees (Some p ∷ out) 0 refl).answer ((c.in_ok-prepared.ensures.sees (None ∷ out) 0 refl).answer ((free_places view below).free c.args.image.now [] out sound)).0 in
+      let refused = subst (λ r. Commits view below c.write_mapped.new.self c.commit_data_mapping.new.self p (Err r)) c.in-Err-Spent.field-0-is c.in-Err-Spent.ensures.sees (Some p ∷ out) 0 refl in
+      record {
+        may_fail = inl (inl (inl (fault_of c.in-Err-Spent.refusal (refused.0 ready.0))));
+        taken = λ is. absurd (subst IsOfTables is (subst (λ r. IsOfTables (reason_of r)) c.in-Err-Spent.field-0-is
+            (c.in-Err-Spent.ensures.refusals.late (c.in_ok-prepared.ensures.answer.own ∙ sym (c.write_mapped.ensures.step.image.number ∙ c.prepare_data_mapping.ensures.step.image.number))
+            (c.in_default.ensures.step.marks ∙ c.in_ok-prepared.ensures.step.marks ∙ not_failed_yet c.args.image.now c.prepare_data_mapping.new.self c.prepare_data_mapping.ensures.step.image (prepares_usable c.args.image.now c.args.offset (length c.args.bytes.now) none)))));
+        limit = other_limit _ c.in-Err-Spent.refusal (fault_unlimited c.in-Err-Spent.refusal (fault_of c.in-Err-Spent.refusal (refused.0 ready.0)));
+      };
+  freeing = search rules;
+  ends = search rules;
+  copied = search rules;
+}
 
 pub returns-in-Err-Kept-clause-sound : goal.returns-in-Err-Kept-clause-sound
-returns-in-Err-Kept-clause-sound g c = λ none out sound.
-    let view = g.S.Storage.view in
-    let below = g.F.BackingDisk.backing in
-    let p = c.in_ok-prepared.prepared in
-    let same : c.in-Err-Kept.prepared ≡ p = subst (λ r. IsHandedBackBy p r) c.in-Err-Kept.field-0-is c.in-Err-Kept.ensures.kept in
-    let ready = (c.in_default.ensures.sees (Some p ∷ out) 0 refl).answer ((c.in_ok-prepared.ensures.sees (None ∷ out) 0 refl).answer ((free_places view below).free c.args.image.now [] out sound)).0 in
-    let refused = subst (λ r. Commits view below c.write_mapped.new.self c.commit_data_mapping.new.self p (Err r)) (c.in-Err-Kept.field-0-is ∙ ap (λ q. Kept c.in-Err-Kept.refusal q) same) c.in-Err-Kept.ensures.sees (Some p ∷ out) 0 refl in
-    record {
-      met = inl (inl (inl (fault_of c.in-Err-Kept.refusal (refused.0 ready.0))));
-      taken = λ is. absurd (subst IsOfTables is (subst (λ r. IsOfTables (reason_of r)) c.in-Err-Kept.field-0-is
-          (c.in-Err-Kept.ensures.late (c.in_ok-prepared.ensures.own ∙ sym (c.write_mapped.ensures.step.image.number ∙ c.prepare_data_mapping.ensures.step.image.number))
-          (c.in_default.ensures.step.marks ∙ c.in_ok-prepared.ensures.step.marks ∙ not_failed_yet c.args.image.now c.prepare_data_mapping.new.self c.prepare_data_mapping.ensures.step.image (prepares_usable c.args.image.now c.args.offset (length c.args.bytes.now) none)))));
-      limit = other_limit _ c.in-Err-Kept.refusal (fault_unlimited c.in-Err-Kept.refusal (fault_of c.in-Err-Kept.refusal (refused.0 ready.0)));
-    }
+returns-in-Err-Kept-clause-sound g c = λ out sound. record {
+  refused = λ none.
+      let view = g.S.Storage.view in
+      let below = g.F.BackingDisk.backing in
+      let p = c.in_ok-prepared.prepared in
+      let same : c.in-Err-Kept.prepared ≡ p = subst (λ r. IsHandedBackBy p r) c.in-Err-Kept.field-0-is c.in-Err-Kept.ensures.refusals.kept in
+      let ready = (c.in_default.ensures.sees (Some p ∷ out) 0 refl).answer ((c.in_ok-prepared.ensures.sees (None ∷ out) 0 refl).answer ((free_places view below).free c.args.image.now [] out sound)).0 in
+      let refused = subst (λ r. Commits view below c.write_mapped.new.self c.commit_data_mapping.new.self p (Err r)) (c.in-Err-Kept.field-0-is ∙ ap (λ q. Kept c.in-Err-Kept.refusal q) same) c.in-Err-Kept.ensures.sees (Some p ∷ out) 0 refl in
+      record {
+        may_fail = inl (inl (inl (fault_of c.in-Err-Kept.refusal (refused.0 ready.0))));
+        taken = λ is. absurd (subst IsOfTables is (subst (λ r. IsOfTables (reason_of r)) c.in-Err-Kept.field-0-is
+            (c.in-Err-Kept.ensures.refusals.late (c.in_ok-prepared.ensures.answer.own ∙ sym (c.write_mapped.ensures.step.image.number ∙ c.prepare_data_mapping.ensures.step.image.number))
+            (c.in_default.ensures.step.marks ∙ c.in_ok-prepared.ensures.step.marks ∙ not_failed_yet c.args.image.now c.prepare_data_mapping.new.self c.prepare_data_mapping.ensures.step.image (prepares_usable c.args.image.now c.args.offset (length c.args.bytes.now) none)))));
+        limit = other_limit _ c.in-Err-Kept.refusal (fault_unlimited c.in-Err-Kept.refusal (fault_of c.in-Err-Kept.refusal (refused.0 ready.0)));
+      };
+  freeing = search rules;
+  ends = search rules;
+  copied = search rules;
+}

@@ -1,39 +1,39 @@
 use Rattle.std.proofs.Common.{None, Some, arith, length, refl, subst, sym, ◌<◌, ◌∙◌, ◌≡◌, rules, inl, ◌⊎◌}
 use Rattle.std.proofs.lemmas.Grind.{common_steps}
 use Rattle.qcow2_alloc.specs.ImageFile.{known_in}
-use Rattle.qcow2_image.proofs.Sizes.{sound_is_usable}
-use Rattle.qcow2_image.specs.Refusals.{IsMet, unusable}
+use Rattle.qcow2_image.proofs.Images.Sizes.{sound_is_usable}
+use Rattle.qcow2_image.specs.Refusals.{MayFail, unusable}
 use Rattle.qcow2_session.proofs.Turns.{refused_is, refused_some}
 use Rattle.qcow2_session.proofs.SpecialReads.{told_plainly}
 use Rattle.qcow2_session.proofs.Marking.{at_rest, call_at_once, memory_marks, once_handed, unchecked, unmarked}
 use Rattle.qcow2_image.proofs.Call.BehindHeader.{behind_none}
-use Rattle.qcow2_session.proofs.MetOnSound.{memory_looking}
+use Rattle.qcow2_session.proofs.FailingOnSound.{memory_looking}
 use Rattle.std.specs.Prelude.{IfErr}
-use Rattle.qcow2_image.specs.MetAlone.{IsCacheHeld, IsMetLooking}
+use Rattle.qcow2_image.specs.MayFail.{IsCacheHeld, MayFailLooking}
 use Rattle.qcow2_alloc.specs.declared.error.ImageError.TheVariants.{Compressed}
 use Rattle.qcow2_session.proofs.special.try_range.Goals as goal
 
-pub returns-clause-tells : goal.returns-clause-tells
-returns-clause-tells g c = λ out sound.
+pub returns-clause-reports : goal.returns-clause-reports
+returns-clause-reports g c = λ out sound.
     let old = c.args.image.now in
     let usable = sound_is_usable g.S.Storage.view g.F.BackingDisk.backing old out sound in
     let long : length c.deref_mut.result.now ≡ c.args.length = grind (arith, common_steps) in
-    told_plainly (known_in g.S.Storage.view old.file) c.args.offset c.args.length c.try_readv_special.result (λ some. c.try_readv_special.ensures.some (subst (λ n. 0 < n) (sym long) some)) (λ none. (c.try_readv_special.ensures.nothing usable (long ∙ none)).0)
-    (c.try_readv_special.ensures.late usable) (λ some. c.try_readv_special.ensures.tells (subst (λ n. 0 < n) (sym long) some) out sound)
+    told_plainly (known_in g.S.Storage.view old.file) c.args.offset c.args.length c.try_readv_special.result (λ some. c.try_readv_special.ensures.some (subst (λ n. 0 < n) (sym long) some)) (λ none. (c.try_readv_special.ensures.refusals.nothing usable (long ∙ none)).0)
+    (c.try_readv_special.ensures.refusals.late usable) (λ some. (c.try_readv_special.ensures.sound out sound).reports (subst (λ n. 0 < n) (sym long) some))
 
 pub returns-clause-late : goal.returns-clause-late
 returns-clause-late g c = λ usable.
     let long : length c.deref_mut.result.now ≡ c.args.length = grind (arith, common_steps) in
-    refused_some IsMet c.args.length c.try_readv_special.result None (c.try_readv_special.ensures.late usable) (λ none. (c.try_readv_special.ensures.nothing usable (long ∙ none)).0)
+    refused_some MayFail c.args.length c.try_readv_special.result None (c.try_readv_special.ensures.refusals.late usable) (λ none. (c.try_readv_special.ensures.refusals.nothing usable (long ∙ none)).0)
 
-pub returns-in_err-check_read-clause-met : goal.returns-in_err-check_read-clause-met
-returns-in_err-check_read-clause-met g c = λ out sound. absurd (unchecked (unusable c.args.image.now) c.in_err-check_read.field-0.0 c.in_err-check_read.ensures.refusal (sound_is_usable g.S.Storage.view g.F.BackingDisk.backing c.args.image.now out sound))
+pub returns-in_err-check_read-clause-may_fail : goal.returns-in_err-check_read-clause-may_fail
+returns-in_err-check_read-clause-may_fail g c = λ out sound. absurd (unchecked (unusable c.args.image.now) c.in_err-check_read.field-0.0 c.in_err-check_read.ensures.refusal (sound_is_usable g.S.Storage.view g.F.BackingDisk.backing c.args.image.now out sound))
 
-pub returns-in_err-bytes-clause-met : goal.returns-in_err-bytes-clause-met
-returns-in_err-bytes-clause-met g c = λ out sound. subst (λ r. IfErr r (λ e. IsMetLooking (IsCacheHeld c.args.image.now out) e ⊎ (e ≡ Compressed))) (sym (refused_is _ c.in_err-bytes.field-0.0 c.from_residual-in_err-bytes.ensures)) (inl (memory_looking c.in_err-bytes.field-0.0 c.in_err-bytes.ensures.cause.0))
+pub returns-in_err-bytes-clause-may_fail : goal.returns-in_err-bytes-clause-may_fail
+returns-in_err-bytes-clause-may_fail g c = λ out sound. subst (λ r. IfErr r (λ e. MayFailLooking (IsCacheHeld c.args.image.now out) e ⊎ (e ≡ Compressed))) (sym (refused_is _ c.in_err-bytes.field-0.0 c.from_residual-in_err-bytes.ensures)) (inl (memory_looking c.in_err-bytes.field-0.0 c.in_err-bytes.ensures.cause.0))
 
-pub returns-clause-met : goal.returns-clause-met
-returns-clause-met g c = c.try_readv_special.ensures.met
+pub returns-clause-may_fail : goal.returns-clause-may_fail
+returns-clause-may_fail g c = λ out sound. (c.try_readv_special.ensures.sound out sound).may_fail
 
 pub returns-in_err-bytes-clause-step : goal.returns-in_err-bytes-clause-step
 returns-in_err-bytes-clause-step g c = record {

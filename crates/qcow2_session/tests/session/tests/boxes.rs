@@ -1,6 +1,8 @@
 //! That calls take storages and disks below of all types, in boxes.
 use super::{made, opened};
-use crate::boxes::run_in_boxes;
+use crate::boxes::{
+    AnyDisk, AnyStorage, open_and_run_in_boxes, read_in_boxes, run_in_boxes, write_in_boxes,
+};
 use crate::headline::open_and_run;
 use crate::session::{Command, Reply};
 use image_access::{BackingDisk, DynStorage, MemBacking, MemStorage, Storage, TraceStorage};
@@ -59,25 +61,41 @@ fn storages_of_all_types_run_alike(rt: HostRuntime) -> Result<(), Fail> {
     Ok(())
 }
 
+// Runs commands on an image in a box, over a disk in a box if one is given, and leaves it open.
+fn ran_in_boxes(
+    alloc: Global,
+    storage: AnyStorage,
+    below: Option<AnyDisk>,
+    commands: &[Command],
+) -> Result<(Qcow2<AnyStorage, AnyDisk>, Vec<Reply>), ImageError> {
+    match open_and_run_in_boxes(alloc, storage, below, 1, commands) {
+        Ok(ran) => Ok(ran),
+        Err((_storage, refusal)) => Err(refusal),
+    }
+}
+
 #[test]
 fn an_image_in_a_box_shows_the_disk_in_a_box_below(rt: HostRuntime) -> Result<(), Fail> {
     let alloc = rt.alloc();
     let commands = commands(alloc)?;
     for storage in mixed(alloc)? {
-        let below: Box<dyn BackingDisk> = Box::new(
-            alloc,
-            MemBacking::new(vec![in alloc; 0x55; 700]?),
-        )?;
-        let (storage, replies) = run_in_boxes(alloc, storage, Some(below), 1, &commands);
+        let below: AnyDisk = Box::new(alloc, MemBacking::new(vec![in alloc; 0x55; 700]?))?;
+        let (mut image, replies) = ran_in_boxes(alloc, storage, Some(below), &commands)?;
         let bytes = [0x55, 0x33, 0x33, 0x55].to_vec(alloc)?;
         assert_eq!(rt;
-            replies?.as_slice(),
+            replies.as_slice(),
             [Reply::Done, Reply::Done, Reply::Bytes(bytes)].as_slice()
         );
+        // the open image is read and written
+        assert!(rt; write_in_boxes(&mut image, 510, &[0x77]).is_ok());
+        let bytes = read_in_boxes(alloc, &mut image, 509, 3)?;
+        assert_eq!(rt; bytes.as_slice(), [0x55, 0x77, 0x33].as_slice());
+        let replies = run_in_boxes(alloc, &mut image, &commands[1..2]);
+        assert_eq!(rt; replies.as_slice(), [Reply::Done].as_slice());
         // what was written stays, and is read with no disk below
-        let (_storage, replies) = run_in_boxes(alloc, storage, None, 2, &commands[2..3]);
-        let kept = [0x55, 0x33, 0x33, 0x55].to_vec(alloc)?;
-        assert_eq!(rt; replies?.as_slice(), [Reply::Bytes(kept)].as_slice());
+        let (_image, replies) = ran_in_boxes(alloc, image.into_storage(), None, &commands[2..3])?;
+        let kept = [0x77, 0x33, 0x33, 0x55].to_vec(alloc)?;
+        assert_eq!(rt; replies.as_slice(), [Reply::Bytes(kept)].as_slice());
     }
     Ok(())
 }

@@ -130,7 +130,7 @@ fn read_mapped(slot: u8, at: u64) -> Command {
     }
 }
 
-// What image 1 says of the second cluster, which stands at 2560.
+// What image 1 says of the second cluster, which is at 2560.
 fn second_cluster() -> Mapping {
     Mapping {
         image: 1,

@@ -12,7 +12,7 @@ const SIZE: u64 = 65536;
 
 // What is to be made on a storage.
 fn asked<S: Storage>(storage: S, cluster: u64, width: u64) -> Qcow2CreateBuilder<S> {
-    Qcow2CreateBuilder::new(storage)
+    Qcow2::<S>::create_builder(storage)
         .size(SIZE)
         .cluster_size(cluster)
         .refcount_width(width)

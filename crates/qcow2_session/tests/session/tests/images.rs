@@ -143,7 +143,7 @@ fn preallocated<S: Storage>(
     Ok(storage)
 }
 
-// Data that stand in a cluster of their own.
+// Data in a cluster of their own.
 fn data_at(offset: u64) -> MappingKind {
     MappingKind::Raw {
         place: Place::Image,
@@ -236,7 +236,7 @@ fn stands_alone<S: Storage>(image: &Qcow2<S>) -> bool {
         && image.implicit_backing_format().is_none()
 }
 
-// Its number, size, smallest zeroing and leaked clusters, whether it is writable, and whether it stands alone.
+// The image's number, size, smallest zeroing and leaked clusters, whether it is writable, and whether it needs no other file.
 fn described<S: Storage>(
     alloc: Global,
     storage: S,

@@ -140,7 +140,7 @@ fn no_image_is_invalidated_beside_a_prepared_mapping(rt: HostRuntime) -> Result<
     Ok(())
 }
 
-// What a write under a new L2 table leaves behind a refused invalidation, with the refusals of that one and of the next.
+// What a write under a new L2 table leaves after a refused invalidation, with the refusals of that one and of the next.
 fn beyond_a_refusal<S: Storage>(alloc: Global, storage: S) -> Result<([u8; 2], S), ImageError> {
     let mut image = opened(alloc, storage, true)?;
     write_all(&mut image, 0, &[0x11; 512])?;

@@ -278,7 +278,7 @@ fn a_discarded_cluster_is_free_after_a_refusal(rt: HostRuntime) -> Result<(), Fa
     Ok(())
 }
 
-// What special reads of four bytes answer, and what stands in their slice then.
+// What special reads of four bytes return, and what their slice then holds.
 fn read_specially<S: Storage>(
     alloc: Global,
     storage: S,

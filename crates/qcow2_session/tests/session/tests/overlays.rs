@@ -8,7 +8,7 @@ use qcow2_image::ImageError;
 use std::alloc::{AllocError, Global};
 use std::test::Fail;
 
-// The disk below: so many bytes of one value, and zeros behind them.
+// The disk below: this many bytes of one value, and zeros after them.
 fn disk_below(alloc: Global) -> Result<MemBacking, AllocError> {
     Ok(MemBacking::new(vec![in alloc; 0x55; 700]?))
 }

@@ -312,7 +312,7 @@ fn a_longer_l1_table_ends_with_the_entry_needed(rt: HostRuntime) -> Result<(), F
     Ok(())
 }
 
-// Makes a range behind the L1 table zero, and flushes.
+// Makes a range past the L1 table zero, and flushes.
 fn zeroed<S: Storage>(alloc: Global, storage: S) -> Result<S, ImageError> {
     let mut image = opened(alloc, storage, true)?;
     image.ensure_zero_mapping(32768, 512)?;
@@ -320,7 +320,7 @@ fn zeroed<S: Storage>(alloc: Global, storage: S) -> Result<S, ImageError> {
     Ok(image.into_storage())
 }
 
-// Drops a range behind the L1 table, and flushes.
+// Drops a range past the L1 table, and flushes.
 fn dropped<S: Storage>(alloc: Global, storage: S) -> Result<S, ImageError> {
     let mut image = opened(alloc, storage, true)?;
     image.discard_to_backing_unsafe(32768, 512)?;

@@ -55,20 +55,5 @@ returns-in_default-clause-step g c = step_none
 pub returns-in_default-clause-fails : goal.returns-in_default-clause-fails
 returns-in_default-clause-fails g c = fails_by I.Memory memory_other refl tt
 
-pub returns-in-Ok-lowest_run-clause-step : goal.returns-in-Ok-lowest_run-clause-step
-returns-in-Ok-lowest_run-clause-step g c = c.lowest_run.ensures.step
-
 pub returns-in-Ok-lowest_run-clause-fails : goal.returns-in-Ok-lowest_run-clause-fails
 returns-in-Ok-lowest_run-clause-fails g c = fails_ok c.in-Ok-lowest_run.ensures.fails.told
-
-pub returns-in-Err-clause-step : goal.returns-in-Err-clause-step
-returns-in-Err-clause-step g c = c.lowest_run.ensures.step
-
-pub returns-in-Err-clause-fails : goal.returns-in-Err-clause-fails
-returns-in-Err-clause-fails g c = c.in-Err.ensures.fails
-
-pub returns-in-Ok-lowest_run-clause-leaks : goal.returns-in-Ok-lowest_run-clause-leaks
-returns-in-Ok-lowest_run-clause-leaks g c = λ p sound. c.lowest_run.ensures.leaks p sound
-
-pub returns-in-Err-clause-leaks : goal.returns-in-Err-clause-leaks
-returns-in-Err-clause-leaks g c = λ p sound. c.lowest_run.ensures.leaks p sound

@@ -1,4 +1,4 @@
-use Rattle.std.proofs.Common.{◌≡◌, ◌≢◌, ◌⊎◌, inl, inr, refl, sym, subst, Result, ◌∙◌}
+use Rattle.std.proofs.Common.{◌≡◌, ◌≢◌, ◌⊎◌, inl, refl, sym, subst, Result, ◌∙◌}
 use Rattle.qcow2_laws.specs.CrashInvariant.{Pending}
 use Rattle.qcow2_alloc.specs.declared.clusters_to_free.ClusterKind.TheVariants.{Data}
 use Rattle.qcow2_alloc.specs.declared.image_file.ImageFile.{ImageFile}
@@ -12,21 +12,12 @@ use Rattle.std.specs.Prelude.{IfErr}
 use Rattle.qcow2_alloc.specs.declared.error.ImageError.{ImageError}
 use Rattle.qcow2_alloc.specs.declared.clusters_to_free.ClustersToFreeEntry.{ClustersToFreeEntry}
 use Rattle.qcow2_alloc.specs.Limits.{IsFaultOr, HasNoPlace}
-use Rattle.qcow2_alloc.proofs.Outcomes.{on_no_ok, if_no_ok, on_ok, why_as}
+use Rattle.qcow2_alloc.proofs.Outcomes.{on_no_ok, if_no_ok, on_ok}
 use Rattle.qcow2_alloc.proofs.MadeClusters.{alone_none, alone_since, made_run}
 use Rattle.qcow2_alloc.specs.MadeClusters.{IsMadeInTurn, AllocatesOnly}
 use Rattle.qcow2_metadata.specs.Entries.{count}
-use Rattle.qcow2_alloc.specs.TurnedCaches.{IsOfTurning, TurnsAlone}
-use Rattle.image_access.specs.Moments.{StorageView}
-use Rattle.std.specs.Result.{IsErrAnd}
 use Rattle.qcow2_alloc.proofs.Steps.{data_then, fails_on, fails_since, data_cached}
 use Rattle.qcow2_alloc.proofs.allocation.Allocator.allocate_data.Goals as goal
-
--- the caches were turned before
-behind_turned : {S : Type 0} (view : S → StorageView) (old file new : ImageFile S) (Why : ImageError → Type 0) (r : Result ClustersToFreeEntry ImageError) → TurnsAlone view old file → IsErrAnd r Why × (new ≡ file)
-    → IsErrAnd r (λ e. IsOfTurning old.caches e ⊎ Why e) × TurnsAlone view old new
-behind_turned view old file new Why r alone refused =
-    (why_as Why (λ e. IsOfTurning old.caches e ⊎ Why e) r (λ e why. inr why) refused.0, subst (TurnsAlone view old) (sym refused.1) alone)
 
 pub returns-in_err-l2_depends_on_rb-clause-step : goal.returns-in_err-l2_depends_on_rb-clause-step
 returns-in_err-l2_depends_on_rb-clause-step g c = data_cached c.l2_depends_on_rb.ensures.step.marks.pins c.l2_depends_on_rb.ensures.step.marks.notes c.l2_depends_on_rb.ensures.step.header_cluster
@@ -34,32 +25,11 @@ returns-in_err-l2_depends_on_rb-clause-step g c = data_cached c.l2_depends_on_rb
 pub returns-in_err-l2_depends_on_rb-clause-fails : goal.returns-in_err-l2_depends_on_rb-clause-fails
 returns-in_err-l2_depends_on_rb-clause-fails g c = fails_on c.from_residual.result c.in_err-l2_depends_on_rb.field-0.0 c.from_residual.ensures c.in_err-l2_depends_on_rb.ensures.fails
 
-pub returns-in_err-l2_depends_on_rb-clause-nameable : goal.returns-in_err-l2_depends_on_rb-clause-nameable
-returns-in_err-l2_depends_on_rb-clause-nameable g c = if_no_ok _ c.from_residual.result c.in_err-l2_depends_on_rb.field-0.0 c.from_residual.ensures
-
-pub returns-in_err-l2_depends_on_rb-clause-elsewhere : goal.returns-in_err-l2_depends_on_rb-clause-elsewhere
-returns-in_err-l2_depends_on_rb-clause-elsewhere g c = if_no_ok _ c.from_residual.result c.in_err-l2_depends_on_rb.field-0.0 c.from_residual.ensures
-
-pub returns-in_err-l2_depends_on_rb-clause-noted : goal.returns-in_err-l2_depends_on_rb-clause-noted
-returns-in_err-l2_depends_on_rb-clause-noted g c = on_no_ok _ c.from_residual.result c.in_err-l2_depends_on_rb.field-0.0 c.from_residual.ensures
-
-pub returns-in_err-l2_depends_on_rb-clause-order : goal.returns-in_err-l2_depends_on_rb-clause-order
-returns-in_err-l2_depends_on_rb-clause-order g c = on_no_ok _ c.from_residual.result c.in_err-l2_depends_on_rb.field-0.0 c.from_residual.ensures
-
 pub returns-clause-step : goal.returns-clause-step
 returns-clause-step g c = data_then (data_cached c.l2_depends_on_rb.ensures.step.marks.pins c.l2_depends_on_rb.ensures.step.marks.notes c.l2_depends_on_rb.ensures.step.header_cluster) c.allocate.ensures.step
 
 pub returns-clause-fails : goal.returns-clause-fails
 returns-clause-fails g c = fails_since c.in_ok-l2_depends_on_rb.ensures.fails.told c.allocate.ensures.fails
-
-pub returns-clause-noted : goal.returns-clause-noted
-returns-clause-noted g c = c.allocate.ensures.noted
-
-pub returns-clause-nameable : goal.returns-clause-nameable
-returns-clause-nameable g c = c.allocate.ensures.nameable
-
-pub returns-clause-elsewhere : goal.returns-clause-elsewhere
-returns-clause-elsewhere g c = c.allocate.ensures.elsewhere
 
 pub returns-clause-order : goal.returns-clause-order
 returns-clause-order g c = on_ok _ c.allocate.result (c.allocate.ensures.step.marks.order ∙ c.in_ok-l2_depends_on_rb.ensures.turns.order)

@@ -61,50 +61,29 @@ returns-in_default-clause-step g c = data_cached c.l2_depends_on_rb.ensures.step
 pub returns-in_default-clause-fails : goal.returns-in_default-clause-fails
 returns-in_default-clause-fails g c = fails_by I.Memory memory_other c.in_ok-l2_depends_on_rb.ensures.fails.told tt
 
-pub returns-in_err-l2_depends_on_rb-clause-noted : goal.returns-in_err-l2_depends_on_rb-clause-noted
-returns-in_err-l2_depends_on_rb-clause-noted g c = if_no_ok _ c.from_residual.result c.in_err-l2_depends_on_rb.field-0.0 c.from_residual.ensures
-
-pub returns-in_err-l2_depends_on_rb-clause-nameable : goal.returns-in_err-l2_depends_on_rb-clause-nameable
-returns-in_err-l2_depends_on_rb-clause-nameable g c = if_no_ok _ c.from_residual.result c.in_err-l2_depends_on_rb.field-0.0 c.from_residual.ensures
-
-pub returns-in_err-l2_depends_on_rb-clause-elsewhere : goal.returns-in_err-l2_depends_on_rb-clause-elsewhere
-returns-in_err-l2_depends_on_rb-clause-elsewhere g c = if_no_ok _ c.from_residual.result c.in_err-l2_depends_on_rb.field-0.0 c.from_residual.ensures
-
-pub returns-in_err-l2_depends_on_rb-clause-order : goal.returns-in_err-l2_depends_on_rb-clause-order
-returns-in_err-l2_depends_on_rb-clause-order g c = on_no_ok _ c.from_residual.result c.in_err-l2_depends_on_rb.field-0.0 c.from_residual.ensures
-
 pub returns-in-Ok-true-clause-step : goal.returns-in-Ok-true-clause-step
-returns-in-Ok-true-clause-step g c = data_then (data_cached c.l2_depends_on_rb.ensures.step.marks.pins c.l2_depends_on_rb.ensures.step.marks.notes c.l2_depends_on_rb.ensures.step.header_cluster) c.take.ensures.step
+returns-in-Ok-true-clause-step g c = data_then (data_cached c.l2_depends_on_rb.ensures.step.marks.pins c.l2_depends_on_rb.ensures.step.marks.notes c.l2_depends_on_rb.ensures.step.header_cluster) c.allocate_cluster.ensures.step
 
 pub returns-in-Ok-true-clause-fails : goal.returns-in-Ok-true-clause-fails
 returns-in-Ok-true-clause-fails g c = fails_ok (c.in-Ok-true.ensures.fails.told ∙ c.in_ok-l2_depends_on_rb.ensures.fails.told)
 
 pub returns-in-Ok-false-clause-step : goal.returns-in-Ok-false-clause-step
-returns-in-Ok-false-clause-step g c = data_then (data_cached c.l2_depends_on_rb.ensures.step.marks.pins c.l2_depends_on_rb.ensures.step.marks.notes c.l2_depends_on_rb.ensures.step.header_cluster) c.take.ensures.step
+returns-in-Ok-false-clause-step g c = data_then (data_cached c.l2_depends_on_rb.ensures.step.marks.pins c.l2_depends_on_rb.ensures.step.marks.notes c.l2_depends_on_rb.ensures.step.header_cluster) c.allocate_cluster.ensures.step
 
 pub returns-in-Ok-false-clause-fails : goal.returns-in-Ok-false-clause-fails
 returns-in-Ok-false-clause-fails g c = fails_ok (c.in-Ok-false.ensures.fails.told ∙ c.in_ok-l2_depends_on_rb.ensures.fails.told)
 
 pub returns-in-Err-clause-step : goal.returns-in-Err-clause-step
-returns-in-Err-clause-step g c = data_then (data_cached c.l2_depends_on_rb.ensures.step.marks.pins c.l2_depends_on_rb.ensures.step.marks.notes c.l2_depends_on_rb.ensures.step.header_cluster) c.take.ensures.step
+returns-in-Err-clause-step g c = data_then (data_cached c.l2_depends_on_rb.ensures.step.marks.pins c.l2_depends_on_rb.ensures.step.marks.notes c.l2_depends_on_rb.ensures.step.header_cluster) c.allocate_cluster.ensures.step
 
 pub returns-in-Err-clause-fails : goal.returns-in-Err-clause-fails
 returns-in-Err-clause-fails g c = fails_since c.in_ok-l2_depends_on_rb.ensures.fails.told c.in-Err.ensures.fails
 
-pub returns-then-at-eq0-clause-order : goal.returns-then-at-eq0-clause-order
-returns-then-at-eq0-clause-order g c = c.in_ok-l2_depends_on_rb.ensures.turns.order
-
-pub returns-then-not-is_nameable-clause-order : goal.returns-then-not-is_nameable-clause-order
-returns-then-not-is_nameable-clause-order g c = c.in_ok-l2_depends_on_rb.ensures.turns.order
-
-pub returns-then-range-clause-order : goal.returns-then-range-clause-order
-returns-then-range-clause-order g c = c.in_ok-l2_depends_on_rb.ensures.turns.order
-
 pub returns-in-Ok-true-clause-order : goal.returns-in-Ok-true-clause-order
-returns-in-Ok-true-clause-order g c = c.take.ensures.step.marks.order ∙ c.in_ok-l2_depends_on_rb.ensures.turns.order
+returns-in-Ok-true-clause-order g c = c.allocate_cluster.ensures.step.marks.order ∙ c.in_ok-l2_depends_on_rb.ensures.turns.order
 
 pub returns-in-Ok-false-clause-order : goal.returns-in-Ok-false-clause-order
-returns-in-Ok-false-clause-order g c = c.take.ensures.step.marks.order ∙ c.in_ok-l2_depends_on_rb.ensures.turns.order
+returns-in-Ok-false-clause-order g c = c.allocate_cluster.ensures.step.marks.order ∙ c.in_ok-l2_depends_on_rb.ensures.turns.order
 
 pub returns-then-at-eq0-clause-sound : goal.returns-then-at-eq0-clause-sound
 returns-then-at-eq0-clause-sound g c = λ p sound.
@@ -178,18 +157,18 @@ returns-in-Ok-false-clause-sound g c = λ p sound.
     let known = (c.l2_depends_on_rb.ensures.sound.keeps c.args.file.now.header.fields p sound.sound.honest sound.sound.caches).known in
     let two = rw c.in-Ok-false.field-0-test at ((c.in-Ok-false.ensures.sound p true now c.in_ok-l2_depends_on_rb.ensures.turns.order).takes) in
     record {
-      takes = allocator_step_on g.S.Storage.view p p (pending_then p c.args.file.now.free_list c.take.new.file.free_list) c.args.file.now file c.take.new.file c.args.self.now c.take.new.self (λ k some. some) (on_of g.S.Storage.view p p c.args.file.now file c.args.self.now one) two;
-      leaks = (c.take.ensures.sound p false now tt).leaks;
-      listed = λ k since. subst (λ b. count c.args.file.now.header.fields b k ≢ 0) known ((c.take.ensures.sound p false now tt).listed k since);
-      made = alone_since g.S.Storage.view c.args.file.now file refl known run_in (IsAllocatedMetadata c.args.file.now.header.fields c.args.self.now.reftable c.take.new.self.reftable) c.take.new.file (Ok None)
-          (made_untaken g.S.Storage.view p file c.take.new.file c.args.self.now c.take.new.self now c.take.ensures.step.list c.take.ensures.step.former ((c.take.ensures.sound p false now tt).listed) two);
+      takes = allocator_step_on g.S.Storage.view p p (pending_then p c.args.file.now.free_list c.allocate_cluster.new.file.free_list) c.args.file.now file c.allocate_cluster.new.file c.args.self.now c.allocate_cluster.new.self (λ k some. some) (on_of g.S.Storage.view p p c.args.file.now file c.args.self.now one) two;
+      leaks = (c.allocate_cluster.ensures.sound p false now tt).leaks;
+      listed = λ k since. subst (λ b. count c.args.file.now.header.fields b k ≢ 0) known ((c.allocate_cluster.ensures.sound p false now tt).listed k since);
+      made = alone_since g.S.Storage.view c.args.file.now file refl known run_in (IsAllocatedMetadata c.args.file.now.header.fields c.args.self.now.reftable c.allocate_cluster.new.self.reftable) c.allocate_cluster.new.file (Ok None)
+          (made_untaken g.S.Storage.view p file c.allocate_cluster.new.file c.args.self.now c.allocate_cluster.new.self now c.allocate_cluster.ensures.step.list c.allocate_cluster.ensures.step.former ((c.allocate_cluster.ensures.sound p false now tt).listed) two);
       uses = λ k used. let h = c.args.file.now.header.fields in
           (c.in-Ok-false.ensures.sound p true now c.in_ok-l2_depends_on_rb.ensures.turns.order).uses k (subst (λ b. count h b k ≢ 0) (sym known) used);
       kept = tt;
       within = tt;
       none = λ hint _. let uses : (k : ℕ) → IsUsed g.S.Storage.view file k → IsUsed g.S.Storage.view c.args.file.now k = λ k used. subst (λ b. count c.args.file.now.header.fields b k ≢ 0) known used in
-          let used = subst (λ n. IsUsed g.S.Storage.view c.take.new.file n) c.value.ensures ((c.in-Ok-false.ensures.sound p true now c.in_ok-l2_depends_on_rb.ensures.turns.order).used (hint_stays g.S.Storage.view p c.args.file.now file c.args.self.now c.args.self.now one (passed_still c.args.self.now) hint) c.in-Ok-false.field-0-test) in
-          inr (made_before g.S.Storage.view p file c.take.new.file c.args.self.now c.take.new.self now c.take.ensures.step.list c.take.ensures.step.former ((c.take.ensures.sound p false now tt).listed) c.args.file.now uses c.args.cluster two used);
+          let used = subst (λ n. IsUsed g.S.Storage.view c.allocate_cluster.new.file n) c.value.ensures ((c.in-Ok-false.ensures.sound p true now c.in_ok-l2_depends_on_rb.ensures.turns.order).used (hint_stays g.S.Storage.view p c.args.file.now file c.args.self.now c.args.self.now one (passed_still c.args.self.now) hint) c.in-Ok-false.field-0-test) in
+          inr (made_before g.S.Storage.view p file c.allocate_cluster.new.file c.args.self.now c.allocate_cluster.new.self now c.allocate_cluster.ensures.step.list c.allocate_cluster.ensures.step.former ((c.allocate_cluster.ensures.sound p false now tt).listed) c.args.file.now uses c.args.cluster two used);
       hint = λ hint. (c.in-Ok-false.ensures.sound p true now c.in_ok-l2_depends_on_rb.ensures.turns.order).hint (hint_stays g.S.Storage.view p c.args.file.now file c.args.self.now c.args.self.now one (passed_still c.args.self.now) hint);
       limit = λ _. tt;
     }
@@ -243,11 +222,11 @@ returns-in-Err-clause-sound g c = λ p sound.
     let now = is_sound_now g.S.Storage.view p p c.args.file.now file c.args.self.now one in
     let known = (c.l2_depends_on_rb.ensures.sound.keeps c.args.file.now.header.fields p sound.sound.honest sound.sound.caches).known in
     record {
-      takes = leaves_on g.S.Storage.view p p (pending_then p c.args.file.now.free_list c.take.new.file.free_list) c.args.file.now file c.take.new.file c.args.self.now c.take.new.self c.in-Err.refusal (λ k some. some) (on_of g.S.Storage.view p p c.args.file.now file c.args.self.now one) ((c.in-Err.ensures.sound p true now c.in_ok-l2_depends_on_rb.ensures.turns.order).takes);
-      leaks = (c.take.ensures.sound p false now tt).leaks;
-      listed = λ k since. subst (λ b. count c.args.file.now.header.fields b k ≢ 0) known ((c.take.ensures.sound p false now tt).listed k since);
-      made = alone_since g.S.Storage.view c.args.file.now file refl known run_in (IsAllocatedMetadata c.args.file.now.header.fields c.args.self.now.reftable c.take.new.self.reftable) c.take.new.file (Err c.in-Err.refusal)
-          (made_refused g.S.Storage.view p file c.take.new.file c.args.self.now c.take.new.self now c.take.ensures.step.list c.take.ensures.step.former ((c.take.ensures.sound p false now tt).listed) c.in-Err.refusal ((c.in-Err.ensures.sound p true now c.in_ok-l2_depends_on_rb.ensures.turns.order).takes));
+      takes = leaves_on g.S.Storage.view p p (pending_then p c.args.file.now.free_list c.allocate_cluster.new.file.free_list) c.args.file.now file c.allocate_cluster.new.file c.args.self.now c.allocate_cluster.new.self c.in-Err.refusal (λ k some. some) (on_of g.S.Storage.view p p c.args.file.now file c.args.self.now one) ((c.in-Err.ensures.sound p true now c.in_ok-l2_depends_on_rb.ensures.turns.order).takes);
+      leaks = (c.allocate_cluster.ensures.sound p false now tt).leaks;
+      listed = λ k since. subst (λ b. count c.args.file.now.header.fields b k ≢ 0) known ((c.allocate_cluster.ensures.sound p false now tt).listed k since);
+      made = alone_since g.S.Storage.view c.args.file.now file refl known run_in (IsAllocatedMetadata c.args.file.now.header.fields c.args.self.now.reftable c.allocate_cluster.new.self.reftable) c.allocate_cluster.new.file (Err c.in-Err.refusal)
+          (made_refused g.S.Storage.view p file c.allocate_cluster.new.file c.args.self.now c.allocate_cluster.new.self now c.allocate_cluster.ensures.step.list c.allocate_cluster.ensures.step.former ((c.allocate_cluster.ensures.sound p false now tt).listed) c.in-Err.refusal ((c.in-Err.ensures.sound p true now c.in_ok-l2_depends_on_rb.ensures.turns.order).takes));
       uses = tt;
       kept = let h = c.args.file.now.header.fields in
           elim ((c.in-Err.ensures.sound p true now c.in_ok-l2_depends_on_rb.ensures.turns.order).uses) [
@@ -258,7 +237,7 @@ returns-in-Err-clause-sound g c = λ p sound.
       none = λ hint. tt;
       hint = λ hint. (c.in-Err.ensures.sound p true now c.in_ok-l2_depends_on_rb.ensures.turns.order).hint (hint_stays g.S.Storage.view p c.args.file.now file c.args.self.now c.args.self.now one (passed_still c.args.self.now) hint);
       limit = λ hint. let near : IsHostCluster c.args.file.now.header.fields.cluster_bits c.value.result = of_equal IsHostCluster c.args.file.now.header.fields.cluster_bits c.cluster_bits.result c.value.result c.args.cluster (sym c.cluster_bits.ensures.value) c.value.ensures (c.is_nameable.ensures.0 c.if-not-is_nameable.false) in
-          subst (λ n. IsFaultOr (CantCount (IsUsed g.S.Storage.view c.take.new.file) c.take.new.file.header.fields (λ k. 0) c.take.new.self n) c.in-Err.refusal) c.value.ensures
+          subst (λ n. IsFaultOr (CantCount (IsUsed g.S.Storage.view c.allocate_cluster.new.file) c.allocate_cluster.new.file.header.fields (λ k. 0) c.allocate_cluster.new.self n) c.in-Err.refusal) c.value.ensures
           ((c.in-Err.ensures.sound p true now c.in_ok-l2_depends_on_rb.ensures.turns.order).limit (hint_stays g.S.Storage.view p c.args.file.now file c.args.self.now c.args.self.now one (passed_still c.args.self.now) hint) near);
     }
 
@@ -270,17 +249,17 @@ returns-in-Ok-true-clause-sound g c = λ p sound.
     let known = (c.l2_depends_on_rb.ensures.sound.keeps c.args.file.now.header.fields p sound.sound.honest sound.sound.caches).known in
     let two = rw c.in-Ok-true.field-0-test at ((c.in-Ok-true.ensures.sound p true now c.in_ok-l2_depends_on_rb.ensures.turns.order).takes) in
     record {
-      takes = let taken = allocator_step_on g.S.Storage.view p p (taken_as true (pending_then p c.args.file.now.free_list c.take.new.file.free_list) (one_at c.value.result)) c.args.file.now file c.take.new.file c.args.self.now c.take.new.self (λ k some. some) (on_of g.S.Storage.view p p c.args.file.now file c.args.self.now one) two in (
+      takes = let taken = allocator_step_on g.S.Storage.view p p (taken_as true (pending_then p c.args.file.now.free_list c.allocate_cluster.new.file.free_list) (one_at c.value.result)) c.args.file.now file c.allocate_cluster.new.file c.args.self.now c.allocate_cluster.new.self (λ k some. some) (on_of g.S.Storage.view p p c.args.file.now file c.args.self.now one) two in (
         ap (λ (r : ClustersToFreeEntry). r.first_cluster) (c.in-Ok.ensures ∙ c.data-entry.ensures),
         ap (λ (r : ClustersToFreeEntry). r.count) (c.in-Ok.ensures ∙ c.data-entry.ensures) ∙ c.new.ensures,
         ap (λ (r : ClustersToFreeEntry). r.kind) (c.in-Ok.ensures ∙ c.data-entry.ensures),
-        subst (λ (r : Pending). InternalAllocatorGrowth g.S.Storage.view p c.args.file.now c.take.new.self c.take.new.file r)
-            (ap (λ n. taken_as true (pending_then p c.args.file.now.free_list c.take.new.file.free_list) (one_at n)) c.value.ensures ∙ taken_alone true (pending_then p c.args.file.now.free_list c.take.new.file.free_list) c.args.cluster) taken,
+        subst (λ (r : Pending). InternalAllocatorGrowth g.S.Storage.view p c.args.file.now c.allocate_cluster.new.self c.allocate_cluster.new.file r)
+            (ap (λ n. taken_as true (pending_then p c.args.file.now.free_list c.allocate_cluster.new.file.free_list) (one_at n)) c.value.ensures ∙ taken_alone true (pending_then p c.args.file.now.free_list c.allocate_cluster.new.file.free_list) c.args.cluster) taken,
       );
-      leaks = (c.take.ensures.sound p false now tt).leaks;
-      listed = λ k since. subst (λ b. count c.args.file.now.header.fields b k ≢ 0) known ((c.take.ensures.sound p false now tt).listed k since);
-      made = alone_since g.S.Storage.view c.args.file.now file refl known run_in (IsAllocatedMetadata c.args.file.now.header.fields c.args.self.now.reftable c.take.new.self.reftable) c.take.new.file (Ok (Some c.in-Ok.pending))
-          (made_one g.S.Storage.view p file c.take.new.file c.args.self.now c.take.new.self now c.take.ensures.step.list c.take.ensures.step.former ((c.take.ensures.sound p false now tt).listed) true c.value.result c.args.cluster c.in-Ok.pending c.value.ensures (ap (λ (r : ClustersToFreeEntry). r.first_cluster) (c.in-Ok.ensures ∙ c.data-entry.ensures)) (ap (λ (r : ClustersToFreeEntry). r.count) (c.in-Ok.ensures ∙ c.data-entry.ensures) ∙ c.new.ensures) two);
+      leaks = (c.allocate_cluster.ensures.sound p false now tt).leaks;
+      listed = λ k since. subst (λ b. count c.args.file.now.header.fields b k ≢ 0) known ((c.allocate_cluster.ensures.sound p false now tt).listed k since);
+      made = alone_since g.S.Storage.view c.args.file.now file refl known run_in (IsAllocatedMetadata c.args.file.now.header.fields c.args.self.now.reftable c.allocate_cluster.new.self.reftable) c.allocate_cluster.new.file (Ok (Some c.in-Ok.pending))
+          (made_one g.S.Storage.view p file c.allocate_cluster.new.file c.args.self.now c.allocate_cluster.new.self now c.allocate_cluster.ensures.step.list c.allocate_cluster.ensures.step.former ((c.allocate_cluster.ensures.sound p false now tt).listed) true c.value.result c.args.cluster c.in-Ok.pending c.value.ensures (ap (λ (r : ClustersToFreeEntry). r.first_cluster) (c.in-Ok.ensures ∙ c.data-entry.ensures)) (ap (λ (r : ClustersToFreeEntry). r.count) (c.in-Ok.ensures ∙ c.data-entry.ensures) ∙ c.new.ensures) two);
       uses = λ k used. let h = c.args.file.now.header.fields in
           (c.in-Ok-true.ensures.sound p true now c.in_ok-l2_depends_on_rb.ensures.turns.order).uses k (subst (λ b. count h b k ≢ 0) (sym known) used);
       kept = tt;

@@ -8,7 +8,7 @@ use Rattle.qcow2_alloc.specs.Rooms.{lacks}
 use Rattle.qcow2_alloc.proofs.AllocationSteps.{allocator_step_none, still_sound}
 use Rattle.qcow2_alloc.proofs.Rooms.{one_none, free_taken}
 use Rattle.qcow2_alloc.proofs.Outcomes.{not_both}
-use Rattle.std.proofs.Common.{inl, inr, ◌≡◌, true, false, ◌/◌, ap, sym, ◌∙◌, subst, refl}
+use Rattle.std.proofs.Common.{inl, inr, ◌≡◌, true, false, ◌/◌, ap, sym, ◌∙◌, subst}
 use Rattle.qcow2_alloc.proofs.Steps.{fails_ok, table_step_none}
 use Rattle.qcow2_alloc.proofs.allocation.Allocator.allocate_if_free.Goals as goal
 
@@ -23,14 +23,14 @@ pub returns-in-Ok-clause-sound : goal.returns-in-Ok-clause-sound
 returns-in-Ok-clause-sound g c = λ p sound.
     let t = c.args.self.now.reftable in
     let has = ap (λ n. lacks t (c.args.cluster / n)) c.requires.counts ∙ sym c.lacks_block.ensures ∙ c.if-lacks_block.false in
-    free_taken g.S.Storage.view p c.args.file.now c.raise.new.file c.raise.new.self t c.args.cluster c.in-Ok.taken has ((c.in-Ok.ensures.sound p false sound tt).takes)
+    free_taken g.S.Storage.view p c.args.file.now c.increment_refcount.new.file c.increment_refcount.new.self t c.args.cluster c.in-Ok.taken has ((c.in-Ok.ensures.sound p false sound tt).takes)
 
 pub returns-then-is_fault-clause-sound : goal.returns-then-is_fault-clause-sound
 returns-then-is_fault-clause-sound g c = λ p sound. (c.is_fault.ensures.0 c.if-is_fault.true, (c.in-Err.ensures.sound p false sound tt).takes)
 
 pub returns-else-is_fault-clause-sound : goal.returns-else-is_fault-clause-sound
 returns-else-is_fault-clause-sound g c = λ p sound.
-    still_sound g.S.Storage.view p c.args.file.now c.raise.new.file c.raise.new.self c.in-Err.refusal (λ fault. not_both c.is_fault.result (c.is_fault.ensures.1 fault) c.if-is_fault.false)
+    still_sound g.S.Storage.view p c.args.file.now c.increment_refcount.new.file c.increment_refcount.new.self c.in-Err.refusal (λ fault. not_both c.is_fault.result (c.is_fault.ensures.1 fault) c.if-is_fault.false)
     ((c.in-Err.ensures.sound p false sound tt).takes)
 
 pub returns-in-Ok-clause-used : goal.returns-in-Ok-clause-used
@@ -43,41 +43,14 @@ returns-in-Ok-clause-used g c = λ p sound hint.
 pub returns-else-is_fault-clause-used : goal.returns-else-is_fault-clause-used
 returns-else-is_fault-clause-used g c = λ p sound hint. not_both c.is_fault.result (c.is_fault.ensures.1 ((c.in-Err.ensures.sound p false sound tt).fault)) c.if-is_fault.false
 
-pub returns-in-Ok-clause-step : goal.returns-in-Ok-clause-step
-returns-in-Ok-clause-step g c = c.raise.ensures.step
-
 pub returns-in-Ok-clause-fails : goal.returns-in-Ok-clause-fails
 returns-in-Ok-clause-fails g c = fails_ok c.in-Ok.ensures.fails.told
-
-pub returns-in-Ok-clause-same : goal.returns-in-Ok-clause-same
-returns-in-Ok-clause-same g c = c.raise.ensures.same
-
-pub returns-then-is_fault-clause-step : goal.returns-then-is_fault-clause-step
-returns-then-is_fault-clause-step g c = c.raise.ensures.step
-
-pub returns-then-is_fault-clause-fails : goal.returns-then-is_fault-clause-fails
-returns-then-is_fault-clause-fails g c = c.in-Err.ensures.fails
-
-pub returns-then-is_fault-clause-same : goal.returns-then-is_fault-clause-same
-returns-then-is_fault-clause-same g c = c.raise.ensures.same
-
-pub returns-else-is_fault-clause-step : goal.returns-else-is_fault-clause-step
-returns-else-is_fault-clause-step g c = c.raise.ensures.step
 
 pub returns-else-is_fault-clause-fails : goal.returns-else-is_fault-clause-fails
 returns-else-is_fault-clause-fails g c = fails_ok (c.in-Err.ensures.fails.told (λ is. not_both c.is_fault.result (c.is_fault.ensures.1 (inl is)) c.if-is_fault.false))
 
-pub returns-else-is_fault-clause-same : goal.returns-else-is_fault-clause-same
-returns-else-is_fault-clause-same g c = c.raise.ensures.same
-
 pub returns-then-lacks_block-clause-step : goal.returns-then-lacks_block-clause-step
 returns-then-lacks_block-clause-step g c = table_step_none
-
-pub returns-then-lacks_block-clause-fails : goal.returns-then-lacks_block-clause-fails
-returns-then-lacks_block-clause-fails g c = fails_ok refl
-
-pub returns-then-lacks_block-clause-same : goal.returns-then-lacks_block-clause-same
-returns-then-lacks_block-clause-same g c = refl
 
 pub returns-then-is_spared-clause-step : goal.returns-then-is_spared-clause-step
 returns-then-is_spared-clause-step g c = table_step_none

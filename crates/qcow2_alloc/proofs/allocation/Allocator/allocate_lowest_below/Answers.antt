@@ -2,7 +2,7 @@ use Rattle.std.proofs.Common.{◌≡◌, ◌*◌, ◌≤◌, false, refl, sym, a
 use Rattle.qcow2_metadata.specs.EntryTable.{EntryTableView}
 use Rattle.qcow2_metadata.specs.Header.{counts_per_block}
 use Rattle.qcow2_laws.specs.Changes.{one_at}
-use Rattle.qcow2_alloc.specs.Allocation.{KeepsEntries, TakesLowest}
+use Rattle.qcow2_alloc.specs.Allocation.{KeepsEntries, AllocatesLowest}
 use Rattle.qcow2_alloc.specs.LowestRuns.{IsUsed, KeepsNoFreeBelowHint}
 use Rattle.qcow2_alloc.specs.Steps.{TableStep}
 use Rattle.qcow2_alloc.specs.declared.allocation.Allocator.{Allocator}
@@ -10,7 +10,6 @@ use Rattle.qcow2_alloc.proofs.AllocationSteps.{handed_on, allocator_step_as}
 use Rattle.qcow2_alloc.proofs.FileSteps.{one_here}
 use Rattle.qcow2_alloc.proofs.Hints.{taken_used}
 use Rattle.qcow2_alloc.proofs.KeptRuns.{hint_kept, invariant_for}
-use Rattle.qcow2_alloc.proofs.Outcomes.{if_no_ok}
 use Rattle.qcow2_alloc.proofs.Steps.{fails_ok, fails_on, table_step_as}
 use Rattle.qcow2_alloc.proofs.allocation.Allocator.allocate_lowest_below.Goals as goal
 
@@ -19,12 +18,6 @@ returns-in_err-cluster-clause-step g c = subst (λ (t : EntryTableView). TableSt
 
 pub returns-in_err-cluster-clause-fails : goal.returns-in_err-cluster-clause-fails
 returns-in_err-cluster-clause-fails g c = fails_on c.from_residual.result c.in_err-cluster.field-0.0 c.from_residual.ensures c.in_err-cluster.ensures.fails
-
-pub returns-in_err-cluster-clause-noted : goal.returns-in_err-cluster-clause-noted
-returns-in_err-cluster-clause-noted g c = if_no_ok _ c.from_residual.result c.in_err-cluster.field-0.0 c.from_residual.ensures
-
-pub returns-in_err-cluster-clause-below : goal.returns-in_err-cluster-clause-below
-returns-in_err-cluster-clause-below g c = if_no_ok _ c.from_residual.result c.in_err-cluster.field-0.0 c.from_residual.ensures
 
 pub returns-in_err-cluster-clause-entries : goal.returns-in_err-cluster-clause-entries
 returns-in_err-cluster-clause-entries g c = subst (λ (t : EntryTableView). KeepsEntries (λ k. c.args.end ≤ k * counts_per_block c.args.file.now.header.fields) t c.search_below.new.self.reftable) (ap (λ (t : Allocator). t.reftable) c.skip_kept.ensures.rest) c.search_below.ensures.entries
@@ -36,7 +29,7 @@ pub returns-in_err-cluster-clause-sound : goal.returns-in_err-cluster-clause-sou
 returns-in_err-cluster-clause-sound g c = λ p sound.
     let view = g.S.Storage.view in
     let begun = invariant_for view p c.args.file.now c.args.self.now c.skip_kept.new.self (ap (λ (t : Allocator). t.reftable) c.skip_kept.ensures.rest) sound in
-    handed_on (TakesLowest view p c.args.file.now c.search_below.new.self c.search_below.new.file) c.from_residual.result c.in_err-cluster.field-0.0 c.from_residual.ensures (c.in_err-cluster.ensures.sound p begun)
+    handed_on (AllocatesLowest view p c.args.file.now c.search_below.new.self c.search_below.new.file) c.from_residual.result c.in_err-cluster.field-0.0 c.from_residual.ensures (c.in_err-cluster.ensures.sound p begun)
 
 pub returns-in_err-cluster-clause-hint : goal.returns-in_err-cluster-clause-hint
 returns-in_err-cluster-clause-hint g c = λ p sound hint.
@@ -71,32 +64,32 @@ returns-in_default-clause-hint g c = λ p sound hint.
 
 pub returns-clause-step : goal.returns-clause-step
 returns-clause-step g c =
-    table_step_as (ap (λ (t : Allocator). t.reftable) c.note_used.ensures.kept.rest) refl
+    table_step_as (ap (λ (t : Allocator). t.reftable) c.record_used.ensures.kept.rest) refl
     (subst (λ (t : EntryTableView). TableStep g.S.Storage.view t c.args.file.now c.search_below.new.self.reftable c.search_below.new.file) (ap (λ (t : Allocator). t.reftable) c.skip_kept.ensures.rest) c.search_below.ensures.step)
 
 pub returns-clause-fails : goal.returns-clause-fails
 returns-clause-fails g c = fails_ok c.in_ok-cluster.ensures.fails.told
 
-pub returns-clause-noted : goal.returns-clause-noted
-returns-clause-noted g c = rw c.in-Some.is at c.in_ok-cluster.ensures.noted
+pub returns-clause-recorded : goal.returns-clause-recorded
+returns-clause-recorded g c = rw c.in-Some.is at c.in_ok-cluster.ensures.recorded
 
 pub returns-clause-below : goal.returns-clause-below
 returns-clause-below g c = rw c.in-Some.is at c.in_ok-cluster.ensures.below
 
 pub returns-clause-entries : goal.returns-clause-entries
 returns-clause-entries g c =
-    subst (λ (t : EntryTableView). KeepsEntries (λ k. c.args.end ≤ k * counts_per_block c.args.file.now.header.fields) c.args.self.now.reftable t) (sym (ap (λ (t : Allocator). t.reftable) c.note_used.ensures.kept.rest))
+    subst (λ (t : EntryTableView). KeepsEntries (λ k. c.args.end ≤ k * counts_per_block c.args.file.now.header.fields) c.args.self.now.reftable t) (sym (ap (λ (t : Allocator). t.reftable) c.record_used.ensures.kept.rest))
     (subst (λ (t : EntryTableView). KeepsEntries (λ k. c.args.end ≤ k * counts_per_block c.args.file.now.header.fields) t c.search_below.new.self.reftable) (ap (λ (t : Allocator). t.reftable) c.skip_kept.ensures.rest) c.search_below.ensures.entries)
 
 pub returns-clause-leaks : goal.returns-clause-leaks
-returns-clause-leaks g c = ap (λ (t : Allocator). t.leaked_clusters) c.note_used.ensures.kept.rest ∙ c.search_below.ensures.leaks ∙ ap (λ (t : Allocator). t.leaked_clusters) c.skip_kept.ensures.rest
+returns-clause-leaks g c = ap (λ (t : Allocator). t.leaked_clusters) c.record_used.ensures.kept.rest ∙ c.search_below.ensures.leaks ∙ ap (λ (t : Allocator). t.leaked_clusters) c.skip_kept.ensures.rest
 
 pub returns-clause-sound : goal.returns-clause-sound
 returns-clause-sound g c = λ p sound.
     let view = g.S.Storage.view in
     let begun = invariant_for view p c.args.file.now c.args.self.now c.skip_kept.new.self (ap (λ (t : Allocator). t.reftable) c.skip_kept.ensures.rest) sound in
     let taken = rw c.in-Some.is at (c.in_ok-cluster.ensures.sound p begun) in
-    allocator_step_as view p _ c.args.file.now c.search_below.new.file c.search_below.new.self c.note_used.new.self (ap (λ (t : Allocator). t.reftable) c.note_used.ensures.kept.rest) taken
+    allocator_step_as view p _ c.args.file.now c.search_below.new.file c.search_below.new.self c.record_used.new.self (ap (λ (t : Allocator). t.reftable) c.record_used.ensures.kept.rest) taken
 
 pub returns-clause-hint : goal.returns-clause-hint
 returns-clause-hint g c = λ p sound hint.
@@ -105,5 +98,5 @@ returns-clause-hint g c = λ p sound hint.
     let taken = rw c.in-Some.is at (c.in_ok-cluster.ensures.sound p begun) in
     let cluster = c.in-Some.cluster in
     let used = taken_used view p false (one_at cluster) c.args.file.now c.search_below.new.file c.search_below.new.self cluster taken (let own = one_here cluster in omega (arith, own)) in
-    hint_kept view c.search_below.new.file c.search_below.new.self c.note_used.new.self (λ k. k ≡ cluster) c.note_used.ensures.kept (λ k same. subst (IsUsed view c.search_below.new.file) (sym same) used)
+    hint_kept view c.search_below.new.file c.search_below.new.self c.record_used.new.self (λ k. k ≡ cluster) c.record_used.ensures.kept (λ k same. subst (IsUsed view c.search_below.new.file) (sym same) used)
     (c.in_ok-cluster.ensures.hint p begun (λ k passed. hint k (c.skip_kept.ensures.passed k passed)))

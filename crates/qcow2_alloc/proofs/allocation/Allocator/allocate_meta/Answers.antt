@@ -2,9 +2,6 @@ use Rattle.qcow2_alloc.specs.declared.clusters_to_free.ClusterKind.TheVariants.{
 use Rattle.qcow2_alloc.proofs.MadeClusters.{made_run}
 use Rattle.qcow2_alloc.proofs.allocation.Allocator.allocate_meta.Goals as goal
 
-pub returns-clause-step : goal.returns-clause-step
-returns-clause-step g c = c.allocate.ensures.step
-
 pub returns-clause-sound : goal.returns-clause-sound
 returns-clause-sound g c = λ p sound.
     record {
@@ -18,6 +15,3 @@ returns-clause-sound g c = λ p sound.
       leaks = c.allocate.ensures.leaks p sound;
       made = made_run g.S.Storage.view p c.args.file.now c.allocate.new.file c.args.self.now c.allocate.new.self sound c.allocate.ensures.step.list c.allocate.ensures.step.former Metadata c.args.count c.allocate.result ((c.allocate.ensures.sound p sound tt).takes);
     }
-
-pub returns-clause-fails : goal.returns-clause-fails
-returns-clause-fails g c = c.allocate.ensures.fails

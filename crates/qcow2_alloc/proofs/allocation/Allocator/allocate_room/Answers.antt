@@ -1,34 +1,24 @@
 use Rattle.std.proofs.Common.{refl, ap, ◌∙◌}
-use Rattle.qcow2_alloc.specs.Steps.{TakesRoomSoundly}
+use Rattle.qcow2_alloc.specs.Steps.{AllocatesRoomSoundly}
 use Rattle.qcow2_alloc.specs.declared.allocation.Allocator.{Allocator}
 use Rattle.qcow2_alloc.proofs.AllocationSteps.{handed_on, allocator_step_as}
 use Rattle.qcow2_alloc.proofs.Hints.{search_then}
 use Rattle.qcow2_alloc.proofs.KeptRuns.{search_kept}
-use Rattle.qcow2_alloc.proofs.Outcomes.{if_no_ok}
 use Rattle.qcow2_alloc.proofs.Steps.{fails_ok, fails_on, table_step_as}
 use Rattle.qcow2_alloc.proofs.allocation.Allocator.allocate_room.Goals as goal
-
-pub returns-in_err-room-clause-step : goal.returns-in_err-room-clause-step
-returns-in_err-room-clause-step g c = c.find_room.ensures.step
 
 pub returns-in_err-room-clause-fails : goal.returns-in_err-room-clause-fails
 returns-in_err-room-clause-fails g c = fails_on c.from_residual.result c.in_err-room.field-0.0 c.from_residual.ensures c.in_err-room.ensures.fails
 
-pub returns-in_err-room-clause-room : goal.returns-in_err-room-clause-room
-returns-in_err-room-clause-room g c = if_no_ok _ c.from_residual.result c.in_err-room.field-0.0 c.from_residual.ensures
-
 pub returns-in_err-room-clause-sound : goal.returns-in_err-room-clause-sound
 returns-in_err-room-clause-sound g c = λ p sound.
-    handed_on (TakesRoomSoundly g.S.Storage.view p c.args.clusters c.args.end c.args.self.now c.args.file.now c.find_room.new.self c.find_room.new.file) c.from_residual.result c.in_err-room.field-0.0 c.from_residual.ensures (c.in_err-room.ensures.sound p sound)
+    handed_on (AllocatesRoomSoundly g.S.Storage.view p c.args.clusters c.args.end c.args.self.now c.args.file.now c.find_room.new.self c.find_room.new.file) c.from_residual.result c.in_err-room.field-0.0 c.from_residual.ensures (c.in_err-room.ensures.sound p sound)
 
 pub returns-clause-step : goal.returns-clause-step
 returns-clause-step g c = table_step_as (ap (λ (t : Allocator). t.reftable) c.forget_range.ensures.kept.rest) refl c.find_room.ensures.step
 
 pub returns-clause-fails : goal.returns-clause-fails
 returns-clause-fails g c = fails_ok c.in_ok-room.ensures.fails.told
-
-pub returns-clause-room : goal.returns-clause-room
-returns-clause-room g c = c.in_ok-room.ensures.room
 
 pub returns-clause-reftable : goal.returns-clause-reftable
 returns-clause-reftable g c = ap (λ (t : Allocator). t.reftable) c.forget_range.ensures.kept.rest ∙ c.find_room.ensures.reftable

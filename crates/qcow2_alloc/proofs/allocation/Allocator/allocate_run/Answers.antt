@@ -15,11 +15,11 @@ use Rattle.qcow2_alloc.proofs.allocation.Allocator.allocate_run.Goals.{then-not-
 use Rattle.qcow2_metadata.specs.L2Mapping.{IsHostCluster}
 use Rattle.qcow2_alloc.specs.Limits.{CantCount, CantCountRun}
 use Rattle.qcow2_alloc.proofs.Limits.{cause_as, count_back, host_of_few}
-use Rattle.qcow2_alloc.proofs.Outcomes.{if_no_ok, not_both}
+use Rattle.qcow2_alloc.proofs.Outcomes.{not_both}
 use Rattle.qcow2_alloc.specs.LowestRuns.{NoFreeBelowHint, IsUsed, KeepsNoFreeBelowHint, KeepsUsedBut}
 use Rattle.qcow2_alloc.specs.Faults.{faults_of}
 use Rattle.qcow2_alloc.specs.ImageError.{IsOfTables}
-use Rattle.qcow2_alloc.specs.Steps.{FailsFor, TakenSoFar, TakesRunSoundly}
+use Rattle.qcow2_alloc.specs.Steps.{FailsFor, TakenSoFar, AllocatesRunSoundly}
 use Rattle.qcow2_alloc.proofs.ListedAfter.{listed_after_same, more_taken, ends_taken, then_leaves, header_bits, still_taken}
 use Rattle.qcow2_alloc.proofs.Steps.{fails_ok, fails_on, fails_since, fails_still, step_as, step_none, step_on, step_then}
 use Rattle.qcow2_alloc.proofs.allocation.Allocator.allocate_run.Goals as goal
@@ -33,8 +33,8 @@ ends_run : {S : Type 0} (view : S → StorageView) (d : Bool) (p : Pending) (fro
     → InternalAllocatorGrowth view p a t b (taken_as d (pending_then p a.free_list b.free_list) (run_at from n)) → (0 < n → IsTrue c.caches.is_changed) → IsFault e
     → RefusedGrowth view (taken_as d (pending_then p a.free_list b.free_list) (run_at from n)) b t' c (pending_then (taken_as d (pending_then p a.free_list b.free_list) (run_at from n)) b.free_list c.free_list) e
     → RefusedGrowth view p a t' c (pending_then p a.free_list c.free_list) e
-ends_run view d p from n a b c t t' e first then before noted fault leaves = elim (cases_lt 0 n) [
-  | inl some ↦ inr (ends_taken view d p (run_at from n) a b c t t' first then e before fault (noted some) _ leaves)
+ends_run view d p from n a b c t t' e first then before recorded fault leaves = elim (cases_lt 0 n) [
+  | inl some ↦ inr (ends_taken view d p (run_at from n) a b c t t' first then e before fault (recorded some) _ leaves)
   | inr none ↦
       let same = taken_none d (pending_then p a.free_list b.free_list) from n (omega arith) in
       then_leaves view p a b c t t' first then (subst (λ (r : Pending). InternalAllocatorGrowth view p a t b r) same before) e (subst (λ (r : Pending). RefusedGrowth view r b t' c (pending_then r b.free_list c.free_list) e) same leaves)
@@ -58,7 +58,7 @@ module _ {S : Type 0} (view : S → StorageView) (p : Pending) (d : Bool) (a b c
 -- it is given back, but a fault came between
 module _ {S : Type 0} (view : S → StorageView) (p : Pending) (d : Bool) (a b c : ImageFile S) (t0 t t' : Allocator) (first n m : ℕ) (e : ImageError) where
   given_back : TakenSoFar view p d t0 a t b first n → c.free_list ≡ b.free_list → GivesBackAs view p a t' c (pending_then p a.free_list b.free_list) (Err e) → SameLeaks t t'
-      → KeepsUsedBut view {A = Unit {0}} (run_at first n) b c (Err e) → (NoFreeBelowHint view t b → KeepsNoFreeBelowHint view {A = Unit {0}} t' c (Err e)) → TakesRunSoundly view p d t0 a t' c first m (Err e)
+      → KeepsUsedBut view {A = Unit {0}} (run_at first n) b c (Err e) → (NoFreeBelowHint view t b → KeepsNoFreeBelowHint view {A = Unit {0}} t' c (Err e)) → AllocatesRunSoundly view p d t0 a t' c first m (Err e)
   given_back so list gives leaks kept hint = record {
     takes = subst (λ (r : Pending). RefusedGrowth view p a t' c r e) (ap (pending_then p a.free_list) (sym list)) gives.1;
     leaks = leaks ∙ so.leaks;
@@ -72,7 +72,7 @@ pub taking-init : goal.taking-init
 taking-init g c = record {
   step = step_none;
   faults = refl;
-  noted = λ some. absurd (omega (arith, some));
+  recorded = λ some. absurd (omega (arith, some));
   sound = λ p d sound may. record {
     taken = subst (λ (r : Pending). InternalAllocatorGrowth g.S.Storage.view p c.args.file.now c.args.self.now c.args.file.now r)
         (sym (taken_none d (pending_then p c.args.file.now.free_list c.args.file.now.free_list) c.args.first 0 refl ∙ listed_after_same p c.args.file.now.free_list c.args.file.now.free_list refl)) (on_none g.S.Storage.view p c.args.file.now c.args.self.now sound);
@@ -85,22 +85,22 @@ taking-init g c = record {
 
 pub taking-preserved : goal.taking-preserved
 taking-preserved g c = record {
-  step = step_then c.taking.invariant.step c.take.ensures.step;
+  step = step_then c.taking.invariant.step c.allocate_cluster.ensures.step;
   faults = c.in-Ok-true.ensures.fails.told ∙ c.taking.invariant.faults;
-  noted = λ _. rw c.in-Ok-true.field-0-test at c.in-Ok-true.ensures.noted refl;
+  recorded = λ _. rw c.in-Ok-true.field-0-test at c.in-Ok-true.ensures.recorded refl;
   sound = λ p d sound may.
       let view = g.S.Storage.view in
       let a = c.args.file.now in
       let b = c.taking.file in
-      let file = c.take.new.file in
-      let t = c.take.new.self in
+      let file = c.allocate_cluster.new.file in
+      let t = c.allocate_cluster.new.self in
       let first = c.args.first in
       let n = c.taking.taken in
       let so = c.taking.invariant.sound p d sound may in
       let q : Pending = taken_as d (pending_then p a.free_list b.free_list) (run_at first n) in
       let takes = c.in-Ok-true.ensures.sound q d (is_sound_on view p q a b c.taking.self so.taken) (may_still d a b c.taking.invariant.step.marks.order may) in
       record {
-        taken = more_taken view d p (run_at first n) a b file c.taking.self t c.taking.invariant.step.list c.take.ensures.step.list first n refl so.taken (rw c.in-Ok-true.field-0-test at takes.takes);
+        taken = more_taken view d p (run_at first n) a b file c.taking.self t c.taking.invariant.step.list c.allocate_cluster.ensures.step.list first n refl so.taken (rw c.in-Ok-true.field-0-test at takes.takes);
         leaks = takes.leaks ∙ so.leaks;
         uses = λ k used. takes.uses k (so.uses k used);
         free = λ k some used. elim (cases_eq k (first + n)) [
@@ -112,22 +112,19 @@ taking-preserved g c = record {
 }
 
 pub returns-in_err-give_back-in-Ok-false-clause-step : goal.returns-in_err-give_back-in-Ok-false-clause-step
-returns-in_err-give_back-in-Ok-false-clause-step g c = step_then (step_then c.taking.invariant.step c.take.ensures.step) (step_on c.give_back.ensures.step)
+returns-in_err-give_back-in-Ok-false-clause-step g c = step_then (step_then c.taking.invariant.step c.allocate_cluster.ensures.step) (step_on c.give_back.ensures.step)
 
 pub returns-in-Ok-false-clause-step : goal.returns-in-Ok-false-clause-step
-returns-in-Ok-false-clause-step g c = step_then (step_then c.taking.invariant.step c.take.ensures.step) (step_on c.give_back.ensures.step)
+returns-in-Ok-false-clause-step g c = step_then (step_then c.taking.invariant.step c.allocate_cluster.ensures.step) (step_on c.give_back.ensures.step)
 
 pub returns-in_err-give_back-in-Err-clause-step : goal.returns-in_err-give_back-in-Err-clause-step
-returns-in_err-give_back-in-Err-clause-step g c = step_then (step_then c.taking.invariant.step c.take.ensures.step) (step_on c.give_back-then-not-is_fault.ensures.step)
+returns-in_err-give_back-in-Err-clause-step g c = step_then (step_then c.taking.invariant.step c.allocate_cluster.ensures.step) (step_on c.give_back-then-not-is_fault.ensures.step)
 
 pub returns-in-Err-clause-step : goal.returns-in-Err-clause-step
 returns-in-Err-clause-step g c = elim c.if-not-is_fault.branch [
-  | then-not-is_fault+in_ok-give_back-in-Err w ↦ step_as (ap (λ (t : Allocator). t.reftable) w.self-is) w.file-is (step_then (step_then c.taking.invariant.step c.take.ensures.step) (step_on w.give_back-then-not-is_fault.ensures.step))
-  | else-not-is_fault w ↦ step_as (ap (λ (t : Allocator). t.reftable) w.self-is) w.file-is (step_then c.taking.invariant.step c.take.ensures.step)
+  | then-not-is_fault+in_ok-give_back-in-Err w ↦ step_as (ap (λ (t : Allocator). t.reftable) w.self-is) w.file-is (step_then (step_then c.taking.invariant.step c.allocate_cluster.ensures.step) (step_on w.give_back-then-not-is_fault.ensures.step))
+  | else-not-is_fault w ↦ step_as (ap (λ (t : Allocator). t.reftable) w.self-is) w.file-is (step_then c.taking.invariant.step c.allocate_cluster.ensures.step)
 ]
-
-pub returns-clause-step : goal.returns-clause-step
-returns-clause-step g c = c.taking.invariant.step
 
 pub returns-in_err-give_back-in-Ok-false-clause-fails : goal.returns-in_err-give_back-in-Ok-false-clause-fails
 returns-in_err-give_back-in-Ok-false-clause-fails g c = fails_on c.from_residual.result c.in_err-give_back-in-Ok-false.field-0.0 c.from_residual.ensures
@@ -155,44 +152,44 @@ returns-in_err-give_back-in-Ok-false-clause-sound g c = λ p d sound may.
     let view = g.S.Storage.view in
     let a = c.args.file.now in
     let b = c.taking.file in
-    let file = c.take.new.file in
-    let t = c.take.new.self in
+    let file = c.allocate_cluster.new.file in
+    let t = c.allocate_cluster.new.self in
     let first = c.args.first in
     let n = c.taking.taken in
     let so = c.taking.invariant.sound p d sound may in
     let q : Pending = taken_as d (pending_then p a.free_list b.free_list) (run_at first n) in
     let takes = c.in-Ok-false.ensures.sound q d (is_sound_on view p q a b c.taking.self so.taken) (may_still d a b c.taking.invariant.step.marks.order may) in
     let r : Pending = pending_then p a.free_list file.free_list in
-    let there = still_so_far view p d a b file c.args.self.now c.taking.self t first n c.taking.invariant.step.list c.take.ensures.step.list so (rw c.in-Ok-false.field-0-test at takes.takes) takes.leaks takes.uses takes.hint in
+    let there = still_so_far view p d a b file c.args.self.now c.taking.self t first n c.taking.invariant.step.list c.allocate_cluster.ensures.step.list so (rw c.in-Ok-false.field-0-test at takes.takes) takes.leaks takes.uses takes.hint in
     let now = is_sound_on view p (taken_as d r (run_at first n)) a file t there.taken in
-    let noted : 0 < n → IsTrue file.caches.is_changed = λ some. c.take.ensures.step.marks.pins.changes.noted (c.taking.invariant.noted some) in
+    let recorded : 0 < n → IsTrue file.caches.is_changed = λ some. c.allocate_cluster.ensures.step.marks.pins.changes.recorded (c.taking.invariant.recorded some) in
     let back = c.in_err-give_back-in-Ok-false.ensures in
     let e = c.in_err-give_back-in-Ok-false.field-0.0 in
-    handed_on (TakesRunSoundly view p d c.args.self.now a c.give_back.new.self c.give_back.new.file first c.args.n) c.from_residual.result e c.from_residual.ensures
+    handed_on (AllocatesRunSoundly view p d c.args.self.now a c.give_back.new.self c.give_back.new.file first c.args.n) c.from_residual.result e c.from_residual.ensures
     (given_back view p d a file c.give_back.new.file c.args.self.now t c.give_back.new.self first n c.args.n e there c.give_back.ensures.step.list
-    (back.sound p r d a (λ k some. some) there.taken noted) (back.leaks r d now) (back.kept r d now) (back.hint r d now))
+    (back.sound p r d a (λ k some. some) there.taken recorded) (back.leaks r d now) (back.kept r d now) (back.hint r d now))
 
 pub returns-in-Ok-false-clause-sound : goal.returns-in-Ok-false-clause-sound
 returns-in-Ok-false-clause-sound g c = λ p d sound may.
     let view = g.S.Storage.view in
     let a = c.args.file.now in
     let b = c.taking.file in
-    let file = c.take.new.file in
-    let t = c.take.new.self in
+    let file = c.allocate_cluster.new.file in
+    let t = c.allocate_cluster.new.self in
     let first = c.args.first in
     let n = c.taking.taken in
     let so = c.taking.invariant.sound p d sound may in
     let q : Pending = taken_as d (pending_then p a.free_list b.free_list) (run_at first n) in
     let takes = c.in-Ok-false.ensures.sound q d (is_sound_on view p q a b c.taking.self so.taken) (may_still d a b c.taking.invariant.step.marks.order may) in
     let r : Pending = pending_then p a.free_list file.free_list in
-    let there = still_so_far view p d a b file c.args.self.now c.taking.self t first n c.taking.invariant.step.list c.take.ensures.step.list so (rw c.in-Ok-false.field-0-test at takes.takes) takes.leaks takes.uses takes.hint in
+    let there = still_so_far view p d a b file c.args.self.now c.taking.self t first n c.taking.invariant.step.list c.allocate_cluster.ensures.step.list so (rw c.in-Ok-false.field-0-test at takes.takes) takes.leaks takes.uses takes.hint in
     let now = is_sound_on view p (taken_as d r (run_at first n)) a file t there.taken in
-    let noted : 0 < n → IsTrue file.caches.is_changed = λ some. c.take.ensures.step.marks.pins.changes.noted (c.taking.invariant.noted some) in
+    let recorded : 0 < n → IsTrue file.caches.is_changed = λ some. c.allocate_cluster.ensures.step.marks.pins.changes.recorded (c.taking.invariant.recorded some) in
     let back = c.in_ok-give_back-in-Ok-false.ensures in
     record {
       takes = (
         (λ all. absurd (let lt = c.taking-test.true in omega arith)),
-        (λ _. subst (λ (r : Pending). InternalAllocatorGrowth view p a c.give_back.new.self c.give_back.new.file r) (ap (pending_then p a.free_list) (sym c.give_back.ensures.step.list)) (back.sound p r d a (λ k some. some) there.taken noted)),
+        (λ _. subst (λ (r : Pending). InternalAllocatorGrowth view p a c.give_back.new.self c.give_back.new.file r) (ap (pending_then p a.free_list) (sym c.give_back.ensures.step.list)) (back.sound p r d a (λ k some. some) there.taken recorded)),
       );
       leaks = back.leaks r d now ∙ there.leaks;
       uses = λ k used. back.kept r d now k (no_more (run_at first n k) (λ some. so.free k some used)) (there.uses k used);
@@ -206,8 +203,8 @@ returns-in_err-give_back-in-Err-clause-sound g c = λ p d sound may.
     let view = g.S.Storage.view in
     let a = c.args.file.now in
     let b = c.taking.file in
-    let file = c.take.new.file in
-    let t = c.take.new.self in
+    let file = c.allocate_cluster.new.file in
+    let t = c.allocate_cluster.new.self in
     let first = c.args.first in
     let n = c.taking.taken in
     let so = c.taking.invariant.sound p d sound may in
@@ -215,22 +212,22 @@ returns-in_err-give_back-in-Err-clause-sound g c = λ p d sound may.
     let takes = c.in-Err.ensures.sound q d (is_sound_on view p q a b c.taking.self so.taken) (may_still d a b c.taking.invariant.step.marks.order may) in
     let no_fault : IsFault c.in-Err.refusal → ⊥ = λ fault. not_both c.is_fault.result (c.is_fault.ensures.1 fault) c.if-not-is_fault.true in
     let r : Pending = pending_then p a.free_list file.free_list in
-    let there = still_so_far view p d a b file c.args.self.now c.taking.self t first n c.taking.invariant.step.list c.take.ensures.step.list so (still_as view q (pending_then q b.free_list file.free_list) b file t c.in-Err.refusal no_fault takes.takes) takes.leaks (not_broken file c.in-Err.refusal no_fault takes.uses) (λ h. not_broken file c.in-Err.refusal no_fault (takes.hint h)) in
+    let there = still_so_far view p d a b file c.args.self.now c.taking.self t first n c.taking.invariant.step.list c.allocate_cluster.ensures.step.list so (still_as view q (pending_then q b.free_list file.free_list) b file t c.in-Err.refusal no_fault takes.takes) takes.leaks (not_broken file c.in-Err.refusal no_fault takes.uses) (λ h. not_broken file c.in-Err.refusal no_fault (takes.hint h)) in
     let now = is_sound_on view p (taken_as d r (run_at first n)) a file t there.taken in
-    let noted : 0 < n → IsTrue file.caches.is_changed = λ some. c.take.ensures.step.marks.pins.changes.noted (c.taking.invariant.noted some) in
+    let recorded : 0 < n → IsTrue file.caches.is_changed = λ some. c.allocate_cluster.ensures.step.marks.pins.changes.recorded (c.taking.invariant.recorded some) in
     let back = c.in_err-give_back-in-Err.ensures in
     let e = c.in_err-give_back-in-Err.field-0.0 in
-    handed_on (TakesRunSoundly view p d c.args.self.now a c.give_back-then-not-is_fault.new.self c.give_back-then-not-is_fault.new.file first c.args.n) c.from_residual-in_err-give_back-in-Err.result e c.from_residual-in_err-give_back-in-Err.ensures
+    handed_on (AllocatesRunSoundly view p d c.args.self.now a c.give_back-then-not-is_fault.new.self c.give_back-then-not-is_fault.new.file first c.args.n) c.from_residual-in_err-give_back-in-Err.result e c.from_residual-in_err-give_back-in-Err.ensures
     (given_back view p d a file c.give_back-then-not-is_fault.new.file c.args.self.now t c.give_back-then-not-is_fault.new.self first n c.args.n e there c.give_back-then-not-is_fault.ensures.step.list
-    (back.sound p r d a (λ k some. some) there.taken noted) (back.leaks r d now) (back.kept r d now) (back.hint r d now))
+    (back.sound p r d a (λ k some. some) there.taken recorded) (back.leaks r d now) (back.kept r d now) (back.hint r d now))
 
 pub returns-in-Err-clause-sound : goal.returns-in-Err-clause-sound
 returns-in-Err-clause-sound g c = λ p d sound may.
     let view = g.S.Storage.view in
     let a = c.args.file.now in
     let b = c.taking.file in
-    let file = c.take.new.file in
-    let t = c.take.new.self in
+    let file = c.allocate_cluster.new.file in
+    let t = c.allocate_cluster.new.self in
     let first = c.args.first in
     let n = c.taking.taken in
     let so = c.taking.invariant.sound p d sound may in
@@ -240,14 +237,14 @@ returns-in-Err-clause-sound g c = λ p d sound may.
       | then-not-is_fault+in_ok-give_back-in-Err w ↦
           let no_fault : IsFault c.in-Err.refusal → ⊥ = λ fault. not_both c.is_fault.result (c.is_fault.ensures.1 fault) w.if-not-is_fault.true in
           let r : Pending = pending_then p a.free_list file.free_list in
-          let there = still_so_far view p d a b file c.args.self.now c.taking.self t first n c.taking.invariant.step.list c.take.ensures.step.list so (still_as view q (pending_then q b.free_list file.free_list) b file t c.in-Err.refusal no_fault takes.takes) takes.leaks (not_broken file c.in-Err.refusal no_fault takes.uses) (λ h. not_broken file c.in-Err.refusal no_fault (takes.hint h)) in
+          let there = still_so_far view p d a b file c.args.self.now c.taking.self t first n c.taking.invariant.step.list c.allocate_cluster.ensures.step.list so (still_as view q (pending_then q b.free_list file.free_list) b file t c.in-Err.refusal no_fault takes.takes) takes.leaks (not_broken file c.in-Err.refusal no_fault takes.uses) (λ h. not_broken file c.in-Err.refusal no_fault (takes.hint h)) in
           let now = is_sound_on view p (taken_as d r (run_at first n)) a file t there.taken in
-          let noted : 0 < n → IsTrue file.caches.is_changed = λ some. c.take.ensures.step.marks.pins.changes.noted (c.taking.invariant.noted some) in
+          let recorded : 0 < n → IsTrue file.caches.is_changed = λ some. c.allocate_cluster.ensures.step.marks.pins.changes.recorded (c.taking.invariant.recorded some) in
           let back = w.in_ok-give_back-in-Err.ensures in
           let left = w.give_back-then-not-is_fault.new.file in
           let t' = w.give_back-then-not-is_fault.new.self in
-          of_equal (λ x f. TakesRunSoundly view p d c.args.self.now a x f first c.args.n (Err c.in-Err.refusal)) c.if-not-is_fault.self t' c.if-not-is_fault.file left w.self-is w.file-is (record {
-            takes = inl (subst (λ (r : Pending). InternalAllocatorGrowth view p a t' left r) (ap (pending_then p a.free_list) (sym w.give_back-then-not-is_fault.ensures.step.list)) (back.sound p r d a (λ k some. some) there.taken noted));
+          of_equal (λ x f. AllocatesRunSoundly view p d c.args.self.now a x f first c.args.n (Err c.in-Err.refusal)) c.if-not-is_fault.self t' c.if-not-is_fault.file left w.self-is w.file-is (record {
+            takes = inl (subst (λ (r : Pending). InternalAllocatorGrowth view p a t' left r) (ap (pending_then p a.free_list) (sym w.give_back-then-not-is_fault.ensures.step.list)) (back.sound p r d a (λ k some. some) there.taken recorded));
             leaks = back.leaks r d now ∙ there.leaks;
             uses = inl (λ k used. back.kept r d now k (no_more (run_at first n k) (λ some. so.free k some used)) (there.uses k used));
             used = λ hint. tt;
@@ -259,9 +256,9 @@ returns-in-Err-clause-sound g c = λ p d sound may.
                 (λ not. (n, lt, count_back view file left t t' first n (first + n) w.give_back-then-not-is_fault.ensures.step.header w.give_back-then-not-is_fault.ensures.reftable (back.kept r d now) not)) (takes.limit (so.hint hint) here);
           })
       | else-not-is_fault w ↦
-          let noted : 0 < n → IsTrue file.caches.is_changed = λ some. c.take.ensures.step.marks.pins.changes.noted (c.taking.invariant.noted some) in
-          of_equal (λ x f. TakesRunSoundly view p d c.args.self.now a x f first c.args.n (Err c.in-Err.refusal)) c.if-not-is_fault.self t c.if-not-is_fault.file file w.self-is w.file-is (record {
-            takes = ends_run view d p first n a b file c.taking.self t c.in-Err.refusal c.taking.invariant.step.list c.take.ensures.step.list so.taken noted (c.is_fault.ensures.0 w.if-not-is_fault.false) takes.takes;
+          let recorded : 0 < n → IsTrue file.caches.is_changed = λ some. c.allocate_cluster.ensures.step.marks.pins.changes.recorded (c.taking.invariant.recorded some) in
+          of_equal (λ x f. AllocatesRunSoundly view p d c.args.self.now a x f first c.args.n (Err c.in-Err.refusal)) c.if-not-is_fault.self t c.if-not-is_fault.file file w.self-is w.file-is (record {
+            takes = ends_run view d p first n a b file c.taking.self t c.in-Err.refusal c.taking.invariant.step.list c.allocate_cluster.ensures.step.list so.taken recorded (c.is_fault.ensures.0 w.if-not-is_fault.false) takes.takes;
             leaks = takes.leaks ∙ so.leaks;
             uses = elim takes.uses [ inl kept ↦ inl (λ k used. kept k (so.uses k used)) | inr interruption ↦ inr interruption ];
             used = λ hint. tt;
@@ -285,15 +282,3 @@ returns-clause-sound g c = λ p d sound may.
       hint = so.hint;
       limit = λ hint few. tt;
     }
-
-pub returns-in_err-give_back-in-Ok-false-clause-noted : goal.returns-in_err-give_back-in-Ok-false-clause-noted
-returns-in_err-give_back-in-Ok-false-clause-noted g c = if_no_ok _ c.from_residual.result c.in_err-give_back-in-Ok-false.field-0.0 c.from_residual.ensures
-
-pub returns-in_err-give_back-in-Ok-false-clause-within : goal.returns-in_err-give_back-in-Ok-false-clause-within
-returns-in_err-give_back-in-Ok-false-clause-within g c = if_no_ok _ c.from_residual.result c.in_err-give_back-in-Ok-false.field-0.0 c.from_residual.ensures
-
-pub returns-in_err-give_back-in-Err-clause-noted : goal.returns-in_err-give_back-in-Err-clause-noted
-returns-in_err-give_back-in-Err-clause-noted g c = if_no_ok _ c.from_residual-in_err-give_back-in-Err.result c.in_err-give_back-in-Err.field-0.0 c.from_residual-in_err-give_back-in-Err.ensures
-
-pub returns-in_err-give_back-in-Err-clause-within : goal.returns-in_err-give_back-in-Err-clause-within
-returns-in_err-give_back-in-Err-clause-within g c = if_no_ok _ c.from_residual-in_err-give_back-in-Err.result c.in_err-give_back-in-Err.field-0.0 c.from_residual-in_err-give_back-in-Err.ensures

@@ -1,9 +1,10 @@
-use Rattle.qcow2_metadata.specs.Entries.{count}
-use Rattle.std.proofs.Common.{◌/◌, ◌%◌, ◌^◌, true, Ok, refl, ap, ◌∙◌, sym}
+use Rattle.std.proofs.Common.{◌≡◌, ◌==◌, ◌/◌, ◌%◌, ◌^◌, ℕ, true, Option, Some, None, Ok, refl, ap, ◌∙◌, sym}
+use Rattle.std.specs.Option.{IfSome, IsSome, unwrap_or}
 use Rattle.qcow2_laws.specs.Changes.{one_at}
-use Rattle.qcow2_alloc.specs.Allocation.{owed_as, LowersOne}
+use Rattle.qcow2_alloc.specs.Allocation.{owed_as, DecrementsOne}
 use Rattle.qcow2_alloc.specs.LowestRuns.{KeepsNoFreeBelowHint}
-use Rattle.qcow2_alloc.specs.ImageFile.{contents_in, known_in}
+use Rattle.qcow2_alloc.specs.ImageFile.{contents_in}
+use Rattle.qcow2_alloc.specs.MetadataCaches.{ReportsCount}
 use Rattle.qcow2_alloc.proofs.Hints.{hint_lowered, is_zero, lowered_so, passed_still, stands_still, hint_refused}
 use Rattle.qcow2_alloc.proofs.AllocationSteps.{handed_on, of_equal, allocator_step_as, may_lower_still, counted_at, given_one, owed_counted, owed_has_block}
 use Rattle.qcow2_metadata.specs.Header.{counts_per_block}
@@ -15,9 +16,14 @@ use Rattle.qcow2_alloc.proofs.Outcomes.{handed_unaligned, ok_no_err}
 use Rattle.qcow2_alloc.proofs.Steps.{fails_ok, fails_on, table_step_as, table_step_tables, table_step_then}
 use Rattle.qcow2_alloc.proofs.allocation.Allocator.decrement_refcount.Goals as goal
 
+-- a number that is left is 0
+none_left : (o : Option ℕ) (P : ℕ → Type 0) → IsSome o → IfSome o P → ((n : ℕ) → P n → n ≡ 0) → (unwrap_or o 0 == 0) ≡ true
+none_left None P some holds none = cc
+none_left (Some n) P some holds none = is_zero n (none n holds)
+
 pub returns-in_err-block-clause-sound : goal.returns-in_err-block-clause-sound
 returns-in_err-block-clause-sound g c = λ p owed sound may.
-    handed_on (LowersOne g.S.Storage.view (owed_as owed p (one_at c.args.cluster)) c.args.file.now c.args.self.now c.load_block.new.file p)
+    handed_on (DecrementsOne g.S.Storage.view (owed_as owed p (one_at c.args.cluster)) c.args.file.now c.args.self.now c.load_block.new.file p)
     c.from_residual.result c.in_err-block.field-0.0 c.from_residual.ensures (c.in_err-block.ensures.sound (owed_as owed p (one_at c.args.cluster)) sound)
 
 pub returns-in_default-clause-sound : goal.returns-in_default-clause-sound
@@ -31,11 +37,11 @@ returns-clause-sound g c = λ p owed sound may.
     let l = rw c.in-Some.is at (c.in_ok-block.ensures.sound (owed_as owed p (one_at c.args.cluster)) sound) in
     let at = counted_at g.S.Storage.view c.load_block.new.file c.args.file.now.header.fields (ap (λ x. x.fields) c.load_block.ensures.step.header) c.args.cluster _ c.in-Some.block c.rb_index-index.result c.rb_bits-bits.result l.1 c.rb_bits-bits.ensures.counts refl (c.rb_index-index.ensures.value ∙ ap (λ n. n % 2 ^ c.rb_bits-bits.result) c.new.ensures) in
     let some = owed_counted g.S.Storage.view owed p c.args.cluster (owed_as owed p (one_at c.args.cluster)) c.load_block.new.file refl l.0.file_step.sound in
-    let lowered = c.rb_decrement-lowered.ensures.sound.made c.load_block.new.file.header.fields (owed_as owed p (one_at c.args.cluster)) (contents_in g.S.Storage.view c.load_block.new.file) c.args.cluster l.0.file_step.sound.caches at l.1.2 some in
-    of_equal (λ f r. LowersOne g.S.Storage.view (owed_as owed p (one_at c.args.cluster)) c.args.file.now c.note_lowered.new.self f p (Ok r)) (record c.load_block.new.file { caches = c.rb_decrement-lowered.new.self }) (record c.load_block.new.file { caches = c.rb_decrement-lowered.new.self }) c.rb_decrement-lowered.result true refl lowered
-    (allocator_step_as g.S.Storage.view (owed_as owed p (one_at c.args.cluster)) p c.args.file.now (record c.load_block.new.file { caches = c.rb_decrement-lowered.new.self }) c.args.self.now c.note_lowered.new.self c.note_lowered.ensures.reftable
-    (given_one g.S.Storage.view (owed_as owed p (one_at c.args.cluster)) c.args.file.now c.load_block.new.file c.args.self.now l.0 c.args.cluster c.in-Some.block c.rb_index-index.result at c.rb_decrement-lowered.new.self c.rb_decrement-lowered.ensures.step.order c.rb_decrement-lowered.ensures.step.marks
-    owed p (may_lower_still owed c.args.file.now c.load_block.new.file c.load_block.ensures.step.marks.order may) refl (c.rb_decrement-lowered.ensures.sound.counted lowered)))
+    let lowered = c.rb_release-left.ensures.sound.made c.load_block.new.file.header.fields (owed_as owed p (one_at c.args.cluster)) (contents_in g.S.Storage.view c.load_block.new.file) c.args.cluster l.0.file_step.sound.caches at l.1.2 some in
+    of_equal (λ f r. DecrementsOne g.S.Storage.view (owed_as owed p (one_at c.args.cluster)) c.args.file.now c.record_decrement.new.self f p (Ok r)) (record c.load_block.new.file { caches = c.rb_release-left.new.self }) (record c.load_block.new.file { caches = c.rb_release-left.new.self }) c.is_some.result true refl (c.is_some.ensures ∙ lowered)
+    (allocator_step_as g.S.Storage.view (owed_as owed p (one_at c.args.cluster)) p c.args.file.now (record c.load_block.new.file { caches = c.rb_release-left.new.self }) c.args.self.now c.record_decrement.new.self c.record_decrement.ensures.reftable
+    (given_one g.S.Storage.view (owed_as owed p (one_at c.args.cluster)) c.args.file.now c.load_block.new.file c.args.self.now l.0 c.args.cluster c.in-Some.block c.rb_index-index.result at c.rb_release-left.new.self c.rb_release-left.ensures.step.order c.rb_release-left.ensures.step.marks
+    owed p (may_lower_still owed c.args.file.now c.load_block.new.file c.load_block.ensures.step.marks.order may) refl (c.rb_release-left.ensures.sound.counted lowered)))
 
 pub returns-in_err-block-clause-hint : goal.returns-in_err-block-clause-hint
 returns-in_err-block-clause-hint g c = λ p owed sound may hint.
@@ -50,20 +56,21 @@ returns-clause-hint g c = λ p owed sound may hint.
     let l = rw c.in-Some.is at (c.in_ok-block.ensures.sound (owed_as owed p (one_at c.args.cluster)) sound) in
     let at = counted_at g.S.Storage.view c.load_block.new.file c.args.file.now.header.fields (ap (λ x. x.fields) c.load_block.ensures.step.header) c.args.cluster _ c.in-Some.block c.rb_index-index.result c.rb_bits-bits.result l.1 c.rb_bits-bits.ensures.counts refl (c.rb_index-index.ensures.value ∙ ap (λ n. n % 2 ^ c.rb_bits-bits.result) c.new.ensures) in
     let some = owed_counted g.S.Storage.view owed p c.args.cluster (owed_as owed p (one_at c.args.cluster)) c.load_block.new.file refl l.0.file_step.sound in
-    let lowered = c.rb_decrement-lowered.ensures.sound.made c.load_block.new.file.header.fields (owed_as owed p (one_at c.args.cluster)) (contents_in g.S.Storage.view c.load_block.new.file) c.args.cluster l.0.file_step.sound.caches at l.1.2 some in
-    let file = record c.load_block.new.file { caches = c.rb_decrement-lowered.new.self } in
-    let now = lowered_so g.S.Storage.view (owed_as owed p (one_at c.args.cluster)) p c.args.file.now file c.note_lowered.new.self c.rb_decrement-lowered.result lowered (returns-clause-sound g c p owed sound may) in
-    let stands = stands_still g.S.Storage.view (owed_as owed p (one_at c.args.cluster)) p c.load_block.new.file c.rb_decrement-lowered.new.self (c.args.cluster / 2 ^ c.rb_bits-bits.result) c.in-Some.block l.0.file_step.sound now.file_step.sound (c.rb_decrement-lowered.ensures.cached lowered) l.1 in
+    let lowered = c.rb_release-left.ensures.sound.made c.load_block.new.file.header.fields (owed_as owed p (one_at c.args.cluster)) (contents_in g.S.Storage.view c.load_block.new.file) c.args.cluster l.0.file_step.sound.caches at l.1.2 some in
+    let file = record c.load_block.new.file { caches = c.rb_release-left.new.self } in
+    let now = lowered_so g.S.Storage.view (owed_as owed p (one_at c.args.cluster)) p c.args.file.now file c.record_decrement.new.self c.is_some.result (c.is_some.ensures ∙ lowered) (returns-clause-sound g c p owed sound may) in
+    let stands = stands_still g.S.Storage.view (owed_as owed p (one_at c.args.cluster)) p c.load_block.new.file c.rb_release-left.new.self (c.args.cluster / 2 ^ c.rb_bits-bits.result) c.in-Some.block l.0.file_step.sound now.file_step.sound (c.rb_release-left.ensures.cached lowered) l.1 in
     let at_now = counted_at g.S.Storage.view file c.args.file.now.header.fields (ap (λ x. x.fields) c.load_block.ensures.step.header) c.args.cluster _ c.in-Some.block c.rb_index-index.result c.rb_bits-bits.result stands c.rb_bits-bits.ensures.counts refl (c.rb_index-index.ensures.value ∙ ap (λ n. n % 2 ^ c.rb_bits-bits.result) c.new.ensures) in
-    hint_lowered g.S.Storage.view owed p c.args.cluster c.args.file.now file c.args.self.now c.note_lowered.new.self now c.note_lowered.ensures.passed
-    (λ zero. c.note_lowered.ensures.free (c.rb_is_zero.ensures file.header.fields p (contents_in g.S.Storage.view file) c.args.cluster now.file_step.sound.caches at_now (c.rb_decrement-lowered.ensures.cached lowered) ∙ is_zero (count file.header.fields (known_in g.S.Storage.view file) c.args.cluster) zero)) hint
+    hint_lowered g.S.Storage.view owed p c.args.cluster c.args.file.now file c.args.self.now c.record_decrement.new.self now c.record_decrement.ensures.passed
+    (λ zero. c.record_decrement.ensures.free (ap (λ n. n == 0) c.unwrap_or.ensures ∙ none_left c.rb_release-left.result (ReportsCount file.caches c.in-Some.block c.rb_index-index.result) lowered c.rb_release-left.ensures.left
+    (λ n reports. sym (reports file.header.fields p (contents_in g.S.Storage.view file) c.args.cluster now.file_step.sound.caches at_now) ∙ zero))) hint
 
 pub returns-clause-tries : goal.returns-clause-tries
 returns-clause-tries g c =
     let counts = ap (λ h. counts_per_block h.fields) c.load_block.ensures.step.header ∙ c.rb_bits-bits.ensures.counts in
     let index = c.rb_index-index.ensures.value ∙ ap (λ n. n % 2 ^ c.rb_bits-bits.result) c.new.ensures ∙ sym (ap (λ n. c.args.cluster % n) counts) in
-    tried c.load_block.new.file.caches (record c.load_block.new.file { caches = c.rb_decrement-lowered.new.self }) c.in-Some.block c.rb_index-index.result c.args.cluster index c.rb_decrement-lowered.result
-    c.rb_decrement-lowered.ensures.counts c.rb_decrement-lowered.ensures.missing
+    rw c.is_some.ensures (tried c.load_block.new.file.caches (record c.load_block.new.file { caches = c.rb_release-left.new.self }) c.in-Some.block c.rb_index-index.result c.args.cluster index c.rb_release-left.result
+    c.rb_release-left.ensures.counts c.rb_release-left.ensures.missing)
 
 pub returns-in_err-block-clause-step : goal.returns-in_err-block-clause-step
 returns-in_err-block-clause-step g c = c.load_block.ensures.step
@@ -78,7 +85,7 @@ pub returns-in_default-clause-fails : goal.returns-in_default-clause-fails
 returns-in_default-clause-fails g c = fails_ok c.in_ok-block.ensures.fails.told
 
 pub returns-clause-step : goal.returns-clause-step
-returns-clause-step g c = table_step_as c.note_lowered.ensures.reftable refl (table_step_then c.load_block.ensures.step (table_step_tables (marks_of_caches c.rb_decrement-lowered.ensures.step.marks c.rb_decrement-lowered.ensures.step.order) c.rb_decrement-lowered.ensures.step.header_cluster))
+returns-clause-step g c = table_step_as c.record_decrement.ensures.reftable refl (table_step_then c.load_block.ensures.step (table_step_tables (marks_of_caches c.rb_release-left.ensures.step.marks c.rb_release-left.ensures.step.order) c.rb_release-left.ensures.step.header_cluster))
 
 pub returns-clause-fails : goal.returns-clause-fails
 returns-clause-fails g c = fails_ok c.in_ok-block.ensures.fails.told

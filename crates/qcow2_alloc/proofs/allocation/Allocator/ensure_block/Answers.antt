@@ -1,9 +1,9 @@
-use Rattle.std.proofs.Common.{Option, Some, None, Ok, Err, true, ◌≡◌, mul-pos, ◌≤◌, ◌<◌, inl, ◌*◌, ◌/◌, ◌%◌, ◌^◌, false, sym, ap, ◌∙◌, refl, arith, Result, IsTrue, subst, ℕ}
+use Rattle.std.proofs.Common.{Option, Some, None, Ok, Err, true, ◌≡◌, mul-pos, ◌≤◌, ◌<◌, inl, inr, ◌*◌, ◌/◌, ◌%◌, ◌^◌, false, sym, ap, ◌∙◌, refl, arith, Result, IsTrue, subst, ℕ}
 use Rattle.qcow2_metadata.specs.Entries.{block_offset}
 use Rattle.qcow2_metadata.specs.Header.{counts_per_block}
 use Rattle.qcow2_laws.specs.Changes.{one_at}
 use Rattle.qcow2_alloc.specs.Allocation.{LacksFirst, taken_as, HasNone, GetsBlock, IsUnaligned}
-use Rattle.qcow2_alloc.specs.ImageFile.{IsFault}
+use Rattle.qcow2_alloc.specs.ImageError.{IsFault}
 use Rattle.qcow2_alloc.specs.LowestRuns.{KeepsNoFreeBelowHint}
 use Rattle.qcow2_alloc.proofs.FileSteps.{leaves_then}
 use Rattle.qcow2_alloc.proofs.Hints.{lacking_above, hint_got, hint_placed, hint_refused, hint_stays, ok_as, passed_same, passed_still, range_as, not_broken}
@@ -21,7 +21,8 @@ use Rattle.qcow2_metadata.specs.L2Mapping.{IsHostCluster}
 use Rattle.qcow2_alloc.proofs.SparedHeaders.{spares_then}
 use Rattle.qcow2_alloc.proofs.KeptMarks.{kept_marks_then}
 use Rattle.std.specs.Option.{is_some}
-use Rattle.qcow2_alloc.proofs.Steps.{limit_other, fails_by, fails_ok, fails_on, fails_since, table_step_then}
+use Rattle.qcow2_alloc.proofs.Steps.{limit_other, memory_other, other_as, fails_by, fails_ok, fails_on, fails_since, table_step_then}
+use Rattle.qcow2_alloc.specs.TableCaches.{IsBlockOf}
 use Rattle.qcow2_alloc.proofs.allocation.Allocator.ensure_block.Goals as goal
 
 pub returns-in_err-load_block-clause-step : goal.returns-in_err-load_block-clause-step
@@ -75,6 +76,25 @@ returns-then-not-can_name-clause-sound g c = λ p sound.
           not_both c.can_name.result able c.if-not-can_name.true;
     }
 
+pub returns-in_err-block-clause-step : goal.returns-in_err-block-clause-step
+returns-in_err-block-clause-step g c = c.load_block.ensures.step
+
+pub returns-in_err-block-clause-fails : goal.returns-in_err-block-clause-fails
+returns-in_err-block-clause-fails g c = fails_on c.from_residual-in_err-block.result c.in_err-block.field-0.0 c.from_residual-in_err-block.ensures (fails_by c.in_err-block.field-0.0 (other_as c.in_err-block.ensures.memory memory_other) c.in_ok-load_block.ensures.fails.told c.in_err-block.ensures.cause)
+
+pub returns-in_err-block-clause-sound : goal.returns-in_err-block-clause-sound
+returns-in_err-block-clause-sound g c = λ p sound.
+    let one = (c.in_ok-load_block.ensures.sound p sound).0 in
+    record {
+      gets = handed_on (GetsBlock g.S.Storage.view p c.args.file.now c.args.self.now c.load_block.new.file) c.from_residual-in_err-block.result c.in_err-block.field-0.0 c.from_residual-in_err-block.ensures (inl (one.file_step, one.reftable));
+      hint = λ hint. handed_on (KeepsNoFreeBelowHint g.S.Storage.view c.args.self.now c.load_block.new.file) c.from_residual-in_err-block.result c.in_err-block.field-0.0 c.from_residual-in_err-block.ensures
+          (inl (hint_stays g.S.Storage.view p c.args.file.now c.load_block.new.file c.args.self.now c.args.self.now one (passed_still c.args.self.now) hint));
+      fault = λ within near. handed_on (λ (r : Result (Unit {0}) ImageError). IfErr r IsFault) c.from_residual-in_err-block.result c.in_err-block.field-0.0 c.from_residual-in_err-block.ensures (inr c.in_err-block.ensures.memory);
+    }
+
+pub returns-in_err-block-clause-has : goal.returns-in_err-block-clause-has
+returns-in_err-block-clause-has g c = on_no_ok _ c.from_residual-in_err-block.result c.in_err-block.field-0.0 c.from_residual-in_err-block.ensures
+
 pub returns-then-is_fault-clause-step : goal.returns-then-is_fault-clause-step
 returns-then-is_fault-clause-step g c = table_step_then c.load_block.ensures.step c.allocate_lowest_below.ensures.step
 
@@ -121,15 +141,15 @@ returns-in-Ok-Some-clause-sound g c = λ p sound.
     let still : HasNone c.allocate_lowest_below.new.self.reftable (c.args.cluster / 2 ^ c.rb_bits-bits.result) = ap block_offset (c.in-Ok-Some.ensures.entries.others (c.args.cluster / 2 ^ c.rb_bits-bits.result) past) ∙ none in
     let taken = allocator_step_then g.S.Storage.view p (taken_as false p (one_at c.in-Ok-Some.at)) c.args.file.now c.load_block.new.file c.allocate_lowest_below.new.file c.args.self.now c.allocate_lowest_below.new.self l.0 two in
     record {
-      gets = let noted = rw c.in-Ok-Some.field-0-is at c.in-Ok-Some.ensures.noted in
-          gets_taken g.S.Storage.view p c.args.file.now c.allocate_lowest_below.new.file c.place_block.new.file c.allocate_lowest_below.new.self c.place_block.new.self _ c.in-Ok-Some.at c.place_block.result taken (c.place_block.ensures.step.marks.pins.changes.noted (noted refl))
-          (c.place_block.ensures.sound p (is_sound_now g.S.Storage.view p (taken_as false p (one_at c.in-Ok-Some.at)) c.args.file.now c.allocate_lowest_below.new.file c.allocate_lowest_below.new.self taken) (record { none = still; first = tt }));
+      gets = let recorded = rw c.in-Ok-Some.field-0-is at c.in-Ok-Some.ensures.recorded in
+          gets_taken g.S.Storage.view p c.args.file.now c.allocate_lowest_below.new.file c.place_block.new.file c.allocate_lowest_below.new.self c.place_block.new.self _ c.in-Ok-Some.at c.place_block.result taken (c.place_block.ensures.step.marks.pins.changes.recorded (recorded refl))
+          (c.place_block.ensures.sound p false (is_sound_now g.S.Storage.view p (taken_as false p (one_at c.in-Ok-Some.at)) c.args.file.now c.allocate_lowest_below.new.file c.allocate_lowest_below.new.self taken) (record { none = still; first = tt }) c.in_ok-block.ensures.counts);
       hint = λ hint. let here = hint_stays g.S.Storage.view p c.args.file.now c.load_block.new.file c.args.self.now c.args.self.now l.0 (passed_still c.args.self.now) hint in
           hint_placed g.S.Storage.view p c.allocate_lowest_below.new.file c.place_block.new.file c.allocate_lowest_below.new.self c.place_block.new.self (c.args.cluster / 2 ^ c.rb_bits-bits.result) c.in-Ok-Some.at c.place_block.result (passed_same _ c.place_block.new.self c.place_block.ensures.rest)
-          (c.place_block.ensures.sound p (is_sound_now g.S.Storage.view p (taken_as false p (one_at c.in-Ok-Some.at)) c.args.file.now c.allocate_lowest_below.new.file c.allocate_lowest_below.new.self taken) (record { none = still; first = tt }))
+          (c.place_block.ensures.sound p false (is_sound_now g.S.Storage.view p (taken_as false p (one_at c.in-Ok-Some.at)) c.args.file.now c.allocate_lowest_below.new.file c.allocate_lowest_below.new.self taken) (record { none = still; first = tt }) c.in_ok-block.ensures.counts)
           (c.in-Ok-Some.ensures.hint p (is_sound_now g.S.Storage.view p p c.args.file.now c.load_block.new.file c.args.self.now l.0) here);
       fault = λ within near. placed_fault g.S.Storage.view (taken_as false p (one_at c.in-Ok-Some.at)) p c.allocate_lowest_below.new.file c.place_block.new.file c.place_block.new.self (c.args.cluster / 2 ^ c.rb_bits-bits.result) c.in-Ok-Some.at c.place_block.result
-          (c.place_block.ensures.sound p (is_sound_now g.S.Storage.view p (taken_as false p (one_at c.in-Ok-Some.at)) c.args.file.now c.allocate_lowest_below.new.file c.allocate_lowest_below.new.self taken) (record { none = still; first = tt }));
+          (c.place_block.ensures.sound p false (is_sound_now g.S.Storage.view p (taken_as false p (one_at c.in-Ok-Some.at)) c.args.file.now c.allocate_lowest_below.new.file c.allocate_lowest_below.new.self taken) (record { none = still; first = tt }) c.in_ok-block.ensures.counts);
     }
 
 pub returns-in-Ok-None-clause-step : goal.returns-in-Ok-None-clause-step
@@ -220,6 +240,7 @@ place_block-requires g c = record {
     nameable = subst (λ b. IsHostCluster b c.in-Ok-Some.at) (sym c.allocate_lowest_below.ensures.entries.bits) (host_below c.args.self.now.reftable.cluster_bits c.in-Ok-Some.at c.new-first.result (let is = (rw c.in-Ok-Some.field-0-is at c.in-Ok-Some.ensures.below) in below_first c.in-Ok-Some.at _ c.new-first.result is.1 c.new-first.ensures) (c.can_name.ensures.nameable c.if-not-can_name.false));
     nameable_here = subst (λ b. IsHostCluster b c.in-Ok-Some.at) (c.cluster_bits.ensures.value ∙ sym (ap (λ h. h.fields.cluster_bits) c.allocate_lowest_below.ensures.step.header)) (host_below c.cluster_bits.result c.in-Ok-Some.at c.new-first.result (let is = (rw c.in-Ok-Some.field-0-is at c.in-Ok-Some.ensures.below) in below_first c.in-Ok-Some.at _ c.new-first.result is.1 c.new-first.ensures) (c.can_name.ensures.nameable_here c.if-not-can_name.false));
   };
+  block = let same = ap (λ h. h.fields) (sym c.allocate_lowest_below.ensures.step.header) in (subst (λ h. IsBlockOf h c.in_ok-block.block) same c.in_ok-block.ensures.format, c.in_ok-block.ensures.whole);
 }
 
 pub returns-in_err-load_block-clause-has : goal.returns-in_err-load_block-clause-has

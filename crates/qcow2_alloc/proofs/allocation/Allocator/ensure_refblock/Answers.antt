@@ -15,17 +15,14 @@ use Rattle.qcow2_metadata.specs.L2Mapping.{IsHostCluster}
 use Rattle.qcow2_metadata.specs.EntryTable.{entry_count}
 use Rattle.qcow2_alloc.specs.declared.error.ImageError.{ImageError}
 use Rattle.qcow2_alloc.specs.declared.error.ImageError.TheVariants as I
-use Rattle.qcow2_alloc.proofs.Outcomes.{on_no_ok, entries_none}
+use Rattle.qcow2_alloc.proofs.Outcomes.{entries_none}
 use Rattle.qcow2_alloc.proofs.MadeClusters.{lists_used_none, lists_used_one, lists_used_still}
-use Rattle.qcow2_alloc.proofs.Steps.{fails_on, fails_since, step_on, step_then, step_grown, step_none, fails_by, fails_ok, limit_other}
+use Rattle.qcow2_alloc.proofs.Steps.{fails_on, fails_since, step_on, step_then, step_grown, step_none, fails_by, limit_other}
 use Rattle.qcow2_alloc.proofs.FormerReftables.{former_none, former_one, former_still}
 use Rattle.qcow2_alloc.proofs.allocation.Allocator.ensure_refblock.Goals as goal
 
 pub returns-then-in_bounds-clause-step : goal.returns-then-in_bounds-clause-step
 returns-then-in_bounds-clause-step g c = step_on c.ensure_block.ensures.step
-
-pub returns-then-in_bounds-clause-fails : goal.returns-then-in_bounds-clause-fails
-returns-then-in_bounds-clause-fails g c = c.ensure_block.ensures.fails
 
 pub returns-clause-step : goal.returns-clause-step
 returns-clause-step g c =
@@ -39,9 +36,6 @@ returns-clause-step g c =
 pub returns-clause-fails : goal.returns-clause-fails
 returns-clause-fails g c = fails_since c.in_ok-grow_reftable.ensures.fails.told c.ensure_block-2.ensures.fails
 
-pub returns-then-in_bounds-clause-has : goal.returns-then-in_bounds-clause-has
-returns-then-in_bounds-clause-has g c = c.ensure_block.ensures.has
-
 pub returns-in_err-grow_reftable-clause-step : goal.returns-in_err-grow_reftable-clause-step
 returns-in_err-grow_reftable-clause-step g c =
     let stays = c.in_err-grow_reftable.ensures.step.former in
@@ -51,18 +45,12 @@ returns-in_err-grow_reftable-clause-step g c =
 pub returns-in_err-grow_reftable-clause-fails : goal.returns-in_err-grow_reftable-clause-fails
 returns-in_err-grow_reftable-clause-fails g c = fails_on c.from_residual.result c.in_err-grow_reftable.field-0.0 c.from_residual.ensures c.in_err-grow_reftable.ensures.fails
 
-pub returns-in_err-grow_reftable-clause-has : goal.returns-in_err-grow_reftable-clause-has
-returns-in_err-grow_reftable-clause-has g c = on_no_ok _ c.from_residual.result c.in_err-grow_reftable.field-0.0 c.from_residual.ensures
-
 pub returns-clause-has : goal.returns-clause-has
 returns-clause-has g c =
     ok_as _ _ c.ensure_block-2.result
     (range_as c.ensure_block-2.new.self.reftable c.args.cluster (counts_per_block c.grow_reftable.new.file.header.fields) (counts_per_block c.args.file.now.header.fields)
     (sym (header_counts c.args.file.now.header c.grow_reftable.new.file.header c.grow_reftable.ensures.step.header)))
     c.ensure_block-2.ensures.has
-
-pub returns-then-in_bounds-clause-named : goal.returns-then-in_bounds-clause-named
-returns-then-in_bounds-clause-named g c = λ within. c.ensure_block.ensures.step.named
 
 pub returns-then-in_bounds-clause-sound : goal.returns-then-in_bounds-clause-sound
 returns-then-in_bounds-clause-sound g c = λ p sound.
@@ -120,9 +108,6 @@ returns-clause-sound g c = λ p sound.
 
 pub returns-then-not-lacks_block-clause-step : goal.returns-then-not-lacks_block-clause-step
 returns-then-not-lacks_block-clause-step g c = step_none
-
-pub returns-then-not-lacks_block-clause-fails : goal.returns-then-not-lacks_block-clause-fails
-returns-then-not-lacks_block-clause-fails g c = fails_ok refl
 
 pub returns-then-not-lacks_block-clause-has : goal.returns-then-not-lacks_block-clause-has
 returns-then-not-lacks_block-clause-has g c =

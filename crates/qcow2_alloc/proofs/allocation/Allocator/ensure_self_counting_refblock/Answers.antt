@@ -1,4 +1,4 @@
-use Rattle.std.proofs.Common.{◌≡◌, mul-pos, inl, true, false, ◌*◌, ◌<◌, ◌^◌, sym, ap, ◌∙◌, arith, Result, IsTrue, refl, subst}
+use Rattle.std.proofs.Common.{◌≡◌, mul-pos, inl, inr, true, false, ◌*◌, ◌<◌, ◌^◌, sym, ap, ◌∙◌, arith, Result, IsTrue, refl, subst}
 use Rattle.qcow2_metadata.specs.Header.{counts_per_block}
 use Rattle.qcow2_alloc.specs.Allocation.{GetsBlock}
 use Rattle.qcow2_alloc.proofs.Hints.{lacking_above, search_by, search_same}
@@ -8,16 +8,13 @@ use Rattle.qcow2_alloc.specs.ImageError.{IsFault}
 use Rattle.std.proofs.lemmas.Nat.{pow_pos}
 use Rattle.qcow2_alloc.specs.declared.error.ImageError.{ImageError}
 use Rattle.qcow2_alloc.proofs.Limits.{placed_fault, host_below, is_able}
-use Rattle.qcow2_alloc.proofs.Outcomes.{on_no_ok, entries_none}
+use Rattle.qcow2_alloc.proofs.Outcomes.{entries_none, on_no_ok}
 use Rattle.qcow2_metadata.specs.L2Mapping.{IsHostCluster}
 use Rattle.qcow2_alloc.proofs.SparedHeaders.{spares_then}
 use Rattle.qcow2_alloc.proofs.KeptMarks.{kept_marks_then}
-use Rattle.qcow2_alloc.proofs.Steps.{limit_other, fails_by, fails_ok, fails_on, fails_since}
+use Rattle.qcow2_alloc.proofs.Steps.{limit_other, memory_other, other_as, fails_by, fails_ok, fails_on, fails_since}
 use Rattle.qcow2_alloc.specs.declared.error.ImageError.TheVariants as I
 use Rattle.qcow2_alloc.proofs.allocation.Allocator.ensure_self_counting_refblock.Goals as goal
-
-pub returns-in_err-load_block-clause-step : goal.returns-in_err-load_block-clause-step
-returns-in_err-load_block-clause-step g c = c.load_block.ensures.step
 
 pub returns-in_err-load_block-clause-fails : goal.returns-in_err-load_block-clause-fails
 returns-in_err-load_block-clause-fails g c = fails_on c.from_residual.result c.in_err-load_block.field-0.0 c.from_residual.ensures c.in_err-load_block.ensures.fails
@@ -29,9 +26,6 @@ returns-in_err-load_block-clause-sound g c = λ p sound.
       fault = λ within near. handed_on (λ (r : Result (Unit {0}) ImageError). IfErr r IsFault) c.from_residual.result c.in_err-load_block.field-0.0 c.from_residual.ensures (c.in_err-load_block.ensures.sound p sound).0;
     }
 
-pub returns-then-is_some-clause-step : goal.returns-then-is_some-clause-step
-returns-then-is_some-clause-step g c = c.load_block.ensures.step
-
 pub returns-then-is_some-clause-fails : goal.returns-then-is_some-clause-fails
 returns-then-is_some-clause-fails g c = fails_ok c.in_ok-load_block.ensures.fails.told
 
@@ -41,9 +35,6 @@ returns-then-is_some-clause-sound g c = λ p sound.
       gets = (c.in_ok-load_block.ensures.sound p sound).0;
       fault = λ within near. tt;
     }
-
-pub returns-then-not-can_name-clause-step : goal.returns-then-not-can_name-clause-step
-returns-then-not-can_name-clause-step g c = c.load_block.ensures.step
 
 pub returns-then-not-can_name-clause-fails : goal.returns-then-not-can_name-clause-fails
 returns-then-not-can_name-clause-fails g c = fails_by I.Limit limit_other c.in_ok-load_block.ensures.fails.told tt
@@ -63,6 +54,29 @@ returns-then-not-can_name-clause-sound g c = λ p sound.
           let not = c.if-not-can_name.true in
           absurd (let bad : true ≡ false = sym able ∙ not in cc);
     }
+
+pub returns-in_err-block-clause-step : goal.returns-in_err-block-clause-step
+returns-in_err-block-clause-step g c = c.load_block.ensures.step
+
+pub returns-in_err-block-clause-fails : goal.returns-in_err-block-clause-fails
+returns-in_err-block-clause-fails g c = fails_on c.from_residual-in_err-block.result c.in_err-block.field-0.0 c.from_residual-in_err-block.ensures (fails_by c.in_err-block.field-0.0 (other_as c.in_err-block.ensures.memory memory_other) c.in_ok-load_block.ensures.fails.told c.in_err-block.ensures.cause)
+
+pub returns-in_err-block-clause-sound : goal.returns-in_err-block-clause-sound
+returns-in_err-block-clause-sound g c = λ p sound.
+    let one = (c.in_ok-load_block.ensures.sound p sound).0 in
+    record {
+      gets = handed_on (GetsBlock g.S.Storage.view p c.args.file.now c.args.self.now c.load_block.new.file) c.from_residual-in_err-block.result c.in_err-block.field-0.0 c.from_residual-in_err-block.ensures (inl (one.file_step, one.reftable));
+      fault = λ within near. handed_on (λ (r : Result (Unit {0}) ImageError). IfErr r IsFault) c.from_residual-in_err-block.result c.in_err-block.field-0.0 c.from_residual-in_err-block.ensures (inr c.in_err-block.ensures.memory);
+    }
+
+pub returns-in_err-block-clause-first : goal.returns-in_err-block-clause-first
+returns-in_err-block-clause-first g c = search_same c.args.self.now
+
+pub returns-in_err-block-clause-entries : goal.returns-in_err-block-clause-entries
+returns-in_err-block-clause-entries g c = entries_none _ c.args.self.now.reftable
+
+pub returns-in_err-block-clause-has : goal.returns-in_err-block-clause-has
+returns-in_err-block-clause-has g c = on_no_ok _ c.from_residual-in_err-block.result c.in_err-block.field-0.0 c.from_residual-in_err-block.ensures
 
 pub returns-clause-step : goal.returns-clause-step
 returns-clause-step g c = record {
@@ -87,9 +101,9 @@ returns-clause-sound g c = λ p sound.
     record {
       gets = gets_then g.S.Storage.view p c.args.file.now c.load_block.new.file c.place_block.new.file c.args.self.now c.place_block.new.self c.place_block.result l.0
           (gets_placed g.S.Storage.view p c.load_block.new.file c.place_block.new.file c.place_block.new.self c.args.range _ c.place_block.result
-          (c.place_block.ensures.sound p (is_sound_now g.S.Storage.view p p c.args.file.now c.load_block.new.file c.args.self.now l.0) (record { none = none; first = omega (arith, e, same, c.requires) })));
+          (c.place_block.ensures.sound p true (is_sound_now g.S.Storage.view p p c.args.file.now c.load_block.new.file c.args.self.now l.0) (record { none = none; first = omega (arith, e, same, c.requires) }) c.in_ok-block.ensures.counts));
       fault = λ within near. placed_fault g.S.Storage.view p p c.load_block.new.file c.place_block.new.file c.place_block.new.self c.args.range _ c.place_block.result
-          (c.place_block.ensures.sound p (is_sound_now g.S.Storage.view p p c.args.file.now c.load_block.new.file c.args.self.now l.0) (record { none = none; first = omega (arith, e, same, c.requires) }));
+          (c.place_block.ensures.sound p true (is_sound_now g.S.Storage.view p p c.args.file.now c.load_block.new.file c.args.self.now l.0) (record { none = none; first = omega (arith, e, same, c.requires) }) c.in_ok-block.ensures.counts);
     }
 
 pub returns-in_err-load_block-clause-first : goal.returns-in_err-load_block-clause-first
@@ -113,9 +127,6 @@ returns-then-not-can_name-clause-entries g c = entries_none _ c.args.self.now.re
 pub returns-clause-first : goal.returns-clause-first
 returns-clause-first g c = search_by c.args.self.now _ c.place_block.new.self c.place_block.ensures.rest refl (λ k passed. passed)
 
-pub returns-clause-entries : goal.returns-clause-entries
-returns-clause-entries g c = c.place_block.ensures.step.named
-
 pub place_block-requires : goal.place_block-requires
 place_block-requires g c = record {
   place = record {
@@ -125,16 +136,8 @@ place_block-requires g c = record {
     nameable = subst (IsHostCluster c.args.self.now.reftable.cluster_bits) c.new.ensures (c.can_name.ensures.nameable c.if-not-can_name.false);
     nameable_here = subst (IsHostCluster c.load_block.new.file.header.fields.cluster_bits) c.new.ensures (subst (λ b. IsHostCluster b c.new.result) c.cluster_bits-bits.ensures.value (c.can_name.ensures.nameable_here c.if-not-can_name.false));
   };
+  block = (c.in_ok-block.ensures.format, c.in_ok-block.ensures.whole);
 }
-
-pub returns-in_err-load_block-clause-has : goal.returns-in_err-load_block-clause-has
-returns-in_err-load_block-clause-has g c = on_no_ok _ c.from_residual.result c.in_err-load_block.field-0.0 c.from_residual.ensures
 
 pub returns-then-is_some-clause-has : goal.returns-then-is_some-clause-has
 returns-then-is_some-clause-has g c = c.in_ok-load_block.ensures.finds.has (sym c.is_some.ensures ∙ c.if-is_some.true)
-
-pub returns-then-not-can_name-clause-has : goal.returns-then-not-can_name-clause-has
-returns-then-not-can_name-clause-has g c = tt
-
-pub returns-clause-has : goal.returns-clause-has
-returns-clause-has g c = c.place_block.ensures.has

@@ -25,7 +25,6 @@ use Rattle.qcow2_alloc.proofs.Limits.{cause_as}
 use Rattle.qcow2_alloc.proofs.GrownReftables.{clone_clusters, clone_is_longer, entered, uses_entered, names_fault, room_now}
 use Rattle.qcow2_alloc.proofs.Hints.{search_by, search_then, uses_refused}
 use Rattle.qcow2_alloc.proofs.ListedAfter.{header_same, header_then, header_counts}
-use Rattle.qcow2_alloc.proofs.Outcomes.{on_no_ok, on_err}
 use Rattle.qcow2_alloc.proofs.Rooms.{still_noted}
 use Rattle.qcow2_alloc.proofs.Steps.{fails_on, fails_since, pointer_step_on, pointer_step_then}
 use Rattle.qcow2_alloc.proofs.allocation.Allocator.enter_reftable.Goals as goal
@@ -51,7 +50,7 @@ enters_table : {S : Type 0} (r : Result (Unit {0}) ImageError) (h : HeaderFields
 enters_table (Ok done) h reftable' reftable table t room new is above same entered =
     let so = entered.entered in
     record {
-      entered = record { count = so.count; lacking = subst (λ (x : EntryTableView). NamesLacking x table t) is so.lacking; noted = so.noted };
+      entered = record { count = so.count; lacking = subst (λ (x : EntryTableView). NamesLacking x table t) is so.lacking; recorded = so.recorded };
       fills = λ whole. record {
         whole = subst (λ n. n % (2 ^ t.cluster_bits / 8) ≡ 0) (sym so.count) (subst (λ b. entry_count table % (2 ^ b / 8) ≡ 0) (sym (so.lacking.behind.bits ∙ same)) whole);
         elsewhere = subst (λ (v : Option ℕ). IfSome v (λ c. 0 < c)) (sym entered.place) (omega (arith, above));
@@ -100,7 +99,7 @@ returns-clause-sound g c = λ p sound clone whole.
     let sound_now = subst (λ (x : EntryTableView). AllocatorInvariant view u (with_run p b.header.fields x first n) b) (sym same) now in
     record {
       enters = entered view p a b c.write_reftable.new.file u c.write_reftable.new.self t first n c.allocate_room.ensures.step.header room c.write_reftable.result
-          (still_noted a.header.fields t first n b.caches.is_changed c.write_reftable.new.file.caches.is_changed c.write_reftable.ensures.step.marks.pins.changes.noted c.in_ok-room.ensures.room.noted)
+          (still_noted a.header.fields t first n b.caches.is_changed c.write_reftable.new.file.caches.is_changed c.write_reftable.ensures.step.marks.pins.changes.recorded c.in_ok-room.ensures.room.recorded)
           (subst (λ (x : EntryTableView). NamesReftable view (with_run p b.header.fields x first n) p b c.write_reftable.new.self c.write_reftable.new.file c.write_reftable.result) same ((c.write_reftable.ensures.sound p sound_now longer).names));
       uses = uses_entered view p a b c.write_reftable.new.file u c.write_reftable.new.self t first n c.allocate_room.ensures.step.header room c.write_reftable.result ((c.write_reftable.ensures.sound p sound_now longer).uses);
       lowest = λ hint. let uses = (c.write_reftable.ensures.sound p sound_now longer).uses in
@@ -126,15 +125,6 @@ returns-in_err-room-clause-step g c = pointer_step_on c.allocate_room.ensures.st
 
 pub returns-in_err-room-clause-fails : goal.returns-in_err-room-clause-fails
 returns-in_err-room-clause-fails g c = fails_on c.from_residual.result c.in_err-room.field-0.0 c.from_residual.ensures c.in_err-room.ensures.fails
-
-pub returns-in_err-room-clause-entered : goal.returns-in_err-room-clause-entered
-returns-in_err-room-clause-entered g c = on_no_ok _ c.from_residual.result c.in_err-room.field-0.0 c.from_residual.ensures
-
-pub returns-in_err-room-clause-first : goal.returns-in_err-room-clause-first
-returns-in_err-room-clause-first g c = c.allocate_room.ensures.first
-
-pub returns-in_err-room-clause-kept : goal.returns-in_err-room-clause-kept
-returns-in_err-room-clause-kept g c = on_err _ c.from_residual.result c.allocate_room.ensures.reftable
 
 pub returns-clause-step : goal.returns-clause-step
 returns-clause-step g c = pointer_step_then (pointer_step_on c.allocate_room.ensures.step) c.write_reftable.ensures.step

@@ -9,7 +9,7 @@ use Rattle.qcow2_alloc.specs.GrownTables.{with_run}
 use Rattle.qcow2_alloc.specs.declared.error.ImageError.{ImageError}
 use Rattle.qcow2_alloc.specs.declared.free_room.Room.{Room}
 use Rattle.qcow2_alloc.specs.Limits.{IsFaultOr, HasNoRoomBelow}
-use Rattle.qcow2_alloc.specs.Rooms.{opened, TakesRoom}
+use Rattle.qcow2_alloc.specs.Rooms.{opened, AllocatesRoom}
 use Rattle.qcow2_alloc.proofs.FileSteps.{leaves_then}
 use Rattle.qcow2_alloc.proofs.AllocationSteps.{handed_on, allocator_step_none, allocator_step_then, is_sound_now}
 use Rattle.qcow2_alloc.proofs.Runs.{run_after}
@@ -42,7 +42,7 @@ search-init g c = record {
 pub search-preserved : goal.search-preserved
 search-preserved g c = record {
   faults = c.in_ok-first.ensures.fails.told ∙ (c.in_ok-leave_run.ensures.fails.told ∙ (c.in_ok-reach.ensures.fails.told ∙ c.search.invariant.faults));
-  step = table_step_then (table_step_then (table_step_then c.search.invariant.step c.reserve_room.ensures.step) c.leave_run.ensures.step) c.next_free_in_range.ensures.step;
+  step = table_step_then (table_step_then (table_step_then c.search.invariant.step c.reserve_room.ensures.step) c.leave_run.ensures.step) c.next_open.ensures.step;
   reftable = c.leave_run.ensures.reftable ∙ ap (λ a. a.reftable) c.reserve_room.ensures.same ∙ c.search.invariant.reftable;
   first = search_then c.args.self.now c.search.self c.leave_run.new.self c.search.invariant.first (search_after c.search.self c.reserve_room.new.self c.leave_run.new.self c.reserve_room.ensures.same c.leave_run.ensures.first);
   low = let low = c.search.invariant.low in let behind = c.in_ok-first.ensures.behind in omega (arith, low, behind);
@@ -53,11 +53,11 @@ search-preserved g c = record {
       let reached = (c.in_ok-reach.ensures.sound p (is_sound_now view p p c.args.file.now c.search.file c.search.self before)).reaches in
       let t_same : c.search.self.reftable ≡ c.reserve_room.new.self.reftable = ap (λ a. a.reftable) (sym c.reserve_room.ensures.same) in
       let same = run_of_same p c.search.file.header.fields c.search.file.header.fields c.search.self.reftable c.reserve_room.new.self.reftable c.search.first c.in_ok-reach.reach.taken c.in_ok-reach.reach.taken refl t_same refl in
-      let noted = noted_of_same c.search.file.header.fields c.search.self.reftable c.reserve_room.new.self.reftable c.search.first c.in_ok-reach.reach.taken c.reserve_room.new.file.caches.is_changed t_same c.in_ok-reach.ensures.reach.noted in
-      let back = ((c.in_ok-leave_run.ensures.sound p c.search.file (sym c.reserve_room.ensures.step.header) (subst (λ (r : Pending). InternalAllocatorStep view p c.search.file c.reserve_room.new.self c.reserve_room.new.file r) same reached)).gives noted) in
+      let recorded = noted_of_same c.search.file.header.fields c.search.self.reftable c.reserve_room.new.self.reftable c.search.first c.in_ok-reach.reach.taken c.reserve_room.new.file.caches.is_changed t_same c.in_ok-reach.ensures.reach.recorded in
+      let back = ((c.in_ok-leave_run.ensures.sound p c.search.file (sym c.reserve_room.ensures.step.header) (subst (λ (r : Pending). InternalAllocatorStep view p c.search.file c.reserve_room.new.self c.reserve_room.new.file r) same reached)).gives recorded) in
       let mid = allocator_step_then view p p c.args.file.now c.search.file c.leave_run.new.file c.search.self c.leave_run.new.self before back in
       let there = is_sound_now view p p c.args.file.now c.leave_run.new.file c.leave_run.new.self mid in
-      hint_stays view p c.leave_run.new.file c.next_free_in_range.new.file c.leave_run.new.self c.leave_run.new.self (c.in_ok-first.ensures.sound p there).0 (passed_still c.leave_run.new.self)
+      hint_stays view p c.leave_run.new.file c.next_open.new.file c.leave_run.new.self c.leave_run.new.self (c.in_ok-first.ensures.sound p there).0 (passed_still c.leave_run.new.self)
       (hint_stays view p c.search.file c.leave_run.new.file c.search.self c.leave_run.new.self back (search_after c.search.self c.reserve_room.new.self c.leave_run.new.self c.reserve_room.ensures.same c.leave_run.ensures.first).passed (c.search.invariant.hint p sound hint));
   sound = λ p sound.
       let view = g.S.Storage.view in
@@ -65,11 +65,11 @@ search-preserved g c = record {
       let reached = (c.in_ok-reach.ensures.sound p (is_sound_now view p p c.args.file.now c.search.file c.search.self before)).reaches in
       let t_same : c.search.self.reftable ≡ c.reserve_room.new.self.reftable = ap (λ a. a.reftable) (sym c.reserve_room.ensures.same) in
       let same = run_of_same p c.search.file.header.fields c.search.file.header.fields c.search.self.reftable c.reserve_room.new.self.reftable c.search.first c.in_ok-reach.reach.taken c.in_ok-reach.reach.taken refl t_same refl in
-      let noted = noted_of_same c.search.file.header.fields c.search.self.reftable c.reserve_room.new.self.reftable c.search.first c.in_ok-reach.reach.taken c.reserve_room.new.file.caches.is_changed t_same c.in_ok-reach.ensures.reach.noted in
-      let back = ((c.in_ok-leave_run.ensures.sound p c.search.file (sym c.reserve_room.ensures.step.header) (subst (λ (r : Pending). InternalAllocatorStep view p c.search.file c.reserve_room.new.self c.reserve_room.new.file r) same reached)).gives noted) in
+      let recorded = noted_of_same c.search.file.header.fields c.search.self.reftable c.reserve_room.new.self.reftable c.search.first c.in_ok-reach.reach.taken c.reserve_room.new.file.caches.is_changed t_same c.in_ok-reach.ensures.reach.recorded in
+      let back = ((c.in_ok-leave_run.ensures.sound p c.search.file (sym c.reserve_room.ensures.step.header) (subst (λ (r : Pending). InternalAllocatorStep view p c.search.file c.reserve_room.new.self c.reserve_room.new.file r) same reached)).gives recorded) in
       let mid = allocator_step_then view p p c.args.file.now c.search.file c.leave_run.new.file c.search.self c.leave_run.new.self before back in
       let there = is_sound_now view p p c.args.file.now c.leave_run.new.file c.leave_run.new.self mid in
-      allocator_step_then view p p c.args.file.now c.leave_run.new.file c.next_free_in_range.new.file c.leave_run.new.self c.leave_run.new.self mid (c.in_ok-first.ensures.sound p there).0;
+      allocator_step_then view p p c.args.file.now c.leave_run.new.file c.next_open.new.file c.leave_run.new.self c.leave_run.new.self mid (c.in_ok-first.ensures.sound p there).0;
   leaks = λ p sound.
       let view = g.S.Storage.view in
       let before = c.search.invariant.sound p sound in
@@ -89,14 +89,15 @@ search-preserved g c = record {
       let reached = (c.in_ok-reach.ensures.sound p now).reaches in
       let t_same : c.search.self.reftable ≡ c.reserve_room.new.self.reftable = ap (λ a. a.reftable) (sym c.reserve_room.ensures.same) in
       let same = run_of_same p c.search.file.header.fields c.search.file.header.fields c.search.self.reftable c.reserve_room.new.self.reftable first taken taken refl t_same refl in
-      let noted = noted_of_same c.search.file.header.fields c.search.self.reftable c.reserve_room.new.self.reftable first taken c.reserve_room.new.file.caches.is_changed t_same c.in_ok-reach.ensures.reach.noted in
+      let recorded = noted_of_same c.search.file.header.fields c.search.self.reftable c.reserve_room.new.self.reftable first taken c.reserve_room.new.file.caches.is_changed t_same c.in_ok-reach.ensures.reach.recorded in
       let run = subst (λ (r : Pending). InternalAllocatorStep view p c.search.file c.reserve_room.new.self c.reserve_room.new.file r) same reached in
-      let back = ((c.in_ok-leave_run.ensures.sound p c.search.file (sym c.reserve_room.ensures.step.header) run).gives noted) in
+      let back = ((c.in_ok-leave_run.ensures.sound p c.search.file (sym c.reserve_room.ensures.step.header) run).gives recorded) in
       let opened_same = λ (n : ℕ). ap (λ (h : HeaderView). opened c.search.self.reftable (counts_per_block h.fields) first n) c.search.invariant.step.header ∙ ap (λ (x : EntryTableView). opened x per first n) c.search.invariant.reftable in
       let mid = allocator_step_then view p p c.args.file.now c.search.file c.leave_run.new.file c.search.self c.leave_run.new.self before back in
       let passed = c.in_ok-first.ensures.sound p (is_sound_now view p p c.args.file.now c.leave_run.new.file c.leave_run.new.self mid) in
-      full_passed view c.next_free_in_range.new.file t per c.args.clusters c.args.end (first + (taken + 1)) c.in_ok-first.first (let behind = c.in_ok-first.ensures.behind in omega (arith, behind)) (let many = c.requires.some in omega (arith, many)) (λ k low high. passed.1 k (omega (arith, low)) high)
-      (full_stays view c.leave_run.new.file c.next_free_in_range.new.file t per c.args.clusters c.args.end (first + (taken + 1)) (λ k used. used_stays view p p c.leave_run.new.file c.next_free_in_range.new.file c.leave_run.new.self k passed.0 (omega arith) used)
+      let before_it = hint_stays view p c.search.file c.leave_run.new.file c.search.self c.leave_run.new.self back (search_after c.search.self c.reserve_room.new.self c.leave_run.new.self c.reserve_room.ensures.same c.leave_run.ensures.first).passed (c.search.invariant.hint p sound hint) in
+      full_passed view c.next_open.new.file t per c.args.clusters c.args.end (first + (taken + 1)) c.in_ok-first.first (let behind = c.in_ok-first.ensures.behind in omega (arith, behind)) (let many = c.requires.some in omega (arith, many)) (λ k low high. passed.1 before_it k (omega (arith, low)) high)
+      (full_stays view c.leave_run.new.file c.next_open.new.file t per c.args.clusters c.args.end (first + (taken + 1)) (λ k used. used_stays view p p c.leave_run.new.file c.next_open.new.file c.leave_run.new.self k passed.0 (omega arith) used)
       (full_behind view c.leave_run.new.file t per c.args.clusters c.args.end first taken
       (λ n le. let lt = c.in_ok-reach.ensures.reach.short c.if-reach-clusters.false n le in let e = opened_same n in omega (arith, lt, e))
       (λ within. (c.in_ok-leave_run.ensures.sound p c.search.file (sym c.reserve_room.ensures.step.header) run).kept (first + taken) (run_after first taken (first + taken) (omega arith))
@@ -106,7 +107,7 @@ search-preserved g c = record {
 }
 
 pub returns-in_err-first-clause-step : goal.returns-in_err-first-clause-step
-returns-in_err-first-clause-step g c = table_step_then (table_step_then (table_step_then c.search.invariant.step c.reserve_room.ensures.step) c.leave_run.ensures.step) c.next_free_in_range.ensures.step
+returns-in_err-first-clause-step g c = table_step_then (table_step_then (table_step_then c.search.invariant.step c.reserve_room.ensures.step) c.leave_run.ensures.step) c.next_open.ensures.step
 
 pub returns-in_err-first-clause-fails : goal.returns-in_err-first-clause-fails
 returns-in_err-first-clause-fails g c = fails_on c.from_residual-in_err-first.result c.in_err-first.field-0.0 c.from_residual-in_err-first.ensures (fails_since (c.in_ok-leave_run.ensures.fails.told ∙ (c.in_ok-reach.ensures.fails.told ∙ c.search.invariant.faults)) c.in_err-first.ensures.fails)
@@ -153,17 +154,8 @@ returns-in_err-leave_run-clause-reftable g c = c.leave_run.ensures.reftable ∙ 
 pub returns-in_err-leave_run-clause-first : goal.returns-in_err-leave_run-clause-first
 returns-in_err-leave_run-clause-first g c = search_then c.args.self.now c.search.self c.leave_run.new.self c.search.invariant.first (search_after c.search.self c.reserve_room.new.self c.leave_run.new.self c.reserve_room.ensures.same c.leave_run.ensures.first)
 
-pub returns-clause-step : goal.returns-clause-step
-returns-clause-step g c = c.search.invariant.step
-
 pub returns-clause-fails : goal.returns-clause-fails
 returns-clause-fails g c = fails_by I.Limit limit_other c.search.invariant.faults tt
-
-pub returns-clause-reftable : goal.returns-clause-reftable
-returns-clause-reftable g c = c.search.invariant.reftable
-
-pub returns-clause-first : goal.returns-clause-first
-returns-clause-first g c = c.search.invariant.first
 
 pub returns-in_err-leave_run-clause-sound : goal.returns-in_err-leave_run-clause-sound
 returns-in_err-leave_run-clause-sound g c = λ p sound.
@@ -172,10 +164,10 @@ returns-in_err-leave_run-clause-sound g c = λ p sound.
     let reached = (c.in_ok-reach.ensures.sound p (is_sound_now view p p c.args.file.now c.search.file c.search.self before)).reaches in
     let t_same : c.search.self.reftable ≡ c.reserve_room.new.self.reftable = ap (λ a. a.reftable) (sym c.reserve_room.ensures.same) in
     let same = run_of_same p c.search.file.header.fields c.search.file.header.fields c.search.self.reftable c.reserve_room.new.self.reftable c.search.first c.in_ok-reach.reach.taken c.in_ok-reach.reach.taken refl t_same refl in
-    let noted = noted_of_same c.search.file.header.fields c.search.self.reftable c.reserve_room.new.self.reftable c.search.first c.in_ok-reach.reach.taken c.reserve_room.new.file.caches.is_changed t_same c.in_ok-reach.ensures.reach.noted in
-    let back = ((c.in_err-leave_run.ensures.sound p c.search.file (sym c.reserve_room.ensures.step.header) (subst (λ (r : Pending). InternalAllocatorStep view p c.search.file c.reserve_room.new.self c.reserve_room.new.file r) same reached)).gives noted) in
+    let recorded = noted_of_same c.search.file.header.fields c.search.self.reftable c.reserve_room.new.self.reftable c.search.first c.in_ok-reach.reach.taken c.reserve_room.new.file.caches.is_changed t_same c.in_ok-reach.ensures.reach.recorded in
+    let back = ((c.in_err-leave_run.ensures.sound p c.search.file (sym c.reserve_room.ensures.step.header) (subst (λ (r : Pending). InternalAllocatorStep view p c.search.file c.reserve_room.new.self c.reserve_room.new.file r) same reached)).gives recorded) in
     record {
-      takes = handed_on (TakesRoom view p c.args.file.now c.leave_run.new.self c.leave_run.new.file c.args.self.now.reftable) c.from_residual-in_err-leave_run.result c.in_err-leave_run.field-0.0 c.from_residual-in_err-leave_run.ensures
+      takes = handed_on (AllocatesRoom view p c.args.file.now c.leave_run.new.self c.leave_run.new.file c.args.self.now.reftable) c.from_residual-in_err-leave_run.result c.in_err-leave_run.field-0.0 c.from_residual-in_err-leave_run.ensures
           (leaves_then view p c.args.file.now c.search.file c.leave_run.new.file c.leave_run.new.self c.in_err-leave_run.field-0.0 before.file_step back.1);
       leaks = (c.leave_run.ensures.sound p c.search.file (sym c.reserve_room.ensures.step.header) (subst (λ (r : Pending). InternalAllocatorStep view p c.search.file c.reserve_room.new.self c.reserve_room.new.file r) same reached)).leaks
           ∙ ap (λ (a : Allocator). a.leaked_clusters) c.reserve_room.ensures.same ∙ c.search.invariant.leaks p sound;
@@ -191,17 +183,17 @@ returns-in_err-first-clause-sound g c = λ p sound.
     let reached = (c.in_ok-reach.ensures.sound p (is_sound_now view p p c.args.file.now c.search.file c.search.self before)).reaches in
     let t_same : c.search.self.reftable ≡ c.reserve_room.new.self.reftable = ap (λ a. a.reftable) (sym c.reserve_room.ensures.same) in
     let same = run_of_same p c.search.file.header.fields c.search.file.header.fields c.search.self.reftable c.reserve_room.new.self.reftable c.search.first c.in_ok-reach.reach.taken c.in_ok-reach.reach.taken refl t_same refl in
-    let noted = noted_of_same c.search.file.header.fields c.search.self.reftable c.reserve_room.new.self.reftable c.search.first c.in_ok-reach.reach.taken c.reserve_room.new.file.caches.is_changed t_same c.in_ok-reach.ensures.reach.noted in
-    let back = ((c.in_ok-leave_run.ensures.sound p c.search.file (sym c.reserve_room.ensures.step.header) (subst (λ (r : Pending). InternalAllocatorStep view p c.search.file c.reserve_room.new.self c.reserve_room.new.file r) same reached)).gives noted) in
+    let recorded = noted_of_same c.search.file.header.fields c.search.self.reftable c.reserve_room.new.self.reftable c.search.first c.in_ok-reach.reach.taken c.reserve_room.new.file.caches.is_changed t_same c.in_ok-reach.ensures.reach.recorded in
+    let back = ((c.in_ok-leave_run.ensures.sound p c.search.file (sym c.reserve_room.ensures.step.header) (subst (λ (r : Pending). InternalAllocatorStep view p c.search.file c.reserve_room.new.self c.reserve_room.new.file r) same reached)).gives recorded) in
     let mid = allocator_step_then view p p c.args.file.now c.search.file c.leave_run.new.file c.search.self c.leave_run.new.self before back in
     let there = is_sound_now view p p c.args.file.now c.leave_run.new.file c.leave_run.new.self mid in
     record {
-      takes = handed_on (TakesRoom view p c.args.file.now c.leave_run.new.self c.next_free_in_range.new.file c.args.self.now.reftable) c.from_residual-in_err-first.result c.in_err-first.field-0.0 c.from_residual-in_err-first.ensures
-          (leaves_then view p c.args.file.now c.leave_run.new.file c.next_free_in_range.new.file c.leave_run.new.self c.in_err-first.field-0.0 mid.file_step (c.in_err-first.ensures.sound p there).1);
+      takes = handed_on (AllocatesRoom view p c.args.file.now c.leave_run.new.self c.next_open.new.file c.args.self.now.reftable) c.from_residual-in_err-first.result c.in_err-first.field-0.0 c.from_residual-in_err-first.ensures
+          (leaves_then view p c.args.file.now c.leave_run.new.file c.next_open.new.file c.leave_run.new.self c.in_err-first.field-0.0 mid.file_step (c.in_err-first.ensures.sound p there).1);
       leaks = (c.leave_run.ensures.sound p c.search.file (sym c.reserve_room.ensures.step.header) (subst (λ (r : Pending). InternalAllocatorStep view p c.search.file c.reserve_room.new.self c.reserve_room.new.file r) same reached)).leaks
           ∙ ap (λ (a : Allocator). a.leaked_clusters) c.reserve_room.ensures.same ∙ c.search.invariant.leaks p sound;
       lowest = λ _. if_no_ok _ c.from_residual-in_err-first.result c.in_err-first.field-0.0 c.from_residual-in_err-first.ensures;
-      limit = λ hint. handed_on (λ (r : Result Room ImageError). IfErr r (IsFaultOr (HasNoRoomBelow (IsUsed view c.next_free_in_range.new.file) c.next_free_in_range.new.file.header.fields (λ k. 0) c.args.self.now.reftable c.args.clusters c.args.end))) c.from_residual-in_err-first.result c.in_err-first.field-0.0 c.from_residual-in_err-first.ensures
+      limit = λ hint. handed_on (λ (r : Result Room ImageError). IfErr r (IsFaultOr (HasNoRoomBelow (IsUsed view c.next_open.new.file) c.next_open.new.file.header.fields (λ k. 0) c.args.self.now.reftable c.args.clusters c.args.end))) c.from_residual-in_err-first.result c.in_err-first.field-0.0 c.from_residual-in_err-first.ensures
           (inl (c.in_err-first.ensures.sound p there).0);
     }
 
@@ -210,7 +202,7 @@ returns-in_err-reach-clause-sound g c = λ p sound.
     let view = g.S.Storage.view in
     let before = c.search.invariant.sound p sound in
     record {
-      takes = handed_on (TakesRoom view p c.args.file.now c.reserve_room.new.self c.reserve_room.new.file c.args.self.now.reftable) c.from_residual.result c.in_err-reach.field-0.0 c.from_residual.ensures
+      takes = handed_on (AllocatesRoom view p c.args.file.now c.reserve_room.new.self c.reserve_room.new.file c.args.self.now.reftable) c.from_residual.result c.in_err-reach.field-0.0 c.from_residual.ensures
           (leaves_then view p c.args.file.now c.search.file c.reserve_room.new.file c.reserve_room.new.self c.in_err-reach.field-0.0 before.file_step
           (c.in_err-reach.ensures.sound p (is_sound_now view p p c.args.file.now c.search.file c.search.self before)).reaches.1);
       leaks = ap (λ (a : Allocator). a.leaked_clusters) c.reserve_room.ensures.same ∙ c.search.invariant.leaks p sound;
@@ -266,15 +258,6 @@ returns-then-reach-clusters-clause-room g c = record {
   blocks = c.in_ok-reach.ensures.reach.blocks ∙ ap (λ m. opened c.search.self.reftable (counts_per_block c.search.file.header.fields) c.search.first m) c.if-reach-clusters.true
       ∙ ap (λ (h : HeaderView). opened c.search.self.reftable (counts_per_block h.fields) c.search.first (c.in_ok-reach.reach.blocks + c.args.clusters)) c.search.invariant.step.header
       ∙ ap (λ (x : EntryTableView). opened x (counts_per_block c.args.file.now.header.fields) c.search.first (c.in_ok-reach.reach.blocks + c.args.clusters)) c.search.invariant.reftable;
-  noted = noted_of_room c.search.file.header.fields c.args.file.now.header.fields c.search.self.reftable c.args.self.now.reftable c.search.first c.in_ok-reach.reach.taken (c.in_ok-reach.reach.blocks + c.args.clusters) c.reserve_room.new.file.caches.is_changed
-      (ap (λ x. x.fields) c.search.invariant.step.header) c.search.invariant.reftable c.if-reach-clusters.true c.in_ok-reach.ensures.reach.noted;
+  recorded = noted_of_room c.search.file.header.fields c.args.file.now.header.fields c.search.self.reftable c.args.self.now.reftable c.search.first c.in_ok-reach.reach.taken (c.in_ok-reach.reach.blocks + c.args.clusters) c.reserve_room.new.file.caches.is_changed
+      (ap (λ x. x.fields) c.search.invariant.step.header) c.search.invariant.reftable c.if-reach-clusters.true c.in_ok-reach.ensures.reach.recorded;
 }
-
-pub returns-in_err-reach-clause-room : goal.returns-in_err-reach-clause-room
-returns-in_err-reach-clause-room g c = if_no_ok _ c.from_residual.result c.in_err-reach.field-0.0 c.from_residual.ensures
-
-pub returns-in_err-leave_run-clause-room : goal.returns-in_err-leave_run-clause-room
-returns-in_err-leave_run-clause-room g c = if_no_ok _ c.from_residual-in_err-leave_run.result c.in_err-leave_run.field-0.0 c.from_residual-in_err-leave_run.ensures
-
-pub returns-in_err-first-clause-room : goal.returns-in_err-first-clause-room
-returns-in_err-first-clause-room g c = if_no_ok _ c.from_residual-in_err-first.result c.in_err-first.field-0.0 c.from_residual-in_err-first.ensures

@@ -8,8 +8,6 @@ use Rattle.qcow2_alloc.specs.LowestRuns.{KeepsNoFreeBelowHint}
 use Rattle.qcow2_alloc.proofs.AllocationSteps.{handed_on, is_sound_now, allocator_step_cached}
 use Rattle.qcow2_alloc.proofs.Hints.{hint_stays, passed_still}
 use Rattle.qcow2_alloc.proofs.Freeing.{but_both, on_ok, allocator_step_on, frees_then}
-use Rattle.qcow2_alloc.proofs.Outcomes.{on_no_ok}
-use Rattle.std.proofs.Math.Nat.{le_trans}
 use Rattle.qcow2_metadata.specs.Header.{HeaderView}
 use Rattle.qcow2_alloc.proofs.UnalignedLeaks.{leaks_as, leaks_then}
 use Rattle.qcow2_alloc.proofs.Steps.{fails_ok, fails_on, fails_since, free_in_turn, turn_cached, turn_then}
@@ -20,14 +18,14 @@ returns-clause-emptied g c =
     on_ok c.free_kind-2.result (λ left. left ∙ ap (but Data) c.in_ok-free_kind.ensures.left ∙ but_both c.args.file.now.free_list) c.free_kind-2.ensures.left
 
 pub returns-clause-in_order : goal.returns-clause-in_order
-returns-clause-in_order g c = inl (c.free_kind-2.ensures.others ∙ ap (but Data) c.in_ok-free_kind.ensures.left ∙ but_both c.args.file.now.free_list)
+returns-clause-in_order g c = inl (c.free_kind-2.ensures.frees.others ∙ ap (but Data) c.in_ok-free_kind.ensures.left ∙ but_both c.args.file.now.free_list)
 
 pub returns-clause-sound : goal.returns-clause-sound
 returns-clause-sound g c = λ p sound.
     let view = g.S.Storage.view in
     let q : Pending = with_listed p c.args.file.now.free_list in
     let now : Pending = with_listed p c.free_kind.new.file.free_list in
-    let one = (c.in_ok-free_kind.ensures.sound p sound tt).gives in
+    let one = (c.in_ok-free_kind.ensures.frees.sound p sound tt).gives in
     let s = one.file_step.sound in
     let turned : ImageFile g.row.S.Denot = record c.free_kind.new.file { storage = c.rb_depends_on_l2.new.storage; caches = c.rb_depends_on_l2.new.self } in
     let two = allocator_step_cached view now c.free_kind.new.file c.free_kind.new.self c.rb_depends_on_l2.new.storage c.rb_depends_on_l2.new.self (is_sound_now view q now c.args.file.now c.free_kind.new.file c.free_kind.new.self one)
@@ -35,27 +33,27 @@ returns-clause-sound g c = λ p sound.
     let both = allocator_step_on view q now now c.args.file.now c.free_kind.new.file turned c.free_kind.new.self c.free_kind.new.self (λ k some. some) one two in
     record {
       gives = frees_then view q now (with_listed p c.free_kind-2.new.file.free_list) c.args.file.now turned c.free_kind-2.new.file c.free_kind.new.self c.free_kind-2.new.self c.free_kind-2.result (λ k some. some) both
-          ((c.free_kind-2.ensures.sound p (is_sound_now view q now c.args.file.now turned c.free_kind.new.self both) c.in_ok-rb_depends_on_l2.ensures.turns.order).gives);
-      leaks = (c.free_kind-2.ensures.sound p (is_sound_now view q now c.args.file.now turned c.free_kind.new.self both) c.in_ok-rb_depends_on_l2.ensures.turns.order).leaks ∙ (c.free_kind.ensures.sound p sound tt).leaks;
-      hint = λ hint. let still = hint_stays view now c.free_kind.new.file turned c.free_kind.new.self c.free_kind.new.self two (passed_still c.free_kind.new.self) ((c.in_ok-free_kind.ensures.sound p sound tt).hint hint) in
-          (c.free_kind-2.ensures.sound p (is_sound_now view q now c.args.file.now turned c.free_kind.new.self both) c.in_ok-rb_depends_on_l2.ensures.turns.order).hint still;
+          ((c.free_kind-2.ensures.frees.sound p (is_sound_now view q now c.args.file.now turned c.free_kind.new.self both) c.in_ok-rb_depends_on_l2.ensures.turns.order).gives);
+      leaks = (c.free_kind-2.ensures.frees.sound p (is_sound_now view q now c.args.file.now turned c.free_kind.new.self both) c.in_ok-rb_depends_on_l2.ensures.turns.order).leaks ∙ (c.free_kind.ensures.frees.sound p sound tt).leaks;
+      hint = λ hint. let still = hint_stays view now c.free_kind.new.file turned c.free_kind.new.self c.free_kind.new.self two (passed_still c.free_kind.new.self) ((c.in_ok-free_kind.ensures.frees.sound p sound tt).hint hint) in
+          (c.free_kind-2.ensures.frees.sound p (is_sound_now view q now c.args.file.now turned c.free_kind.new.self both) c.in_ok-rb_depends_on_l2.ensures.turns.order).hint still;
     }
 
 pub returns-in_err-free_kind-clause-sound : goal.returns-in_err-free_kind-clause-sound
 returns-in_err-free_kind-clause-sound g c = λ p sound.
     record {
       gives = handed_on (Frees g.S.Storage.view (with_listed p c.args.file.now.free_list) c.args.file.now c.free_kind.new.self c.free_kind.new.file (with_listed p c.free_kind.new.file.free_list))
-          c.from_residual.result c.in_err-free_kind.field-0.0 c.from_residual.ensures ((c.in_err-free_kind.ensures.sound p sound tt).gives);
-      leaks = (c.free_kind.ensures.sound p sound tt).leaks;
-      hint = λ hint. handed_on (KeepsNoFreeBelowHint g.S.Storage.view c.free_kind.new.self c.free_kind.new.file) c.from_residual.result c.in_err-free_kind.field-0.0 c.from_residual.ensures ((c.in_err-free_kind.ensures.sound p sound tt).hint hint);
+          c.from_residual.result c.in_err-free_kind.field-0.0 c.from_residual.ensures ((c.in_err-free_kind.ensures.frees.sound p sound tt).gives);
+      leaks = (c.free_kind.ensures.frees.sound p sound tt).leaks;
+      hint = λ hint. handed_on (KeepsNoFreeBelowHint g.S.Storage.view c.free_kind.new.self c.free_kind.new.file) c.from_residual.result c.in_err-free_kind.field-0.0 c.from_residual.ensures ((c.in_err-free_kind.ensures.frees.sound p sound tt).hint hint);
     }
 
 pub returns-then-is_empty-clause-sound : goal.returns-then-is_empty-clause-sound
 returns-then-is_empty-clause-sound g c = λ p sound.
     record {
-      gives = (c.in_ok-free_kind.ensures.sound p sound tt).gives;
-      leaks = (c.free_kind.ensures.sound p sound tt).leaks;
-      hint = λ hint. (c.in_ok-free_kind.ensures.sound p sound tt).hint hint;
+      gives = (c.in_ok-free_kind.ensures.frees.sound p sound tt).gives;
+      leaks = (c.free_kind.ensures.frees.sound p sound tt).leaks;
+      hint = λ hint. (c.in_ok-free_kind.ensures.frees.sound p sound tt).hint hint;
     }
 
 pub returns-in_err-rb_depends_on_l2-clause-sound : goal.returns-in_err-rb_depends_on_l2-clause-sound
@@ -63,7 +61,7 @@ returns-in_err-rb_depends_on_l2-clause-sound g c = λ p sound.
     let view = g.S.Storage.view in
     let q : Pending = with_listed p c.args.file.now.free_list in
     let now : Pending = with_listed p c.free_kind.new.file.free_list in
-    let one = (c.in_ok-free_kind.ensures.sound p sound tt).gives in
+    let one = (c.in_ok-free_kind.ensures.frees.sound p sound tt).gives in
     let h = c.free_kind.new.file.header.fields in
     let s = one.file_step.sound in
     let turned : ImageFile g.row.S.Denot = record c.free_kind.new.file { storage = c.rb_depends_on_l2.new.storage; caches = c.rb_depends_on_l2.new.self } in
@@ -74,64 +72,37 @@ returns-in_err-rb_depends_on_l2-clause-sound g c = λ p sound.
         c.in_err-rb_depends_on_l2.ensures.faults h now s.honest s.caches s.named_blocks,
         inl (allocator_step_on view q now now c.args.file.now c.free_kind.new.file turned c.free_kind.new.self c.free_kind.new.self (λ k some. some) one two),
       );
-      leaks = (c.free_kind.ensures.sound p sound tt).leaks;
+      leaks = (c.free_kind.ensures.frees.sound p sound tt).leaks;
       hint = λ hint. handed_on (KeepsNoFreeBelowHint view c.free_kind.new.self turned) c.from_residual-in_err-rb_depends_on_l2.result c.in_err-rb_depends_on_l2.field-0.0 c.from_residual-in_err-rb_depends_on_l2.ensures
-          (inl (hint_stays view now c.free_kind.new.file turned c.free_kind.new.self c.free_kind.new.self two (passed_still c.free_kind.new.self) ((c.in_ok-free_kind.ensures.sound p sound tt).hint hint)));
+          (inl (hint_stays view now c.free_kind.new.file turned c.free_kind.new.self c.free_kind.new.self two (passed_still c.free_kind.new.self) ((c.in_ok-free_kind.ensures.frees.sound p sound tt).hint hint)));
     }
 
 pub returns-in_err-free_kind-clause-step : goal.returns-in_err-free_kind-clause-step
-returns-in_err-free_kind-clause-step g c = free_in_turn c.free_kind.ensures.step
+returns-in_err-free_kind-clause-step g c = free_in_turn c.free_kind.ensures.frees.step
 
 pub returns-in_err-free_kind-clause-fails : goal.returns-in_err-free_kind-clause-fails
-returns-in_err-free_kind-clause-fails g c = fails_on c.from_residual.result c.in_err-free_kind.field-0.0 c.from_residual.ensures c.in_err-free_kind.ensures.fails
-
-pub returns-in_err-free_kind-clause-emptied : goal.returns-in_err-free_kind-clause-emptied
-returns-in_err-free_kind-clause-emptied g c = on_no_ok _ c.from_residual.result c.in_err-free_kind.field-0.0 c.from_residual.ensures
+returns-in_err-free_kind-clause-fails g c = fails_on c.from_residual.result c.in_err-free_kind.field-0.0 c.from_residual.ensures c.in_err-free_kind.ensures.frees.fails
 
 pub returns-in_err-rb_depends_on_l2-clause-step : goal.returns-in_err-rb_depends_on_l2-clause-step
-returns-in_err-rb_depends_on_l2-clause-step g c = turn_then (free_in_turn c.free_kind.ensures.step) (turn_cached c.rb_depends_on_l2.ensures.step.marks.pins c.rb_depends_on_l2.ensures.step.marks.notes c.rb_depends_on_l2.ensures.step.header_cluster)
+returns-in_err-rb_depends_on_l2-clause-step g c = turn_then (free_in_turn c.free_kind.ensures.frees.step) (turn_cached c.rb_depends_on_l2.ensures.step.marks.pins c.rb_depends_on_l2.ensures.step.marks.notes c.rb_depends_on_l2.ensures.step.header_cluster)
 
 pub returns-in_err-rb_depends_on_l2-clause-fails : goal.returns-in_err-rb_depends_on_l2-clause-fails
-returns-in_err-rb_depends_on_l2-clause-fails g c = fails_on c.from_residual-in_err-rb_depends_on_l2.result c.in_err-rb_depends_on_l2.field-0.0 c.from_residual-in_err-rb_depends_on_l2.ensures (fails_since c.in_ok-free_kind.ensures.fails.told c.in_err-rb_depends_on_l2.ensures.fails)
-
-pub returns-in_err-rb_depends_on_l2-clause-emptied : goal.returns-in_err-rb_depends_on_l2-clause-emptied
-returns-in_err-rb_depends_on_l2-clause-emptied g c = on_no_ok _ c.from_residual-in_err-rb_depends_on_l2.result c.in_err-rb_depends_on_l2.field-0.0 c.from_residual-in_err-rb_depends_on_l2.ensures
-
-pub returns-in_err-free_kind-clause-grows : goal.returns-in_err-free_kind-clause-grows
-returns-in_err-free_kind-clause-grows g c = c.free_kind.ensures.grows
+returns-in_err-rb_depends_on_l2-clause-fails g c = fails_on c.from_residual-in_err-rb_depends_on_l2.result c.in_err-rb_depends_on_l2.field-0.0 c.from_residual-in_err-rb_depends_on_l2.ensures (fails_since c.in_ok-free_kind.ensures.frees.fails.told c.in_err-rb_depends_on_l2.ensures.fails)
 
 pub returns-then-is_empty-clause-step : goal.returns-then-is_empty-clause-step
-returns-then-is_empty-clause-step g c = free_in_turn c.free_kind.ensures.step
+returns-then-is_empty-clause-step g c = free_in_turn c.free_kind.ensures.frees.step
 
 pub returns-then-is_empty-clause-fails : goal.returns-then-is_empty-clause-fails
-returns-then-is_empty-clause-fails g c = fails_ok c.in_ok-free_kind.ensures.fails.told
-
-pub returns-then-is_empty-clause-grows : goal.returns-then-is_empty-clause-grows
-returns-then-is_empty-clause-grows g c = c.free_kind.ensures.grows
-
-pub returns-in_err-rb_depends_on_l2-clause-grows : goal.returns-in_err-rb_depends_on_l2-clause-grows
-returns-in_err-rb_depends_on_l2-clause-grows g c = c.free_kind.ensures.grows
+returns-then-is_empty-clause-fails g c = fails_ok c.in_ok-free_kind.ensures.frees.fails.told
 
 pub returns-clause-step : goal.returns-clause-step
-returns-clause-step g c = turn_then (turn_then (free_in_turn c.free_kind.ensures.step) (turn_cached c.rb_depends_on_l2.ensures.step.marks.pins c.rb_depends_on_l2.ensures.step.marks.notes c.rb_depends_on_l2.ensures.step.header_cluster)) (free_in_turn c.free_kind-2.ensures.step)
+returns-clause-step g c = turn_then (turn_then (free_in_turn c.free_kind.ensures.frees.step) (turn_cached c.rb_depends_on_l2.ensures.step.marks.pins c.rb_depends_on_l2.ensures.step.marks.notes c.rb_depends_on_l2.ensures.step.header_cluster)) (free_in_turn c.free_kind-2.ensures.frees.step)
 
 pub returns-clause-fails : goal.returns-clause-fails
-returns-clause-fails g c = fails_since (c.in_ok-rb_depends_on_l2.ensures.fails.told ∙ c.in_ok-free_kind.ensures.fails.told) c.free_kind-2.ensures.fails
-
-pub returns-clause-grows : goal.returns-clause-grows
-returns-clause-grows g c = le_trans c.free_kind.ensures.grows c.free_kind-2.ensures.grows
-
-pub returns-in_err-free_kind-clause-unaligned : goal.returns-in_err-free_kind-clause-unaligned
-returns-in_err-free_kind-clause-unaligned g c = c.free_kind.ensures.unaligned
-
-pub returns-then-is_empty-clause-unaligned : goal.returns-then-is_empty-clause-unaligned
-returns-then-is_empty-clause-unaligned g c = c.free_kind.ensures.unaligned
-
-pub returns-in_err-rb_depends_on_l2-clause-unaligned : goal.returns-in_err-rb_depends_on_l2-clause-unaligned
-returns-in_err-rb_depends_on_l2-clause-unaligned g c = c.free_kind.ensures.unaligned
+returns-clause-fails g c = fails_since (c.in_ok-rb_depends_on_l2.ensures.fails.told ∙ c.in_ok-free_kind.ensures.frees.fails.told) c.free_kind-2.ensures.frees.fails
 
 pub returns-clause-unaligned : goal.returns-clause-unaligned
 returns-clause-unaligned g c =
-    leaks_then c.args.file.now.header.fields c.args.self.now.reftable c.args.self.now c.free_kind.new.self c.free_kind-2.new.self c.args.file.now.free_list c.free_kind.new.file.free_list c.free_kind-2.new.file.free_list c.free_kind.ensures.unaligned
+    leaks_then c.args.file.now.header.fields c.args.self.now.reftable c.args.self.now c.free_kind.new.self c.free_kind-2.new.self c.args.file.now.free_list c.free_kind.new.file.free_list c.free_kind-2.new.file.free_list c.free_kind.ensures.frees.unaligned
     (leaks_as c.args.file.now.header.fields c.free_kind.new.file.header.fields c.args.self.now.reftable c.free_kind.new.self.reftable c.free_kind.new.self c.free_kind-2.new.self c.free_kind.new.file.free_list c.free_kind.new.file.free_list c.free_kind-2.new.file.free_list c.free_kind-2.new.file.free_list
-    (ap (λ (x : HeaderView). x.fields) c.free_kind.ensures.step.header) c.free_kind.ensures.step.reftable refl refl c.free_kind-2.ensures.unaligned)
+    (ap (λ (x : HeaderView). x.fields) c.free_kind.ensures.frees.step.header) c.free_kind.ensures.frees.step.reftable refl refl c.free_kind-2.ensures.frees.unaligned)

@@ -11,4 +11,4 @@ invariant-counting g l = record {
 }
 
 abbrev pub decreases-counting : goal.decreases-counting
-decreases-counting g l = l.stop - l.next
+decreases-counting g l = l.last - l.next

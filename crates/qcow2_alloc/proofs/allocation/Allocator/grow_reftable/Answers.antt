@@ -160,5 +160,5 @@ pub returns-in-Ok-clause-grown : goal.returns-in-Ok-clause-grown
 returns-in-Ok-clause-grown g c = record {
   length = subst (IsLeastLength (entry_count c.args.self.now.reftable) c.args.index (entries_per_cluster c.args.file.now.header.fields) (counts_per_block c.args.file.now.header.fields)) (sym c.in-Ok.ensures.entered.entered.count) c.in_ok-table.ensures.length;
   elsewhere = (c.in-Ok.ensures.entered.fills c.in_ok-table.ensures.length.enough.whole).elsewhere;
-  noted = c.in-Ok.ensures.entered.entered.noted;
+  recorded = c.in-Ok.ensures.entered.entered.recorded;
 }

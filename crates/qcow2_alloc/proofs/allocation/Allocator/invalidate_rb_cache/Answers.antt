@@ -3,6 +3,3 @@ use Rattle.qcow2_alloc.proofs.allocation.Allocator.invalidate_rb_cache.Goals as 
 
 pub returns-clause-marks : goal.returns-clause-marks
 returns-clause-marks g c = marks_of_caches c.invalidate_rb.ensures.step.marks c.invalidate_rb.ensures.step.order
-
-pub returns-clause-header_cluster : goal.returns-clause-header_cluster
-returns-clause-header_cluster g c = c.invalidate_rb.ensures.step.header_cluster

@@ -1,6 +1,5 @@
-use Rattle.std.proofs.Common.{◌≡◌, ℕ, ◌+◌, ◌-◌, ◌*◌, ◌/◌, ◌%◌, ◌^◌, ◌<◌, ◌≤◌, inl, inr, refl, sym, ap, subst, ◌∙◌, arith}
+use Rattle.std.proofs.Common.{◌≡◌, ℕ, ◌+◌, ◌-◌, ◌*◌, ◌/◌, ◌%◌, ◌^◌, ◌<◌, ◌≤◌, inl, inr, refl, sym, ap, ◌∙◌, arith}
 use Rattle.std.proofs.lemmas.Nat.{div-mul-add, mod-mul-add}
-use Rattle.qcow2_alloc.specs.Allocation.{HasNone}
 use Rattle.qcow2_alloc.specs.ImageFile.{contents_in}
 use Rattle.qcow2_alloc.specs.LowestRuns.{KeepsNoFreeBelowHint}
 use Rattle.qcow2_alloc.specs.UsedCounts.{IsFoundUsed, StaysSound}
@@ -20,9 +19,6 @@ in_range q per first end k begin short low high =
       sym (ap (λ n. n % per) is ∙ mod-mul-add q per (k - first) within),
     )
 
-pub returns-in_err-block-clause-step : goal.returns-in_err-block-clause-step
-returns-in_err-block-clause-step g c = c.load_block.ensures.step
-
 pub returns-in_err-block-clause-fails : goal.returns-in_err-block-clause-fails
 returns-in_err-block-clause-fails g c = fails_on c.from_residual.result c.in_err-block.field-0.0 c.from_residual.ensures c.in_err-block.ensures.fails
 
@@ -34,9 +30,6 @@ pub returns-in_err-block-clause-hint : goal.returns-in_err-block-clause-hint
 returns-in_err-block-clause-hint g c = λ p sound hint.
     handed_on (KeepsNoFreeBelowHint g.S.Storage.view c.args.self.now c.load_block.new.file) c.from_residual.result c.in_err-block.field-0.0 c.from_residual.ensures
     (hint_refused g.S.Storage.view p c.args.file.now c.load_block.new.file c.args.self.now c.args.self.now c.in_err-block.field-0.0 (passed_still c.args.self.now) (c.in_err-block.ensures.sound p sound).1 hint)
-
-pub returns-in_default-clause-step : goal.returns-in_default-clause-step
-returns-in_default-clause-step g c = c.load_block.ensures.step
 
 pub returns-in_default-clause-fails : goal.returns-in_default-clause-fails
 returns-in_default-clause-fails g c = fails_ok c.in_ok-block.ensures.fails.told
@@ -70,17 +63,8 @@ returns-clause-hint g c = λ p sound hint.
     (hint_kept view file c.args.self.now c.read_range.new.self (IsFoundUsed c.args.self.now file.caches c.in-Some.block c.range_around-first.result.0 c.range_around-first.result.1) c.read_range.ensures.kept
     (λ k found. elim found [
       | inl named ↦ stays k (inr (inl named))
-      | inr tells ↦
-          let place = in_range (c.args.cluster / 2 ^ bits) (2 ^ bits) c.range_around-first.result.0 c.range_around-first.result.1 k around.first around.end tells.0 tells.1 in
+      | inr reports ↦
+          let place = in_range (c.args.cluster / 2 ^ bits) (2 ^ bits) c.range_around-first.result.0 c.range_around-first.result.1 k around.first around.end reports.0 reports.1 in
           let at = counted_at view file c.args.file.now.header.fields (ap (λ x. x.fields) c.load_block.ensures.step.header) k _ c.in-Some.block (k - c.range_around-first.result.0) bits l.1 c.rb_bits-bits.ensures.counts place.0 place.1 in
-          tells.2 file.header.fields p (contents_in view file) k (k - c.range_around-first.result.0) l.0.file_step.sound.caches at (omega arith) (omega arith)
+          reports.2 file.header.fields p (contents_in view file) k (k - c.range_around-first.result.0) l.0.file_step.sound.caches at (omega arith) (omega arith)
     ]) stays)
-
-pub returns-clause-none : goal.returns-clause-none
-returns-clause-none g c = λ none. rw c.read_range.ensures.same (c.in_ok-block.ensures.none (subst (λ n. HasNone c.args.self.now.reftable (c.args.cluster / n)) c.rb_bits-bits.ensures.counts none)).1
-
-pub returns-in_err-block-clause-none : goal.returns-in_err-block-clause-none
-returns-in_err-block-clause-none g c = λ none. (c.in_err-block.ensures.none (subst (λ n. HasNone c.args.self.now.reftable (c.args.cluster / n)) c.rb_bits-bits.ensures.counts none)).1
-
-pub returns-in_default-clause-none : goal.returns-in_default-clause-none
-returns-in_default-clause-none g c = λ none. (c.in_ok-block.ensures.none (subst (λ n. HasNone c.args.self.now.reftable (c.args.cluster / n)) c.rb_bits-bits.ensures.counts none)).1

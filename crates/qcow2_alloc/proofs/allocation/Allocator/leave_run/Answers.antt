@@ -9,7 +9,7 @@ use Rattle.qcow2_alloc.specs.Rooms.{lacks}
 use Rattle.qcow2_alloc.proofs.AllocationSteps.{handed_on, of_equal}
 use Rattle.qcow2_alloc.proofs.Hints.{not_in_run, search_as, search_same, search_then, taken_pending, used_stays}
 use Rattle.qcow2_alloc.proofs.Rooms.{run_past, left_none, left_one, left_fault, owed_now}
-use Rattle.qcow2_alloc.proofs.allocation.Allocator.leave_run.Goals.{then-not-lacks_block+in_ok-lower, else-not-lacks_block}
+use Rattle.qcow2_alloc.proofs.allocation.Allocator.leave_run.Goals.{then-not-lacks_block+in_ok-decrement_or_leak, else-not-lacks_block}
 use Rattle.qcow2_alloc.specs.Faults.{faults_of}
 use Rattle.qcow2_alloc.proofs.Steps.{fails_ok, fails_on, fails_since, table_step_none, table_step_then, table_step_as}
 use Rattle.qcow2_alloc.proofs.Outcomes.{on_no_ok}
@@ -36,28 +36,28 @@ leaving-preserved g c =
     let at = c.leaving.cluster in
     let end = c.args.first + c.args.n in
     elim c.if-not-lacks_block.branch [
-      | then-not-lacks_block+in_ok-lower w ↦ record {
-        faults = subst (λ f. faults_of g.S.Storage.view f.storage ≡ faults_of g.S.Storage.view c.args.file.now.storage) (sym w.file-is) (w.in_ok-lower.ensures.fails.told ∙ c.leaving.invariant.faults);
-        step = table_step_as (ap (λ a. a.reftable) w.self-is) w.file-is (table_step_then c.leaving.invariant.step w.lower.ensures.step);
-        reftable = ap (λ a. a.reftable) w.self-is ∙ w.lower.ensures.reftable ∙ c.leaving.invariant.reftable;
-        first = search_as c.args.self.now w.lower.new.self c.if-not-lacks_block.self w.self-is
-            (search_then c.args.self.now c.leaving.self w.lower.new.self c.leaving.invariant.first (w.lower.ensures.first (let low = c.requires.free in let is = c.leaving.invariant.first.first in let le = c.leaving.auto.cluster in omega (arith, low, is, le))));
+      | then-not-lacks_block+in_ok-decrement_or_leak w ↦ record {
+        faults = subst (λ f. faults_of g.S.Storage.view f.storage ≡ faults_of g.S.Storage.view c.args.file.now.storage) (sym w.file-is) (w.in_ok-decrement_or_leak.ensures.fails.told ∙ c.leaving.invariant.faults);
+        step = table_step_as (ap (λ a. a.reftable) w.self-is) w.file-is (table_step_then c.leaving.invariant.step w.decrement_or_leak.ensures.step);
+        reftable = ap (λ a. a.reftable) w.self-is ∙ w.decrement_or_leak.ensures.reftable ∙ c.leaving.invariant.reftable;
+        first = search_as c.args.self.now w.decrement_or_leak.new.self c.if-not-lacks_block.self w.self-is
+            (search_then c.args.self.now c.leaving.self w.decrement_or_leak.new.self c.leaving.invariant.first (w.decrement_or_leak.ensures.first (let low = c.requires.free in let is = c.leaving.invariant.first.first in let le = c.leaving.auto.cluster in omega (arith, low, is, le))));
         counts = c.leaving.invariant.counts;
         sound = λ p start same b.
             let before = c.leaving.invariant.sound p start same b in
             let has : lacks t (at / counts_per_block start.header.fields) ≡ false =
             ap (λ x. lacks t (at / counts_per_block x.fields)) same ∙ ap (λ n. lacks t (at / n)) c.leaving.invariant.counts ∙ ap (λ x. lacks x (at / 2 ^ c.rb_bits-bits.result)) (sym c.leaving.invariant.reftable)
             ∙ sym c.lacks_block.ensures ∙ w.if-not-lacks_block.true in
-            let low = (w.in_ok-lower.ensures.sound (with_run p start.header.fields t (at + 1) (end - (at + 1))) (Taken false) (owed_now view p t at end start c.leaving.file w.lower.new.file c.leaving.self w.lower.new.self c.leaving-test.true has before) tt).gives in
-            of_equal (λ a f. InternalAllocatorStep view p start a f (with_run p start.header.fields t (at + 1) (end - (at + 1)))) c.if-not-lacks_block.self w.lower.new.self c.if-not-lacks_block.file w.lower.new.file w.self-is w.file-is
-            (left_one view p t at end start c.leaving.file w.lower.new.file c.leaving.self w.lower.new.self c.leaving-test.true has before low);
+            let low = (w.in_ok-decrement_or_leak.ensures.sound (with_run p start.header.fields t (at + 1) (end - (at + 1))) (Taken false) (owed_now view p t at end start c.leaving.file w.decrement_or_leak.new.file c.leaving.self w.decrement_or_leak.new.self c.leaving-test.true has before) tt).gives in
+            of_equal (λ a f. InternalAllocatorStep view p start a f (with_run p start.header.fields t (at + 1) (end - (at + 1)))) c.if-not-lacks_block.self w.decrement_or_leak.new.self c.if-not-lacks_block.file w.decrement_or_leak.new.file w.self-is w.file-is
+            (left_one view p t at end start c.leaving.file w.decrement_or_leak.new.file c.leaving.self w.decrement_or_leak.new.self c.leaving-test.true has before low);
         leaks = λ p start same b.
             let before = c.leaving.invariant.sound p start same b in
             let has : lacks t (at / counts_per_block start.header.fields) ≡ false =
             ap (λ x. lacks t (at / counts_per_block x.fields)) same ∙ ap (λ n. lacks t (at / n)) c.leaving.invariant.counts ∙ ap (λ x. lacks x (at / 2 ^ c.rb_bits-bits.result)) (sym c.leaving.invariant.reftable)
             ∙ sym c.lacks_block.ensures ∙ w.if-not-lacks_block.true in
             ap (λ a. a.leaked_clusters) w.self-is
-            ∙ (w.lower.ensures.sound (with_run p start.header.fields t (at + 1) (end - (at + 1))) (Taken false) (owed_now view p t at end start c.leaving.file w.lower.new.file c.leaving.self w.lower.new.self c.leaving-test.true has before) tt).leaks
+            ∙ (w.decrement_or_leak.ensures.sound (with_run p start.header.fields t (at + 1) (end - (at + 1))) (Taken false) (owed_now view p t at end start c.leaving.file w.decrement_or_leak.new.file c.leaving.self w.decrement_or_leak.new.self c.leaving-test.true has before) tt).leaks
             ∙ c.leaving.invariant.leaks p start same b;
         kept = λ p start same b k none used.
             let before = c.leaving.invariant.sound p start same b in
@@ -65,11 +65,11 @@ leaving-preserved g c =
             ap (λ x. lacks t (at / counts_per_block x.fields)) same ∙ ap (λ n. lacks t (at / n)) c.leaving.invariant.counts ∙ ap (λ x. lacks x (at / 2 ^ c.rb_bits-bits.result)) (sym c.leaving.invariant.reftable)
             ∙ sym c.lacks_block.ensures ∙ w.if-not-lacks_block.true in
             let q : Pending = with_run p start.header.fields t (at + 1) (end - (at + 1)) in
-            let low = (w.in_ok-lower.ensures.sound q (Taken false) (owed_now view p t at end start c.leaving.file w.lower.new.file c.leaving.self w.lower.new.self c.leaving-test.true has before) tt).gives in
+            let low = (w.in_ok-decrement_or_leak.ensures.sound q (Taken false) (owed_now view p t at end start c.leaving.file w.decrement_or_leak.new.file c.leaving.self w.decrement_or_leak.new.self c.leaving-test.true has before) tt).gives in
             let other = not_in_run c.args.first c.args.n at k c.leaving.auto.cluster c.leaving-test.true none in
             let pending = taken_pending false q (one_at at) k in
             subst (λ f. IsUsed view f k) (sym w.file-is)
-            (used_stays view (taken_as false q (one_at at)) q c.leaving.file w.lower.new.file w.lower.new.self k low (omega (arith, other, pending)) (c.leaving.invariant.kept p start same b k none used));
+            (used_stays view (taken_as false q (one_at at)) q c.leaving.file w.decrement_or_leak.new.file w.decrement_or_leak.new.self k low (omega (arith, other, pending)) (c.leaving.invariant.kept p start same b k none used));
       }
       | else-not-lacks_block w ↦ record {
         faults = subst (λ f. faults_of g.S.Storage.view f.storage ≡ faults_of g.S.Storage.view c.args.file.now.storage) (sym w.file-is) c.leaving.invariant.faults;
@@ -89,29 +89,20 @@ leaving-preserved g c =
       }
     ]
 
-pub returns-in_err-lower-clause-step : goal.returns-in_err-lower-clause-step
-returns-in_err-lower-clause-step g c = table_step_then c.leaving.invariant.step c.lower.ensures.step
+pub returns-in_err-decrement_or_leak-clause-step : goal.returns-in_err-decrement_or_leak-clause-step
+returns-in_err-decrement_or_leak-clause-step g c = table_step_then c.leaving.invariant.step c.decrement_or_leak.ensures.step
 
-pub returns-in_err-lower-clause-fails : goal.returns-in_err-lower-clause-fails
-returns-in_err-lower-clause-fails g c = fails_on c.from_residual.result c.in_err-lower.field-0.0 c.from_residual.ensures (fails_since c.leaving.invariant.faults c.in_err-lower.ensures.fails)
+pub returns-in_err-decrement_or_leak-clause-fails : goal.returns-in_err-decrement_or_leak-clause-fails
+returns-in_err-decrement_or_leak-clause-fails g c = fails_on c.from_residual.result c.in_err-decrement_or_leak.field-0.0 c.from_residual.ensures (fails_since c.leaving.invariant.faults c.in_err-decrement_or_leak.ensures.fails)
 
-pub returns-in_err-lower-clause-reftable : goal.returns-in_err-lower-clause-reftable
-returns-in_err-lower-clause-reftable g c = c.lower.ensures.reftable ∙ c.leaving.invariant.reftable
-
-pub returns-clause-step : goal.returns-clause-step
-returns-clause-step g c = c.leaving.invariant.step
+pub returns-in_err-decrement_or_leak-clause-reftable : goal.returns-in_err-decrement_or_leak-clause-reftable
+returns-in_err-decrement_or_leak-clause-reftable g c = c.decrement_or_leak.ensures.reftable ∙ c.leaving.invariant.reftable
 
 pub returns-clause-fails : goal.returns-clause-fails
 returns-clause-fails g c = fails_ok c.leaving.invariant.faults
 
-pub returns-clause-reftable : goal.returns-clause-reftable
-returns-clause-reftable g c = c.leaving.invariant.reftable
-
-pub returns-clause-first : goal.returns-clause-first
-returns-clause-first g c = c.leaving.invariant.first
-
-pub returns-in_err-lower-clause-sound : goal.returns-in_err-lower-clause-sound
-returns-in_err-lower-clause-sound g c = λ p start same b.
+pub returns-in_err-decrement_or_leak-clause-sound : goal.returns-in_err-decrement_or_leak-clause-sound
+returns-in_err-decrement_or_leak-clause-sound g c = λ p start same b.
     let view = g.S.Storage.view in
     let t = c.args.self.now.reftable in
     let at = c.leaving.cluster in
@@ -120,24 +111,24 @@ returns-in_err-lower-clause-sound g c = λ p start same b.
     let has : lacks t (at / counts_per_block start.header.fields) ≡ false = ap (λ x. lacks t (at / counts_per_block x.fields)) same ∙ ap (λ n. lacks t (at / n)) c.leaving.invariant.counts ∙ ap (λ x. lacks x (at / 2 ^ c.rb_bits-bits.result)) (sym c.leaving.invariant.reftable)
     ∙ sym c.lacks_block.ensures ∙ c.if-not-lacks_block.true in
     record {
-      gives = λ noted. let low = (c.in_err-lower.ensures.sound (with_run p start.header.fields t (at + 1) (end - (at + 1))) (Taken false) (owed_now view p t at end start c.leaving.file c.lower.new.file c.leaving.self c.lower.new.self c.leaving-test.true has before) tt).gives in
-          handed_on (GivesBack view p start c.lower.new.self c.lower.new.file p) c.from_residual.result c.in_err-lower.field-0.0 c.from_residual.ensures
-          (left_fault view p t at end start c.leaving.file c.lower.new.file c.leaving.self c.lower.new.self c.leaving-test.true has before c.args.first c.args.n c.in_err-lower.field-0.0 c.leaving.auto.cluster c.leaving-test.true
-          (elim noted [ inl none ↦ inl none | inr changed ↦ inr (c.lower.ensures.step.marks.pins.changes.noted (c.leaving.invariant.step.marks.pins.changes.noted changed)) ]) low);
-      leaks = (c.lower.ensures.sound (with_run p start.header.fields t (at + 1) (end - (at + 1))) (Taken false) (owed_now view p t at end start c.leaving.file c.lower.new.file c.leaving.self c.lower.new.self c.leaving-test.true has before) tt).leaks
+      gives = λ recorded. let low = (c.in_err-decrement_or_leak.ensures.sound (with_run p start.header.fields t (at + 1) (end - (at + 1))) (Taken false) (owed_now view p t at end start c.leaving.file c.decrement_or_leak.new.file c.leaving.self c.decrement_or_leak.new.self c.leaving-test.true has before) tt).gives in
+          handed_on (GivesBack view p start c.decrement_or_leak.new.self c.decrement_or_leak.new.file p) c.from_residual.result c.in_err-decrement_or_leak.field-0.0 c.from_residual.ensures
+          (left_fault view p t at end start c.leaving.file c.decrement_or_leak.new.file c.leaving.self c.decrement_or_leak.new.self c.leaving-test.true has before c.args.first c.args.n c.in_err-decrement_or_leak.field-0.0 c.leaving.auto.cluster c.leaving-test.true
+          (elim recorded [ inl none ↦ inl none | inr changed ↦ inr (c.decrement_or_leak.ensures.step.marks.pins.changes.recorded (c.leaving.invariant.step.marks.pins.changes.recorded changed)) ]) low);
+      leaks = (c.decrement_or_leak.ensures.sound (with_run p start.header.fields t (at + 1) (end - (at + 1))) (Taken false) (owed_now view p t at end start c.leaving.file c.decrement_or_leak.new.file c.leaving.self c.decrement_or_leak.new.self c.leaving-test.true has before) tt).leaks
           ∙ c.leaving.invariant.leaks p start same b;
-      kept = on_no_ok _ c.from_residual.result c.in_err-lower.field-0.0 c.from_residual.ensures;
+      kept = on_no_ok _ c.from_residual.result c.in_err-decrement_or_leak.field-0.0 c.from_residual.ensures;
     }
 
 pub returns-clause-sound : goal.returns-clause-sound
 returns-clause-sound g c = λ p start same b.
     record {
-      gives = λ noted. subst (λ (r : Pending). InternalAllocatorStep g.S.Storage.view p start c.leaving.self c.leaving.file r)
+      gives = λ recorded. subst (λ (r : Pending). InternalAllocatorStep g.S.Storage.view p start c.leaving.self c.leaving.file r)
           (run_past start.header.fields c.args.self.now.reftable p c.leaving.cluster (c.args.first + c.args.n) (let past = c.leaving-test.false in omega arith)) (c.leaving.invariant.sound p start same b);
       leaks = c.leaving.invariant.leaks p start same b;
       kept = c.leaving.invariant.kept p start same b;
     }
 
-pub returns-in_err-lower-clause-first : goal.returns-in_err-lower-clause-first
-returns-in_err-lower-clause-first g c =
-    search_then c.args.self.now c.leaving.self c.lower.new.self c.leaving.invariant.first (c.lower.ensures.first (let low = c.requires.free in let is = c.leaving.invariant.first.first in let le = c.leaving.auto.cluster in omega (arith, low, is, le)))
+pub returns-in_err-decrement_or_leak-clause-first : goal.returns-in_err-decrement_or_leak-clause-first
+returns-in_err-decrement_or_leak-clause-first g c =
+    search_then c.args.self.now c.leaving.self c.decrement_or_leak.new.self c.leaving.invariant.first (c.decrement_or_leak.ensures.first (let low = c.requires.free in let is = c.leaving.invariant.first.first in let le = c.leaving.auto.cluster in omega (arith, low, is, le)))

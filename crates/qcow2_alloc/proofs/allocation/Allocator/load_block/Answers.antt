@@ -2,6 +2,8 @@ use Rattle.std.proofs.Common.{refl, inl, ◌^◌}
 use Rattle.qcow2_alloc.specs.Allocation.{LoadsBlock}
 use Rattle.qcow2_alloc.proofs.FileSteps.{file_step_cached, reftable_cached}
 use Rattle.qcow2_alloc.proofs.AllocationSteps.{handed_on, place_fits, stands}
+use Rattle.qcow2_alloc.specs.ImageFile.{contents_in}
+use Rattle.qcow2_alloc.proofs.KeptTables.Places.{named_have_places}
 use Rattle.qcow2_alloc.proofs.AlignedBlocks.{not_off}
 use Rattle.qcow2_alloc.proofs.SparedHeaders.{not_first}
 use Rattle.qcow2_alloc.proofs.Steps.{fails_ok, fails_on, table_step_cached, table_step_none}
@@ -13,7 +15,7 @@ returns-in_err-rb_get_or_insert-clause-sound g c = λ p sound.
     c.from_residual.result c.in_err-rb_get_or_insert.field-0.0 c.from_residual.ensures (
       c.in_err-rb_get_or_insert.ensures.faults sound.sound.room c.args.file.now.header.fields
           (place_fits g.S.Storage.view _ c.in-Some.offset c.in-Some-checked_cluster.cluster c.cluster_bits.result c.args.file.now.header.fields.cluster_bits c.in-Some.ensures.offset c.in-Some-checked_cluster.ensures.cluster c.cluster_bits.ensures.value)
-          p sound.sound.honest sound.sound.caches sound.sound.named_blocks,
+          p sound.sound.honest sound.sound.caches (named_have_places c.args.file.now.header.fields p c.args.file.now.caches (contents_in g.S.Storage.view c.args.file.now) sound.sound.caches sound.sound.named_blocks),
       inl (file_step_cached g.S.Storage.view p c.args.file.now c.rb_get_or_insert.new.storage c.rb_get_or_insert.new.self sound.sound (c.rb_get_or_insert.ensures.sound.keeps c.args.file.now.header.fields p sound.sound.honest sound.sound.caches) c.rb_get_or_insert.ensures.step.marks.pins, reftable_cached g.S.Storage.view p c.args.file.now c.rb_get_or_insert.new.storage c.rb_get_or_insert.new.self sound.sound (c.rb_get_or_insert.ensures.sound.keeps c.args.file.now.header.fields p sound.sound.honest sound.sound.caches) c.args.self.now.reftable sound.reftable),
     )
 

@@ -8,7 +8,6 @@ use Rattle.qcow2_alloc.specs.declared.image_file.ImageFile.{ImageFile}
 use Rattle.qcow2_alloc.proofs.AllocationSteps.{handed_on, fault_of_storage}
 use Rattle.qcow2_alloc.proofs.NamedReftables.{within_limit, interrupted_named, allocator_step_named, keeps_used}
 use Rattle.qcow2_alloc.proofs.ListedAfter.{header_same}
-use Rattle.qcow2_alloc.proofs.Outcomes.{on_no_ok, on_err}
 use Rattle.qcow2_alloc.proofs.KeptNotes.{note_kept}
 use Rattle.qcow2_alloc.proofs.SparedHeaders.{spares_none, spares_pointer, placed_above}
 use Rattle.qcow2_alloc.specs.SparedHeaders.{PreservesHeaderButPointer}
@@ -33,12 +32,12 @@ returns-in_err-write_reftable_pointer-clause-sound g c = λ p first blocks clust
     let broke = interrupted_named g.S.Storage.view p first blocks clusters c.args.file.now c.args.self.now c.args.table c.in-Some.cluster c.offset-offset.result c.value-clusters.result
     sound ready c.in-Some.ensures.is_table (sym c.in-Some.ensures.value) (c.offset-offset.ensures ∙ ap (λ b. c.in-Some.cluster * 2 ^ b) c.cluster_bits.ensures.value) (c.value-clusters.ensures ∙ c.cluster_count.ensures)
     c.set_reftable.new.self c.write_reftable_pointer.new.self (storage_of c.set_write_kind.new.self) c.write_reftable_pointer.result c.in_ok-set_reftable.ensures.ok
-    c.set_write_kind.ensures.storage c.write_reftable_pointer.ensures.written c.write_reftable_pointer.ensures.calls
-    (note_kept c.set_write_kind.new.self c.write_reftable_pointer.new.self c.write_reftable_pointer.result c.write_reftable_pointer.ensures.noted (c.set_write_kind.ensures.changed.note ∙ c.requires.noted)) (of_storage c.in_err-write_reftable_pointer.field-0.0) (fault_of_storage c.in_err-write_reftable_pointer.field-0.0) in
+    c.set_write_kind.ensures.storage c.write_reftable_pointer.ensures.writes.written c.write_reftable_pointer.ensures.writes.calls
+    (note_kept c.set_write_kind.new.self c.write_reftable_pointer.new.self c.write_reftable_pointer.result c.write_reftable_pointer.ensures.writes.recorded (c.set_write_kind.ensures.changed.note ∙ c.requires.recorded)) (of_storage c.in_err-write_reftable_pointer.field-0.0) (fault_of_storage c.in_err-write_reftable_pointer.field-0.0) in
     record {
       names = handed_on (NamesReftable view (with_run p c.args.file.now.header.fields c.args.self.now.reftable first (blocks + clusters)) p c.args.file.now c.args.self.now new)
           c.from_residual-in_err-write_reftable_pointer.result (of_storage e) c.from_residual-in_err-write_reftable_pointer.ensures (fault_of_storage e, inr broke);
-      uses = handed_on (KeepsUsed view c.args.file.now new) c.from_residual-in_err-write_reftable_pointer.result (of_storage e) c.from_residual-in_err-write_reftable_pointer.ensures (inr (broke.fault, broke.noted));
+      uses = handed_on (KeepsUsed view c.args.file.now new) c.from_residual-in_err-write_reftable_pointer.result (of_storage e) c.from_residual-in_err-write_reftable_pointer.ensures (inr (broke.fault, broke.recorded));
     }
 
 pub returns-clause-sound : goal.returns-clause-sound
@@ -47,12 +46,12 @@ returns-clause-sound g c = λ p first blocks clusters sound ready.
       names = allocator_step_named g.S.Storage.view p first blocks clusters c.args.file.now c.args.self.now c.args.table c.in-Some.cluster c.offset-offset.result c.value-clusters.result
           sound ready c.in-Some.ensures.is_table (sym c.in-Some.ensures.value) (c.offset-offset.ensures ∙ ap (λ b. c.in-Some.cluster * 2 ^ b) c.cluster_bits.ensures.value) (c.value-clusters.ensures ∙ c.cluster_count.ensures)
           c.set_reftable.new.self c.write_reftable_pointer.new.self (storage_of c.set_write_kind.new.self) c.write_reftable_pointer.result c.in_ok-set_reftable.ensures.ok
-          c.set_write_kind.ensures.storage c.write_reftable_pointer.ensures.written c.write_reftable_pointer.ensures.calls
+          c.set_write_kind.ensures.storage c.write_reftable_pointer.ensures.writes.written c.write_reftable_pointer.ensures.writes.calls
           c.in_ok-write_reftable_pointer.field-0 c.in_ok-write_reftable_pointer.was;
       uses = keeps_used g.S.Storage.view p first blocks clusters c.args.file.now c.args.self.now c.args.table c.in-Some.cluster c.offset-offset.result c.value-clusters.result
           sound ready c.in-Some.ensures.is_table (sym c.in-Some.ensures.value) (c.offset-offset.ensures ∙ ap (λ b. c.in-Some.cluster * 2 ^ b) c.cluster_bits.ensures.value) (c.value-clusters.ensures ∙ c.cluster_count.ensures)
           c.set_reftable.new.self c.write_reftable_pointer.new.self (storage_of c.set_write_kind.new.self) c.write_reftable_pointer.result c.in_ok-set_reftable.ensures.ok
-          c.set_write_kind.ensures.storage c.write_reftable_pointer.ensures.written c.write_reftable_pointer.ensures.calls
+          c.set_write_kind.ensures.storage c.write_reftable_pointer.ensures.writes.written c.write_reftable_pointer.ensures.writes.calls
           c.in_ok-write_reftable_pointer.field-0 c.in_ok-write_reftable_pointer.was;
     }
 
@@ -63,9 +62,6 @@ returns-in_default-clause-step g c = record {
   marks = kept_marks_none;
   header_cluster = λ is. spares_none;
 }
-
-pub returns-in_default-clause-kept : goal.returns-in_default-clause-kept
-returns-in_default-clause-kept g c = refl
 
 pub returns-in_default-clause-fails : goal.returns-in_default-clause-fails
 returns-in_default-clause-fails g c = fails_by I.Limit limit_other refl tt
@@ -78,39 +74,21 @@ returns-in_err-set_reftable-clause-step g c = record {
   header_cluster = λ is. subst (λ (x : HeaderView). PreservesHeaderButPointer g.S.Storage.view c.args.self.now.reftable c.args.file.now c.args.self.now.reftable (record c.args.file.now { header = x })) (sym c.in_err-set_reftable.ensures.same) spares_none;
 }
 
-pub returns-in_err-set_reftable-clause-kept : goal.returns-in_err-set_reftable-clause-kept
-returns-in_err-set_reftable-clause-kept g c = on_err _ c.from_residual.result refl
-
-pub returns-in_err-set_reftable-clause-table : goal.returns-in_err-set_reftable-clause-table
-returns-in_err-set_reftable-clause-table g c = on_no_ok _ c.from_residual.result (of_metadata c.in_err-set_reftable.field-0.0) c.from_residual.ensures
-
 pub returns-in_err-write_reftable_pointer-clause-step : goal.returns-in_err-write_reftable_pointer-clause-step
 returns-in_err-write_reftable_pointer-clause-step g c = record {
   header = subst (λ (x : HeaderView). KeepsHeader c.args.file.now.header x) (sym c.in_ok-set_reftable.ensures.ok) refl;
   list = refl;
-  marks = (marks_of_storage refl (told_kept c.args.file.now.storage c.set_write_kind.new.self c.write_reftable_pointer.new.self c.write_reftable_pointer.result c.set_write_kind.ensures.storage c.set_write_kind.ensures.changed _ c.write_reftable_pointer.ensures.written c.write_reftable_pointer.ensures.calls c.write_reftable_pointer.ensures.noted));
-  header_cluster = λ is. spares_pointer g.S.Storage.view c.args.self.now.reftable c.args.file.now c.set_reftable.new.self c.args.file.now.caches (storage_of c.set_write_kind.new.self) c.write_reftable_pointer.new.self _ _ c.write_reftable_pointer.result c.in_ok-set_reftable.ensures.ok (λ bits are. are) c.set_write_kind.ensures.storage c.write_reftable_pointer.ensures.written c.write_reftable_pointer.ensures.calls c.args.self.now.reftable (λ n stands. (stands.reftable_bits, stands.elsewhere));
+  marks = (marks_of_storage refl (told_kept c.args.file.now.storage c.set_write_kind.new.self c.write_reftable_pointer.new.self c.write_reftable_pointer.result c.set_write_kind.ensures.storage c.set_write_kind.ensures.changed _ c.write_reftable_pointer.ensures.writes.written c.write_reftable_pointer.ensures.writes.calls c.write_reftable_pointer.ensures.writes.recorded));
+  header_cluster = λ is. spares_pointer g.S.Storage.view c.args.self.now.reftable c.args.file.now c.set_reftable.new.self c.args.file.now.caches (storage_of c.set_write_kind.new.self) c.write_reftable_pointer.new.self _ _ c.write_reftable_pointer.result c.in_ok-set_reftable.ensures.ok (λ bits are. are) c.set_write_kind.ensures.storage c.write_reftable_pointer.ensures.writes.written c.write_reftable_pointer.ensures.writes.calls c.args.self.now.reftable (λ n stands. (stands.reftable_bits, stands.elsewhere));
 }
-
-pub returns-in_err-write_reftable_pointer-clause-kept : goal.returns-in_err-write_reftable_pointer-clause-kept
-returns-in_err-write_reftable_pointer-clause-kept g c = on_err _ c.from_residual-in_err-write_reftable_pointer.result refl
-
-pub returns-in_err-write_reftable_pointer-clause-table : goal.returns-in_err-write_reftable_pointer-clause-table
-returns-in_err-write_reftable_pointer-clause-table g c = on_no_ok _ c.from_residual-in_err-write_reftable_pointer.result (of_storage c.in_err-write_reftable_pointer.field-0.0) c.from_residual-in_err-write_reftable_pointer.ensures
 
 pub returns-clause-step : goal.returns-clause-step
 returns-clause-step g c = record {
   header = subst (λ (x : HeaderView). KeepsHeader c.args.file.now.header x) (sym c.in_ok-set_reftable.ensures.ok) refl;
   list = refl;
-  marks = (marks_of_storage refl (told_kept c.args.file.now.storage c.set_write_kind.new.self c.write_reftable_pointer.new.self c.write_reftable_pointer.result c.set_write_kind.ensures.storage c.set_write_kind.ensures.changed _ c.write_reftable_pointer.ensures.written c.write_reftable_pointer.ensures.calls c.write_reftable_pointer.ensures.noted));
-  header_cluster = λ is. spares_pointer g.S.Storage.view c.args.self.now.reftable c.args.file.now c.set_reftable.new.self c.args.file.now.caches (storage_of c.set_write_kind.new.self) c.write_reftable_pointer.new.self _ _ c.write_reftable_pointer.result c.in_ok-set_reftable.ensures.ok (λ bits are. are) c.set_write_kind.ensures.storage c.write_reftable_pointer.ensures.written c.write_reftable_pointer.ensures.calls c.args.table (λ n stands. (is.bits ∙ stands.header, λ has. placed_above c.args.table.cluster is.elsewhere));
+  marks = (marks_of_storage refl (told_kept c.args.file.now.storage c.set_write_kind.new.self c.write_reftable_pointer.new.self c.write_reftable_pointer.result c.set_write_kind.ensures.storage c.set_write_kind.ensures.changed _ c.write_reftable_pointer.ensures.writes.written c.write_reftable_pointer.ensures.writes.calls c.write_reftable_pointer.ensures.writes.recorded));
+  header_cluster = λ is. spares_pointer g.S.Storage.view c.args.self.now.reftable c.args.file.now c.set_reftable.new.self c.args.file.now.caches (storage_of c.set_write_kind.new.self) c.write_reftable_pointer.new.self _ _ c.write_reftable_pointer.result c.in_ok-set_reftable.ensures.ok (λ bits are. are) c.set_write_kind.ensures.storage c.write_reftable_pointer.ensures.writes.written c.write_reftable_pointer.ensures.writes.calls c.args.table (λ n stands. (is.bits ∙ stands.header, λ has. placed_above c.args.table.cluster is.elsewhere));
 }
-
-pub returns-clause-table : goal.returns-clause-table
-returns-clause-table g c = refl
-
-pub returns-clause-kept : goal.returns-clause-kept
-returns-clause-kept g c = tt
 
 pub returns-in_err-set_reftable-clause-fails : goal.returns-in_err-set_reftable-clause-fails
 returns-in_err-set_reftable-clause-fails g c =
@@ -118,19 +96,7 @@ returns-in_err-set_reftable-clause-fails g c =
     fails_on c.from_residual.result (of_metadata e) c.from_residual.ensures (fails_by (of_metadata e) (other_as (ap of_metadata c.in_err-set_reftable.ensures.err.0) limit_other) refl (metadata_of_tables e))
 
 pub returns-in_err-write_reftable_pointer-clause-fails : goal.returns-in_err-write_reftable_pointer-clause-fails
-returns-in_err-write_reftable_pointer-clause-fails g c = fails_since (same_faults g.S.Storage.view c.set_write_kind.ensures.storage) (fails_storage c.from_residual-in_err-write_reftable_pointer.result c.in_err-write_reftable_pointer.field-0.0 c.from_residual-in_err-write_reftable_pointer.ensures c.in_err-write_reftable_pointer.ensures.calls.cause)
+returns-in_err-write_reftable_pointer-clause-fails g c = fails_since (same_faults g.S.Storage.view c.set_write_kind.ensures.storage) (fails_storage c.from_residual-in_err-write_reftable_pointer.result c.in_err-write_reftable_pointer.field-0.0 c.from_residual-in_err-write_reftable_pointer.ensures c.in_err-write_reftable_pointer.ensures.writes.calls.cause)
 
 pub returns-clause-fails : goal.returns-clause-fails
-returns-clause-fails g c = fails_ok (c.in_ok-write_reftable_pointer.ensures.calls.cause.told ∙ same_faults g.S.Storage.view c.set_write_kind.ensures.storage)
-
-pub returns-in_default-clause-rest : goal.returns-in_default-clause-rest
-returns-in_default-clause-rest g c = refl
-
-pub returns-in_err-set_reftable-clause-rest : goal.returns-in_err-set_reftable-clause-rest
-returns-in_err-set_reftable-clause-rest g c = refl
-
-pub returns-in_err-write_reftable_pointer-clause-rest : goal.returns-in_err-write_reftable_pointer-clause-rest
-returns-in_err-write_reftable_pointer-clause-rest g c = refl
-
-pub returns-clause-rest : goal.returns-clause-rest
-returns-clause-rest g c = refl
+returns-clause-fails g c = fails_ok (c.in_ok-write_reftable_pointer.ensures.writes.calls.cause.told ∙ same_faults g.S.Storage.view c.set_write_kind.ensures.storage)

@@ -1,4 +1,3 @@
-use Rattle.qcow2_alloc.proofs.Outcomes.{if_no_ok}
 use Rattle.qcow2_alloc.proofs.AllocationSteps.{table_loaded, handed_on}
 use Rattle.std.proofs.Common.{◌≡◌, inl, inr, ℕ, ◌+◌, ◌*◌, ◌<◌, ◌≤◌, ◌^◌, Ok, Result, Some, sym, ap, ◌∙◌, subst, refl, arith, rules}
 use Rattle.std.specs.Prelude.{MatchResult}
@@ -67,9 +66,6 @@ returns-in_err-reftable-clause-step g c = record { rest = refl; honest = c.in_er
 
 pub returns-clause-step : goal.returns-clause-step
 returns-clause-step g c = record { rest = refl; honest = c.in_ok-reftable.ensures.calls.honest; same = c.load_reftable.ensures.same; time = c.in_ok-reftable.ensures.calls.time }
-
-pub returns-in_err-reftable-clause-begins : goal.returns-in_err-reftable-clause-begins
-returns-in_err-reftable-clause-begins g c = if_no_ok _ c.from_residual.result (of_metadata c.in_err-reftable.field-0.0) c.from_residual.ensures
 
 pub returns-clause-begins : goal.returns-clause-begins
 returns-clause-begins g c = record {

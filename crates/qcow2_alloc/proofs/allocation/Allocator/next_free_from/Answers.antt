@@ -1,17 +1,13 @@
 use Rattle.std.proofs.Common.{◌≡◌, ℕ, ◌/◌, refl, ap, subst, sym, ◌∙◌}
-use Rattle.qcow2_metadata.specs.Header.{HeaderView, counts_per_block}
-use Rattle.qcow2_alloc.specs.declared.image_file.ImageFile.{ImageFile}
-use Rattle.qcow2_metadata.specs.EntryTable.{EntryTableView}
-use Rattle.qcow2_alloc.specs.Allocation.{HasNone}
+use Rattle.qcow2_metadata.specs.Header.{HeaderView}
 use Rattle.qcow2_alloc.specs.LowestRuns.{KeepsNoFreeBelowHint, NoFreeBelowHint}
-use Rattle.qcow2_alloc.specs.UsedCounts.{GoesFarIn, PassesKnown}
+use Rattle.qcow2_alloc.specs.UsedCounts.{SearchContinuesIn, PassesKnown}
 use Rattle.qcow2_alloc.specs.declared.allocation.Allocator.{Allocator}
 use Rattle.qcow2_alloc.proofs.AllocationSteps.{handed_on, allocator_step_as, allocator_step_then, is_sound_now}
 use Rattle.qcow2_alloc.proofs.FileSteps.{leaves_then}
 use Rattle.qcow2_alloc.proofs.Hints.{hint_passed, hint_refused, hint_stays, passed_still}
 use Rattle.qcow2_alloc.proofs.KeptRuns.{moved_on, stayed, stood_still}
 use Rattle.qcow2_alloc.proofs.allocation.Allocator.next_free_from.Goals.{then-cluster-self, else-cluster-self}
-use Rattle.qcow2_alloc.proofs.Outcomes.{if_no_ok}
 use Rattle.qcow2_alloc.proofs.Steps.{fails_ok, fails_on, fails_since, table_step_as, table_step_then}
 use Rattle.qcow2_alloc.proofs.allocation.Allocator.next_free_from.Goals as goal
 
@@ -50,29 +46,14 @@ returns-clause-moves g c =
       }
     ]
 
-pub returns-in_err-keep_range-clause-step : goal.returns-in_err-keep_range-clause-step
-returns-in_err-keep_range-clause-step g c = c.keep_range.ensures.step
-
 pub returns-in_err-keep_range-clause-fails : goal.returns-in_err-keep_range-clause-fails
 returns-in_err-keep_range-clause-fails g c = fails_on c.from_residual.result c.in_err-keep_range.field-0.0 c.from_residual.ensures c.in_err-keep_range.ensures.fails
-
-pub returns-in_err-keep_range-clause-behind : goal.returns-in_err-keep_range-clause-behind
-returns-in_err-keep_range-clause-behind g c = if_no_ok _ c.from_residual.result c.in_err-keep_range.field-0.0 c.from_residual.ensures
-
-pub returns-in_err-keep_range-clause-far : goal.returns-in_err-keep_range-clause-far
-returns-in_err-keep_range-clause-far g c = if_no_ok _ c.from_residual.result c.in_err-keep_range.field-0.0 c.from_residual.ensures
 
 pub returns-in_err-next-clause-step : goal.returns-in_err-next-clause-step
 returns-in_err-next-clause-step g c = table_step_then c.keep_range.ensures.step c.next_open.ensures.step
 
 pub returns-in_err-next-clause-fails : goal.returns-in_err-next-clause-fails
 returns-in_err-next-clause-fails g c = fails_on c.from_residual-in_err-next.result c.in_err-next.field-0.0 c.from_residual-in_err-next.ensures (fails_since c.in_ok-keep_range.ensures.fails.told c.in_err-next.ensures.fails)
-
-pub returns-in_err-next-clause-behind : goal.returns-in_err-next-clause-behind
-returns-in_err-next-clause-behind g c = if_no_ok _ c.from_residual-in_err-next.result c.in_err-next.field-0.0 c.from_residual-in_err-next.ensures
-
-pub returns-in_err-next-clause-far : goal.returns-in_err-next-clause-far
-returns-in_err-next-clause-far g c = if_no_ok _ c.from_residual-in_err-next.result c.in_err-next.field-0.0 c.from_residual-in_err-next.ensures
 
 pub returns-in_err-next-clause-sound : goal.returns-in_err-next-clause-sound
 returns-in_err-next-clause-sound g c = λ p sound.
@@ -123,30 +104,12 @@ returns-clause-hint g c = λ p sound hint.
           (hint_stays view p c.keep_range.new.file c.next_open.new.file c.keep_range.new.self c.keep_range.new.self went.0 (passed_still c.keep_range.new.self) now)
     ]
 
-pub returns-in_err-keep_range-clause-none : goal.returns-in_err-keep_range-clause-none
-returns-in_err-keep_range-clause-none g c = c.keep_range.ensures.none
-
--- what is lacking stays lacking where nothing changes
-none_there : {S : Type 0} (a b : ImageFile S) (t t' : EntryTableView) (cluster : ℕ) → b ≡ a → t' ≡ t → HasNone t (cluster / counts_per_block a.header.fields) → HasNone t' (cluster / counts_per_block b.header.fields)
-none_there a b t t' cluster file table none =
-    subst (λ (x : EntryTableView). HasNone x (cluster / counts_per_block b.header.fields)) (sym table) (subst (λ (h : HeaderView). HasNone t (cluster / counts_per_block h.fields)) (ap (λ (f : ImageFile _). f.header) (sym file)) none)
-
-pub returns-in_err-next-clause-none : goal.returns-in_err-next-clause-none
-returns-in_err-next-clause-none g c = λ none.
-    let first = c.keep_range.ensures.none none in
-    c.next_open.ensures.none (none_there c.args.file.now c.keep_range.new.file c.args.self.now.reftable c.keep_range.new.self.reftable c.args.cluster first (ap (λ (t : Allocator). t.reftable) c.keep_range.ensures.rest) none) ∙ first
-
-pub returns-clause-none : goal.returns-clause-none
-returns-clause-none g c = λ none.
-    let first = c.keep_range.ensures.none none in
-    c.next_open.ensures.none (none_there c.args.file.now c.keep_range.new.file c.args.self.now.reftable c.keep_range.new.self.reftable c.args.cluster first (ap (λ (t : Allocator). t.reftable) c.keep_range.ensures.rest) none) ∙ first
-
 pub returns-clause-far : goal.returns-clause-far
 returns-clause-far g c =
     let h = c.args.file.now.header.fields in
     let caches = c.next_open.new.file.caches in
-    let far : GoesFarIn h c.keep_range.new.self caches c.args.cluster c.in_ok-next.next = subst (λ (x : HeaderView). GoesFarIn x.fields c.keep_range.new.self caches c.args.cluster c.in_ok-next.next) c.keep_range.ensures.step.header c.in_ok-next.ensures.far in
+    let far : SearchContinuesIn h c.keep_range.new.self caches c.args.cluster c.in_ok-next.next = subst (λ (x : HeaderView). SearchContinuesIn x.fields c.keep_range.new.self caches c.args.cluster c.in_ok-next.next) c.keep_range.ensures.step.header c.in_ok-next.ensures.far in
     elim c.if-cluster-self.branch [
-      | then-cluster-self w ↦ subst (λ (t : Allocator). GoesFarIn h t caches c.args.cluster c.in_ok-next.next) (sym w.self-is) far
-      | else-cluster-self w ↦ subst (λ (t : Allocator). GoesFarIn h t caches c.args.cluster c.in_ok-next.next) (sym w.self-is) far
+      | then-cluster-self w ↦ subst (λ (t : Allocator). SearchContinuesIn h t caches c.args.cluster c.in_ok-next.next) (sym w.self-is) far
+      | else-cluster-self w ↦ subst (λ (t : Allocator). SearchContinuesIn h t caches c.args.cluster c.in_ok-next.next) (sym w.self-is) far
     ]

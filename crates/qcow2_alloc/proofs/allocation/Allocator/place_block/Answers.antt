@@ -1,4 +1,4 @@
-use Rattle.std.proofs.Common.{◌≡◌, inr, ℕ, ◌+◌, ◌*◌, ◌/◌, ◌^◌, ◌<◌, Bool, IsTrue, Some, Result, Ok, Err, refl, sym, ap, ◌∙◌, subst, arith, IsSome}
+use Rattle.std.proofs.Common.{◌≡◌, inr, ℕ, ◌+◌, ◌*◌, ◌/◌, ◌^◌, ◌<◌, ◌≤◌, Bool, IsTrue, Some, Result, Ok, Err, refl, sym, ap, ◌∙◌, subst, arith, IsSome}
 use Rattle.std.proofs.lemmas.Nat.{div-add-mod'}
 use Rattle.std.specs.Option.{IfSome}
 use Rattle.std.specs.Int.{w64, to_be_bytes}
@@ -9,7 +9,8 @@ use Rattle.qcow2_metadata.specs.declared.header.HeaderFields.{HeaderFields}
 use Rattle.qcow2_metadata.specs.EntryTable.{EntryTableView, entry_count}
 use Rattle.qcow2_metadata.specs.Header.{cluster_size}
 use Rattle.qcow2_metadata.specs.RefBlock.{RefBlockView, IsRefBlock, count_at}
-use Rattle.qcow2_metadata.specs.TableBytes.{entry_at, ChangesEntry}
+use Rattle.qcow2_metadata.specs.L2Mapping.{IsHostCluster}
+use Rattle.qcow2_metadata.specs.TableBytes.{entry_at, ChangesEntry, HasPlace}
 use Rattle.qcow2_metadata.specs.Entries.{block_offset}
 use Rattle.qcow2_laws.specs.CrashInvariant.{Pending}
 use Rattle.qcow2_laws.specs.Caches.{AreClean, BlocksMayGo}
@@ -27,18 +28,34 @@ use Rattle.qcow2_alloc.proofs.FileSteps.{file_step_then, interrupted_then}
 use Rattle.qcow2_alloc.proofs.AllocationSteps.{entered_has, handed_on, entries_entered, fault_of_storage, is_sound_now, stands}
 use Rattle.qcow2_alloc.proofs.NamedBlocks.{entry_write_as, real, safe_throughout_named, named_so}
 use Rattle.qcow2_alloc.proofs.Outcomes.{on_no_ok, entries_none}
-use Rattle.qcow2_alloc.proofs.SparedHeaders.{spares_then, spares_entry, spares_none}
-use Rattle.qcow2_alloc.proofs.KeptMarks.{kept_marks_then, placed_kept, marks_of_storage, kept_marks_none}
+use Rattle.qcow2_alloc.proofs.SparedHeaders.{spares_then, spares_entry}
+use Rattle.qcow2_alloc.proofs.KeptMarks.{kept_marks_then, placed_kept, marks_of_storage}
 use Rattle.qcow2_alloc.proofs.KeptNotes.{note_kept}
 use Rattle.std.proofs.lemmas.Bool.{or_left}
-use Rattle.qcow2_alloc.proofs.Steps.{fails_on, fails_by, fails_ok, fails_since, fails_storage, memory_other, other_as, same_faults}
+use Rattle.qcow2_alloc.proofs.Steps.{fails_on, fails_ok, fails_since, fails_storage, same_faults}
 use Rattle.qcow2_alloc.proofs.allocation.Allocator.place_block.Goals as goal
 
+-- ---- the block in its place
+cluster_in : (b b' : RefBlockView) (k : ℕ) → b' ≡ record b { cluster = Some k } → b'.cluster ≡ Some k
+cluster_in b b' k is = ap (λ (x : RefBlockView). x.cluster) is
+
+format_in : (h : HeaderFields) (b b' : RefBlockView) (k : ℕ) → b' ≡ record b { cluster = Some k } → IsBlockOf h b → IsBlockOf h b'
+format_in h b b' k is of = subst (IsBlockOf h) (sym is) (record { bits = of.bits; order = of.order })
+
+has_place : (b : RefBlockView) (h : HeaderFields) (at k : ℕ) → IsBlockOf h b → k ≡ at → IsHostCluster h.cluster_bits at → HasPlace b.cluster_bits k
+has_place b h at k of is named = subst (λ n. HasPlace n k) (sym of.bits) (subst (HasPlace h.cluster_bits) (sym is) (let low : at * 2 ^ h.cluster_bits ≤ 72057594037927424 = named in omega arith))
+
+whole_in : (b b' : RefBlockView) (k : ℕ) → b' ≡ record b { cluster = Some k } → IsRefBlock b → HasPlace b.cluster_bits k → IsRefBlock b'
+whole_in b b' k is whole here = subst IsRefBlock (sym is) (record { whole = whole.whole; bits = whole.bits; order = whole.order; placed = here })
+
+pub set_cluster-requires : goal.set_cluster-requires
+set_cluster-requires g c = has_place c.args.block c.args.file.now.header.fields c.args.at c.new-cluster.result c.requires.block.0 c.new-cluster.ensures c.requires.place.nameable_here
+
 pub returns-in_err-write_block-clause-sound : goal.returns-in_err-write_block-clause-sound
-returns-in_err-write_block-clause-sound g c = λ p sound place.
-    handed_on (PlacesBlock g.S.Storage.view (placing c.args.counts_itself p c.args.at) c.args.file.now c.args.self.now c.write_block.new.file p c.args.range c.args.at)
-    c.from_residual-in_err-write_block.result c.in_err-write_block.field-0.0 c.from_residual-in_err-write_block.ensures
-    (c.in_err-write_block.ensures.sound p c.args.counts_itself c.args.self.now c.args.range c.args.at sound place c.in_ok-block.ensures.format (c.in_ok-block.ensures.cluster ∙ ap Some c.new-cluster.ensures))
+returns-in_err-write_block-clause-sound g c = λ p itself sound place counts.
+    handed_on (PlacesBlock g.S.Storage.view (placing itself p c.args.at) c.args.file.now c.args.self.now c.write_block.new.file p c.args.range c.args.at)
+    c.from_residual.result c.in_err-write_block.field-0.0 c.from_residual.ensures
+    (c.in_err-write_block.ensures.sound p itself c.args.self.now c.args.range c.args.at sound place (format_in _ c.args.block c.set_cluster.new.self _ c.set_cluster.ensures c.requires.block.0) (cluster_in c.args.block c.set_cluster.new.self _ c.set_cluster.ensures ∙ ap Some c.new-cluster.ensures))
 
 -- the last step: the entry is written, or is not
 module _ {S : Type 0} (view : S → StorageView) (d : Bool) (p : Pending) (range at : ℕ) (old file : ImageFile S) (t : Allocator) (t' : EntryTableView) (storage : ImageStorage S) (asked : S) (block : RefBlockView)
@@ -88,7 +105,7 @@ module _ {S : Type 0} (view : S → StorageView) (d : Bool) (p : Pending) (range
     fault,
     inr (interrupted_then view q q old file named e before.0.file_step (record {
       fault = fault;
-      noted = λ _. or_left (is_changed_of storage) file.caches.is_changed changed;
+      recorded = λ _. or_left (is_changed_of storage) file.caches.is_changed changed;
       since = safe_throughout_named view d p range at file t.reftable t' block now.sound now.reftable counted first there within rest entered at_place fits whole format counts new_data before.1.stands storage result calls_now changes;
     })),
   )
@@ -102,26 +119,26 @@ module _ {S : Type 0} (view : S → StorageView) (d : Bool) (p : Pending) (range
       )
 
 pub returns-in_err-write_reftable_entry-clause-sound : goal.returns-in_err-write_reftable_entry-clause-sound
-returns-in_err-write_reftable_entry-clause-sound g c = λ p sound place.
-    let is = c.in_ok-block.ensures.cluster ∙ ap Some c.new-cluster.ensures in
-    let three = c.in_ok-write_block.ensures.sound p c.args.counts_itself c.args.self.now c.args.range c.args.at sound place c.in_ok-block.ensures.format is in
-    handed_on (PlacesBlock g.S.Storage.view (placing c.args.counts_itself p c.args.at) c.args.file.now (record c.args.self.now { reftable = c.enter_refblock.new.self }) (record c.write_block.new.file { storage = c.write_reftable_entry.new.self }) p c.args.range c.args.at)
+returns-in_err-write_reftable_entry-clause-sound g c = λ p itself sound place counts.
+    let is = cluster_in c.args.block c.set_cluster.new.self _ c.set_cluster.ensures ∙ ap Some c.new-cluster.ensures in
+    let three = c.in_ok-write_block.ensures.sound p itself c.args.self.now c.args.range c.args.at sound place (format_in _ c.args.block c.set_cluster.new.self _ c.set_cluster.ensures c.requires.block.0) is in
+    handed_on (PlacesBlock g.S.Storage.view (placing itself p c.args.at) c.args.file.now (record c.args.self.now { reftable = c.enter_refblock.new.self }) (record c.write_block.new.file { storage = c.write_reftable_entry.new.self }) p c.args.range c.args.at)
     c.from_residual-in_err-write_reftable_entry.result (of_storage c.in_err-write_reftable_entry.field-0.0) c.from_residual-in_err-write_reftable_entry.ensures
-    (not_placed g.S.Storage.view c.args.counts_itself p c.args.range c.args.at c.args.file.now c.write_block.new.file c.args.self.now c.enter_refblock.new.self c.write_reftable_entry.new.self (storage_of c.set_write_kind.new.self) c.in_ok-block.block c.write_reftable_entry.result
-    three c.in_ok-write_block.ensures.counted c.in_ok-write_block.ensures.first (subst (λ h. HasPlaceFor c.args.counts_itself h c.args.self.now.reftable c.args.range c.args.at) (sym (ap (λ x. x.fields) c.write_block.ensures.step.header)) place)
+    (not_placed g.S.Storage.view itself p c.args.range c.args.at c.args.file.now c.write_block.new.file c.args.self.now c.enter_refblock.new.self c.write_reftable_entry.new.self (storage_of c.set_write_kind.new.self) c.set_cluster.new.self c.write_reftable_entry.result
+    three c.in_ok-write_block.ensures.counted c.in_ok-write_block.ensures.first (subst (λ h. HasPlaceFor itself h c.args.self.now.reftable c.args.range c.args.at) (sym (ap (λ x. x.fields) c.write_block.ensures.step.header)) place)
     c.requires.place.within c.enter_refblock.ensures.rest (subst (λ k. ChangesEntry c.args.self.now.reftable.bytes c.enter_refblock.new.self.bytes c.args.range (k * 2 ^ c.args.self.now.reftable.cluster_bits)) c.new-cluster.ensures c.enter_refblock.ensures.entry)
-    (c.enter_refblock.ensures.offset ∙ ap (λ k. k * 2 ^ c.args.self.now.reftable.cluster_bits) c.new-cluster.ensures) c.write_reftable_entry.ensures.fits c.in_ok-block.ensures.whole (subst (λ h. IsBlockOf h c.in_ok-block.block) (sym (ap (λ x. x.fields) c.write_block.ensures.step.header)) c.in_ok-block.ensures.format)
-    c.in_ok-block.ensures.counts c.set_write_kind.ensures.storage c.write_reftable_entry.ensures.written c.write_reftable_entry.ensures.calls (note_kept c.set_write_kind.new.self c.write_reftable_entry.new.self c.write_reftable_entry.result c.write_reftable_entry.ensures.noted (c.set_write_kind.ensures.changed.note ∙ c.in_ok-write_block.ensures.noted)) (of_storage c.in_err-write_reftable_entry.field-0.0) (fault_of_storage c.in_err-write_reftable_entry.field-0.0))
+    (c.enter_refblock.ensures.offset ∙ ap (λ k. k * 2 ^ c.args.self.now.reftable.cluster_bits) c.new-cluster.ensures) c.write_reftable_entry.ensures.fits (whole_in c.args.block c.set_cluster.new.self c.new-cluster.result c.set_cluster.ensures c.requires.block.1 (has_place c.args.block c.args.file.now.header.fields c.args.at c.new-cluster.result c.requires.block.0 c.new-cluster.ensures c.requires.place.nameable_here)) (subst (λ h. IsBlockOf h c.set_cluster.new.self) (sym (ap (λ x. x.fields) c.write_block.ensures.step.header)) (format_in _ c.args.block c.set_cluster.new.self _ c.set_cluster.ensures c.requires.block.0))
+    (λ i. ap (λ (b : RefBlockView). count_at b i) c.set_cluster.ensures ∙ counts i) c.set_write_kind.ensures.storage c.write_reftable_entry.ensures.written c.write_reftable_entry.ensures.calls (note_kept c.set_write_kind.new.self c.write_reftable_entry.new.self c.write_reftable_entry.result c.write_reftable_entry.ensures.recorded (c.set_write_kind.ensures.changed.note ∙ c.in_ok-write_block.ensures.recorded)) (of_storage c.in_err-write_reftable_entry.field-0.0) (fault_of_storage c.in_err-write_reftable_entry.field-0.0))
 
 pub returns-clause-sound : goal.returns-clause-sound
-returns-clause-sound g c = λ p sound place.
-    let is = c.in_ok-block.ensures.cluster ∙ ap Some c.new-cluster.ensures in
-    let three = c.in_ok-write_block.ensures.sound p c.args.counts_itself c.args.self.now c.args.range c.args.at sound place c.in_ok-block.ensures.format is in
-    is_placed g.S.Storage.view c.args.counts_itself p c.args.range c.args.at c.args.file.now c.write_block.new.file c.args.self.now c.enter_refblock.new.self c.write_reftable_entry.new.self (storage_of c.set_write_kind.new.self) c.in_ok-block.block c.write_reftable_entry.result
-    three c.in_ok-write_block.ensures.counted c.in_ok-write_block.ensures.first (subst (λ h. HasPlaceFor c.args.counts_itself h c.args.self.now.reftable c.args.range c.args.at) (sym (ap (λ x. x.fields) c.write_block.ensures.step.header)) place)
+returns-clause-sound g c = λ p itself sound place counts.
+    let is = cluster_in c.args.block c.set_cluster.new.self _ c.set_cluster.ensures ∙ ap Some c.new-cluster.ensures in
+    let three = c.in_ok-write_block.ensures.sound p itself c.args.self.now c.args.range c.args.at sound place (format_in _ c.args.block c.set_cluster.new.self _ c.set_cluster.ensures c.requires.block.0) is in
+    is_placed g.S.Storage.view itself p c.args.range c.args.at c.args.file.now c.write_block.new.file c.args.self.now c.enter_refblock.new.self c.write_reftable_entry.new.self (storage_of c.set_write_kind.new.self) c.set_cluster.new.self c.write_reftable_entry.result
+    three c.in_ok-write_block.ensures.counted c.in_ok-write_block.ensures.first (subst (λ h. HasPlaceFor itself h c.args.self.now.reftable c.args.range c.args.at) (sym (ap (λ x. x.fields) c.write_block.ensures.step.header)) place)
     c.requires.place.within c.enter_refblock.ensures.rest (subst (λ k. ChangesEntry c.args.self.now.reftable.bytes c.enter_refblock.new.self.bytes c.args.range (k * 2 ^ c.args.self.now.reftable.cluster_bits)) c.new-cluster.ensures c.enter_refblock.ensures.entry)
-    (c.enter_refblock.ensures.offset ∙ ap (λ k. k * 2 ^ c.args.self.now.reftable.cluster_bits) c.new-cluster.ensures) c.write_reftable_entry.ensures.fits c.in_ok-block.ensures.whole (subst (λ h. IsBlockOf h c.in_ok-block.block) (sym (ap (λ x. x.fields) c.write_block.ensures.step.header)) c.in_ok-block.ensures.format)
-    c.in_ok-block.ensures.counts c.set_write_kind.ensures.storage c.write_reftable_entry.ensures.written c.write_reftable_entry.ensures.calls c.in_ok-write_reftable_entry.field-0 c.in_ok-write_reftable_entry.was
+    (c.enter_refblock.ensures.offset ∙ ap (λ k. k * 2 ^ c.args.self.now.reftable.cluster_bits) c.new-cluster.ensures) c.write_reftable_entry.ensures.fits (whole_in c.args.block c.set_cluster.new.self c.new-cluster.result c.set_cluster.ensures c.requires.block.1 (has_place c.args.block c.args.file.now.header.fields c.args.at c.new-cluster.result c.requires.block.0 c.new-cluster.ensures c.requires.place.nameable_here)) (subst (λ h. IsBlockOf h c.set_cluster.new.self) (sym (ap (λ x. x.fields) c.write_block.ensures.step.header)) (format_in _ c.args.block c.set_cluster.new.self _ c.set_cluster.ensures c.requires.block.0))
+    (λ i. ap (λ (b : RefBlockView). count_at b i) c.set_cluster.ensures ∙ counts i) c.set_write_kind.ensures.storage c.write_reftable_entry.ensures.written c.write_reftable_entry.ensures.calls c.in_ok-write_reftable_entry.field-0 c.in_ok-write_reftable_entry.was
 
 pub returns-in_err-write_block-clause-step : goal.returns-in_err-write_block-clause-step
 returns-in_err-write_block-clause-step g c = record {
@@ -129,14 +146,14 @@ returns-in_err-write_block-clause-step g c = record {
   list = c.write_block.ensures.step.list;
   named = entries_none _ c.args.self.now.reftable;
   marks = c.write_block.ensures.step.marks;
-  header_cluster = c.write_block.ensures.step.header_cluster c.args.self.now.reftable c.in_ok-block.ensures.format.bits;
+  header_cluster = c.write_block.ensures.step.header_cluster c.args.self.now.reftable (format_in _ c.args.block c.set_cluster.new.self _ c.set_cluster.ensures c.requires.block.0).bits;
 }
 
 pub returns-in_err-write_block-clause-fails : goal.returns-in_err-write_block-clause-fails
-returns-in_err-write_block-clause-fails g c = fails_on c.from_residual-in_err-write_block.result c.in_err-write_block.field-0.0 c.from_residual-in_err-write_block.ensures c.in_err-write_block.ensures.fails
+returns-in_err-write_block-clause-fails g c = fails_on c.from_residual.result c.in_err-write_block.field-0.0 c.from_residual.ensures c.in_err-write_block.ensures.fails
 
-pub returns-in_err-write_block-clause-noted : goal.returns-in_err-write_block-clause-noted
-returns-in_err-write_block-clause-noted g c = on_no_ok _ c.from_residual-in_err-write_block.result c.in_err-write_block.field-0.0 c.from_residual-in_err-write_block.ensures
+pub returns-in_err-write_block-clause-recorded : goal.returns-in_err-write_block-clause-recorded
+returns-in_err-write_block-clause-recorded g c = on_no_ok _ c.from_residual.result c.in_err-write_block.field-0.0 c.from_residual.ensures
 
 pub returns-in_err-write_reftable_entry-clause-step : goal.returns-in_err-write_reftable_entry-clause-step
 returns-in_err-write_reftable_entry-clause-step g c = record {
@@ -145,8 +162,8 @@ returns-in_err-write_reftable_entry-clause-step g c = record {
   named = entries_entered c.args.self.now.reftable c.enter_refblock.new.self c.args.range c.new-cluster.result (subst (λ n. 0 < n) (sym c.new-cluster.ensures) c.requires.place.elsewhere) c.enter_refblock.ensures.rest c.enter_refblock.ensures.entry c.enter_refblock.ensures.offset;
   marks = kept_marks_then c.write_block.ensures.step.marks
       (marks_of_storage refl (placed_kept c.write_block.new.file.storage c.set_write_kind.new.self c.write_reftable_entry.new.self c.write_reftable_entry.result c.set_write_kind.ensures.storage c.set_write_kind.ensures.changed c.enter_refblock.new.self.cluster _
-      (subst (λ (x : EntryTableView). IsSome x.cluster) (sym c.enter_refblock.ensures.rest) c.requires.place.placed) c.write_reftable_entry.ensures.written c.write_reftable_entry.ensures.calls c.write_reftable_entry.ensures.noted));
-  header_cluster = spares_then (c.write_block.ensures.step.header_cluster c.args.self.now.reftable c.in_ok-block.ensures.format.bits) (spares_entry g.S.Storage.view c.args.self.now.reftable c.enter_refblock.new.self c.write_block.new.file c.write_block.new.file.caches (storage_of c.set_write_kind.new.self) c.write_reftable_entry.new.self _ _ c.write_reftable_entry.result (λ bits are. are) (ap (λ (t : EntryTableView). t.cluster_bits) c.enter_refblock.ensures.rest) (ap (λ (t : EntryTableView). t.cluster) c.enter_refblock.ensures.rest) c.set_write_kind.ensures.storage c.write_reftable_entry.ensures.written c.write_reftable_entry.ensures.calls (let within = c.requires.place.within in omega (arith, within)) (subst (λ (t : EntryTableView). IsSome t.cluster) (sym c.enter_refblock.ensures.rest) c.requires.place.placed));
+      (subst (λ (x : EntryTableView). IsSome x.cluster) (sym c.enter_refblock.ensures.rest) c.requires.place.placed) c.write_reftable_entry.ensures.written c.write_reftable_entry.ensures.calls c.write_reftable_entry.ensures.recorded));
+  header_cluster = spares_then (c.write_block.ensures.step.header_cluster c.args.self.now.reftable (format_in _ c.args.block c.set_cluster.new.self _ c.set_cluster.ensures c.requires.block.0).bits) (spares_entry g.S.Storage.view c.args.self.now.reftable c.enter_refblock.new.self c.write_block.new.file c.write_block.new.file.caches (storage_of c.set_write_kind.new.self) c.write_reftable_entry.new.self _ _ c.write_reftable_entry.result (λ bits are. are) (ap (λ (t : EntryTableView). t.cluster_bits) c.enter_refblock.ensures.rest) (ap (λ (t : EntryTableView). t.cluster) c.enter_refblock.ensures.rest) c.set_write_kind.ensures.storage c.write_reftable_entry.ensures.written c.write_reftable_entry.ensures.calls (let within = c.requires.place.within in omega (arith, within)) (subst (λ (t : EntryTableView). IsSome t.cluster) (sym c.enter_refblock.ensures.rest) c.requires.place.placed));
 }
 
 pub returns-clause-step : goal.returns-clause-step
@@ -156,15 +173,15 @@ returns-clause-step g c = record {
   named = entries_entered c.args.self.now.reftable c.enter_refblock.new.self c.args.range c.new-cluster.result (subst (λ n. 0 < n) (sym c.new-cluster.ensures) c.requires.place.elsewhere) c.enter_refblock.ensures.rest c.enter_refblock.ensures.entry c.enter_refblock.ensures.offset;
   marks = kept_marks_then c.write_block.ensures.step.marks
       (marks_of_storage refl (placed_kept c.write_block.new.file.storage c.set_write_kind.new.self c.write_reftable_entry.new.self c.write_reftable_entry.result c.set_write_kind.ensures.storage c.set_write_kind.ensures.changed c.enter_refblock.new.self.cluster _
-      (subst (λ (x : EntryTableView). IsSome x.cluster) (sym c.enter_refblock.ensures.rest) c.requires.place.placed) c.write_reftable_entry.ensures.written c.write_reftable_entry.ensures.calls c.write_reftable_entry.ensures.noted));
-  header_cluster = spares_then (c.write_block.ensures.step.header_cluster c.args.self.now.reftable c.in_ok-block.ensures.format.bits) (spares_entry g.S.Storage.view c.args.self.now.reftable c.enter_refblock.new.self c.write_block.new.file c.write_block.new.file.caches (storage_of c.set_write_kind.new.self) c.write_reftable_entry.new.self _ _ c.write_reftable_entry.result (λ bits are. are) (ap (λ (t : EntryTableView). t.cluster_bits) c.enter_refblock.ensures.rest) (ap (λ (t : EntryTableView). t.cluster) c.enter_refblock.ensures.rest) c.set_write_kind.ensures.storage c.write_reftable_entry.ensures.written c.write_reftable_entry.ensures.calls (let within = c.requires.place.within in omega (arith, within)) (subst (λ (t : EntryTableView). IsSome t.cluster) (sym c.enter_refblock.ensures.rest) c.requires.place.placed));
+      (subst (λ (x : EntryTableView). IsSome x.cluster) (sym c.enter_refblock.ensures.rest) c.requires.place.placed) c.write_reftable_entry.ensures.written c.write_reftable_entry.ensures.calls c.write_reftable_entry.ensures.recorded));
+  header_cluster = spares_then (c.write_block.ensures.step.header_cluster c.args.self.now.reftable (format_in _ c.args.block c.set_cluster.new.self _ c.set_cluster.ensures c.requires.block.0).bits) (spares_entry g.S.Storage.view c.args.self.now.reftable c.enter_refblock.new.self c.write_block.new.file c.write_block.new.file.caches (storage_of c.set_write_kind.new.self) c.write_reftable_entry.new.self _ _ c.write_reftable_entry.result (λ bits are. are) (ap (λ (t : EntryTableView). t.cluster_bits) c.enter_refblock.ensures.rest) (ap (λ (t : EntryTableView). t.cluster) c.enter_refblock.ensures.rest) c.set_write_kind.ensures.storage c.write_reftable_entry.ensures.written c.write_reftable_entry.ensures.calls (let within = c.requires.place.within in omega (arith, within)) (subst (λ (t : EntryTableView). IsSome t.cluster) (sym c.enter_refblock.ensures.rest) c.requires.place.placed));
 }
 
-pub returns-in_err-write_reftable_entry-clause-noted : goal.returns-in_err-write_reftable_entry-clause-noted
-returns-in_err-write_reftable_entry-clause-noted g c = on_no_ok _ c.from_residual-in_err-write_reftable_entry.result (of_storage c.in_err-write_reftable_entry.field-0.0) c.from_residual-in_err-write_reftable_entry.ensures
+pub returns-in_err-write_reftable_entry-clause-recorded : goal.returns-in_err-write_reftable_entry-clause-recorded
+returns-in_err-write_reftable_entry-clause-recorded g c = on_no_ok _ c.from_residual-in_err-write_reftable_entry.result (of_storage c.in_err-write_reftable_entry.field-0.0) c.from_residual-in_err-write_reftable_entry.ensures
 
 pub returns-in_err-write_block-clause-has : goal.returns-in_err-write_block-clause-has
-returns-in_err-write_block-clause-has g c = on_no_ok _ c.from_residual-in_err-write_block.result c.in_err-write_block.field-0.0 c.from_residual-in_err-write_block.ensures
+returns-in_err-write_block-clause-has g c = on_no_ok _ c.from_residual.result c.in_err-write_block.field-0.0 c.from_residual.ensures
 
 pub returns-in_err-write_reftable_entry-clause-has : goal.returns-in_err-write_reftable_entry-clause-has
 returns-in_err-write_reftable_entry-clause-has g c = on_no_ok _ c.from_residual-in_err-write_reftable_entry.result (of_storage c.in_err-write_reftable_entry.field-0.0) c.from_residual-in_err-write_reftable_entry.ensures
@@ -172,11 +189,8 @@ returns-in_err-write_reftable_entry-clause-has g c = on_no_ok _ c.from_residual-
 pub returns-clause-has : goal.returns-clause-has
 returns-clause-has g c = entered_has c.enter_refblock.new.self c.args.range c.new-cluster.result c.args.self.now.reftable.cluster_bits (subst (λ n. 0 < n) (sym c.new-cluster.ensures) c.requires.place.elsewhere) c.enter_refblock.ensures.offset
 
-pub returns-clause-noted : goal.returns-clause-noted
-returns-clause-noted g c = or_left (is_changed_of c.write_reftable_entry.new.self) c.write_block.new.file.caches.is_changed (note_kept c.set_write_kind.new.self c.write_reftable_entry.new.self c.write_reftable_entry.result c.write_reftable_entry.ensures.noted (c.set_write_kind.ensures.changed.note ∙ c.in_ok-write_block.ensures.noted))
-
-pub returns-in_err-block-clause-fails : goal.returns-in_err-block-clause-fails
-returns-in_err-block-clause-fails g c = fails_on c.from_residual.result c.in_err-block.field-0.0 c.from_residual.ensures (fails_by c.in_err-block.field-0.0 (other_as c.in_err-block.ensures.memory memory_other) refl c.in_err-block.ensures.cause)
+pub returns-clause-recorded : goal.returns-clause-recorded
+returns-clause-recorded g c = or_left (is_changed_of c.write_reftable_entry.new.self) c.write_block.new.file.caches.is_changed (note_kept c.set_write_kind.new.self c.write_reftable_entry.new.self c.write_reftable_entry.result c.write_reftable_entry.ensures.recorded (c.set_write_kind.ensures.changed.note ∙ c.in_ok-write_block.ensures.recorded))
 
 pub returns-in_err-write_reftable_entry-clause-fails : goal.returns-in_err-write_reftable_entry-clause-fails
 returns-in_err-write_reftable_entry-clause-fails g c =
@@ -184,12 +198,6 @@ returns-in_err-write_reftable_entry-clause-fails g c =
 
 pub returns-clause-fails : goal.returns-clause-fails
 returns-clause-fails g c = fails_ok (c.in_ok-write_reftable_entry.ensures.calls.cause.told ∙ (same_faults g.S.Storage.view c.set_write_kind.ensures.storage ∙ c.in_ok-write_block.ensures.fails.told))
-
-pub returns-in_err-block-clause-step : goal.returns-in_err-block-clause-step
-returns-in_err-block-clause-step g c = record { header = refl; list = refl; named = entries_none _ c.args.self.now.reftable; marks = kept_marks_none; header_cluster = spares_none }
-
-pub returns-in_err-block-clause-rest : goal.returns-in_err-block-clause-rest
-returns-in_err-block-clause-rest g c = refl
 
 pub returns-in_err-write_block-clause-rest : goal.returns-in_err-write_block-clause-rest
 returns-in_err-write_block-clause-rest g c = refl

@@ -1,260 +1,29 @@
-use Rattle.std.proofs.Common.{◌≡◌, inl, inr, ℕ, ◌+◌, ◌-◌, ◌*◌, ◌/◌, ◌%◌, ◌^◌, ◌<◌, ◌≤◌, length, None, refl, sym, ap, ◌∙◌, subst, arith}
-use Rattle.std.proofs.lemmas.Nat.{div-add-mod'}
-use Rattle.std.proofs.Math.Nat.{div-le_self, mul-le-mul_left}
-use Rattle.qcow2_metadata.specs.L2Mapping.{greatest_offset, IsHostCluster}
-use Rattle.qcow2_metadata.specs.EntryTable.{EntryTableView, entry_count}
-use Rattle.qcow2_metadata.specs.declared.header.HeaderFields.{HeaderFields}
-use Rattle.qcow2_metadata.specs.Header.{HeaderView, cluster_size, counts_per_block}
-use Rattle.qcow2_laws.specs.Caches.{AreClean}
-use Rattle.qcow2_laws.specs.Tops.{IsSameOutside}
-use Rattle.qcow2_metadata.specs.Bytes.{one_if}
-use Rattle.qcow2_metadata.specs.TableBytes.{ChangesEntry, HasPlace}
-use Rattle.qcow2_alloc.specs.Allocation.{run_at, NamesLacking, StandAt, InternalAllocatorStep}
+use Rattle.std.proofs.Common.{ap}
 use Rattle.qcow2_alloc.specs.GrownTables.{with_run}
-use Rattle.qcow2_alloc.specs.ImageFile.{contents_in}
-use Rattle.qcow2_alloc.specs.MetadataCaches.{l2_tables, refblocks, rb_at}
-use Rattle.qcow2_alloc.specs.Rooms.{opens, opened, room_length, PlacesBlocks}
-use Rattle.qcow2_alloc.specs.TableCaches.{IsBlockOf}
-use Rattle.qcow2_alloc.proofs.AllocationSteps.{handed_on, lacking_none, lacking_more, entries_entered, allocator_step_none, allocator_step_then, is_sound_now}
-use Rattle.qcow2_alloc.proofs.FileSteps.{leaves_then}
-use Rattle.qcow2_alloc.proofs.Rooms.{opened_none, empty_run}
-use Rattle.qcow2_alloc.proofs.Runs.{run_in}
-use Rattle.qcow2_alloc.proofs.PlacedRooms.{EntersSo, Counting, opens_range, enters_none, enters_first, counting_first}
-use Rattle.qcow2_alloc.proofs.RoomSteps.{entries_aligned, wrote_err, wrote_ok, may_go, of_three, rest_then, placed_more, range_within, run_within, counts_as, room_enters, room_counts, room_uncached}
-use Rattle.qcow2_alloc.proofs.PlacedBlocks.{file_sizes}
-use Rattle.qcow2_alloc.proofs.allocation.Allocator.place_blocks.Goals.{then-opens_range+in_ok-block+in_ok-write_new_block, else-opens_range}
-use Rattle.qcow2_alloc.specs.Faults.{faults_of}
-use Rattle.qcow2_alloc.proofs.Steps.{fails_by, fails_ok, fails_on, fails_since, memory_other, other_as, part_as, part_none, part_then}
+use Rattle.qcow2_alloc.specs.Rooms.{room_length, PlacesBlocks}
+use Rattle.qcow2_alloc.proofs.AllocationSteps.{handed_on}
+use Rattle.qcow2_alloc.proofs.NewRefblocks.{new_blocks_flushed}
+use Rattle.qcow2_alloc.proofs.Steps.{fails_on, fails_since, table_step_cached, table_step_then}
 use Rattle.qcow2_alloc.proofs.allocation.Allocator.place_blocks.Goals as goal
 
-pub placing-init : goal.placing-init
-placing-init g c =
-    let view = g.S.Storage.view in
-    let h = c.args.file.now.header.fields in
-    let t = c.args.self.now.reftable in
-    let first = c.args.room.first in
-    let none : first - first ≡ 0 = omega arith in
-    record {
-      step = part_none;
-      faults = refl;
-      tables = refl;
-      clean = λ all. all;
-      rest = refl;
-      as_long = refl;
-      lacking = lacking_none t c.args.table.now;
-      counts = c.rb_bits-bits.ensures.counts;
-      bits = let high = c.rb_bits-bits.ensures.high in omega (arith, high);
-      end_is = omega arith;
-      low = omega arith;
-      high = omega arith;
-      placed = none ∙ sym (ap (λ m. opened t (counts_per_block h) first m) none ∙ opened_none t (counts_per_block h) first);
-      sound = λ p sound may longer. (
-        allocator_step_none view (with_run p h t first (room_length c.args.room)) c.args.file.now c.args.self.now sound,
-        subst (λ m. EntersSo h t c.args.table.now c.args.table.now first m first) (sym none)
-            (enters_first h t c.args.table.now first longer.entries (entries_aligned view (with_run p h t first (room_length c.args.room)) c.args.file.now t sound.sound sound.reftable)),
-        counting_first h (contents_in view c.args.file.now) t c.args.table.now first (room_length c.args.room) longer.entries,
-        λ k some. absurd (let empty = empty_run first (first - first) k none in omega (arith, some, empty)),
-      );
-    }
-
-pub returns-in_err-block-clause-sound : goal.returns-in_err-block-clause-sound
-returns-in_err-block-clause-sound g c = λ p sound may longer.
-    let q = with_run p c.args.file.now.header.fields c.args.self.now.reftable c.args.room.first (room_length c.args.room) in
-    let before = c.placing.invariant.sound p sound may longer in
-    handed_on (PlacesBlocks g.S.Storage.view q c.args.file.now c.args.self.now c.placing.file c.args.self.now.reftable c.placing.table c.args.room) c.from_residual.result c.in_err-block.field-0.0 c.from_residual.ensures
-    (inr c.in_err-block.ensures.memory, inl (before.0.file_step, before.0.reftable))
-
-pub returns-in_err-write_new_block-clause-sound : goal.returns-in_err-write_new_block-clause-sound
-returns-in_err-write_new_block-clause-sound g c = λ p sound may longer.
-    let view = g.S.Storage.view in
-    let a = c.args.self.now in
-    let n = room_length c.args.room in
-    let first = c.args.room.first in
-    let q = with_run p c.args.file.now.header.fields c.args.self.now.reftable c.args.room.first (room_length c.args.room) in
-    let before = c.placing.invariant.sound p sound may longer in
-    let may_now = may_go c.args.file.now c.placing.file c.placing.invariant.step.marks.order c.placing.invariant.tables may in
-    let at_in : 0 < run_at first n c.new-place.result =
-    (let is = c.new-place.ensures in let low = c.placing.invariant.low in let high = c.placing.invariant.high in let lt = c.placing-test.true in let end = c.placing.invariant.end_is in
-    let one = run_in first n c.new-place.result (omega (arith, is, low)) (omega (arith, is, high, lt, end)) in omega (arith, one)) in
-    let back = wrote_err view p first n a c.placing.file c.write_new_block.new.file c.new-place.result c.in_ok-block.block c.args.file.now.header.fields (ap (λ x. x.fields) c.placing.invariant.step.header) c.in_err-write_new_block.field-0.0
-    (λ s fits. c.in_err-write_new_block.ensures.sound p first n a s may_now at_in fits) (is_sound_now view q q c.args.file.now c.placing.file a before.0) c.in_ok-block.ensures.format in
-    handed_on (PlacesBlocks view q c.args.file.now a c.write_new_block.new.file a.reftable c.placing.table c.args.room) c.from_residual-in_err-write_new_block.result c.in_err-write_new_block.field-0.0 c.from_residual-in_err-write_new_block.ensures
-    (back.0, leaves_then view q c.args.file.now c.placing.file c.write_new_block.new.file a c.in_err-write_new_block.field-0.0 before.0.file_step back.1)
-
-pub placing-preserved : goal.placing-preserved
-placing-preserved g c =
-    let view = g.S.Storage.view in
-    let old = c.args.file.now in
-    let h = c.args.file.now.header.fields in
-    let a = c.args.self.now in
-    let t = c.args.self.now.reftable in
-    let n = room_length c.args.room in
-    let first = c.args.room.first in
-    let inv = c.placing.invariant in
-    let from = c.placing.auto.cluster in
-    let opens_at = c.opens_range.ensures ∙ ap (λ m. opens t m first c.placing.cluster) (sym inv.counts) in
-    elim c.if-opens_range.branch [
-      | then-opens_range+in_ok-block+in_ok-write_new_block w ↦ record {
-        step = part_as w.file-is (part_then inv.step (w.in_ok-block.ensures.format.bits ∙ ap (λ x. x.fields.cluster_bits) inv.step.header) w.write_new_block.ensures.step);
-        faults = subst (λ f. faults_of g.S.Storage.view f.storage ≡ faults_of g.S.Storage.view old.storage) (sym w.file-is) (w.in_ok-write_new_block.ensures.fails.told ∙ inv.faults);
-        tables = ap (λ f. l2_tables f.caches) w.file-is ∙ w.write_new_block.ensures.tables ∙ inv.tables;
-        clean = λ all. subst (λ f. AreClean (refblocks f.caches)) (sym w.file-is) (w.write_new_block.ensures.clean (inv.clean all));
-        rest = rest_then c.args.table.now c.placing.table w.enter_refblock.new.self c.if-opens_range.table w.table-is w.enter_refblock.ensures.rest inv.rest;
-        as_long = ap (λ x. length x.bytes) w.table-is ∙ w.enter_refblock.ensures.entry.as_long ∙ inv.as_long;
-        lacking = subst (NamesLacking t c.args.table.now) (sym w.table-is) (lacking_more t c.args.table.now c.placing.table w.enter_refblock.new.self (c.placing.cluster / 2 ^ c.rb_bits-bits.result)
-            (opens_range t (2 ^ c.rb_bits-bits.result) first c.placing.cluster (sym c.opens_range.ensures ∙ w.if-opens_range.true)).1 inv.lacking
-            (entries_entered c.placing.table w.enter_refblock.new.self (c.placing.cluster / 2 ^ c.rb_bits-bits.result) w.new-place.result
-            (let is = w.new-place.ensures in let low = inv.low in let above = c.requires.room.above in omega (arith, is, low, above)) w.enter_refblock.ensures.rest w.enter_refblock.ensures.entry w.enter_refblock.ensures.offset));
-        counts = inv.counts;
-        bits = inv.bits;
-        end_is = inv.end_is;
-        low = let is = w.at-is in let low = inv.low in omega (arith, is, low);
-        high = let is = w.at-is in let high = inv.high in omega (arith, is, high);
-        placed = placed_more t (counts_per_block h) first c.placing.at c.if-opens_range.at 1 c.placing.cluster c.opens_range.result inv.low from opens_at w.at-is (sym (ap one_if w.if-opens_range.true)) inv.placed;
-        sound = λ p sound may longer.
-            let q = with_run p c.args.file.now.header.fields c.args.self.now.reftable c.args.room.first (room_length c.args.room) in
-            let before = inv.sound p sound may longer in
-            let may_now = may_go old c.placing.file inv.step.marks.order inv.tables may in
-            let at_same : w.new-place.result ≡ c.placing.at = w.new-place.ensures in
-            let at_in : 0 < run_at first n w.new-place.result =
-            (let low = inv.low in let high = inv.high in let lt = c.placing-test.true in let end = inv.end_is in
-            let one = run_in first n w.new-place.result (omega (arith, at_same, low)) (omega (arith, at_same, high, lt, end)) in omega (arith, one)) in
-            let wrote = wrote_ok view p first n a c.placing.file w.write_new_block.new.file w.new-place.result w.in_ok-block.block h (ap (λ x. x.fields) inv.step.header) w.in_ok-write_new_block.field-0
-            (λ s fits. w.in_ok-write_new_block.ensures.sound p first n a s may_now at_in fits) (is_sound_now view q q old c.placing.file a before.0) w.in_ok-block.ensures.format in
-            let header_same = ap (λ x. x.fields) inv.step.header in
-            let t_bits = ap (λ (x : EntryTableView). x.cluster_bits) inv.rest ∙ c.requires.room.bits in
-            let format = subst (λ (k : HeaderFields). IsBlockOf k w.in_ok-block.block) header_same w.in_ok-block.ensures.format in
-            let run_is : c.args.room.first + c.args.room.blocks + c.args.room.clusters - first ≡ n = omega arith in
-            let begin_is : (c.placing.cluster / 2 ^ c.rb_bits-bits.result * 2 ^ c.rb_bits-bits.result) % 18446744073709551616 ≡ (c.placing.cluster / 2 ^ c.rb_bits-bits.result * 2 ^ c.rb_bits-bits.result) =
-            (let e = div-add-mod' c.placing.cluster (2 ^ c.rb_bits-bits.result) in let lt = c.placing-test.true in let end = inv.end_is in let near = c.requires.room.near in let le = div-le_self greatest_offset (2 ^ c.args.file.now.header.fields.cluster_bits) in
-            omega (arith, e, lt, end, near, le)) in
-            let counts = counts_as c.placing.file.header.fields h w.in_ok-block.block ((c.placing.cluster / 2 ^ c.rb_bits-bits.result * 2 ^ c.rb_bits-bits.result) % 18446744073709551616) (c.placing.cluster / 2 ^ c.rb_bits-bits.result * 2 ^ c.rb_bits-bits.result) first _ n header_same begin_is run_is w.in_ok-block.ensures.counts in
-            let within = range_within c.placing.cluster (first + n) (entry_count c.placing.table) (counts_per_block h)
-            (let lt = c.placing-test.true in let end = inv.end_is in omega (arith, lt, end)) (subst (λ m. first + n ≤ m / 8 * counts_per_block h) (sym inv.as_long) c.requires.room.within) in
-            let sizes = file_sizes view q old sound.sound in
-            let enter = subst (λ m. ChangesEntry c.placing.table.bytes w.enter_refblock.new.self.bytes (c.placing.cluster / 2 ^ c.rb_bits-bits.result) (m * 2 ^ c.placing.table.cluster_bits)) at_same w.enter_refblock.ensures.entry in
-            let offset = w.enter_refblock.ensures.offset ∙ ap (λ m. m * 2 ^ c.placing.table.cluster_bits) at_same in
-            let stands = subst (λ m. StandAt (contents_in view w.write_new_block.new.file) (m * cluster_size h) w.in_ok-block.block.bytes) at_same wrote.1 in
-            let outside = subst (λ m. IsSameOutside (cluster_size h) m (contents_in view c.placing.file) (contents_in view w.write_new_block.new.file)) at_same wrote.2 in
-            let gone = ap (λ m. rb_at w.write_new_block.new.file.caches m) (sym at_same) ∙ wrote.3 in
-            let others = λ (k : ℕ) (other : k ≡ c.placing.at → ⊥). w.write_new_block.ensures.others k (λ e. other (e ∙ at_same)) in
-            let open_here = sym opens_at ∙ w.if-opens_range.true in
-            of_three (λ f x m. InternalAllocatorStep view q old a f q × EntersSo h t c.args.table.now x first (m - first) (c.placing.cluster + 1) × Counting h (contents_in view f) t x first n × ((k : ℕ) → 0 < run_at first (m - first) k → rb_at f.caches k ≡ None))
-            c.if-opens_range.file w.write_new_block.new.file c.if-opens_range.table w.enter_refblock.new.self c.if-opens_range.at (c.placing.at + 1) w.file-is w.table-is w.at-is (
-              allocator_step_then view q q old c.placing.file w.write_new_block.new.file a a before.0 wrote.0,
-              room_enters view h sizes t c.args.table.now c.placing.table w.enter_refblock.new.self c.placing.file w.write_new_block.new.file first n c.placing.at c.placing.cluster c.rb_bits-bits.result w.in_ok-block.block
-                  c.requires.room.above inv.low from inv.counts t_bits longer.entries open_here within enter offset before.1 before.2 before.3 w.in_ok-block.ensures.whole format counts stands outside gone others,
-              room_counts view h sizes t c.args.table.now c.placing.table w.enter_refblock.new.self c.placing.file w.write_new_block.new.file first n c.placing.at c.placing.cluster c.rb_bits-bits.result w.in_ok-block.block
-                  c.requires.room.above inv.low from inv.counts t_bits longer.entries open_here within enter offset before.1 before.2 before.3 w.in_ok-block.ensures.whole format counts stands outside gone others,
-              room_uncached view h sizes t c.args.table.now c.placing.table w.enter_refblock.new.self c.placing.file w.write_new_block.new.file first n c.placing.at c.placing.cluster c.rb_bits-bits.result w.in_ok-block.block
-                  c.requires.room.above inv.low from inv.counts t_bits longer.entries open_here within enter offset before.1 before.2 before.3 w.in_ok-block.ensures.whole format counts stands outside gone others,
-            );
-      }
-      | else-opens_range w ↦ record {
-        step = part_as w.file-is inv.step;
-        faults = subst (λ f. faults_of g.S.Storage.view f.storage ≡ faults_of g.S.Storage.view old.storage) (sym w.file-is) inv.faults;
-        tables = ap (λ f. l2_tables f.caches) w.file-is ∙ inv.tables;
-        clean = λ all. subst (λ f. AreClean (refblocks f.caches)) (sym w.file-is) (inv.clean all);
-        rest = subst (λ (x : EntryTableView). x ≡ record c.args.table.now { bytes = x.bytes }) (sym w.table-is) inv.rest;
-        as_long = ap (λ x. length x.bytes) w.table-is ∙ inv.as_long;
-        lacking = subst (NamesLacking t c.args.table.now) (sym w.table-is) inv.lacking;
-        counts = inv.counts;
-        bits = inv.bits;
-        end_is = inv.end_is;
-        low = let is = w.at-is in let low = inv.low in omega (arith, is, low);
-        high = let is = w.at-is in let high = inv.high in omega (arith, is, high);
-        placed = placed_more t (counts_per_block h) first c.placing.at c.if-opens_range.at 0 c.placing.cluster c.opens_range.result inv.low from opens_at (let is = w.at-is in omega (arith, is)) (sym (ap one_if w.if-opens_range.false)) inv.placed;
-        sound = λ p sound may longer.
-            let q = with_run p c.args.file.now.header.fields c.args.self.now.reftable c.args.room.first (room_length c.args.room) in
-            let before = inv.sound p sound may longer in
-            let sizes = file_sizes view q old sound.sound in
-            of_three (λ f x m. InternalAllocatorStep view q old a f q × EntersSo h t c.args.table.now x first (m - first) (c.placing.cluster + 1) × Counting h (contents_in view f) t x first n × ((k : ℕ) → 0 < run_at first (m - first) k → rb_at f.caches k ≡ None))
-            c.if-opens_range.file c.placing.file c.if-opens_range.table c.placing.table c.if-opens_range.at c.placing.at w.file-is w.table-is w.at-is
-            (before.0, enters_none h t c.args.table.now c.placing.table first (c.placing.at - first) c.placing.cluster from sizes.counts before.1 (sym opens_at ∙ w.if-opens_range.false), before.2, before.3);
-      }
-    ]
+pub returns-in_err-cache_blocks-clause-sound : goal.returns-in_err-cache_blocks-clause-sound
+returns-in_err-cache_blocks-clause-sound g c = λ p sound may longer.
+    handed_on (PlacesBlocks g.S.Storage.view (with_run p c.args.file.now.header.fields c.args.self.now.reftable c.args.room.first (room_length c.args.room)) c.args.file.now c.args.self.now c.cache_blocks.new.file c.args.self.now.reftable c.cache_blocks.new.table c.args.room)
+    c.from_residual.result c.in_err-cache_blocks.field-0.0 c.from_residual.ensures (c.in_err-cache_blocks.ensures.sound p sound may longer)
 
 pub returns-clause-sound : goal.returns-clause-sound
 returns-clause-sound g c = λ p sound may longer.
-    let h = c.args.file.now.header.fields in
-    let t = c.args.self.now.reftable in
-    let first = c.args.room.first in
-    let n = room_length c.args.room in
-    let inv = c.placing.invariant in
-    let before = inv.sound p sound may longer in
-    let at_end : c.placing.cluster ≡ first + n = (let past = c.placing-test.false in let le = c.placing.auto.cluster-end in let end = inv.end_is in omega (arith, past, le, end)) in
-    let blocks : c.placing.at - first ≡ c.args.room.blocks = inv.placed ∙ ap (opened t (counts_per_block h) first) (let e : c.placing.cluster - first ≡ n = omega (arith, at_end) in e) ∙ sym c.requires.room.blocks in
-    let enters = subst (λ m. EntersSo h t c.args.table.now c.placing.table first m c.placing.cluster) blocks before.1 in
-    record {
-      allocator_step = before.0;
-      grown = record {
-        cluster = refl;
-        bits = ap (λ (x : EntryTableView). x.cluster_bits) inv.rest ∙ c.requires.room.bits;
-        whole = ap (λ m. 8 * (m / 8)) inv.as_long ∙ longer.whole;
-        keeps = enters.keeps;
-        aligned = enters.aligned;
-        placed = enters.in_room;
-        named = λ k. enters.named k ∙ ap (λ m. m + run_at first c.args.room.blocks k) (longer.named k);
-        covered = λ k some. let in_run = run_within first n k some in enters.covered k in_run.0 (let lt = in_run.1 in omega (arith, at_end, lt));
-      };
-      counts = subst (λ (x : HeaderFields). Counting x (contents_in g.S.Storage.view c.placing.file) t c.placing.table first n) (sym (ap (λ x. x.fields) inv.step.header)) before.2;
-      uncached = λ k some. before.3 k (subst (λ m. 0 < run_at first m k) (sym blocks) some);
-    }
-
-fits_below : (at greatest size : ℕ) → at ≤ greatest / size → at * size ≤ greatest
-fits_below at greatest size le = let product : size * at ≤ size * (greatest / size) = mul-le-mul_left size le in let e = div-add-mod' greatest size in omega (arith, product, e)
-
-at_fits : (at cluster first n end greatest size : ℕ) → at ≤ cluster → cluster < end → end ≡ first + n → first + n ≤ greatest / size + 1 → at * size ≤ greatest
-at_fits at cluster first n end greatest size low lt is near = fits_below at greatest size (omega arith)
-
-pub run_block-requires-clause-place : goal.run_block-requires-clause-place
-run_block-requires-clause-place g c =
-    let inv = c.placing.invariant in
-    let fits = at_fits c.placing.at c.placing.cluster c.args.room.first (room_length c.args.room) _ greatest_offset (2 ^ c.args.file.now.header.fields.cluster_bits) inv.high c.placing-test.true inv.end_is c.requires.room.near in
-    let below : c.placing.at * 2 ^ c.args.file.now.header.fields.cluster_bits < 2 ^ 64 = omega arith in
-    subst (λ (m : ℕ). HasPlace c.placing.file.header.fields.cluster_bits m) (sym c.new-place.ensures) (subst (λ (x : HeaderView). HasPlace x.fields.cluster_bits c.placing.at) (sym inv.step.header) below)
-
-pub enter_refblock-requires-clause-within : goal.enter_refblock-requires-clause-within
-enter_refblock-requires-clause-within g c =
-    let inv = c.placing.invariant in
-    let h = c.args.file.now.header.fields in
-    let first = c.args.room.first in
-    let n = room_length c.args.room in
-    let within = range_within c.placing.cluster (first + n) (entry_count c.placing.table) (counts_per_block h)
-    (let lt = c.placing-test.true in let end = inv.end_is in omega (arith, lt, end)) (subst (λ m. first + n ≤ m / 8 * counts_per_block h) (sym inv.as_long) c.requires.room.within) in
-    subst (λ (m : ℕ). c.placing.cluster / m < entry_count c.placing.table) inv.counts within
-
-pub enter_refblock-requires-clause-cluster : goal.enter_refblock-requires-clause-cluster
-enter_refblock-requires-clause-cluster g c =
-    let inv = c.placing.invariant in
-    let fits = at_fits c.placing.at c.placing.cluster c.args.room.first (room_length c.args.room) _ greatest_offset (2 ^ c.args.file.now.header.fields.cluster_bits) inv.high c.placing-test.true inv.end_is c.requires.room.near in
-    let bits = ap (λ (x : EntryTableView). x.cluster_bits) inv.rest ∙ c.requires.room.bits in
-    subst (λ (m : ℕ). IsHostCluster c.placing.table.cluster_bits m) (sym c.new-place.ensures) (subst (λ (b : ℕ). IsHostCluster b c.placing.at) (sym bits) fits)
-
-pub returns-in_err-block-clause-fails : goal.returns-in_err-block-clause-fails
-returns-in_err-block-clause-fails g c =
-    fails_since c.placing.invariant.faults (fails_on c.from_residual.result c.in_err-block.field-0.0 c.from_residual.ensures (fails_by c.in_err-block.field-0.0 (other_as c.in_err-block.ensures.memory memory_other) refl c.in_err-block.ensures.cause))
-
-pub returns-in_err-write_new_block-clause-fails : goal.returns-in_err-write_new_block-clause-fails
-returns-in_err-write_new_block-clause-fails g c = fails_on c.from_residual-in_err-write_new_block.result c.in_err-write_new_block.field-0.0 c.from_residual-in_err-write_new_block.ensures (fails_since c.placing.invariant.faults c.in_err-write_new_block.ensures.fails)
-
-pub returns-clause-fails : goal.returns-clause-fails
-returns-clause-fails g c = fails_ok c.placing.invariant.faults
-
-pub returns-in_err-block-clause-step : goal.returns-in_err-block-clause-step
-returns-in_err-block-clause-step g c = c.placing.invariant.step
-
-pub returns-in_err-write_new_block-clause-step : goal.returns-in_err-write_new_block-clause-step
-returns-in_err-write_new_block-clause-step g c = part_then c.placing.invariant.step (c.in_ok-block.ensures.format.bits ∙ ap (λ x. x.fields.cluster_bits) c.placing.invariant.step.header) c.write_new_block.ensures.step
+    let q = with_run p c.args.file.now.header.fields c.args.self.now.reftable c.args.room.first (room_length c.args.room) in
+    let f = c.cache_blocks.new.file in
+    let cached = c.in_ok-cache_blocks.ensures.sound p sound may longer in
+    new_blocks_flushed g.S.Storage.view q c.args.self.now c.args.file.now f c.flush_rb.new.storage c.flush_rb.new.self c.args.self.now.reftable c.cache_blocks.new.table c.args.room c.flush_rb.result sound.sound c.cache_blocks.ensures.step.header cached
+    c.flush_rb.ensures.sound c.flush_rb.ensures.step.marks (c.flush_rb.ensures.faults f.header.fields q cached.blocks.honest cached.blocks.caches cached.places) c.flush_rb.ensures.flushes.written c.flush_rb.ensures.flushes.first
 
 pub returns-clause-step : goal.returns-clause-step
-returns-clause-step g c = c.placing.invariant.step
+returns-clause-step g c = table_step_then c.cache_blocks.ensures.step (table_step_cached c.flush_rb.ensures.step.marks c.flush_rb.ensures.step.header_cluster)
 
-pub returns-in_err-block-clause-table : goal.returns-in_err-block-clause-table
-returns-in_err-block-clause-table g c = record { rest = c.placing.invariant.rest; as_long = c.placing.invariant.as_long; lacking = c.placing.invariant.lacking }
+pub returns-in_err-cache_blocks-clause-fails : goal.returns-in_err-cache_blocks-clause-fails
+returns-in_err-cache_blocks-clause-fails g c = fails_on c.from_residual.result c.in_err-cache_blocks.field-0.0 c.from_residual.ensures c.in_err-cache_blocks.ensures.fails
 
-pub returns-in_err-write_new_block-clause-table : goal.returns-in_err-write_new_block-clause-table
-returns-in_err-write_new_block-clause-table g c = record { rest = c.placing.invariant.rest; as_long = c.placing.invariant.as_long; lacking = c.placing.invariant.lacking }
-
-pub returns-clause-table : goal.returns-clause-table
-returns-clause-table g c = record { rest = c.placing.invariant.rest; as_long = c.placing.invariant.as_long; lacking = c.placing.invariant.lacking }
+pub returns-clause-fails : goal.returns-clause-fails
+returns-clause-fails g c = fails_since c.in_ok-cache_blocks.ensures.fails.told c.flush_rb.ensures.fails

@@ -23,7 +23,7 @@ reaching-init g c = record {
       subst (λ (r : Pending). InternalAllocatorStep g.S.Storage.view p c.args.file.now c.args.self.now c.args.file.now r)
       (sym (run_none c.args.file.now.header.fields c.args.self.now.reftable p c.args.first 0 (λ k. counted_few c.args.file.now.header.fields c.args.self.now.reftable c.args.first 0 k refl)))
       (allocator_step_none g.S.Storage.view p c.args.file.now c.args.self.now sound);
-  noted = inl (λ k. counted_few c.args.file.now.header.fields c.args.self.now.reftable c.args.first 0 k refl);
+  recorded = inl (λ k. counted_few c.args.file.now.header.fields c.args.self.now.reftable c.args.first 0 k refl);
   blocks = sym (opened_none c.args.self.now.reftable (counts_per_block c.args.file.now.header.fields) c.args.first);
   within = let lt = c.requires.below in omega (arith, lt);
   few = omega arith;
@@ -40,7 +40,7 @@ returns-in_err-allocate_if_free-clause-sound g c = λ p sound.
           handed_on (ReachesRoom g.S.Storage.view p c.args.file.now c.allocate_if_free.new.self c.allocate_if_free.new.file c.args.self.now.reftable c.args.first) c.from_residual.result c.in_err-allocate_if_free.field-0.0 c.from_residual.ensures (
             back.0,
             ends_room g.S.Storage.view p c.args.self.now.reftable c.args.first c.reaching.taken c.args.file.now c.reaching.file c.allocate_if_free.new.file c.reaching.self c.allocate_if_free.new.self c.in_err-allocate_if_free.field-0.0 before
-                (still_noted c.args.file.now.header.fields c.args.self.now.reftable c.args.first c.reaching.taken c.reaching.file.caches.is_changed c.allocate_if_free.new.file.caches.is_changed c.allocate_if_free.ensures.step.marks.pins.changes.noted c.reaching.invariant.noted) back.0 back.1,
+                (still_noted c.args.file.now.header.fields c.args.self.now.reftable c.args.first c.reaching.taken c.reaching.file.caches.is_changed c.allocate_if_free.new.file.caches.is_changed c.allocate_if_free.ensures.step.marks.pins.changes.recorded c.reaching.invariant.recorded) back.0 back.1,
           );
       stopped = λ hint. if_no_ok _ c.from_residual.result c.in_err-allocate_if_free.field-0.0 c.from_residual.ensures;
     }
@@ -77,8 +77,8 @@ reaching-preserved g c =
           let q : Pending = with_run p h t c.args.first c.reaching.taken in
           run_taken g.S.Storage.view p t c.reaching.self.reftable c.args.first c.reaching.taken c.args.file.now c.reaching.file c.allocate_if_free.new.file c.reaching.self c.allocate_if_free.new.self c.in_ok-allocate_if_free.field-0
           (ap (λ x. x.fields) c.reaching.invariant.step.header) same before c.if-not-branch.false (c.in_ok-allocate_if_free.ensures.sound q (is_sound_now g.S.Storage.view p q c.args.file.now c.reaching.file c.reaching.self before));
-      noted = noted_more h t c.args.first c.reaching.taken c.reaching.file.caches.is_changed c.allocate_if_free.new.file.caches.is_changed c.allocate_if_free.ensures.step.marks.pins.changes.noted c.reaching.invariant.noted
-          (λ has. c.in_ok-allocate_if_free.ensures.noted c.if-not-branch.false
+      recorded = noted_more h t c.args.first c.reaching.taken c.reaching.file.caches.is_changed c.allocate_if_free.new.file.caches.is_changed c.allocate_if_free.ensures.step.marks.pins.changes.recorded c.reaching.invariant.recorded
+          (λ has. c.in_ok-allocate_if_free.ensures.recorded c.if-not-branch.false
           (ap (λ x. lacks x ((c.args.first + c.reaching.taken) / 2 ^ c.rb_bits-bits.result)) same ∙ ap (λ n. lacks t ((c.args.first + c.reaching.taken) / n)) (sym c.reaching.invariant.counts) ∙ has));
       blocks = opened_more t (counts_per_block h) c.args.first c.reaching.taken c.reaching.blocks c.from.result c.opens_range.result opens_now (c.from.ensures ∙ is_flag c.opens_range.result) c.reaching.invariant.blocks;
       within = let lt = c.if-taken-end.true in let below = c.requires.below in omega (arith, lt, below);
@@ -103,9 +103,6 @@ returns-in_err-allocate_if_free-clause-step g c = table_step_then c.reaching.inv
 pub returns-in_err-allocate_if_free-clause-fails : goal.returns-in_err-allocate_if_free-clause-fails
 returns-in_err-allocate_if_free-clause-fails g c = fails_on c.from_residual.result c.in_err-allocate_if_free.field-0.0 c.from_residual.ensures (fails_since c.reaching.invariant.faults c.in_err-allocate_if_free.ensures.fails)
 
-pub returns-in_err-allocate_if_free-clause-reach : goal.returns-in_err-allocate_if_free-clause-reach
-returns-in_err-allocate_if_free-clause-reach g c = if_no_ok _ c.from_residual.result c.in_err-allocate_if_free.field-0.0 c.from_residual.ensures
-
 pub returns-in_err-allocate_if_free-clause-same : goal.returns-in_err-allocate_if_free-clause-same
 returns-in_err-allocate_if_free-clause-same g c = c.allocate_if_free.ensures.same ∙ c.reaching.invariant.same
 
@@ -118,14 +115,8 @@ returns-then-not-branch-clause-fails g c = fails_ok (c.in_ok-allocate_if_free.en
 pub returns-then-not-branch-clause-same : goal.returns-then-not-branch-clause-same
 returns-then-not-branch-clause-same g c = c.allocate_if_free.ensures.same ∙ c.reaching.invariant.same
 
-pub returns-clause-step : goal.returns-clause-step
-returns-clause-step g c = c.reaching.invariant.step
-
 pub returns-clause-fails : goal.returns-clause-fails
 returns-clause-fails g c = fails_ok c.reaching.invariant.faults
-
-pub returns-clause-same : goal.returns-clause-same
-returns-clause-same g c = c.reaching.invariant.same
 
 pub returns-clause-reach : goal.returns-clause-reach
 returns-clause-reach g c = record {
@@ -137,7 +128,7 @@ returns-clause-reach g c = record {
         more_short c.args.self.now.reftable (counts_per_block c.args.file.now.header.fields) c.args.first c.reaching.taken c.reaching.blocks c.args.clusters c.reaching.invariant.blocks w.reaching-test.true c.reaching.invariant.short n (omega (arith, le))
     | else-reaching-test w ↦ absurd (some (let up_to = c.reaching.invariant.up_to in let past = w.reaching-test.false in omega (arith, up_to, past)))
   ];
-  noted = c.reaching.invariant.noted;
+  recorded = c.reaching.invariant.recorded;
 }
 
 pub returns-then-not-branch-clause-reach : goal.returns-then-not-branch-clause-reach
@@ -147,5 +138,5 @@ returns-then-not-branch-clause-reach g c = record {
   blocks = c.reaching.invariant.blocks;
   short = λ some n le.
       more_short c.args.self.now.reftable (counts_per_block c.args.file.now.header.fields) c.args.first c.reaching.taken c.reaching.blocks c.args.clusters c.reaching.invariant.blocks c.reaching-test.true c.reaching.invariant.short n (omega (arith, le));
-  noted = still_noted c.args.file.now.header.fields c.args.self.now.reftable c.args.first c.reaching.taken c.reaching.file.caches.is_changed c.allocate_if_free.new.file.caches.is_changed c.allocate_if_free.ensures.step.marks.pins.changes.noted c.reaching.invariant.noted;
+  recorded = still_noted c.args.file.now.header.fields c.args.self.now.reftable c.args.first c.reaching.taken c.reaching.file.caches.is_changed c.allocate_if_free.new.file.caches.is_changed c.allocate_if_free.ensures.step.marks.pins.changes.recorded c.reaching.invariant.recorded;
 }

@@ -18,7 +18,7 @@ invariant-reaching g l = record {
   counts : counts_per_block l.fn.file.header.fields ≡ 2 ^ l.bits;
   bits : l.bits < 64;
   sound : (p : Pending) → AllocatorInvariant g.S.Storage.view l.fn.self p l.fn.file → InternalAllocatorStep g.S.Storage.view p l.fn.file l.self l.file (with_run p l.fn.file.header.fields l.fn.self.reftable l.fn.first l.taken);
-  noted : ((k : ℕ) → counted_run l.fn.file.header.fields l.fn.self.reftable l.fn.first l.taken k ≡ 0) ⊎ IsTrue l.file.caches.is_changed;
+  recorded : ((k : ℕ) → counted_run l.fn.file.header.fields l.fn.self.reftable l.fn.first l.taken k ≡ 0) ⊎ IsTrue l.file.caches.is_changed;
   blocks : l.blocks ≡ opened l.fn.self.reftable (counts_per_block l.fn.file.header.fields) l.fn.first l.taken;
   within : l.fn.first + l.taken ≤ l.fn.end;
   few : l.blocks ≤ l.taken;

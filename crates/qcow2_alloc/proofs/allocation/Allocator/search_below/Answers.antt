@@ -1,13 +1,12 @@
 use Rattle.std.proofs.Common.{ℕ, ap, ◌+◌, arith, ◌*◌, ◌^◌, ◌≤◌, false, refl, sym, ◌∙◌, subst, ◌<◌, ◌/◌, ◌≡◌}
 use Rattle.qcow2_metadata.specs.Header.{counts_per_block}
 use Rattle.qcow2_laws.specs.Changes.{one_at}
-use Rattle.qcow2_alloc.specs.Allocation.{taken_as, KeepsEntries, TakesLowest}
+use Rattle.qcow2_alloc.specs.Allocation.{taken_as, KeepsEntries, AllocatesLowest}
 use Rattle.qcow2_alloc.specs.declared.allocation.Allocator.{Allocator}
 use Rattle.qcow2_alloc.specs.LowestRuns.{KeepsNoFreeBelowHint}
 use Rattle.qcow2_alloc.proofs.FileSteps.{one_here, leaves_then}
 use Rattle.qcow2_alloc.proofs.Hints.{hint_header, hint_stays, hint_taken, hint_more, hint_passed, hint_refused, passed_same, passed_still, range_as, taken_used}
 use Rattle.qcow2_alloc.proofs.AllocationSteps.{allocator_step_none, behind_none, handed_on, entries_then, entries_less, other_range, allocator_step_as, allocator_step_then, is_sound_now}
-use Rattle.qcow2_alloc.proofs.Outcomes.{if_no_ok}
 use Rattle.std.specs.Prelude.{◌≢◌}
 use Rattle.qcow2_metadata.specs.EntryTable.{EntryTableView}
 use Rattle.qcow2_alloc.proofs.Steps.{fails_ok, fails_on, fails_since, table_step_none, table_step_then}
@@ -21,23 +20,23 @@ covered_entries t u v cluster end per counts below same first then =
 pub returns-in_err-ensure_self_counting_refblock-clause-sound : goal.returns-in_err-ensure_self_counting_refblock-clause-sound
 returns-in_err-ensure_self_counting_refblock-clause-sound g c = λ p sound.
     let before = c.search.invariant.sound p sound in
-    handed_on (TakesLowest g.S.Storage.view p c.args.file.now c.ensure_self_counting_refblock.new.self c.ensure_self_counting_refblock.new.file) c.from_residual.result c.in_err-ensure_self_counting_refblock.field-0.0 c.from_residual.ensures
+    handed_on (AllocatesLowest g.S.Storage.view p c.args.file.now c.ensure_self_counting_refblock.new.self c.ensure_self_counting_refblock.new.file) c.from_residual.result c.in_err-ensure_self_counting_refblock.field-0.0 c.from_residual.ensures
     (leaves_then g.S.Storage.view p c.args.file.now c.search.file c.ensure_self_counting_refblock.new.file c.ensure_self_counting_refblock.new.self c.in_err-ensure_self_counting_refblock.field-0.0 before.file_step ((c.in_err-ensure_self_counting_refblock.ensures.sound p (is_sound_now g.S.Storage.view p p c.args.file.now c.search.file c.search.self before)).gets))
 
 pub returns-in_err-taken-clause-sound : goal.returns-in_err-taken-clause-sound
 returns-in_err-taken-clause-sound g c = λ p sound.
     let before = c.search.invariant.sound p sound in
     let covered = allocator_step_then g.S.Storage.view p p c.args.file.now c.search.file c.ensure_self_counting_refblock.new.file c.search.self c.ensure_self_counting_refblock.new.self before ((c.in_ok-ensure_self_counting_refblock.ensures.sound p (is_sound_now g.S.Storage.view p p c.args.file.now c.search.file c.search.self before)).gets) in
-    handed_on (TakesLowest g.S.Storage.view p c.args.file.now c.raise.new.self c.raise.new.file) c.from_residual-in_err-taken.result c.in_err-taken.field-0.0 c.from_residual-in_err-taken.ensures
-    (leaves_then g.S.Storage.view p c.args.file.now c.ensure_self_counting_refblock.new.file c.raise.new.file c.raise.new.self c.in_err-taken.field-0.0 covered.file_step ((c.in_err-taken.ensures.sound p false (is_sound_now g.S.Storage.view p p c.args.file.now c.ensure_self_counting_refblock.new.file c.ensure_self_counting_refblock.new.self covered) tt).takes))
+    handed_on (AllocatesLowest g.S.Storage.view p c.args.file.now c.increment_refcount.new.self c.increment_refcount.new.file) c.from_residual-in_err-taken.result c.in_err-taken.field-0.0 c.from_residual-in_err-taken.ensures
+    (leaves_then g.S.Storage.view p c.args.file.now c.ensure_self_counting_refblock.new.file c.increment_refcount.new.file c.increment_refcount.new.self c.in_err-taken.field-0.0 covered.file_step ((c.in_err-taken.ensures.sound p false (is_sound_now g.S.Storage.view p p c.args.file.now c.ensure_self_counting_refblock.new.file c.ensure_self_counting_refblock.new.self covered) tt).takes))
 
 pub returns-then-taken-clause-sound : goal.returns-then-taken-clause-sound
 returns-then-taken-clause-sound g c = λ p sound.
     let before = c.search.invariant.sound p sound in
     let covered = allocator_step_then g.S.Storage.view p p c.args.file.now c.search.file c.ensure_self_counting_refblock.new.file c.search.self c.ensure_self_counting_refblock.new.self before ((c.in_ok-ensure_self_counting_refblock.ensures.sound p (is_sound_now g.S.Storage.view p p c.args.file.now c.search.file c.search.self before)).gets) in
     let taken = rw c.if-taken.true at ((c.in_ok-taken.ensures.sound p false (is_sound_now g.S.Storage.view p p c.args.file.now c.ensure_self_counting_refblock.new.file c.ensure_self_counting_refblock.new.self covered) tt).takes) in
-    allocator_step_as g.S.Storage.view p (taken_as false p (one_at c.search.self.first_free_cluster)) c.args.file.now c.raise.new.file c.raise.new.self _ refl
-    (allocator_step_then g.S.Storage.view p (taken_as false p (one_at c.search.self.first_free_cluster)) c.args.file.now c.ensure_self_counting_refblock.new.file c.raise.new.file c.ensure_self_counting_refblock.new.self c.raise.new.self covered taken)
+    allocator_step_as g.S.Storage.view p (taken_as false p (one_at c.search.self.first_free_cluster)) c.args.file.now c.increment_refcount.new.file c.increment_refcount.new.self _ refl
+    (allocator_step_then g.S.Storage.view p (taken_as false p (one_at c.search.self.first_free_cluster)) c.args.file.now c.ensure_self_counting_refblock.new.file c.increment_refcount.new.file c.ensure_self_counting_refblock.new.self c.increment_refcount.new.self covered taken)
 
 pub search-init : goal.search-init
 search-init g c = record {
@@ -53,38 +52,38 @@ search-init g c = record {
 pub search-preserved : goal.search-preserved
 search-preserved g c = record {
   faults = c.in_ok-self.ensures.fails.told ∙ (c.in_ok-taken.ensures.fails.told ∙ (c.in_ok-ensure_self_counting_refblock.ensures.fails.told ∙ c.search.invariant.faults));
-  step = table_step_then (table_step_then (table_step_then c.search.invariant.step c.ensure_self_counting_refblock.ensures.step) c.raise.ensures.step) c.next_free_in_range.ensures.step;
+  step = table_step_then (table_step_then (table_step_then c.search.invariant.step c.ensure_self_counting_refblock.ensures.step) c.increment_refcount.ensures.step) c.next_open.ensures.step;
   entries =
-      subst (λ (t : Allocator). KeepsEntries (λ k. c.args.end ≤ k * counts_per_block c.args.file.now.header.fields) c.args.self.now.reftable t.reftable) (sym c.raise.ensures.same)
+      subst (λ (t : Allocator). KeepsEntries (λ k. c.args.end ≤ k * counts_per_block c.args.file.now.header.fields) c.args.self.now.reftable t.reftable) (sym c.increment_refcount.ensures.same)
       (covered_entries c.args.self.now.reftable c.search.self.reftable c.ensure_self_counting_refblock.new.self.reftable c.search.self.first_free_cluster c.args.end (2 ^ c.rb_bits-bits.result) (counts_per_block c.args.file.now.header.fields) c.search-test.true c.rb_bits-bits.ensures.counts
       c.search.invariant.entries c.ensure_self_counting_refblock.ensures.entries);
   above = let behind = c.in_ok-self.ensures.behind in omega (arith, behind);
-  leaks = ap (λ (t : Allocator). t.leaked_clusters) c.raise.ensures.same ∙ c.ensure_self_counting_refblock.ensures.leaks ∙ c.search.invariant.leaks;
+  leaks = ap (λ (t : Allocator). t.leaked_clusters) c.increment_refcount.ensures.same ∙ c.ensure_self_counting_refblock.ensures.leaks ∙ c.search.invariant.leaks;
   sound = λ p sound.
       let before = c.search.invariant.sound p sound in
       let covered = allocator_step_then g.S.Storage.view p p c.args.file.now c.search.file c.ensure_self_counting_refblock.new.file c.search.self c.ensure_self_counting_refblock.new.self before ((c.in_ok-ensure_self_counting_refblock.ensures.sound p (is_sound_now g.S.Storage.view p p c.args.file.now c.search.file c.search.self before)).gets) in
       let taken = rw c.if-taken.false at ((c.in_ok-taken.ensures.sound p false (is_sound_now g.S.Storage.view p p c.args.file.now c.ensure_self_counting_refblock.new.file c.ensure_self_counting_refblock.new.self covered) tt).takes) in
-      let marked : Allocator = record c.raise.new.self { first_free_cluster = c.search.self.first_free_cluster + 1 } in
-      let mid = allocator_step_as g.S.Storage.view p p c.args.file.now c.raise.new.file c.raise.new.self marked refl (allocator_step_then g.S.Storage.view p p c.args.file.now c.ensure_self_counting_refblock.new.file c.raise.new.file c.ensure_self_counting_refblock.new.self c.raise.new.self covered taken) in
-      let there = is_sound_now g.S.Storage.view p p c.args.file.now c.raise.new.file marked mid in
+      let marked : Allocator = record c.increment_refcount.new.self { first_free_cluster = c.search.self.first_free_cluster + 1 } in
+      let mid = allocator_step_as g.S.Storage.view p p c.args.file.now c.increment_refcount.new.file c.increment_refcount.new.self marked refl (allocator_step_then g.S.Storage.view p p c.args.file.now c.ensure_self_counting_refblock.new.file c.increment_refcount.new.file c.ensure_self_counting_refblock.new.self c.increment_refcount.new.self covered taken) in
+      let there = is_sound_now g.S.Storage.view p p c.args.file.now c.increment_refcount.new.file marked mid in
       let passed = c.in_ok-self.ensures.sound p there in
-      allocator_step_as g.S.Storage.view p p c.args.file.now c.next_free_in_range.new.file marked _ refl (allocator_step_then g.S.Storage.view p p c.args.file.now c.raise.new.file c.next_free_in_range.new.file marked marked mid passed.0);
+      allocator_step_as g.S.Storage.view p p c.args.file.now c.next_open.new.file marked _ refl (allocator_step_then g.S.Storage.view p p c.args.file.now c.increment_refcount.new.file c.next_open.new.file marked marked mid passed.0);
   hint = λ p sound hint.
       let before = c.search.invariant.sound p sound in
       let covered = allocator_step_then g.S.Storage.view p p c.args.file.now c.search.file c.ensure_self_counting_refblock.new.file c.search.self c.ensure_self_counting_refblock.new.self before ((c.in_ok-ensure_self_counting_refblock.ensures.sound p (is_sound_now g.S.Storage.view p p c.args.file.now c.search.file c.search.self before)).gets) in
       let taken = rw c.if-taken.false at ((c.in_ok-taken.ensures.sound p false (is_sound_now g.S.Storage.view p p c.args.file.now c.ensure_self_counting_refblock.new.file c.ensure_self_counting_refblock.new.self covered) tt).takes) in
-      let marked : Allocator = record c.raise.new.self { first_free_cluster = c.search.self.first_free_cluster + 1 } in
-      let mid = allocator_step_as g.S.Storage.view p p c.args.file.now c.raise.new.file c.raise.new.self marked refl (allocator_step_then g.S.Storage.view p p c.args.file.now c.ensure_self_counting_refblock.new.file c.raise.new.file c.ensure_self_counting_refblock.new.self c.raise.new.self covered taken) in
-      let there = is_sound_now g.S.Storage.view p p c.args.file.now c.raise.new.file marked mid in
+      let marked : Allocator = record c.increment_refcount.new.self { first_free_cluster = c.search.self.first_free_cluster + 1 } in
+      let mid = allocator_step_as g.S.Storage.view p p c.args.file.now c.increment_refcount.new.file c.increment_refcount.new.self marked refl (allocator_step_then g.S.Storage.view p p c.args.file.now c.ensure_self_counting_refblock.new.file c.increment_refcount.new.file c.ensure_self_counting_refblock.new.self c.increment_refcount.new.self covered taken) in
+      let there = is_sound_now g.S.Storage.view p p c.args.file.now c.increment_refcount.new.file marked mid in
       let now = is_sound_now g.S.Storage.view p p c.args.file.now c.search.file c.search.self before in
       let is_covered = is_sound_now g.S.Storage.view p p c.args.file.now c.ensure_self_counting_refblock.new.file c.ensure_self_counting_refblock.new.self covered in
       let one = hint_stays g.S.Storage.view p c.search.file c.ensure_self_counting_refblock.new.file c.search.self c.ensure_self_counting_refblock.new.self ((c.in_ok-ensure_self_counting_refblock.ensures.sound p now).gets) c.ensure_self_counting_refblock.ensures.first.passed (c.search.invariant.hint p sound hint) in
-      let two = hint_stays g.S.Storage.view p c.ensure_self_counting_refblock.new.file c.raise.new.file c.ensure_self_counting_refblock.new.self c.raise.new.self taken (passed_same c.ensure_self_counting_refblock.new.self c.raise.new.self c.raise.ensures.same) one in
+      let two = hint_stays g.S.Storage.view p c.ensure_self_counting_refblock.new.file c.increment_refcount.new.file c.ensure_self_counting_refblock.new.self c.increment_refcount.new.self taken (passed_same c.ensure_self_counting_refblock.new.self c.increment_refcount.new.self c.increment_refcount.ensures.same) one in
       let used = (c.in_ok-taken.ensures.sound p false is_covered tt).used one (range_as c.ensure_self_counting_refblock.new.self.reftable c.search.self.first_free_cluster (2 ^ c.rb_bits-bits.result) (counts_per_block c.ensure_self_counting_refblock.new.file.header.fields)
       (ap (λ h. counts_per_block h.fields) (c.ensure_self_counting_refblock.ensures.step.header ∙ c.search.invariant.step.header) ∙ c.rb_bits-bits.ensures.counts) c.in_ok-ensure_self_counting_refblock.ensures.has) c.if-taken.false in
-      let three = hint_more g.S.Storage.view c.raise.new.file c.raise.new.self c.search.self.first_free_cluster two (ap (λ (t : Allocator). t.first_free_cluster) c.raise.ensures.same ∙ c.ensure_self_counting_refblock.ensures.first.first) used in
+      let three = hint_more g.S.Storage.view c.increment_refcount.new.file c.increment_refcount.new.self c.search.self.first_free_cluster two (ap (λ (t : Allocator). t.first_free_cluster) c.increment_refcount.ensures.same ∙ c.ensure_self_counting_refblock.ensures.first.first) used in
       let passed = c.in_ok-self.ensures.sound p there in
-      hint_passed g.S.Storage.view p c.raise.new.file c.next_free_in_range.new.file marked (c.search.self.first_free_cluster + 1) c.in_ok-self.field-0 passed.0 passed.1 refl three;
+      hint_passed g.S.Storage.view p c.increment_refcount.new.file c.next_open.new.file marked (c.search.self.first_free_cluster + 1) c.in_ok-self.field-0 passed.0 (passed.1 three) refl three;
 }
 
 pub returns-in_err-self-clause-sound : goal.returns-in_err-self-clause-sound
@@ -92,45 +91,39 @@ returns-in_err-self-clause-sound g c = λ p sound.
     let before = c.search.invariant.sound p sound in
     let covered = allocator_step_then g.S.Storage.view p p c.args.file.now c.search.file c.ensure_self_counting_refblock.new.file c.search.self c.ensure_self_counting_refblock.new.self before ((c.in_ok-ensure_self_counting_refblock.ensures.sound p (is_sound_now g.S.Storage.view p p c.args.file.now c.search.file c.search.self before)).gets) in
     let taken = rw c.if-taken.false at ((c.in_ok-taken.ensures.sound p false (is_sound_now g.S.Storage.view p p c.args.file.now c.ensure_self_counting_refblock.new.file c.ensure_self_counting_refblock.new.self covered) tt).takes) in
-    let marked : Allocator = record c.raise.new.self { first_free_cluster = c.search.self.first_free_cluster + 1 } in
-    let mid = allocator_step_as g.S.Storage.view p p c.args.file.now c.raise.new.file c.raise.new.self marked refl (allocator_step_then g.S.Storage.view p p c.args.file.now c.ensure_self_counting_refblock.new.file c.raise.new.file c.ensure_self_counting_refblock.new.self c.raise.new.self covered taken) in
-    let there = is_sound_now g.S.Storage.view p p c.args.file.now c.raise.new.file marked mid in
-    handed_on (TakesLowest g.S.Storage.view p c.args.file.now marked c.next_free_in_range.new.file) c.from_residual-in_err-self.result c.in_err-self.field-0.0 c.from_residual-in_err-self.ensures
-    (leaves_then g.S.Storage.view p c.args.file.now c.raise.new.file c.next_free_in_range.new.file marked c.in_err-self.field-0.0 mid.file_step (c.in_err-self.ensures.sound p there).1)
+    let marked : Allocator = record c.increment_refcount.new.self { first_free_cluster = c.search.self.first_free_cluster + 1 } in
+    let mid = allocator_step_as g.S.Storage.view p p c.args.file.now c.increment_refcount.new.file c.increment_refcount.new.self marked refl (allocator_step_then g.S.Storage.view p p c.args.file.now c.ensure_self_counting_refblock.new.file c.increment_refcount.new.file c.ensure_self_counting_refblock.new.self c.increment_refcount.new.self covered taken) in
+    let there = is_sound_now g.S.Storage.view p p c.args.file.now c.increment_refcount.new.file marked mid in
+    handed_on (AllocatesLowest g.S.Storage.view p c.args.file.now marked c.next_open.new.file) c.from_residual-in_err-self.result c.in_err-self.field-0.0 c.from_residual-in_err-self.ensures
+    (leaves_then g.S.Storage.view p c.args.file.now c.increment_refcount.new.file c.next_open.new.file marked c.in_err-self.field-0.0 mid.file_step (c.in_err-self.ensures.sound p there).1)
 
 pub returns-in_err-self-clause-hint : goal.returns-in_err-self-clause-hint
 returns-in_err-self-clause-hint g c = λ p sound hint.
     let before = c.search.invariant.sound p sound in
     let covered = allocator_step_then g.S.Storage.view p p c.args.file.now c.search.file c.ensure_self_counting_refblock.new.file c.search.self c.ensure_self_counting_refblock.new.self before ((c.in_ok-ensure_self_counting_refblock.ensures.sound p (is_sound_now g.S.Storage.view p p c.args.file.now c.search.file c.search.self before)).gets) in
     let taken = rw c.if-taken.false at ((c.in_ok-taken.ensures.sound p false (is_sound_now g.S.Storage.view p p c.args.file.now c.ensure_self_counting_refblock.new.file c.ensure_self_counting_refblock.new.self covered) tt).takes) in
-    let marked : Allocator = record c.raise.new.self { first_free_cluster = c.search.self.first_free_cluster + 1 } in
-    let mid = allocator_step_as g.S.Storage.view p p c.args.file.now c.raise.new.file c.raise.new.self marked refl (allocator_step_then g.S.Storage.view p p c.args.file.now c.ensure_self_counting_refblock.new.file c.raise.new.file c.ensure_self_counting_refblock.new.self c.raise.new.self covered taken) in
-    let there = is_sound_now g.S.Storage.view p p c.args.file.now c.raise.new.file marked mid in
+    let marked : Allocator = record c.increment_refcount.new.self { first_free_cluster = c.search.self.first_free_cluster + 1 } in
+    let mid = allocator_step_as g.S.Storage.view p p c.args.file.now c.increment_refcount.new.file c.increment_refcount.new.self marked refl (allocator_step_then g.S.Storage.view p p c.args.file.now c.ensure_self_counting_refblock.new.file c.increment_refcount.new.file c.ensure_self_counting_refblock.new.self c.increment_refcount.new.self covered taken) in
+    let there = is_sound_now g.S.Storage.view p p c.args.file.now c.increment_refcount.new.file marked mid in
     let now = is_sound_now g.S.Storage.view p p c.args.file.now c.search.file c.search.self before in
     let is_covered = is_sound_now g.S.Storage.view p p c.args.file.now c.ensure_self_counting_refblock.new.file c.ensure_self_counting_refblock.new.self covered in
     let one = hint_stays g.S.Storage.view p c.search.file c.ensure_self_counting_refblock.new.file c.search.self c.ensure_self_counting_refblock.new.self ((c.in_ok-ensure_self_counting_refblock.ensures.sound p now).gets) c.ensure_self_counting_refblock.ensures.first.passed (c.search.invariant.hint p sound hint) in
-    let two = hint_stays g.S.Storage.view p c.ensure_self_counting_refblock.new.file c.raise.new.file c.ensure_self_counting_refblock.new.self c.raise.new.self taken (passed_same c.ensure_self_counting_refblock.new.self c.raise.new.self c.raise.ensures.same) one in
+    let two = hint_stays g.S.Storage.view p c.ensure_self_counting_refblock.new.file c.increment_refcount.new.file c.ensure_self_counting_refblock.new.self c.increment_refcount.new.self taken (passed_same c.ensure_self_counting_refblock.new.self c.increment_refcount.new.self c.increment_refcount.ensures.same) one in
     let used = (c.in_ok-taken.ensures.sound p false is_covered tt).used one (range_as c.ensure_self_counting_refblock.new.self.reftable c.search.self.first_free_cluster (2 ^ c.rb_bits-bits.result) (counts_per_block c.ensure_self_counting_refblock.new.file.header.fields)
     (ap (λ h. counts_per_block h.fields) (c.ensure_self_counting_refblock.ensures.step.header ∙ c.search.invariant.step.header) ∙ c.rb_bits-bits.ensures.counts) c.in_ok-ensure_self_counting_refblock.ensures.has) c.if-taken.false in
-    let three = hint_more g.S.Storage.view c.raise.new.file c.raise.new.self c.search.self.first_free_cluster two (ap (λ (t : Allocator). t.first_free_cluster) c.raise.ensures.same ∙ c.ensure_self_counting_refblock.ensures.first.first) used in
-    handed_on (KeepsNoFreeBelowHint g.S.Storage.view marked c.next_free_in_range.new.file) c.from_residual-in_err-self.result c.in_err-self.field-0.0 c.from_residual-in_err-self.ensures
-    (hint_refused g.S.Storage.view p c.raise.new.file c.next_free_in_range.new.file marked marked c.in_err-self.field-0.0 (passed_still marked) (c.in_err-self.ensures.sound p there).1 three)
+    let three = hint_more g.S.Storage.view c.increment_refcount.new.file c.increment_refcount.new.self c.search.self.first_free_cluster two (ap (λ (t : Allocator). t.first_free_cluster) c.increment_refcount.ensures.same ∙ c.ensure_self_counting_refblock.ensures.first.first) used in
+    handed_on (KeepsNoFreeBelowHint g.S.Storage.view marked c.next_open.new.file) c.from_residual-in_err-self.result c.in_err-self.field-0.0 c.from_residual-in_err-self.ensures
+    (hint_refused g.S.Storage.view p c.increment_refcount.new.file c.next_open.new.file marked marked c.in_err-self.field-0.0 (passed_still marked) (c.in_err-self.ensures.sound p there).1 three)
 
 pub returns-in_err-self-clause-step : goal.returns-in_err-self-clause-step
-returns-in_err-self-clause-step g c = table_step_then (table_step_then (table_step_then c.search.invariant.step c.ensure_self_counting_refblock.ensures.step) c.raise.ensures.step) c.next_free_in_range.ensures.step
+returns-in_err-self-clause-step g c = table_step_then (table_step_then (table_step_then c.search.invariant.step c.ensure_self_counting_refblock.ensures.step) c.increment_refcount.ensures.step) c.next_open.ensures.step
 
 pub returns-in_err-self-clause-fails : goal.returns-in_err-self-clause-fails
 returns-in_err-self-clause-fails g c = fails_on c.from_residual-in_err-self.result c.in_err-self.field-0.0 c.from_residual-in_err-self.ensures (fails_since (c.in_ok-taken.ensures.fails.told ∙ (c.in_ok-ensure_self_counting_refblock.ensures.fails.told ∙ c.search.invariant.faults)) c.in_err-self.ensures.fails)
 
-pub returns-in_err-self-clause-noted : goal.returns-in_err-self-clause-noted
-returns-in_err-self-clause-noted g c = if_no_ok _ c.from_residual-in_err-self.result c.in_err-self.field-0.0 c.from_residual-in_err-self.ensures
-
-pub returns-in_err-self-clause-below : goal.returns-in_err-self-clause-below
-returns-in_err-self-clause-below g c = if_no_ok _ c.from_residual-in_err-self.result c.in_err-self.field-0.0 c.from_residual-in_err-self.ensures
-
 pub returns-in_err-self-clause-entries : goal.returns-in_err-self-clause-entries
 returns-in_err-self-clause-entries g c =
-    subst (λ (t : Allocator). KeepsEntries (λ k. c.args.end ≤ k * counts_per_block c.args.file.now.header.fields) c.args.self.now.reftable t.reftable) (sym c.raise.ensures.same)
+    subst (λ (t : Allocator). KeepsEntries (λ k. c.args.end ≤ k * counts_per_block c.args.file.now.header.fields) c.args.self.now.reftable t.reftable) (sym c.increment_refcount.ensures.same)
     (covered_entries c.args.self.now.reftable c.search.self.reftable c.ensure_self_counting_refblock.new.self.reftable c.search.self.first_free_cluster c.args.end (2 ^ c.rb_bits-bits.result) (counts_per_block c.args.file.now.header.fields) c.search-test.true c.rb_bits-bits.ensures.counts
     c.search.invariant.entries c.ensure_self_counting_refblock.ensures.entries)
 
@@ -145,8 +138,8 @@ returns-in_err-taken-clause-hint g c = λ p sound hint.
     let now = is_sound_now g.S.Storage.view p p c.args.file.now c.search.file c.search.self (c.search.invariant.sound p sound) in
     let covered = (c.in_ok-ensure_self_counting_refblock.ensures.sound p now).gets in
     let one = hint_stays g.S.Storage.view p c.search.file c.ensure_self_counting_refblock.new.file c.search.self c.ensure_self_counting_refblock.new.self covered c.ensure_self_counting_refblock.ensures.first.passed (c.search.invariant.hint p sound hint) in
-    handed_on (KeepsNoFreeBelowHint g.S.Storage.view c.raise.new.self c.raise.new.file) c.from_residual-in_err-taken.result c.in_err-taken.field-0.0 c.from_residual-in_err-taken.ensures
-    (hint_refused g.S.Storage.view p c.ensure_self_counting_refblock.new.file c.raise.new.file c.ensure_self_counting_refblock.new.self c.raise.new.self c.in_err-taken.field-0.0 (passed_same c.ensure_self_counting_refblock.new.self c.raise.new.self c.raise.ensures.same)
+    handed_on (KeepsNoFreeBelowHint g.S.Storage.view c.increment_refcount.new.self c.increment_refcount.new.file) c.from_residual-in_err-taken.result c.in_err-taken.field-0.0 c.from_residual-in_err-taken.ensures
+    (hint_refused g.S.Storage.view p c.ensure_self_counting_refblock.new.file c.increment_refcount.new.file c.ensure_self_counting_refblock.new.self c.increment_refcount.new.self c.in_err-taken.field-0.0 (passed_same c.ensure_self_counting_refblock.new.self c.increment_refcount.new.self c.increment_refcount.ensures.same)
     ((c.in_err-taken.ensures.sound p false (is_sound_now g.S.Storage.view p p c.search.file c.ensure_self_counting_refblock.new.file c.ensure_self_counting_refblock.new.self covered) tt).takes) one)
 
 pub returns-then-taken-clause-hint : goal.returns-then-taken-clause-hint
@@ -156,12 +149,9 @@ returns-then-taken-clause-hint g c = λ p sound hint.
     let one = hint_stays g.S.Storage.view p c.search.file c.ensure_self_counting_refblock.new.file c.search.self c.ensure_self_counting_refblock.new.self covered c.ensure_self_counting_refblock.ensures.first.passed (c.search.invariant.hint p sound hint) in
     let taken = rw c.if-taken.true at ((c.in_ok-taken.ensures.sound p false (is_sound_now g.S.Storage.view p p c.search.file c.ensure_self_counting_refblock.new.file c.ensure_self_counting_refblock.new.self covered) tt).takes) in
     let cluster = c.search.self.first_free_cluster in
-    let two = hint_taken g.S.Storage.view p false (one_at cluster) c.ensure_self_counting_refblock.new.file c.raise.new.file c.ensure_self_counting_refblock.new.self c.raise.new.self taken (passed_same c.ensure_self_counting_refblock.new.self c.raise.new.self c.raise.ensures.same) one in
-    hint_more g.S.Storage.view c.raise.new.file c.raise.new.self cluster two (ap (λ (t : Allocator). t.first_free_cluster) c.raise.ensures.same ∙ c.ensure_self_counting_refblock.ensures.first.first)
-    (taken_used g.S.Storage.view p false (one_at cluster) c.ensure_self_counting_refblock.new.file c.raise.new.file c.raise.new.self cluster taken (let own = one_here cluster in omega (arith, own)))
-
-pub returns-clause-hint : goal.returns-clause-hint
-returns-clause-hint g c = λ p sound hint. c.search.invariant.hint p sound hint
+    let two = hint_taken g.S.Storage.view p false (one_at cluster) c.ensure_self_counting_refblock.new.file c.increment_refcount.new.file c.ensure_self_counting_refblock.new.self c.increment_refcount.new.self taken (passed_same c.ensure_self_counting_refblock.new.self c.increment_refcount.new.self c.increment_refcount.ensures.same) one in
+    hint_more g.S.Storage.view c.increment_refcount.new.file c.increment_refcount.new.self cluster two (ap (λ (t : Allocator). t.first_free_cluster) c.increment_refcount.ensures.same ∙ c.ensure_self_counting_refblock.ensures.first.first)
+    (taken_used g.S.Storage.view p false (one_at cluster) c.ensure_self_counting_refblock.new.file c.increment_refcount.new.file c.increment_refcount.new.self cluster taken (let own = one_here cluster in omega (arith, own)))
 
 pub returns-in_err-ensure_self_counting_refblock-clause-step : goal.returns-in_err-ensure_self_counting_refblock-clause-step
 returns-in_err-ensure_self_counting_refblock-clause-step g c = table_step_then c.search.invariant.step c.ensure_self_counting_refblock.ensures.step
@@ -169,56 +159,38 @@ returns-in_err-ensure_self_counting_refblock-clause-step g c = table_step_then c
 pub returns-in_err-ensure_self_counting_refblock-clause-fails : goal.returns-in_err-ensure_self_counting_refblock-clause-fails
 returns-in_err-ensure_self_counting_refblock-clause-fails g c = fails_on c.from_residual.result c.in_err-ensure_self_counting_refblock.field-0.0 c.from_residual.ensures (fails_since c.search.invariant.faults c.in_err-ensure_self_counting_refblock.ensures.fails)
 
-pub returns-in_err-ensure_self_counting_refblock-clause-noted : goal.returns-in_err-ensure_self_counting_refblock-clause-noted
-returns-in_err-ensure_self_counting_refblock-clause-noted g c = if_no_ok _ c.from_residual.result c.in_err-ensure_self_counting_refblock.field-0.0 c.from_residual.ensures
-
-pub returns-in_err-ensure_self_counting_refblock-clause-below : goal.returns-in_err-ensure_self_counting_refblock-clause-below
-returns-in_err-ensure_self_counting_refblock-clause-below g c = if_no_ok _ c.from_residual.result c.in_err-ensure_self_counting_refblock.field-0.0 c.from_residual.ensures
-
 pub returns-in_err-taken-clause-step : goal.returns-in_err-taken-clause-step
-returns-in_err-taken-clause-step g c = table_step_then (table_step_then c.search.invariant.step c.ensure_self_counting_refblock.ensures.step) c.raise.ensures.step
+returns-in_err-taken-clause-step g c = table_step_then (table_step_then c.search.invariant.step c.ensure_self_counting_refblock.ensures.step) c.increment_refcount.ensures.step
 
 pub returns-in_err-taken-clause-fails : goal.returns-in_err-taken-clause-fails
 returns-in_err-taken-clause-fails g c = fails_on c.from_residual-in_err-taken.result c.in_err-taken.field-0.0 c.from_residual-in_err-taken.ensures (fails_since (c.in_ok-ensure_self_counting_refblock.ensures.fails.told ∙ c.search.invariant.faults) c.in_err-taken.ensures.fails)
 
-pub returns-in_err-taken-clause-noted : goal.returns-in_err-taken-clause-noted
-returns-in_err-taken-clause-noted g c = if_no_ok _ c.from_residual-in_err-taken.result c.in_err-taken.field-0.0 c.from_residual-in_err-taken.ensures
-
-pub returns-in_err-taken-clause-below : goal.returns-in_err-taken-clause-below
-returns-in_err-taken-clause-below g c = if_no_ok _ c.from_residual-in_err-taken.result c.in_err-taken.field-0.0 c.from_residual-in_err-taken.ensures
-
 pub returns-then-taken-clause-step : goal.returns-then-taken-clause-step
-returns-then-taken-clause-step g c = table_step_then (table_step_then c.search.invariant.step c.ensure_self_counting_refblock.ensures.step) c.raise.ensures.step
+returns-then-taken-clause-step g c = table_step_then (table_step_then c.search.invariant.step c.ensure_self_counting_refblock.ensures.step) c.increment_refcount.ensures.step
 
 pub returns-then-taken-clause-fails : goal.returns-then-taken-clause-fails
 returns-then-taken-clause-fails g c = fails_ok (c.in_ok-taken.ensures.fails.told ∙ (c.in_ok-ensure_self_counting_refblock.ensures.fails.told ∙ c.search.invariant.faults))
 
-pub returns-then-taken-clause-noted : goal.returns-then-taken-clause-noted
-returns-then-taken-clause-noted g c = λ some. c.in_ok-taken.ensures.noted c.if-taken.true
+pub returns-then-taken-clause-recorded : goal.returns-then-taken-clause-recorded
+returns-then-taken-clause-recorded g c = λ some. c.in_ok-taken.ensures.recorded c.if-taken.true
 
 pub returns-then-taken-clause-below : goal.returns-then-taken-clause-below
 returns-then-taken-clause-below g c = (c.search.invariant.above, c.search-test.true)
 
-pub returns-clause-step : goal.returns-clause-step
-returns-clause-step g c = c.search.invariant.step
-
 pub returns-clause-fails : goal.returns-clause-fails
 returns-clause-fails g c = fails_ok c.search.invariant.faults
-
-pub returns-clause-entries : goal.returns-clause-entries
-returns-clause-entries g c = c.search.invariant.entries
 
 pub returns-in_err-ensure_self_counting_refblock-clause-entries : goal.returns-in_err-ensure_self_counting_refblock-clause-entries
 returns-in_err-ensure_self_counting_refblock-clause-entries g c = covered_entries c.args.self.now.reftable c.search.self.reftable c.ensure_self_counting_refblock.new.self.reftable c.search.self.first_free_cluster c.args.end (2 ^ c.rb_bits-bits.result) (counts_per_block c.args.file.now.header.fields) c.search-test.true c.rb_bits-bits.ensures.counts
     c.search.invariant.entries c.ensure_self_counting_refblock.ensures.entries
 
 pub returns-in_err-taken-clause-entries : goal.returns-in_err-taken-clause-entries
-returns-in_err-taken-clause-entries g c = subst (λ (t : Allocator). KeepsEntries (λ k. c.args.end ≤ k * counts_per_block c.args.file.now.header.fields) c.args.self.now.reftable t.reftable) (sym c.raise.ensures.same)
+returns-in_err-taken-clause-entries g c = subst (λ (t : Allocator). KeepsEntries (λ k. c.args.end ≤ k * counts_per_block c.args.file.now.header.fields) c.args.self.now.reftable t.reftable) (sym c.increment_refcount.ensures.same)
     (covered_entries c.args.self.now.reftable c.search.self.reftable c.ensure_self_counting_refblock.new.self.reftable c.search.self.first_free_cluster c.args.end (2 ^ c.rb_bits-bits.result) (counts_per_block c.args.file.now.header.fields) c.search-test.true c.rb_bits-bits.ensures.counts
     c.search.invariant.entries c.ensure_self_counting_refblock.ensures.entries)
 
 pub returns-then-taken-clause-entries : goal.returns-then-taken-clause-entries
-returns-then-taken-clause-entries g c = subst (λ (t : Allocator). KeepsEntries (λ k. c.args.end ≤ k * counts_per_block c.args.file.now.header.fields) c.args.self.now.reftable t.reftable) (sym c.raise.ensures.same)
+returns-then-taken-clause-entries g c = subst (λ (t : Allocator). KeepsEntries (λ k. c.args.end ≤ k * counts_per_block c.args.file.now.header.fields) c.args.self.now.reftable t.reftable) (sym c.increment_refcount.ensures.same)
     (covered_entries c.args.self.now.reftable c.search.self.reftable c.ensure_self_counting_refblock.new.self.reftable c.search.self.first_free_cluster c.args.end (2 ^ c.rb_bits-bits.result) (counts_per_block c.args.file.now.header.fields) c.search-test.true c.rb_bits-bits.ensures.counts
     c.search.invariant.entries c.ensure_self_counting_refblock.ensures.entries)
 
@@ -226,13 +198,10 @@ pub returns-in_err-ensure_self_counting_refblock-clause-leaks : goal.returns-in_
 returns-in_err-ensure_self_counting_refblock-clause-leaks g c = c.ensure_self_counting_refblock.ensures.leaks ∙ c.search.invariant.leaks
 
 pub returns-in_err-taken-clause-leaks : goal.returns-in_err-taken-clause-leaks
-returns-in_err-taken-clause-leaks g c = ap (λ (t : Allocator). t.leaked_clusters) c.raise.ensures.same ∙ c.ensure_self_counting_refblock.ensures.leaks ∙ c.search.invariant.leaks
+returns-in_err-taken-clause-leaks g c = ap (λ (t : Allocator). t.leaked_clusters) c.increment_refcount.ensures.same ∙ c.ensure_self_counting_refblock.ensures.leaks ∙ c.search.invariant.leaks
 
 pub returns-then-taken-clause-leaks : goal.returns-then-taken-clause-leaks
-returns-then-taken-clause-leaks g c = ap (λ (t : Allocator). t.leaked_clusters) c.raise.ensures.same ∙ c.ensure_self_counting_refblock.ensures.leaks ∙ c.search.invariant.leaks
+returns-then-taken-clause-leaks g c = ap (λ (t : Allocator). t.leaked_clusters) c.increment_refcount.ensures.same ∙ c.ensure_self_counting_refblock.ensures.leaks ∙ c.search.invariant.leaks
 
 pub returns-in_err-self-clause-leaks : goal.returns-in_err-self-clause-leaks
-returns-in_err-self-clause-leaks g c = ap (λ (t : Allocator). t.leaked_clusters) c.raise.ensures.same ∙ c.ensure_self_counting_refblock.ensures.leaks ∙ c.search.invariant.leaks
-
-pub returns-clause-leaks : goal.returns-clause-leaks
-returns-clause-leaks g c = c.search.invariant.leaks
+returns-in_err-self-clause-leaks g c = ap (λ (t : Allocator). t.leaked_clusters) c.increment_refcount.ensures.same ∙ c.ensure_self_counting_refblock.ensures.leaks ∙ c.search.invariant.leaks

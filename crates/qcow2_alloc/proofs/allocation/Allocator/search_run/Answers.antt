@@ -1,30 +1,23 @@
-use Rattle.std.proofs.Common.{◌≡◌, Ok, inl, false, refl, sym, ap, ◌+◌, ◌/◌, ◌^◌, ◌∙◌, subst, arith, inr, Result, ℕ, ◌≤◌, ◌<◌}
+use Rattle.std.proofs.Common.{◌≡◌, inl, false, refl, sym, ap, ◌+◌, ◌/◌, ◌^◌, ◌∙◌, subst, arith, inr, Result, ℕ, ◌≤◌, ◌<◌}
 use Rattle.qcow2_metadata.specs.L2Mapping.{greatest_offset}
 use Rattle.std.proofs.Math.Nat.{div-le_self}
 use Rattle.qcow2_laws.specs.CrashInvariant.{Pending}
 use Rattle.qcow2_alloc.specs.LowestRuns.{KeepsNoFreeBelowHint, IsUsed}
 use Rattle.qcow2_alloc.specs.declared.allocation.Allocator.{Allocator}
 use Rattle.qcow2_alloc.proofs.Hints.{hint_header, lowest_behind, lowest_first, lowest_passed, lowest_stays, not_broken, used_stays}
-use Rattle.qcow2_alloc.specs.Allocation.{LacksBlock, run_at, InternalAllocatorGrowth, TakesSomeRun, RefusedGrowth}
+use Rattle.qcow2_alloc.specs.Allocation.{run_at, InternalAllocatorGrowth, AllocatesSomeRun, RefusedGrowth}
 use Rattle.qcow2_alloc.specs.FreeList.{pending_then}
 use Rattle.qcow2_alloc.proofs.AllocationSteps.{handed_on, may_still, on_none, on_of, leaves_as, is_sound_on}
 use Rattle.qcow2_alloc.proofs.ListedAfter.{lists_same, lists_then, listed_after_same, then_none, then_taken, then_leaves, header_bits}
-use Rattle.std.specs.Prelude.{IsErrOf, IfErr}
+use Rattle.std.specs.Prelude.{IfErr}
 use Rattle.qcow2_alloc.specs.declared.error.ImageError.{ImageError}
 use Rattle.qcow2_alloc.specs.Limits.{IsFaultOr, HasNoPlace, nameable_clusters}
 use Rattle.qcow2_alloc.proofs.Limits.{full_behind, limit_is_no_fault}
 use Rattle.qcow2_alloc.proofs.allocation.Allocator.search_run.Goals.{then-search-test+then-n-limit+else-first-limit, then-search-test+else-n-limit, else-search-test}
-use Rattle.qcow2_alloc.proofs.Outcomes.{ok_no_err, on_no_ok, if_no_ok}
-use Rattle.qcow2_metadata.specs.EntryTable.{EntryTableView}
-use Rattle.qcow2_metadata.specs.declared.header.HeaderFields.{HeaderFields}
+use Rattle.qcow2_alloc.proofs.Outcomes.{on_no_ok, if_no_ok}
 use Rattle.qcow2_alloc.specs.declared.error.ImageError.TheVariants as I
 use Rattle.qcow2_alloc.proofs.Steps.{fails_by, fails_ok, fails_on, fails_since, limit_other, step_none, step_on, step_then}
 use Rattle.qcow2_alloc.proofs.allocation.Allocator.search_run.Goals as goal
-
--- what is lacking at first is lacking where nothing moved
-lacks_here : (h h' : HeaderFields) (t t' : EntryTableView) (from first : ℕ) (e : ImageError) → h' ≡ h → t' ≡ t → first ≡ from → LacksBlock h t from e → LacksBlock h' t' first e
-lacks_here h h' t t' from first e same_header same_table place lacks =
-    subst (λ x. LacksBlock x t' first e) (sym same_header) (subst (λ (y : EntryTableView). LacksBlock h y first e) (sym same_table) (subst (λ n. LacksBlock h t n e) (sym place) lacks))
 
 pub search-init : goal.search-init
 search-init g c = record {
@@ -109,12 +102,6 @@ returns-in_err-first-clause-step g c = step_then (step_then c.search.invariant.s
 pub returns-in_err-first-clause-fails : goal.returns-in_err-first-clause-fails
 returns-in_err-first-clause-fails g c = fails_on c.from_residual-in_err-first.result c.in_err-first.field-0.0 c.from_residual-in_err-first.ensures (fails_since (c.in_ok-taken.ensures.fails.told ∙ c.search.invariant.faults) c.in_err-first.ensures.fails)
 
-pub returns-in_err-first-clause-nameable : goal.returns-in_err-first-clause-nameable
-returns-in_err-first-clause-nameable g c = if_no_ok _ c.from_residual-in_err-first.result c.in_err-first.field-0.0 c.from_residual-in_err-first.ensures
-
-pub returns-in_err-first-clause-elsewhere : goal.returns-in_err-first-clause-elsewhere
-returns-in_err-first-clause-elsewhere g c = if_no_ok _ c.from_residual-in_err-first.result c.in_err-first.field-0.0 c.from_residual-in_err-first.ensures
-
 pub returns-in_err-first-clause-sound : goal.returns-in_err-first-clause-sound
 returns-in_err-first-clause-sound g c = λ p d sound may.
     let before = c.search.invariant.sound p sound in
@@ -125,7 +112,7 @@ returns-in_err-first-clause-sound g c = λ p d sound may.
     let r : Pending = pending_then p c.args.file.now.free_list c.try_run.new.file.free_list in
     let there = is_sound_on g.S.Storage.view p r c.args.file.now c.try_run.new.file c.try_run.new.self mid in
     record {
-      takes = handed_on (TakesSomeRun g.S.Storage.view p c.args.file.now c.next_free_from.new.self c.next_free_from.new.file (pending_then p c.args.file.now.free_list c.next_free_from.new.file.free_list) d c.args.n) c.from_residual-in_err-first.result c.in_err-first.field-0.0 c.from_residual-in_err-first.ensures
+      takes = handed_on (AllocatesSomeRun g.S.Storage.view p c.args.file.now c.next_free_from.new.self c.next_free_from.new.file (pending_then p c.args.file.now.free_list c.next_free_from.new.file.free_list) d c.args.n) c.from_residual-in_err-first.result c.in_err-first.field-0.0 c.from_residual-in_err-first.ensures
           (then_leaves g.S.Storage.view p c.args.file.now c.try_run.new.file c.next_free_from.new.file c.try_run.new.self c.next_free_from.new.self lists (lists_same c.try_run.new.file.free_list c.next_free_from.new.file.free_list c.next_free_from.ensures.step.list) mid c.in_err-first.field-0.0
           (subst (λ (s : Pending). RefusedGrowth g.S.Storage.view r c.try_run.new.file c.next_free_from.new.self c.next_free_from.new.file s c.in_err-first.field-0.0) (sym (listed_after_same r c.try_run.new.file.free_list c.next_free_from.new.file.free_list c.next_free_from.ensures.step.list))
           (leaves_as g.S.Storage.view r c.try_run.new.file c.next_free_from.new.file c.next_free_from.new.self c.in_err-first.field-0.0 (c.in_err-first.ensures.sound r there).1)));
@@ -137,9 +124,6 @@ returns-in_err-first-clause-sound g c = λ p d sound may.
       limit = λ hint some. handed_on (λ (x : Result ℕ ImageError). IfErr x (IsFaultOr (HasNoPlace (IsUsed g.S.Storage.view c.next_free_from.new.file) c.next_free_from.new.file.header.fields c.next_free_from.new.self c.args.n))) c.from_residual-in_err-first.result c.in_err-first.field-0.0 c.from_residual-in_err-first.ensures
           (inl (c.in_err-first.ensures.sound r there).0);
     }
-
-pub returns-in_err-first-clause-noted : goal.returns-in_err-first-clause-noted
-returns-in_err-first-clause-noted g c = on_no_ok _ c.from_residual-in_err-first.result c.in_err-first.field-0.0 c.from_residual-in_err-first.ensures
 
 pub returns-then-taken-n-clause-sound : goal.returns-then-taken-n-clause-sound
 returns-then-taken-n-clause-sound g c = λ p d sound may.
@@ -184,12 +168,6 @@ returns-clause-sound g c = λ p d sound may.
           inr (refl, inl (full_behind g.S.Storage.view c.search.file c.search.first c.args.n (greatest_offset / 2 ^ c.cluster_bits.result + 1) limit past (c.search.invariant.lowest p d sound may hint some)));
     }
 
-pub returns-in_err-taken-clause-nameable : goal.returns-in_err-taken-clause-nameable
-returns-in_err-taken-clause-nameable g c = if_no_ok _ c.from_residual.result c.in_err-taken.field-0.0 c.from_residual.ensures
-
-pub returns-in_err-taken-clause-elsewhere : goal.returns-in_err-taken-clause-elsewhere
-returns-in_err-taken-clause-elsewhere g c = if_no_ok _ c.from_residual.result c.in_err-taken.field-0.0 c.from_residual.ensures
-
 pub returns-in_err-taken-clause-sound : goal.returns-in_err-taken-clause-sound
 returns-in_err-taken-clause-sound g c = λ p d sound may.
     let before = c.search.invariant.sound p sound in
@@ -197,7 +175,7 @@ returns-in_err-taken-clause-sound g c = λ p d sound may.
     let now = is_sound_on g.S.Storage.view p q c.args.file.now c.search.file c.search.self before in
     let may_now = may_still d c.args.file.now c.search.file c.search.invariant.step.marks.order may in
     record {
-      takes = handed_on (TakesSomeRun g.S.Storage.view p c.args.file.now c.try_run.new.self c.try_run.new.file (pending_then p c.args.file.now.free_list c.try_run.new.file.free_list) d c.args.n) c.from_residual.result c.in_err-taken.field-0.0 c.from_residual.ensures
+      takes = handed_on (AllocatesSomeRun g.S.Storage.view p c.args.file.now c.try_run.new.self c.try_run.new.file (pending_then p c.args.file.now.free_list c.try_run.new.file.free_list) d c.args.n) c.from_residual.result c.in_err-taken.field-0.0 c.from_residual.ensures
           (then_leaves g.S.Storage.view p c.args.file.now c.search.file c.try_run.new.file c.search.self c.try_run.new.self c.search.invariant.step.list c.try_run.ensures.step.list before c.in_err-taken.field-0.0 ((c.in_err-taken.ensures.sound q d now may_now).takes));
       uses = on_no_ok _ c.from_residual.result c.in_err-taken.field-0.0 c.from_residual.ensures;
       hint = λ hint. handed_on (KeepsNoFreeBelowHint g.S.Storage.view c.try_run.new.self c.try_run.new.file) c.from_residual.result c.in_err-taken.field-0.0 c.from_residual.ensures ((c.in_err-taken.ensures.sound q d now may_now).hint (c.search.invariant.hint p d sound may hint));
@@ -216,15 +194,6 @@ returns-in_err-taken-clause-sound g c = λ p d sound may.
                 inr (why.0, inr (c.search.first, omega (arith, within, same), lowest, why.1))
           ]);
     }
-
-pub returns-in_err-taken-clause-noted : goal.returns-in_err-taken-clause-noted
-returns-in_err-taken-clause-noted g c = on_no_ok _ c.from_residual.result c.in_err-taken.field-0.0 c.from_residual.ensures
-
-pub returns-then-taken-n-clause-elsewhere : goal.returns-then-taken-n-clause-elsewhere
-returns-then-taken-n-clause-elsewhere g c = c.search.invariant.above
-
-pub returns-clause-step : goal.returns-clause-step
-returns-clause-step g c = c.search.invariant.step
 
 pub returns-clause-fails : goal.returns-clause-fails
 returns-clause-fails g c = fails_by I.Limit limit_other c.search.invariant.faults tt
@@ -247,10 +216,4 @@ returns-in_err-first-clause-leaks g c = λ p sound.
     let now = is_sound_on g.S.Storage.view p q c.args.file.now c.search.file c.search.self (c.search.invariant.sound p sound) in
     ap (λ (t : Allocator). t.leaked_clusters) c.next_free_from.ensures.moves.rest ∙ (c.try_run.ensures.sound q false now tt).leaks ∙ c.search.invariant.leaks p sound
 
-pub returns-clause-leaks : goal.returns-clause-leaks
-returns-clause-leaks g c = λ p sound. c.search.invariant.leaks p sound
-
 -- ---- where the refblock of the first cluster can't be had: no run is taken
-answers_none : {A : Type 0} (h h' : HeaderFields) (t t' : EntryTableView) (from first n taken : ℕ) (e : ImageError) (Stays : Type 0) → h' ≡ h → t' ≡ t → first ≡ from → LacksBlock h t from e
-    → ((e : ImageError) → LacksBlock h' t' first e → 0 < n → IsErrOf (Ok taken) e × Stays) → 0 < n → A
-answers_none h h' t t' from first n taken e Stays same_header same_table place lacks refuses some = ok_no_err taken e (refuses e (lacks_here h h' t t' from first e same_header same_table place lacks) some).0

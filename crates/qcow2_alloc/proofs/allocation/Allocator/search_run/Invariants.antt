@@ -1,7 +1,7 @@
 use Rattle.std.proofs.Common.{max, ◌≡◌, ◌+◌, ◌-◌, ◌/◌, ◌^◌, ◌<◌, ◌≤◌, Bool}
 use Rattle.qcow2_metadata.specs.L2Mapping.{greatest_offset}
 use Rattle.qcow2_laws.specs.CrashInvariant.{Pending}
-use Rattle.qcow2_alloc.specs.Allocation.{InternalAllocatorGrowth, MayTake, SameLeaks}
+use Rattle.qcow2_alloc.specs.Allocation.{InternalAllocatorGrowth, MayAllocate, SameLeaks}
 use Rattle.qcow2_alloc.specs.Faults.{faults_of}
 use Rattle.qcow2_alloc.specs.ImageFile.{AllocatorInvariant}
 use Rattle.qcow2_alloc.specs.FreeList.{pending_then}
@@ -20,9 +20,9 @@ invariant-search g l = record {
   step : FileStep g.S.Storage.view l.fn.self.reftable l.fn.file l.self.reftable l.file;
   sound : (p : Pending) → AllocatorInvariant g.S.Storage.view l.fn.self p l.fn.file → InternalAllocatorGrowth g.S.Storage.view p l.fn.file l.self l.file (pending_then p l.fn.file.free_list l.file.free_list);
   leaks : (p : Pending) → AllocatorInvariant g.S.Storage.view l.fn.self p l.fn.file → SameLeaks l.fn.self l.self;
-  hint : (p : Pending) (d : Bool) → AllocatorInvariant g.S.Storage.view l.fn.self p l.fn.file → MayTake d l.fn.file → NoFreeBelowHint g.S.Storage.view l.fn.self l.fn.file → NoFreeBelowHint g.S.Storage.view l.self l.file;
-  lowest : (p : Pending) (d : Bool) → AllocatorInvariant g.S.Storage.view l.fn.self p l.fn.file → MayTake d l.fn.file → NoFreeBelowHint g.S.Storage.view l.fn.self l.fn.file → 0 < l.fn.n → IsLowestRun (IsUsed g.S.Storage.view l.file) l.first l.fn.n;
-  uses : (p : Pending) (d : Bool) → AllocatorInvariant g.S.Storage.view l.fn.self p l.fn.file → MayTake d l.fn.file → StaysUsed g.S.Storage.view l.fn.file l.file;
+  hint : (p : Pending) (d : Bool) → AllocatorInvariant g.S.Storage.view l.fn.self p l.fn.file → MayAllocate d l.fn.file → NoFreeBelowHint g.S.Storage.view l.fn.self l.fn.file → NoFreeBelowHint g.S.Storage.view l.self l.file;
+  lowest : (p : Pending) (d : Bool) → AllocatorInvariant g.S.Storage.view l.fn.self p l.fn.file → MayAllocate d l.fn.file → NoFreeBelowHint g.S.Storage.view l.fn.self l.fn.file → 0 < l.fn.n → IsLowestRun (IsUsed g.S.Storage.view l.file) l.first l.fn.n;
+  uses : (p : Pending) (d : Bool) → AllocatorInvariant g.S.Storage.view l.fn.self p l.fn.file → MayAllocate d l.fn.file → StaysUsed g.S.Storage.view l.fn.file l.file;
 }
 
 abbrev pub decreases-search : goal.decreases-search

@@ -3,14 +3,11 @@ use Rattle.qcow2_laws.specs.CrashInvariant.{Pending}
 use Rattle.qcow2_alloc.specs.Allocation.{InternalAllocatorGrowth}
 use Rattle.qcow2_alloc.proofs.AllocationSteps.{on_none}
 use Rattle.qcow2_alloc.proofs.ListedAfter.{listed_after_same}
-use Rattle.qcow2_alloc.proofs.Steps.{fails_ok, step_none}
+use Rattle.qcow2_alloc.proofs.Steps.{step_none}
 use Rattle.qcow2_alloc.proofs.allocation.Allocator.try_run.Goals as goal
 
 pub returns-then-room-n-clause-step : goal.returns-then-room-n-clause-step
 returns-then-room-n-clause-step g c = step_none
-
-pub returns-then-room-n-clause-fails : goal.returns-then-room-n-clause-fails
-returns-then-room-n-clause-fails g c = fails_ok refl
 
 pub returns-then-room-n-clause-sound : goal.returns-then-room-n-clause-sound
 returns-then-room-n-clause-sound g c = λ p d sound may.
@@ -27,5 +24,5 @@ returns-then-room-n-clause-sound g c = λ p d sound may.
       limit = λ hint near. tt;
     }
 
-pub returns-then-room-n-clause-noted : goal.returns-then-room-n-clause-noted
-returns-then-room-n-clause-noted g c = λ all. let less = c.if-room-n.true in absurd (omega (arith, less, all))
+pub returns-then-room-n-clause-recorded : goal.returns-then-room-n-clause-recorded
+returns-then-room-n-clause-recorded g c = λ all. let less = c.if-room-n.true in absurd (omega (arith, less, all))

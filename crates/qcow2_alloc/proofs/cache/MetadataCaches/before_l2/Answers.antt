@@ -1,18 +1,18 @@
 use Rattle.std.proofs.Common.{inr, refl, sym, ap, ◌∙◌, subst, OnOk}
+use Rattle.qcow2_metadata.specs.Bytes.{byte_at}
 use Rattle.qcow2_laws.specs.Caches.{TablesMayGo}
 use Rattle.qcow2_laws.specs.Clusters.{Direction}
+use Rattle.qcow2_alloc.specs.ImageStorage.{storage_of}
 use Rattle.qcow2_alloc.specs.MetadataCaches.{order, refblocks}
 use Rattle.qcow2_alloc.proofs.CacheSteps.{cache_step_none, soundly_none}
 use Rattle.qcow2_alloc.proofs.KeptTables.Quiet.{quiet_none}
-use Rattle.qcow2_alloc.proofs.KeptTables.Turning.{tables_free, blocks_free}
-use Rattle.qcow2_alloc.proofs.Steps.{fails_ok}
+use Rattle.qcow2_alloc.proofs.KeptTables.Switching.{tables_free, blocks_free}
+use Rattle.qcow2_alloc.proofs.KeptTables.Places.{named_have_places}
 use Rattle.qcow2_alloc.proofs.cache.MetadataCaches.before_l2.Goals as goal
 
-pub returns-in-L2DependsOnRb-clause-step : goal.returns-in-L2DependsOnRb-clause-step
-returns-in-L2DependsOnRb-clause-step g c = c.write_blocks.ensures.step
-
-pub returns-in-L2DependsOnRb-clause-fails : goal.returns-in-L2DependsOnRb-clause-fails
-returns-in-L2DependsOnRb-clause-fails g c = c.write_blocks.ensures.fails
+pub returns-in-L2DependsOnRb-clause-faults : goal.returns-in-L2DependsOnRb-clause-faults
+returns-in-L2DependsOnRb-clause-faults g c = λ h p honest sound named_blocks.
+    c.write_blocks.ensures.faults h p honest sound (named_have_places h p c.args.self.now (byte_at (g.S.Storage.view (storage_of c.args.storage.now)).contents) sound named_blocks)
 
 pub returns-in-L2DependsOnRb-clause-sound : goal.returns-in-L2DependsOnRb-clause-sound
 returns-in-L2DependsOnRb-clause-sound g c = c.write_blocks.ensures.sound (blocks_free c.args.self.now (inr c.in-L2DependsOnRb.is))
@@ -27,9 +27,6 @@ returns-in-L2DependsOnRb-clause-way g c = record {
 
 pub returns-in-None-clause-step : goal.returns-in-None-clause-step
 returns-in-None-clause-step g c = cache_step_none
-
-pub returns-in-None-clause-fails : goal.returns-in-None-clause-fails
-returns-in-None-clause-fails g c = fails_ok refl
 
 pub returns-in-None-clause-sound : goal.returns-in-None-clause-sound
 returns-in-None-clause-sound g c = soundly_none

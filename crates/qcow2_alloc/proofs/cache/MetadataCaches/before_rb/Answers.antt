@@ -4,15 +4,8 @@ use Rattle.qcow2_laws.specs.Clusters.{Direction}
 use Rattle.qcow2_alloc.specs.MetadataCaches.{order, l2_tables}
 use Rattle.qcow2_alloc.proofs.CacheSteps.{cache_step_none, soundly_none}
 use Rattle.qcow2_alloc.proofs.KeptTables.Quiet.{quiet_none}
-use Rattle.qcow2_alloc.proofs.KeptTables.Turning.{tables_free, blocks_free}
-use Rattle.qcow2_alloc.proofs.Steps.{fails_ok}
+use Rattle.qcow2_alloc.proofs.KeptTables.Switching.{tables_free, blocks_free}
 use Rattle.qcow2_alloc.proofs.cache.MetadataCaches.before_rb.Goals as goal
-
-pub returns-in-RbDependsOnL2-clause-step : goal.returns-in-RbDependsOnL2-clause-step
-returns-in-RbDependsOnL2-clause-step g c = c.write_tables.ensures.step
-
-pub returns-in-RbDependsOnL2-clause-fails : goal.returns-in-RbDependsOnL2-clause-fails
-returns-in-RbDependsOnL2-clause-fails g c = c.write_tables.ensures.fails
 
 pub returns-in-RbDependsOnL2-clause-sound : goal.returns-in-RbDependsOnL2-clause-sound
 returns-in-RbDependsOnL2-clause-sound g c = c.write_tables.ensures.sound (tables_free c.args.self.now (inr c.in-RbDependsOnL2.is))
@@ -27,9 +20,6 @@ returns-in-RbDependsOnL2-clause-way g c = record {
 
 pub returns-in-None-clause-step : goal.returns-in-None-clause-step
 returns-in-None-clause-step g c = cache_step_none
-
-pub returns-in-None-clause-fails : goal.returns-in-None-clause-fails
-returns-in-None-clause-fails g c = fails_ok refl
 
 pub returns-in-None-clause-sound : goal.returns-in-None-clause-sound
 returns-in-None-clause-sound g c = soundly_none

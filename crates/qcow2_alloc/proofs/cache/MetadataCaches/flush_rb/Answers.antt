@@ -10,28 +10,20 @@ use Rattle.qcow2_alloc.proofs.CacheSteps.{cache_step_then, soundly_then}
 use Rattle.qcow2_alloc.proofs.KeptTables.Causes.{given_err}
 use Rattle.qcow2_alloc.proofs.KeptTables.Clean.{blocks_as, tables_as}
 use Rattle.qcow2_alloc.proofs.KeptTables.Quiet.{quiet_then}
-use Rattle.qcow2_alloc.proofs.KeptTables.Turning.{tables_free, blocks_free, blocks_clean, blocks_still, always_ok}
+use Rattle.qcow2_alloc.proofs.KeptTables.Switching.{tables_free, blocks_free, blocks_clean, blocks_still, always_ok}
 use Rattle.qcow2_alloc.proofs.Outcomes.{on_no_ok}
 use Rattle.qcow2_alloc.proofs.Steps.{fails_on, fails_since}
+use Rattle.qcow2_alloc.proofs.KeptTables.Places.{places_as}
 use Rattle.qcow2_alloc.proofs.cache.MetadataCaches.flush_rb.Goals as goal
-
-pub returns-in-None-clause-step : goal.returns-in-None-clause-step
-returns-in-None-clause-step g c = c.write_blocks-in-None.ensures.step
-
-pub returns-in-None-clause-fails : goal.returns-in-None-clause-fails
-returns-in-None-clause-fails g c = c.write_blocks-in-None.ensures.fails
 
 pub returns-in-None-clause-sound : goal.returns-in-None-clause-sound
 returns-in-None-clause-sound g c = c.write_blocks-in-None.ensures.sound (blocks_free c.args.self.now c.in-None.is)
-
-pub returns-in_err-write_tables-in-RbDependsOnL2-clause-step : goal.returns-in_err-write_tables-in-RbDependsOnL2-clause-step
-returns-in_err-write_tables-in-RbDependsOnL2-clause-step g c = c.write_tables.ensures.step
 
 pub returns-in_err-write_tables-in-RbDependsOnL2-clause-fails : goal.returns-in_err-write_tables-in-RbDependsOnL2-clause-fails
 returns-in_err-write_tables-in-RbDependsOnL2-clause-fails g c = fails_on c.from_residual.result c.in_err-write_tables-in-RbDependsOnL2.field-0.0 c.from_residual.ensures c.in_err-write_tables-in-RbDependsOnL2.ensures.fails
 
 pub returns-in_err-write_tables-in-RbDependsOnL2-clause-faults : goal.returns-in_err-write_tables-in-RbDependsOnL2-clause-faults
-returns-in_err-write_tables-in-RbDependsOnL2-clause-faults g c = λ h p honest sound named_blocks. given_err c.from_residual.result c.in_err-write_tables-in-RbDependsOnL2.field-0.0 IsFault c.from_residual.ensures (c.in_err-write_tables-in-RbDependsOnL2.ensures.faults h p honest sound named_blocks)
+returns-in_err-write_tables-in-RbDependsOnL2-clause-faults g c = λ h p honest sound places. given_err c.from_residual.result c.in_err-write_tables-in-RbDependsOnL2.field-0.0 IsFault c.from_residual.ensures (c.in_err-write_tables-in-RbDependsOnL2.ensures.faults h p honest sound)
 
 pub returns-in_err-write_tables-in-RbDependsOnL2-clause-sound : goal.returns-in_err-write_tables-in-RbDependsOnL2-clause-sound
 returns-in_err-write_tables-in-RbDependsOnL2-clause-sound g c = c.write_tables.ensures.sound (tables_free c.args.self.now (inr c.in-RbDependsOnL2.is))
@@ -43,9 +35,9 @@ pub returns-in_ok-write_tables-in-RbDependsOnL2-clause-fails : goal.returns-in_o
 returns-in_ok-write_tables-in-RbDependsOnL2-clause-fails g c = fails_since c.in_ok-write_tables-in-RbDependsOnL2.ensures.fails.told c.write_blocks.ensures.fails
 
 pub returns-in_ok-write_tables-in-RbDependsOnL2-clause-faults : goal.returns-in_ok-write_tables-in-RbDependsOnL2-clause-faults
-returns-in_ok-write_tables-in-RbDependsOnL2-clause-faults g c = λ h p honest sound named_blocks.
+returns-in_ok-write_tables-in-RbDependsOnL2-clause-faults g c = λ h p honest sound places.
     let one = (c.write_tables.ensures.sound (tables_free c.args.self.now (inr c.in-RbDependsOnL2.is))).keeps h p honest sound in
-    c.write_blocks.ensures.faults h p one.honest one.sound (one.named_blocks named_blocks)
+    c.write_blocks.ensures.faults h p one.honest one.sound (places_as h c.args.self.now c.write_tables.new.self c.write_tables.ensures.flushes.others_stay places)
 
 pub returns-in_ok-write_tables-in-RbDependsOnL2-clause-sound : goal.returns-in_ok-write_tables-in-RbDependsOnL2-clause-sound
 returns-in_ok-write_tables-in-RbDependsOnL2-clause-sound g c = soundly_then c.write_tables.ensures.step.marks.order (c.write_tables.ensures.sound (tables_free c.args.self.now (inr c.in-RbDependsOnL2.is))) (c.write_blocks.ensures.sound (blocks_clean c.write_tables.new.self (c.write_tables.ensures.flushes.direction ∙ c.in-RbDependsOnL2.is) c.in_ok-write_tables-in-RbDependsOnL2.ensures.flushes.written))

@@ -1,99 +1,71 @@
-use Rattle.std.proofs.Common.{◌≡◌, ◌*◌, ◌^◌, ◌<◌, Bool, true, false, IsTrue, ◌↔◌, Option, eqb, sym, ap, ◌∙◌, subst, arith}
-use Rattle.std.specs.Option.{IfSome, option_copied}
+use Rattle.std.proofs.Common.{◌*◌, ◌^◌, ℕ, Option, eqb, refl, sym, ap, subst}
+use Rattle.std.specs.Option.{IfSome}
 use Rattle.qcow2_metadata.specs.L2Mapping.{IsHostCluster}
-use Rattle.qcow2_metadata.specs.L2Table.{L2TableView, copied_entry, entries_of}
+use Rattle.qcow2_metadata.specs.L2Table.{L2TableView, copied_entry}
 use Rattle.qcow2_alloc.specs.AsyncLruCache.{value_at}
-use Rattle.qcow2_alloc.specs.TableChanges.{SetsTableEntry}
+use Rattle.qcow2_alloc.specs.TableChanges.{CantMap, SetsTableEntry}
 use Rattle.qcow2_alloc.proofs.CacheSteps.{held_none}
-use Rattle.qcow2_alloc.proofs.ChangedTables.{accepted, answered, changed_by, entry_apart, entry_made_so, entry_set, entry_step, table_unchanged_apart}
+use Rattle.qcow2_alloc.proofs.ChangedTables.{changed_by, entry_apart, entry_made_so, entry_set, entry_step, entry_there, if_some_then, stays, table_stays_apart}
 use Rattle.qcow2_alloc.proofs.KeptTables.Inserting.{if_some}
-use Rattle.qcow2_alloc.proofs.KeptTables.Mapping.{bits_is, index_fits}
+use Rattle.qcow2_alloc.proofs.KeptTables.Mapping.{bits_is}
 use Rattle.qcow2_alloc.proofs.cache.MetadataCaches.l2_map_cluster.Goals as goal
-use Rattle.qcow2_alloc.proofs.cache.MetadataCaches.l2_map_cluster.Goals.{then-index-entries-via-then-index-entries, then-index-entries-via-else-index-entries+then-not-is_nameable}
 
--- a host cluster that can be named isn't refused
-named : (b : Bool) {P : Type 0} → (IsTrue b ↔ P) → P → b ≡ false → ⊥
-named b iff p isnt = let is = iff.1 p in cc
-
-nameable : (b : Bool) {P : Type 0} → (IsTrue b ↔ P) → b ≡ true → P
-nameable b iff is = iff.0 is
-
-pub change-requires : goal.change-requires
-change-requires g c =
-    let found = sym c.peek.ensures.value ∙ ap option_copied c.in_ok-table.was in
-    accepted c.args.cluster c.args.self.now.l2.entries c.in_ok-table.table.now found (λ (x : L2TableView). (c.args.index < entries_of x) × IsHostCluster x.cluster_bits c.args.host) ((let count = c.entries.ensures.value in let inside = c.if-index-entries.false in omega arith), subst (λ n. IsHostCluster n c.args.host) c.cluster_bits-bits.ensures.value (nameable c.is_nameable.result c.is_nameable.ensures c.if-not-is_nameable.false))
-
-pub unwrap-old_data-requires : goal.unwrap-old_data-requires
-unwrap-old_data-requires g c =
-    let found = sym c.peek.ensures.value ∙ ap option_copied c.in_ok-table.was in
-    answered (λ (x : L2TableView) a w. SetsTableEntry x c.args.index (copied_entry (c.args.host * 2 ^ x.cluster_bits)) a w) c.args.cluster c.args.self.now.l2 c.change.new.self c.in_ok-table.table.now found c.change.result c.change.ensures.there
+abbrev Sets : ℕ → ℕ → L2TableView → Option (ℕ × ℕ) → L2TableView → Type 0
+Sets index host t a w = IsHostCluster t.cluster_bits host × SetsTableEntry t index (copied_entry (host * 2 ^ t.cluster_bits)) a w
 
 pub returns-clause-step : goal.returns-clause-step
 returns-clause-step g c =
-    let found = sym c.peek.ensures.value ∙ ap option_copied c.in_ok-table.was in
-    let ch = changed_by (λ (x : L2TableView) a w. SetsTableEntry x c.args.index (copied_entry (c.args.host * 2 ^ x.cluster_bits)) a w) c.args.cluster c.args.self.now.l2 c.change.new.self c.in_ok-table.table.now found c.change.result c.change.ensures.there c.unwrap-old_data.result c.unwrap-old_data.ensures in
-    rw ch.is (entry_step c.args.self.now c.args.cluster c.args.index (copied_entry (c.args.host * 2 ^ c.in_ok-table.table.now.cluster_bits)) c.in_ok-table.table.now ch.value found c.unwrap-old_data.result ch.by c.one_more-self.result c.one_more-self.ensures)
+    let ch = changed_by (CantMap c.args.index c.args.host) (Sets c.args.index c.args.host) c.args.cluster c.args.self.now.l2 c.change.new.self c.change.result c.change.ensures.changes c.in_ok-old_data.old_data c.in_ok-old_data.was in
+    rw ch.is (entry_step c.args.self.now c.args.cluster ch.after c.one_more-self.result c.one_more-self.ensures)
 
 pub returns-clause-apart : goal.returns-clause-apart
 returns-clause-apart g c =
-    let found = sym c.peek.ensures.value ∙ ap option_copied c.in_ok-table.was in
-    let ch = changed_by (λ (x : L2TableView) a w. SetsTableEntry x c.args.index (copied_entry (c.args.host * 2 ^ x.cluster_bits)) a w) c.args.cluster c.args.self.now.l2 c.change.new.self c.in_ok-table.table.now found c.change.result c.change.ensures.there c.unwrap-old_data.result c.unwrap-old_data.ensures in
-    rw ch.is (entry_apart c.args.self.now c.args.cluster c.args.index (copied_entry (c.args.host * 2 ^ c.in_ok-table.table.now.cluster_bits)) c.in_ok-table.table.now ch.value found c.unwrap-old_data.result ch.by c.one_more-self.result c.one_more-self.ensures c.peek.ensures.distinct)
+    let ch = changed_by (CantMap c.args.index c.args.host) (Sets c.args.index c.args.host) c.args.cluster c.args.self.now.l2 c.change.new.self c.change.result c.change.ensures.changes c.in_ok-old_data.old_data c.in_ok-old_data.was in
+    rw ch.is (entry_apart c.args.self.now c.args.cluster ch.after c.one_more-self.result c.one_more-self.ensures c.change.ensures.distinct)
 
 pub returns-clause-entry : goal.returns-clause-entry
 returns-clause-entry g c =
-    let found = sym c.peek.ensures.value ∙ ap option_copied c.in_ok-table.was in
-    let ch = changed_by (λ (x : L2TableView) a w. SetsTableEntry x c.args.index (copied_entry (c.args.host * 2 ^ x.cluster_bits)) a w) c.args.cluster c.args.self.now.l2 c.change.new.self c.in_ok-table.table.now found c.change.result c.change.ensures.there c.unwrap-old_data.result c.unwrap-old_data.ensures in
-    rw ch.is (if_some _ (value_at (eqb c.args.cluster) c.args.self.now.l2.entries) c.in_ok-table.table.now found (λ inside host. entry_set c.args.self.now c.args.cluster c.args.index (copied_entry (c.args.host * 2 ^ c.in_ok-table.table.now.cluster_bits)) c.in_ok-table.table.now ch.value found c.unwrap-old_data.result ch.by c.one_more-self.result c.one_more-self.ensures))
+    let ch = changed_by (CantMap c.args.index c.args.host) (Sets c.args.index c.args.host) c.args.cluster c.args.self.now.l2 c.change.new.self c.change.result c.change.ensures.changes c.in_ok-old_data.old_data c.in_ok-old_data.was in
+    rw ch.is (if_some _ (value_at (eqb c.args.cluster) c.args.self.now.l2.entries) ch.before ch.found (λ inside host. entry_set c.args.self.now c.args.cluster ch.after c.one_more-self.result c.one_more-self.ensures ch.found ch.by.1))
 
 pub returns-clause-mapped : goal.returns-clause-mapped
-returns-clause-mapped g c = λ h p on_storage i sound at own there host.
-    let found = sym c.peek.ensures.value ∙ ap option_copied c.in_ok-table.was in
-    let bits = bits_is h p on_storage c.args.self.now sound c.args.cluster c.args.index c.in_ok-table.table.now found i at in
-    let ch = changed_by (λ (x : L2TableView) a w. SetsTableEntry x c.args.index (copied_entry (c.args.host * 2 ^ x.cluster_bits)) a w) c.args.cluster c.args.self.now.l2 c.change.new.self c.in_ok-table.table.now found c.change.result c.change.ensures.there c.unwrap-old_data.result c.unwrap-old_data.ensures in
-    rw ch.is (entry_made_so c.args.self.now c.args.cluster c.args.index (copied_entry (c.args.host * 2 ^ c.in_ok-table.table.now.cluster_bits)) c.in_ok-table.table.now ch.value found c.unwrap-old_data.result ch.by c.one_more-self.result c.one_more-self.ensures h p on_storage i sound at own (copied_entry (c.args.host * 2 ^ h.cluster_bits)) (ap (λ n. copied_entry (c.args.host * 2 ^ n)) bits))
-
-pub returns-then-index-entries-clause-mapped : goal.returns-then-index-entries-clause-mapped
-returns-then-index-entries-clause-mapped g c = λ h p on_storage i sound at own there host.
-    let found = sym c.peek.ensures.value ∙ ap option_copied c.in_ok-table.was in
-    let fits = index_fits h p on_storage c.args.self.now sound c.args.cluster c.args.index c.in_ok-table.table.now found i at in
-    let bits = c.cluster_bits-bits.ensures.value ∙ bits_is h p on_storage c.args.self.now sound c.args.cluster c.args.index c.in_ok-table.table.now found i at in
-    absurd (elim c.then-index-entries.branch [
-      | then-index-entries-via-then-index-entries w ↦ let count = c.entries.ensures.value in let past = w.if-index-entries.true in omega arith
-      | then-index-entries-via-else-index-entries+then-not-is_nameable w ↦ named w.is_nameable.result w.is_nameable.ensures (subst (λ n. IsHostCluster n c.args.host) (sym bits) host) w.if-not-is_nameable.true
-    ])
-
-pub returns-then-index-entries-clause-noted : goal.returns-then-index-entries-clause-noted
-returns-then-index-entries-clause-noted g c = λ h p on_storage i sound at there host.
-    let found = sym c.peek.ensures.value ∙ ap option_copied c.in_ok-table.was in
-    let fits = index_fits h p on_storage c.args.self.now sound c.args.cluster c.args.index c.in_ok-table.table.now found i at in
-    let bits = c.cluster_bits-bits.ensures.value ∙ bits_is h p on_storage c.args.self.now sound c.args.cluster c.args.index c.in_ok-table.table.now found i at in
-    absurd (elim c.then-index-entries.branch [
-      | then-index-entries-via-then-index-entries w ↦ let count = c.entries.ensures.value in let past = w.if-index-entries.true in omega arith
-      | then-index-entries-via-else-index-entries+then-not-is_nameable w ↦ named w.is_nameable.result w.is_nameable.ensures (subst (λ n. IsHostCluster n c.args.host) (sym bits) host) w.if-not-is_nameable.true
-    ])
-
-pub returns-then-index-entries-clause-entry : goal.returns-then-index-entries-clause-entry
-returns-then-index-entries-clause-entry g c =
-    let found = sym c.peek.ensures.value ∙ ap option_copied c.in_ok-table.was in
-    if_some _ (value_at (eqb c.args.cluster) c.args.self.now.l2.entries) c.in_ok-table.table.now found (λ inside host. absurd (elim c.then-index-entries.branch [
-      | then-index-entries-via-then-index-entries w ↦ let count = c.entries.ensures.value in let past = w.if-index-entries.true in omega arith
-      | then-index-entries-via-else-index-entries+then-not-is_nameable w ↦ named w.is_nameable.result w.is_nameable.ensures (subst (λ n. IsHostCluster n c.args.host) (sym c.cluster_bits-bits.ensures.value) host) w.if-not-is_nameable.true
-    ]))
-
-pub returns-then-index-entries-clause-apart : goal.returns-then-index-entries-clause-apart
-returns-then-index-entries-clause-apart g c =
-    let found = sym c.peek.ensures.value ∙ ap option_copied c.in_ok-table.was in
-    table_unchanged_apart c.args.self.now c.args.cluster c.in_ok-table.table.now found c.peek.ensures.distinct
-
-pub returns-then-index-entries-clause-step : goal.returns-then-index-entries-clause-step
-returns-then-index-entries-clause-step g c = held_none
-
-pub returns-in_err-table-clause-step : goal.returns-in_err-table-clause-step
-returns-in_err-table-clause-step g c = held_none
+returns-clause-mapped g c =
+    λ h p on_storage i sound at own there host.
+    let ch = changed_by (CantMap c.args.index c.args.host) (Sets c.args.index c.args.host) c.args.cluster c.args.self.now.l2 c.change.new.self c.change.result c.change.ensures.changes c.in_ok-old_data.old_data c.in_ok-old_data.was in
+    let bits = bits_is h p on_storage c.args.self.now sound c.args.cluster c.args.index ch.before ch.found i at in
+    rw ch.is (entry_made_so c.args.self.now c.args.cluster ch.after c.one_more-self.result c.one_more-self.ensures ch.found ch.by.1 h p on_storage i sound at own _ (ap (λ n. copied_entry (c.args.host * 2 ^ n)) bits))
 
 pub returns-clause-refused : goal.returns-clause-refused
-returns-clause-refused g c = λ none.
-    let found = sym c.peek.ensures.value ∙ ap option_copied c.in_ok-table.was in
-    let refused = subst (λ (o : Option L2TableView). IfSome o (λ t. c.args.index < entries_of t → IsHostCluster t.cluster_bits c.args.host → ⊥)) found none in
-    absurd (refused (let count = c.entries.ensures.value in let inside = c.if-index-entries.false in omega arith) (subst (λ n. IsHostCluster n c.args.host) c.cluster_bits-bits.ensures.value (nameable c.is_nameable.result c.is_nameable.ensures c.if-not-is_nameable.false)))
+returns-clause-refused g c = λ refused.
+    let ch = changed_by (CantMap c.args.index c.args.host) (Sets c.args.index c.args.host) c.args.cluster c.args.self.now.l2 c.change.new.self c.change.result c.change.ensures.changes c.in_ok-old_data.old_data c.in_ok-old_data.was in
+    absurd (subst (λ (o : Option L2TableView). IfSome o (CantMap c.args.index c.args.host)) ch.found refused ch.by.1.inside ch.by.0)
+
+pub returns-in_err-old_data-clause-step : goal.returns-in_err-old_data-clause-step
+returns-in_err-old_data-clause-step g c =
+    let left = stays (CantMap c.args.index c.args.host) (Sets c.args.index c.args.host) c.args.cluster c.args.self.now.l2 c.change.new.self c.change.result c.change.ensures.changes c.in_err-old_data.was in
+    rw left.0 held_none
+
+pub returns-in_err-old_data-clause-apart : goal.returns-in_err-old_data-clause-apart
+returns-in_err-old_data-clause-apart g c =
+    let left = stays (CantMap c.args.index c.args.host) (Sets c.args.index c.args.host) c.args.cluster c.args.self.now.l2 c.change.new.self c.change.result c.change.ensures.changes c.in_err-old_data.was in
+    rw left.0 (table_stays_apart c.args.self.now c.args.cluster c.change.ensures.distinct)
+
+pub returns-in_err-old_data-clause-entry : goal.returns-in_err-old_data-clause-entry
+returns-in_err-old_data-clause-entry g c =
+    let left = stays (CantMap c.args.index c.args.host) (Sets c.args.index c.args.host) c.args.cluster c.args.self.now.l2 c.change.new.self c.change.result c.change.ensures.changes c.in_err-old_data.was in
+    if_some_then (CantMap c.args.index c.args.host) _ (value_at (eqb c.args.cluster) c.args.self.now.l2.entries) left.1 (λ t past inside host. absurd (past inside host))
+
+pub returns-in_err-old_data-clause-mapped : goal.returns-in_err-old_data-clause-mapped
+returns-in_err-old_data-clause-mapped g c = λ h p on_storage i sound at own there host.
+    let left = stays (CantMap c.args.index c.args.host) (Sets c.args.index c.args.host) c.args.cluster c.args.self.now.l2 c.change.new.self c.change.result c.change.ensures.changes c.in_err-old_data.was in
+    absurd (entry_there c.args.self.now c.args.cluster (CantMap c.args.index c.args.host) c.args.index h p on_storage i sound at there left.1 (λ t inside bits cant. cant inside (subst (λ n. IsHostCluster n c.args.host) (sym bits) host)))
+
+pub returns-in_err-old_data-clause-recorded : goal.returns-in_err-old_data-clause-recorded
+returns-in_err-old_data-clause-recorded g c = λ h p on_storage i sound at there host.
+    let left = stays (CantMap c.args.index c.args.host) (Sets c.args.index c.args.host) c.args.cluster c.args.self.now.l2 c.change.new.self c.change.result c.change.ensures.changes c.in_err-old_data.was in
+    absurd (entry_there c.args.self.now c.args.cluster (CantMap c.args.index c.args.host) c.args.index h p on_storage i sound at there left.1 (λ t inside bits cant. cant inside (subst (λ n. IsHostCluster n c.args.host) (sym bits) host)))
+
+pub returns-in_err-old_data-clause-refused : goal.returns-in_err-old_data-clause-refused
+returns-in_err-old_data-clause-refused g c = λ refused.
+    let left = stays (CantMap c.args.index c.args.host) (Sets c.args.index c.args.host) c.args.cluster c.args.self.now.l2 c.change.new.self c.change.result c.change.ensures.changes c.in_err-old_data.was in
+    (c.from_residual.ensures, rw left.0 refl)

@@ -14,6 +14,7 @@ use Rattle.qcow2_alloc.proofs.Outcomes.{never, on_no_ok}
 use Rattle.qcow2_alloc.proofs.Faults.{rb_get_tells}
 use Rattle.qcow2_alloc.proofs.Steps.{fails_ok, fails_on, fails_since}
 use Rattle.qcow2_alloc.proofs.CacheSteps.{load_step_on, load_step_then, soundly_none, soundly_then, fails_cache, rb_got_step, rb_got_soundly}
+use Rattle.qcow2_alloc.proofs.KeptTables.Places.{places_as}
 use Rattle.qcow2_alloc.proofs.cache.MetadataCaches.rb_get_or_insert.Goals as goal
 
 pub returns-in_err-branch-clause-step : goal.returns-in_err-branch-clause-step
@@ -70,9 +71,9 @@ returns-in_err-before_rb-clause-fails g c =
     (fails_on c.from_residual-in_err-before_rb.result c.in_err-before_rb.field-0.0 c.from_residual-in_err-before_rb.ensures c.in_err-before_rb.ensures.fails)
 
 pub returns-in_err-before_rb-clause-faults : goal.returns-in_err-before_rb-clause-faults
-returns-in_err-before_rb-clause-faults g c = λ room h here p honest sound named_blocks.
+returns-in_err-before_rb-clause-faults g c = λ room h here p honest sound places.
     let one = block_got g.S.Storage.view c.args.storage.now c.get_or_insert.new.store c.args.self.now false c.args.cluster c.get_or_insert.new.self c.get_or_insert.ensures.kept.others c.in_ok-get_or_insert.field-0 c.in_ok-get_or_insert.ensures.hit c.in_ok-get_or_insert.ensures.miss (λ flush. never flush) h p honest sound in
-    given_err c.from_residual-in_err-before_rb.result c.in_err-before_rb.field-0.0 IsFault c.from_residual-in_err-before_rb.ensures ((c.in_err-before_rb.ensures.faults h p one.honest one.sound (one.named_blocks named_blocks)))
+    given_err c.from_residual-in_err-before_rb.result c.in_err-before_rb.field-0.0 IsFault c.from_residual-in_err-before_rb.ensures (c.in_err-before_rb.ensures.faults h p one.honest one.sound)
 
 pub returns-in_err-before_rb-clause-sound : goal.returns-in_err-before_rb-clause-sound
 returns-in_err-before_rb-clause-sound g c =
@@ -107,12 +108,12 @@ returns-in_err-branch-2-clause-fails g c =
     c.in_err-branch-2.was c.from_residual-in_err-branch-2.ensures)
 
 pub returns-in_err-branch-2-clause-faults : goal.returns-in_err-branch-2-clause-faults
-returns-in_err-branch-2-clause-faults g c = λ room h here p honest sound named_blocks.
+returns-in_err-branch-2-clause-faults g c = λ room h here p honest sound places.
     let one = block_got g.S.Storage.view c.args.storage.now c.get_or_insert.new.store c.args.self.now false c.args.cluster c.get_or_insert.new.self c.get_or_insert.ensures.kept.others c.in_ok-get_or_insert.field-0 c.in_ok-get_or_insert.ensures.hit c.in_ok-get_or_insert.ensures.miss (λ flush. never flush) h p honest sound in
     let two = c.before_rb.ensures.sound.keeps h p one.honest one.sound in
     let marks = marks_then c.args.self.now (record c.args.self.now { rb = c.get_or_insert.new.self }) c.before_rb.new.self (marks_blocks c.args.self.now c.get_or_insert.new.self c.get_or_insert.ensures.kept.others c.get_or_insert.ensures.kept.pins) c.before_rb.ensures.step.marks.pins in
     given_err c.from_residual-in_err-branch-2.result (of_cache c.in_err-branch-2.field-0.0) IsFault c.from_residual-in_err-branch-2.ensures
-    (block_load_refused g.S.Storage.view c.before_rb.new.storage c.get_or_insert-2.new.store c.before_rb.new.self h p (byte_at (g.S.Storage.view (storage_of c.before_rb.new.storage)).contents) two.sound true c.args.cluster c.in_ok-get_or_insert-2.field-0 c.in_err-branch-2.field-0.0 c.in_err-branch-2.was (marks.room room) (two.named_blocks (one.named_blocks named_blocks)) c.get_or_insert-2.new.self here c.in_ok-get_or_insert-2.ensures.hit c.in_ok-get_or_insert-2.ensures.miss)
+    (block_load_refused g.S.Storage.view c.before_rb.new.storage c.get_or_insert-2.new.store c.before_rb.new.self h p (byte_at (g.S.Storage.view (storage_of c.before_rb.new.storage)).contents) two.sound true c.args.cluster c.in_ok-get_or_insert-2.field-0 c.in_err-branch-2.field-0.0 c.in_err-branch-2.was (marks.room room) (places_as h c.args.self.now c.before_rb.new.self (c.before_rb.ensures.way.stays ∙ block_got_same g.S.Storage.view c.args.storage.now c.get_or_insert.new.store c.args.self.now false c.args.cluster c.get_or_insert.new.self c.in_ok-get_or_insert.field-0 c.in_ok-get_or_insert.ensures.hit c.in_ok-get_or_insert.ensures.miss c.get_or_insert.ensures.kept.others (c.in_ok-branch.was ∙ ap Ok c.if-branch.false)) places) c.get_or_insert-2.new.self here c.in_ok-get_or_insert-2.ensures.hit c.in_ok-get_or_insert-2.ensures.miss)
 
 pub returns-in_err-branch-2-clause-sound : goal.returns-in_err-branch-2-clause-sound
 returns-in_err-branch-2-clause-sound g c =
@@ -193,7 +194,7 @@ pub returns-in_err-get_or_insert-clause-held : goal.returns-in_err-get_or_insert
 returns-in_err-get_or_insert-clause-held g c = λ there. rw (c.in_err-get_or_insert.ensures.refused.0, c.in_err-get_or_insert.ensures.refused.1) (refl, λ k. refl)
 
 pub returns-in_err-get_or_insert-clause-faults : goal.returns-in_err-get_or_insert-clause-faults
-returns-in_err-get_or_insert-clause-faults g c = λ room h here p honest sound named_blocks. given_err c.from_residual.result I.Memory IsFault c.from_residual.ensures (inr refl)
+returns-in_err-get_or_insert-clause-faults g c = λ room h here p honest sound places. given_err c.from_residual.result I.Memory IsFault c.from_residual.ensures (inr refl)
 
 pub returns-in_err-get_or_insert-2-clause-faults : goal.returns-in_err-get_or_insert-2-clause-faults
-returns-in_err-get_or_insert-2-clause-faults g c = λ room h here p honest sound named_blocks. given_err c.from_residual-in_err-get_or_insert-2.result I.Memory IsFault c.from_residual-in_err-get_or_insert-2.ensures (inr refl)
+returns-in_err-get_or_insert-2-clause-faults g c = λ room h here p honest sound places. given_err c.from_residual-in_err-get_or_insert-2.result I.Memory IsFault c.from_residual-in_err-get_or_insert-2.ensures (inr refl)

@@ -1,7 +1,7 @@
 use Rattle.std.proofs.Common.{inr, ◌≡◌, ℕ, Bool, true, false, Some, Result, Ok, Err, refl, sym, ap, ◌∙◌, subst, ◌+◌, ◌*◌, eqb}
 use Rattle.qcow2_alloc.proofs.KeptTables.Inserting.{block_put, rb_taken, taken_at_last, if_some}
 use Rattle.qcow2_metadata.specs.Header.{cluster_size}
-use Rattle.qcow2_alloc.proofs.KeptTables.Turning.{stay_then}
+use Rattle.qcow2_alloc.proofs.KeptTables.Switching.{stay_then}
 use Rattle.qcow2_alloc.proofs.CachePins.{marks_blocks, marks_then}
 use Rattle.qcow2_alloc.specs.declared.error.ImageError.TheVariants as I
 use Rattle.qcow2_alloc.specs.ImageError.{of_cache, IsFault}
@@ -26,6 +26,7 @@ use Rattle.qcow2_alloc.proofs.KeptTables.ApartCalls.{apart_then, block_kept_apar
 use Rattle.qcow2_alloc.proofs.Faults.{rb_put_tells}
 use Rattle.qcow2_alloc.proofs.Steps.{fails_by, fails_ok, fails_on, fails_since, memory_other}
 use Rattle.qcow2_alloc.proofs.CacheSteps.{cache_step_none, put_step_as, put_step_on, put_step_then, soundly_none, soundly_then, fails_cache, puts_refused, rb_put_step, rb_kept_soundly}
+use Rattle.qcow2_alloc.proofs.KeptTables.Places.{places_as}
 use Rattle.qcow2_alloc.proofs.cache.MetadataCaches.rb_insert.Goals as goal
 
 ok_false : {E : Type 0} {r : Result Bool E} → r ≡ Ok false → r ≡ Ok true → ⊥
@@ -49,9 +50,9 @@ returns-in_err-branch-clause-fails g c =
     c.in_err-branch.was c.from_residual-in_err-branch.ensures
 
 pub returns-in_err-branch-clause-faults : goal.returns-in_err-branch-clause-faults
-returns-in_err-branch-clause-faults g c = λ room h p honest sound named_blocks fits clean holds.
+returns-in_err-branch-clause-faults g c = λ room h p honest sound places.
     given_err c.from_residual-in_err-branch.result (of_cache c.in_err-branch.field-0.0) IsFault c.from_residual-in_err-branch.ensures
-    (block_put_refused g.S.Storage.view c.args.storage.now c.insert.new.store c.args.self.now h p (byte_at (g.S.Storage.view (storage_of c.args.storage.now)).contents) sound false c.in-Some.cluster c.in_ok-insert.field-0 c.in_err-branch.field-0.0 c.in_err-branch.was room named_blocks c.insert.new.self c.args.block (Some c.args.block) c.insert.new.value refl c.in_ok-insert.ensures.there c.in_ok-insert.ensures.missing)
+    (block_put_refused g.S.Storage.view c.args.storage.now c.insert.new.store c.args.self.now h p (byte_at (g.S.Storage.view (storage_of c.args.storage.now)).contents) sound false c.in-Some.cluster c.in_ok-insert.field-0 c.in_err-branch.field-0.0 c.in_err-branch.was room places c.insert.new.self c.args.block (Some c.args.block) c.insert.new.value refl c.in_ok-insert.ensures.there c.in_ok-insert.ensures.missing)
 
 pub returns-in_err-branch-clause-sound : goal.returns-in_err-branch-clause-sound
 returns-in_err-branch-clause-sound g c =
@@ -106,9 +107,9 @@ returns-in_err-before_rb-clause-fails g c =
     (fails_on c.from_residual-in_err-before_rb.result c.in_err-before_rb.field-0.0 c.from_residual-in_err-before_rb.ensures c.in_err-before_rb.ensures.fails)
 
 pub returns-in_err-before_rb-clause-faults : goal.returns-in_err-before_rb-clause-faults
-returns-in_err-before_rb-clause-faults g c = λ room h p honest sound named_blocks fits clean holds.
-    let one = block_put g.S.Storage.view c.args.storage.now c.insert.new.store c.args.self.now false c.in-Some.cluster c.insert.new.self c.insert.ensures.kept.others c.args.block (Some c.args.block) c.insert.new.value refl c.in_ok-insert.field-0 c.in_ok-insert.ensures.there c.in_ok-insert.ensures.missing (λ flush. never flush) h p honest sound fits clean (rw (sym c.get_cluster.ensures.value ∙ c.in-Some.is) at holds) in
-    given_err c.from_residual-in_err-before_rb.result c.in_err-before_rb.field-0.0 IsFault c.from_residual-in_err-before_rb.ensures ((c.in_err-before_rb.ensures.faults h p one.honest one.sound (one.named_blocks named_blocks)))
+returns-in_err-before_rb-clause-faults g c = λ room h p honest sound places.
+    let one = (rb_kept_soundly g.S.Storage.view c.args.storage.now c.insert.new.store c.args.self.now false c.in-Some.cluster c.insert.new.self c.insert.ensures.kept.others c.args.block (Some c.args.block) c.insert.new.value refl c.in_ok-insert.field-0 c.in_ok-insert.ensures.there c.in_ok-insert.ensures.missing c.insert.ensures.kept.distinct (λ flush. never flush) (λ went. ok_false (c.in_ok-branch.was ∙ ap Ok c.if-branch.false) went)).keeps h p honest sound in
+    given_err c.from_residual-in_err-before_rb.result c.in_err-before_rb.field-0.0 IsFault c.from_residual-in_err-before_rb.ensures (c.in_err-before_rb.ensures.faults h p one.honest one.sound)
 
 pub returns-in_err-before_rb-clause-sound : goal.returns-in_err-before_rb-clause-sound
 returns-in_err-before_rb-clause-sound g c =
@@ -141,12 +142,12 @@ returns-in_err-branch-2-clause-fails g c =
     c.in_err-branch-2.was c.from_residual-in_err-branch-2.ensures)
 
 pub returns-in_err-branch-2-clause-faults : goal.returns-in_err-branch-2-clause-faults
-returns-in_err-branch-2-clause-faults g c = λ room h p honest sound named_blocks fits clean holds.
-    let one = block_put g.S.Storage.view c.args.storage.now c.insert.new.store c.args.self.now false c.in-Some.cluster c.insert.new.self c.insert.ensures.kept.others c.args.block (Some c.args.block) c.insert.new.value refl c.in_ok-insert.field-0 c.in_ok-insert.ensures.there c.in_ok-insert.ensures.missing (λ flush. never flush) h p honest sound fits clean (rw (sym c.get_cluster.ensures.value ∙ c.in-Some.is) at holds) in
+returns-in_err-branch-2-clause-faults g c = λ room h p honest sound places.
+    let one = (rb_kept_soundly g.S.Storage.view c.args.storage.now c.insert.new.store c.args.self.now false c.in-Some.cluster c.insert.new.self c.insert.ensures.kept.others c.args.block (Some c.args.block) c.insert.new.value refl c.in_ok-insert.field-0 c.in_ok-insert.ensures.there c.in_ok-insert.ensures.missing c.insert.ensures.kept.distinct (λ flush. never flush) (λ went. ok_false (c.in_ok-branch.was ∙ ap Ok c.if-branch.false) went)).keeps h p honest sound in
     let two = c.before_rb.ensures.sound.keeps h p one.honest one.sound in
     let marks = marks_then c.args.self.now (record c.args.self.now { rb = c.insert.new.self }) c.before_rb.new.self (marks_blocks c.args.self.now c.insert.new.self c.insert.ensures.kept.others c.insert.ensures.kept.pins) c.before_rb.ensures.step.marks.pins in
     given_err c.from_residual-in_err-branch-2.result (of_cache c.in_err-branch-2.field-0.0) IsFault c.from_residual-in_err-branch-2.ensures
-    (block_put_refused g.S.Storage.view c.before_rb.new.storage c.insert-2.new.store c.before_rb.new.self h p (byte_at (g.S.Storage.view (storage_of c.before_rb.new.storage)).contents) two.sound true c.in-Some.cluster c.in_ok-insert-2.field-0 c.in_err-branch-2.field-0.0 c.in_err-branch-2.was (marks.room room) (two.named_blocks (one.named_blocks named_blocks)) c.insert-2.new.self c.args.block c.insert.new.value c.insert-2.new.value ((rb_taken g.S.Storage.view c.args.storage.now c.insert.new.store c.args.self.now false c.in-Some.cluster c.insert.new.self c.insert.ensures.kept.others c.args.block (Some c.args.block) c.insert.new.value refl c.in_ok-insert.field-0 c.in_ok-insert.ensures.there c.in_ok-insert.ensures.missing).kept (c.in_ok-branch.was ∙ ap Ok c.if-branch.false)) c.in_ok-insert-2.ensures.there c.in_ok-insert-2.ensures.missing)
+    (block_put_refused g.S.Storage.view c.before_rb.new.storage c.insert-2.new.store c.before_rb.new.self h p (byte_at (g.S.Storage.view (storage_of c.before_rb.new.storage)).contents) two.sound true c.in-Some.cluster c.in_ok-insert-2.field-0 c.in_err-branch-2.field-0.0 c.in_err-branch-2.was (marks.room room) (places_as h c.args.self.now c.before_rb.new.self (c.before_rb.ensures.way.stays ∙ block_put_same g.S.Storage.view c.args.storage.now c.insert.new.store c.args.self.now false c.in-Some.cluster c.insert.new.self c.args.block (Some c.args.block) c.insert.new.value refl c.in_ok-insert.field-0 c.in_ok-insert.ensures.there c.in_ok-insert.ensures.missing c.insert.ensures.kept.others (c.in_ok-branch.was ∙ ap Ok c.if-branch.false)) places) c.insert-2.new.self c.args.block c.insert.new.value c.insert-2.new.value ((rb_taken g.S.Storage.view c.args.storage.now c.insert.new.store c.args.self.now false c.in-Some.cluster c.insert.new.self c.insert.ensures.kept.others c.args.block (Some c.args.block) c.insert.new.value refl c.in_ok-insert.field-0 c.in_ok-insert.ensures.there c.in_ok-insert.ensures.missing).kept (c.in_ok-branch.was ∙ ap Ok c.if-branch.false)) c.in_ok-insert-2.ensures.there c.in_ok-insert-2.ensures.missing)
 
 pub returns-in_err-branch-2-clause-sound : goal.returns-in_err-branch-2-clause-sound
 returns-in_err-branch-2-clause-sound g c =
@@ -302,11 +303,11 @@ returns-in_err-insert-2-clause-puts g c =
 
 pub returns-in_err-insert-clause-faults : goal.returns-in_err-insert-clause-faults
 returns-in_err-insert-clause-faults g c =
-    λ room h p honest sound named_blocks fits clean holds. given_err c.from_residual.result I.Memory IsFault c.from_residual.ensures (inr refl)
+    λ room h p honest sound places. given_err c.from_residual.result I.Memory IsFault c.from_residual.ensures (inr refl)
 
 pub returns-in_err-insert-2-clause-faults : goal.returns-in_err-insert-2-clause-faults
 returns-in_err-insert-2-clause-faults g c =
-    λ room h p honest sound named_blocks fits clean holds. given_err c.from_residual-in_err-insert-2.result I.Memory IsFault c.from_residual-in_err-insert-2.ensures (inr refl)
+    λ room h p honest sound places. given_err c.from_residual-in_err-insert-2.result I.Memory IsFault c.from_residual-in_err-insert-2.ensures (inr refl)
 
 pub returns-in_err-insert-clause-written : goal.returns-in_err-insert-clause-written
 returns-in_err-insert-clause-written g c =

@@ -23,14 +23,14 @@ returns-in-Err-clause-sound g c = λ may. watched_soundly false (rb_flushed_soun
 
 pub returns-in-Err-clause-fails : goal.returns-in-Err-clause-fails
 returns-in-Err-clause-fails g c =
-    fails_of {T = Unit {0}} (Err c.told.result) (flush_refused g.S.Storage.view (record c.args.storage.now { met_fault = false }) c.flush.new.store c.flush.result c.in-Err.refusal c.told.result refl (rw c.watch_faults.ensures at c.flush.ensures.keeps).1
-    (rb_flush_tells g.S.Storage.view c.args.self.now.rb.backend.header.fields (record c.args.storage.now { met_fault = false }) c.flush.new.store c.args.self.now.rb.entries c.flush.new.self.entries c.flush.result (rw c.watch_faults.ensures at c.flush.ensures.flushed)) c.in-Err.is c.told.ensures.met (λ none. c.told.ensures.unmet none ∙ c.into.ensures))
-    (told_as IsOfTables (met_fault_of c.flush.new.store) c.told.result (of_cache c.in-Err.refusal) c.told.ensures.met (λ none. c.told.ensures.unmet none ∙ c.into.ensures) tt (cache_of_tables c.in-Err.refusal))
+    fails_of {T = Unit {0}} (Err c.refusal_to_report.result) (flush_refused g.S.Storage.view (record c.args.storage.now { met_fault = false }) c.flush.new.store c.flush.result c.in-Err.refusal c.refusal_to_report.result refl (rw c.watch_faults.ensures at c.flush.ensures.keeps).1
+    (rb_flush_tells g.S.Storage.view c.args.self.now.rb.backend.header.fields (record c.args.storage.now { met_fault = false }) c.flush.new.store c.args.self.now.rb.entries c.flush.new.self.entries c.flush.result (rw c.watch_faults.ensures at c.flush.ensures.flushed)) c.in-Err.is c.refusal_to_report.ensures.met (λ none. c.refusal_to_report.ensures.unmet none ∙ c.into.ensures))
+    (told_as IsOfTables (met_fault_of c.flush.new.store) c.refusal_to_report.result (of_cache c.in-Err.refusal) c.refusal_to_report.ensures.met (λ none. c.refusal_to_report.ensures.unmet none ∙ c.into.ensures) tt (cache_of_tables c.in-Err.refusal))
 
 pub returns-in-Err-clause-faults : goal.returns-in-Err-clause-faults
-returns-in-Err-clause-faults g c = λ h p honest sound named_blocks.
-    told_as IsFault (met_fault_of c.flush.new.store) c.told.result (of_cache c.in-Err.refusal) c.told.ensures.met (λ none. c.told.ensures.unmet none ∙ c.into.ensures) (inl refl)
-    (blocks_flush_refused g.S.Storage.view (record c.args.storage.now { met_fault = false }) c.flush.new.store c.args.self.now h p (byte_at (g.S.Storage.view (storage_of c.args.storage.now)).contents) sound named_blocks c.flush.new.self c.flush.result (rw c.watch_faults.ensures at c.flush.ensures.flushed) c.in-Err.refusal c.in-Err.is)
+returns-in-Err-clause-faults g c = λ h p honest sound places.
+    told_as IsFault (met_fault_of c.flush.new.store) c.refusal_to_report.result (of_cache c.in-Err.refusal) c.refusal_to_report.ensures.met (λ none. c.refusal_to_report.ensures.unmet none ∙ c.into.ensures) (inl refl)
+    (blocks_flush_refused g.S.Storage.view (record c.args.storage.now { met_fault = false }) c.flush.new.store c.args.self.now h p (byte_at (g.S.Storage.view (storage_of c.args.storage.now)).contents) sound places c.flush.new.self c.flush.result (rw c.watch_faults.ensures at c.flush.ensures.flushed) c.in-Err.refusal c.in-Err.is)
 
 pub returns-in-Err-clause-flushes : goal.returns-in-Err-clause-flushes
 returns-in-Err-clause-flushes g c = record {

@@ -9,7 +9,7 @@ use Rattle.qcow2_alloc.proofs.table_cache.TableCache.flush_modified.Given as goa
 
 abbrev pub invariant-flushing : goal.invariant-flushing
 invariant-flushing g l = record {
-  walk : IsWalking (g.B.AsyncLruCacheBackend.steps l.fn.self.backend) g.B.Key.PartialEq.eq g.B.AsyncLruCacheBackend.is_modified l.fn.store l.fn.self.entries l.first l.next l.store l.self.entries;
+  walk : IsWalking (g.B.AsyncLruCacheBackend.steps l.fn.self.backend) g.B.Key.PartialEq.eq g.B.Value.CachedValue.is_modified l.fn.store l.fn.self.entries l.first l.next l.store l.self.entries;
   distinct : IsDistinct g.B.Key.PartialEq.eq (keys_of l.self.entries);
   others : l.self ≡ with_entries l.fn.self l.self.entries;
   keeps : g.B.AsyncLruCacheBackend.keeps l.fn.store l.store;

@@ -8,7 +8,7 @@ returns-in_default-clause-kept g c = rw (← c.self.view_is) (kept_same g.B.Key.
 
 pub invariant_of-self-2 : goal.invariant_of-self-2
 invariant_of-self-2 g c =
-    let modified = g.B.AsyncLruCacheBackend.is_modified in
+    let modified = g.B.Value.CachedValue.is_modified in
     let eq = g.B.Key.PartialEq.eq in
     let i = c.self.inside in
     let put = c.insert-put in

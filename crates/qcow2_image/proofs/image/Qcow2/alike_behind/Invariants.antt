@@ -3,7 +3,7 @@ use Rattle.qcow2_metadata.specs.L2Table.{L2TableView}
 use Rattle.qcow2_image.specs.Found.{AreAlikeBehind}
 use Rattle.qcow2_image.proofs.image.Qcow2.alike_behind.Given as goal
 
--- so many clusters behind are alike
+-- so many clusters after are alike
 pub record Passed (table : L2TableView) (cluster max size count : ℕ) : Type 0 where
   pub near : count * size < max + size
   pub alike : AreAlikeBehind table cluster count

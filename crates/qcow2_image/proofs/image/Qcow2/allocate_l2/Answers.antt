@@ -8,11 +8,11 @@ use Rattle.qcow2_alloc.specs.FreeList.{pending_then}
 use Rattle.qcow2_alloc.specs.KeptAllocators.{IsAllocatorOf}
 use Rattle.qcow2_alloc.proofs.AllocationSteps.{handed_on}
 use Rattle.qcow2_image.specs.NewTables.{EntersTable}
-use Rattle.qcow2_image.proofs.Moving.{leaked_still}
-use Rattle.qcow2_image.proofs.Prepare.Entering.{none_taken, table_entered, table_refused, keeps_taken, says_still}
+use Rattle.qcow2_image.proofs.Images.Moving.{leaked_still}
+use Rattle.qcow2_image.proofs.Prepare.UnlinkedL2Table.{none_taken, table_entered, table_refused, keeps_taken, says_still}
 use Rattle.qcow2_alloc.proofs.KeptMarks.{notes_then, notes_of_marks}
 use Rattle.qcow2_image.proofs.Call.BehindHeader.{behind_allocated, behind_then}
-use Rattle.qcow2_image.proofs.Prepare.Lacked.{hands_limit, other_limit, goes_step, limited_left}
+use Rattle.qcow2_image.proofs.Prepare.LimitCauses.{hands_limit, other_limit, goes_step, limited_left}
 use Rattle.qcow2_metadata.specs.Header.{HeaderView}
 use Rattle.qcow2_metadata.specs.L2Mapping.{IsHostCluster}
 use Rattle.qcow2_alloc.specs.Limits.{HasNoPlace, IsFaultOr}
@@ -20,9 +20,9 @@ use Rattle.qcow2_alloc.specs.LowestRuns.{IsUsed}
 use Rattle.qcow2_laws.specs.Changes.{one_at, with_new_tables}
 use Rattle.qcow2_image.proofs.Call.FaultCounts.{counted_as, counted_still, same_told, untouched}
 use Rattle.qcow2_image.specs.Backings.{HasPinnedMapping}
-use Rattle.qcow2_image.specs.MetAlone.{MayFailAllocating}
-use Rattle.qcow2_image.proofs.Prepare.Met.{hands_met}
-use Rattle.qcow2_image.proofs.Prepare.MetTaking.{looking_taking}
+use Rattle.qcow2_image.specs.MayFail.{MayFailAllocating}
+use Rattle.qcow2_image.proofs.Prepare.FailingCopies.{hands_met}
+use Rattle.qcow2_image.proofs.Prepare.FailingAllocations.{looking_taking}
 
 pub returns-in-Ok-clause-sound : goal.returns-in-Ok-clause-sound
 returns-in-Ok-clause-sound g c = λ p out sound may says.
@@ -43,10 +43,10 @@ returns-in-Ok-clause-sound g c = λ p out sound may says.
     let since = pending_then p old.file.free_list file.free_list in
     let allocator_step = subst (λ n. InternalAllocatorGrowth view p old.file a file (taken_as false since (run_at n c.new.result))) (sym c.cluster-cluster.ensures) took.2 in
     record {
-      met = search rules;
+      may_fail = search rules;
       limit = search rules;
       does = table_entered view below out p old sound file a marks list leaks c.cluster-cluster.result c.new.result c.new.ensures allocator_step hint c.write_l2.new.self c.args.index c.args.table may says c.write_l2.ensures.list c.write_l2.result
-          (λ sound may says. c.write_l2.ensures.writes since out sound may c.in_ok-pending.ensures.noted says) c.in-Ok.field-0 c.in-Ok.is;
+          (λ sound may says. c.write_l2.ensures.writes since out sound may c.in_ok-pending.ensures.recorded says) c.in-Ok.field-0 c.in-Ok.is;
     }
 
 pub returns-in-Err-clause-sound : goal.returns-in-Err-clause-sound
@@ -73,9 +73,9 @@ returns-in-Err-clause-sound g c = λ p out sound may says.
     (subst (λ n. IsHostCluster old.file.header.fields.cluster_bits n) (sym c.cluster-cluster.ensures) c.in_ok-pending.ensures.nameable) in
     record {
       does = table_refused view below out p old sound file a marks list leaks c.cluster-cluster.result c.new.result c.new.ensures allocator_step hint c.write_l2.new.self c.args.index c.args.table may says c.write_l2.ensures.list c.write_l2.result
-          (λ sound may says. c.write_l2.ensures.writes since out sound may c.in_ok-pending.ensures.noted says) c.in-Err.refusal c.in_ok-pending.pending c.hand_back.new.list c.in-Err.is (sym c.cluster-cluster.ensures) (took.0 ∙ c.new.ensures) took.1 c.hand_back.ensures;
-      met = λ near. looking_taking ⊥ ⊥ ⊥ c.in-Err.refusal (c.in-Err.ensures.met since out keeps.sound known (record { within = near.within; room = near.room }) host);
-      limit = λ near. other_limit _ c.in-Err.refusal (looking_unlimited c.in-Err.refusal (c.in-Err.ensures.met since out keeps.sound known (record { within = near.within; room = near.room }) host));
+          (λ sound may says. c.write_l2.ensures.writes since out sound may c.in_ok-pending.ensures.recorded says) c.in-Err.refusal c.in_ok-pending.pending c.hand_back.new.list c.in-Err.is (sym c.cluster-cluster.ensures) (took.0 ∙ c.new.ensures) took.1 c.hand_back.ensures;
+      may_fail = λ near. looking_taking ⊥ ⊥ ⊥ c.in-Err.refusal (c.in-Err.ensures.may_fail since out keeps.sound known (record { within = near.within; room = near.room }) host);
+      limit = λ near. other_limit _ c.in-Err.refusal (looking_unlimited c.in-Err.refusal (c.in-Err.ensures.may_fail since out keeps.sound known (record { within = near.within; room = near.room }) host));
     }
 
 pub returns-in-Ok-clause-elsewhere : goal.returns-in-Ok-clause-elsewhere
@@ -131,7 +131,7 @@ returns-in_err-pending-clause-sound g c = λ p out sound may says.
     let left = none_taken view below out p old sound file a marks list leaks e found.takes (found.hint own.hint) in
     record {
       does = handed_on (EntersTable view below p old taken out c.args.index) c.from_residual.result e c.from_residual.ensures left;
-      met = λ near. hands_met (MayFailAllocating (HasPinnedMapping out) ⊥ ⊥ ⊥) c.from_residual.result e c.from_residual.ensures (elim why [ inl fault ↦ inl (inl (inl fault)) | inr cause ↦ inl (inl (inr cause.0)) ]);
+      may_fail = λ near. hands_met (MayFailAllocating (HasPinnedMapping out) ⊥ ⊥ ⊥) c.from_residual.result e c.from_residual.ensures (elim why [ inl fault ↦ inl (inl (inl fault)) | inr cause ↦ inl (inl (inr cause.0)) ]);
       limit = λ near. hands_limit c.from_residual.result e c.from_residual.ensures
           (limited_left taken 0 e (elim left [ inl stays ↦ inl stays | inr broken ↦ inr broken.interrupted.fault ]) (goes_step (returns-in_err-pending-clause-step g c))
           (λ full. record { allocator = a; is = refl; lacks = inl (1, inl refl, full) }) why);

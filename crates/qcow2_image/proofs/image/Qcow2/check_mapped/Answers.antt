@@ -1,10 +1,10 @@
-use Rattle.std.proofs.Common.{◌≡◌, ◌≤◌, IsTrue, true, false, sym, subst, arith, ◌<◌, ⊎_elim, inl, inr, refl}
+use Rattle.std.proofs.Common.{◌≡◌, ◌≤◌, IsTrue, true, false, sym, subst, arith, ◌<◌, ⊎_elim, inl, inr, refl, rules}
 use Rattle.qcow2_image.specs.Found.{IsFoundInImage, IsFoundWhole, IsMappedAs}
 use Rattle.qcow2_image.proofs.Map.Looked.{found_after, found_before, found_whole, mapped_as}
 use Rattle.qcow2_image.proofs.image.Qcow2.check_mapped.Goals.{else-found-length-via-then-found-length+else-is, else-found-length-via-else-found-length}
 use Rattle.qcow2_alloc.proofs.AllocationSteps.{handed_on}
-use Rattle.qcow2_image.specs.MetAlone.{IsCacheHeld, IsMetLookingAgain}
-use Rattle.qcow2_image.proofs.Prepare.Met.{hands_met}
+use Rattle.qcow2_image.specs.MayFail.{IsCacheHeld, MayFailLookingAgain}
+use Rattle.qcow2_image.proofs.Prepare.FailingCopies.{hands_met}
 use Rattle.std.specs.Prelude.{Result, is_some}
 use Rattle.qcow2_image.proofs.Map.Held.{held_whole, heeds_else, same_found}
 use Rattle.std.proofs.lemmas.Bool.{cases_lt}
@@ -13,38 +13,49 @@ use Rattle.qcow2_image.specs.HeldMappings.{FitsTables, IsHeldAs}
 use Rattle.qcow2_image.specs.Image.{size_of}
 use Rattle.qcow2_image.proofs.image.Qcow2.check_mapped.Goals as goal
 
-pub returns-then-is-clause-mapped : goal.returns-then-is-clause-mapped
-returns-then-is-clause-mapped g c = λ some p out sound.
-    let same : c.args.wanted.now ≡ c.in_ok-kind.kind = c.is.ensures.0 c.if-is.true in
-    subst (λ k. IsMappedAs g.S.Storage.view c.look_up.new.self c.args.offset k c.args.length) (sym same)
-    (mapped_as g.S.Storage.view c.look_up.new.self c.args.offset c.args.length c.in_ok-kind.kind c.in_ok-kind.found some (let l = c.if-found-length.true in omega arith) (c.in_ok-kind.ensures.found p out sound))
-
-pub returns-clause-outdated : goal.returns-clause-outdated
-returns-clause-outdated g c = λ p out sound is whole.
+pub returns-then-is-clause-sound : goal.returns-then-is-clause-sound
+returns-then-is-clause-sound g c = λ p out sound.
     let view = g.S.Storage.view in
-    let still = found_after view g.F.BackingDisk.backing c.args.self.now c.look_up.new.self out p p c.args.offset c.args.length c.args.wanted.now (c.in_ok-kind.ensures.keeps p out sound) whole in
-    let both = found_whole view c.look_up.new.self c.args.offset c.args.length c.in_ok-kind.kind c.args.wanted.now c.in_ok-kind.found (c.in_ok-kind.ensures.found p out sound) still in
-    elim c.else-found-length.branch [
-      | else-found-length-via-then-found-length+else-is w ↦ absurd (let no : false ≡ true = subst IsTrue w.if-is.false (w.is.ensures.1 both.0) in cc)
-      | else-found-length-via-else-found-length w ↦ absurd (let short = w.if-found-length.false in omega (arith, both.1))
-    ]
-
-pub returns-then-is-clause-found : goal.returns-then-is-clause-found
-returns-then-is-clause-found g c = λ p out sound.
-    let view = g.S.Storage.view in
-    let new = c.look_up.new.self in
-    let offset = c.args.offset in
-    let n = c.args.length in
     let same : c.args.wanted.now ≡ c.in_ok-kind.kind = c.is.ensures.0 c.if-is.true in
-    let whole : c.in_ok-kind.found ≡ c.args.length = let least = c.if-found-length.true in let most : c.in_ok-kind.found ≤ c.args.length = c.in_ok-kind.ensures.within in omega arith in
-    found_before view g.F.BackingDisk.backing c.args.self.now new out p p offset n c.args.wanted.now (c.in_ok-kind.ensures.keeps p out sound)
-    (subst (λ k. IsFoundWhole view new offset k n) (sym same) (subst (λ m. IsFoundInImage view new offset n c.in_ok-kind.kind m) whole (c.in_ok-kind.ensures.found p out sound)))
+    record {
+      keeps = (c.look_up.ensures.sound p out sound).keeps;
+      may_fail = search rules;
+      outdated = search rules;
+      mapped = λ some. subst (λ k. IsMappedAs view c.look_up.new.self c.args.offset k c.args.length) (sym same)
+          (mapped_as view c.look_up.new.self c.args.offset c.args.length c.in_ok-kind.kind c.in_ok-kind.found some (let l = c.if-found-length.true in omega arith) ((c.in_ok-kind.ensures.sound p out sound).found));
+      found = let new = c.look_up.new.self in
+          let offset = c.args.offset in
+          let n = c.args.length in
+          let whole : c.in_ok-kind.found ≡ c.args.length = let least = c.if-found-length.true in let most : c.in_ok-kind.found ≤ c.args.length = c.in_ok-kind.ensures.within in omega arith in
+          found_before view g.F.BackingDisk.backing c.args.self.now new out p p offset n c.args.wanted.now ((c.in_ok-kind.ensures.sound p out sound).keeps)
+          (subst (λ k. IsFoundWhole view new offset k n) (sym same) (subst (λ m. IsFoundInImage view new offset n c.in_ok-kind.kind m) whole ((c.in_ok-kind.ensures.sound p out sound).found)));
+    }
 
-pub returns-in_err-kind-clause-met : goal.returns-in_err-kind-clause-met
-returns-in_err-kind-clause-met g c = λ p out sound. hands_met (IsMetLookingAgain (IsCacheHeld c.args.self.now out)) c.from_residual.result c.in_err-kind.field-0.0 c.from_residual.ensures (inl (c.in_err-kind.ensures.met p out sound))
+pub returns-clause-sound : goal.returns-clause-sound
+returns-clause-sound g c = λ p out sound.
+    let view = g.S.Storage.view in
+    record {
+      keeps = (c.look_up.ensures.sound p out sound).keeps;
+      may_fail = inr refl;
+      outdated = λ is whole. let still = found_after view g.F.BackingDisk.backing c.args.self.now c.look_up.new.self out p p c.args.offset c.args.length c.args.wanted.now ((c.in_ok-kind.ensures.sound p out sound).keeps) whole in
+          let both = found_whole view c.look_up.new.self c.args.offset c.args.length c.in_ok-kind.kind c.args.wanted.now c.in_ok-kind.found ((c.in_ok-kind.ensures.sound p out sound).found) still in
+          elim c.else-found-length.branch [
+            | else-found-length-via-then-found-length+else-is w ↦ absurd (let no : false ≡ true = subst IsTrue w.if-is.false (w.is.ensures.1 both.0) in cc)
+            | else-found-length-via-else-found-length w ↦ absurd (let short = w.if-found-length.false in omega (arith, both.1))
+          ];
+      mapped = search rules;
+      found = search rules;
+    }
 
-pub returns-clause-met : goal.returns-clause-met
-returns-clause-met g c = λ p out sound. inr refl
+pub returns-in_err-kind-clause-sound : goal.returns-in_err-kind-clause-sound
+returns-in_err-kind-clause-sound g c = λ p out sound.
+    record {
+      keeps = (c.look_up.ensures.sound p out sound).keeps;
+      may_fail = hands_met (MayFailLookingAgain (IsCacheHeld c.args.self.now out)) c.from_residual.result c.in_err-kind.field-0.0 c.from_residual.ensures (inl ((c.in_err-kind.ensures.sound p out sound).may_fail));
+      outdated = search rules;
+      mapped = search rules;
+      found = search rules;
+    }
 
 pub returns-then-is-clause-held : goal.returns-then-is-clause-held
 returns-then-is-clause-held g c = λ some.

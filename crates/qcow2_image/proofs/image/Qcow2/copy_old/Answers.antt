@@ -9,12 +9,12 @@ use Rattle.qcow2_image.specs.Found.{found_kind, IsMappedAs}
 use Rattle.qcow2_image.specs.ImageInvariant.{backing_bytes}
 use Rattle.qcow2_image.proofs.Map.Loading.{if_ok}
 use Rattle.qcow2_image.proofs.Map.Reading.{none_below, zero_shown}
-use Rattle.qcow2_image.proofs.Prepare.Filling.{disk_kept, image_step_data, image_step_kept, image_step_then, own_of, there_written}
-use Rattle.qcow2_image.proofs.Prepare.Lacked.{hands_unlimited}
-use Rattle.qcow2_image.proofs.Prepare.Met.{hands_met, met_as}
-use Rattle.qcow2_image.specs.MetAlone.{IsMetReading}
+use Rattle.qcow2_image.proofs.Prepare.InternalWrites.{disk_kept, image_step_data, image_step_kept, image_step_then, own_of, there_written}
+use Rattle.qcow2_image.proofs.Prepare.LimitCauses.{hands_unlimited}
+use Rattle.qcow2_image.proofs.Prepare.FailingCopies.{hands_met, met_as}
+use Rattle.qcow2_image.specs.MayFail.{MayFailReading}
 use Rattle.qcow2_alloc.specs.ImageError.{IsFault}
-use Rattle.qcow2_image.proofs.Call.ImageSteps.{step_then}
+use Rattle.qcow2_image.proofs.Call.WriteSteps.{filling_of_read, filling_then, filling_written}
 use Rattle.qcow2_image.proofs.image.Qcow2.copy_old.Goals as goal
 
 pub returns-in-Zero-clause-image_step : goal.returns-in-Zero-clause-image_step
@@ -72,21 +72,21 @@ returns-clause-copies g c = λ p out sound mapped.
     (λ done there i lt. ap known_byte (there i (omega (arith, still, lt))) ∙ sym (read i (omega (arith, still, lt))) ∙ ap (λ (d : Disk). d.value (c.args.guest + i)) (disk_kept view below old mid out p sound first))
     (there_written view mid c.write_data.new.self c.args.at bytes c.write_data.result c.write_data.ensures.written first.sound.file.honest)
 
-pub returns-in-Zero-clause-met : goal.returns-in-Zero-clause-met
-returns-in-Zero-clause-met g c = λ behind. met_as IsFault (IsMetReading c.args.kind.now) c.write_zeros.result (λ e fault. inl fault) (c.write_zeros.ensures.fault behind)
+pub returns-in-Zero-clause-may_fail : goal.returns-in-Zero-clause-may_fail
+returns-in-Zero-clause-may_fail g c = λ behind. met_as IsFault (MayFailReading c.args.kind.now) c.write_zeros.result (λ e fault. inl fault) (c.write_zeros.ensures.fault behind)
 
-pub returns-in_err-read_as-clause-met : goal.returns-in_err-read_as-clause-met
-returns-in_err-read_as-clause-met g c = λ behind. hands_met (IsMetReading c.args.kind.now) c.from_residual-in_err-read_as.result c.in_err-read_as.field-0.0 c.from_residual-in_err-read_as.ensures c.in_err-read_as.ensures.met
+pub returns-in_err-read_as-clause-may_fail : goal.returns-in_err-read_as-clause-may_fail
+returns-in_err-read_as-clause-may_fail g c = λ behind. hands_met (MayFailReading c.args.kind.now) c.from_residual-in_err-read_as.result c.in_err-read_as.field-0.0 c.from_residual-in_err-read_as.ensures c.in_err-read_as.ensures.may_fail
 
-pub returns-clause-met : goal.returns-clause-met
-returns-clause-met g c = λ behind.
-    met_as IsFault (IsMetReading c.args.kind.now) c.write_data.result (λ e fault. inl fault) (c.write_data.ensures.fault (subst (λ (v : HeaderView). cluster_size v.fields ≤ c.args.at) (sym c.read_as.ensures.step.header) behind))
+pub returns-clause-may_fail : goal.returns-clause-may_fail
+returns-clause-may_fail g c = λ behind.
+    met_as IsFault (MayFailReading c.args.kind.now) c.write_data.result (λ e fault. inl fault) (c.write_data.ensures.fault (subst (λ (v : HeaderView). cluster_size v.fields ≤ c.args.at) (sym c.read_as.ensures.step.header) behind))
 
 pub returns-in-Zero-clause-step : goal.returns-in-Zero-clause-step
-returns-in-Zero-clause-step g c = c.write_zeros.ensures.step
+returns-in-Zero-clause-step g c = filling_written c.write_zeros.ensures.step c.write_zeros.ensures.written.rest
 
 pub returns-in_err-read_as-clause-step : goal.returns-in_err-read_as-clause-step
-returns-in_err-read_as-clause-step g c = c.read_as.ensures.step.part
+returns-in_err-read_as-clause-step g c = filling_of_read c.read_as.ensures.step c.read_as.ensures.allocator c.read_as.ensures.tables.l1_table
 
 pub returns-in_err-read_as-clause-fails : goal.returns-in_err-read_as-clause-fails
 returns-in_err-read_as-clause-fails g c = record {
@@ -96,4 +96,4 @@ returns-in_err-read_as-clause-fails g c = record {
 }
 
 pub returns-clause-step : goal.returns-clause-step
-returns-clause-step g c = step_then c.read_as.ensures.step.part c.write_data.ensures.step
+returns-clause-step g c = filling_then (filling_of_read c.read_as.ensures.step c.read_as.ensures.allocator c.read_as.ensures.tables.l1_table) (filling_written c.write_data.ensures.step c.write_data.ensures.written.rest)

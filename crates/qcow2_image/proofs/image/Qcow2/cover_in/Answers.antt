@@ -17,10 +17,10 @@ returns-clause-says g c = λ p i sound at here.
 pub returns-clause-behind : goal.returns-clause-behind
 returns-clause-behind g c = subst (λ n. MarkedIsBehind n c.in_ok-mapping.mapping) c.cluster_size.ensures.value (c.is_behind_header.ensures.0 c.if-not-is_behind_header.false)
 
--- a mapping that is known to lie behind the header is found to
+-- a mapping that is known to lie past the header's cluster is found to
 found_behind : (n size : ℕ) (found known : L2Mapping) (b : Bool) → n ≡ size → known ≡ found → (MarkedIsBehind n found → IsTrue b) → MarkedIsBehind size known → b ≡ false → ⊥
-found_behind n size found known b same is tells behind missed =
-    let yes : b ≡ true = tells (subst (MarkedIsBehind n) is (subst (λ m. MarkedIsBehind m known) (sym same) behind)) in
+found_behind n size found known b same is reports behind missed =
+    let yes : b ≡ true = reports (subst (MarkedIsBehind n) is (subst (λ m. MarkedIsBehind m known) (sym same) behind)) in
     let never : true ≡ false = sym yes ∙ missed in
     cc
 

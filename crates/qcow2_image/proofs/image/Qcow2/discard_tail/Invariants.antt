@@ -5,19 +5,19 @@ use Rattle.qcow2_image.specs.declared.prepared.Prepared.{Prepared}
 use Rattle.qcow2_image.specs.Image.{HasNothingToFree, is_writable}
 use Rattle.qcow2_image.specs.ImageInvariant.{ImageInvariant, pending_in}
 use Rattle.qcow2_image.specs.Resizing.{boundary_in}
-use Rattle.qcow2_image.specs.Noted.{ChangesRose, NotesChanges}
+use Rattle.qcow2_image.specs.Noted.{ChangesRose, RecordsChanges}
 use Rattle.qcow2_image.specs.Faults.{SameFaults}
-use Rattle.qcow2_image.proofs.Sizing.Shrinking.{IsUncoveredSoFar}
+use Rattle.qcow2_image.proofs.Resize.Shrinking.{IsDiscardedSoFar}
 use Rattle.qcow2_image.proofs.image.Qcow2.discard_tail.Given as goal
 
--- the tail is uncovered up to where the next turn begins, and nothing is to be freed behind the first one; a change was counted where turns passed a boundary
+-- the tail is unmapped up to where the next step begins, and nothing waits to be freed after the first step; a change was counted if steps passed a boundary
 abbrev pub invariant-loop-at : goal.invariant-loop-at
 invariant-loop-at g l = record {
-  turns : IsUncoveredSoFar g.S.Storage.view g.F.BackingDisk.backing l.fn.self l.self l.fn.size l.at l.end;
+  turns : IsDiscardedSoFar g.S.Storage.view g.F.BackingDisk.backing l.fn.self l.self l.fn.size l.at l.end;
   faults : SameFaults g.S.Storage.view g.F.BackingDisk.backing l.fn.self l.self;
   emptied : IsTrue (is_writable l.fn.self) → (out : List (Option Prepared)) → ImageInvariant g.S.Storage.view g.F.BackingDisk.backing (pending_in g.S.Storage.view g.F.BackingDisk.backing l.fn.self out) l.fn.self out
       → boundary_in l.fn.self l.fn.size < l.end → (l.at ≡ l.fn.size) ⊎ HasNothingToFree l.self;
-  since : NotesChanges g.S.Storage.view l.fn.self l.self;
+  since : RecordsChanges g.S.Storage.view l.fn.self l.self;
   changed : (out : List (Option Prepared)) → ImageInvariant g.S.Storage.view g.F.BackingDisk.backing (pending_in g.S.Storage.view g.F.BackingDisk.backing l.fn.self out) l.fn.self out → boundary_in l.fn.self l.fn.size < l.at → ChangesRose l.fn.self l.self;
   behind : PreservesHeaderCluster g.S.Storage.view l.fn.self l.self;
 }

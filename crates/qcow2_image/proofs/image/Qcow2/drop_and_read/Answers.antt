@@ -38,7 +38,7 @@ returns-in_err-places-clause-keeps g c = λ rest p out sound.
     keeps_then g.S.Storage.view g.F.BackingDisk.backing out c.args.self.now c.drop_cached.new.self c.read_places.new.self p p p (λ k h. h) first (c.read_places.ensures.keeps p out first.sound)
 
 pub returns-clause-step : goal.returns-clause-step
-returns-clause-step g c = anew_then g.S.Storage.view c.args.self.now c.drop_cached.new.self c.read_places.new.self c.drop_cached.ensures.step c.drop_cached.ensures.rest c.read_places.ensures.step c.take_over.new.self c.take_over.ensures.step
+returns-clause-step g c = anew_then g.S.Storage.view c.args.self.now c.drop_cached.new.self c.read_places.new.self c.drop_cached.ensures.step c.drop_cached.ensures.rest c.read_places.ensures.step c.replace_tables.new.self c.replace_tables.ensures.step
 
 pub returns-clause-why : goal.returns-clause-why
 returns-clause-why g c = λ honest.
@@ -48,22 +48,22 @@ returns-clause-why g c = λ honest.
     let placed = c.read_places.new.self in
     let drops = c.drop_cached.ensures in
     let places = c.read_places.ensures in
-    let new = c.take_over.new.self in
+    let new = c.replace_tables.new.self in
     let there = honest_places view old dropped placed drops.step drops.rest places.step honest in
     let silent = silent_places view old dropped placed drops.step drops.rest places.step honest in
     let named = c.in_ok-places.ensures.read there in
-    IfErr-weaker c.take_over.result (IsReasonAgainstTables c.in_ok-places.places.fields (contents_in view placed.file) (is_writable placed)) (IsReasonAgainstReading view old new)
+    IfErr-weaker c.replace_tables.result (IsReasonAgainstTables c.in_ok-places.places.fields (contents_in view placed.file) (is_writable placed)) (IsReasonAgainstReading view old new)
     (λ e why.
     let first = subst (λ (w : Bool). IsReasonAgainstTables c.in_ok-places.places.fields (contents_in view placed.file) w e) (places.step.part.stays.image.writable ∙ drops.step.stays.image.writable) why in
     let second = subst (λ (k : List ℕ). IsReasonAgainstTables c.in_ok-places.places.fields (byte_at k) (is_writable old) e) (silent.0 honest) first in
     let third = subst (λ (h : HeaderFields). IsReasonAgainstTables h (contents_in view old.file) (is_writable old) e) (sym named) second in
     tables_reason view old new e (subst (λ (i : Qcow2 _ _). IsReasonAgainstTables (with_tables_of i.file.header.fields (header (contents_in view i.file))) (contents_in view old.file) (is_writable old) e) drops.rest.rest third))
-    (c.take_over.ensures.why (silent.1.honest honest))
+    (c.replace_tables.ensures.why (silent.1.honest honest))
 
 pub returns-clause-dropped : goal.returns-clause-dropped
 returns-clause-dropped g c =
-    on_any c.take_over.result
-    (none_held_then g.S.Storage.view c.args.self.now c.drop_cached.new.self c.read_places.new.self c.drop_cached.ensures.step c.drop_cached.ensures.rest c.read_places.ensures.step c.take_over.new.self c.take_over.ensures.step c.in_ok-drop_cached.ensures.dropped)
+    on_any c.replace_tables.result
+    (none_held_then g.S.Storage.view c.args.self.now c.drop_cached.new.self c.read_places.new.self c.drop_cached.ensures.step c.drop_cached.ensures.rest c.read_places.ensures.step c.replace_tables.new.self c.replace_tables.ensures.step c.in_ok-drop_cached.ensures.dropped)
 
 pub returns-clause-read : goal.returns-clause-read
 returns-clause-read g c = λ honest.
@@ -75,8 +75,8 @@ returns-clause-read g c = λ honest.
     let places = c.read_places.ensures in
     let there = honest_places view old dropped placed drops.step drops.rest places.step honest in
     let silent = silent_places view old dropped placed drops.step drops.rest places.step honest in
-    on_both c.take_over.result (as_stored view old dropped placed drops.step drops.rest places.step c.take_over.new.self c.take_over.ensures.step g.F.BackingDisk.backing c.in_ok-places.places honest (c.in_ok-places.ensures.read there))
-    c.take_over.ensures.taken (c.take_over.ensures.read (silent.1.honest honest))
+    on_both c.replace_tables.result (as_stored view old dropped placed drops.step drops.rest places.step c.replace_tables.new.self c.replace_tables.ensures.step g.F.BackingDisk.backing c.in_ok-places.places honest (c.in_ok-places.ensures.read there))
+    c.replace_tables.ensures.taken (c.replace_tables.ensures.read (silent.1.honest honest))
 
 pub returns-clause-keeps : goal.returns-clause-keeps
 returns-clause-keeps g c = λ rest p out sound.
@@ -89,10 +89,10 @@ returns-clause-keeps g c = λ rest p out sound.
     let second = keeps_then view below out old dropped placed p p p (λ k h. h) first (c.read_places.ensures.keeps p out first.sound) in
     let found = same_places dropped.file.header.fields c.in_ok-places.places.fields (contents_in view dropped.file) first.sound.file.caches.kept.kept.crash_invariant.top (c.in_ok-places.ensures.read first.sound.file.honest) in
     let same = found ∙ sym (ap (λ (i : Qcow2 _ _). i.file.header.fields) c.read_places.ensures.step.rest) in
-    keeps_then view below out old placed c.take_over.new.self p p p (λ k h. h) second (c.take_over.ensures.keeps same p out second.sound)
+    keeps_then view below out old placed c.replace_tables.new.self p p p (λ k h. h) second (c.replace_tables.ensures.keeps same p out second.sound)
 
-pub take_over-requires : goal.take_over-requires
-take_over-requires g c = places_for g.S.Storage.view c.args.self.now c.drop_cached.new.self c.read_places.new.self c.drop_cached.ensures.step c.drop_cached.ensures.rest c.read_places.ensures.step c.in_ok-places.places c.in_ok-places.ensures.places
+pub replace_tables-requires : goal.replace_tables-requires
+replace_tables-requires g c = places_for g.S.Storage.view c.args.self.now c.drop_cached.new.self c.read_places.new.self c.drop_cached.ensures.step c.drop_cached.ensures.rest c.read_places.ensures.step c.in_ok-places.places c.in_ok-places.ensures.places
 
 pub returns-in_err-drop_cached-clause-step : goal.returns-in_err-drop_cached-clause-step
 returns-in_err-drop_cached-clause-step g c = anew_dropped g.S.Storage.view c.args.self.now c.drop_cached.new.self c.drop_cached.ensures.step c.drop_cached.ensures.rest
@@ -110,11 +110,11 @@ returns-in_err-places-clause-kept g c = on_refused c.from_residual-in_err-places
 pub returns-clause-kept : goal.returns-clause-kept
 returns-clause-kept g c =
     let first = kept_places g.S.Storage.view c.args.self.now c.drop_cached.new.self c.read_places.new.self c.drop_cached.ensures.step c.drop_cached.ensures.rest c.read_places.ensures.step in
-    on_refused_map c.take_over.result (kept_then first) c.take_over.ensures.kept
+    on_refused_map c.replace_tables.result (kept_then first) c.replace_tables.ensures.kept
 
 pub returns-clause-fails : goal.returns-clause-fails
 returns-clause-fails g c =
     let view = g.S.Storage.view in
     let below = g.F.BackingDisk.backing in
     let first = faults_then view below c.args.self.now c.drop_cached.new.self c.read_places.new.self c.in_ok-drop_cached.ensures.fails.faults.told c.in_ok-places.ensures.fails.faults.told in
-    record { faults = counted_since view below c.args.self.now c.read_places.new.self c.take_over.new.self c.take_over.result first c.take_over.ensures.fails.faults; cause = c.take_over.ensures.fails.cause }
+    record { faults = counted_since view below c.args.self.now c.read_places.new.self c.replace_tables.new.self c.replace_tables.result first c.replace_tables.ensures.fails.faults; cause = c.replace_tables.ensures.fails.cause }

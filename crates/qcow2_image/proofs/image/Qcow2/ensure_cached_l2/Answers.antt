@@ -1,25 +1,25 @@
-use Rattle.qcow2_image.proofs.Prepare.Lacked.{other_limit, hands_limit}
+use Rattle.qcow2_image.proofs.Prepare.LimitCauses.{other_limit, hands_limit}
 use Rattle.qcow2_image.proofs.image.Qcow2.ensure_cached_l2.Goals as goal
 use Rattle.std.proofs.Common.{ap, inl, ◌∙◌, sym, rules}
 use Rattle.qcow2_alloc.proofs.AllocationSteps.{handed_on}
 use Rattle.qcow2_image.specs.declared.image.Qcow2.{Qcow2}
 use Rattle.qcow2_image.specs.InternalSteps.{Ensures, pending_with_listed}
 use Rattle.qcow2_image.proofs.Map.Loading.{with_caches}
-use Rattle.qcow2_image.proofs.Prepare.Owning.{refused, keeps_loaded, holds_table}
+use Rattle.qcow2_image.proofs.Prepare.WritableL2Table.{refused, keeps_loaded, holds_table}
 use Rattle.std.specs.Prelude.{IfErr}
 use Rattle.qcow2_image.specs.NewTables.{IsFaultOrLacksTable}
 use Rattle.qcow2_alloc.specs.ImageFile.{contents_in}
 use Rattle.qcow2_image.specs.Found.{l1_index_of}
-use Rattle.qcow2_image.proofs.Prepare.Lacking.{fault_alone, named_place, loads_looking}
+use Rattle.qcow2_image.proofs.Prepare.MissingL2Table.{fault_alone, named_place, loads_looking}
 use Rattle.qcow2_alloc.proofs.KeptMarks.{notes_then, notes_of_both}
 use Rattle.qcow2_image.proofs.Call.BehindHeader.{behind_caches, behind_then}
 use Rattle.qcow2_alloc.specs.CachePins.{l2_pins}
 use Rattle.qcow2_image.specs.PinnedTables.{FindsOwn}
 use Rattle.qcow2_image.proofs.Call.Unlimited.{in_use_unlimited}
 use Rattle.qcow2_image.specs.Backings.{HasPinnedMapping}
-use Rattle.qcow2_image.specs.MetAlone.{MayFailAllocating}
-use Rattle.qcow2_image.proofs.Prepare.Met.{hands_met}
-use Rattle.qcow2_image.proofs.Prepare.MetTaking.{looking_taking}
+use Rattle.qcow2_image.specs.MayFail.{MayFailAllocating}
+use Rattle.qcow2_image.proofs.Prepare.FailingCopies.{hands_met}
+use Rattle.qcow2_image.proofs.Prepare.FailingAllocations.{looking_taking}
 
 pub returns-in_err-cluster-clause-quiet : goal.returns-in_err-cluster-clause-quiet
 returns-in_err-cluster-clause-quiet g c = λ own. let same = c.writable_l2_cluster.ensures.quiet own in record { allocator = ap (λ (i : Qcow2 _ _). i.allocator) same; list = ap (λ (i : Qcow2 _ _). i.file.free_list) same }
@@ -79,7 +79,7 @@ returns-in_err-cluster-clause-sound g c = λ p out sound.
     record {
       ready = handed_on (Ensures g.S.Storage.view g.F.BackingDisk.backing p c.args.self.now c.writable_l2_cluster.new.self out c.args.offset) c.from_residual.result c.in_err-cluster.field-0.0 c.from_residual.ensures
           ((c.in_err-cluster.ensures.sound p out sound).does);
-      met = λ cause. hands_met (MayFailAllocating (HasPinnedMapping out) ⊥ ⊥ ⊥) c.from_residual.result c.in_err-cluster.field-0.0 c.from_residual.ensures ((c.in_err-cluster.ensures.sound p out sound).met cause);
+      may_fail = λ cause. hands_met (MayFailAllocating (HasPinnedMapping out) ⊥ ⊥ ⊥) c.from_residual.result c.in_err-cluster.field-0.0 c.from_residual.ensures ((c.in_err-cluster.ensures.sound p out sound).may_fail cause);
       limit = λ cause. hands_limit c.from_residual.result c.in_err-cluster.field-0.0 c.from_residual.ensures ((c.in_err-cluster.ensures.sound p out sound).limit cause);
       lacks = λ none. handed_on (λ r. IfErr r (IsFaultOrLacksTable g.S.Storage.view c.writable_l2_cluster.new.self c.args.offset)) c.from_residual.result c.in_err-cluster.field-0.0 c.from_residual.ensures ((c.in_err-cluster.ensures.sound p out sound).lacks);
     }
@@ -99,7 +99,7 @@ returns-in_err-l2_get_or_insert-clause-sound g c = λ p out sound.
       ready = refused (Ensures g.S.Storage.view g.F.BackingDisk.backing p old loaded out c.args.offset) c.from_residual-in_err-l2_get_or_insert.result c.from_residual-in_err-l2_get_or_insert.ensures.0
           (λ e. inl (keeps_loaded g.S.Storage.view g.F.BackingDisk.backing out p old mid c.args.offset c.in_ok-cluster.cluster owned.0 c.l2_get_or_insert.new.storage c.l2_get_or_insert.new.self
           (c.l2_get_or_insert.ensures.sound.keeps mid.file.header.fields (pending_with_listed p old mid) owned.0.sound.file.honest owned.0.sound.file.caches) c.l2_get_or_insert.ensures.step.marks.pins.room c.l2_get_or_insert.ensures.step.marks.pins.pins));
-      met = λ cause. hands_met (MayFailAllocating (HasPinnedMapping out) ⊥ ⊥ ⊥) c.from_residual-in_err-l2_get_or_insert.result e c.from_residual-in_err-l2_get_or_insert.ensures
+      may_fail = λ cause. hands_met (MayFailAllocating (HasPinnedMapping out) ⊥ ⊥ ⊥) c.from_residual-in_err-l2_get_or_insert.result e c.from_residual-in_err-l2_get_or_insert.ensures
           (looking_taking ⊥ ⊥ ⊥ e (loads_looking view below out q mid owned.0.sound e
           (c.in_err-l2_get_or_insert.ensures.refusals mid.file.header.fields (named_place mid.file.header.fields (contents_in view mid.file) (l1_index_of old.file.header.fields c.args.offset) c.in_ok-cluster.cluster owned.1.place) q file.honest file.caches file.named_blocks)));
       limit = λ cause. hands_limit c.from_residual-in_err-l2_get_or_insert.result e c.from_residual-in_err-l2_get_or_insert.ensures
@@ -117,7 +117,7 @@ returns-clause-sound g c = λ p out sound.
     let mid = c.writable_l2_cluster.new.self in
     let owned = (c.in_ok-cluster.ensures.sound p out sound).does in
     record {
-      met = search rules;
+      may_fail = search rules;
       limit = search rules;
       lacks = search rules;
       ready = let stay = c.l2_get_or_insert.ensures.sound.keeps mid.file.header.fields (pending_with_listed p old mid) owned.0.sound.file.honest owned.0.sound.file.caches in (

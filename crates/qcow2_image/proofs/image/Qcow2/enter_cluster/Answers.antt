@@ -1,5 +1,5 @@
 use Rattle.std.proofs.Common.{◌≡◌, refl, subst}
-use Rattle.qcow2_alloc.specs.MetadataCaches.{MapsCachedEntry, NotesEntry}
+use Rattle.qcow2_alloc.specs.MetadataCaches.{MapsCachedEntry, RecordsEntry}
 use Rattle.qcow2_image.proofs.image.Qcow2.enter_cluster.Goals as goal
 
 pub returns-in-Some : goal.returns-in-Some
@@ -10,8 +10,8 @@ returns-in-Some g c = record {
   entered = λ t is.
       let same : c.in-Some.table ≡ t = cc in
       (c.l2_map_cluster-nothing.result, subst (λ n. MapsCachedEntry c.args.self.now.file.caches c.l2_map_cluster-nothing.new.self n c.args.index c.args.cluster c.l2_map_cluster-nothing.result) same c.l2_map_cluster-nothing.ensures.mapped);
-  noted = λ t is.
+  recorded = λ t is.
       let same : c.in-Some.table ≡ t = cc in
-      subst (λ n. NotesEntry c.args.self.now.file.caches c.l2_map_cluster-nothing.new.self n c.args.index c.args.cluster) same c.l2_map_cluster-nothing.ensures.noted;
+      subst (λ n. RecordsEntry c.args.self.now.file.caches c.l2_map_cluster-nothing.new.self n c.args.index c.args.cluster) same c.l2_map_cluster-nothing.ensures.recorded;
   behind = c.l2_map_cluster-nothing.ensures.step.header_cluster;
 }

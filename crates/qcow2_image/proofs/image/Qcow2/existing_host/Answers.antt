@@ -5,8 +5,8 @@ use Rattle.qcow2_alloc.specs.ImageFile.{known_in}
 use Rattle.qcow2_disk.specs.Found.{rest_of_table}
 use Rattle.qcow2_image.specs.Found.{writable_place}
 use Rattle.qcow2_image.specs.Preparing.{IsPlaceOf}
-use Rattle.qcow2_image.proofs.Prepare.Writable.{place_found, short_of}
-use Rattle.qcow2_image.proofs.Prepare.Lacked.{hands_unlimited}
+use Rattle.qcow2_image.proofs.Prepare.WritableInPlace.{place_found, short_of}
+use Rattle.qcow2_image.proofs.Prepare.LimitCauses.{hands_unlimited}
 use Rattle.qcow2_image.proofs.Prepare.MarkedPlaces.{place_behind}
 use Rattle.qcow2_image.proofs.image.Qcow2.existing_host.Goals as goal
 

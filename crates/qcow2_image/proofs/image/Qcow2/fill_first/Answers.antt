@@ -8,19 +8,19 @@ use Rattle.qcow2_image.specs.ImageInvariant.{ImageInvariant, abstract_of, pendin
 use Rattle.qcow2_image.specs.Preallocation.{FillsFirst, FillsPart, given_by_zeros}
 use Rattle.qcow2_image.proofs.Call.Called.{works_none}
 use Rattle.qcow2_image.proofs.Flush.Freeing.{all_listed, beside, freed_refused, tidy_stays}
-use Rattle.qcow2_image.proofs.Free.{free_places}
+use Rattle.qcow2_image.proofs.Images.Free.{free_places}
 use Rattle.qcow2_image.proofs.Preallocate.Filled.{fill_unseen, fills_none, fills_refused, fills_stays, met_taken, refused_after, taken_here}
 use Rattle.qcow2_image.proofs.Preallocate.Piece.{all_behind, all_filled, all_fits, all_next, all_put, all_within, piece_gone, sound_now}
 use Rattle.qcow2_image.proofs.Call.FaultCounts.{counted_as, counted_of, counted_still}
 use Rattle.qcow2_image.specs.Faults.{CountsImageFaults}
-use Rattle.qcow2_image.proofs.Call.MetErrors.{tables_met}
+use Rattle.qcow2_image.proofs.Call.FailingErrors.{tables_met}
 use Rattle.qcow2_image.proofs.Call.Unlimited.{fault_unlimited}
-use Rattle.qcow2_image.proofs.Prepare.Lacked.{goes_step, limited_giving, limited_upto, other_limit}
+use Rattle.qcow2_image.proofs.Prepare.LimitCauses.{goes_step, limited_giving, limited_upto, other_limit}
 use Rattle.qcow2_alloc.specs.ImageError.{IsFault}
 use Rattle.qcow2_alloc.specs.ImageFile.{known_in}
 use Rattle.qcow2_alloc.specs.declared.error.ImageError.{ImageError}
-use Rattle.qcow2_image.specs.MetAlone.{HasCompressedIn, MayFailAllocating}
-use Rattle.qcow2_image.proofs.Preallocate.Met.{hands_met, met_piece}
+use Rattle.qcow2_image.specs.MayFail.{HasCompressedIn, MayFailAllocating}
+use Rattle.qcow2_image.proofs.Preallocate.FailingFills.{hands_met, met_piece}
 use Rattle.qcow2_image.specs.Backings.{HasPinnedMapping}
 
 pub returns-clause-emptied : goal.returns-clause-emptied
@@ -70,8 +70,8 @@ returns-in_err-prepared-clause-sound g c = λ out sound.
                 taken_here old.file.header.fields c.args.from c.args.to out lt (record { place = t.place; other = t.other; is_out = t.is_out; keeps_table = t.keeps_table; same_table = t.same_table });
             limit = λ is. limited_giving (given_by_zeros c.args.from c.args.to ∷ []) (limited_upto (omega (arith, lt)) ((c.in_err-prepared.ensures.sound some out sound).limit is));
           });
-      met = λ whole near. hands_met (MayFailAllocating (HasPinnedMapping out) (HasPinnedMapping out) (HasCompressedIn c.args.from c.args.to old.file.header.fields (known_in view old.file)) ⊥) c.from_residual.result e c.from_residual.ensures
-          (met_piece view below out (pending_in view below old out) old sound c.args.from c.args.to lt near c.min.result (omega (arith, asked, lt)) true e ((c.in_err-prepared.ensures.sound some out sound).met));
+      may_fail = λ whole near. hands_met (MayFailAllocating (HasPinnedMapping out) (HasPinnedMapping out) (HasCompressedIn c.args.from c.args.to old.file.header.fields (known_in view old.file)) ⊥) c.from_residual.result e c.from_residual.ensures
+          (met_piece view below out (pending_in view below old out) old sound c.args.from c.args.to lt near c.min.result (omega (arith, asked, lt)) true e ((c.in_err-prepared.ensures.sound some out sound).may_fail));
     }
 
 pub returns-in-Err-clause-sound : goal.returns-in-Err-clause-sound
@@ -99,14 +99,14 @@ returns-in-Err-clause-sound g c = λ out sound.
           let put = all_put view below out old mid p from to c.most.result n c.min-count.result sound ready answered lt whole few asked counted c.put_zeros.new.self _ c.in-Err.ensures.written in
           refused_after view below out old old c.process_free_list_after.new.self to from to from from from (from + p.length) (omega arith) (omega (arith, lt)) (omega arith) within (fills_none view below out old to from sound (works_none (abstract_of view below old out) sound)) (goes_step step_none) e'
           (record {
-            left = piece_gone view below out old mid p from n sound ready answered fits c.put_zeros.new.self c.release_prepared.new.self c.process_free_list_after.new.self to e e' within put c.release_prepared.ensures.sees c.process_free_list_after.ensures.fault (λ still. c.process_free_list_after.ensures.frees out still);
-            taken = λ is. met_taken e c.in-Err.ensures.fails.cause (c.process_free_list_after.ensures.taken (inl c.in-Err.ensures.fails.cause) is);
+            left = piece_gone view below out old mid p from n sound ready answered fits c.put_zeros.new.self c.release_prepared.new.self c.process_free_list_after.new.self to e e' within put c.release_prepared.ensures.sees c.process_free_list_after.ensures.refused.fault (λ still. c.process_free_list_after.ensures.frees out still);
+            taken = λ is. met_taken e c.in-Err.ensures.fails.cause (c.process_free_list_after.ensures.refused.taken (inl c.in-Err.ensures.fails.cause) is);
             limit = λ is.
-                let gone = sound_now view below out old mid p from n sound ready answered fits c.put_zeros.new.self c.release_prepared.new.self c.process_free_list_after.new.self to e e' within put c.release_prepared.ensures.sees c.process_free_list_after.ensures.fault in
+                let gone = sound_now view below out old mid p from n sound ready answered fits c.put_zeros.new.self c.release_prepared.new.self c.process_free_list_after.new.self to e e' within put c.release_prepared.ensures.sees c.process_free_list_after.ensures.refused.fault in
                 elim (c.process_free_list_after.ensures.told.1 out gone) [ inl same ↦ other_limit _ e c.in-Err.ensures.fails.limited (sym same ∙ is) | inr fault ↦ other_limit _ e' (fault_unlimited e' fault) is ];
           });
-      met = λ whole near. let fault = c.in-Err.ensures.fault (all_behind view below out old c.prepare.new.self p c.args.from c.args.to c.most.result c.min.result c.min-count.result sound ready answered lt whole few asked counted (c.in_ok-prepared.ensures.some some).some) in
-          inl (inl (inl (subst (λ (x : ImageError). IsFault x) (sym (c.process_free_list_after.ensures.fault fault).0) fault)));
+      may_fail = λ whole near. let fault = c.in-Err.ensures.fault (all_behind view below out old c.prepare.new.self p c.args.from c.args.to c.most.result c.min.result c.min-count.result sound ready answered lt whole few asked counted (c.in_ok-prepared.ensures.some some).some) in
+          inl (inl (inl (subst (λ (x : ImageError). IsFault x) (sym (c.process_free_list_after.ensures.refused.fault fault).0) fault)));
     }
 
 pub returns-in_err-process_free_list-clause-sound : goal.returns-in_err-process_free_list-clause-sound
@@ -136,7 +136,7 @@ returns-in_err-process_free_list-clause-sound g c = λ out sound.
           handed_on (λ r. FillsFirst view below to from to old new out r) c.from_residual-in_err-process_free_list.result e c.from_residual-in_err-process_free_list.ensures
           (fills_refused view below out old done new to from (from + p.length) part to e within (tables_met e c.in_err-process_free_list.ensures.cause) (fault_unlimited e (c.in_err-process_free_list.ensures.faults (beside view below done out) out listed))
           (freed_refused view below done out new e part.sound (c.in_err-process_free_list.ensures.frees (beside view below done out) out listed)) c.process_free_list.ensures.keeps_rest.header);
-      met = λ whole near. let part = all_filled view below out old mid p from to c.most.result n c.min-count.result sound ready answered lt whole few asked counted (c.in_ok-prepared.ensures.some some).some c.put_zeros.new.self done c.in_default.ensures.written c.commit_filled.ensures.commits c.commit_filled.ensures.header c.in_ok-prepared.ensures.l1_place in
+      may_fail = λ whole near. let part = all_filled view below out old mid p from to c.most.result n c.min-count.result sound ready answered lt whole few asked counted (c.in_ok-prepared.ensures.some some).some c.put_zeros.new.self done c.in_default.ensures.written c.commit_filled.ensures.commits c.commit_filled.ensures.header c.in_ok-prepared.ensures.l1_place in
           let listed = subst (λ (x : Pending). ImageInvariant view below x done out) (all_listed view below done out) part.sound in
           hands_met (MayFailAllocating (HasPinnedMapping out) (HasPinnedMapping out) (HasCompressedIn from to old.file.header.fields (known_in view old.file)) ⊥) c.from_residual-in_err-process_free_list.result c.in_err-process_free_list.field-0.0 c.from_residual-in_err-process_free_list.ensures
           (inl (inl (inl (c.in_err-process_free_list.ensures.faults (beside view below done out) out listed))));
@@ -163,7 +163,7 @@ returns-clause-sound g c = λ out sound.
     let ready = (c.in_ok-prepared.ensures.sound some (None ∷ out) ((free_places view below).free old [] out sound)).readies 0 refl in
     let answered = (c.in_ok-prepared.ensures.sound some out sound).answers in
     record {
-      met = search rules;
+      may_fail = search rules;
       fills = λ whole. let next : c.min-next.result ≡ c.args.from + c.in_ok-prepared.prepared.length =
           all_next view below out old mid p from to c.most.result n c.min-count.result sound ready answered lt whole few asked counted c.min-next.result (c.min-next.ensures ∙ ap (min to) c.saturating_add.ensures) high in
           let part = all_filled view below out old mid p from to c.most.result n c.min-count.result sound ready answered lt whole few asked counted (c.in_ok-prepared.ensures.some some).some c.put_zeros.new.self done c.in_default.ensures.written c.commit_filled.ensures.commits c.commit_filled.ensures.header c.in_ok-prepared.ensures.l1_place in

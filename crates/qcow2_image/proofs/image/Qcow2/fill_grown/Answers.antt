@@ -1,16 +1,16 @@
-use Rattle.qcow2_image.proofs.Prepare.Lacked.{other_limit}
+use Rattle.qcow2_image.proofs.Prepare.LimitCauses.{other_limit}
 use Rattle.qcow2_image.proofs.Call.Unlimited.{fault_unlimited}
 use Rattle.qcow2_image.proofs.Call.ImageSteps.{step_then}
 use Rattle.qcow2_image.proofs.image.Qcow2.fill_grown.Goals as goal
-use Rattle.std.proofs.Common.{◌≡◌, ◌∙◌, ap, subst, sym, refl, Ok, Err, rules, inl, inr}
+use Rattle.std.proofs.Common.{◌≡◌, ◌∙◌, ap, subst, sym, refl, Ok, Err, inl, inr}
 use Rattle.std.specs.Prelude.{IsTrue}
 use Rattle.qcow2_alloc.specs.declared.error.ImageError.TheVariants.{Version}
 use Rattle.qcow2_metadata.specs.Header.{cluster_size, rounded_up}
 use Rattle.qcow2_image.specs.declared.image.Qcow2.{Qcow2}
-use Rattle.qcow2_image.proofs.Call.FaultCounts.{counted_as, counted_of, untouched}
+use Rattle.qcow2_image.proofs.Call.Fails.{fails_freed}
 use Rattle.qcow2_image.proofs.Preallocate.FreedBehind.{grown_freed, grown_left, grown_told, same_refusal}
 use Rattle.qcow2_alloc.specs.ImageFile.{known_in}
-use Rattle.qcow2_image.proofs.Preallocate.Met.{met_filling_freed}
+use Rattle.qcow2_image.proofs.Preallocate.FailingFills.{met_filling_freed}
 
 pub returns-in-Err-clause-emptied : goal.returns-in-Err-clause-emptied
 returns-in-Err-clause-emptied g c = λ none. tt
@@ -21,34 +21,13 @@ returns-in-Ok-clause-version g c = λ none zero low. absurd (let no : Ok tt ≡ 
 pub returns-in-Err-clause-version : goal.returns-in-Err-clause-version
 returns-in-Err-clause-version g c = λ none zero low.
     let refused = c.fill_behind.ensures.version zero low in
-    let kept = c.process_free_list_after.ensures.idle (ap (λ (i : Qcow2 _ _). i.file.free_list) refused.1 ∙ none) in
+    let kept = c.process_free_list_after.ensures.refused.idle (ap (λ (i : Qcow2 _ _). i.file.free_list) refused.1 ∙ none) in
     (ap Err (kept.0 ∙ same_refusal c.fill_behind.result c.in-Err.refusal Version c.in-Err.is refused.0), kept.1 ∙ refused.1)
-
-pub returns-in-Ok-clause-fills : goal.returns-in-Ok-clause-fills
-returns-in-Ok-clause-fills g c = λ out sound. c.in-Ok.ensures.fills out sound
-
-pub returns-in-Err-clause-fills : goal.returns-in-Err-clause-fills
-returns-in-Err-clause-fills g c = λ out sound.
-    let view = g.S.Storage.view in
-    let below = g.F.BackingDisk.backing in
-    let old = c.args.self.now in
-    let mid = c.fill_behind.new.self in
-    let new = c.process_free_list_after.new.self in
-    let size = c.args.size in
-    let refused = c.in-Err.ensures.fills out sound in
-    record {
-      left = grown_freed view below out old mid new size c.args.mode c.in-Err.refusal c.process_free_list_after.result refused.left c.process_free_list_after.ensures.fault (c.process_free_list_after.ensures.frees out);
-      taken = λ is. refused.taken (c.process_free_list_after.ensures.taken c.in-Err.ensures.fails.cause is);
-      limit = λ is. elim (grown_told view below out old mid new size c.args.mode c.in-Err.refusal c.process_free_list_after.result refused.left c.process_free_list_after.ensures.fault (c.process_free_list_after.ensures.told.1 out)) [
-        | inl same ↦ refused.limit (sym same ∙ is)
-        | inr fault ↦ other_limit _ c.process_free_list_after.result (fault_unlimited c.process_free_list_after.result fault) is
-      ];
-    }
 
 pub returns-in-Err-clause-freed : goal.returns-in-Err-clause-freed
 returns-in-Err-clause-freed g c = λ out sound.
-    let refused = c.in-Err.ensures.fills out sound in
-    grown_left g.S.Storage.view g.F.BackingDisk.backing out c.args.self.now c.fill_behind.new.self c.process_free_list_after.new.self c.args.size c.args.mode c.in-Err.refusal c.process_free_list_after.result refused.left c.process_free_list_after.ensures.fault
+    let refused = (c.in-Err.ensures.sound out sound).fills in
+    grown_left g.S.Storage.view g.F.BackingDisk.backing out c.args.self.now c.fill_behind.new.self c.process_free_list_after.new.self c.args.size c.args.mode c.in-Err.refusal c.process_free_list_after.result refused.left c.process_free_list_after.ensures.refused.fault
     (c.process_free_list_after.ensures.emptied (subst IsTrue (sym c.fill_behind.ensures.step.stays.image.writable) c.requires.writable) out)
 
 pub returns-in-Err-clause-unfilled : goal.returns-in-Err-clause-unfilled
@@ -57,27 +36,39 @@ returns-in-Err-clause-unfilled g c = λ none. absurd (let no : Ok tt ≡ Err c.i
 pub returns-in-Ok-clause-unfilled : goal.returns-in-Ok-clause-unfilled
 returns-in-Ok-clause-unfilled g c = λ none. (refl, (c.fill_behind.ensures.unfilled none).1)
 
-pub returns-in-Err-clause-met : goal.returns-in-Err-clause-met
-returns-in-Err-clause-met g c = λ out sound near.
-    let view = g.S.Storage.view in
-    let old = c.args.self.now in
-    let h = old.file.header.fields in
-    let refused = c.in-Err.ensures.fills out sound in
-    met_filling_freed out c.args.mode c.args.old (rounded_up (cluster_size h) c.args.size) h (known_in view old.file) c.in-Err.refusal c.process_free_list_after.result
-    (grown_told view g.F.BackingDisk.backing out old c.fill_behind.new.self c.process_free_list_after.new.self c.args.size c.args.mode c.in-Err.refusal c.process_free_list_after.result refused.left c.process_free_list_after.ensures.fault (c.process_free_list_after.ensures.told.1 out)) (c.in-Err.ensures.met out sound near)
-
 pub returns-in-Err-clause-step : goal.returns-in-Err-clause-step
 returns-in-Err-clause-step g c = step_then c.fill_behind.ensures.step c.process_free_list_after.ensures.step
 
-pub returns-in-Err-clause-fails : goal.returns-in-Err-clause-fails
-returns-in-Err-clause-fails g c = record {
-  cause = search rules;
-  faults = let view = g.S.Storage.view in
-      let below = g.F.BackingDisk.backing in
-      let old = c.args.self.now in
-      counted_of view below old c.process_free_list_after.new.self c.process_free_list_after.result
-      (c.process_free_list_after.ensures.faults old (counted_as view below old old c.fill_behind.new.self c.fill_behind.result c.in-Err.refusal (untouched view below old old refl refl) c.fill_behind.ensures.fails.faults c.in-Err.is));
-}
-
 pub returns-in-Ok-clause-step : goal.returns-in-Ok-clause-step
 returns-in-Ok-clause-step g c = c.fill_behind.ensures.step
+
+pub returns-in-Ok-clause-sound : goal.returns-in-Ok-clause-sound
+returns-in-Ok-clause-sound g c = c.in-Ok.ensures.sound
+
+pub returns-in-Err-clause-sound : goal.returns-in-Err-clause-sound
+returns-in-Err-clause-sound g c = λ out sound.
+    let view = g.S.Storage.view in
+    let old = c.args.self.now in
+    let refused = (c.in-Err.ensures.sound out sound).fills in
+    record {
+      fills =
+          let below = g.F.BackingDisk.backing in
+          let mid = c.fill_behind.new.self in
+          let new = c.process_free_list_after.new.self in
+          let size = c.args.size in
+          record {
+            left = grown_freed view below out old mid new size c.args.mode c.in-Err.refusal c.process_free_list_after.result refused.left c.process_free_list_after.ensures.refused.fault (c.process_free_list_after.ensures.frees out);
+            taken = λ is. refused.taken (c.process_free_list_after.ensures.refused.taken c.in-Err.ensures.fails.cause is);
+            limit = λ is. elim (grown_told view below out old mid new size c.args.mode c.in-Err.refusal c.process_free_list_after.result refused.left c.process_free_list_after.ensures.refused.fault (c.process_free_list_after.ensures.told.1 out)) [
+              | inl same ↦ refused.limit (sym same ∙ is)
+              | inr fault ↦ other_limit _ c.process_free_list_after.result (fault_unlimited c.process_free_list_after.result fault) is
+            ];
+          };
+      may_fail = λ near.
+          let h = old.file.header.fields in
+          met_filling_freed out c.args.mode c.args.old (rounded_up (cluster_size h) c.args.size) h (known_in view old.file) c.in-Err.refusal c.process_free_list_after.result
+          (grown_told view g.F.BackingDisk.backing out old c.fill_behind.new.self c.process_free_list_after.new.self c.args.size c.args.mode c.in-Err.refusal c.process_free_list_after.result refused.left c.process_free_list_after.ensures.refused.fault (c.process_free_list_after.ensures.told.1 out)) ((c.in-Err.ensures.sound out sound).may_fail near);
+    }
+
+pub returns-in-Err-clause-fails : goal.returns-in-Err-clause-fails
+returns-in-Err-clause-fails g c = fails_freed c.fill_behind.result c.in-Err.refusal c.process_free_list_after.result c.fill_behind.ensures.fails c.in-Err.is c.process_free_list_after.ensures.faults (c.process_free_list_after.ensures.refused.cause c.in-Err.ensures.fails.cause)

@@ -2,12 +2,12 @@ use Rattle.qcow2_alloc.proofs.KeptMarks.{notes_none, notes_then}
 use Rattle.std.proofs.Common.{◌≡◌, refl, subst, arith, rules}
 use Rattle.qcow2_alloc.proofs.AllocationSteps.{handed_on}
 use Rattle.qcow2_image.specs.Preallocation.{FillsOrRefuses, FillsPart}
-use Rattle.qcow2_image.proofs.Preallocate.Turns.{filled_first, filled_next, filled_refused, still_at}
+use Rattle.qcow2_image.proofs.Preallocate.FillSteps.{filled_first, filled_next, filled_refused, still_at}
 use Rattle.qcow2_image.proofs.Call.FaultCounts.{counted_ok, counted_on, faults_then, untouched}
 use Rattle.qcow2_image.proofs.Call.BehindHeader.{behind_none, behind_then}
 use Rattle.qcow2_alloc.specs.ImageFile.{known_in}
-use Rattle.qcow2_image.specs.MetAlone.{HasCompressedIn, MayFailAllocating}
-use Rattle.qcow2_image.proofs.Preallocate.Met.{hands_met, met_before, near_behind}
+use Rattle.qcow2_image.specs.MayFail.{HasCompressedIn, MayFailAllocating}
+use Rattle.qcow2_image.proofs.Preallocate.FailingFills.{hands_met, met_before, near_behind}
 use Rattle.qcow2_image.specs.Backings.{HasPinnedMapping}
 use Rattle.qcow2_image.proofs.image.Qcow2.fill_range.Goals as goal
 
@@ -64,9 +64,9 @@ returns-in_err-at-clause-sound g c = λ out sound le whole.
     record {
       fills = handed_on (λ r. FillsOrRefuses view below c.args.to c.args.from c.args.to c.args.self.now c.fill_first.new.self out r) c.from_residual.result e c.from_residual.ensures
           (filled_refused view below c.args.from c.args.to c.loop-at.at c.args.self.now c.loop-at.self c.fill_first.new.self c.loop-at-test.true c.loop-at.invariant.turns c.loop-at.invariant.behind e (λ list still. (c.in_err-at.ensures.sound list still).fills) out sound whole);
-      met = λ near. hands_met (MayFailAllocating (HasPinnedMapping out) (HasPinnedMapping out) (HasCompressedIn from to old.file.header.fields (known_in view old.file)) ⊥) c.from_residual.result e c.from_residual.ensures
+      may_fail = λ near. hands_met (MayFailAllocating (HasPinnedMapping out) (HasPinnedMapping out) (HasCompressedIn from to old.file.header.fields (known_in view old.file)) ⊥) c.from_residual.result e c.from_residual.ensures
           (met_before view below out to from c.loop-at.at old now part c.loop-at.at to from to low (omega arith) e
-          ((c.in_err-at.ensures.sound out part.sound).met (still_at old.file.header.fields now.file.header.fields to part.header whole) (near_behind view below out to from c.loop-at.at old now part to to (omega (arith, lt)) (omega arith) near)));
+          ((c.in_err-at.ensures.sound out part.sound).may_fail (still_at old.file.header.fields now.file.header.fields to part.header whole) (near_behind view below out to from c.loop-at.at old now part to to (omega (arith, lt)) (omega arith) near)));
     }
 
 pub returns-clause-sound : goal.returns-clause-sound
@@ -75,6 +75,6 @@ returns-clause-sound g c = λ out sound le whole.
     let past = c.loop-at-test.false in
     let end : c.loop-at.at ≡ c.args.to = omega (arith, high, past, le) in
     record {
-      met = search rules;
+      may_fail = search rules;
       fills = subst (λ n. FillsPart g.S.Storage.view g.F.BackingDisk.backing c.args.to c.args.from n c.args.self.now c.loop-at.self out) end (c.loop-at.invariant.turns.so_far out sound whole);
     }

@@ -4,10 +4,10 @@ use Rattle.std.proofs.Common.{◌≤◌, arith, refl, ap, ◌≡◌, ◌<◌, �
 use Rattle.qcow2_metadata.specs.EntryTable.{entry_count, EntryTableView}
 use Rattle.qcow2_alloc.proofs.AllocationSteps.{handed_on}
 use Rattle.qcow2_image.specs.LongerTables.{Lengthens}
-use Rattle.qcow2_image.proofs.Grow.Lengthened.{is_longer, lengthened, refused_none}
-use Rattle.qcow2_image.proofs.Prepare.Entering.{as_listed_after, keeps_none}
-use Rattle.qcow2_image.proofs.Prepare.Owning.{refused}
-use Rattle.qcow2_image.proofs.Prepare.Lacked.{hands_either, hands_limit, other_limit, goes_step}
+use Rattle.qcow2_image.proofs.Grow.ReplacedL1Table.{is_longer, lengthened, refused_none}
+use Rattle.qcow2_image.proofs.Prepare.UnlinkedL2Table.{as_listed_after, keeps_none}
+use Rattle.qcow2_image.proofs.Prepare.WritableL2Table.{refused}
+use Rattle.qcow2_image.proofs.Prepare.LimitCauses.{hands_either, hands_limit, other_limit, goes_step}
 use Rattle.qcow2_image.proofs.Call.Unlimited.{fault_unlimited, short_fault, short_unlimited}
 use Rattle.std.proofs.lemmas.Bool.Decides.{nat_tests}
 use Rattle.qcow2_alloc.specs.ImageError.{of_metadata}
@@ -29,7 +29,7 @@ returns-in-Ok-clause-lengthens g c = λ p out sound.
     let old = c.args.self.now in
     let enough : entry_count old.l1_table ≤ c.max-entries.result = omega (arith, c.max-entries.ensures, c.len.ensures.value) in
     let longer = is_longer g.S.Storage.view g.F.BackingDisk.backing out p old sound c.in_ok-table.table _ c.max-entries.result c.in_ok-table.ensures.table c.in_ok-table.ensures.length enough c.in_ok-table.ensures.entries in
-    lengthened g.S.Storage.view g.F.BackingDisk.backing out p old sound c.len.ensures.is_table.table.whole c.enter_l1_table.new.self (c.in-Ok.ensures.takes p out sound longer) c.hand_back.new.list c.in_ok-old.old c.in-Ok.ensures.list
+    lengthened g.S.Storage.view g.F.BackingDisk.backing out p old sound c.len.ensures.is_table.table.whole c.enter_l1_table.new.self ((c.in-Ok.ensures.sound p out sound longer).takes) c.hand_back.new.list c.in_ok-old.old c.in-Ok.ensures.list
     c.in_ok-old.ensures.run c.hand_back.ensures
 
 pub returns-in-Err-clause-lengthens : goal.returns-in-Err-clause-lengthens
@@ -37,13 +37,13 @@ returns-in-Err-clause-lengthens g c = λ p out sound.
     let old = c.args.self.now in
     let enough : entry_count old.l1_table ≤ c.max-entries.result = omega (arith, c.max-entries.ensures, c.len.ensures.value) in
     let longer = is_longer g.S.Storage.view g.F.BackingDisk.backing out p old sound c.in_ok-table.table _ c.max-entries.result c.in_ok-table.ensures.table c.in_ok-table.ensures.length enough c.in_ok-table.ensures.entries in
-    c.in-Err.ensures.takes p out sound longer
+    (c.in-Err.ensures.sound p out sound longer).takes
 
 pub returns-in-Ok-clause-length : goal.returns-in-Ok-clause-length
 returns-in-Ok-clause-length g c = omega (arith, c.in-Ok.ensures.entries, c.in_ok-table.ensures.length, c.max-entries.ensures, c.len.ensures.value)
 
-pub returns-in-Ok-clause-noted : goal.returns-in-Ok-clause-noted
-returns-in-Ok-clause-noted g c = c.in-Ok.ensures.noted
+pub returns-in-Ok-clause-recorded : goal.returns-in-Ok-clause-recorded
+returns-in-Ok-clause-recorded g c = c.in-Ok.ensures.recorded
 
 pub returns-then-index-ge-MAX_L1_ENTRIES-clause-limit : goal.returns-then-index-ge-MAX_L1_ENTRIES-clause-limit
 returns-then-index-ge-MAX_L1_ENTRIES-clause-limit g c = λ p out sound offset at is.
@@ -66,7 +66,7 @@ returns-in-Err-clause-limit g c = λ p out sound offset at.
     let old = c.args.self.now in
     let enough : entry_count old.l1_table ≤ c.max-entries.result = omega (arith, c.max-entries.ensures, c.len.ensures.value) in
     let longer = is_longer g.S.Storage.view g.F.BackingDisk.backing out p old sound c.in_ok-table.table _ c.max-entries.result c.in_ok-table.ensures.table c.in_ok-table.ensures.length enough c.in_ok-table.ensures.entries in
-    c.in-Err.ensures.limit p out sound longer offset (omega (arith, c.in_ok-table.ensures.length, c.max-entries.ensures, c.len.ensures.value, at))
+    (c.in-Err.ensures.sound p out sound longer).limit offset (omega (arith, c.in_ok-table.ensures.length, c.max-entries.ensures, c.len.ensures.value, at))
 
 pub returns-in-Ok-clause-placed : goal.returns-in-Ok-clause-placed
 returns-in-Ok-clause-placed g c = λ bits.
@@ -92,7 +92,7 @@ returns-in-Err-clause-fault g c = λ writable p out sound.
     let enough : entry_count old.l1_table ≤ c.max-entries.result = omega (arith, c.max-entries.ensures, c.len.ensures.value) in
     let longer = is_longer g.S.Storage.view g.F.BackingDisk.backing out p old sound t _ c.max-entries.result c.in_ok-table.ensures.table c.in_ok-table.ensures.length enough c.in_ok-table.ensures.entries in
     let many : entry_count t ≡ max (entry_count old.l1_table) (c.args.index + 1) = omega (arith, c.in_ok-table.ensures.length, c.max-entries.ensures, c.len.ensures.value) in
-    c.in-Err.ensures.fault writable p out sound longer (omega (arith, many))
+    (c.in-Err.ensures.sound p out sound longer).fault writable (omega (arith, many))
 
 pub returns-then-index-ge-MAX_L1_ENTRIES-clause-step : goal.returns-then-index-ge-MAX_L1_ENTRIES-clause-step
 returns-then-index-ge-MAX_L1_ENTRIES-clause-step g c = step_none
@@ -104,7 +104,7 @@ pub returns-in_err-old-clause-step : goal.returns-in_err-old-clause-step
 returns-in_err-old-clause-step g c = step_none
 
 pub returns-in-Ok-clause-step : goal.returns-in-Ok-clause-step
-returns-in-Ok-clause-step g c = record { stays = search rules; notes = c.enter_l1_table.ensures.notes; header_cluster = c.enter_l1_table.ensures.header_cluster (ap (λ (t : EntryTableView). t.cluster_bits) c.in_ok-table.ensures.table) }
+returns-in-Ok-clause-step g c = record { stays = search rules; notes = c.enter_l1_table.ensures.step.notes; header_cluster = c.enter_l1_table.ensures.step.header_cluster (ap (λ (t : EntryTableView). t.cluster_bits) c.in_ok-table.ensures.table) }
 
 pub returns-in-Err-clause-step : goal.returns-in-Err-clause-step
-returns-in-Err-clause-step g c = record { stays = search rules; notes = c.enter_l1_table.ensures.notes; header_cluster = c.enter_l1_table.ensures.header_cluster (ap (λ (t : EntryTableView). t.cluster_bits) c.in_ok-table.ensures.table) }
+returns-in-Err-clause-step g c = record { stays = search rules; notes = c.enter_l1_table.ensures.step.notes; header_cluster = c.enter_l1_table.ensures.step.header_cluster (ap (λ (t : EntryTableView). t.cluster_bits) c.in_ok-table.ensures.table) }

@@ -8,10 +8,10 @@ use Rattle.qcow2_image.specs.Calls.{AnswersCall}
 use Rattle.qcow2_image.specs.Image.{is_failed}
 use Rattle.qcow2_image.specs.ImageInvariant.{pending_in}
 use Rattle.qcow2_image.specs.Invalidated.{RespectsPrepared, IsOfPrepared, IsReasonAgainstReading, IsStillInUse, KeepsTables, reftable_in}
-use Rattle.qcow2_image.specs.Refusals.{IsMet}
+use Rattle.qcow2_image.specs.Refusals.{MayFail}
 use Rattle.qcow2_image.specs.declared.image.Qcow2.{Qcow2}
 use Rattle.qcow2_image.specs.Backings.{HasPinnedMapping}
-use Rattle.qcow2_image.proofs.Backings.{some_prepared, table_prepared}
+use Rattle.qcow2_image.proofs.Images.Backings.{some_prepared, table_prepared}
 use Rattle.qcow2_image.proofs.Call.Called.{keeps_then, told_answers, tells_quietly}
 use Rattle.qcow2_image.proofs.Call.Marked.{may_mark}
 use Rattle.qcow2_image.proofs.Map.Loading.{if_ok_any}
@@ -23,7 +23,7 @@ pub returns-clause-fails : goal.returns-clause-fails
 returns-clause-fails g c =
     let view = g.S.Storage.view in
     let old = c.args.self.now in
-    let begun = c.begin.new.self in
+    let begun = c.begin_call.new.self in
     let read = c.drop_and_read-done.new.self in
     let new = c.mark_failure.new.self in
     let r = c.drop_and_read-done.result in
@@ -32,16 +32,16 @@ returns-clause-fails g c =
     record {
       failed = λ bad. absurd (let no : false ≡ true = sym c.if-self.false ∙ bad in cc);
       kept = subst (λ (x : Result _ _). OnErr x (KeepsTables old new)) answer (on_refused_map r (λ kept. record {
-        header = ap (λ (i : Qcow2 _ _). i.file.header) c.mark_failure.ensures.rest ∙ kept.header ∙ ap (λ (i : Qcow2 _ _). i.file.header) c.begin.ensures.rest;
-        l1_table = ap (λ (i : Qcow2 _ _). i.l1_table) c.mark_failure.ensures.rest ∙ kept.l1_table ∙ ap (λ (i : Qcow2 _ _). i.l1_table) c.begin.ensures.rest;
-        reftable = ap (λ (i : Qcow2 _ _). reftable_in i) c.mark_failure.ensures.rest ∙ kept.reftable ∙ ap (λ (i : Qcow2 _ _). reftable_in i) c.begin.ensures.rest;
+        header = ap (λ (i : Qcow2 _ _). i.file.header) c.mark_failure.ensures.rest ∙ kept.header ∙ ap (λ (i : Qcow2 _ _). i.file.header) c.begin_call.ensures.rest;
+        l1_table = ap (λ (i : Qcow2 _ _). i.l1_table) c.mark_failure.ensures.rest ∙ kept.l1_table ∙ ap (λ (i : Qcow2 _ _). i.l1_table) c.begin_call.ensures.rest;
+        reftable = ap (λ (i : Qcow2 _ _). reftable_in i) c.mark_failure.ensures.rest ∙ kept.reftable ∙ ap (λ (i : Qcow2 _ _). reftable_in i) c.begin_call.ensures.rest;
       }) c.drop_and_read-done.ensures.kept);
-      cause = λ _. subst (λ (x : Result _ _). IfErr x IsMet) answer c.drop_and_read-done.ensures.fails.cause;
-      prepared = λ _. subst (λ (x : Result _ _). RespectsPrepared old x) answer (heeds_begun view old begun c.begin.ensures.begun r c.drop_and_read-done.ensures.prepared);
+      cause = λ _. subst (λ (x : Result _ _). IfErr x MayFail) answer c.drop_and_read-done.ensures.fails.cause;
+      prepared = λ _. subst (λ (x : Result _ _). RespectsPrepared old x) answer (heeds_begun view old begun c.begin_call.ensures.begun r c.drop_and_read-done.ensures.prepared);
       why =
           λ _ honest.
           subst (λ (x : Result _ _). IfErr x (IsReasonAgainstReading view old new)) answer
-          (IfErr-weaker r (IsReasonAgainstReading view begun read) (IsReasonAgainstReading view old new) (λ e. why_begun view old begun c.begin.ensures.begun read new same e) (c.drop_and_read-done.ensures.why (subst (λ s. (view s).is_honest) (sym c.begin.ensures.storage) honest)));
+          (IfErr-weaker r (IsReasonAgainstReading view begun read) (IsReasonAgainstReading view old new) (λ e. why_begun view old begun c.begin_call.ensures.begun read new same e) (c.drop_and_read-done.ensures.why (subst (λ s. (view s).is_honest) (sym c.begin_call.ensures.storage) honest)));
       list = λ _. ap (λ (i : Qcow2 _ _). i.file.free_list) c.mark_failure.ensures.rest ∙ c.drop_and_read-done.ensures.list;
     }
 
@@ -50,7 +50,7 @@ returns-clause-sound g c =
     let view = g.S.Storage.view in
     let below = g.F.BackingDisk.backing in
     let old = c.args.self.now in
-    let begun = c.begin.new.self in
+    let begun = c.begin_call.new.self in
     let read = c.drop_and_read-done.new.self in
     let new = c.mark_failure.new.self in
     let r = c.drop_and_read-done.result in
@@ -65,27 +65,27 @@ returns-clause-sound g c =
           (tells_quietly view below old read
           (λ out sound.
           let p = pending_in view below old out in
-          let first = c.begin.ensures.keeps p out sound in
-          let there = rests_begun view old begun c.begin.ensures.begun (c.begin.ensures.known p out sound) rest in
+          let first = c.begin_call.ensures.keeps p out sound in
+          let there = rests_begun view old begun c.begin_call.ensures.begun (c.begin_call.ensures.known p out sound) rest in
           record {
             keeps = keeps_then view below out old begun read p p p (λ k h. h) first (c.drop_and_read-done.ensures.keeps there p out first.sound);
             list = c.drop_and_read-done.ensures.list ∙ sym rest.freed;
           })
-          (is_failed new) (λ done v w. IsSame v w) r (may_mark read new r c.mark_failure.ensures.marks) (c.drop_and_read-done.ensures.step.part.stays.image.number ∙ c.begin.ensures.stays.image.number)
+          (is_failed new) (λ done v w. IsSame v w) r (may_mark read new r c.mark_failure.ensures.marks) (c.drop_and_read-done.ensures.step.part.stays.image.number ∙ c.begin_call.ensures.stays.image.number)
           c.if-self.false (λ out sound same. if_ok_any r (λ done. same)))));
       fault =
           λ out sound none.
-          let first = c.begin.ensures.keeps (pending_in view below old out) out sound in
+          let first = c.begin_call.ensures.keeps (pending_in view below old out) out sound in
           subst (λ (x : Result _ _). IfErr x IsFault) answer
           (IfErr-weaker r (IsReasonAgainstReading view begun read) IsFault
-          (λ e why. reading_fault view old new below (pending_in view below old out) out sound (λ has. none (some_prepared view below old out sound has.cluster has.pins)) e (why_begun view old begun c.begin.ensures.begun read new same e why))
+          (λ e why. reading_fault view old new below (pending_in view below old out) out sound (λ has. none (some_prepared view below old out sound has.cluster has.pins)) e (why_begun view old begun c.begin_call.ensures.begun read new same e why))
           (c.drop_and_read-done.ensures.why first.sound.file.honest));
-      prepared = λ out sound has. subst (λ (x : Result _ _). IsErrAnd x IsOfPrepared) answer (heeds_all old r (table_prepared view below old out sound has) (heeds_begun view old begun c.begin.ensures.begun r c.drop_and_read-done.ensures.prepared));
+      prepared = λ out sound has. subst (λ (x : Result _ _). IsErrAnd x IsOfPrepared) answer (heeds_all old r (table_prepared view below old out sound has) (heeds_begun view old begun c.begin_call.ensures.begun r c.drop_and_read-done.ensures.prepared));
       in_use =
           λ out sound.
-          let first = c.begin.ensures.keeps (pending_in view below old out) out sound in
+          let first = c.begin_call.ensures.keeps (pending_in view below old out) out sound in
           subst (λ (x : Result _ _). IfErr x (λ e. IsStillInUse e → HasPinnedMapping out)) answer
           (IfErr-weaker r (IsReasonAgainstReading view begun read) (λ e. IsStillInUse e → HasPinnedMapping out)
-          (λ e why. told_in_use old view new (HasPinnedMapping out) (λ has. some_prepared view below old out sound has.cluster has.pins) sound.file.room e (why_begun view old begun c.begin.ensures.begun read new same e why))
+          (λ e why. told_in_use old view new (HasPinnedMapping out) (λ has. some_prepared view below old out sound has.cluster has.pins) sound.file.room e (why_begun view old begun c.begin_call.ensures.begun read new same e why))
           (c.drop_and_read-done.ensures.why first.sound.file.honest));
     }

@@ -2,8 +2,8 @@ use Rattle.std.proofs.Common.{◌≡◌, ◌*◌, ◌/◌, ◌%◌, ◌^◌, sym
 use Rattle.qcow2_metadata.specs.Entries.{host_offset}
 use Rattle.qcow2_metadata.specs.TableBytes.{entry_at}
 use Rattle.qcow2_image.specs.Found.{l1_index_of}
-use Rattle.qcow2_image.proofs.Map.MetLooking.{named_aligned}
-use Rattle.qcow2_image.proofs.Prepare.Pinned.{whole_quotient}
+use Rattle.qcow2_image.proofs.Map.FailingLookups.{named_aligned}
+use Rattle.qcow2_image.proofs.Prepare.PinnedL2Tables.{whole_quotient}
 use Rattle.qcow2_image.proofs.image.Qcow2.l2_cluster.Goals as goal
 
 pub returns-in_default-clause-own : goal.returns-in_default-clause-own

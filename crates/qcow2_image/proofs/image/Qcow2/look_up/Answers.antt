@@ -1,4 +1,4 @@
-use Rattle.std.proofs.Common.{◌≡◌, ◌-◌, ◌/◌, sym, ap, ◌∙◌, subst, arith, min, is_some, Some, None, false, true, ◌<◌, ◌≤◌, rules}
+use Rattle.std.proofs.Common.{◌≡◌, ◌-◌, ◌/◌, sym, ap, ◌∙◌, subst, arith, min, is_some, Some, None, false, true, ◌<◌, rules, refl}
 use Rattle.qcow2_metadata.specs.Header.{cluster_size}
 use Rattle.qcow2_metadata.specs.Entries.{host_offset}
 use Rattle.qcow2_disk.specs.Alike.{IsLongestRun}
@@ -13,102 +13,92 @@ use Rattle.qcow2_image.proofs.Map.Looked.{none_found}
 use Rattle.qcow2_image.proofs.Call.BehindHeader.{behind_caches}
 use Rattle.std.specs.Prelude.{IfSome, MatchOption}
 use Rattle.qcow2_alloc.specs.MetadataCaches.{IsEntryAt}
-use Rattle.qcow2_image.specs.MetAlone.{IsCacheHeld, IsMetLooking}
-use Rattle.qcow2_image.proofs.Map.MetLooking.{answers_met, cache_looking, named_entry}
-use Rattle.qcow2_image.proofs.Prepare.Met.{hands_met}
-use Rattle.qcow2_image.proofs.Prepare.Lacking.{named_place}
+use Rattle.qcow2_image.specs.MayFail.{IsCacheHeld, MayFailLooking}
+use Rattle.qcow2_image.proofs.Map.FailingLookups.{answers_met, cache_looking, named_entry}
+use Rattle.qcow2_image.proofs.Prepare.FailingCopies.{hands_met}
+use Rattle.qcow2_image.proofs.Prepare.MissingL2Table.{named_place}
 use Rattle.qcow2_image.proofs.Map.Quiet.{reads_none}
 use Rattle.qcow2_image.proofs.Map.Held.{uncovered_held}
 use Rattle.qcow2_image.specs.HeldMappings.{named_place as place_named}
 use Rattle.qcow2_image.specs.PinnedTables.{own_table}
 use Rattle.qcow2_image.proofs.image.Qcow2.look_up.Goals as goal
 
-pub returns-in_err-l2_get_or_insert-in-Some-clause-keeps :
-    goal.returns-in_err-l2_get_or_insert-in-Some-clause-keeps
-returns-in_err-l2_get_or_insert-in-Some-clause-keeps g c = λ p out sound.
-    caches_moved g.S.Storage.view g.F.BackingDisk.backing c.args.self.now out p sound c.l2_get_or_insert.new.storage c.l2_get_or_insert.new.self
-    (c.l2_get_or_insert.ensures.sound.keeps c.args.self.now.file.header.fields p sound.file.honest sound.file.caches) c.l2_get_or_insert.ensures.step.marks.pins.room c.l2_get_or_insert.ensures.step.marks.pins.pins
+pub returns-in_err-l2_get_or_insert-in-Some-clause-sound : goal.returns-in_err-l2_get_or_insert-in-Some-clause-sound
+returns-in_err-l2_get_or_insert-in-Some-clause-sound g c = λ p out sound.
+    let view = g.S.Storage.view in
+    let below = g.F.BackingDisk.backing in
+    let old = c.args.self.now in
+    let h = old.file.header.fields in
+    let e = c.in_err-l2_get_or_insert-in-Some.field-0.0 in
+    let stay = c.l2_get_or_insert.ensures.sound.keeps h p sound.file.honest sound.file.caches in
+    let names : NamesL2Table view old c.args.offset (Some c.in-Some.table) = subst (NamesL2Table view old c.args.offset) c.in-Some.is (c.in_ok-l2_cluster.ensures.names sound.l1_table) in
+    record {
+      keeps = caches_moved view below old out p sound c.l2_get_or_insert.new.storage c.l2_get_or_insert.new.self stay c.l2_get_or_insert.ensures.step.marks.pins.room c.l2_get_or_insert.ensures.step.marks.pins.pins;
+      known = stay.known;
+      may_fail = hands_met (MayFailLooking (IsCacheHeld old out)) c.from_residual-in_err-l2_get_or_insert-in-Some.result e c.from_residual-in_err-l2_get_or_insert-in-Some.ensures
+          (cache_looking view below out p old sound e
+          (c.in_err-l2_get_or_insert-in-Some.ensures.refusals h (named_place h (contents_in view old.file) (l1_index_of h c.args.offset) c.in-Some.table names.0) p sound.file.honest sound.file.caches sound.file.named_blocks));
+      found = search rules;
+    }
 
-pub returns-in_ok-l2_get_or_insert-in-Some-clause-keeps :
-    goal.returns-in_ok-l2_get_or_insert-in-Some-clause-keeps
-returns-in_ok-l2_get_or_insert-in-Some-clause-keeps g c = λ p out sound.
-    caches_moved g.S.Storage.view g.F.BackingDisk.backing c.args.self.now out p sound c.l2_get_or_insert.new.storage c.l2_get_or_insert.new.self
-    (c.l2_get_or_insert.ensures.sound.keeps c.args.self.now.file.header.fields p sound.file.honest sound.file.caches) c.l2_get_or_insert.ensures.step.marks.pins.room c.l2_get_or_insert.ensures.step.marks.pins.pins
-
-pub returns-in_err-l2_get_or_insert-in-Some-clause-known :
-    goal.returns-in_err-l2_get_or_insert-in-Some-clause-known
-returns-in_err-l2_get_or_insert-in-Some-clause-known g c = λ p out sound. (c.l2_get_or_insert.ensures.sound.keeps c.args.self.now.file.header.fields p sound.file.honest sound.file.caches).known
-
-pub returns-in_ok-l2_get_or_insert-in-Some-clause-known :
-    goal.returns-in_ok-l2_get_or_insert-in-Some-clause-known
-returns-in_ok-l2_get_or_insert-in-Some-clause-known g c = λ p out sound. (c.l2_get_or_insert.ensures.sound.keeps c.args.self.now.file.header.fields p sound.file.honest sound.file.caches).known
-
-pub returns-in-None-clause-found : goal.returns-in-None-clause-found
-returns-in-None-clause-found g c = λ p out sound.
-    let h = c.args.self.now.file.header.fields in
-    let known = known_in g.S.Storage.view c.args.self.now.file in
-    let crash_invariant = sound.file.caches.kept.kept.crash_invariant in
-    let sizes = Sizes-from h known (IsTop-top h (contents_in g.S.Storage.view c.args.self.now.file) known crash_invariant.same_top crash_invariant.top).header_reads in
-    let names : NamesL2Table g.S.Storage.view c.args.self.now c.args.offset None = subst (NamesL2Table g.S.Storage.view c.args.self.now c.args.offset) c.in-None.is (c.in_ok-l2_cluster.ensures.names sound.l1_table) in
-    let none : table_at h known (l1_index_of h c.args.offset) ≡ 0 = ap host_offset (sym (crash_invariant.same_top.l1 (l1_index_of h c.args.offset))) ∙ names in
+pub returns-in_ok-l2_get_or_insert-in-Some-clause-sound : goal.returns-in_ok-l2_get_or_insert-in-Some-clause-sound
+returns-in_ok-l2_get_or_insert-in-Some-clause-sound g c = λ p out sound.
+    let view = g.S.Storage.view in
+    let below = g.F.BackingDisk.backing in
+    let old = c.args.self.now in
+    let h = old.file.header.fields in
+    let stay = c.l2_get_or_insert.ensures.sound.keeps h p sound.file.honest sound.file.caches in
+    let kept = caches_moved view below old out p sound c.l2_get_or_insert.new.storage c.l2_get_or_insert.new.self stay c.l2_get_or_insert.ensures.step.marks.pins.room c.l2_get_or_insert.ensures.step.marks.pins.pins in
+    let image = with_caches view below old out p sound c.l2_get_or_insert.new.storage c.l2_get_or_insert.new.self in
+    let names : NamesL2Table view old c.args.offset (Some c.in-Some.table) = subst (NamesL2Table view old c.args.offset) c.in-Some.is (c.in_ok-l2_cluster.ensures.names sound.l1_table) in
+    let entry = subst (λ b. IsEntryAt h b (l1_index_of h c.args.offset) c.in-Some.table (l2_index_of h c.args.offset)) (sym stay.known) (named_entry view below out p old sound c.args.offset c.in-Some.table names) in
     let limit : c.min-max.result ≡ min (min c.args.max (h.size - c.args.offset)) (rest_of_table h c.args.offset) =
     let a = c.min-max.ensures in let b = c.min.ensures in let s = c.size-size.ensures in let r = c.rest_of_table.ensures.value in omega arith in
     record {
-      past = λ le. absurd (let e = c.if-offset-size.false in let s = c.size-size.ensures in omega arith);
-      run = λ lt. record {
-        kind_is = c.uncovered.ensures.value ∙ ap (kind_at h (is_some c.args.self.now.backing) c.args.offset) (sym (cover_none h known (c.args.offset / cluster_size h) none));
-        longest = subst (λ m. IsLongestRun h known c.args.offset m c.min-max.result) limit (none_found h c.args.offset sizes known c.min-max.result (omega (arith, limit)) none);
-      };
+      keeps = kept;
+      known = stay.known;
+      may_fail = answers_met (MayFailLooking (IsCacheHeld old out)) c.run_in_table.result (c.run_in_table.ensures.reads p kept.sound.file entry (omega (arith, limit)));
+      found = if_ok c.run_in_table.result
+          (λ x run. record {
+            past = λ le. absurd (let e = c.if-offset-size.false in let s = c.size-size.ensures in omega arith);
+            run = λ lt. subst (λ m. IsRunFrom view image c.args.offset m x.0 x.1) limit run;
+          })
+          (c.run_in_table.ensures.run p kept.sound.file entry (omega (arith, limit)));
     }
 
-pub returns-in_ok-l2_get_or_insert-in-Some-clause-found :
-    goal.returns-in_ok-l2_get_or_insert-in-Some-clause-found
-returns-in_ok-l2_get_or_insert-in-Some-clause-found g c = λ p out sound.
-    let h = c.args.self.now.file.header.fields in
-    let stay = c.l2_get_or_insert.ensures.sound.keeps h p sound.file.honest sound.file.caches in
-    let kept = caches_moved g.S.Storage.view g.F.BackingDisk.backing c.args.self.now out p sound c.l2_get_or_insert.new.storage c.l2_get_or_insert.new.self stay c.l2_get_or_insert.ensures.step.marks.pins.room
-    c.l2_get_or_insert.ensures.step.marks.pins.pins in
-    let image = with_caches g.S.Storage.view g.F.BackingDisk.backing c.args.self.now out p sound c.l2_get_or_insert.new.storage c.l2_get_or_insert.new.self in
-    let names : NamesL2Table g.S.Storage.view c.args.self.now c.args.offset (Some c.in-Some.table) =
-    subst (NamesL2Table g.S.Storage.view c.args.self.now c.args.offset) c.in-Some.is (c.in_ok-l2_cluster.ensures.names sound.l1_table) in
-    let entry = subst (λ b. IsEntryAt h b (l1_index_of h c.args.offset) c.in-Some.table (l2_index_of h c.args.offset)) (sym stay.known)
-    (named_entry g.S.Storage.view g.F.BackingDisk.backing out p c.args.self.now sound c.args.offset c.in-Some.table names) in
-    let limit : c.min-max.result ≡ min (min c.args.max (h.size - c.args.offset)) (rest_of_table h c.args.offset) =
-    let a = c.min-max.ensures in let b = c.min.ensures in let s = c.size-size.ensures in let r = c.rest_of_table.ensures.value in omega arith in
-    if_ok c.run_in_table.result
-    (λ x run. record {
-      past = λ le. absurd (let e = c.if-offset-size.false in let s = c.size-size.ensures in omega arith);
-      run = λ lt. subst (λ m. IsRunFrom g.S.Storage.view image c.args.offset m x.0 x.1) limit run;
-    })
-    (c.run_in_table.ensures.run p kept.sound.file entry (omega (arith, limit)))
-
-pub returns-in_err-l2_cluster-clause-met : goal.returns-in_err-l2_cluster-clause-met
-returns-in_err-l2_cluster-clause-met g c = λ p out sound. absurd (let no : false ≡ true = c.in_err-l2_cluster.ensures.reads p out sound in cc)
-
-pub returns-in_err-l2_get_or_insert-in-Some-clause-met : goal.returns-in_err-l2_get_or_insert-in-Some-clause-met
-returns-in_err-l2_get_or_insert-in-Some-clause-met g c = λ p out sound.
+pub returns-in-None-clause-sound : goal.returns-in-None-clause-sound
+returns-in-None-clause-sound g c = λ p out sound.
+    let old = c.args.self.now in
     let view = g.S.Storage.view in
-    let h = c.args.self.now.file.header.fields in
-    let names : NamesL2Table view c.args.self.now c.args.offset (Some c.in-Some.table) =
-    subst (NamesL2Table view c.args.self.now c.args.offset) c.in-Some.is (c.in_ok-l2_cluster.ensures.names sound.l1_table) in
-    let e = c.in_err-l2_get_or_insert-in-Some.field-0.0 in
-    hands_met (IsMetLooking (IsCacheHeld c.args.self.now out)) c.from_residual-in_err-l2_get_or_insert-in-Some.result e c.from_residual-in_err-l2_get_or_insert-in-Some.ensures
-    (cache_looking view g.F.BackingDisk.backing out p c.args.self.now sound e
-    (c.in_err-l2_get_or_insert-in-Some.ensures.refusals h (named_place h (contents_in view c.args.self.now.file) (l1_index_of h c.args.offset) c.in-Some.table names.0) p sound.file.honest sound.file.caches sound.file.named_blocks))
+    record {
+      keeps = search rules;
+      known = search rules;
+      may_fail = search rules;
+      found = let h = old.file.header.fields in
+          let known = known_in view old.file in
+          let crash_invariant = sound.file.caches.kept.kept.crash_invariant in
+          let sizes = Sizes-from h known (IsTop-top h (contents_in view old.file) known crash_invariant.same_top crash_invariant.top).header_reads in
+          let names : NamesL2Table view old c.args.offset None = subst (NamesL2Table view old c.args.offset) c.in-None.is (c.in_ok-l2_cluster.ensures.names sound.l1_table) in
+          let none : table_at h known (l1_index_of h c.args.offset) ≡ 0 = ap host_offset (sym (crash_invariant.same_top.l1 (l1_index_of h c.args.offset))) ∙ names in
+          let limit : c.min-max.result ≡ min (min c.args.max (h.size - c.args.offset)) (rest_of_table h c.args.offset) =
+          let a = c.min-max.ensures in let b = c.min.ensures in let s = c.size-size.ensures in let r = c.rest_of_table.ensures.value in omega arith in
+          record {
+            past = λ le. absurd (let e = c.if-offset-size.false in let s = c.size-size.ensures in omega arith);
+            run = λ lt. record {
+              kind_is = c.uncovered.ensures.value ∙ ap (kind_at h (is_some old.backing) c.args.offset) (sym (cover_none h known (c.args.offset / cluster_size h) none));
+              longest = subst (λ m. IsLongestRun h known c.args.offset m c.min-max.result) limit (none_found h c.args.offset sizes known c.min-max.result (omega (arith, limit)) none);
+            };
+          };
+    }
 
-pub returns-in_ok-l2_get_or_insert-in-Some-clause-met : goal.returns-in_ok-l2_get_or_insert-in-Some-clause-met
-returns-in_ok-l2_get_or_insert-in-Some-clause-met g c = λ p out sound.
-    let view = g.S.Storage.view in
-    let below = g.F.BackingDisk.backing in
-    let h = c.args.self.now.file.header.fields in
-    let stay = c.l2_get_or_insert.ensures.sound.keeps h p sound.file.honest sound.file.caches in
-    let kept = caches_moved view below c.args.self.now out p sound c.l2_get_or_insert.new.storage c.l2_get_or_insert.new.self stay c.l2_get_or_insert.ensures.step.marks.pins.room c.l2_get_or_insert.ensures.step.marks.pins.pins in
-    let names : NamesL2Table view c.args.self.now c.args.offset (Some c.in-Some.table) =
-    subst (NamesL2Table view c.args.self.now c.args.offset) c.in-Some.is (c.in_ok-l2_cluster.ensures.names sound.l1_table) in
-    let entry = subst (λ b. IsEntryAt h b (l1_index_of h c.args.offset) c.in-Some.table (l2_index_of h c.args.offset)) (sym stay.known)
-    (named_entry view below out p c.args.self.now sound c.args.offset c.in-Some.table names) in
-    let limit : c.min-max.result ≤ rest_of_table h c.args.offset = let b = c.min-max.ensures in let r = c.rest_of_table.ensures.value in omega arith in
-    answers_met (IsMetLooking (IsCacheHeld c.args.self.now out)) c.run_in_table.result (c.run_in_table.ensures.reads p kept.sound.file entry limit)
+pub returns-in_err-l2_cluster-clause-sound : goal.returns-in_err-l2_cluster-clause-sound
+returns-in_err-l2_cluster-clause-sound g c = λ p out sound.
+    record {
+      keeps = search rules;
+      known = search rules;
+      may_fail = absurd (let no : false ≡ true = c.in_err-l2_cluster.ensures.reads p out sound in cc);
+      found = search rules;
+    }
 
 pub returns-in-None-clause-held : goal.returns-in-None-clause-held
 returns-in-None-clause-held g c = λ lt.
@@ -149,3 +139,6 @@ returns-in-None-clause-step g c = record { part = search rules; header = search 
 
 pub returns-in_err-l2_cluster-clause-step : goal.returns-in_err-l2_cluster-clause-step
 returns-in_err-l2_cluster-clause-step g c = record { part = search rules; header = search rules; list = search rules; quiet = reads_none g.S.Storage.view c.args.self.now }
+
+pub returns-then-offset-size-clause-sound : goal.returns-then-offset-size-clause-sound
+returns-then-offset-size-clause-sound g c = λ p out sound. record { keeps = search rules; known = refl; may_fail = tt; found = search rules }

@@ -21,4 +21,4 @@ returns-clause-same g c = same_done c.args.self.now c.mark_failure.new.self c.ar
 pub returns-clause-fault : goal.returns-clause-fault
 returns-clause-fault g c =
     noted_fails c.args.self.now c.mark_failure.new.self c.args.done c.mark_failure.ensures.marks
-    (subst (λ (f : ImageFile _). IsTrue (has_noted f)) (sym (ap (λ (i : Qcow2 _ _). i.file) c.mark_failure.ensures.rest)) c.requires.noted)
+    (subst (λ (f : ImageFile _). IsTrue (has_noted f)) (sym (ap (λ (i : Qcow2 _ _). i.file) c.mark_failure.ensures.rest)) c.requires.recorded)

@@ -1,19 +1,19 @@
 use Rattle.qcow2_image.proofs.image.Qcow2.name_l1_table.Goals as goal
-use Rattle.std.proofs.Common.{◌*◌, ◌^◌, ◌≤◌, ap, ◌∙◌, arith}
+use Rattle.std.proofs.Common.{◌*◌, ◌^◌, ◌≤◌, ap, ◌∙◌, arith, rules}
 use Rattle.qcow2_metadata.specs.EntryTable.{entry_count}
 use Rattle.qcow2_alloc.specs.ImageError.{of_storage}
 use Rattle.qcow2_alloc.specs.ImageStorage.{storage_of}
 use Rattle.qcow2_alloc.proofs.AllocationSteps.{handed_on}
 use Rattle.qcow2_image.specs.LongerTables.{NamesTable}
-use Rattle.qcow2_image.proofs.Grow.NamedL1.{named_interruption, named_so}
+use Rattle.qcow2_image.proofs.Grow.NamedL1Table.{named_interruption, named_so}
 use Rattle.qcow2_alloc.proofs.KeptMarks.{notes_none, notes_of_storage, told_kept}
 use Rattle.qcow2_image.proofs.Call.BehindHeader.{behind_bits, behind_l1, behind_pointer, behind_then}
 use Rattle.qcow2_metadata.specs.Header.{HeaderView}
-use Rattle.qcow2_image.proofs.Prepare.Lacked.{hands_fault}
+use Rattle.qcow2_image.proofs.Prepare.LimitCauses.{hands_fault}
 use Rattle.qcow2_image.proofs.Call.Unlimited.{storage_fault}
 
 pub returns-in_err-write_l1_table_pointer-clause-names : goal.returns-in_err-write_l1_table_pointer-clause-names
-returns-in_err-write_l1_table_pointer-clause-names g c = λ p out sound noted ready.
+returns-in_err-write_l1_table_pointer-clause-names g c = λ p out sound recorded ready.
     let view = g.S.Storage.view in
     let old = c.args.self.now in
     let t = c.args.table in
@@ -22,32 +22,14 @@ returns-in_err-write_l1_table_pointer-clause-names g c = λ p out sound noted re
     handed_on (NamesTable view g.F.BackingDisk.backing p old (record old { file = record old.file { storage = c.write_l1_table_pointer.new.self; header = c.set_l1_table.new.self } }) out t c.args.cluster)
     c.from_residual-in_err-write_l1_table_pointer.result (of_storage c.in_err-write_l1_table_pointer.field-0.0) c.from_residual-in_err-write_l1_table_pointer.ensures
     (named_interruption view g.F.BackingDisk.backing out p old t c.args.cluster sound ready c.requires few c.offset-offset.result c.len.result c.set_l1_table.new.self at c.len.ensures.value c.in_ok-set_l1_table.ensures.ok c.write_l1_table_pointer.result
-    c.write_l1_table_pointer.new.self (storage_of c.set_write_kind.new.self) c.set_write_kind.ensures.storage c.write_l1_table_pointer.ensures.written c.write_l1_table_pointer.ensures.calls c.in_err-write_l1_table_pointer.field-0.0 noted)
+    c.write_l1_table_pointer.new.self (storage_of c.set_write_kind.new.self) c.set_write_kind.ensures.storage c.write_l1_table_pointer.ensures.writes.written c.write_l1_table_pointer.ensures.writes.calls c.in_err-write_l1_table_pointer.field-0.0 recorded)
 
 pub returns-clause-names : goal.returns-clause-names
-returns-clause-names g c = λ p out sound noted ready.
+returns-clause-names g c = λ p out sound recorded ready.
     let few : entry_count c.args.table ≤ 4194304 = omega (arith, c.len.ensures.value, c.len.ensures.limit) in
     let at = c.offset-offset.ensures ∙ ap (λ n. c.args.cluster * 2 ^ n) c.cluster_bits.ensures.value in
     named_so g.S.Storage.view g.F.BackingDisk.backing out p c.args.self.now c.args.table c.args.cluster sound ready c.requires few c.offset-offset.result c.len.result c.set_l1_table.new.self at c.len.ensures.value c.in_ok-set_l1_table.ensures.ok c.write_l1_table_pointer.result
-    c.write_l1_table_pointer.new.self (storage_of c.set_write_kind.new.self) c.set_write_kind.ensures.storage c.write_l1_table_pointer.ensures.written c.write_l1_table_pointer.ensures.calls c.in_ok-write_l1_table_pointer.field-0 c.in_ok-write_l1_table_pointer.was
-
-pub returns-in_err-set_l1_table-clause-notes : goal.returns-in_err-set_l1_table-clause-notes
-returns-in_err-set_l1_table-clause-notes g c = notes_none
-
-pub returns-in_err-write_l1_table_pointer-clause-notes : goal.returns-in_err-write_l1_table_pointer-clause-notes
-returns-in_err-write_l1_table_pointer-clause-notes g c = notes_of_storage (told_kept c.args.self.now.file.storage c.set_write_kind.new.self c.write_l1_table_pointer.new.self c.write_l1_table_pointer.result c.set_write_kind.ensures.storage c.set_write_kind.ensures.changed _ c.write_l1_table_pointer.ensures.written c.write_l1_table_pointer.ensures.calls c.write_l1_table_pointer.ensures.noted)
-
-pub returns-clause-notes : goal.returns-clause-notes
-returns-clause-notes g c = notes_of_storage (told_kept c.args.self.now.file.storage c.set_write_kind.new.self c.write_l1_table_pointer.new.self c.write_l1_table_pointer.result c.set_write_kind.ensures.storage c.set_write_kind.ensures.changed _ c.write_l1_table_pointer.ensures.written c.write_l1_table_pointer.ensures.calls c.write_l1_table_pointer.ensures.noted)
-
-pub returns-in_err-set_l1_table-clause-header_cluster : goal.returns-in_err-set_l1_table-clause-header_cluster
-returns-in_err-set_l1_table-clause-header_cluster g c = λ keeps. behind_bits (ap (λ (v : HeaderView). v.fields.cluster_bits) c.in_err-set_l1_table.ensures.same)
-
-pub returns-in_err-write_l1_table_pointer-clause-header_cluster : goal.returns-in_err-write_l1_table_pointer-clause-header_cluster
-returns-in_err-write_l1_table_pointer-clause-header_cluster g c = λ keeps. behind_then (behind_pointer c.write_l1_table_pointer.result c.set_l1_table.new.self.fields (ap g.S.Storage.view c.set_write_kind.ensures.storage) c.write_l1_table_pointer.ensures.written c.write_l1_table_pointer.ensures.calls) (behind_bits (ap (λ (v : HeaderView). v.fields.cluster_bits) c.in_ok-set_l1_table.ensures.ok))
-
-pub returns-clause-header_cluster : goal.returns-clause-header_cluster
-returns-clause-header_cluster g c = λ keeps. behind_then (behind_then (behind_pointer c.write_l1_table_pointer.result c.set_l1_table.new.self.fields (ap g.S.Storage.view c.set_write_kind.ensures.storage) c.write_l1_table_pointer.ensures.written c.write_l1_table_pointer.ensures.calls) (behind_bits (ap (λ (v : HeaderView). v.fields.cluster_bits) c.in_ok-set_l1_table.ensures.ok))) (behind_l1 keeps)
+    c.write_l1_table_pointer.new.self (storage_of c.set_write_kind.new.self) c.set_write_kind.ensures.storage c.write_l1_table_pointer.ensures.writes.written c.write_l1_table_pointer.ensures.writes.calls c.in_ok-write_l1_table_pointer.field-0 c.in_ok-write_l1_table_pointer.was
 
 pub returns-in_err-set_l1_table-clause-fault : goal.returns-in_err-set_l1_table-clause-fault
 returns-in_err-set_l1_table-clause-fault g c = absurd (let past = c.in_err-set_l1_table.ensures.err.1 in omega (arith, past, c.len.ensures.limit))
@@ -55,3 +37,12 @@ returns-in_err-set_l1_table-clause-fault g c = absurd (let past = c.in_err-set_l
 pub returns-in_err-write_l1_table_pointer-clause-fault : goal.returns-in_err-write_l1_table_pointer-clause-fault
 returns-in_err-write_l1_table_pointer-clause-fault g c =
     hands_fault c.from_residual-in_err-write_l1_table_pointer.result (of_storage c.in_err-write_l1_table_pointer.field-0.0) c.from_residual-in_err-write_l1_table_pointer.ensures (storage_fault c.in_err-write_l1_table_pointer.field-0.0)
+
+pub returns-in_err-set_l1_table-clause-step : goal.returns-in_err-set_l1_table-clause-step
+returns-in_err-set_l1_table-clause-step g c = record { stays = search rules; notes = notes_none; header_cluster = λ keeps. behind_bits (ap (λ (v : HeaderView). v.fields.cluster_bits) c.in_err-set_l1_table.ensures.same) }
+
+pub returns-in_err-write_l1_table_pointer-clause-step : goal.returns-in_err-write_l1_table_pointer-clause-step
+returns-in_err-write_l1_table_pointer-clause-step g c = record { stays = search rules; notes = notes_of_storage (told_kept c.args.self.now.file.storage c.set_write_kind.new.self c.write_l1_table_pointer.new.self c.write_l1_table_pointer.result c.set_write_kind.ensures.storage c.set_write_kind.ensures.changed _ c.write_l1_table_pointer.ensures.writes.written c.write_l1_table_pointer.ensures.writes.calls c.write_l1_table_pointer.ensures.writes.recorded); header_cluster = λ keeps. behind_then (behind_pointer c.write_l1_table_pointer.result c.set_l1_table.new.self.fields (ap g.S.Storage.view c.set_write_kind.ensures.storage) c.write_l1_table_pointer.ensures.writes.written c.write_l1_table_pointer.ensures.writes.calls) (behind_bits (ap (λ (v : HeaderView). v.fields.cluster_bits) c.in_ok-set_l1_table.ensures.ok)) }
+
+pub returns-clause-step : goal.returns-clause-step
+returns-clause-step g c = record { stays = search rules; notes = notes_of_storage (told_kept c.args.self.now.file.storage c.set_write_kind.new.self c.write_l1_table_pointer.new.self c.write_l1_table_pointer.result c.set_write_kind.ensures.storage c.set_write_kind.ensures.changed _ c.write_l1_table_pointer.ensures.writes.written c.write_l1_table_pointer.ensures.writes.calls c.write_l1_table_pointer.ensures.writes.recorded); header_cluster = λ keeps. behind_then (behind_then (behind_pointer c.write_l1_table_pointer.result c.set_l1_table.new.self.fields (ap g.S.Storage.view c.set_write_kind.ensures.storage) c.write_l1_table_pointer.ensures.writes.written c.write_l1_table_pointer.ensures.writes.calls) (behind_bits (ap (λ (v : HeaderView). v.fields.cluster_bits) c.in_ok-set_l1_table.ensures.ok))) (behind_l1 keeps) }

@@ -1,4 +1,5 @@
-use Rattle.qcow2_image.proofs.Call.ImageSteps.{step_then}
+use Rattle.qcow2_alloc.proofs.AllocationSteps.{handed_on}
+use Rattle.qcow2_image.proofs.Call.WriteSteps.{taking_listed, taking_of_filling, taking_then}
 use Rattle.qcow2_image.proofs.image.Qcow2.new_cluster.Goals as goal
 use Rattle.std.proofs.Common.{◌≡◌, ◌/◌, ◌<◌, inl, sym, ap, ◌∙◌, subst, rules}
 use Rattle.qcow2_metadata.specs.Cover.{cover}
@@ -8,101 +9,90 @@ use Rattle.qcow2_laws.specs.Changes.{with_new_data}
 use Rattle.qcow2_laws.proofs.Formats.{cover_format, size_format}
 use Rattle.qcow2_alloc.specs.ImageFile.{known_in}
 use Rattle.qcow2_image.specs.declared.image.Qcow2.{Qcow2}
-use Rattle.qcow2_image.specs.InternalSteps.{InternalFillingStep, RefusedFillingStep, pending_with_listed}
+use Rattle.qcow2_image.specs.InternalSteps.{InternalFillingStep, RefusedFillingStep, pending_with_listed, Gains}
 use Rattle.qcow2_image.specs.ImageInvariant.{run_of, new_data_by, over_all}
-use Rattle.qcow2_image.proofs.Prepare.Gaining.{listed_after_on, image_step_left, taken_new_data, taken_unused, still_holds, filled_as}
-use Rattle.qcow2_image.proofs.Prepare.Filling.{image_step_then}
-use Rattle.qcow2_alloc.proofs.KeptMarks.{notes_then}
-use Rattle.qcow2_image.proofs.Call.Notes.{same_kept}
-use Rattle.qcow2_image.proofs.Call.BehindHeader.{behind_by, behind_none, behind_then}
-use Rattle.qcow2_image.proofs.Prepare.Lacked.{hands_limit, other_limit}
-use Rattle.qcow2_image.proofs.Prepare.Met.{filling_met, hands_met, new_behind}
-use Rattle.qcow2_image.specs.MetAlone.{IsCopiedCompressed, MayFailAlone}
+use Rattle.qcow2_image.proofs.Prepare.FirstCluster.{listed_after_on, image_step_left, taken_new_data, taken_unused, still_holds, filled_as}
+use Rattle.qcow2_image.proofs.Prepare.InternalWrites.{image_step_then}
+use Rattle.qcow2_image.proofs.Prepare.LimitCauses.{hands_limit, other_limit}
+use Rattle.qcow2_image.proofs.Prepare.FailingCopies.{filling_met, hands_met, new_behind}
+use Rattle.qcow2_image.specs.MayFail.{IsCopiedCompressed, MayFailAlone}
 use Rattle.qcow2_image.proofs.Prepare.Unannounced.{copied_as}
 
-pub returns-in-Ok-clause-gains : goal.returns-in-Ok-clause-gains
-returns-in-Ok-clause-gains g c = λ p out sound holds.
-    let view = g.S.Storage.view in
-    let below = g.F.BackingDisk.backing in
+pub returns-in-Ok-clause-sound : goal.returns-in-Ok-clause-sound
+returns-in-Ok-clause-sound g c = λ p out sound holds.
     let old = c.args.self.now in
-    let mid = c.allocate_data_cluster.new.self in
-    let new = c.fill_cluster.new.self in
-    let n = c.in_ok-pending.pending in
-    let took = c.in_ok-pending.ensures.takes p out sound holds in
-    let unused = taken_unused view below out old mid p n took.0 holds took.2 in
-    let new_data = with_new_data (pending_with_listed p old mid) (run_of n) in
-    let some : 0 < new_data.new_data c.cluster.result = subst (λ k. 0 < new_data.new_data k) (sym c.cluster.ensures) (taken_new_data view below out old mid p n took.0 holds took.2) in
-    let free : over_all new_data_by out c.cluster.result ≡ 0 = ap (over_all new_data_by out) c.cluster.ensures ∙ unused in
+    let below = g.F.BackingDisk.backing in
     record {
-      one = took.0;
-      kind = took.1;
-      unused = unused;
-      image_step = subst (λ q. InternalFillingStep view below p (with_new_data q (run_of n)) old new out) (listed_after_on view below out p old mid new c.fill_cluster.ensures.list)
-          (image_step_then view below out old mid new p new_data new_data took.2 (c.fill_cluster.ensures.image_step new_data out took.2.sound (still_holds view below out old mid p n took.0 holds took.2) some free));
-      filled = λ covered.
-          let h = old.file.header.fields in
-          let hm = mid.file.header.fields in
-          let still : cover hm (known_in view mid.file) (c.args.offset / cluster_size hm) ≡ c.args.old.now =
-          ap (λ size. cover hm (known_in view mid.file) (c.args.offset / size)) (size_format h hm took.2.header) ∙ cover_format h hm took.2.header (known_in view mid.file) (c.args.offset / cluster_size h) ∙ sym (took.2.covers (c.args.offset / cluster_size h)) ∙ covered in
-          filled_as view below mid old new c.cluster.result n.first_cluster c.args.offset c.args.length c.args.overwrite took.2.header (ap (λ (x : Guest). x.disk) took.2.seen) c.cluster.ensures
-          (c.in-Ok.ensures.fills new_data out took.2.sound (still_holds view below out old mid p n took.0 holds took.2) some free still);
+      does = let view = g.S.Storage.view in
+          let mid = c.allocate_data_cluster.new.self in
+          let new = c.fill_cluster.new.self in
+          let n = c.in_ok-pending.pending in
+          let took = (c.in_ok-pending.ensures.sound p out sound holds).takes in
+          let unused = taken_unused view below out old mid p n took.0 holds took.2 in
+          let new_data = with_new_data (pending_with_listed p old mid) (run_of n) in
+          let some : 0 < new_data.new_data c.cluster.result = subst (λ k. 0 < new_data.new_data k) (sym c.cluster.ensures) (taken_new_data view below out old mid p n took.0 holds took.2) in
+          let free : over_all new_data_by out c.cluster.result ≡ 0 = ap (over_all new_data_by out) c.cluster.ensures ∙ unused in
+          record {
+            one = took.0;
+            kind = took.1;
+            unused = unused;
+            image_step = subst (λ q. InternalFillingStep view below p (with_new_data q (run_of n)) old new out) (listed_after_on view below out p old mid new c.fill_cluster.ensures.step.list)
+                (image_step_then view below out old mid new p new_data new_data took.2 ((c.fill_cluster.ensures.sound new_data out took.2.sound (still_holds view below out old mid p n took.0 holds took.2) some free).image_step));
+            filled = λ covered.
+                let h = old.file.header.fields in
+                let hm = mid.file.header.fields in
+                let still : cover hm (known_in view mid.file) (c.args.offset / cluster_size hm) ≡ c.args.old.now =
+                ap (λ size. cover hm (known_in view mid.file) (c.args.offset / size)) (size_format h hm took.2.header) ∙ cover_format h hm took.2.header (known_in view mid.file) (c.args.offset / cluster_size h) ∙ sym (took.2.covers (c.args.offset / cluster_size h)) ∙ covered in
+                filled_as view below mid old new c.cluster.result n.first_cluster c.args.offset c.args.length c.args.overwrite took.2.header (ap (λ (x : Guest). x.disk) took.2.seen) c.cluster.ensures
+                ((c.in-Ok.ensures.sound new_data out took.2.sound (still_holds view below out old mid p n took.0 holds took.2) some free).fills still);
+          };
+      may_fail = search rules;
+      limit = search rules;
     }
 
-pub returns-in-Err-clause-gains : goal.returns-in-Err-clause-gains
-returns-in-Err-clause-gains g c = λ p out sound holds.
-    let view = g.S.Storage.view in
-    let below = g.F.BackingDisk.backing in
+pub returns-in-Err-clause-sound : goal.returns-in-Err-clause-sound
+returns-in-Err-clause-sound g c = λ p out sound holds.
     let old = c.args.self.now in
-    let mid = c.allocate_data_cluster.new.self in
-    let new = c.fill_cluster.new.self in
-    let n = c.in_ok-pending.pending in
-    let took = c.in_ok-pending.ensures.takes p out sound holds in
-    let new_data = with_new_data (pending_with_listed p old mid) (run_of n) in
-    let some : 0 < new_data.new_data c.cluster.result = subst (λ k. 0 < new_data.new_data k) (sym c.cluster.ensures) (taken_new_data view below out old mid p n took.0 holds took.2) in
-    let free : over_all new_data_by out c.cluster.result ≡ 0 = ap (over_all new_data_by out) c.cluster.ensures ∙ taken_unused view below out old mid p n took.0 holds took.2 in
-    let filled = image_step_then view below out old mid new p new_data new_data took.2 (c.fill_cluster.ensures.image_step new_data out took.2.sound (still_holds view below out old mid p n took.0 holds took.2) some free) in
-    let gone = subst (λ q. InternalFillingStep view below p (with_new_data q (run_of n)) old new out) (listed_after_on view below out p old mid new c.fill_cluster.ensures.list) filled in
-    subst (λ (image : Qcow2 _ _). RefusedFillingStep view below p old image out c.in-Err.refusal) (sym c.hand_back.ensures)
-    (inl (image_step_left view below out old new p n took.0 took.1 gone))
-
-pub returns-in_err-pending-clause-limit : goal.returns-in_err-pending-clause-limit
-returns-in_err-pending-clause-limit g c = λ p out sound holds.
-    hands_limit c.from_residual.result c.in_err-pending.field-0.0 c.from_residual.ensures (c.in_err-pending.ensures.limit p out sound holds)
-
-pub returns-in-Err-clause-limit : goal.returns-in-Err-clause-limit
-returns-in-Err-clause-limit g c = λ p out sound holds. other_limit _ c.in-Err.refusal c.in-Err.ensures.fails.limited
-
-pub returns-in_err-pending-clause-met : goal.returns-in_err-pending-clause-met
-returns-in_err-pending-clause-met g c = λ p out sound holds.
-    hands_met (MayFailAlone (IsCopiedCompressed c.args.self.now.file.header.fields c.args.old.now c.args.offset c.args.length c.args.overwrite) ⊥) c.from_residual.result c.in_err-pending.field-0.0 c.from_residual.ensures (inl (c.in_err-pending.ensures.fault p out sound))
-
-pub returns-in-Err-clause-met : goal.returns-in-Err-clause-met
-returns-in-Err-clause-met g c = λ p out sound holds.
-    let view = g.S.Storage.view in
     let below = g.F.BackingDisk.backing in
-    let old = c.args.self.now in
+    let view = g.S.Storage.view in
     let mid = c.allocate_data_cluster.new.self in
-    let n = c.in_ok-pending.pending in
-    let took = c.in_ok-pending.ensures.takes p out sound holds in
-    let new_data = with_new_data (pending_with_listed p old mid) (run_of n) in
-    let some : 0 < new_data.new_data c.cluster.result = subst (λ k. 0 < new_data.new_data k) (sym c.cluster.ensures) (taken_new_data view below out old mid p n took.0 holds took.2) in
-    let h = old.file.header.fields in
-    let hm = mid.file.header.fields in
-    let offset = c.args.offset in
-    let n = c.args.length in
-    let overwrite = c.args.overwrite in
-    filling_met (IsCopiedCompressed hm c.args.old.now offset n overwrite) (IsCopiedCompressed h c.args.old.now offset n overwrite) ⊥ c.in-Err.refusal (copied_as h hm c.args.old.now offset n overwrite (size_format h hm took.2.header))
-    (c.in-Err.ensures.met (new_behind view below out new_data mid took.2.sound c.cluster.result some))
+    let took = (c.in_ok-pending.ensures.sound p out sound holds).takes in
+    record {
+      does = let new = c.fill_cluster.new.self in
+          let n = c.in_ok-pending.pending in
+          let new_data = with_new_data (pending_with_listed p old mid) (run_of n) in
+          let some : 0 < new_data.new_data c.cluster.result = subst (λ k. 0 < new_data.new_data k) (sym c.cluster.ensures) (taken_new_data view below out old mid p n took.0 holds took.2) in
+          let free : over_all new_data_by out c.cluster.result ≡ 0 = ap (over_all new_data_by out) c.cluster.ensures ∙ taken_unused view below out old mid p n took.0 holds took.2 in
+          let filled = image_step_then view below out old mid new p new_data new_data took.2 ((c.fill_cluster.ensures.sound new_data out took.2.sound (still_holds view below out old mid p n took.0 holds took.2) some free).image_step) in
+          let gone = subst (λ q. InternalFillingStep view below p (with_new_data q (run_of n)) old new out) (listed_after_on view below out p old mid new c.fill_cluster.ensures.step.list) filled in
+          subst (λ (image : Qcow2 _ _). RefusedFillingStep view below p old image out c.in-Err.refusal) (sym c.hand_back.ensures)
+          (inl (image_step_left view below out old new p n took.0 took.1 gone));
+      may_fail = let n = c.in_ok-pending.pending in
+          let new_data = with_new_data (pending_with_listed p old mid) (run_of n) in
+          let some : 0 < new_data.new_data c.cluster.result = subst (λ k. 0 < new_data.new_data k) (sym c.cluster.ensures) (taken_new_data view below out old mid p n took.0 holds took.2) in
+          let h = old.file.header.fields in
+          let hm = mid.file.header.fields in
+          let offset = c.args.offset in
+          let n = c.args.length in
+          let overwrite = c.args.overwrite in
+          filling_met (IsCopiedCompressed hm c.args.old.now offset n overwrite) (IsCopiedCompressed h c.args.old.now offset n overwrite) ⊥ c.in-Err.refusal (copied_as h hm c.args.old.now offset n overwrite (size_format h hm took.2.header))
+          (c.in-Err.ensures.may_fail (new_behind view below out new_data mid took.2.sound c.cluster.result some));
+      limit = other_limit _ c.in-Err.refusal c.in-Err.ensures.fails.limited;
+    }
+
+pub returns-in_err-pending-clause-sound : goal.returns-in_err-pending-clause-sound
+returns-in_err-pending-clause-sound g c = λ p out sound holds.
+    record {
+      does = handed_on (Gains g.S.Storage.view g.F.BackingDisk.backing p c.args.self.now c.allocate_data_cluster.new.self out c.args.offset c.args.length c.args.overwrite c.args.old.now) c.from_residual.result c.in_err-pending.field-0.0 c.from_residual.ensures ((c.in_err-pending.ensures.sound p out sound holds).takes);
+      may_fail = hands_met (MayFailAlone (IsCopiedCompressed c.args.self.now.file.header.fields c.args.old.now c.args.offset c.args.length c.args.overwrite) ⊥) c.from_residual.result c.in_err-pending.field-0.0 c.from_residual.ensures (inl ((c.in_err-pending.ensures.sound p out sound holds).fault));
+      limit = hands_limit c.from_residual.result c.in_err-pending.field-0.0 c.from_residual.ensures ((c.in_err-pending.ensures.sound p out sound holds).limit);
+    }
 
 pub returns-in_err-pending-clause-step : goal.returns-in_err-pending-clause-step
 returns-in_err-pending-clause-step g c = c.allocate_data_cluster.ensures.step
 
 pub returns-in-Ok-clause-step : goal.returns-in-Ok-clause-step
-returns-in-Ok-clause-step g c = step_then c.allocate_data_cluster.ensures.step c.fill_cluster.ensures.step
+returns-in-Ok-clause-step g c = taking_then c.allocate_data_cluster.ensures.step (taking_of_filling c.fill_cluster.ensures.step)
 
 pub returns-in-Err-clause-step : goal.returns-in-Err-clause-step
-returns-in-Err-clause-step g c = record {
-  stays = search rules;
-  notes = notes_then (notes_then c.allocate_data_cluster.ensures.step.notes c.fill_cluster.ensures.step.notes) (same_kept c.fill_cluster.new.self c.hand_back.new.self (ap (λ (i : Qcow2 _ _). i.file.storage) c.hand_back.ensures) (ap (λ (i : Qcow2 _ _). i.file.caches) c.hand_back.ensures));
-  header_cluster = behind_then (behind_then c.allocate_data_cluster.ensures.step.header_cluster c.fill_cluster.ensures.step.header_cluster) (behind_by g.S.Storage.view c.hand_back.ensures behind_none);
-}
+returns-in-Err-clause-step g c = taking_then (taking_then c.allocate_data_cluster.ensures.step (taking_of_filling c.fill_cluster.ensures.step)) (taking_listed _ c.hand_back.ensures)

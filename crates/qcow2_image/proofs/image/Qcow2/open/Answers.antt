@@ -14,8 +14,8 @@ use Rattle.qcow2_alloc.specs.declared.error.ImageError.{ImageError}
 use Rattle.qcow2_alloc.specs.declared.error.ImageError.TheVariants.{Dependency, UnalignedTable}
 use Rattle.qcow2_alloc.specs.declared.error.ImageError.TheVariants as I
 use Rattle.qcow2_alloc.specs.ImageError.{of_metadata, IsFault}
-use Rattle.qcow2_image.proofs.Call.MetErrors.{metadata_met}
-use Rattle.qcow2_image.specs.Readable.{IsRefusedRightly}
+use Rattle.qcow2_image.proofs.Call.FailingErrors.{metadata_met}
+use Rattle.qcow2_image.specs.Readable.{IsJustifiedRefusal}
 use Rattle.qcow2_image.proofs.Open.Reading.{header_refused, needs_so, opened_rightly, refused_rightly}
 use Rattle.qcow2_image.proofs.Open.SameHeaders.{not_missing, not_needed, refused_before, some_missing, stays_so}
 use Rattle.qcow2_alloc.specs.MetadataCaches.{AreAllWritten}
@@ -43,7 +43,7 @@ returns-in-Err-clause-step g c = record {
     λ honest.
         let view = g.S.Storage.view in
         let why = c.in-Err.ensures.refused honest in
-        subst (IsRefusedRightly (view c.args.storage.storage).contents c.args.writable c.args.missing) (sym c.from.ensures) (header_refused (view c.args.storage.storage).contents c.args.writable c.args.missing c.in-Err.e why),
+        subst (IsJustifiedRefusal (view c.args.storage.storage).contents c.args.writable c.args.missing) (sym c.from.ensures) (header_refused (view c.args.storage.storage).contents c.args.writable c.args.missing c.in-Err.e why),
   );
 }
 
@@ -80,7 +80,7 @@ returns-in-Err-new-clause-step g c = record {
       absurd (not_needed c.args.missing c.in-Ok.header (g.S.Storage.view c.args.storage.storage).contents (c.in-Ok.ensures.ok honest) (sym c.lacks_another.ensures ∙ c.if-lacks_another.false) needs);
   cause = (
     λ is. absurd (let bad : I.Memory ≡ Dependency = sym c.from-in-Err-new.ensures ∙ is in cc),
-    λ honest. subst (IsRefusedRightly (g.S.Storage.view c.args.storage.storage).contents c.args.writable c.args.missing) (sym c.from-in-Err-new.ensures) tt,
+    λ honest. subst (IsJustifiedRefusal (g.S.Storage.view c.args.storage.storage).contents c.args.writable c.args.missing) (sym c.from-in-Err-new.ensures) tt,
   );
 }
 
@@ -90,7 +90,7 @@ returns-in-Err-load_tables-clause-step g c = record {
   storage =
       let file : ImageFile _ = record { alloc = c.args.alloc; storage = c.load.new.storage; header = c.in-Ok.header; caches = c.in-Ok-new.caches; free_list = c.new-2.result } in
       left_refused g.S.Storage.view c.args.writable c.args.storage.storage c.args.storage.storage file refl c.load.result c.load.ensures.reads c.in-Ok.ensures.ok c.load_tables.new.file c.in-Err-load_tables.e c.into_storage.result
-      c.into_storage.ensures c.in-Err-load_tables.ensures.storage;
+      c.into_storage.ensures c.in-Err-load_tables.ensures.step.storage;
   since =
       let view = g.S.Storage.view in
       let below = g.F.BackingDisk.backing in
@@ -99,8 +99,7 @@ returns-in-Err-load_tables-clause-step g c = record {
       let new = c.in-Ok-new.ensures in
       let file : ImageFile _ = record { alloc = c.args.alloc; storage = c.load.new.storage; header = c.in-Ok.header; caches = c.in-Ok-new.caches; free_list = c.new-2.result } in
       kept_opened view below c.load.result c.args.storage.storage c.args.storage.storage c.into_storage.result file c.load_tables.new.file refl c.into_storage.ensures read
-      (λ honest consistent. c.load_tables.ensures.since (nothing_pending (surplus_of c.in-Ok.header.fields (byte_at contents)))
-      (new_tables_new view below contents file consistent (read.honest honest) (read.same honest) (c.in-Ok.ensures.ok honest) new.sound new.known new.named_blocks (new.room (omega arith) (omega arith)) new.pins c.new-2.ensures));
+      (λ honest consistent. (c.load_tables.ensures.sound (nothing_pending (surplus_of c.in-Ok.header.fields (byte_at contents))) (new_tables_new view below contents file consistent (read.honest honest) (read.same honest) (c.in-Ok.ensures.ok honest) new.sound new.known new.named_blocks (new.room (omega arith) (omega arith)) new.pins c.new-2.ensures)).0);
   another =
       λ honest needs.
       absurd (not_needed c.args.missing c.in-Ok.header (g.S.Storage.view c.args.storage.storage).contents (c.in-Ok.ensures.ok honest) (sym c.lacks_another.ensures ∙ c.if-lacks_another.false) needs);
@@ -118,7 +117,7 @@ returns-in-Ok-load_tables-clause-step g c = record {
       let file : ImageFile _ = record { alloc = c.args.alloc; storage = c.load.new.storage; header = c.in-Ok.header; caches = c.in-Ok-new.caches; free_list = c.new-2.result } in
       let tables = c.in-Ok-load_tables.field-0 in
       let image : Qcow2 _ _ = record { number = c.args.number; is_failed = false; file = c.load_tables.new.file; l1_table = tables.l1_table; allocator = tables.allocator; backing = None } in
-      left_opened g.S.Storage.view c.args.writable c.args.storage.storage c.args.storage.storage file refl c.load.result c.load.ensures.reads c.in-Ok.ensures.ok tables image c.in-Ok-load_tables.ensures.storage;
+      left_opened g.S.Storage.view c.args.writable c.args.storage.storage c.args.storage.storage file refl c.load.result c.load.ensures.reads c.in-Ok.ensures.ok tables image c.in-Ok-load_tables.ensures.step.storage;
   since =
       let view = g.S.Storage.view in
       let below = g.F.BackingDisk.backing in
@@ -127,8 +126,7 @@ returns-in-Ok-load_tables-clause-step g c = record {
       let new = c.in-Ok-new.ensures in
       let file : ImageFile _ = record { alloc = c.args.alloc; storage = c.load.new.storage; header = c.in-Ok.header; caches = c.in-Ok-new.caches; free_list = c.new-2.result } in
       kept_opened view below c.load.result c.args.storage.storage c.args.storage.storage c.load_tables.new.file.storage.storage file c.load_tables.new.file refl refl read
-      (λ honest consistent. c.load_tables.ensures.since (nothing_pending (surplus_of c.in-Ok.header.fields (byte_at contents)))
-      (new_tables_new view below contents file consistent (read.honest honest) (read.same honest) (c.in-Ok.ensures.ok honest) new.sound new.known new.named_blocks (new.room (omega arith) (omega arith)) new.pins c.new-2.ensures));
+      (λ honest consistent. (c.load_tables.ensures.sound (nothing_pending (surplus_of c.in-Ok.header.fields (byte_at contents))) (new_tables_new view below contents file consistent (read.honest honest) (read.same honest) (c.in-Ok.ensures.ok honest) new.sound new.known new.named_blocks (new.room (omega arith) (omega arith)) new.pins c.new-2.ensures)).0);
   another =
       λ honest needs.
       absurd (not_needed c.args.missing c.in-Ok.header (g.S.Storage.view c.args.storage.storage).contents (c.in-Ok.ensures.ok honest) (sym c.lacks_another.ensures ∙ c.if-lacks_another.false) needs);
@@ -145,11 +143,11 @@ returns-in-Ok-load_tables-clause-image g c = record {
   unpinned =
       λ has.
       let none : l2_pins c.in-Ok-new.caches has.cluster ≡ 0 = c.in-Ok-new.ensures.pins has.cluster in
-      let same : l2_pins c.load_tables.new.file.caches has.cluster ≡ l2_pins c.in-Ok-new.caches has.cluster = ap (λ caches. l2_pins caches has.cluster) c.load_tables.ensures.caches in
+      let same : l2_pins c.load_tables.new.file.caches has.cluster ≡ l2_pins c.in-Ok-new.caches has.cluster = ap (λ caches. l2_pins caches has.cluster) c.load_tables.ensures.step.caches in
       let some = has.pins in
       omega (arith, none, same, some);
   unmodified =
-      subst AreAllWritten (sym c.load_tables.ensures.caches) c.in-Ok-new.ensures.all_written;
+      subst AreAllWritten (sym c.load_tables.ensures.step.caches) c.in-Ok-new.ensures.all_written;
   header_cluster =
       c.in-Ok-load_tables.ensures.header_cluster c.in-Ok-new.ensures.header_cluster;
   format = λ honest. subst (λ (h : HeaderFields). SameFormat h c.load_tables.new.file.header.fields) (c.in-Ok.ensures.ok honest).fields c.in-Ok-load_tables.ensures.format;
@@ -169,9 +167,8 @@ returns-in-Ok-load_tables-clause-opens g c =
     let surplus = surplus_of c.in-Ok.header.fields (byte_at contents) in
     λ honest consistent.
     let there = c.in-Ok.ensures.ok honest in
-    let is = opened view below image surplus refl tt (c.in-Ok-load_tables.ensures.loaded (nothing_pending surplus)
-    (new_tables_new view below contents (record { alloc = c.args.alloc; storage = c.load.new.storage; header = c.in-Ok.header; caches = c.in-Ok-new.caches; free_list = c.new-2.result }) consistent
-    (read.honest honest) (read.same honest) there new.sound new.known new.named_blocks (new.room (omega arith) (omega arith)) new.pins c.new-2.ensures)) in
+    let is = opened view below image surplus refl tt ((c.in-Ok-load_tables.ensures.sound (nothing_pending surplus) (new_tables_new view below contents (record { alloc = c.args.alloc; storage = c.load.new.storage; header = c.in-Ok.header; caches = c.in-Ok-new.caches; free_list = c.new-2.result }) consistent
+    (read.honest honest) (read.same honest) there new.sound new.known new.named_blocks (new.room (omega arith) (omega arith)) new.pins c.new-2.ensures)).1) in
     record { opened = is.0; surplus = is.1 ∙ ap (λ h. surplus_of h (byte_at contents)) there.fields; leaks = c.in-Ok-load_tables.ensures.leaks }
 
 pub returns-in-Ok-load_tables-clause-list : goal.returns-in-Ok-load_tables-clause-list
@@ -181,6 +178,5 @@ returns-in-Ok-load_tables-clause-list g c =
     let read = c.load.ensures.reads in
     let new = c.in-Ok-new.ensures in
     λ honest consistent.
-    (c.in-Ok-load_tables.ensures.loaded (nothing_pending (surplus_of c.in-Ok.header.fields (byte_at contents)))
-    (new_tables_new view g.F.BackingDisk.backing contents (record { alloc = c.args.alloc; storage = c.load.new.storage; header = c.in-Ok.header; caches = c.in-Ok-new.caches; free_list = c.new-2.result }) consistent
-    (read.honest honest) (read.same honest) (c.in-Ok.ensures.ok honest) new.sound new.known new.named_blocks (new.room (omega arith) (omega arith)) new.pins c.new-2.ensures)).new_tables.list
+    ((c.in-Ok-load_tables.ensures.sound (nothing_pending (surplus_of c.in-Ok.header.fields (byte_at contents))) (new_tables_new view g.F.BackingDisk.backing contents (record { alloc = c.args.alloc; storage = c.load.new.storage; header = c.in-Ok.header; caches = c.in-Ok-new.caches; free_list = c.new-2.result }) consistent
+    (read.honest honest) (read.same honest) (c.in-Ok.ensures.ok honest) new.sound new.known new.named_blocks (new.room (omega arith) (omega arith)) new.pins c.new-2.ensures)).1).new_tables.list

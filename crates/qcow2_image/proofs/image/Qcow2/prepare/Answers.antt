@@ -5,25 +5,25 @@ use Rattle.std.specs.Prelude.{IsTrue}
 use Rattle.qcow2_alloc.specs.ImageError.{IsFault}
 use Rattle.qcow2_image.proofs.Call.Refused.{back_then_freed}
 use Rattle.qcow2_image.proofs.Call.FaultCounts.{counted_as, counted_of, untouched}
-use Rattle.qcow2_image.proofs.Prepare.Lacked.{limited_frees}
+use Rattle.qcow2_image.proofs.Prepare.LimitCauses.{limited_frees}
 use Rattle.qcow2_alloc.specs.ImageFile.{known_in}
 use Rattle.qcow2_image.specs.L1Entries.{NeedsOverflowingL1Entry}
-use Rattle.qcow2_image.specs.MetAlone.{CopiesCompressed, MayFailAllocating}
-use Rattle.qcow2_image.proofs.Prepare.MetTables.{met_freed}
+use Rattle.qcow2_image.specs.MayFail.{CopiesCompressed, MayFailAllocating}
+use Rattle.qcow2_image.proofs.Prepare.FailingTables.{met_freed}
 use Rattle.qcow2_image.specs.Backings.{HasPinnedMapping}
 use Rattle.qcow2_image.specs.Preparing.{IsTaken}
 
 pub returns-in-Err-clause-freed : goal.returns-in-Err-clause-freed
 returns-in-Err-clause-freed g c = λ some out sound. ⊎_elim
     (λ unseen. c.process_free_list_after.ensures.emptied (subst IsTrue (sym c.prepare_range.ensures.step.stays.image.writable) c.requires.writable) out unseen.sound)
-    (λ interruption. inl (subst IsFault (sym (c.process_free_list_after.ensures.fault interruption.fault).0) interruption.fault))
+    (λ interruption. inl (subst IsFault (sym (c.process_free_list_after.ensures.refused.fault interruption.fault).0) interruption.fault))
     ((c.in-Err.ensures.sound some out sound).readies)
 
 pub returns-in-Ok-clause-pinned : goal.returns-in-Ok-clause-pinned
 returns-in-Ok-clause-pinned g c = c.in-Ok.ensures.pinned
 
 pub returns-in-Err-clause-pinned : goal.returns-in-Err-clause-pinned
-returns-in-Err-clause-pinned g c = λ own is. c.in-Err.ensures.pinned own (c.process_free_list_after.ensures.taken c.in-Err.ensures.fails.cause is)
+returns-in-Err-clause-pinned g c = λ own is. c.in-Err.ensures.pinned own (c.process_free_list_after.ensures.refused.taken c.in-Err.ensures.fails.cause is)
 
 pub returns-in-Ok-clause-l1_place : goal.returns-in-Ok-clause-l1_place
 returns-in-Ok-clause-l1_place g c = c.in-Ok.ensures.l1_place
@@ -47,7 +47,7 @@ returns-in-Ok-clause-step g c = c.prepare_range.ensures.step
 pub returns-in-Ok-clause-sound : goal.returns-in-Ok-clause-sound
 returns-in-Ok-clause-sound g c = λ some out sound.
     record {
-      met = tt;
+      may_fail = tt;
       taken = tt;
       limit = tt;
       readies = (c.in-Ok.ensures.sound some out sound).readies;
@@ -66,10 +66,10 @@ returns-in-Err-clause-sound g c = λ some out sound.
     record {
       answers = tt;
       freeing = tt;
-      readies = back_then_freed g.S.Storage.view g.F.BackingDisk.backing out c.args.self.now c.prepare_range.new.self c.process_free_list_after.new.self c.in-Err.refusal c.process_free_list_after.result ((c.in-Err.ensures.sound some out sound).readies) c.process_free_list_after.ensures.fault (c.process_free_list_after.ensures.frees out);
-      met = met_freed g.S.Storage.view g.F.BackingDisk.backing out (MayFailAllocating (HasPinnedMapping out) (IsTaken h known c.args.offset c.args.length out) (CopiesCompressed c.args.offset c.args.length c.args.overwrite h known) (NeedsOverflowingL1Entry old c.args.offset)) (λ e fault. inl (inl (inl fault))) old c.prepare_range.new.self c.process_free_list_after.new.self c.in-Err.refusal c.process_free_list_after.result
-          ((c.in-Err.ensures.sound some out sound).readies) c.process_free_list_after.ensures.fault (c.process_free_list_after.ensures.told.1 out) ((c.in-Err.ensures.sound some out sound).met);
-      taken = λ is. (c.in-Err.ensures.sound some out sound).taken (c.process_free_list_after.ensures.taken c.in-Err.ensures.fails.cause is);
+      readies = back_then_freed g.S.Storage.view g.F.BackingDisk.backing out c.args.self.now c.prepare_range.new.self c.process_free_list_after.new.self c.in-Err.refusal c.process_free_list_after.result ((c.in-Err.ensures.sound some out sound).readies) c.process_free_list_after.ensures.refused.fault (c.process_free_list_after.ensures.frees out);
+      may_fail = met_freed g.S.Storage.view g.F.BackingDisk.backing out (MayFailAllocating (HasPinnedMapping out) (IsTaken h known c.args.offset c.args.length out) (CopiesCompressed c.args.offset c.args.length c.args.overwrite h known) (NeedsOverflowingL1Entry old c.args.offset)) (λ e fault. inl (inl (inl fault))) old c.prepare_range.new.self c.process_free_list_after.new.self c.in-Err.refusal c.process_free_list_after.result
+          ((c.in-Err.ensures.sound some out sound).readies) c.process_free_list_after.ensures.refused.fault (c.process_free_list_after.ensures.told.1 out) ((c.in-Err.ensures.sound some out sound).may_fail);
+      taken = λ is. (c.in-Err.ensures.sound some out sound).taken (c.process_free_list_after.ensures.refused.taken c.in-Err.ensures.fails.cause is);
       limit = λ is. (c.in-Err.ensures.sound some out sound).limit
-          (limited_frees view g.F.BackingDisk.backing out old mid new c.in-Err.refusal c.process_free_list_after.result ((c.in-Err.ensures.sound some out sound).readies) c.process_free_list_after.ensures.fault (c.process_free_list_after.ensures.told.1 out) is);
+          (limited_frees view g.F.BackingDisk.backing out old mid new c.in-Err.refusal c.process_free_list_after.result ((c.in-Err.ensures.sound some out sound).readies) c.process_free_list_after.ensures.refused.fault (c.process_free_list_after.ensures.told.1 out) is);
     }

@@ -1,4 +1,5 @@
-use Rattle.qcow2_image.proofs.Prepare.Lacked.{goes_begun, limited_since, limits_as}
+use Rattle.qcow2_image.proofs.Call.MarkedCalls.{call_marked}
+use Rattle.qcow2_image.proofs.Prepare.LimitCauses.{goes_begun, limited_since, limits_as}
 use Rattle.qcow2_image.specs.Limits.{IfLimit, IsLimited}
 use Rattle.qcow2_image.proofs.image.Qcow2.prepare_data_mapping.Goals as goal
 use Rattle.std.proofs.Common.{◌≡◌, ◌⊎◌, ◌<◌, [], sym, ◌∙◌, subst, arith, ap, refl, ⊎_elim, inl, inr, ◌≤◌, rules, ◌+◌}
@@ -7,8 +8,8 @@ use Rattle.qcow2_alloc.specs.declared.error.ImageError.TheVariants.{TablePrepare
 use Rattle.qcow2_alloc.specs.ImageFile.{known_in}
 use Rattle.qcow2_image.specs.Preparing.{IsAnswered, IsTaken}
 use Rattle.qcow2_image.proofs.Map.Loading.{if_ok}
-use Rattle.qcow2_image.proofs.Prepare.PreparedAs.{answered_before, taken_before}
-use Rattle.qcow2_image.proofs.Prepare.Taken.{if_err}
+use Rattle.qcow2_image.proofs.Prepare.PreparedAnswers.{answered_before, taken_before}
+use Rattle.qcow2_image.proofs.Prepare.RefusedAsPrepared.{if_err}
 use Rattle.qcow2_image.specs.declared.image.Qcow2.{Qcow2}
 use Rattle.qcow2_image.specs.Calls.{Prepares}
 use Rattle.qcow2_image.specs.Image.{is_failed}
@@ -21,21 +22,93 @@ use Rattle.qcow2_image.proofs.Clear.ClearCalls.{refused_for}
 use Rattle.qcow2_image.proofs.Call.Answers.{prepare_usable}
 use Rattle.qcow2_image.proofs.Prepare.PrepareCalls.{prepares_nothing, prepares_with_outcome}
 use Rattle.qcow2_image.proofs.Call.Refused.{prepares_after, stays_kept}
-use Rattle.qcow2_image.proofs.Call.FaultCounts.{counted_marked}
 use Rattle.qcow2_image.proofs.Call.Marked.{marks_memory, may_mark}
-use Rattle.qcow2_image.proofs.Call.OnceWritten.{fails_none, fails_once}
-use Rattle.qcow2_image.proofs.Call.BehindHeader.{behind_call, behind_none}
-use Rattle.qcow2_image.proofs.Prepare.Pinned.{begun_own, unpinned_begun}
+use Rattle.qcow2_image.proofs.Call.OnceWritten.{fails_none}
+use Rattle.qcow2_image.proofs.Call.BehindHeader.{behind_none}
+use Rattle.qcow2_image.proofs.Prepare.PinnedL2Tables.{begun_own, unpinned_begun}
 use Rattle.qcow2_image.specs.PinnedTables.{PreparesUnpinned}
 use Rattle.qcow2_metadata.specs.Header.{cluster_size}
 use Rattle.qcow2_metadata.specs.declared.header.HeaderFields.{HeaderFields}
 use Rattle.qcow2_image.specs.L1Entries.{NeedsOverflowingL1Entry}
-use Rattle.qcow2_image.specs.MetAlone.{CopiesCompressed, MayFailAllocating}
+use Rattle.qcow2_image.specs.MayFail.{CopiesCompressed, MayFailAllocating}
 use Rattle.qcow2_image.proofs.Prepare.Unannounced.{compressed_as}
-use Rattle.qcow2_image.proofs.Prepare.MetTables.{far_before}
+use Rattle.qcow2_image.proofs.Prepare.FailingTables.{far_before}
 use Rattle.qcow2_image.specs.Prepared.{length_of, offset_of, table_of}
 use Rattle.qcow2_image.specs.Backings.{HasPinnedMapping}
-use Rattle.qcow2_image.proofs.Prepare.MetTaking.{taking_as}
+use Rattle.qcow2_image.proofs.Prepare.FailingAllocations.{taking_as}
+
+pub returns-clause-answer : goal.returns-clause-answer
+returns-clause-answer g c = record {
+  own = search rules;
+  some = subst (λ (r : Result _ _). IfOk r (λ p. 0 < c.args.length → 0 < length_of p)) (sym c.mark_failure.ensures.answer) (if_ok c.prepare-prepared.result (λ p has some. (has some).some) c.prepare-prepared.ensures.some);
+  behind = let n = c.args.length in
+      subst (λ (r : Result _ _). IfOk r (λ p. 0 < n → cluster_size c.mark_failure.new.self.file.header.fields ≤ offset_of p)) (sym c.mark_failure.ensures.answer)
+      (subst (λ (i : Qcow2 _ _). IfOk c.prepare-prepared.result (λ p. 0 < n → cluster_size i.file.header.fields ≤ offset_of p)) (sym c.mark_failure.ensures.rest) (if_ok c.prepare-prepared.result (λ p has some. (has some).behind) c.prepare-prepared.ensures.some));
+  end = search rules;
+}
+
+pub returns-clause-sound : goal.returns-clause-sound
+returns-clause-sound g c = λ out sound.
+    let old = c.args.self.now in
+    let below = g.F.BackingDisk.backing in
+    let view = g.S.Storage.view in
+    let mid = c.begin_call.new.self in
+    let stays = stays_kept view below out old mid sound (listed view below out old mid (λ s. record { keeps = c.begin_call.ensures.keeps (pending_in view below old out) out s; list = c.begin_call.ensures.list }) sound) in
+    let some : 0 < c.args.length = let isnt = c.if-length-eq0.false in omega arith in
+    let new = c.prepare-prepared.new.self in
+    record {
+      may_fail = let from = c.args.offset in
+          let n = c.args.length in
+          let overwrite = c.args.overwrite in
+          let size : cluster_size mid.file.header.fields ≡ cluster_size old.file.header.fields = ap (λ (x : HeaderFields). cluster_size x) stays.header in
+          let h = old.file.header.fields in
+          let known = known_in view old.file in
+          λ may some. subst (λ (r : Result _ _). IfErr r (MayFailAllocating (HasPinnedMapping out) (IsTaken h known from n out) (CopiesCompressed from n overwrite h known) (NeedsOverflowingL1Entry old from))) (sym c.mark_failure.ensures.answer)
+          (if_err c.prepare-prepared.result
+          (taking_as (λ held. held) (λ taken. taken_before view old mid from n stays.header stays.covers out taken) (compressed_as h mid.file.header.fields known (known_in view mid.file) from n overwrite size stays.covers) (far_before old mid from c.begin_call.ensures.begun.rest))
+          ((c.prepare-prepared.ensures.sound some out stays.sound).may_fail));
+      limit = λ may some. subst (λ (r : Result _ _). IfLimit r (IsLimited view below [] (c.args.offset + 1) old out)) (sym c.mark_failure.ensures.answer)
+          (limits_as c.prepare-prepared.result (limited_since (omega arith) (goes_begun c.begin_call.ensures.stays c.begin_call.ensures.begun) stays) ((c.prepare-prepared.ensures.sound some out stays.sound).limit));
+      taken = λ may. subst (λ r. IfErr r (λ e. e ≡ TablePrepared → IsTaken old.file.header.fields (known_in view old.file) c.args.offset c.args.length out)) (sym c.mark_failure.ensures.answer)
+          (if_err c.prepare-prepared.result
+          (λ e taken is. taken_before view old mid c.args.offset c.args.length stays.header stays.covers out (taken is))
+          ((c.prepare-prepared.ensures.sound some out stays.sound).taken));
+      freed = λ may some. subst (λ (image : Qcow2 _ _). IfErr c.mark_failure.result (FreesRefused image)) (sym c.mark_failure.ensures.rest)
+          (subst (λ (r : Result _ _). IfErr r (FreesRefused new)) (sym c.mark_failure.ensures.answer) (c.prepare-prepared.ensures.freed some out stays.sound));
+      freeing = subst (λ (image : Qcow2 _ _). IfOk c.mark_failure.result (λ p. IsNone (table_of p) → ListsNoMore old image)) (sym c.mark_failure.ensures.rest)
+          (subst (λ r. IfOk r (λ p. IsNone (table_of p) → ListsNoMore old c.prepare-prepared.new.self)) (sym c.mark_failure.ensures.answer)
+          (if_ok c.prepare-prepared.result (λ p less none. ⊎_elim (λ same. inl (same ∙ c.begin_call.ensures.list)) (λ empty. inr empty) (less none)) ((c.prepare-prepared.ensures.sound some out stays.sound).freeing)));
+      maps = let now = known_in view new.file in
+          λ some. subst (λ (image : Qcow2 _ _). IfOk c.mark_failure.result (λ p. IsAnswered old.file.header.fields (known_in view old.file) c.args.offset c.args.length image.file.header.fields (known_in view image.file) p (meaning view below image p))) (sym c.mark_failure.ensures.rest)
+          (subst (λ r. IfOk r (λ p. IsAnswered old.file.header.fields (known_in view old.file) c.args.offset c.args.length new.file.header.fields now p (meaning view below new p))) (sym c.mark_failure.ensures.answer)
+          (if_ok c.prepare-prepared.result
+          (λ p is. answered_before view old mid c.args.offset c.args.length stays.header stays.covers new.file.header.fields now p (meaning view below new p) is)
+          ((c.prepare-prepared.ensures.sound some out stays.sound).answers)));
+    }
+
+pub returns-in_err-check_prepare-clause-sound : goal.returns-in_err-check_prepare-clause-sound
+returns-in_err-check_prepare-clause-sound g c = λ out sound.
+    let old = c.args.self.now in
+    let refused = refused_for c.check_prepare.result tt (refuses_to_prepare old c.args.offset c.args.length) c.in_err-check_prepare.field-0.0 c.check_prepare.ensures.refusal c.in_err-check_prepare.was in
+    record {
+      may_fail = λ may some. absurd (let no : None ≡ Some c.in_err-check_prepare.field-0.0 = sym may ∙ refused in cc);
+      limit = λ may some. absurd (let no : None ≡ Some c.in_err-check_prepare.field-0.0 = sym may ∙ refused in cc);
+      taken = search rules;
+      freed = search rules;
+      freeing = search rules;
+      maps = search rules;
+    }
+
+pub returns-then-length-eq0-clause-sound : goal.returns-then-length-eq0-clause-sound
+returns-then-length-eq0-clause-sound g c = λ out sound.
+    record {
+      may_fail = search rules;
+      limit = search rules;
+      taken = search rules;
+      freed = search rules;
+      freeing = λ none. inl refl;
+      maps = search rules;
+    }
 
 pub returns-then-length-eq0-clause-sees : goal.returns-then-length-eq0-clause-sees
 returns-then-length-eq0-clause-sees g c =
@@ -49,66 +122,17 @@ returns-clause-sees g c =
     let view = g.S.Storage.view in
     let below = g.F.BackingDisk.backing in
     let old = c.args.self.now in
-    let mid = c.begin.new.self in
+    let mid = c.begin_call.new.self in
     let new = c.prepare-prepared.new.self in
     let r = c.prepare-prepared.result in
     let some : 0 < c.args.length = let isnt = c.if-length-eq0.false in omega arith in
     subst (λ (image : Qcow2 _ _). Prepares view below old image c.args.offset c.args.length c.args.overwrite c.mark_failure.result) (sym c.mark_failure.ensures.rest)
     (subst (λ (x : Result _ _). Prepares view below old (record new { is_failed = is_failed c.mark_failure.new.self }) c.args.offset c.args.length c.args.overwrite x) (sym c.mark_failure.ensures.answer)
     (prepares_with_outcome view below old (prepare_usable old c.args.offset c.args.length c.check_prepare.result c.in_ok-check_prepare.was c.check_prepare.ensures.refusal) new (is_failed c.mark_failure.new.self)
-    (c.prepare-prepared.ensures.step.stays.image.number ∙ c.begin.ensures.stays.image.number) c.args.offset c.args.length c.args.overwrite r (may_mark c.prepare-prepared.new.self c.mark_failure.new.self c.prepare-prepared.result c.mark_failure.ensures.marks) (marks_memory c.prepare-prepared.new.self c.mark_failure.new.self c.prepare-prepared.new.self c.prepare-prepared.result c.mark_failure.ensures.marks (ap (λ (i : Qcow2 _ _). i.file) c.mark_failure.ensures.rest))
+    (c.prepare-prepared.ensures.step.stays.image.number ∙ c.begin_call.ensures.stays.image.number) c.args.offset c.args.length c.args.overwrite r (may_mark c.prepare-prepared.new.self c.mark_failure.new.self c.prepare-prepared.result c.mark_failure.ensures.marks) (marks_memory c.prepare-prepared.new.self c.mark_failure.new.self c.prepare-prepared.new.self c.prepare-prepared.result c.mark_failure.ensures.marks (ap (λ (i : Qcow2 _ _). i.file) c.mark_failure.ensures.rest))
     (λ out sound.
-    let kept = stays_kept view below out old mid sound (listed view below out old mid (λ s. record { keeps = c.begin.ensures.keeps (pending_in view below old out) out s; list = c.begin.ensures.list }) sound) in
+    let kept = stays_kept view below out old mid sound (listed view below out old mid (λ s. record { keeps = c.begin_call.ensures.keeps (pending_in view below old out) out s; list = c.begin_call.ensures.list }) sound) in
     prepares_after view below out old mid new kept c.args.offset c.args.length c.args.overwrite r ((c.prepare-prepared.ensures.sound some out kept.sound).readies))))
-
-pub returns-clause-some : goal.returns-clause-some
-returns-clause-some g c =
-    subst (λ (r : Result _ _). IfOk r (λ p. 0 < c.args.length → 0 < length_of p)) (sym c.mark_failure.ensures.answer) (if_ok c.prepare-prepared.result (λ p has some. (has some).some) c.prepare-prepared.ensures.some)
-
-pub returns-clause-behind : goal.returns-clause-behind
-returns-clause-behind g c =
-    let n = c.args.length in
-    subst (λ (r : Result _ _). IfOk r (λ p. 0 < n → cluster_size c.mark_failure.new.self.file.header.fields ≤ offset_of p)) (sym c.mark_failure.ensures.answer)
-    (subst (λ (i : Qcow2 _ _). IfOk c.prepare-prepared.result (λ p. 0 < n → cluster_size i.file.header.fields ≤ offset_of p)) (sym c.mark_failure.ensures.rest) (if_ok c.prepare-prepared.result (λ p has some. (has some).behind) c.prepare-prepared.ensures.some))
-
-pub returns-clause-maps : goal.returns-clause-maps
-returns-clause-maps g c = λ some out sound.
-    let view = g.S.Storage.view in
-    let below = g.F.BackingDisk.backing in
-    let old = c.args.self.now in
-    let mid = c.begin.new.self in
-    let new = c.prepare-prepared.new.self in
-    let now = known_in view new.file in
-    let stays = stays_kept view below out old mid sound (listed view below out old mid (λ s. record { keeps = c.begin.ensures.keeps (pending_in view below old out) out s; list = c.begin.ensures.list }) sound) in
-    subst (λ (image : Qcow2 _ _). IfOk c.mark_failure.result (λ p. IsAnswered old.file.header.fields (known_in view old.file) c.args.offset c.args.length image.file.header.fields (known_in view image.file) p (meaning view below image p))) (sym c.mark_failure.ensures.rest)
-    (subst (λ r. IfOk r (λ p. IsAnswered old.file.header.fields (known_in view old.file) c.args.offset c.args.length new.file.header.fields now p (meaning view below new p))) (sym c.mark_failure.ensures.answer)
-    (if_ok c.prepare-prepared.result
-    (λ p is. answered_before view old mid c.args.offset c.args.length stays.header stays.covers new.file.header.fields now p (meaning view below new p) is)
-    ((c.prepare-prepared.ensures.sound some out stays.sound).answers)))
-
-pub returns-clause-taken : goal.returns-clause-taken
-returns-clause-taken g c = λ may out sound.
-    let view = g.S.Storage.view in
-    let below = g.F.BackingDisk.backing in
-    let old = c.args.self.now in
-    let mid = c.begin.new.self in
-    let stays = stays_kept view below out old mid sound (listed view below out old mid (λ s. record { keeps = c.begin.ensures.keeps (pending_in view below old out) out s; list = c.begin.ensures.list }) sound) in
-    let some : 0 < c.args.length = let isnt = c.if-length-eq0.false in omega arith in
-    subst (λ r. IfErr r (λ e. e ≡ TablePrepared → IsTaken old.file.header.fields (known_in view old.file) c.args.offset c.args.length out)) (sym c.mark_failure.ensures.answer)
-    (if_err c.prepare-prepared.result
-    (λ e taken is. taken_before view old mid c.args.offset c.args.length stays.header stays.covers out (taken is))
-    ((c.prepare-prepared.ensures.sound some out stays.sound).taken))
-
-pub returns-clause-freed : goal.returns-clause-freed
-returns-clause-freed g c = λ may some out sound.
-    let view = g.S.Storage.view in
-    let below = g.F.BackingDisk.backing in
-    let old = c.args.self.now in
-    let mid = c.begin.new.self in
-    let new = c.prepare-prepared.new.self in
-    let stays = stays_kept view below out old mid sound (listed view below out old mid (λ s. record { keeps = c.begin.ensures.keeps (pending_in view below old out) out s; list = c.begin.ensures.list }) sound) in
-    subst (λ (image : Qcow2 _ _). IfErr c.mark_failure.result (FreesRefused image)) (sym c.mark_failure.ensures.rest)
-    (subst (λ (r : Result _ _). IfErr r (FreesRefused new)) (sym c.mark_failure.ensures.answer) (c.prepare-prepared.ensures.freed some out stays.sound))
 
 pub returns-in_err-check_prepare-clause-pinned : goal.returns-in_err-check_prepare-clause-pinned
 returns-in_err-check_prepare-clause-pinned g c = λ some none own.
@@ -122,72 +146,22 @@ pub returns-clause-pinned : goal.returns-clause-pinned
 returns-clause-pinned g c = λ some none own.
     let old = c.args.self.now in
     subst (λ (r : Result _ _). PreparesUnpinned old c.args.offset r) (sym c.mark_failure.ensures.answer)
-    (unpinned_begun old c.begin.new.self c.args.offset c.prepare-prepared.result c.begin.ensures.begun (c.prepare-prepared.ensures.pinned (begun_own old c.begin.new.self c.args.offset c.begin.ensures.begun own)))
-
-pub returns-in_err-check_prepare-clause-limit : goal.returns-in_err-check_prepare-clause-limit
-returns-in_err-check_prepare-clause-limit g c = λ none some out sound.
-    let refused = refused_for c.check_prepare.result tt (refuses_to_prepare c.args.self.now c.args.offset c.args.length) c.in_err-check_prepare.field-0.0 c.check_prepare.ensures.refusal c.in_err-check_prepare.was in
-    absurd (let no : None ≡ Some c.in_err-check_prepare.field-0.0 = sym none ∙ refused in cc)
-
-pub returns-clause-limit : goal.returns-clause-limit
-returns-clause-limit g c = λ may some out sound.
-    let view = g.S.Storage.view in
-    let below = g.F.BackingDisk.backing in
-    let old = c.args.self.now in
-    let mid = c.begin.new.self in
-    let stays = stays_kept view below out old mid sound (listed view below out old mid (λ s. record { keeps = c.begin.ensures.keeps (pending_in view below old out) out s; list = c.begin.ensures.list }) sound) in
-    subst (λ (r : Result _ _). IfLimit r (IsLimited view below [] (c.args.offset + 1) old out)) (sym c.mark_failure.ensures.answer)
-    (limits_as c.prepare-prepared.result (limited_since (omega arith) (goes_begun c.begin.ensures.stays c.begin.ensures.begun) stays) ((c.prepare-prepared.ensures.sound some out stays.sound).limit))
-
-pub returns-in_err-check_prepare-clause-met : goal.returns-in_err-check_prepare-clause-met
-returns-in_err-check_prepare-clause-met g c = λ none some out sound.
-    let refused = refused_for c.check_prepare.result tt (refuses_to_prepare c.args.self.now c.args.offset c.args.length) c.in_err-check_prepare.field-0.0 c.check_prepare.ensures.refusal c.in_err-check_prepare.was in
-    absurd (let no : None ≡ Some c.in_err-check_prepare.field-0.0 = sym none ∙ refused in cc)
-
-pub returns-clause-met : goal.returns-clause-met
-returns-clause-met g c = λ may some out sound.
-    let view = g.S.Storage.view in
-    let below = g.F.BackingDisk.backing in
-    let old = c.args.self.now in
-    let mid = c.begin.new.self in
-    let from = c.args.offset in
-    let n = c.args.length in
-    let overwrite = c.args.overwrite in
-    let stays = stays_kept view below out old mid sound (listed view below out old mid (λ s. record { keeps = c.begin.ensures.keeps (pending_in view below old out) out s; list = c.begin.ensures.list }) sound) in
-    let size : cluster_size mid.file.header.fields ≡ cluster_size old.file.header.fields = ap (λ (x : HeaderFields). cluster_size x) stays.header in
-    let h = old.file.header.fields in
-    let known = known_in view old.file in
-    subst (λ (r : Result _ _). IfErr r (MayFailAllocating (HasPinnedMapping out) (IsTaken h known from n out) (CopiesCompressed from n overwrite h known) (NeedsOverflowingL1Entry old from))) (sym c.mark_failure.ensures.answer)
-    (if_err c.prepare-prepared.result
-    (taking_as (λ held. held) (λ taken. taken_before view old mid from n stays.header stays.covers out taken) (compressed_as h mid.file.header.fields known (known_in view mid.file) from n overwrite size stays.covers) (far_before old mid from c.begin.ensures.begun.rest))
-    ((c.prepare-prepared.ensures.sound some out stays.sound).met))
-
-pub returns-then-length-eq0-clause-freeing : goal.returns-then-length-eq0-clause-freeing
-returns-then-length-eq0-clause-freeing g c = λ out sound none. inl refl
-
-pub returns-clause-freeing : goal.returns-clause-freeing
-returns-clause-freeing g c = λ out sound.
-    let view = g.S.Storage.view in
-    let below = g.F.BackingDisk.backing in
-    let old = c.args.self.now in
-    let mid = c.begin.new.self in
-    let some : 0 < c.args.length = let isnt = c.if-length-eq0.false in omega arith in
-    let stays = stays_kept view below out old mid sound (listed view below out old mid (λ s. record { keeps = c.begin.ensures.keeps (pending_in view below old out) out s; list = c.begin.ensures.list }) sound) in
-    subst (λ (image : Qcow2 _ _). IfOk c.mark_failure.result (λ p. IsNone (table_of p) → ListsNoMore old image)) (sym c.mark_failure.ensures.rest)
-    (subst (λ r. IfOk r (λ p. IsNone (table_of p) → ListsNoMore old c.prepare-prepared.new.self)) (sym c.mark_failure.ensures.answer)
-    (if_ok c.prepare-prepared.result (λ p less none. ⊎_elim (λ same. inl (same ∙ c.begin.ensures.list)) (λ empty. inr empty) (less none)) ((c.prepare-prepared.ensures.sound some out stays.sound).freeing)))
+    (unpinned_begun old c.begin_call.new.self c.args.offset c.prepare-prepared.result c.begin_call.ensures.begun (c.prepare-prepared.ensures.pinned (begun_own old c.begin_call.new.self c.args.offset c.begin_call.ensures.begun own)))
 
 pub returns-clause-step : goal.returns-clause-step
-returns-clause-step g c = record {
-  image = search rules;
-  marks = search rules;
-  once_written = fails_once g.S.Storage.view c.args.self.now c.begin.new.self c.begin.ensures.begun c.prepare-prepared.new.self c.mark_failure.new.self c.prepare-prepared.result c.prepare-prepared.ensures.step.notes (c.prepare-prepared.ensures.step.stays.failed ∙ c.begin.ensures.stays.failed) c.mark_failure.ensures.marks c.mark_failure.ensures.rest c.mark_failure.result (λ memory. sym c.mark_failure.ensures.answer ∙ memory);
-  header_cluster = behind_call g.S.Storage.view c.begin.ensures.begun c.prepare-prepared.ensures.step.header_cluster c.mark_failure.ensures.rest;
-  faults = counted_marked g.S.Storage.view g.F.BackingDisk.backing c.args.self.now c.begin.new.self c.prepare-prepared.new.self c.mark_failure.new.self c.prepare-prepared.result c.mark_failure.result c.begin.ensures.faults c.prepare-prepared.ensures.fails.faults c.mark_failure.ensures.answer c.mark_failure.ensures.rest;
-}
+returns-clause-step g c = call_marked c.begin_call.ensures.begun c.begin_call.ensures.stays c.begin_call.ensures.faults c.prepare-prepared.result c.mark_failure.result c.mark_failure.ensures.marks c.mark_failure.ensures.rest c.mark_failure.ensures.answer c.prepare-prepared.ensures.step c.prepare-prepared.ensures.fails.faults
 
 pub returns-in_err-check_prepare-clause-step : goal.returns-in_err-check_prepare-clause-step
 returns-in_err-check_prepare-clause-step g c = record { image = search rules; marks = search rules; once_written = fails_none g.S.Storage.view c.args.self.now _; header_cluster = behind_none; faults = search rules }
 
 pub returns-then-length-eq0-clause-step : goal.returns-then-length-eq0-clause-step
 returns-then-length-eq0-clause-step g c = record { image = search rules; marks = search rules; once_written = fails_none g.S.Storage.view c.args.self.now _; header_cluster = behind_none; faults = search rules }
+
+pub returns-in_err-check_prepare-clause-refusals : goal.returns-in_err-check_prepare-clause-refusals
+returns-in_err-check_prepare-clause-refusals g c = record { early = search rules; nothing = search rules; late = search rules }
+
+pub returns-then-length-eq0-clause-refusals : goal.returns-then-length-eq0-clause-refusals
+returns-then-length-eq0-clause-refusals g c = record { early = search rules; nothing = search rules; late = search rules }
+
+pub returns-clause-refusals : goal.returns-clause-refusals
+returns-clause-refusals g c = record { early = search rules; nothing = search rules; late = search rules }

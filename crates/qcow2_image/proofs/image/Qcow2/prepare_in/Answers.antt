@@ -1,30 +1,28 @@
+use Rattle.qcow2_image.proofs.Call.WriteSteps.{taking_where, taking_with, where_then}
 use Rattle.qcow2_image.proofs.image.Qcow2.prepare_in.Goals as goal
-use Rattle.std.proofs.Common.{◌≡◌, ◌+◌, ◌-◌, ◌/◌, ◌%◌, [], ◌∷◌, refl, sym, ap, ◌∙◌, subst, arith, inl, length, ◌<◌, rules}
+use Rattle.std.proofs.Common.{◌≡◌, ◌+◌, ◌-◌, ◌/◌, ◌%◌, [], ◌∷◌, refl, sym, ap, ◌∙◌, subst, arith, inl, ◌<◌, rules}
 use Rattle.std.specs.Prelude.{None, Err}
 use Rattle.qcow2_metadata.specs.Cover.{cover}
 use Rattle.qcow2_metadata.specs.Header.{cluster_size}
 use Rattle.qcow2_metadata.specs.declared.header.HeaderFields.{HeaderFields}
-use Rattle.qcow2_alloc.specs.ImageFile.{KeepsHeader, known_in}
+use Rattle.qcow2_alloc.specs.ImageFile.{known_in}
 use Rattle.qcow2_alloc.proofs.AllocationSteps.{handed_on}
 use Rattle.qcow2_alloc.proofs.ListedAfter.{header_format, header_then}
-use Rattle.qcow2_image.specs.declared.image.Qcow2.{Qcow2}
 use Rattle.qcow2_image.specs.CallParts.{IsReadied, PreparesRange}
 use Rattle.qcow2_image.specs.Limits.{GoesTo}
 use Rattle.qcow2_image.proofs.Call.Refused.{back_refused}
-use Rattle.qcow2_image.proofs.Free.{free_places}
-use Rattle.qcow2_image.proofs.Prepare.Onward.{release_prepared_broken, refused_free}
+use Rattle.qcow2_image.proofs.Images.Free.{free_places}
+use Rattle.qcow2_image.proofs.Prepare.RangeByParts.{release_prepared_broken, refused_free}
 use Rattle.qcow2_image.proofs.Call.FaultCounts.{counted_as, counted_still}
-use Rattle.qcow2_alloc.proofs.KeptMarks.{notes_then}
-use Rattle.qcow2_image.proofs.Call.BehindHeader.{behind_then}
 use Rattle.qcow2_image.proofs.Call.ImageSteps.{step_none}
-use Rattle.qcow2_image.proofs.Prepare.Lacked.{goes_step, hands_limit, limited_from, places_enter}
+use Rattle.qcow2_image.proofs.Prepare.LimitCauses.{goes_step, hands_limit, limited_from, places_enter}
 use Rattle.std.proofs.lemmas.Nat.{pow_pos, mod_below}
-use Rattle.qcow2_image.specs.MetAlone.{CopiesCompressed, MayFailAllocating}
-use Rattle.qcow2_image.proofs.Prepare.MetRanges.{alone_as}
+use Rattle.qcow2_image.specs.MayFail.{CopiesCompressed, MayFailAllocating}
+use Rattle.qcow2_image.proofs.Prepare.FailingRanges.{alone_as}
 use Rattle.qcow2_image.proofs.Prepare.Unannounced.{compressed_as, compressed_at}
 use Rattle.qcow2_image.specs.Backings.{HasPinnedMapping}
-use Rattle.qcow2_image.proofs.Prepare.Met.{hands_met}
-use Rattle.qcow2_image.proofs.Prepare.MetTaking.{taking_as}
+use Rattle.qcow2_image.proofs.Prepare.FailingCopies.{hands_met}
+use Rattle.qcow2_image.proofs.Prepare.FailingAllocations.{taking_as}
 use Rattle.qcow2_alloc.specs.CachePins.{l2_pins}
 
 pub returns-in-Ok-clause-reaches : goal.returns-in-Ok-clause-reaches
@@ -34,11 +32,11 @@ returns-in-Ok-clause-reaches g c = λ out k free sound holds.
     let mid = c.prepare_first.new.self in
     let new = c.prepare_rest.new.self in
     let p = c.in_ok-prepared.prepared in
-    let first = c.in_ok-prepared.ensures.first in
+    let first = c.in_ok-prepared.ensures.begins.first in
     let longer = c.in-Ok.ensures.longer in
-    let ready = subst (λ o. IsReadied view g.F.BackingDisk.backing old mid out k o c.args.length c.args.overwrite p) (sym first.guest) (c.in_ok-prepared.ensures.readies out sound holds k free) in
+    let ready = subst (λ o. IsReadied view g.F.BackingDisk.backing old mid out k o c.args.length c.args.overwrite p) (sym first.guest) ((c.in_ok-prepared.ensures.sound out sound holds).readies k free) in
     let on = (c.in-Ok.ensures.sound old out k free first.under ready).does in
-    let size : cluster_size new.file.header.fields ≡ cluster_size old.file.header.fields = ap (λ (x : HeaderFields). cluster_size x) (header_format old.file.header new.file.header (header_then old.file.header mid.file.header new.file.header c.in_ok-prepared.ensures.header c.in-Ok.ensures.header)) in
+    let size : cluster_size new.file.header.fields ≡ cluster_size old.file.header.fields = ap (λ (x : HeaderFields). cluster_size x) (header_format old.file.header new.file.header (header_then old.file.header mid.file.header new.file.header c.in_ok-prepared.ensures.step.header c.in-Ok.ensures.step.header)) in
     let rest : cluster_size new.file.header.fields - c.args.offset % cluster_size new.file.header.fields ≡ p.length = ap (λ s. s - c.args.offset % s) size ∙ sym first.rest in
     let same = ap (λ s. cover new.file.header.fields (known_in view new.file) (c.args.offset / s)) size ∙ sym (on.0.covers (c.args.offset / cluster_size old.file.header.fields)) in
     record {
@@ -47,7 +45,7 @@ returns-in-Ok-clause-reaches g c = λ out k free sound holds.
       first = let more = longer.more in omega arith;
       most = λ past. longer.most past ∙ sym rest;
       short = on.1;
-      kept = λ host at. longer.place ∙ c.in_ok-prepared.ensures.kept out sound holds host (sym same ∙ at) ∙ ap (λ s. host + c.args.offset % s) (sym size);
+      kept = λ host at. longer.place ∙ (c.in_ok-prepared.ensures.sound out sound holds).kept host (sym same ∙ at) ∙ ap (λ s. host + c.args.offset % s) (sym size);
     }
 
 pub returns-in-Ok-clause-some : goal.returns-in-Ok-clause-some
@@ -55,30 +53,17 @@ returns-in-Ok-clause-some g c =
     let old = c.args.self.now in
     let new = c.prepare_rest.new.self in
     let h = old.file.header.fields in
-    let first = c.in_ok-prepared.ensures.first in
+    let first = c.in_ok-prepared.ensures.begins.first in
     let longer = c.in-Ok.ensures.longer in
-    let size : cluster_size new.file.header.fields ≡ cluster_size h = ap (λ (x : HeaderFields). cluster_size x) (header_format old.file.header new.file.header (header_then old.file.header c.prepare_first.new.self.file.header new.file.header c.in_ok-prepared.ensures.header c.in-Ok.ensures.header)) in
+    let size : cluster_size new.file.header.fields ≡ cluster_size h = ap (λ (x : HeaderFields). cluster_size x) (header_format old.file.header new.file.header (header_then old.file.header c.prepare_first.new.self.file.header new.file.header c.in_ok-prepared.ensures.step.header c.in-Ok.ensures.step.header)) in
     let within = mod_below c.args.offset (cluster_size h) (pow_pos h.cluster_bits) in
-    record { some = (let rest = first.rest in let more = longer.more in omega (arith, within)); behind = (let begins = c.in_ok-prepared.ensures.behind in let place = longer.place in omega (arith, size)) }
-
-pub returns-in-Ok-clause-header : goal.returns-in-Ok-clause-header
-returns-in-Ok-clause-header g c = header_then c.args.self.now.file.header c.prepare_first.new.self.file.header c.prepare_rest.new.self.file.header c.prepare_first.ensures.header c.prepare_rest.ensures.header
-
-pub returns-in-Err-clause-header : goal.returns-in-Err-clause-header
-returns-in-Err-clause-header g c =
-    let old = c.args.self.now in
-    subst (λ v. KeepsHeader old.file.header v) (sym (ap (λ (i : Qcow2 _ _). i.file.header) c.release_prepared.ensures.rest.rest))
-    (header_then old.file.header c.prepare_first.new.self.file.header c.prepare_rest.new.self.file.header c.prepare_first.ensures.header c.prepare_rest.ensures.header)
+    record { some = (let rest = first.rest in let more = longer.more in omega (arith, within)); behind = (let begins = c.in_ok-prepared.ensures.begins.behind in let place = longer.place in omega (arith, size)) }
 
 pub returns-in-Ok-clause-unpinned : goal.returns-in-Ok-clause-unpinned
 returns-in-Ok-clause-unpinned g c = c.in_ok-prepared.ensures.unpinned
 
 pub returns-in-Err-clause-step : goal.returns-in-Err-clause-step
-returns-in-Err-clause-step g c = record {
-  stays = search rules;
-  notes = notes_then (notes_then c.prepare_first.ensures.step.notes c.prepare_rest.ensures.step.notes) c.release_prepared.ensures.step.notes;
-  header_cluster = λ some. behind_then (behind_then (c.prepare_first.ensures.step.header_cluster some) c.prepare_rest.ensures.step.header_cluster) c.release_prepared.ensures.step.header_cluster;
-}
+returns-in-Err-clause-step g c = where_then (where_then c.prepare_first.ensures.step (taking_where c.prepare_rest.ensures.step)) (taking_where (taking_with c.release_prepared.ensures.step c.release_prepared.ensures.header))
 
 pub returns-in-Err-clause-fails : goal.returns-in-Err-clause-fails
 returns-in-Err-clause-fails g c = record {
@@ -92,14 +77,10 @@ returns-in-Err-clause-fails g c = record {
 }
 
 pub returns-in_err-prepared-clause-step : goal.returns-in_err-prepared-clause-step
-returns-in_err-prepared-clause-step g c = record { stays = search rules; notes = c.prepare_first.ensures.step.notes; header_cluster = c.prepare_first.ensures.step.header_cluster }
+returns-in_err-prepared-clause-step g c = c.prepare_first.ensures.step
 
 pub returns-in-Ok-clause-step : goal.returns-in-Ok-clause-step
-returns-in-Ok-clause-step g c = record {
-  stays = search rules;
-  notes = notes_then c.prepare_first.ensures.step.notes c.prepare_rest.ensures.step.notes;
-  header_cluster = λ some. behind_then (c.prepare_first.ensures.step.header_cluster some) c.prepare_rest.ensures.step.header_cluster;
-}
+returns-in-Ok-clause-step g c = where_then c.prepare_first.ensures.step (taking_where c.prepare_rest.ensures.step)
 
 pub returns-in_err-prepared-clause-sound : goal.returns-in_err-prepared-clause-sound
 returns-in_err-prepared-clause-sound g c = λ out sound holds.
@@ -113,10 +94,10 @@ returns-in_err-prepared-clause-sound g c = λ out sound holds.
     let n = c.args.length in
     record {
       readies = handed_on (λ r. PreparesRange view below old mid out c.args.offset c.args.length c.args.overwrite r) c.from_residual.result c.in_err-prepared.field-0.0 c.from_residual.ensures
-          (back_refused view below out old mid c.in_err-prepared.field-0.0 sound (c.in_err-prepared.ensures.readies out sound holds));
-      met = λ some. hands_met (MayFailAllocating (HasPinnedMapping out) (0 < l2_pins c.args.self.now.file.caches c.args.table) (CopiesCompressed offset n c.args.overwrite h known) ⊥) c.from_residual.result c.in_err-prepared.field-0.0 c.from_residual.ensures
-          (taking_as (λ held. held) (λ kept. kept) (λ copied. compressed_at h known offset n offset n c.args.overwrite (omega arith) some refl (inl refl) copied) (λ no. no) c.in_err-prepared.field-0.0 (c.in_err-prepared.ensures.met out sound holds));
-      limit = λ some. hands_limit c.from_residual.result c.in_err-prepared.field-0.0 c.from_residual.ensures (c.in_err-prepared.ensures.limit out sound holds);
+          (back_refused view below out old mid c.in_err-prepared.field-0.0 sound ((c.in_err-prepared.ensures.sound out sound holds).readies));
+      may_fail = λ some. hands_met (MayFailAllocating (HasPinnedMapping out) (0 < l2_pins c.args.self.now.file.caches c.args.table) (CopiesCompressed offset n c.args.overwrite h known) ⊥) c.from_residual.result c.in_err-prepared.field-0.0 c.from_residual.ensures
+          (taking_as (λ held. held) (λ kept. kept) (λ copied. compressed_at h known offset n offset n c.args.overwrite (omega arith) some refl (inl refl) copied) (λ no. no) c.in_err-prepared.field-0.0 ((c.in_err-prepared.ensures.sound out sound holds).may_fail));
+      limit = λ some. hands_limit c.from_residual.result c.in_err-prepared.field-0.0 c.from_residual.ensures ((c.in_err-prepared.ensures.sound out sound holds).limit);
     }
 
 pub returns-in-Ok-clause-sound : goal.returns-in-Ok-clause-sound
@@ -124,11 +105,11 @@ returns-in-Ok-clause-sound g c = λ out sound holds.
     let view = g.S.Storage.view in
     let below = g.F.BackingDisk.backing in
     let old = c.args.self.now in
-    let first = c.in_ok-prepared.ensures.first in
+    let first = c.in_ok-prepared.ensures.begins.first in
     record {
-      met = search rules;
+      may_fail = search rules;
       limit = search rules;
-      readies = λ k free. let ready = subst (λ o. IsReadied view below old c.prepare_first.new.self out k o c.args.length c.args.overwrite c.in_ok-prepared.prepared) (sym first.guest) (c.in_ok-prepared.ensures.readies out sound holds k free) in
+      readies = λ k free. let ready = subst (λ o. IsReadied view below old c.prepare_first.new.self out k o c.args.length c.args.overwrite c.in_ok-prepared.prepared) (sym first.guest) ((c.in_ok-prepared.ensures.sound out sound holds).readies k free) in
           let on = (c.in-Ok.ensures.sound old out k free first.under ready).does in
           subst (λ o. IsReadied view below old c.prepare_rest.new.self out k o c.args.length c.args.overwrite c.prepare_rest.new.prepared) (c.in-Ok.ensures.longer.guest ∙ first.guest) on.0;
     }
@@ -143,19 +124,19 @@ returns-in-Err-clause-sound g c = λ out sound holds.
     let p = c.in_ok-prepared.prepared in
     let n = c.args.length in
     let q = c.prepare_rest.new.prepared in
-    let first = c.in_ok-prepared.ensures.first in
+    let first = c.in_ok-prepared.ensures.begins.first in
     let h = old.file.header.fields in
     let placed = (free_places view below).free old [] out sound in
     let hm = mid.file.header.fields in
-    let ready = subst (λ o. IsReadied view below old mid (None ∷ out) 0 o c.args.length c.args.overwrite p) (sym first.guest) (c.in_ok-prepared.ensures.readies (None ∷ out) placed holds 0 refl) in
+    let ready = subst (λ o. IsReadied view below old mid (None ∷ out) 0 o c.args.length c.args.overwrite p) (sym first.guest) ((c.in_ok-prepared.ensures.sound (None ∷ out) placed holds).readies 0 refl) in
     let broken = (c.in-Err.ensures.sound old (None ∷ out) 0 refl first.under ready).does in
     record {
       readies = refused_free view below out old c.release_prepared.new.self c.in-Err.refusal
           (release_prepared_broken view below old new c.release_prepared.new.self (None ∷ out) 0 c.args.length c.args.overwrite q c.in-Err.refusal refl c.release_prepared.ensures.rest c.release_prepared.ensures.sees broken);
-      met = λ some. let ready = subst (λ o. IsReadied view below old mid (None ∷ out) 0 o n c.args.overwrite p) (sym first.guest) (c.in_ok-prepared.ensures.readies (None ∷ out) placed holds 0 refl) in
-          let size : cluster_size hm ≡ cluster_size h = ap (λ (x : HeaderFields). cluster_size x) (header_format old.file.header mid.file.header c.in_ok-prepared.ensures.header) in
+      may_fail = λ some. let ready = subst (λ o. IsReadied view below old mid (None ∷ out) 0 o n c.args.overwrite p) (sym first.guest) ((c.in_ok-prepared.ensures.sound (None ∷ out) placed holds).readies 0 refl) in
+          let size : cluster_size hm ≡ cluster_size h = ap (λ (x : HeaderFields). cluster_size x) (header_format old.file.header mid.file.header c.in_ok-prepared.ensures.step.header) in
           inl (alone_as (λ found. compressed_as h hm (known_in view old.file) (known_in view mid.file) c.args.offset n c.args.overwrite size ready.covers (subst (λ o. CopiesCompressed o n c.args.overwrite hm (known_in view mid.file)) first.guest found)) (λ no. no)
-          c.in-Err.refusal ((c.in-Err.ensures.sound old (None ∷ out) 0 refl first.under ready).met));
+          c.in-Err.refusal ((c.in-Err.ensures.sound old (None ∷ out) 0 refl first.under ready).may_fail));
       limit = λ some is. let goes : GoesTo view old mid = record { image = c.prepare_first.ensures.step.stays.image; header_cluster = c.prepare_first.ensures.step.header_cluster some } in
           limited_from (omega arith) (omega arith) (goes_step step_none) placed (places_enter view below old out) ((c.in-Err.ensures.sound old (None ∷ out) 0 refl first.under ready).limit goes is);
     }

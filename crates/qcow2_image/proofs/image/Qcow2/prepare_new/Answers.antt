@@ -1,3 +1,4 @@
+use Rattle.qcow2_image.proofs.Call.WriteSteps.{filling_pinned, taking_listed, taking_none, taking_of_filling, taking_where, where_then, where_with}
 use Rattle.qcow2_image.proofs.Call.Unlimited.{looking_unlimited, fault_unlimited}
 use Rattle.qcow2_image.proofs.image.Qcow2.prepare_new.Goals as goal
 use Rattle.std.proofs.Common.{rules, ◌≡◌, ◌≤◌, ◌-◌, ◌*◌, ◌%◌, ◌^◌, ◌++◌, [], ◌∷◌, inl, refl, sym, ap, ◌∙◌, subst, arith, List, length, ◌+◌}
@@ -10,97 +11,88 @@ use Rattle.qcow2_alloc.proofs.AllocationSteps.{handed_on}
 use Rattle.qcow2_image.specs.declared.image.Qcow2.{Qcow2}
 use Rattle.qcow2_image.specs.declared.prepared.Prepared.{Prepared}
 use Rattle.qcow2_image.specs.CallParts.{Readies, IsReadied}
-use Rattle.qcow2_image.specs.declared.prepared.Share.{Share}
+use Rattle.qcow2_image.specs.declared.prepared.ClusterMapping.{ClusterMapping}
 use Rattle.qcow2_image.specs.Ranges.{IsFirst}
 use Rattle.qcow2_image.specs.InternalSteps.{RefusedFillingStep, InternalFillingStep, HoldsAll, pending_with_listed}
 use Rattle.qcow2_image.specs.ImageInvariant.{run_of, pending_in}
-use Rattle.qcow2_image.proofs.Prepare.Gaining.{listed_after_on, image_step_left, still_holds}
-use Rattle.qcow2_image.proofs.Prepare.Filling.{image_step_kept, image_step_then}
-use Rattle.qcow2_image.proofs.Prepare.Owning.{refused as any_refusal}
-use Rattle.qcow2_image.proofs.Prepare.ReadyingNew.{back_none, readied_new}
-use Rattle.qcow2_alloc.proofs.KeptMarks.{notes_none, notes_then}
-use Rattle.qcow2_image.proofs.Call.Notes.{same_kept, pins_kept}
-use Rattle.qcow2_image.proofs.Call.BehindHeader.{behind_by, behind_none, behind_tables, behind_then, behind_zero}
-use Rattle.qcow2_image.proofs.Prepare.Lacked.{hands_limit, limited_more, limited_taking, other_limit}
+use Rattle.qcow2_image.proofs.Prepare.FirstCluster.{listed_after_on, image_step_left, still_holds}
+use Rattle.qcow2_image.proofs.Prepare.InternalWrites.{image_step_kept, image_step_then}
+use Rattle.qcow2_image.proofs.Prepare.WritableL2Table.{refused as any_refusal}
+use Rattle.qcow2_image.proofs.Prepare.NewCluster.{back_none, readied_new}
+use Rattle.qcow2_image.proofs.Call.BehindHeader.{behind_zero}
+use Rattle.qcow2_image.proofs.Prepare.LimitCauses.{hands_limit, limited_more, limited_taking, other_limit}
 use Rattle.qcow2_metadata.specs.TableBytes.{HasPlace}
-use Rattle.qcow2_image.proofs.Prepare.Lacking.{named_place}
+use Rattle.qcow2_image.proofs.Prepare.MissingL2Table.{named_place}
 use Rattle.qcow2_alloc.specs.ImageFile.{known_in}
 use Rattle.qcow2_image.specs.Found.{l1_index_of}
-use Rattle.qcow2_image.proofs.Prepare.Met.{hands_met}
-use Rattle.qcow2_image.specs.MetAlone.{IsCopiedCompressed, MayFailAllocating}
+use Rattle.qcow2_image.proofs.Prepare.FailingCopies.{hands_met}
+use Rattle.qcow2_image.specs.MayFail.{IsCopiedCompressed, MayFailAllocating}
 use Rattle.qcow2_image.specs.Backings.{HasPinnedMapping}
-use Rattle.qcow2_image.proofs.Prepare.MetTaking.{looking_taking}
+use Rattle.qcow2_image.proofs.Prepare.FailingAllocations.{looking_taking}
 
-pub returns-in-Ok-clause-first : goal.returns-in-Ok-clause-first
-returns-in-Ok-clause-first g c =
+pub returns-in-Ok-clause-begins : goal.returns-in-Ok-clause-begins
+returns-in-Ok-clause-begins g c =
     let old = c.args.self.now in
     let filled = c.new_cluster.new.self in
     let h = old.file.header.fields in
-    let format : KeepsFormat h filled.file.header.fields = header_format old.file.header filled.file.header c.in_ok-pending.ensures.header in
-    let size : cluster_size c.load_l2.new.self.file.header.fields ≡ cluster_size h = ap (λ (x : HeaderFields). cluster_size x) (ap (λ x. x.fields) c.in-Ok.ensures.header ∙ format) in
-    subst (λ (x : Prepared). IsFirst h c.args.offset c.args.table x) (sym c.prepare_at.ensures.value)
-    (record { guest = refl; under = refl; rest = ap (λ s. s - c.args.offset % s) size; one = ap (λ (l : List Share). length l) c.prepare_at.ensures.share })
-
-pub returns-in-Ok-clause-behind : goal.returns-in-Ok-clause-behind
-returns-in-Ok-clause-behind g c =
-    let old = c.args.self.now in
-    let filled = c.new_cluster.new.self in
-    let mid = c.load_l2.new.self in
-    let h = old.file.header.fields in
-    let format : KeepsFormat h filled.file.header.fields = header_format old.file.header filled.file.header c.in_ok-pending.ensures.header in
-    let n = c.in_ok-pending.pending.first_cluster in
-    let same : mid.file.header.fields.cluster_bits ≡ h.cluster_bits = ap (λ (x : HeaderFields). x.cluster_bits) (ap (λ x. x.fields) c.in-Ok.ensures.header ∙ format) in
-    let host_is : c.value-host.result ≡ n * 2 ^ mid.file.header.fields.cluster_bits = c.value-host.ensures ∙ c.offset.ensures ∙ ap (λ x. x * 2 ^ c.cluster_bits-bits.result) c.cluster.ensures ∙ ap (λ b. n * 2 ^ b) c.cluster_bits-bits.ensures.value in
-    let behind = behind_zero h.cluster_bits mid.file.header.fields.cluster_bits n same c.in_ok-pending.ensures.elsewhere in
-    subst (λ (x : Prepared). cluster_size h ≤ x.offset) (sym c.prepare_at.ensures.value) (omega (arith, host_is, behind))
+    let format : KeepsFormat h filled.file.header.fields = header_format old.file.header filled.file.header c.in_ok-pending.ensures.step.header in
+    record {
+      own = search rules;
+      first = let size : cluster_size c.load_l2.new.self.file.header.fields ≡ cluster_size h = ap (λ (x : HeaderFields). cluster_size x) (ap (λ x. x.fields) (ap (λ (i : Qcow2 _ _). i.file.header) c.in-Ok.ensures.rest) ∙ format) in
+          subst (λ (x : Prepared). IsFirst h c.args.offset c.args.table x) (sym c.prepare_at.ensures.value)
+          (record { guest = refl; under = refl; rest = ap (λ s. s - c.args.offset % s) size; one = ap (λ (l : List ClusterMapping). length l) c.prepare_at.ensures.cluster_mapping });
+      behind = let mid = c.load_l2.new.self in
+          let n = c.in_ok-pending.pending.first_cluster in
+          let same : mid.file.header.fields.cluster_bits ≡ h.cluster_bits = ap (λ (x : HeaderFields). x.cluster_bits) (ap (λ x. x.fields) (ap (λ (i : Qcow2 _ _). i.file.header) c.in-Ok.ensures.rest) ∙ format) in
+          let host_is : c.value-host.result ≡ n * 2 ^ mid.file.header.fields.cluster_bits = c.value-host.ensures ∙ c.offset.ensures ∙ ap (λ x. x * 2 ^ c.cluster_bits-bits.result) c.cluster.ensures ∙ ap (λ b. n * 2 ^ b) c.cluster_bits-bits.ensures.value in
+          let behind = behind_zero h.cluster_bits mid.file.header.fields.cluster_bits n same c.in_ok-pending.ensures.elsewhere in
+          subst (λ (x : Prepared). cluster_size h ≤ x.offset) (sym c.prepare_at.ensures.value) (omega (arith, host_is, behind));
+      room = search rules;
+    }
 
 pub returns-in_err-old_data-clause-step : goal.returns-in_err-old_data-clause-step
-returns-in_err-old_data-clause-step g c = record { stays = search rules; notes = notes_none; header_cluster = λ some. behind_none }
+returns-in_err-old_data-clause-step g c = taking_where taking_none
 
 pub returns-in_err-pending-clause-step : goal.returns-in_err-pending-clause-step
-returns-in_err-pending-clause-step g c = record { stays = search rules; notes = c.new_cluster.ensures.step.notes; header_cluster = λ some. c.new_cluster.ensures.step.header_cluster }
+returns-in_err-pending-clause-step g c = taking_where c.new_cluster.ensures.step
 
 pub returns-in-Ok-clause-step : goal.returns-in-Ok-clause-step
-returns-in-Ok-clause-step g c = record {
-  stays = search rules;
-  notes = notes_then (notes_then c.new_cluster.ensures.step.notes c.load_l2.ensures.step.notes) (pins_kept c.load_l2.new.self c.prepare_at.new.self (ap (λ (i : Qcow2 _ _). i.file.storage) c.prepare_at.ensures.pins.rest) c.prepare_at.ensures.pins.changed c.prepare_at.ensures.pins.counted);
-  header_cluster = λ some. behind_then (behind_then c.new_cluster.ensures.step.header_cluster (c.load_l2.ensures.step.header_cluster some)) (behind_by g.S.Storage.view c.prepare_at.ensures.pins.rest (behind_tables c.prepare_at.ensures.pins.tables.behind));
-}
+returns-in-Ok-clause-step g c =
+    where_then (where_then (taking_where c.new_cluster.ensures.step) (where_with c.load_l2.ensures.step (ap (λ (i : Qcow2 _ _). i.file.header) c.load_l2.ensures.rest)))
+    (taking_where (taking_of_filling (filling_pinned c.prepare_at.ensures.stays c.prepare_at.ensures.pins)))
 
 pub returns-in-Err-clause-step : goal.returns-in-Err-clause-step
-returns-in-Err-clause-step g c = record {
-  stays = search rules;
-  notes = notes_then (notes_then c.new_cluster.ensures.step.notes c.load_l2.ensures.step.notes) (same_kept c.load_l2.new.self c.hand_back-in-Err.new.self (ap (λ (i : Qcow2 _ _). i.file.storage) c.hand_back-in-Err.ensures) (ap (λ (i : Qcow2 _ _). i.file.caches) c.hand_back-in-Err.ensures));
-  header_cluster = λ some. behind_then (behind_then c.new_cluster.ensures.step.header_cluster (c.load_l2.ensures.step.header_cluster some)) (behind_by g.S.Storage.view c.hand_back-in-Err.ensures behind_none);
-}
+returns-in-Err-clause-step g c =
+    where_then (where_then (taking_where c.new_cluster.ensures.step) (where_with c.load_l2.ensures.step (ap (λ (i : Qcow2 _ _). i.file.header) c.load_l2.ensures.rest)))
+    (taking_where (taking_listed _ c.hand_back-in-Err.ensures))
 
 pub returns-in_err-old_data-clause-sound : goal.returns-in_err-old_data-clause-sound
-returns-in_err-old_data-clause-sound g c = λ out sound holds.
+returns-in_err-old_data-clause-sound g c = λ out sound holds unpinned covered.
     let view = g.S.Storage.view in
     let below = g.F.BackingDisk.backing in
     let old = c.args.self.now in
     record {
-      readies = λ unpinned covered. any_refusal (λ r. Readies view below old old out c.args.offset c.args.length c.args.overwrite r) c.from_residual.result (search rules) (back_none view below out old (pending_in view below old out) sound);
-      met = hands_met (MayFailAllocating (HasPinnedMapping out) ⊥ (IsCopiedCompressed c.args.self.now.file.header.fields c.args.old.now c.args.offset c.args.length c.args.overwrite) ⊥) c.from_residual.result c.in_err-old_data.field-0.0 c.from_residual.ensures (inl (inl (inl c.in_err-old_data.ensures.fault)));
+      readies = any_refusal (λ r. Readies view below old old out c.args.offset c.args.length c.args.overwrite r) c.from_residual.result (search rules) (back_none view below out old (pending_in view below old out) sound);
+      may_fail = hands_met (MayFailAllocating (HasPinnedMapping out) ⊥ (IsCopiedCompressed c.args.self.now.file.header.fields c.args.old.now c.args.offset c.args.length c.args.overwrite) ⊥) c.from_residual.result c.in_err-old_data.field-0.0 c.from_residual.ensures (inl (inl (inl c.in_err-old_data.ensures.fault)));
       limit = hands_limit c.from_residual.result c.in_err-old_data.field-0.0 c.from_residual.ensures (other_limit _ c.in_err-old_data.field-0.0 (fault_unlimited c.in_err-old_data.field-0.0 c.in_err-old_data.ensures.fault));
     }
 
 pub returns-in_err-pending-clause-sound : goal.returns-in_err-pending-clause-sound
-returns-in_err-pending-clause-sound g c = λ out sound holds.
+returns-in_err-pending-clause-sound g c = λ out sound holds unpinned covered.
     let view = g.S.Storage.view in
     let p = pending_in g.S.Storage.view g.F.BackingDisk.backing c.args.self.now out in
     let below = g.F.BackingDisk.backing in
     let old = c.args.self.now in
     record {
-      readies = λ unpinned covered. handed_on (λ r. Readies view below old c.new_cluster.new.self out c.args.offset c.args.length c.args.overwrite r) c.from_residual-in_err-pending.result c.in_err-pending.field-0.0 c.from_residual-in_err-pending.ensures
-          (c.in_err-pending.ensures.gains (pending_in view below old out) out sound (λ n. omega arith));
-      met = hands_met (MayFailAllocating (HasPinnedMapping out) ⊥ (IsCopiedCompressed c.args.self.now.file.header.fields c.args.old.now c.args.offset c.args.length c.args.overwrite) ⊥) c.from_residual-in_err-pending.result c.in_err-pending.field-0.0 c.from_residual-in_err-pending.ensures (inl (c.in_err-pending.ensures.met p out sound (λ k. omega arith)));
+      readies = handed_on (λ r. Readies view below old c.new_cluster.new.self out c.args.offset c.args.length c.args.overwrite r) c.from_residual-in_err-pending.result c.in_err-pending.field-0.0 c.from_residual-in_err-pending.ensures
+          ((c.in_err-pending.ensures.sound (pending_in view below old out) out sound (λ n. omega arith)).does);
+      may_fail = hands_met (MayFailAllocating (HasPinnedMapping out) ⊥ (IsCopiedCompressed c.args.self.now.file.header.fields c.args.old.now c.args.offset c.args.length c.args.overwrite) ⊥) c.from_residual-in_err-pending.result c.in_err-pending.field-0.0 c.from_residual-in_err-pending.ensures (inl ((c.in_err-pending.ensures.sound p out sound (λ k. omega arith)).may_fail));
       limit = hands_limit c.from_residual-in_err-pending.result c.in_err-pending.field-0.0 c.from_residual-in_err-pending.ensures
-          (λ is. limited_more (limited_taking sound (c.in_err-pending.ensures.limit (pending_in view g.F.BackingDisk.backing old out) out sound (λ k. omega arith) is)));
+          (λ is. limited_more (limited_taking sound ((c.in_err-pending.ensures.sound (pending_in view g.F.BackingDisk.backing old out) out sound (λ k. omega arith)).limit is)));
     }
 
 pub returns-in-Ok-clause-sound : goal.returns-in-Ok-clause-sound
-returns-in-Ok-clause-sound g c = λ out sound holds.
+returns-in-Ok-clause-sound g c = λ out sound holds unpinned covered.
     let view = g.S.Storage.view in
     let below = g.F.BackingDisk.backing in
     let old = c.args.self.now in
@@ -108,19 +100,19 @@ returns-in-Ok-clause-sound g c = λ out sound holds.
     let filled = c.new_cluster.new.self in
     let n = c.in_ok-pending.pending in
     let taken_is = c.hand_back.ensures ∙ ap (λ l. l ++ n ∷ []) c.new-taken.ensures in
-    let gained = c.in_ok-pending.ensures.gains p out sound (λ x. omega arith) in
+    let gained = (c.in_ok-pending.ensures.sound p out sound (λ x. omega arith)).does in
     let host_is = c.value-host.ensures ∙ c.offset.ensures ∙ ap (λ x. x * 2 ^ c.cluster_bits-bits.result) c.cluster.ensures ∙ ap (λ b. c.in_ok-pending.pending.first_cluster * 2 ^ b) c.cluster_bits-bits.ensures.value in
     record {
-      met = search rules;
+      may_fail = search rules;
       limit = search rules;
-      readies = λ unpinned covered k free. subst (λ (x : Prepared). IsReadied view below old c.prepare_at.new.self out k c.args.offset c.args.length c.args.overwrite x) (sym c.prepare_at.ensures.value)
-          (readied_new view below out old filled c.load_l2.new.self n c.args.old.now c.requires.reach c.requires.other c.hand_back.new.list c.in_ok-old_data.old_data taken_is c.in_ok-old_data.ensures.list c.prepare_at.result c.prepare_at.ensures.share k c.args.offset c.args.length c.args.table c.value-host.result c.args.overwrite free sound holds unpinned covered gained c.in_ok-pending.ensures.nameable
-          (c.in-Ok.ensures.keeps (with_new_data (pending_with_listed p old filled) (run_of c.in_ok-pending.pending)) out gained.image_step.sound) c.in-Ok.ensures.list c.in-Ok.ensures.cached host_is
-          (c.in-Ok.ensures.contents (with_new_data (pending_with_listed p old filled) (run_of c.in_ok-pending.pending)) out gained.image_step.sound) c.prepare_at.new.self c.prepare_at.ensures.pins);
+      readies = λ k free. subst (λ (x : Prepared). IsReadied view below old c.prepare_at.new.self out k c.args.offset c.args.length c.args.overwrite x) (sym c.prepare_at.ensures.value)
+          (readied_new view below out old filled c.load_l2.new.self n c.args.old.now c.requires.other.reach c.requires.other.other c.hand_back.new.list c.in_ok-old_data.old_data taken_is c.in_ok-old_data.ensures.list c.prepare_at.result c.prepare_at.ensures.cluster_mapping k c.args.offset c.args.length c.args.table c.value-host.result c.args.overwrite free sound holds unpinned covered gained c.in_ok-pending.ensures.nameable
+          ((c.in-Ok.ensures.sound (with_new_data (pending_with_listed p old filled) (run_of c.in_ok-pending.pending)) out gained.image_step.sound).keeps) (ap (λ (i : Qcow2 _ _). i.file.free_list) c.in-Ok.ensures.rest) c.in-Ok.ensures.cached host_is
+          ((c.in-Ok.ensures.sound (with_new_data (pending_with_listed p old filled) (run_of c.in_ok-pending.pending)) out gained.image_step.sound).contents) c.prepare_at.new.self c.prepare_at.ensures.pins);
     }
 
 pub returns-in-Err-clause-sound : goal.returns-in-Err-clause-sound
-returns-in-Err-clause-sound g c = λ out sound holds.
+returns-in-Err-clause-sound g c = λ out sound holds unpinned covered.
     let view = g.S.Storage.view in
     let below = g.F.BackingDisk.backing in
     let old = c.args.self.now in
@@ -130,19 +122,19 @@ returns-in-Err-clause-sound g c = λ out sound holds.
     let new_data = with_new_data (pending_with_listed p old filled) (run_of c.in_ok-pending.pending) in
     let n = c.in_ok-pending.pending in
     let all_new_data : HoldsAll view below p out = λ x. omega arith in
-    let gained = c.in_ok-pending.ensures.gains p out sound all_new_data in
+    let gained = (c.in_ok-pending.ensures.sound p out sound all_new_data).does in
     record {
-      readies = λ unpinned covered. let new_data = with_new_data (pending_with_listed p old filled) (run_of n) in
+      readies = let new_data = with_new_data (pending_with_listed p old filled) (run_of n) in
           let still = still_holds view below out old filled p n gained.one all_new_data gained.image_step in
-          let loaded = image_step_then view below out old filled mid p new_data new_data gained.image_step (image_step_kept view below out filled mid new_data new_data gained.image_step.sound still still (c.in-Err.ensures.keeps new_data out gained.image_step.sound)) in
-          let gone = subst (λ q. InternalFillingStep view below p (with_new_data q (run_of n)) old mid out) (listed_after_on view below out p old filled mid c.in-Err.ensures.list) loaded in
+          let loaded = image_step_then view below out old filled mid p new_data new_data gained.image_step (image_step_kept view below out filled mid new_data new_data gained.image_step.sound still still ((c.in-Err.ensures.sound new_data out gained.image_step.sound).keeps)) in
+          let gone = subst (λ q. InternalFillingStep view below p (with_new_data q (run_of n)) old mid out) (listed_after_on view below out p old filled mid (ap (λ (i : Qcow2 _ _). i.file.free_list) c.in-Err.ensures.rest)) loaded in
           subst (λ (image : Qcow2 _ _). RefusedFillingStep view below p old image out c.in-Err.refusal) (sym c.hand_back-in-Err.ensures)
           (inl (image_step_left view below out old mid p n gained.one gained.kind gone));
-      met = let place = subst (λ b. HasPlace b c.args.table) (sym (ap (λ (v : HeaderView). v.fields.cluster_bits) c.new_cluster.ensures.header))
+      may_fail = let place = subst (λ b. HasPlace b c.args.table) (sym (ap (λ (v : HeaderView). v.fields.cluster_bits) c.new_cluster.ensures.step.header))
           (named_place old.file.header.fields (known_in view old.file) (l1_index_of old.file.header.fields c.args.offset) c.args.table holds.entry.place) in
-          looking_taking ⊥ (IsCopiedCompressed old.file.header.fields c.args.old.now c.args.offset c.args.length c.args.overwrite) ⊥ c.in-Err.refusal (c.in-Err.ensures.met new_data out gained.image_step.sound place);
+          looking_taking ⊥ (IsCopiedCompressed old.file.header.fields c.args.old.now c.args.offset c.args.length c.args.overwrite) ⊥ c.in-Err.refusal ((c.in-Err.ensures.sound new_data out gained.image_step.sound).may_fail place);
       limit = let new_data = with_new_data (pending_with_listed p old filled) (run_of n) in
-          let place = subst (λ b. HasPlace b c.args.table) (sym (ap (λ (v : HeaderView). v.fields.cluster_bits) c.new_cluster.ensures.header))
+          let place = subst (λ b. HasPlace b c.args.table) (sym (ap (λ (v : HeaderView). v.fields.cluster_bits) c.new_cluster.ensures.step.header))
           (named_place old.file.header.fields (known_in view old.file) (l1_index_of old.file.header.fields c.args.offset) c.args.table holds.entry.place) in
-          other_limit _ c.in-Err.refusal (looking_unlimited c.in-Err.refusal (c.in-Err.ensures.met new_data out gained.image_step.sound place));
+          other_limit _ c.in-Err.refusal (looking_unlimited c.in-Err.refusal ((c.in-Err.ensures.sound new_data out gained.image_step.sound).may_fail place));
     }

@@ -5,26 +5,26 @@ use Rattle.qcow2_metadata.specs.declared.header.HeaderFields.{HeaderFields}
 use Rattle.qcow2_alloc.proofs.ListedAfter.{header_format}
 use Rattle.qcow2_image.specs.declared.prepared.Prepared.{Prepared}
 use Rattle.qcow2_image.specs.Ranges.{FindsBehind, IsExtended}
-use Rattle.qcow2_image.proofs.Prepare.Extending.{extended}
-use Rattle.qcow2_image.proofs.Prepare.Lacked.{hands_limit}
+use Rattle.qcow2_image.proofs.Prepare.NextCluster.{extended}
+use Rattle.qcow2_image.proofs.Prepare.LimitCauses.{hands_limit}
 use Rattle.qcow2_metadata.specs.Cover.{cover}
-use Rattle.qcow2_image.specs.MetAlone.{IsCopiedCompressed}
-use Rattle.qcow2_image.proofs.Prepare.MetTables.{hands_alone}
+use Rattle.qcow2_image.specs.MayFail.{IsCopiedCompressed}
+use Rattle.qcow2_image.proofs.Prepare.FailingTables.{hands_alone}
 use Rattle.qcow2_alloc.specs.ImageFile.{known_in}
 use Rattle.qcow2_image.proofs.image.Qcow2.prepare_next.Goals as goal
 
 pub returns-in_default-clause-step : goal.returns-in_default-clause-step
-returns-in_default-clause-step g c = c.share_behind.ensures.step
+returns-in_default-clause-step g c = c.cluster_mapping_behind.ensures.step
 
 pub returns-clause-step : goal.returns-clause-step
-returns-clause-step g c = c.share_behind.ensures.step
+returns-clause-step g c = c.cluster_mapping_behind.ensures.step
 
 pub returns-in_default-clause-sound : goal.returns-in_default-clause-sound
 returns-in_default-clause-sound g c = λ out k at may sound.
     record {
-      met = search rules;
+      may_fail = search rules;
       limit = search rules;
-      does = subst (λ v. FindsBehind g.S.Storage.view g.F.BackingDisk.backing c.args.self.now c.share_behind.new.self out c.args.length c.args.overwrite c.args.prepared.now (Ok v)) c.in_default.is ((c.in_ok-share.ensures.sound out k at may sound).does);
+      does = subst (λ v. FindsBehind g.S.Storage.view g.F.BackingDisk.backing c.args.self.now c.cluster_mapping_behind.new.self out c.args.length c.args.overwrite c.args.prepared.now (Ok v)) c.in_default.is ((c.in_ok-cluster_mapping.ensures.sound out k at may sound).does);
     }
 
 pub returns-clause-sound : goal.returns-clause-sound
@@ -32,27 +32,27 @@ returns-clause-sound g c = λ out k at may sound.
     let view = g.S.Storage.view in
     let below = g.F.BackingDisk.backing in
     let old = c.args.self.now in
-    let mid = c.share_behind.new.self in
+    let mid = c.cluster_mapping_behind.new.self in
     let p = c.args.prepared.now in
-    let found = subst (λ v. FindsBehind view below old mid out c.args.length c.args.overwrite c.args.prepared.now (Ok v)) c.in-Some.is ((c.in_ok-share.ensures.sound out k at may sound).does) in
-    let size : c.cluster_size-size.result ≡ cluster_size old.file.header.fields = c.cluster_size-size.ensures.value ∙ ap (λ (x : HeaderFields). cluster_size x) (header_format old.file.header mid.file.header c.share_behind.ensures.header) in
+    let found = subst (λ v. FindsBehind view below old mid out c.args.length c.args.overwrite c.args.prepared.now (Ok v)) c.in-Some.is ((c.in_ok-cluster_mapping.ensures.sound out k at may sound).does) in
+    let size : c.cluster_size-size.result ≡ cluster_size old.file.header.fields = c.cluster_size-size.ensures.value ∙ ap (λ (x : HeaderFields). cluster_size x) (header_format old.file.header mid.file.header c.cluster_mapping_behind.ensures.step.header) in
     record {
-      met = search rules;
+      may_fail = search rules;
       limit = search rules;
       does = let longer : c.min-prepared.result ≡ min c.args.length (p.length + cluster_size old.file.header.fields) =
           let a = c.min-prepared.ensures in let b = c.saturating_add.ensures in let few = c.ranges.length.fits in omega arith in
-          let like : Prepared = record p { shares = c.push_reserved.new.self } in
-          subst (λ l. IsExtended view below old mid out k c.args.length c.args.overwrite p (record p { length = l; shares = c.push_reserved.new.self })) (sym longer)
-          (extended view below old mid out k p at c.args.length c.args.table c.args.overwrite may c.in-Some.share found like c.push_reserved.ensures.items sound.file.caches.kept.kept.crash_invariant);
+          let like : Prepared = record p { clusters = c.push_reserved.new.self } in
+          subst (λ l. IsExtended view below old mid out k c.args.length c.args.overwrite p (record p { length = l; clusters = c.push_reserved.new.self })) (sym longer)
+          (extended view below old mid out k p at c.args.length c.args.table c.args.overwrite may c.in-Some.cluster_mapping found like c.push_reserved.ensures.items sound.file.caches.kept.kept.crash_invariant);
     }
 
-pub returns-in_err-share-clause-sound : goal.returns-in_err-share-clause-sound
-returns-in_err-share-clause-sound g c = λ out k at may sound.
+pub returns-in_err-cluster_mapping-clause-sound : goal.returns-in_err-cluster_mapping-clause-sound
+returns-in_err-cluster_mapping-clause-sound g c = λ out k at may sound.
     let old = c.args.self.now in
     let p = c.args.prepared.now in
     let h = old.file.header.fields in
     record {
       does = search rules;
-      met = hands_alone (IsCopiedCompressed h (cover h (known_in g.S.Storage.view old.file) ((p.guest + p.length) / cluster_size h)) (p.guest + p.length) (c.args.length - p.length) c.args.overwrite) ⊥ c.from_residual.result c.in_err-share.field-0.0 c.from_residual.ensures ((c.in_err-share.ensures.sound out k at may sound).met);
-      limit = hands_limit c.from_residual.result c.in_err-share.field-0.0 c.from_residual.ensures ((c.in_err-share.ensures.sound out k at may sound).limit);
+      may_fail = hands_alone (IsCopiedCompressed h (cover h (known_in g.S.Storage.view old.file) ((p.guest + p.length) / cluster_size h)) (p.guest + p.length) (c.args.length - p.length) c.args.overwrite) ⊥ c.from_residual.result c.in_err-cluster_mapping.field-0.0 c.from_residual.ensures ((c.in_err-cluster_mapping.ensures.sound out k at may sound).may_fail);
+      limit = hands_limit c.from_residual.result c.in_err-cluster_mapping.field-0.0 c.from_residual.ensures ((c.in_err-cluster_mapping.ensures.sound out k at may sound).limit);
     }

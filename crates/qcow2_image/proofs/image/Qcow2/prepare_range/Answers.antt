@@ -5,27 +5,27 @@ use Rattle.qcow2_alloc.proofs.AllocationSteps.{handed_on}
 use Rattle.qcow2_image.specs.CallParts.{PreparesRange}
 use Rattle.qcow2_image.specs.Preparing.{IsPlaceOf, IsWritableAt, IsTaken}
 use Rattle.qcow2_image.specs.ImageInvariant.{meaning, pending_in}
-use Rattle.qcow2_image.proofs.Prepare.PreparedAs.{answered_before, answered_existing, answered_range, nowhere_before, taken_before}
+use Rattle.qcow2_image.proofs.Prepare.PreparedAnswers.{answered_before, answered_existing, answered_range, nowhere_before, taken_before}
 use Rattle.qcow2_image.proofs.Map.Loading.{if_ok}
-use Rattle.qcow2_image.proofs.Free.{free_places}
+use Rattle.qcow2_image.proofs.Images.Free.{free_places}
 use Rattle.qcow2_alloc.proofs.Outcomes.{on_ok}
 use Rattle.qcow2_image.proofs.Prepare.Preparing.{readied_existing}
 use Rattle.qcow2_image.proofs.Call.Refused.{prepares_after, readied_after}
-use Rattle.qcow2_image.proofs.Prepare.Taken.{if_err, taken_by}
+use Rattle.qcow2_image.proofs.Prepare.RefusedAsPrepared.{if_err, taken_by}
 use Rattle.std.specs.Prelude.{IsSome, IfSome}
 use Rattle.qcow2_alloc.proofs.KeptMarks.{notes_then}
 use Rattle.qcow2_image.proofs.Call.BehindHeader.{behind_then}
-use Rattle.qcow2_image.proofs.Prepare.Pinned.{found_pins, met_untaken, prepared_unpinned, unpinned_refused}
-use Rattle.qcow2_image.proofs.Prepare.Lacked.{hands_limit, other_limit, goes_step, limited_since, limits_as}
+use Rattle.qcow2_image.proofs.Prepare.PinnedL2Tables.{found_pins, met_untaken, prepared_unpinned, unpinned_refused}
+use Rattle.qcow2_image.proofs.Prepare.LimitCauses.{hands_limit, other_limit, goes_step, limited_since, limits_as}
 use Rattle.qcow2_metadata.specs.Header.{cluster_size}
 use Rattle.qcow2_metadata.specs.declared.header.HeaderFields.{HeaderFields}
 use Rattle.qcow2_image.specs.L1Entries.{NeedsOverflowingL1Entry}
-use Rattle.qcow2_image.specs.MetAlone.{CopiesCompressed, MayFailAllocating}
-use Rattle.qcow2_image.proofs.Prepare.MetRanges.{place_kept, place_then}
+use Rattle.qcow2_image.specs.MayFail.{CopiesCompressed, MayFailAllocating}
+use Rattle.qcow2_image.proofs.Prepare.FailingRanges.{place_kept, place_then}
 use Rattle.qcow2_image.proofs.Prepare.Unannounced.{compressed_as}
 use Rattle.qcow2_image.specs.Backings.{HasPinnedMapping}
-use Rattle.qcow2_image.proofs.Prepare.Met.{hands_met}
-use Rattle.qcow2_image.proofs.Prepare.MetTaking.{if_err_both, taking_as, taking_kept}
+use Rattle.qcow2_image.proofs.Prepare.FailingCopies.{hands_met}
+use Rattle.qcow2_image.proofs.Prepare.FailingAllocations.{if_err_both, taking_as, taking_kept}
 
 pub returns-in-Some-clause-some : goal.returns-in-Some-clause-some
 returns-in-Some-clause-some g c = λ some.
@@ -55,7 +55,7 @@ returns-in-Some-clause-l1_place g c = c.in_ok-table.ensures.l1_place
 pub returns-in-None-clause-l1_place : goal.returns-in-None-clause-l1_place
 returns-in-None-clause-l1_place g c = λ within.
     on_ok _ c.prepare_in.result
-    (place_then c.args.self.now.file.header.fields c.writable_l2_table.new.self.file.header.fields c.prepare_in.new.self.file.header.fields (c.in_ok-table.ensures.l1_place within) (place_kept c.writable_l2_table.new.self.file.header c.prepare_in.new.self.file.header c.prepare_in.ensures.header))
+    (place_then c.args.self.now.file.header.fields c.writable_l2_table.new.self.file.header.fields c.prepare_in.new.self.file.header.fields (c.in_ok-table.ensures.l1_place within) (place_kept c.writable_l2_table.new.self.file.header c.prepare_in.new.self.file.header c.prepare_in.ensures.step.header))
 
 pub returns-in_err-table-clause-step : goal.returns-in_err-table-clause-step
 returns-in_err-table-clause-step g c = c.writable_l2_table.ensures.step
@@ -84,8 +84,8 @@ returns-in_err-table-clause-sound g c = λ some out sound.
       freeing = search rules;
       readies = handed_on (λ r. PreparesRange g.S.Storage.view g.F.BackingDisk.backing c.args.self.now c.writable_l2_table.new.self out c.args.offset c.args.length c.args.overwrite r) c.from_residual.result c.in_err-table.field-0.0 c.from_residual.ensures
           ((c.in_err-table.ensures.sound out sound).finds);
-      met = hands_met (MayFailAllocating (HasPinnedMapping out) (IsTaken h known c.args.offset c.args.length out) (CopiesCompressed c.args.offset c.args.length c.args.overwrite h known) (NeedsOverflowingL1Entry old c.args.offset)) c.from_residual.result c.in_err-table.field-0.0 c.from_residual.ensures
-          (taking_as (λ held. held) (λ no. absurd no) (λ no. absurd no) (λ far. far) c.in_err-table.field-0.0 ((c.in_err-table.ensures.sound out sound).met));
+      may_fail = hands_met (MayFailAllocating (HasPinnedMapping out) (IsTaken h known c.args.offset c.args.length out) (CopiesCompressed c.args.offset c.args.length c.args.overwrite h known) (NeedsOverflowingL1Entry old c.args.offset)) c.from_residual.result c.in_err-table.field-0.0 c.from_residual.ensures
+          (taking_as (λ held. held) (λ no. absurd no) (λ no. absurd no) (λ far. far) c.in_err-table.field-0.0 ((c.in_err-table.ensures.sound out sound).may_fail));
       limit = hands_limit c.from_residual.result c.in_err-table.field-0.0 c.from_residual.ensures ((c.in_err-table.ensures.sound out sound).limit);
     }
 
@@ -99,7 +99,7 @@ returns-in_err-host-clause-sound g c = λ some out sound.
       freeing = search rules;
       readies = handed_on (λ r. PreparesRange g.S.Storage.view g.F.BackingDisk.backing c.args.self.now c.writable_l2_table.new.self out c.args.offset c.args.length c.args.overwrite r) c.from_residual-in_err-host.result c.in_err-host.field-0.0 c.from_residual-in_err-host.ensures
           (inl ((c.in_ok-table.ensures.sound out sound).finds).0);
-      met = absurd (let no : false ≡ true = c.in_err-host.ensures.reads (pending_in g.S.Storage.view g.F.BackingDisk.backing mid out) found.0.sound.file found.1.entry in cc);
+      may_fail = absurd (let no : false ≡ true = c.in_err-host.ensures.reads (pending_in g.S.Storage.view g.F.BackingDisk.backing mid out) found.0.sound.file found.1.entry in cc);
       limit = hands_limit c.from_residual-in_err-host.result c.in_err-host.field-0.0 c.from_residual-in_err-host.ensures (other_limit _ c.in_err-host.field-0.0 c.in_err-host.ensures.limited);
     }
 
@@ -115,7 +115,7 @@ returns-in-Some-clause-sound g c = λ some out sound.
     let p = pending_in view below mid out in
     let place = subst (IsPlaceOf h known c.args.offset c.args.length) c.in-Some.is (c.in_ok-host.ensures.place p found.0.sound.file found.0.sound.inside found.1.entry some) in
     record {
-      met = search rules;
+      may_fail = search rules;
       taken = search rules;
       limit = search rules;
       readies = λ k free. readied_after view below out c.args.self.now c.writable_l2_table.new.self c.writable_l2_table.new.self found.0 k c.args.offset c.args.length c.args.overwrite c.existing_at.result
@@ -154,9 +154,9 @@ returns-in-None-clause-sound g c = λ some out sound.
     record {
       readies = prepares_after g.S.Storage.view g.F.BackingDisk.backing out c.args.self.now c.writable_l2_table.new.self c.prepare_in.new.self found.0 c.args.offset c.args.length c.args.overwrite c.prepare_in.result
           ((c.prepare_in.ensures.sound out found.0.sound found.1).readies);
-      met = if_err_both
+      may_fail = if_err_both
           (λ e. taking_kept (compressed_as old.file.header.fields mid.file.header.fields (known_in view old.file) (known_in view mid.file) c.args.offset c.args.length c.args.overwrite size found.0.covers) (λ no. absurd no) e)
-          c.prepare_in.result taken ((c.prepare_in.ensures.sound out found.0.sound found.1).met some);
+          c.prepare_in.result taken ((c.prepare_in.ensures.sound out found.0.sound found.1).may_fail some);
       taken = taken;
       answers = answers;
       freeing = if_ok c.prepare_in.result

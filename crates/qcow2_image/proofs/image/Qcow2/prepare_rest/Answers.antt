@@ -1,3 +1,4 @@
+use Rattle.qcow2_image.proofs.Call.WriteSteps.{taking_none, taking_then}
 use Rattle.std.proofs.Common.{◌≡◌, ◌-◌, ◌*◌, ◌%◌, ◌<◌, ◌≤◌, length, true, false, inr, refl, sym, ap, ◌∙◌, subst, arith, min, ◌+◌, rules}
 use Rattle.std.specs.Prelude.{Ok, Err, Some, None, slice_set, vec_capacity}
 use Rattle.qcow2_metadata.specs.Header.{cluster_size}
@@ -8,18 +9,15 @@ use Rattle.qcow2_image.specs.CallParts.{IsReadied}
 use Rattle.qcow2_image.specs.Limits.{GoesTo}
 use Rattle.qcow2_image.specs.Ranges.{BreaksOff, Ends, GoesNext, GoesOn}
 use Rattle.qcow2_image.proofs.Call.Slots.{get_set_same, length_set}
-use Rattle.qcow2_image.proofs.Prepare.Onward.{may_go_on, so_far_all, so_far_ends, so_far_next}
+use Rattle.qcow2_image.proofs.Prepare.RangeByParts.{may_go_on, so_far_all, so_far_ends, so_far_next}
 use Rattle.qcow2_image.proofs.Call.FaultCounts.{counted_ok, counted_on, faults_then}
-use Rattle.qcow2_alloc.proofs.KeptMarks.{notes_none, notes_then}
-use Rattle.qcow2_image.proofs.Call.BehindHeader.{behind_none, behind_then}
-use Rattle.qcow2_image.proofs.Prepare.Lacked.{goes_then, hands_limit, limited_from}
-use Rattle.qcow2_disk.specs.Found.{rest_of_table}
+use Rattle.qcow2_image.proofs.Prepare.LimitCauses.{goes_then, hands_limit, limited_from}
 use Rattle.qcow2_metadata.specs.declared.header.HeaderFields.{HeaderFields}
 use Rattle.qcow2_alloc.specs.ImageFile.{known_in}
-use Rattle.qcow2_image.specs.MetAlone.{CopiesCompressed}
-use Rattle.qcow2_image.proofs.Prepare.MetTables.{hands_alone}
-use Rattle.qcow2_image.proofs.Prepare.Behind.{next_begins}
-use Rattle.qcow2_image.proofs.Prepare.MetRanges.{alone_as}
+use Rattle.qcow2_image.specs.MayFail.{CopiesCompressed}
+use Rattle.qcow2_image.proofs.Prepare.FailingTables.{hands_alone}
+use Rattle.qcow2_image.proofs.Prepare.FollowingCluster.{next_begins}
+use Rattle.qcow2_image.proofs.Prepare.FailingRanges.{alone_as}
 use Rattle.qcow2_image.proofs.Prepare.Unannounced.{compressed_as, compressed_at}
 use Rattle.qcow2_image.proofs.image.Qcow2.prepare_rest.Goals as goal
 
@@ -28,15 +26,14 @@ loop-prepared-init g c = record {
   turns = record {
     stays = record { image = record { number = refl; size = refl; writable = refl; external = refl }; failed = refl };
     header = header_same _ _ refl;
-    longer = record { image = refl; guest = refl; place = refl; under = refl; first = λ share at. at; more = omega arith; most = λ past. refl; whole = λ less. c.requires.whole };
+    longer = record { image = refl; guest = refl; place = refl; under = refl; first = λ cluster_mapping at. at; more = omega arith; most = λ past. refl; whole = λ less. c.requires.whole };
     room =
         let bound = c.min-end.ensures ∙ ap (min c.args.length) c.rest_of_table.ensures.value in
-        subst (λ m. c.args.prepared.now.guest % cluster_size c.args.self.now.file.header.fields + m < vec_capacity c.args.prepared.now.shares * cluster_size c.args.self.now.file.header.fields) (sym bound) c.requires.room;
+        subst (λ m. c.args.prepared.now.guest % cluster_size c.args.self.now.file.header.fields + m < vec_capacity c.args.prepared.now.clusters * cluster_size c.args.self.now.file.header.fields) (sym bound) c.requires.room;
     image_step = λ start out k free under is. is;
   };
   faults = record { storage = refl; below = refl };
-  notes = notes_none;
-  behind = behind_none;
+  step = taking_none;
 }
 
 pub loop-prepared-preserved : goal.loop-prepared-preserved
@@ -50,20 +47,15 @@ loop-prepared-preserved g c =
     let n = c.args.length in
     let bound = c.min-end.ensures ∙ ap (min c.args.length) c.rest_of_table.ensures.value in
     record {
-      turns = so_far_next view below c.args.self.now now c.args.prepared.now q n c.min-end.result c.args.table c.args.overwrite c.loop-prepared.invariant.turns bound c.loop-prepared-test.true new r c.prepare_next.ensures.step.stays c.prepare_next.ensures.header
+      turns = so_far_next view below c.args.self.now now c.args.prepared.now q n c.min-end.result c.args.table c.args.overwrite c.loop-prepared.invariant.turns bound c.loop-prepared-test.true new r c.prepare_next.ensures.step.stays c.prepare_next.ensures.step.header
           (c.prepare_next.ensures.next (c.in_ok-prepare_next.was ∙ ap Ok c.if-not-branch.false)) c.prepare_next.ensures.room
           (λ out k at may sound. subst (λ b. GoesNext view below now new out k n c.args.overwrite q r (Ok b)) c.if-not-branch.false ((c.in_ok-prepare_next.ensures.sound out k at may sound).does));
       faults = faults_then view below c.args.self.now now new c.loop-prepared.invariant.faults c.in_ok-prepare_next.ensures.fails.faults.told;
-      notes = notes_then c.loop-prepared.invariant.notes c.prepare_next.ensures.step.notes;
-      behind = behind_then c.loop-prepared.invariant.behind c.prepare_next.ensures.step.header_cluster;
+      step = taking_then c.loop-prepared.invariant.step c.prepare_next.ensures.step;
     }
 
 pub returns-in_err-prepare_next-clause-step : goal.returns-in_err-prepare_next-clause-step
-returns-in_err-prepare_next-clause-step g c = record {
-  stays = search rules;
-  notes = notes_then c.loop-prepared.invariant.notes c.prepare_next.ensures.step.notes;
-  header_cluster = behind_then c.loop-prepared.invariant.behind c.prepare_next.ensures.step.header_cluster;
-}
+returns-in_err-prepare_next-clause-step g c = taking_then c.loop-prepared.invariant.step c.prepare_next.ensures.step
 
 pub returns-in_err-prepare_next-clause-fails : goal.returns-in_err-prepare_next-clause-fails
 returns-in_err-prepare_next-clause-fails g c = record {
@@ -73,11 +65,7 @@ returns-in_err-prepare_next-clause-fails g c = record {
 }
 
 pub returns-then-not-branch-clause-step : goal.returns-then-not-branch-clause-step
-returns-then-not-branch-clause-step g c = record {
-  stays = search rules;
-  notes = notes_then c.loop-prepared.invariant.notes c.prepare_next.ensures.step.notes;
-  header_cluster = behind_then c.loop-prepared.invariant.behind c.prepare_next.ensures.step.header_cluster;
-}
+returns-then-not-branch-clause-step g c = taking_then c.loop-prepared.invariant.step c.prepare_next.ensures.step
 
 pub returns-then-not-branch-clause-fails : goal.returns-then-not-branch-clause-fails
 returns-then-not-branch-clause-fails g c = record {
@@ -87,7 +75,7 @@ returns-then-not-branch-clause-fails g c = record {
 }
 
 pub returns-clause-step : goal.returns-clause-step
-returns-clause-step g c = record { stays = search rules; notes = c.loop-prepared.invariant.notes; header_cluster = c.loop-prepared.invariant.behind }
+returns-clause-step g c = c.loop-prepared.invariant.step
 
 pub returns-clause-fails : goal.returns-clause-fails
 returns-clause-fails g c = record { faults = counted_ok g.S.Storage.view g.F.BackingDisk.backing c.args.self.now c.loop-prepared.self tt c.loop-prepared.invariant.faults; cause = search rules }
@@ -121,15 +109,15 @@ returns-in_err-prepare_next-clause-sound g c = λ start out k free under is.
             refused = (c.in_err-prepare_next.ensures.sound (slice_set out k (Some q)) k (get_set_same out k (Some q) None free)
                 (may_go_on view below old now p q n c.min-end.result c.args.table c.args.overwrite so bound c.loop-prepared-test.true start out k under is) before.sound).does;
           }));
-      met = hands_alone (CopiesCompressed p.guest n c.args.overwrite h (known_in view old.file)) ⊥ c.from_residual.result e c.from_residual.ensures
+      may_fail = hands_alone (CopiesCompressed p.guest n c.args.overwrite h (known_in view old.file)) ⊥ c.from_residual.result e c.from_residual.ensures
           (alone_as
           (λ copied.
           compressed_as h now.file.header.fields (known_in view old.file) (known_in view now.file) p.guest n c.args.overwrite size (λ j. sym (is.covers j) ∙ before.covers j)
           (compressed_at now.file.header.fields (known_in view now.file) p.guest n (q.guest + q.length) (n - q.length) c.args.overwrite (omega (arith, guest)) (omega (arith, bound, less)) (omega (arith, guest, bound, less))
           (inr (next_begins view below now (slice_set out k (Some q)) k q (get_set_same out k (Some q) None free) n c.args.table c.args.overwrite may before.sound)) copied))
-          (λ no. no) e ((c.in_err-prepare_next.ensures.sound (slice_set out k (Some q)) k (get_set_same out k (Some q) None free) may before.sound).met));
+          (λ no. no) e ((c.in_err-prepare_next.ensures.sound (slice_set out k (Some q)) k (get_set_same out k (Some q) None free) may before.sound).may_fail));
       limit = λ goes. let may = may_go_on view below old now p q n c.min-end.result c.args.table c.args.overwrite so bound c.loop-prepared-test.true start out k under is in
-          let so_far : GoesTo view old now = record { image = so.stays.image; header_cluster = c.loop-prepared.invariant.behind } in
+          let so_far : GoesTo view old now = record { image = so.stays.image; header_cluster = c.loop-prepared.invariant.step.header_cluster } in
           hands_limit c.from_residual.result e c.from_residual.ensures
           (λ limit. limited_from (subst (λ n. n ≤ length out) (sym (length_set out k (Some q))) (omega arith)) (omega arith) (goes_then goes so_far) before.sound before.works ((c.in_err-prepare_next.ensures.sound (slice_set out k (Some q)) k (get_set_same out k (Some q) None free) may before.sound).limit limit));
     }
@@ -146,7 +134,7 @@ returns-then-not-branch-clause-sound g c = λ start out k free under is.
     let never : c.prepare_next.result ≡ Ok true → ⊥ = λ ok. (let f : Ok c.in_ok-prepare_next.field-0 ≡ Ok true = sym c.in_ok-prepare_next.was ∙ ok in let yes : c.in_ok-prepare_next.field-0 ≡ true = cc in absurd (let no : false ≡ true = sym c.if-not-branch.true ∙ yes in cc)) in
     let same : c.prepare_next.new.prepared ≡ q = c.prepare_next.ensures.same never in
     record {
-      met = search rules;
+      may_fail = search rules;
       limit = search rules;
       does = subst (λ (x : Prepared). IsReadied view below start new out k x.guest n c.args.overwrite x × (x.length < c.args.length → Ends view new x)) (sym same)
           (so_far_ends view below c.args.self.now now c.args.prepared.now q n c.min-end.result c.args.table c.args.overwrite c.loop-prepared.invariant.turns bound c.loop-prepared-test.true new start out k free under is
@@ -159,7 +147,7 @@ pub returns-clause-sound : goal.returns-clause-sound
 returns-clause-sound g c = λ start out k free under is.
     let bound = c.min-end.ensures ∙ ap (min c.args.length) c.rest_of_table.ensures.value in
     record {
-      met = search rules;
+      may_fail = search rules;
       limit = search rules;
       does = so_far_all g.S.Storage.view g.F.BackingDisk.backing c.args.self.now c.loop-prepared.self c.args.prepared.now c.loop-prepared.prepared c.args.length c.min-end.result c.args.table c.args.overwrite c.loop-prepared.invariant.turns bound start out k free under is
           (omega (arith, c.loop-prepared-test.false));

@@ -1,11 +1,36 @@
 use Rattle.qcow2_alloc.proofs.Outcomes.{not_both}
-use Rattle.std.proofs.Common.{◌≡◌, inl, inr, refl, sym, ◌∙◌, subst, Ok, Err}
+use Rattle.std.proofs.Common.{◌≡◌, inl, inr, refl, sym, ◌∙◌, subst, Ok, Err, rules, []}
 use Rattle.qcow2_laws.specs.CrashInvariant.{Pending}
 use Rattle.qcow2_image.specs.ImageInvariant.{ImageInvariant}
 use Rattle.qcow2_image.proofs.Flush.Freeing.{all_listed, beside, freed_refused, tidy_stays}
 use Rattle.qcow2_image.proofs.Call.FaultCounts.{counted_as, counted_still}
 use Rattle.qcow2_image.proofs.Call.ImageSteps.{step_none}
 use Rattle.qcow2_image.proofs.image.Qcow2.process_free_list_after.Goals as goal
+use Rattle.qcow2_image.proofs.Grow.GrownByParts.{freed_since, lasts_none}
+
+pub returns-then-is_last-clause-refused : goal.returns-then-is_last-clause-refused
+returns-then-is_last-clause-refused g c = record {
+  cause = search rules;
+  taken = search rules;
+  fault = search rules;
+  idle = λ none. (refl, refl);
+}
+
+pub returns-in-Ok-clause-refused : goal.returns-in-Ok-clause-refused
+returns-in-Ok-clause-refused g c = record {
+  cause = search rules;
+  taken = search rules;
+  fault = search rules;
+  idle = λ none. (refl, (c.process_free_list.ensures.idle none).1);
+}
+
+pub returns-in-Err-clause-refused : goal.returns-in-Err-clause-refused
+returns-in-Err-clause-refused g c = record {
+  cause = search rules;
+  taken = search rules;
+  fault = search rules;
+  idle = λ none. absurd (let no : Ok tt ≡ Err c.in-Err.fault = sym (c.process_free_list.ensures.idle none).0 ∙ c.in-Err.is in cc);
+}
 
 pub returns-in-Ok-clause-frees : goal.returns-in-Ok-clause-frees
 returns-in-Ok-clause-frees g c = λ out sound.
@@ -38,15 +63,6 @@ returns-in-Ok-clause-faults g c = λ start told.
 pub returns-in-Err-clause-faults : goal.returns-in-Err-clause-faults
 returns-in-Err-clause-faults g c = λ start told.
     counted_as g.S.Storage.view g.F.BackingDisk.backing start c.args.self.now c.process_free_list.new.self c.process_free_list.result c.in-Err.fault (told.told (λ is. not_both c.is_last.result (c.is_last.ensures.fault (inl is)) c.if-is_last.false)) c.process_free_list.ensures.counts c.in-Err.is
-
-pub returns-then-is_last-clause-idle : goal.returns-then-is_last-clause-idle
-returns-then-is_last-clause-idle g c = λ none. (refl, refl)
-
-pub returns-in-Ok-clause-idle : goal.returns-in-Ok-clause-idle
-returns-in-Ok-clause-idle g c = λ none. (refl, (c.process_free_list.ensures.idle none).1)
-
-pub returns-in-Err-clause-idle : goal.returns-in-Err-clause-idle
-returns-in-Err-clause-idle g c = λ none. absurd (let no : Ok tt ≡ Err c.in-Err.fault = sym (c.process_free_list.ensures.idle none).0 ∙ c.in-Err.is in cc)
 
 pub returns-then-is_last-clause-told : goal.returns-then-is_last-clause-told
 returns-then-is_last-clause-told g c = (inl refl, λ out sound. inl refl)
@@ -87,3 +103,20 @@ returns-in-Ok-clause-step g c = c.process_free_list.ensures.step
 
 pub returns-in-Err-clause-step : goal.returns-in-Err-clause-step
 returns-in-Err-clause-step g c = c.process_free_list.ensures.step
+
+pub returns-then-is_last-clause-lasts : goal.returns-then-is_last-clause-lasts
+returns-then-is_last-clause-lasts g c = λ out sound. (lasts_none g.S.Storage.view c.args.self.now []).since
+
+pub returns-in-Ok-clause-lasts : goal.returns-in-Ok-clause-lasts
+returns-in-Ok-clause-lasts g c = λ out sound.
+    let view = g.S.Storage.view in
+    let below = g.F.BackingDisk.backing in
+    let old = c.args.self.now in
+    freed_since view below out (beside view below old out) old c.process_free_list.new.self (Ok tt) (c.in-Ok.ensures.frees (beside view below old out) out (subst (λ (x : Pending). ImageInvariant view below x old out) (all_listed view below old out) sound))
+
+pub returns-in-Err-clause-lasts : goal.returns-in-Err-clause-lasts
+returns-in-Err-clause-lasts g c = λ out sound.
+    let view = g.S.Storage.view in
+    let below = g.F.BackingDisk.backing in
+    let old = c.args.self.now in
+    freed_since view below out (beside view below old out) old c.process_free_list.new.self (Err c.in-Err.fault) (c.in-Err.ensures.frees (beside view below old out) out (subst (λ (x : Pending). ImageInvariant view below x old out) (all_listed view below old out) sound))

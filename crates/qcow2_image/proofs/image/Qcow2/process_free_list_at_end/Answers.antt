@@ -24,7 +24,7 @@ returns-clause-frees g c = λ out sound.
     let listed = subst (λ (x : Pending). ImageInvariant view below x old out) (all_listed view below old out) sound in
     subst (λ (image : Qcow2 _ _). EndsFreeing view below old image out c.mark_failure.result) (sym c.mark_failure.ensures.rest)
     (subst (λ (x : Result _ _). EndsFreeing view below old (record new { is_failed = is_failed c.mark_failure.new.self }) out x) (sym c.mark_failure.ensures.answer)
-    (ends_freeing view below old sound.works new (is_failed c.mark_failure.new.self) c.process_free_list-freed.ensures.step.stays.image.number out sound c.process_free_list-freed.result (may_mark c.process_free_list-freed.new.self c.mark_failure.new.self c.process_free_list-freed.result c.mark_failure.ensures.marks) (marks_memory c.process_free_list-freed.new.self c.mark_failure.new.self c.process_free_list-freed.new.self c.process_free_list-freed.result c.mark_failure.ensures.marks (ap (λ (i : Qcow2 _ _). i.file) c.mark_failure.ensures.rest)) c.process_free_list-freed.ensures.noted
+    (ends_freeing view below old sound.works new (is_failed c.mark_failure.new.self) c.process_free_list-freed.ensures.step.stays.image.number out sound c.process_free_list-freed.result (may_mark c.process_free_list-freed.new.self c.mark_failure.new.self c.process_free_list-freed.result c.mark_failure.ensures.marks) (marks_memory c.process_free_list-freed.new.self c.mark_failure.new.self c.process_free_list-freed.new.self c.process_free_list-freed.result c.mark_failure.ensures.marks (ap (λ (i : Qcow2 _ _). i.file) c.mark_failure.ensures.rest)) c.process_free_list-freed.ensures.step.notes.tables.recorded
     (c.process_free_list-freed.ensures.faults p out listed) (c.process_free_list-freed.ensures.frees p out listed)))
 
 pub returns-clause-idle : goal.returns-clause-idle

@@ -3,7 +3,7 @@ use Rattle.qcow2_alloc.proofs.KeptMarks.{notes_of_storage, told_kept}
 use Rattle.qcow2_image.proofs.Call.BehindHeader.{behind_guard, behind_wrote}
 use Rattle.qcow2_alloc.specs.ImageError.{of_storage}
 use Rattle.qcow2_image.proofs.Call.Unlimited.{storage_fault, storage_unlimited}
-use Rattle.qcow2_image.proofs.Prepare.Lacked.{hands_fault, hands_unlimited}
+use Rattle.qcow2_image.proofs.Prepare.LimitCauses.{hands_fault, hands_unlimited}
 use Rattle.qcow2_image.proofs.Call.ImageSteps.{step_none}
 use Rattle.qcow2_image.proofs.image.Qcow2.put_zeros.Goals as goal
 
@@ -13,7 +13,7 @@ returns-in_err-write-clause-fault g c = λ behind. hands_fault c.from_residual.r
 pub returns-in_err-write-clause-step : goal.returns-in_err-write-clause-step
 returns-in_err-write-clause-step g c = record {
   stays = search rules;
-  notes = notes_of_storage (told_kept c.args.self.now.file.storage c.set_write_kind.new.self c.write.new.storage c.write.result c.set_write_kind.ensures.storage c.set_write_kind.ensures.changed _ c.write.ensures.written c.write.ensures.calls c.write.ensures.noted);
+  notes = notes_of_storage (told_kept c.args.self.now.file.storage c.set_write_kind.new.self c.write.new.storage c.write.result c.set_write_kind.ensures.storage c.set_write_kind.ensures.changed _ c.write.ensures.written c.write.ensures.calls c.write.ensures.recorded);
   header_cluster = behind_wrote c.write.result c.args.host (replicate c.args.count 0) (ap g.S.Storage.view c.set_write_kind.ensures.storage) (λ bits lies. behind_guard bits _ c.cluster_size.result c.args.host lies.header c.cluster_size.ensures.value c.if-host-cluster_size.false) c.write.ensures.written c.write.ensures.calls;
 }
 
@@ -26,6 +26,6 @@ returns-then-host-cluster_size-clause-step g c = step_none
 pub returns-clause-step : goal.returns-clause-step
 returns-clause-step g c = record {
   stays = search rules;
-  notes = notes_of_storage (told_kept c.args.self.now.file.storage c.set_write_kind.new.self c.write.new.storage c.write.result c.set_write_kind.ensures.storage c.set_write_kind.ensures.changed _ c.write.ensures.written c.write.ensures.calls c.write.ensures.noted);
+  notes = notes_of_storage (told_kept c.args.self.now.file.storage c.set_write_kind.new.self c.write.new.storage c.write.result c.set_write_kind.ensures.storage c.set_write_kind.ensures.changed _ c.write.ensures.written c.write.ensures.calls c.write.ensures.recorded);
   header_cluster = behind_wrote c.write.result c.args.host (replicate c.args.count 0) (ap g.S.Storage.view c.set_write_kind.ensures.storage) (λ bits lies. behind_guard bits _ c.cluster_size.result c.args.host lies.header c.cluster_size.ensures.value c.if-host-cluster_size.false) c.write.ensures.written c.write.ensures.calls;
 }

@@ -17,8 +17,8 @@ use Rattle.qcow2_image.proofs.Map.Reading.{raw_shown, zero_shown, indirect_shown
 use Rattle.qcow2_alloc.proofs.KeptNotes.{read_kept}
 use Rattle.qcow2_image.proofs.Call.BehindHeader.{behind_read}
 use Rattle.qcow2_image.proofs.Map.Quiet.{reads_bytes, reads_same}
-use Rattle.qcow2_image.proofs.Prepare.Met.{hands_met, met_as}
-use Rattle.qcow2_image.specs.MetAlone.{IsMetReading, IsSpecial}
+use Rattle.qcow2_image.proofs.Prepare.FailingCopies.{hands_met, met_as}
+use Rattle.qcow2_image.specs.MayFail.{MayFailReading, IsSpecial}
 use Rattle.qcow2_image.proofs.Call.Unlimited.{storage_fault}
 use Rattle.qcow2_alloc.specs.ImageError.{IsFault, of_storage}
 use Rattle.qcow2_image.proofs.image.Qcow2.read_as.Goals as goal
@@ -71,23 +71,23 @@ returns-in-Zero-clause-shows g c = λ p out sound mapped i lt.
     (cover h (known_in g.S.Storage.view file) (c.args.offset / cluster_size h)) refl (none_below g.S.Storage.view g.F.BackingDisk.backing image.backing) c.in-Zero.explicit (ap found_kind (sym c.in-Zero.is) ∙ mapped.kind_is) i within
     ∙ ap known_byte (sym (ap (λ (b : List ℕ). byte_at b i) filled ∙ get_or-replicate n i 0 0 within))
 
-pub returns-in_err-read-in-Raw-clause-met : goal.returns-in_err-read-in-Raw-clause-met
-returns-in_err-read-in-Raw-clause-met g c = hands_met (IsMetReading c.args.kind.now) c.from_residual.result (of_storage c.in_err-read-in-Raw.field-0.0) c.from_residual.ensures (inl (storage_fault c.in_err-read-in-Raw.field-0.0))
+pub returns-in_err-read-in-Raw-clause-may_fail : goal.returns-in_err-read-in-Raw-clause-may_fail
+returns-in_err-read-in-Raw-clause-may_fail g c = hands_met (MayFailReading c.args.kind.now) c.from_residual.result (of_storage c.in_err-read-in-Raw.field-0.0) c.from_residual.ensures (inl (storage_fault c.in_err-read-in-Raw.field-0.0))
 
-pub returns-in-Indirect-clause-met : goal.returns-in-Indirect-clause-met
-returns-in-Indirect-clause-met g c = met_as IsFault (IsMetReading c.args.kind.now) c.read_backing.result (λ e fault. inl fault) c.read_backing.ensures.fault
+pub returns-in-Indirect-clause-may_fail : goal.returns-in-Indirect-clause-may_fail
+returns-in-Indirect-clause-may_fail g c = met_as IsFault (MayFailReading c.args.kind.now) c.read_backing.result (λ e fault. inl fault) c.read_backing.ensures.fault
 
-pub returns-in-Special-clause-met : goal.returns-in-Special-clause-met
-returns-in-Special-clause-met g c = inr (inl (refl, subst IsSpecial (sym c.in-Special.is) tt))
+pub returns-in-Special-clause-may_fail : goal.returns-in-Special-clause-may_fail
+returns-in-Special-clause-may_fail g c = inr (inl (refl, subst IsSpecial (sym c.in-Special.is) tt))
 
-pub returns-in-Eof-clause-met : goal.returns-in-Eof-clause-met
-returns-in-Eof-clause-met g c = inr (inr (refl, c.in-Eof.is))
+pub returns-in-Eof-clause-may_fail : goal.returns-in-Eof-clause-may_fail
+returns-in-Eof-clause-may_fail g c = inr (inr (refl, c.in-Eof.is))
 
 pub returns-in_err-read-in-Raw-clause-step : goal.returns-in_err-read-in-Raw-clause-step
 returns-in_err-read-in-Raw-clause-step g c = record {
   header = search rules;
   list = search rules;
-  part = record { stays = search rules; notes = notes_of_storage (read_kept _ _ c.read.result c.read.ensures.calls c.read.ensures.same c.read.ensures.unnoted); header_cluster = behind_read c.read.result c.read.ensures.calls c.read.ensures.same };
+  part = record { stays = search rules; notes = notes_of_storage (read_kept _ _ c.read.result c.read.ensures.calls c.read.ensures.same c.read.ensures.unrecorded); header_cluster = behind_read c.read.result c.read.ensures.calls c.read.ensures.same };
   quiet = reads_bytes g.S.Storage.view c.args.self.now c.read.new.self c.read.result c.read.ensures.calls c.read.ensures.same;
 }
 
@@ -95,7 +95,7 @@ pub returns-in_ok-read-in-Raw-clause-step : goal.returns-in_ok-read-in-Raw-claus
 returns-in_ok-read-in-Raw-clause-step g c = record {
   header = search rules;
   list = search rules;
-  part = record { stays = search rules; notes = notes_of_storage (read_kept _ _ c.read.result c.read.ensures.calls c.read.ensures.same c.read.ensures.unnoted); header_cluster = behind_read c.read.result c.read.ensures.calls c.read.ensures.same };
+  part = record { stays = search rules; notes = notes_of_storage (read_kept _ _ c.read.result c.read.ensures.calls c.read.ensures.same c.read.ensures.unrecorded); header_cluster = behind_read c.read.result c.read.ensures.calls c.read.ensures.same };
   quiet = reads_bytes g.S.Storage.view c.args.self.now c.read.new.self c.read.result c.read.ensures.calls c.read.ensures.same;
 }
 

@@ -2,13 +2,13 @@ use Rattle.std.proofs.Common.{◌≡◌, ◌+◌, ◌∙◌, inl, inr, length, E
 use Rattle.qcow2_disk.specs.Calls.{Shows}
 use Rattle.qcow2_alloc.specs.declared.error.ImageError.TheVariants.{OutdatedMapping}
 use Rattle.qcow2_alloc.proofs.AllocationSteps.{handed_on}
-use Rattle.qcow2_alloc.proofs.KeptTables.Turning.{always_ok}
+use Rattle.qcow2_alloc.proofs.KeptTables.Switching.{always_ok}
 use Rattle.qcow2_image.specs.Found.{IsFoundWhole, further_by}
 use Rattle.qcow2_image.specs.ImageInvariant.{disk_of}
 use Rattle.qcow2_image.proofs.Call.Called.{keeps_then}
 use Rattle.qcow2_image.proofs.Map.Looked.{none_past}
-use Rattle.qcow2_image.specs.MetAlone.{IsCacheHeld, IsMetMapped, IsMetReading}
-use Rattle.qcow2_image.proofs.Prepare.Met.{hands_met, mapped_met, met_as}
+use Rattle.qcow2_image.specs.MayFail.{IsCacheHeld, MayFailMapped, MayFailReading}
+use Rattle.qcow2_image.proofs.Prepare.FailingCopies.{hands_met, mapped_met, met_as}
 use Rattle.std.specs.Prelude.{IfErr, Result, is_some}
 use Rattle.qcow2_alloc.proofs.KeptTables.AllWritten.{written_then}
 use Rattle.qcow2_image.proofs.Map.Held.{heeds_then, held_as, none_eof}
@@ -16,59 +16,54 @@ use Rattle.qcow2_image.specs.HeldMappings.{FitsTables, IsHeldAs}
 use Rattle.qcow2_image.proofs.Call.ImageSteps.{step_then}
 use Rattle.qcow2_image.proofs.image.Qcow2.read_current.Goals as goal
 
-pub returns-clause-keeps : goal.returns-clause-keeps
-returns-clause-keeps g c = λ p out sound.
-    let first = c.in_ok-check_mapped.ensures.keeps p out sound in
-    keeps_then g.S.Storage.view g.F.BackingDisk.backing out c.args.self.now c.check_mapped.new.self c.read_as.new.self p p p (λ k h. h) first (c.read_as.ensures.keeps p out first.sound)
-
-pub returns-clause-shows : goal.returns-clause-shows
-returns-clause-shows g c = λ some p out sound.
-    let at : c.in_ok-offset.offset ≡ c.args.mapping.now.offset + c.args.at = c.in_ok-offset.ensures.place in
-    subst (λ o. IfOk c.read_as.result (λ done. Shows (disk_of g.S.Storage.view g.F.BackingDisk.backing c.read_as.new.self) o c.read_as.new.bytes)) at
-    (c.read_as.ensures.shows p out (c.in_ok-check_mapped.ensures.keeps p out sound).sound (c.in_ok-check_mapped.ensures.mapped some p out sound))
-
-pub returns-in_err-offset-clause-outdated : goal.returns-in_err-offset-clause-outdated
-returns-in_err-offset-clause-outdated g c = λ some p out sound is whole. absurd (let none = (whole.past c.in_err-offset.ensures.past).1 in omega arith)
-
-pub returns-in_err-check_mapped-clause-outdated : goal.returns-in_err-check_mapped-clause-outdated
-returns-in_err-check_mapped-clause-outdated g c = λ some p out sound is whole.
-    let view = g.S.Storage.view in
-    let n = length c.args.bytes.now in
-    let here = subst (λ k. IsFoundWhole view c.args.self.now c.in_ok-offset.offset k n) (sym c.further-kind.ensures)
-    (subst (λ o. IsFoundWhole view c.args.self.now o (further_by c.args.at c.args.mapping.now.kind) n) (sym c.in_ok-offset.ensures.place) whole) in
-    handed_on (λ r. r ≡ Err OutdatedMapping → ⊥) c.from_residual-in_err-check_mapped.result c.in_err-check_mapped.field-0.0 c.from_residual-in_err-check_mapped.ensures (λ was. c.in_err-check_mapped.ensures.outdated p out sound was here) is
-
-pub returns-clause-outdated : goal.returns-clause-outdated
-returns-clause-outdated g c = λ some p out sound is whole.
-    none_past g.S.Storage.view c.args.self.now (c.args.mapping.now.offset + c.args.at) (length c.args.bytes.now) some
-    (subst (λ k. IsFoundWhole g.S.Storage.view c.args.self.now (c.args.mapping.now.offset + c.args.at) k (length c.args.bytes.now)) (sym c.further-kind.ensures ∙ (c.read_as.ensures.outdated is).0) whole)
-
-pub returns-clause-mapped : goal.returns-clause-mapped
-returns-clause-mapped g c = λ p out sound.
-    let view = g.S.Storage.view in
+pub returns-clause-sound : goal.returns-clause-sound
+returns-clause-sound g c = λ p out sound.
     let old = c.args.self.now in
-    let n = length c.args.bytes.now in
-    always_ok c.read_as.result
-    (subst (λ o. IsFoundWhole view old o (further_by c.args.at c.args.mapping.now.kind) n) c.in_ok-offset.ensures.place
-    (subst (λ k. IsFoundWhole view old c.in_ok-offset.offset k n) c.further-kind.ensures (c.in_ok-check_mapped.ensures.found p out sound)))
-
-pub returns-in_err-offset-clause-met : goal.returns-in_err-offset-clause-met
-returns-in_err-offset-clause-met g c = λ p out sound.
-    hands_met (IsMetMapped (IsCacheHeld c.args.self.now out) (further_by c.args.at c.args.mapping.now.kind) (IsFoundWhole g.S.Storage.view c.args.self.now (c.args.mapping.now.offset + c.args.at) (further_by c.args.at c.args.mapping.now.kind) (length c.args.bytes.now))) c.from_residual.result c.in_err-offset.field-0.0 c.from_residual.ensures (inl (inr c.in_err-offset.ensures.cause))
-
-pub returns-in_err-check_mapped-clause-met : goal.returns-in_err-check_mapped-clause-met
-returns-in_err-check_mapped-clause-met g c = λ p out sound.
-    hands_met (IsMetMapped (IsCacheHeld c.args.self.now out) (further_by c.args.at c.args.mapping.now.kind) (IsFoundWhole g.S.Storage.view c.args.self.now (c.args.mapping.now.offset + c.args.at) (further_by c.args.at c.args.mapping.now.kind) (length c.args.bytes.now))) c.from_residual-in_err-check_mapped.result c.in_err-check_mapped.field-0.0 c.from_residual-in_err-check_mapped.ensures
-    (inl (c.in_err-check_mapped.ensures.met p out sound))
-
-pub returns-clause-met : goal.returns-clause-met
-returns-clause-met g c = λ p out sound.
+    let below = g.F.BackingDisk.backing in
     let view = g.S.Storage.view in
-    let old = c.args.self.now in
     let n = length c.args.bytes.now in
-    let kind = further_by c.args.at c.args.mapping.now.kind in
-    let whole = subst (λ o. IsFoundWhole view old o kind n) c.in_ok-offset.ensures.place (subst (λ k. IsFoundWhole view old c.in_ok-offset.offset k n) c.further-kind.ensures (c.in_ok-check_mapped.ensures.found p out sound)) in
-    met_as (IsMetReading kind) (IsMetMapped (IsCacheHeld c.args.self.now out) kind (IsFoundWhole view old (c.args.mapping.now.offset + c.args.at) kind n)) c.read_as.result (mapped_met (IsCacheHeld c.args.self.now out) kind whole) (subst (λ k. IfErr c.read_as.result (IsMetReading k)) c.further-kind.ensures c.read_as.ensures.met)
+    record {
+      keeps = let first = (c.in_ok-check_mapped.ensures.sound p out sound).keeps in
+          keeps_then view below out old c.check_mapped.new.self c.read_as.new.self p p p (λ k h. h) first (c.read_as.ensures.keeps p out first.sound);
+      may_fail = let kind = further_by c.args.at c.args.mapping.now.kind in
+          let whole = subst (λ o. IsFoundWhole view old o kind n) c.in_ok-offset.ensures.place (subst (λ k. IsFoundWhole view old c.in_ok-offset.offset k n) c.further-kind.ensures ((c.in_ok-check_mapped.ensures.sound p out sound).found)) in
+          met_as (MayFailReading kind) (MayFailMapped (IsCacheHeld old out) kind (IsFoundWhole view old (c.args.mapping.now.offset + c.args.at) kind n)) c.read_as.result (mapped_met (IsCacheHeld old out) kind whole) (subst (λ k. IfErr c.read_as.result (MayFailReading k)) c.further-kind.ensures c.read_as.ensures.may_fail);
+      outdated = λ some is whole. none_past view old (c.args.mapping.now.offset + c.args.at) (length c.args.bytes.now) some
+          (subst (λ k. IsFoundWhole view old (c.args.mapping.now.offset + c.args.at) k (length c.args.bytes.now)) (sym c.further-kind.ensures ∙ (c.read_as.ensures.outdated is).0) whole);
+      mapped = always_ok c.read_as.result
+          (subst (λ o. IsFoundWhole view old o (further_by c.args.at c.args.mapping.now.kind) n) c.in_ok-offset.ensures.place
+          (subst (λ k. IsFoundWhole view old c.in_ok-offset.offset k n) c.further-kind.ensures ((c.in_ok-check_mapped.ensures.sound p out sound).found)));
+      shows = let at : c.in_ok-offset.offset ≡ c.args.mapping.now.offset + c.args.at = c.in_ok-offset.ensures.place in
+          λ some. subst (λ o. IfOk c.read_as.result (λ done. Shows (disk_of view below c.read_as.new.self) o c.read_as.new.bytes)) at
+          (c.read_as.ensures.shows p out ((c.in_ok-check_mapped.ensures.sound p out sound).keeps).sound ((c.in_ok-check_mapped.ensures.sound p out sound).mapped some));
+    }
+
+pub returns-in_err-offset-clause-sound : goal.returns-in_err-offset-clause-sound
+returns-in_err-offset-clause-sound g c = λ p out sound.
+    let old = c.args.self.now in
+    record {
+      keeps = search rules;
+      may_fail = hands_met (MayFailMapped (IsCacheHeld old out) (further_by c.args.at c.args.mapping.now.kind) (IsFoundWhole g.S.Storage.view old (c.args.mapping.now.offset + c.args.at) (further_by c.args.at c.args.mapping.now.kind) (length c.args.bytes.now))) c.from_residual.result c.in_err-offset.field-0.0 c.from_residual.ensures (inl (inr c.in_err-offset.ensures.cause));
+      outdated = λ some is whole. absurd (let none = (whole.past c.in_err-offset.ensures.past).1 in omega arith);
+      mapped = search rules;
+      shows = search rules;
+    }
+
+pub returns-in_err-check_mapped-clause-sound : goal.returns-in_err-check_mapped-clause-sound
+returns-in_err-check_mapped-clause-sound g c = λ p out sound.
+    let old = c.args.self.now in
+    let view = g.S.Storage.view in
+    record {
+      keeps = (c.check_mapped.ensures.sound p out sound).keeps;
+      may_fail = hands_met (MayFailMapped (IsCacheHeld old out) (further_by c.args.at c.args.mapping.now.kind) (IsFoundWhole view old (c.args.mapping.now.offset + c.args.at) (further_by c.args.at c.args.mapping.now.kind) (length c.args.bytes.now))) c.from_residual-in_err-check_mapped.result c.in_err-check_mapped.field-0.0 c.from_residual-in_err-check_mapped.ensures
+          (inl ((c.in_err-check_mapped.ensures.sound p out sound).may_fail));
+      outdated = let n = length c.args.bytes.now in
+          λ some is whole. let here = subst (λ k. IsFoundWhole view old c.in_ok-offset.offset k n) (sym c.further-kind.ensures)
+          (subst (λ o. IsFoundWhole view old o (further_by c.args.at c.args.mapping.now.kind) n) (sym c.in_ok-offset.ensures.place) whole) in
+          handed_on (λ r. r ≡ Err OutdatedMapping → ⊥) c.from_residual-in_err-check_mapped.result c.in_err-check_mapped.field-0.0 c.from_residual-in_err-check_mapped.ensures (λ was. (c.in_err-check_mapped.ensures.sound p out sound).outdated was here) is;
+      mapped = search rules;
+      shows = search rules;
+    }
 
 pub returns-in_err-offset-clause-held : goal.returns-in_err-offset-clause-held
 returns-in_err-offset-clause-held g c = λ some.

@@ -49,7 +49,7 @@ returns-then-is_too_long-clause-step g c =
     let old = c.args.self.now in
     let calls = c.invalidate_cache.ensures.calls in
     let first : (view_in view old.file).is_honest → ContentsStayThroughout (view_in view old.file) (view c.invalidate_cache.new.self.storage) = λ honest. kept_throughout (view_in view old.file) (view c.invalidate_cache.new.self.storage) calls.time c.invalidate_cache.ensures.same honest in
-    places_read view old c.load_header.new.self (notes_through view old.file.storage c.invalidate_cache.new.self c.load_header.new.self c.invalidate_cache.ensures.unnoted (same_notes view c.invalidate_cache.new.self c.load_header.new.self c.load_header.ensures.rest))
+    places_read view old c.load_header.new.self (notes_through view old.file.storage c.invalidate_cache.new.self c.load_header.new.self c.invalidate_cache.ensures.unrecorded (same_notes view c.invalidate_cache.new.self c.load_header.new.self c.load_header.ensures.rest))
     (λ honest. silent_then (view_in view old.file) (view c.invalidate_cache.new.self.storage) (view c.load_header.new.self.storage) honest (first honest) (silent_read _ _ c.load_header.result c.load_header.ensures.reads))
     (λ honest. c.load_header.ensures.reads.honest (calls.honest honest))
 
@@ -69,8 +69,8 @@ returns-then-is_too_long-clause-keeps g c = λ p out sound.
     let silent = silent_then (view_in view old.file) (view c.invalidate_cache.new.self.storage) (view c.load_header.new.self.storage) honest (kept_throughout _ _ calls.time same honest) (silent_read _ _ c.load_header.result c.load_header.ensures.reads) in
     silent_moved view g.F.BackingDisk.backing old out p sound c.load_header.new.self silent
 
-pub take_places-requires : goal.take_places-requires
-take_places-requires g c =
+pub copy_table_pointers-requires : goal.copy_table_pointers-requires
+copy_table_pointers-requires g c =
     let few = not_above 1048576 _ c.is_too_long.result c.if-is_too_long.false c.is_too_long.ensures.1 in
     subst (λ (v : HeaderView). c.in_ok-header.header.fields.reftable_clusters * entries_per_cluster v.fields ≤ 1048576) (sym c.without_names-places.ensures) few
 
@@ -80,7 +80,7 @@ returns-clause-step g c =
     let old = c.args.self.now in
     let calls = c.invalidate_cache.ensures.calls in
     let first : (view_in view old.file).is_honest → ContentsStayThroughout (view_in view old.file) (view c.invalidate_cache.new.self.storage) = λ honest. kept_throughout (view_in view old.file) (view c.invalidate_cache.new.self.storage) calls.time c.invalidate_cache.ensures.same honest in
-    places_read view old c.load_header.new.self (notes_through view old.file.storage c.invalidate_cache.new.self c.load_header.new.self c.invalidate_cache.ensures.unnoted (same_notes view c.invalidate_cache.new.self c.load_header.new.self c.load_header.ensures.rest))
+    places_read view old c.load_header.new.self (notes_through view old.file.storage c.invalidate_cache.new.self c.load_header.new.self c.invalidate_cache.ensures.unrecorded (same_notes view c.invalidate_cache.new.self c.load_header.new.self c.load_header.ensures.rest))
     (λ honest. silent_then (view_in view old.file) (view c.invalidate_cache.new.self.storage) (view c.load_header.new.self.storage) honest (first honest) (silent_read _ _ c.load_header.result c.load_header.ensures.reads))
     (λ honest. c.load_header.ensures.reads.honest (calls.honest honest))
 
@@ -88,7 +88,7 @@ pub returns-clause-places : goal.returns-clause-places
 returns-clause-places g c =
     let h = c.args.self.now.file.header.fields in
     let found = c.in_ok-header.header.fields in
-    let is : c.take_places.new.header.fields ≡ with_tables_of h found = ap (λ (v : HeaderView). v.fields) c.take_places.ensures ∙ ap (λ (v : HeaderView). with_tables_of v.fields found) c.without_names-places.ensures in
+    let is : c.copy_table_pointers.new.header.fields ≡ with_tables_of h found = ap (λ (v : HeaderView). v.fields) c.copy_table_pointers.ensures ∙ ap (λ (v : HeaderView). with_tables_of v.fields found) c.without_names-places.ensures in
     let few = not_above 1048576 _ c.is_too_long.result c.if-is_too_long.false c.is_too_long.ensures.1 in
     record {
       others = subst (λ (f : HeaderFields). f ≡ with_tables_of h f) (sym is) refl;
@@ -99,7 +99,7 @@ pub returns-clause-read : goal.returns-clause-read
 returns-clause-read g c = λ honest.
     let h = c.args.self.now.file.header.fields in
     let found = c.in_ok-header.header.fields in
-    let is : c.take_places.new.header.fields ≡ with_tables_of h found = ap (λ (v : HeaderView). v.fields) c.take_places.ensures ∙ ap (λ (v : HeaderView). with_tables_of v.fields found) c.without_names-places.ensures in
+    let is : c.copy_table_pointers.new.header.fields ≡ with_tables_of h found = ap (λ (v : HeaderView). v.fields) c.copy_table_pointers.ensures ∙ ap (λ (v : HeaderView). with_tables_of v.fields found) c.without_names-places.ensures in
     let there = (c.in_ok-header.ensures.ok (c.invalidate_cache.ensures.calls.honest honest)).fields ∙ ap (λ (l : List ℕ). header (byte_at l)) (c.invalidate_cache.ensures.same honest) in
     sym (is ∙ ap (λ (k : HeaderFields). with_tables_of h k) there)
 

@@ -41,7 +41,7 @@ returns-in_default-clause-step g c =
     let mid = c.load_l1_table.new.file in
     let table = c.in_ok-table.table in
     subst (λ (f : ImageFile _). ReadsTables view old (record old { file = f; l1_table = table })) (sym l1.rest)
-    (tables_read view old mid.storage table old.allocator l1.unnoted (λ honest. kept_throughout (view_in view old.file) (view_in view mid) l1.time l1.same honest) l1.honest refl refl
+    (tables_read view old mid.storage table old.allocator l1.unrecorded (λ honest. kept_throughout (view_in view old.file) (view_in view mid) l1.time l1.same honest) l1.honest refl refl
     (λ names bits lies. l1_behind lies (c.in_ok-table.ensures.header_cluster names)))
 
 pub returns-in_default-clause-keeps : goal.returns-in_default-clause-keeps
@@ -72,7 +72,7 @@ returns-in_err-load_anew-clause-step g c =
     let through : (view_in view old.file).is_honest → ContentsStayThroughout (view_in view old.file) (view_in view last) = λ honest. silent_then (view_in view old.file) (view_in view mid) (view_in view last) honest (kept_throughout (view_in view old.file) (view_in view mid) l1.time l1.same honest) (λ there. kept_throughout (view_in view mid) (view_in view last) anew.step.time anew.step.same there) in
     let same : a' ≡ a = c.in_err-load_anew.ensures.refused in
     subst (λ (f : ImageFile _). ReadsTables view old (record old { file = f; allocator = Some a' })) (sym is)
-    (tables_read view old last.storage old.l1_table (Some a') (notes_through view old.file.storage mid.storage last.storage l1.unnoted anew.unnoted) through (λ honest. anew.step.honest (l1.honest honest)) (sym (ap (λ (x : Option Allocator). is_some x) c.in-Some.is))
+    (tables_read view old last.storage old.l1_table (Some a') (notes_through view old.file.storage mid.storage last.storage l1.unrecorded anew.unrecorded) through (λ honest. anew.step.honest (l1.honest honest)) (sym (ap (λ (x : Option Allocator). is_some x) c.in-Some.is))
     (anew.leaks ∙ sym (ap leaked_by c.in-Some.is))
     (λ names bits lies. subst (λ (x : Option Allocator). TablesBehindHeader bits old.file.header.fields.cluster_bits old.l1_table old.file.caches x) (c.in-Some.is ∙ ap (λ (x : Allocator). Some x) (sym same)) lies))
 
@@ -114,7 +114,7 @@ returns-clause-step g c =
     let begins = c.in_ok-load_anew.ensures.begins in
     subst (λ (x : Allocator). ReadsTables view old (record old { file = last; l1_table = table; allocator = Some x })) (sym spared.rest)
     (subst (λ (f : ImageFile _). ReadsTables view old (record old { file = f; l1_table = table; allocator = Some a' })) (sym is)
-    (tables_read view old last.storage table (Some a') (notes_through view old.file.storage mid.storage last.storage l1.unnoted anew.unnoted) through (λ honest. anew.step.honest (l1.honest honest)) (sym (ap (λ (x : Option Allocator). is_some x) c.in-Some.is))
+    (tables_read view old last.storage table (Some a') (notes_through view old.file.storage mid.storage last.storage l1.unrecorded anew.unrecorded) through (λ honest. anew.step.honest (l1.honest honest)) (sym (ap (λ (x : Option Allocator). is_some x) c.in-Some.is))
     (anew.leaks ∙ sym (ap leaked_by c.in-Some.is))
     (λ names bits lies.
     let are : LeaveHeaderCluster old.file.header.fields.cluster_bits old.file.caches = subst (λ n. LeaveHeaderCluster n old.file.caches) (sym lies.header) lies.caches in

@@ -4,52 +4,48 @@ use Rattle.qcow2_disk.specs.Calls.{not_compressed, storage}
 use Rattle.qcow2_alloc.specs.ImageFile.{known_in}
 use Rattle.qcow2_alloc.proofs.AllocationSteps.{handed_on}
 use Rattle.qcow2_alloc.specs.declared.error.ImageError.TheVariants.{Compressed, NotCompressed, Memory}
-use Rattle.qcow2_image.specs.Refusals.{IsMet}
-use Rattle.qcow2_image.specs.SpecialReads.{TellsCompressed}
+use Rattle.qcow2_image.specs.Refusals.{MayFail}
+use Rattle.qcow2_image.specs.SpecialReads.{ReportsCompressed}
 use Rattle.qcow2_image.proofs.Call.Answers.{answers_err}
 use Rattle.qcow2_image.proofs.Map.Special.{refuses_after}
-use Rattle.qcow2_image.proofs.Sizes.{sound_is_usable}
+use Rattle.qcow2_image.proofs.Images.Sizes.{sound_is_usable}
 use Rattle.qcow2_image.specs.Noted.{FailsOnceWritten}
 use Rattle.qcow2_alloc.proofs.Outcomes.{err_as}
-use Rattle.qcow2_image.specs.MetAlone.{IsCacheHeld, IsMetLooking}
-use Rattle.qcow2_image.proofs.Prepare.Met.{hands_met}
+use Rattle.qcow2_image.specs.MayFail.{IsCacheHeld, MayFailLooking}
+use Rattle.qcow2_image.proofs.Prepare.FailingCopies.{hands_met}
 use Rattle.qcow2_image.proofs.image.Qcow2.readv_special.Goals as goal
 
-pub returns-in_err-try_readv_special-clause-tells :
-    goal.returns-in_err-try_readv_special-clause-tells
-returns-in_err-try_readv_special-clause-tells g c = λ some out sound.
-    let view = g.S.Storage.view in
+pub returns-in_err-try_readv_special-clause-sound : goal.returns-in_err-try_readv_special-clause-sound
+returns-in_err-try_readv_special-clause-sound g c = λ out sound.
     let old = c.args.self.now in
-    handed_on (λ r. IfErr r (TellsCompressed (known_in view old.file) c.args.offset)) c.from_residual.result c.in_err-try_readv_special.field-0.0 c.from_residual.ensures
-    (c.in_err-try_readv_special.ensures.tells some out sound, λ is. absurd (subst IsMet is (c.in_err-try_readv_special.ensures.late (sound_is_usable view g.F.BackingDisk.backing old out sound))))
+    let view = g.S.Storage.view in
+    record {
+      may_fail = hands_met (λ e. MayFailLooking (IsCacheHeld old out) e ⊎ ((e ≡ Compressed) ⊎ (e ≡ NotCompressed c.args.offset))) c.from_residual.result c.in_err-try_readv_special.field-0.0 c.from_residual.ensures
+          (elim ((c.in_err-try_readv_special.ensures.sound out sound).may_fail) [ inl may_fail ↦ inl may_fail | inr compressed ↦ inr (inl compressed) ]);
+      reports = λ some. handed_on (λ r. IfErr r (ReportsCompressed (known_in view old.file) c.args.offset)) c.from_residual.result c.in_err-try_readv_special.field-0.0 c.from_residual.ensures
+          ((c.in_err-try_readv_special.ensures.sound out sound).reports some, λ is. absurd (subst MayFail is (c.in_err-try_readv_special.ensures.refusals.late (sound_is_usable view g.F.BackingDisk.backing old out sound))));
+    }
 
-pub returns-in_err-try_readv_special-clause-sees :
-    goal.returns-in_err-try_readv_special-clause-sees
+pub returns-in-Some-clause-sound : goal.returns-in-Some-clause-sound
+returns-in-Some-clause-sound g c = λ out sound.
+    record {
+      may_fail = let usable = sound_is_usable g.S.Storage.view g.F.BackingDisk.backing c.args.self.now out sound in
+          elim (cases_lt 0 (length c.args.bytes.now)) [
+            | inl some ↦ inr (inr (let is = c.in_ok-try_readv_special.ensures.some some in cc))
+            | inr none ↦ absurd (let no = (c.in_ok-try_readv_special.ensures.refusals.nothing usable (omega (arith, none))).0 in cc)
+          ];
+      reports = let none : NotCompressed c.in-Some.offset ≡ Compressed → ⊥ = λ is. cc in
+          λ some. (λ is. absurd (none is), λ is. (c.in_ok-try_readv_special.ensures.sound out sound).reports some);
+    }
+
+pub returns-in_err-try_readv_special-clause-sees : goal.returns-in_err-try_readv_special-clause-sees
 returns-in_err-try_readv_special-clause-sees g c =
     answers_err g.S.Storage.view g.F.BackingDisk.backing c.args.self.now c.try_readv_special.new.self [] (λ done was is. is ≡ was) c.from_residual.result c.in_err-try_readv_special.field-0.0 c.from_residual.ensures c.in_err-try_readv_special.ensures.sees
-
-pub returns-in-Some-clause-tells : goal.returns-in-Some-clause-tells
-returns-in-Some-clause-tells g c = λ some out sound.
-    let none : NotCompressed c.in-Some.offset ≡ Compressed → ⊥ = λ is. cc in
-    (λ is. absurd (none is), λ is. c.in_ok-try_readv_special.ensures.tells some out sound)
 
 pub returns-in-Some-clause-sees : goal.returns-in-Some-clause-sees
 returns-in-Some-clause-sees g c = λ out.
     let none : not_compressed c.in-Some.offset ≡ storage → ⊥ = λ is. cc in
     refuses_after (not_compressed c.in-Some.offset) none (c.in_ok-try_readv_special.ensures.sees out)
-
-pub returns-in_err-try_readv_special-clause-met : goal.returns-in_err-try_readv_special-clause-met
-returns-in_err-try_readv_special-clause-met g c = λ out sound.
-    hands_met (λ e. IsMetLooking (IsCacheHeld c.args.self.now out) e ⊎ ((e ≡ Compressed) ⊎ (e ≡ NotCompressed c.args.offset))) c.from_residual.result c.in_err-try_readv_special.field-0.0 c.from_residual.ensures
-    (elim (c.in_err-try_readv_special.ensures.met out sound) [ inl met ↦ inl met | inr compressed ↦ inr (inl compressed) ])
-
-pub returns-in-Some-clause-met : goal.returns-in-Some-clause-met
-returns-in-Some-clause-met g c = λ out sound.
-    let usable = sound_is_usable g.S.Storage.view g.F.BackingDisk.backing c.args.self.now out sound in
-    elim (cases_lt 0 (length c.args.bytes.now)) [
-      | inl some ↦ inr (inr (let is = c.in_ok-try_readv_special.ensures.some some in cc))
-      | inr none ↦ absurd (let no = (c.in_ok-try_readv_special.ensures.nothing usable (omega (arith, none))).0 in cc)
-    ]
 
 pub returns-in_err-try_readv_special-clause-step : goal.returns-in_err-try_readv_special-clause-step
 returns-in_err-try_readv_special-clause-step g c = record {
@@ -84,3 +80,12 @@ returns-in-Some-clause-step g c = record {
   quiet = search rules;
   once_written = record { counts = c.try_readv_special.ensures.step.once_written.counts; memory = λ bad. absurd (cc) };
 }
+
+pub returns-in_err-try_readv_special-clause-refusals : goal.returns-in_err-try_readv_special-clause-refusals
+returns-in_err-try_readv_special-clause-refusals g c = record { early = search rules; nothing = search rules; late = search rules }
+
+pub returns-in-None-clause-refusals : goal.returns-in-None-clause-refusals
+returns-in-None-clause-refusals g c = record { early = search rules; nothing = search rules; late = search rules }
+
+pub returns-in-Some-clause-refusals : goal.returns-in-Some-clause-refusals
+returns-in-Some-clause-refusals g c = record { early = search rules; nothing = search rules; late = search rules }

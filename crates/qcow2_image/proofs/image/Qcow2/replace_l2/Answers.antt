@@ -4,18 +4,18 @@ use Rattle.qcow2_image.proofs.image.Qcow2.replace_l2.Goals as goal
 use Rattle.std.proofs.Common.{inl, refl, rules, ◌≡◌, sym, arith}
 use Rattle.qcow2_image.specs.Limits.{GoesTo}
 use Rattle.qcow2_image.specs.NewTables.{OwnsTable}
-use Rattle.qcow2_image.proofs.Prepare.Entering.{as_listed_after}
+use Rattle.qcow2_image.proofs.Prepare.UnlinkedL2Table.{as_listed_after}
 use Rattle.qcow2_image.proofs.Map.Loading.{caches_moved, with_caches}
-use Rattle.qcow2_image.proofs.Prepare.Owning.{followed, refused, says_copy, shared_still, owned_then}
+use Rattle.qcow2_image.proofs.Prepare.WritableL2Table.{followed, refused, says_copy, shared_still, owned_then}
 use Rattle.qcow2_alloc.proofs.KeptMarks.{notes_then, notes_of_both}
 use Rattle.qcow2_image.proofs.Call.BehindHeader.{behind_caches, behind_then, behind_first, above_zero}
-use Rattle.qcow2_image.proofs.Prepare.Lacked.{hands_limit, limited_in_since, limits_as, other_limit}
+use Rattle.qcow2_image.proofs.Prepare.LimitCauses.{hands_limit, limited_in_since, limits_as, other_limit}
 use Rattle.qcow2_alloc.specs.ImageFile.{contents_in}
-use Rattle.qcow2_image.proofs.Prepare.Lacking.{named_place, loads_looking}
+use Rattle.qcow2_image.proofs.Prepare.MissingL2Table.{named_place, loads_looking}
 use Rattle.qcow2_image.specs.Backings.{HasPinnedMapping}
-use Rattle.qcow2_image.specs.MetAlone.{MayFailAllocating}
-use Rattle.qcow2_image.proofs.Prepare.Met.{hands_met}
-use Rattle.qcow2_image.proofs.Prepare.MetTaking.{looking_taking}
+use Rattle.qcow2_image.specs.MayFail.{MayFailAllocating}
+use Rattle.qcow2_image.proofs.Prepare.FailingCopies.{hands_met}
+use Rattle.qcow2_image.proofs.Prepare.FailingAllocations.{looking_taking}
 
 pub returns-in_err-l2_get_or_insert-clause-sound : goal.returns-in_err-l2_get_or_insert-clause-sound
 returns-in_err-l2_get_or_insert-clause-sound g c = λ p out sound shared.
@@ -29,7 +29,7 @@ returns-in_err-l2_get_or_insert-clause-sound g c = λ p out sound shared.
     let why = loads_looking view below out p old sound e (c.in_err-l2_get_or_insert.ensures.refusals h (named_place h (contents_in view old.file) c.args.index c.args.old shared.place) p sound.file.honest sound.file.caches sound.file.named_blocks) in
     record {
       does = refused (OwnsTable view below p old mid out c.args.index) c.from_residual.result c.from_residual.ensures.0 (λ e. inl (as_listed_after view below out p old mid refl kept));
-      met = λ near. hands_met (MayFailAllocating (HasPinnedMapping out) ⊥ ⊥ ⊥) c.from_residual.result e c.from_residual.ensures (looking_taking ⊥ ⊥ ⊥ e why);
+      may_fail = λ near. hands_met (MayFailAllocating (HasPinnedMapping out) ⊥ ⊥ ⊥) c.from_residual.result e c.from_residual.ensures (looking_taking ⊥ ⊥ ⊥ e why);
       limit = λ near. hands_limit c.from_residual.result e c.from_residual.ensures (other_limit _ e (looking_unlimited e why));
     }
 
@@ -42,7 +42,7 @@ returns-in_err-table-clause-sound g c = λ p out sound shared.
     let mid = with_caches view below old out p sound c.l2_get_or_insert.new.storage c.l2_get_or_insert.new.self in
     let kept = caches_moved view below old out p sound c.l2_get_or_insert.new.storage c.l2_get_or_insert.new.self (c.l2_get_or_insert.ensures.sound.keeps h p sound.file.honest sound.file.caches) c.l2_get_or_insert.ensures.step.marks.pins.room c.l2_get_or_insert.ensures.step.marks.pins.pins in
     record {
-      met = search rules;
+      may_fail = search rules;
       limit = search rules;
       does = refused (OwnsTable view below p old mid out c.args.index) c.from_residual-in_err-table.result c.from_residual-in_err-table.ensures.0 (λ e. inl (as_listed_after view below out p old mid refl kept));
     }
@@ -62,7 +62,7 @@ returns-clause-sound g c = λ p out sound shared.
     let loaded : GoesTo view old mid = record { image = record { number = refl; size = refl; writable = refl; external = refl }; header_cluster = behind_caches (c.l2_get_or_insert.ensures.step.header_cluster some) } in
     record {
       does = owned_then view below out p old sound c.args.index mid kept refl c.swap_l2.new.self c.swap_l2.result swapped.does;
-      met = λ near. swapped.met (record { within = near.within; room = near.room });
+      may_fail = λ near. swapped.may_fail (record { within = near.within; room = near.room });
       limit = λ near. limits_as c.swap_l2.result (limited_in_since loaded (followed view below out p old sound c.args.index mid kept refl)) (swapped.limit (record { within = near.within; room = near.room }));
     }
 

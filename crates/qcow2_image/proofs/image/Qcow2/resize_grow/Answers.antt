@@ -1,12 +1,17 @@
 use Rattle.qcow2_image.proofs.image.Qcow2.resize_grow.Goals as goal
 use Rattle.qcow2_image.proofs.Call.OnceWritten.{fails_none}
-use Rattle.std.proofs.Common.{◌≡◌, ◌≤◌, ◌∙◌, inl, inr, None, Some, true, false, sym, ap, subst, refl, ◌-◌, rules}
-use Rattle.std.specs.Prelude.{Result}
+use Rattle.std.proofs.Common.{◌≡◌, ◌≤◌, ◌∙◌, inl, inr, sym, subst, refl, arith, rules}
+use Rattle.std.specs.Prelude.{IsTrue, Result}
+use Rattle.image_access.proofs.EachMomentSince.{passes_none}
+use Rattle.image_access.specs.declared.storage.PreallocateMode.{PreallocateMode}
+use Rattle.qcow2_alloc.proofs.Outcomes.{never}
+use Rattle.qcow2_alloc.specs.ImageFile.{view_in}
+use Rattle.qcow2_image.proofs.Resize.StepCalls.{some_none}
 use Rattle.qcow2_image.specs.Resizing.{GrowsTo, refuses_to_resize, takes_over}
 use Rattle.qcow2_image.proofs.Clear.ClearCalls.{err_is, not_refused, refused_for}
-use Rattle.qcow2_image.proofs.Sizing.GrowCalls.{grows_early, grows_nothing, grows_over}
-use Rattle.qcow2_image.proofs.Sizing.ShrinkCalls.{resize_works}
-use Rattle.qcow2_image.proofs.Prepare.Taken.{if_err}
+use Rattle.qcow2_image.proofs.Resize.GrowCalls.{grows_early, grows_nothing, grows_over, last_none}
+use Rattle.qcow2_image.proofs.Resize.ShrinkCalls.{resize_works}
+use Rattle.qcow2_image.proofs.Prepare.RefusedAsPrepared.{if_err}
 
 pub returns-in_err-check_resize-clause-sees : goal.returns-in_err-check_resize-clause-sees
 returns-in_err-check_resize-clause-sees g c =
@@ -26,34 +31,6 @@ returns-then-size-clause-sees g c =
 pub returns-then-takes_over-clause-sees : goal.returns-then-takes_over-clause-sees
 returns-then-takes_over-clause-sees g c = grows_over g.S.Storage.view g.F.BackingDisk.backing c.args.self.now c.args.size c.args.mode
 
-pub returns-then-takes_over-clause-tables : goal.returns-then-takes_over-clause-tables
-returns-then-takes_over-clause-tables g c = λ none larger out sound. record {
-  taken = λ is. absurd cc;
-  zeros = λ zero lacks. absurd (let no : true ≡ false = sym c.if-takes_over.true ∙ c.takes_over.ensures ∙ ap (takes_over c.args.self.now) zero in cc);
-  version = λ zero lacks. absurd (let no : true ≡ false = sym c.if-takes_over.true ∙ c.takes_over.ensures ∙ ap (takes_over c.args.self.now) zero in cc);
-}
-
-pub returns-then-takes_over-clause-freed : goal.returns-then-takes_over-clause-freed
-returns-then-takes_over-clause-freed g c = λ none larger isnt out sound. absurd (isnt (sym c.takes_over.ensures ∙ c.if-takes_over.true))
-
-pub returns-clause-freed : goal.returns-clause-freed
-returns-clause-freed g c = λ none larger isnt out sound. (c.grow_disk.ensures.sound out sound).freed
-
-pub returns-clause-limit : goal.returns-clause-limit
-returns-clause-limit g c = λ none larger out sound. (c.grow_disk.ensures.sound out sound).limit
-
-pub returns-in_err-check_resize-clause-met : goal.returns-in_err-check_resize-clause-met
-returns-in_err-check_resize-clause-met g c = λ works larger out sound.
-    let e = c.in_err-check_resize.field-0.0 in
-    let refuses = refused_for c.check_resize.result tt (refuses_to_resize c.args.self.now) e c.check_resize.ensures c.in_err-check_resize.was in
-    absurd (let no : Some e ≡ None = sym refuses ∙ works in cc)
-
-pub returns-then-takes_over-clause-met : goal.returns-then-takes_over-clause-met
-returns-then-takes_over-clause-met g c = λ works larger out sound. inr (refl, sym c.takes_over.ensures ∙ c.if-takes_over.true)
-
-pub returns-clause-met : goal.returns-clause-met
-returns-clause-met g c = λ works larger out sound. if_err c.grow_disk.result (λ e why. inl why) ((c.grow_disk.ensures.sound out sound).met)
-
 pub returns-in_err-check_resize-clause-step : goal.returns-in_err-check_resize-clause-step
 returns-in_err-check_resize-clause-step g c = record { marks = search rules; once_written = fails_none g.S.Storage.view c.args.self.now _; header_cluster = search rules; faults = search rules }
 
@@ -66,8 +43,49 @@ returns-then-takes_over-clause-step g c = record { marks = search rules; once_wr
 pub returns-clause-step : goal.returns-clause-step
 returns-clause-step g c = record { marks = search rules; once_written = c.grow_disk.ensures.step.once_written; header_cluster = c.grow_disk.ensures.step.header_cluster; faults = search rules }
 
-pub returns-clause-last : goal.returns-clause-last
-returns-clause-last g c = λ out sound. (c.grow_disk.ensures.sound out sound).last
+pub returns-in_err-check_resize-clause-sound : goal.returns-in_err-check_resize-clause-sound
+returns-in_err-check_resize-clause-sound g c = λ out sound.
+    let e = c.in_err-check_resize.field-0.0 in
+    let refuses = refused_for c.check_resize.result tt (refuses_to_resize c.args.self.now) e c.check_resize.ensures c.in_err-check_resize.was in
+    record {
+      last = last_none g.S.Storage.view g.F.BackingDisk.backing c.args.self.now c.args.size c.args.mode _;
+      may_fail = λ works larger. some_none e (sym refuses ∙ works);
+      limit = λ works larger. some_none e (sym refuses ∙ works);
+      tables = λ works larger. some_none e (sym refuses ∙ works);
+      freed = λ works larger isnt. some_none e (sym refuses ∙ works);
+    }
 
-pub returns-clause-tables : goal.returns-clause-tables
-returns-clause-tables g c = λ none larger out sound. (c.grow_disk.ensures.sound out sound).tables
+pub returns-then-size-clause-sound : goal.returns-then-size-clause-sound
+returns-then-size-clause-sound g c = λ out sound. record {
+  last = last_none g.S.Storage.view g.F.BackingDisk.backing c.args.self.now c.args.size c.args.mode _;
+  may_fail = λ none larger. tt;
+  limit = λ none larger. tt;
+  tables = λ none larger. absurd (let le = c.if-size.true in let is = c.size.ensures in omega (arith, le, is, larger));
+  freed = λ none larger isnt. tt;
+}
+
+pub returns-then-takes_over-clause-sound : goal.returns-then-takes_over-clause-sound
+returns-then-takes_over-clause-sound g c = λ out sound.
+    let takes = sym c.takes_over.ensures ∙ c.if-takes_over.true in
+    record {
+      last = last_none g.S.Storage.view g.F.BackingDisk.backing c.args.self.now c.args.size c.args.mode _;
+      may_fail = λ none larger. inr (refl, takes);
+      limit = λ none larger is. absurd (cc);
+      tables = λ none larger. record {
+        taken = λ is. absurd (cc);
+        zeros = λ zero lacks. never (subst (λ (m : PreallocateMode). IsTrue (takes_over c.args.self.now m)) zero takes);
+        version = λ zero lacks. never (subst (λ (m : PreallocateMode). IsTrue (takes_over c.args.self.now m)) zero takes);
+      };
+      freed = λ none larger isnt. absurd (isnt takes);
+    }
+
+pub returns-clause-sound : goal.returns-clause-sound
+returns-clause-sound g c = λ out sound.
+    let grown = c.grow_disk.ensures.sound out sound in
+    record {
+      last = grown.last;
+      may_fail = λ works larger. if_err c.grow_disk.result (λ e why. inl why) grown.may_fail;
+      limit = λ none larger. grown.limit;
+      tables = λ none larger. grown.tables;
+      freed = λ none larger isnt. grown.freed;
+    }

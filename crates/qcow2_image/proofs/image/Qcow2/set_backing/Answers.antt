@@ -1,6 +1,6 @@
 use Rattle.std.proofs.Common.{◌≡◌, ◌∙◌, true, false, refl, sym, arith}
 use Rattle.qcow2_alloc.specs.ImageFile.{l2_pins}
-use Rattle.qcow2_image.proofs.Backings.{found_pinned, none_prepared, some_prepared}
+use Rattle.qcow2_image.proofs.Images.Backings.{found_pinned, none_prepared, some_prepared}
 use Rattle.qcow2_image.proofs.image.Qcow2.set_backing.Goals as goal
 
 pub returns-then-is_some-clause-prepared : goal.returns-then-is_some-clause-prepared

@@ -1,5 +1,5 @@
 use Rattle.std.proofs.Common.{◌∙◌}
-use Rattle.qcow2_image.proofs.Sizes.{disk_size}
+use Rattle.qcow2_image.proofs.Images.Sizes.{disk_size}
 use Rattle.qcow2_image.proofs.image.Qcow2.size.Goals as goal
 
 pub returns-clause-sees : goal.returns-clause-sees

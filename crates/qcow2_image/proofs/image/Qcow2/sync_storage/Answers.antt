@@ -10,7 +10,7 @@ pub returns-in_err-sync-clause-step : goal.returns-in_err-sync-clause-step
 returns-in_err-sync-clause-step g c = record {
   part = record {
     stays = search rules;
-    notes = notes_of_storage (read_kept c.args.self.now.file.storage c.sync.new.self c.sync.result c.sync.ensures.calls c.sync.ensures.same c.sync.ensures.unnoted);
+    notes = notes_of_storage (read_kept c.args.self.now.file.storage c.sync.new.self c.sync.result c.sync.ensures.calls c.sync.ensures.same c.sync.ensures.unrecorded);
     header_cluster = behind_read c.sync.result c.sync.ensures.calls c.sync.ensures.same;
   };
   header = refl;
@@ -22,7 +22,7 @@ pub returns-clause-step : goal.returns-clause-step
 returns-clause-step g c = record {
   part = record {
     stays = search rules;
-    notes = notes_of_storage (read_kept c.args.self.now.file.storage c.sync.new.self c.sync.result c.sync.ensures.calls c.sync.ensures.same c.sync.ensures.unnoted);
+    notes = notes_of_storage (read_kept c.args.self.now.file.storage c.sync.new.self c.sync.result c.sync.ensures.calls c.sync.ensures.same c.sync.ensures.unrecorded);
     header_cluster = behind_read c.sync.result c.sync.ensures.calls c.sync.ensures.same;
   };
   header = refl;

@@ -1,3 +1,4 @@
+use Rattle.qcow2_image.proofs.Call.MarkedCalls.{reading_marked}
 use Rattle.std.proofs.Common.{◌≡◌, ◌⊎◌, [], sym, ◌∙◌, subst, rules}
 use Rattle.std.specs.Prelude.{Result, IfErr, None, Some}
 use Rattle.qcow2_disk.specs.Calls.{IsSame}
@@ -5,23 +6,41 @@ use Rattle.qcow2_image.specs.Calls.{AnswersCall}
 use Rattle.qcow2_image.specs.declared.image.Qcow2.{Qcow2}
 use Rattle.qcow2_alloc.specs.ImageFile.{known_in}
 use Rattle.qcow2_image.specs.Image.{is_failed}
-use Rattle.qcow2_image.specs.SpecialReads.{TellsWhether}
+use Rattle.qcow2_image.specs.SpecialReads.{ReportsWhether}
 use Rattle.qcow2_image.specs.ImageInvariant.{pending_in}
 use Rattle.qcow2_image.proofs.Call.Answers.{usable_works}
 use Rattle.qcow2_image.proofs.Call.Called.{told_answers, tells_quietly, quietly_then}
 use Rattle.qcow2_image.proofs.Map.Loading.{if_ok}
-use Rattle.qcow2_image.proofs.Call.FaultCounts.{counted_marked}
 use Rattle.qcow2_image.proofs.Call.Marked.{may_mark}
-use Rattle.qcow2_image.proofs.Call.OnceWritten.{fails_none, fails_once}
-use Rattle.qcow2_image.proofs.Call.BehindHeader.{behind_call}
+use Rattle.qcow2_image.proofs.Call.OnceWritten.{fails_none}
 use Rattle.qcow2_alloc.specs.declared.error.ImageError.TheVariants.{Compressed}
-use Rattle.qcow2_image.proofs.Map.MetLooking.{held_since}
-use Rattle.qcow2_image.specs.MetAlone.{IsCacheHeld, IsMetLooking}
-use Rattle.qcow2_image.proofs.Sizes.{sound_is_usable}
+use Rattle.qcow2_image.proofs.Map.FailingLookups.{held_since}
+use Rattle.qcow2_image.specs.MayFail.{IsCacheHeld, MayFailLooking}
+use Rattle.qcow2_image.proofs.Images.Sizes.{sound_is_usable}
 use Rattle.qcow2_image.proofs.Clear.ClearCalls.{refused_for}
 use Rattle.qcow2_image.specs.Refusals.{unusable}
-use Rattle.qcow2_image.proofs.Map.Quiet.{reads_call}
 use Rattle.qcow2_image.proofs.image.Qcow2.try_readv_special.Goals as goal
+
+pub returns-clause-sound : goal.returns-clause-sound
+returns-clause-sound g c = λ out sound.
+    let old = c.args.self.now in
+    let below = g.F.BackingDisk.backing in
+    let view = g.S.Storage.view in
+    let p = pending_in view below old out in
+    record {
+      may_fail = subst (λ (r : Result _ _). IfErr r (λ e. MayFailLooking (IsCacheHeld old out) e ⊎ (e ≡ Compressed))) (sym c.mark_failure.ensures.answer) (held_since old c.begin_call.new.self out c.begin_call.ensures.begun (λ held. IfErr c.check_not_compressed-plain.result (λ e. MayFailLooking held e ⊎ (e ≡ Compressed))) ((c.check_not_compressed-plain.ensures.sound p out (c.begin_call.ensures.keeps p out sound).sound).may_fail));
+      reports = λ some. subst (λ r. ReportsWhether (known_in view old.file) c.args.offset r) (sym c.mark_failure.ensures.answer)
+          (subst (λ k. ReportsWhether k c.args.offset c.check_not_compressed-plain.result) (c.begin_call.ensures.known p out sound) ((c.check_not_compressed-plain.ensures.sound p out (c.begin_call.ensures.keeps p out sound).sound).reports));
+    }
+
+pub returns-in_err-check_usable-clause-sound : goal.returns-in_err-check_usable-clause-sound
+returns-in_err-check_usable-clause-sound g c = λ out sound.
+    let old = c.args.self.now in
+    record {
+      may_fail = let refused = refused_for c.check_usable.result tt (unusable old) c.in_err-check_usable.field-0.0 c.check_usable.ensures c.in_err-check_usable.was in
+          absurd (let no : None ≡ Some c.in_err-check_usable.field-0.0 = sym (sound_is_usable g.S.Storage.view g.F.BackingDisk.backing old out sound) ∙ refused in cc);
+      reports = search rules;
+    }
 
 pub returns-clause-sees : goal.returns-clause-sees
 returns-clause-sees g c =
@@ -32,42 +51,25 @@ returns-clause-sees g c =
     subst (λ (image : Qcow2 _ _). AnswersCall view below old image [] (λ at was is. is ≡ was) c.mark_failure.result) (sym c.mark_failure.ensures.rest)
     (subst (λ (r : Result _ _). AnswersCall view below old (record new { is_failed = is_failed c.mark_failure.new.self }) [] (λ at was is. is ≡ was) r) (sym c.mark_failure.ensures.answer)
     (told_answers view below old (record new { is_failed = is_failed c.mark_failure.new.self }) (λ at was is. is ≡ was) c.check_not_compressed-plain.result
-    (tells_quietly view below old new (λ out. quietly_then view below out old c.begin.new.self new c.begin.ensures.keeps c.begin.ensures.list c.check_not_compressed-plain.ensures.keeps c.check_not_compressed-plain.ensures.step.list)
-    (is_failed c.mark_failure.new.self) (λ at v w. IsSame v w) c.check_not_compressed-plain.result (may_mark c.check_not_compressed-plain.new.self c.mark_failure.new.self c.check_not_compressed-plain.result c.mark_failure.ensures.marks) (c.check_not_compressed-plain.ensures.step.part.stays.image.number ∙ c.begin.ensures.stays.image.number)
+    (tells_quietly view below old new (λ out. quietly_then view below out old c.begin_call.new.self new c.begin_call.ensures.keeps c.begin_call.ensures.list (λ p out sound. (c.check_not_compressed-plain.ensures.sound p out sound).keeps) c.check_not_compressed-plain.ensures.step.list)
+    (is_failed c.mark_failure.new.self) (λ at v w. IsSame v w) c.check_not_compressed-plain.result (may_mark c.check_not_compressed-plain.new.self c.mark_failure.new.self c.check_not_compressed-plain.result c.mark_failure.ensures.marks) (c.check_not_compressed-plain.ensures.step.part.stays.image.number ∙ c.begin_call.ensures.stays.image.number)
     (usable_works old c.check_usable.result c.in_ok-check_usable.was c.check_usable.ensures)
     (λ out sound same. if_ok c.check_not_compressed-plain.result (λ at is. same) c.check_not_compressed-plain.ensures.answer))))
 
-pub returns-clause-tells : goal.returns-clause-tells
-returns-clause-tells g c = λ some out sound.
-    let view = g.S.Storage.view in
-    let p = pending_in view g.F.BackingDisk.backing c.args.self.now out in
-    subst (λ r. TellsWhether (known_in view c.args.self.now.file) c.args.offset r) (sym c.mark_failure.ensures.answer)
-    (subst (λ k. TellsWhether k c.args.offset c.check_not_compressed-plain.result) (c.begin.ensures.known p out sound) (c.check_not_compressed-plain.ensures.tells p out (c.begin.ensures.keeps p out sound).sound))
-
-pub returns-clause-met : goal.returns-clause-met
-returns-clause-met g c = λ out sound.
-    let p = pending_in g.S.Storage.view g.F.BackingDisk.backing c.args.self.now out in
-    subst (λ (r : Result _ _). IfErr r (λ e. IsMetLooking (IsCacheHeld c.args.self.now out) e ⊎ (e ≡ Compressed))) (sym c.mark_failure.ensures.answer) (held_since c.args.self.now c.begin.new.self out c.begin.ensures.begun (λ held. IfErr c.check_not_compressed-plain.result (λ e. IsMetLooking held e ⊎ (e ≡ Compressed))) (c.check_not_compressed-plain.ensures.met p out (c.begin.ensures.keeps p out sound).sound))
-
-pub returns-in_err-check_usable-clause-met : goal.returns-in_err-check_usable-clause-met
-returns-in_err-check_usable-clause-met g c = λ out sound.
-    let old = c.args.self.now in
-    let refused = refused_for c.check_usable.result tt (unusable old) c.in_err-check_usable.field-0.0 c.check_usable.ensures c.in_err-check_usable.was in
-    absurd (let no : None ≡ Some c.in_err-check_usable.field-0.0 = sym (sound_is_usable g.S.Storage.view g.F.BackingDisk.backing old out sound) ∙ refused in cc)
-
 pub returns-clause-step : goal.returns-clause-step
-returns-clause-step g c = record {
-  image = search rules;
-  header = search rules;
-  marks = search rules;
-  once_written = fails_once g.S.Storage.view c.args.self.now c.begin.new.self c.begin.ensures.begun c.check_not_compressed-plain.new.self c.mark_failure.new.self c.check_not_compressed-plain.result c.check_not_compressed-plain.ensures.step.part.notes (c.check_not_compressed-plain.ensures.step.part.stays.failed ∙ c.begin.ensures.stays.failed) c.mark_failure.ensures.marks c.mark_failure.ensures.rest c.mark_failure.result (λ memory. sym c.mark_failure.ensures.answer ∙ memory);
-  header_cluster = behind_call g.S.Storage.view c.begin.ensures.begun c.check_not_compressed-plain.ensures.step.part.header_cluster c.mark_failure.ensures.rest;
-  faults = counted_marked g.S.Storage.view g.F.BackingDisk.backing c.args.self.now c.begin.new.self c.check_not_compressed-plain.new.self c.mark_failure.new.self c.check_not_compressed-plain.result c.mark_failure.result c.begin.ensures.faults c.check_not_compressed-plain.ensures.fails.faults c.mark_failure.ensures.answer c.mark_failure.ensures.rest;
-  quiet = reads_call g.S.Storage.view c.args.self.now c.begin.new.self c.check_not_compressed-plain.new.self c.mark_failure.new.self _ c.begin.ensures.begun c.check_not_compressed-plain.ensures.step.quiet c.mark_failure.ensures.rest;
-}
+returns-clause-step g c = reading_marked c.begin_call.ensures.begun c.begin_call.ensures.stays c.begin_call.ensures.faults c.check_not_compressed-plain.result c.mark_failure.result c.mark_failure.ensures.marks c.mark_failure.ensures.rest c.mark_failure.ensures.answer c.check_not_compressed-plain.ensures.step c.check_not_compressed-plain.ensures.fails.faults
 
 pub returns-in_err-check_usable-clause-step : goal.returns-in_err-check_usable-clause-step
 returns-in_err-check_usable-clause-step g c = record { image = search rules; header = search rules; marks = search rules; once_written = fails_none g.S.Storage.view c.args.self.now _; header_cluster = search rules; faults = search rules; quiet = search rules }
 
 pub returns-then-is_empty-clause-step : goal.returns-then-is_empty-clause-step
 returns-then-is_empty-clause-step g c = record { image = search rules; header = search rules; marks = search rules; once_written = fails_none g.S.Storage.view c.args.self.now _; header_cluster = search rules; faults = search rules; quiet = search rules }
+
+pub returns-in_err-check_usable-clause-refusals : goal.returns-in_err-check_usable-clause-refusals
+returns-in_err-check_usable-clause-refusals g c = record { early = search rules; nothing = search rules; late = search rules }
+
+pub returns-then-is_empty-clause-refusals : goal.returns-then-is_empty-clause-refusals
+returns-then-is_empty-clause-refusals g c = record { early = search rules; nothing = search rules; late = search rules }
+
+pub returns-clause-refusals : goal.returns-clause-refusals
+returns-clause-refusals g c = record { early = search rules; nothing = search rules; late = search rules }

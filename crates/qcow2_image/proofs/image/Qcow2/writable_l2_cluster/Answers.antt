@@ -5,12 +5,12 @@ use Rattle.std.proofs.Common.{◌≡◌, ◌⊎◌, ◌*◌, ◌/◌, ◌^◌, O
 use Rattle.qcow2_metadata.specs.Entries.{host_offset, is_copied}
 use Rattle.qcow2_image.specs.Found.{l1_index_of}
 use Rattle.qcow2_image.specs.NewTables.{OwnsTable, MayName}
-use Rattle.qcow2_image.proofs.Prepare.Owning.{refused, left_alone, may_none, says_none, entered_owns, owns_already}
+use Rattle.qcow2_image.proofs.Prepare.WritableL2Table.{refused, left_alone, may_none, says_none, entered_owns, owns_already}
 use Rattle.qcow2_metadata.specs.EntryTable.{entry_count}
 use Rattle.qcow2_metadata.specs.TableBytes.{entry_at}
-use Rattle.qcow2_image.proofs.Prepare.Lacking.{lacks_past, not_within, owns_or_lacks}
+use Rattle.qcow2_image.proofs.Prepare.MissingL2Table.{lacks_past, not_within, owns_or_lacks}
 use Rattle.qcow2_image.proofs.Call.BehindHeader.{behind_first}
-use Rattle.qcow2_image.proofs.Prepare.Pinned.{whole_quotient}
+use Rattle.qcow2_image.proofs.Prepare.PinnedL2Tables.{whole_quotient}
 use Rattle.qcow2_image.specs.InternalSteps.{NamesOwn}
 
 pub returns-in_default-clause-quiet : goal.returns-in_default-clause-quiet
@@ -87,7 +87,7 @@ returns-then-not-in_bounds-clause-sound g c = λ p out sound.
     let past : entry_count old.l1_table ≤ l1_index_of old.file.header.fields c.args.offset = subst (λ i. entry_count old.l1_table ≤ i) idx (not_within c.in_bounds.result c.l1_index-index.result (entry_count old.l1_table) c.in_bounds.ensures c.if-not-in_bounds.true) in
     let lacks = lacks_past view below out p old old sound c.args.offset past in
     record {
-      met = search rules;
+      may_fail = search rules;
       does = left_alone view below out p old sound c.l1_index-index.result _;
       limit = λ cause is. elim cause [ inl own ↦ absurd (lacks (subst NamesOwn (sound.l1_table.entries (l1_index_of old.file.header.fields c.args.offset)) own)) | inr near ↦ absurd (let within = near.within in omega (arith, past, within)) ];
       lacks = inr lacks;
@@ -96,7 +96,7 @@ returns-then-not-in_bounds-clause-sound g c = λ p out sound.
 pub returns-in_err-table-clause-sound : goal.returns-in_err-table-clause-sound
 returns-in_err-table-clause-sound g c = λ p out sound.
     record {
-      met = search rules;
+      may_fail = search rules;
       limit = search rules;
       lacks = search rules;
       does = refused (OwnsTable g.S.Storage.view g.F.BackingDisk.backing p c.args.self.now c.args.self.now out (l1_index_of c.args.self.now.file.header.fields c.args.offset)) c.from_residual.result c.from_residual.ensures.0
@@ -120,7 +120,7 @@ returns-in_default-clause-sound g c = λ p out sound.
     ] in
     record {
       does = owns;
-      met = λ cause. entered.met (near cause);
+      may_fail = λ cause. entered.may_fail (near cause);
       limit = λ cause. entered.limit (near cause);
       lacks = owns_or_lacks view below out p old c.allocate_l2.new.self sound c.args.offset (subst (MayName view old) idx may) c.allocate_l2.result owns c.allocate_l2.ensures.l1_table;
     }
@@ -129,7 +129,7 @@ pub returns-then-entry-clause-sound : goal.returns-then-entry-clause-sound
 returns-then-entry-clause-sound g c = λ p out sound.
     let old = c.args.self.now in
     record {
-      met = search rules;
+      may_fail = search rules;
       limit = search rules;
       lacks = search rules;
       does = let idx : c.l1_index-index.result ≡ l1_index_of old.file.header.fields c.args.offset =
@@ -163,7 +163,7 @@ returns-clause-sound g c = λ p out sound.
     ] in
     record {
       does = owns;
-      met = λ cause. replaced.met (near cause);
+      may_fail = λ cause. replaced.may_fail (near cause);
       limit = λ cause. replaced.limit (near cause);
       lacks = owns_or_lacks view below out p old c.replace_l2.new.self sound c.args.offset (subst (MayName view old) idx may) c.replace_l2.result owns c.replace_l2.ensures.l1_table;
     }

@@ -11,22 +11,22 @@ use Rattle.qcow2_image.specs.ImageInvariant.{ImageInvariant, pending_in}
 use Rattle.qcow2_image.proofs.Call.Refused.{finds, finds_after, left_refused, stays_kept, stays_then}
 use Rattle.qcow2_image.proofs.Flush.Freeing.{all_listed, beside, freed_refused, tidy_stays}
 use Rattle.std.specs.Prelude.{IfErr, IsTrue, OnOk}
-use Rattle.qcow2_alloc.proofs.KeptTables.Turning.{always_ok}
+use Rattle.qcow2_alloc.proofs.KeptTables.Switching.{always_ok}
 use Rattle.qcow2_image.specs.Found.{l1_index_of}
 use Rattle.qcow2_image.specs.InternalSteps.{NamesOwn, pending_with_listed}
-use Rattle.qcow2_image.proofs.Prepare.Owning.{left_alone}
-use Rattle.qcow2_image.proofs.Grow.Lengths.{own_after}
+use Rattle.qcow2_image.proofs.Prepare.WritableL2Table.{left_alone}
+use Rattle.qcow2_image.proofs.Grow.L1Lengths.{own_after}
 use Rattle.qcow2_image.specs.NewTables.{IsFaultOrLacksTable}
 use Rattle.qcow2_image.proofs.Call.FaultCounts.{counted_on, counted_since, faults_then, same_of}
-use Rattle.qcow2_image.proofs.Prepare.Lacked.{hands_limit, near_reached, other_limit, goes_step, limited_more, limited_since, limited_unseen, limited_upto, limits_as}
+use Rattle.qcow2_image.proofs.Prepare.LimitCauses.{hands_limit, near_reached, other_limit, goes_step, limited_more, limited_since, limited_unseen, limited_upto, limits_as}
 use Rattle.qcow2_alloc.proofs.Outcomes.{not_both}
 use Rattle.qcow2_metadata.specs.declared.header.HeaderFields.{HeaderFields}
 use Rattle.qcow2_image.proofs.Call.Unlimited.{fault_unlimited}
 use Rattle.qcow2_image.specs.L1Entries.{NeedsOverflowingL1Entry, HasNearEntry}
 use Rattle.qcow2_image.specs.Backings.{HasPinnedMapping}
-use Rattle.qcow2_image.specs.MetAlone.{MayFailAllocating}
-use Rattle.qcow2_image.proofs.Prepare.Met.{hands_met, met_as}
-use Rattle.qcow2_image.proofs.Prepare.MetTaking.{taking_as}
+use Rattle.qcow2_image.specs.MayFail.{MayFailAllocating}
+use Rattle.qcow2_image.proofs.Prepare.FailingCopies.{hands_met, met_as}
+use Rattle.qcow2_image.proofs.Prepare.FailingAllocations.{taking_as}
 
 pub returns-then-has_own_l2-clause-elsewhere : goal.returns-then-has_own_l2-clause-elsewhere
 returns-then-has_own_l2-clause-elsewhere g c = c.ensure_cached_l2.ensures.elsewhere
@@ -112,9 +112,9 @@ returns-then-has_own_l2-clause-sound g c = λ out sound.
     let below = g.F.BackingDisk.backing in
     record {
       finds = finds view below out c.args.self.now c.ensure_cached_l2.new.self sound c.ensure_cached_l2.ensures.keeps_rest c.args.offset c.ensure_cached_l2.result ((c.ensure_cached_l2.ensures.sound (pending_in view below c.args.self.now out) out sound).ready);
-      met = met_as (MayFailAllocating (HasPinnedMapping out) ⊥ ⊥ ⊥) (MayFailAllocating (HasPinnedMapping out) ⊥ ⊥ (NeedsOverflowingL1Entry c.args.self.now c.args.offset)) c.ensure_cached_l2.result (taking_as (λ held. held) (λ no. no) (λ no. no) (λ no. absurd no))
-          ((c.ensure_cached_l2.ensures.sound (pending_in g.S.Storage.view g.F.BackingDisk.backing c.args.self.now out) out sound).met (inl (c.has_own_l2.ensures.0 c.if-has_own_l2.true)));
-      limit = limits_as c.ensure_cached_l2.result (λ met. limited_upto (omega arith) (limited_more (limited_unseen sound met))) ((c.ensure_cached_l2.ensures.sound (pending_in view below c.args.self.now out) out sound).limit (inl (c.has_own_l2.ensures.0 c.if-has_own_l2.true)));
+      may_fail = met_as (MayFailAllocating (HasPinnedMapping out) ⊥ ⊥ ⊥) (MayFailAllocating (HasPinnedMapping out) ⊥ ⊥ (NeedsOverflowingL1Entry c.args.self.now c.args.offset)) c.ensure_cached_l2.result (taking_as (λ held. held) (λ no. no) (λ no. no) (λ no. absurd no))
+          ((c.ensure_cached_l2.ensures.sound (pending_in g.S.Storage.view g.F.BackingDisk.backing c.args.self.now out) out sound).may_fail (inl (c.has_own_l2.ensures.0 c.if-has_own_l2.true)));
+      limit = limits_as c.ensure_cached_l2.result (λ may_fail. limited_upto (omega arith) (limited_more (limited_unseen sound may_fail))) ((c.ensure_cached_l2.ensures.sound (pending_in view below c.args.self.now out) out sound).limit (inl (c.has_own_l2.ensures.0 c.if-has_own_l2.true)));
       lacks = λ none. (c.ensure_cached_l2.ensures.sound (pending_in g.S.Storage.view g.F.BackingDisk.backing c.args.self.now out) out sound).lacks none;
       freeing = always_ok c.ensure_cached_l2.result (inl (c.ensure_cached_l2.ensures.quiet (c.has_own_l2.ensures.0 c.if-has_own_l2.true)).list);
     }
@@ -125,7 +125,7 @@ returns-then-l1_entry_overflows-clause-sound g c = λ out sound.
     let old = c.args.self.now in
     let below = g.F.BackingDisk.backing in
     record {
-      met = search rules;
+      may_fail = search rules;
       limit = search rules;
       freeing = search rules;
       finds = left_refused view below out old old I.Overflow sound (record { header = refl; backing = refl }) (left_alone view below out (pending_in view below old out) old sound 0 I.Overflow);
@@ -139,7 +139,7 @@ returns-in_err-ensure_l1_entry-clause-sound g c = λ out sound.
       freeing = search rules;
       finds = handed_on (FindsTable view g.F.BackingDisk.backing c.args.self.now c.ensure_l1_entry.new.self out c.args.offset) c.from_residual.result c.in_err-ensure_l1_entry.field-0.0 c.from_residual.ensures
           ((c.in_err-ensure_l1_entry.ensures.sound out sound).makes);
-      met = hands_met (MayFailAllocating (HasPinnedMapping out) ⊥ ⊥ (NeedsOverflowingL1Entry c.args.self.now c.args.offset)) c.from_residual.result c.in_err-ensure_l1_entry.field-0.0 c.from_residual.ensures (inl (inl ((c.in_err-ensure_l1_entry.ensures.sound out sound).fault)));
+      may_fail = hands_met (MayFailAllocating (HasPinnedMapping out) ⊥ ⊥ (NeedsOverflowingL1Entry c.args.self.now c.args.offset)) c.from_residual.result c.in_err-ensure_l1_entry.field-0.0 c.from_residual.ensures (inl (inl ((c.in_err-ensure_l1_entry.ensures.sound out sound).fault)));
       limit = hands_limit c.from_residual.result c.in_err-ensure_l1_entry.field-0.0 c.from_residual.ensures ((c.in_err-ensure_l1_entry.ensures.sound out sound).limit);
       lacks = λ none. handed_on (λ r. IfErr r (IsFaultOrLacksTable g.S.Storage.view c.ensure_l1_entry.new.self c.args.offset)) c.from_residual.result c.in_err-ensure_l1_entry.field-0.0 c.from_residual.ensures ((c.in_err-ensure_l1_entry.ensures.sound out sound).lacks);
     }
@@ -157,10 +157,10 @@ returns-in_err-writable_l2_cluster-clause-sound g c = λ out sound.
       finds = handed_on (FindsTable view below old c.writable_l2_cluster.new.self out c.args.offset) c.from_residual-in_err-writable_l2_cluster.result e c.from_residual-in_err-writable_l2_cluster.ensures
           (finds_after view below out old long c.writable_l2_cluster.new.self reached c.args.offset (Err e)
           (left_refused view below out long c.writable_l2_cluster.new.self e reached.sound c.writable_l2_cluster.ensures.keeps_rest ((c.in_err-writable_l2_cluster.ensures.sound (pending_in view below long out) out reached.sound).does)));
-      met = let near : HasNearEntry long (l1_index_of long.file.header.fields c.args.offset) =
+      may_fail = let near : HasNearEntry long (l1_index_of long.file.header.fields c.args.offset) =
           near_reached old long c.args.offset sound.l1_table.bits (λ far. not_both c.l1_entry_overflows.result (c.l1_entry_overflows.ensures.1 far) c.if-l1_entry_overflows.false) c.ensure_l1_entry.ensures.none c.in_ok-ensure_l1_entry.ensures.placed c.in_ok-ensure_l1_entry.ensures.length (ap (λ (h : HeaderFields). l1_index_of h c.args.offset) reached.header) in
           hands_met (MayFailAllocating (HasPinnedMapping out) ⊥ ⊥ (NeedsOverflowingL1Entry old c.args.offset)) c.from_residual-in_err-writable_l2_cluster.result c.in_err-writable_l2_cluster.field-0.0 c.from_residual-in_err-writable_l2_cluster.ensures
-          (taking_as (λ held. held) (λ no. no) (λ no. no) (λ no. absurd no) c.in_err-writable_l2_cluster.field-0.0 ((c.in_err-writable_l2_cluster.ensures.sound (pending_in view below long out) out reached.sound).met (inr near)));
+          (taking_as (λ held. held) (λ no. no) (λ no. no) (λ no. absurd no) c.in_err-writable_l2_cluster.field-0.0 ((c.in_err-writable_l2_cluster.ensures.sound (pending_in view below long out) out reached.sound).may_fail (inr near)));
       limit = let near : HasNearEntry long (l1_index_of long.file.header.fields c.args.offset) =
           near_reached old long c.args.offset sound.l1_table.bits (λ far. not_both c.l1_entry_overflows.result (c.l1_entry_overflows.ensures.1 far) c.if-l1_entry_overflows.false) c.ensure_l1_entry.ensures.none c.in_ok-ensure_l1_entry.ensures.placed c.in_ok-ensure_l1_entry.ensures.length (ap (λ (h : HeaderFields). l1_index_of h c.args.offset) reached.header) in
           hands_limit c.from_residual-in_err-writable_l2_cluster.result e c.from_residual-in_err-writable_l2_cluster.ensures
@@ -186,7 +186,7 @@ returns-in_err-process_free_list-clause-sound g c = λ out sound.
       finds = handed_on (FindsTable view below old new out c.args.offset) c.from_residual-in_err-process_free_list.result e c.from_residual-in_err-process_free_list.ensures
           (finds_after view below out old long new reached c.args.offset (Err e)
           (finds_after view below out long mid new first c.args.offset (Err e) (freed_refused view below mid out new e first.sound (c.in_err-process_free_list.ensures.frees (beside view below mid out) out listed))));
-      met = let first = stays_kept view below out long mid reached.sound ((c.in_ok-writable_l2_cluster.ensures.sound (pending_in view below long out) out reached.sound).does).0 in
+      may_fail = let first = stays_kept view below out long mid reached.sound ((c.in_ok-writable_l2_cluster.ensures.sound (pending_in view below long out) out reached.sound).does).0 in
           hands_met (MayFailAllocating (HasPinnedMapping out) ⊥ ⊥ (NeedsOverflowingL1Entry old c.args.offset)) c.from_residual-in_err-process_free_list.result c.in_err-process_free_list.field-0.0 c.from_residual-in_err-process_free_list.ensures
           (inl (inl (inl (c.in_err-process_free_list.ensures.faults (beside view below mid out) out listed))));
       limit = hands_limit c.from_residual-in_err-process_free_list.result e c.from_residual-in_err-process_free_list.ensures
@@ -217,10 +217,10 @@ returns-clause-sound g c = λ out sound.
           (finds_after view below out long mid new first c.args.offset c.ensure_cached_l2-2.result
           (finds_after view below out mid freed new second c.args.offset c.ensure_cached_l2-2.result
           (finds view below out freed new second.sound c.ensure_cached_l2-2.ensures.keeps_rest c.args.offset c.ensure_cached_l2-2.result ((c.ensure_cached_l2-2.ensures.sound (pending_in view below freed out) out second.sound).ready))));
-      met = let first = stays_kept view below out long mid reached.sound owned.0 in
-          met_as (MayFailAllocating (HasPinnedMapping out) ⊥ ⊥ ⊥) (MayFailAllocating (HasPinnedMapping out) ⊥ ⊥ (NeedsOverflowingL1Entry old c.args.offset)) c.ensure_cached_l2-2.result (taking_as (λ held. held) (λ no. no) (λ no. no) (λ no. absurd no)) ((c.ensure_cached_l2-2.ensures.sound (pending_in view below freed out) out second.sound).met (inl own));
+      may_fail = let first = stays_kept view below out long mid reached.sound owned.0 in
+          met_as (MayFailAllocating (HasPinnedMapping out) ⊥ ⊥ ⊥) (MayFailAllocating (HasPinnedMapping out) ⊥ ⊥ (NeedsOverflowingL1Entry old c.args.offset)) c.ensure_cached_l2-2.result (taking_as (λ held. held) (λ no. no) (λ no. no) (λ no. absurd no)) ((c.ensure_cached_l2-2.ensures.sound (pending_in view below freed out) out second.sound).may_fail (inl own));
       limit = limits_as c.ensure_cached_l2-2.result
-          (λ met. limited_since (omega arith) (goes_step (step_then (step_then c.ensure_l1_entry.ensures.step c.writable_l2_cluster.ensures.step) c.process_free_list.ensures.step)) (stays_then view below out old long freed reached (stays_then view below out long mid freed first second)) (limited_more (limited_unseen second.sound met)))
+          (λ may_fail. limited_since (omega arith) (goes_step (step_then (step_then c.ensure_l1_entry.ensures.step c.writable_l2_cluster.ensures.step) c.process_free_list.ensures.step)) (stays_then view below out old long freed reached (stays_then view below out long mid freed first second)) (limited_more (limited_unseen second.sound may_fail)))
           ((c.ensure_cached_l2-2.ensures.sound (pending_in view below freed out) out second.sound).limit (inl own));
       lacks = λ none. (c.ensure_cached_l2-2.ensures.sound (pending_in view below freed out) out second.sound).lacks none;
       freeing = always_ok c.ensure_cached_l2-2.result (inr ((c.ensure_cached_l2-2.ensures.quiet own).list ∙ c.in_ok-process_free_list.ensures.emptied writable));

@@ -117,7 +117,7 @@ pub returns-in_err-flush-clause-step : goal.returns-in_err-flush-clause-step
 returns-in_err-flush-clause-step g c = record {
   stays = search rules;
   notes = notes_then (notes_then c.process_free_list.ensures.step.notes (notes_of_both c.flush_all.ensures.step.marks.pins c.flush_all.ensures.step.marks.notes))
-      (notes_of_storage (read_kept c.flush_all.new.storage c.flush.new.self c.flush.result c.flush.ensures.calls c.flush.ensures.same c.flush.ensures.unnoted));
+      (notes_of_storage (read_kept c.flush_all.new.storage c.flush.new.self c.flush.result c.flush.ensures.calls c.flush.ensures.same c.flush.ensures.unrecorded));
   header_cluster = behind_then (behind_then c.process_free_list.ensures.step.header_cluster (behind_caches c.flush_all.ensures.step.header_cluster)) (behind_read c.flush.result c.flush.ensures.calls c.flush.ensures.same);
 }
 
@@ -125,6 +125,6 @@ pub returns-clause-step : goal.returns-clause-step
 returns-clause-step g c = record {
   stays = search rules;
   notes = notes_then (notes_then c.process_free_list.ensures.step.notes (notes_of_both c.flush_all.ensures.step.marks.pins c.flush_all.ensures.step.marks.notes))
-      (notes_of_storage (read_kept c.flush_all.new.storage c.flush.new.self c.flush.result c.flush.ensures.calls c.flush.ensures.same c.flush.ensures.unnoted));
+      (notes_of_storage (read_kept c.flush_all.new.storage c.flush.new.self c.flush.result c.flush.ensures.calls c.flush.ensures.same c.flush.ensures.unrecorded));
   header_cluster = behind_then (behind_then c.process_free_list.ensures.step.header_cluster (behind_caches c.flush_all.ensures.step.header_cluster)) (behind_read c.flush.result c.flush.ensures.calls c.flush.ensures.same);
 }

@@ -1,11 +1,11 @@
-use Rattle.qcow2_image.proofs.Call.ImageSteps.{step_then}
+use Rattle.qcow2_image.proofs.Call.WriteSteps.{filling_none, filling_written, keeping_of_filling, keeping_then}
 use Rattle.qcow2_image.proofs.image.Qcow2.write_current.Goals as goal
-use Rattle.std.proofs.Common.{◌≡◌, ◌+◌, ◌^◌, ◌≤◌, inl, inr, None, Err, length, refl, sym, ap, ◌∙◌, subst, true, arith}
+use Rattle.std.proofs.Common.{◌≡◌, ◌+◌, ◌^◌, ◌≤◌, inl, inr, None, Err, length, refl, sym, ap, subst, true, arith, rules}
 use Rattle.image_access.specs.Contents.{overwritten}
 use Rattle.qcow2_alloc.specs.ImageFile.{view_in}
 use Rattle.qcow2_alloc.specs.declared.error.ImageError.TheVariants.{OutdatedMapping, Overflow}
 use Rattle.qcow2_alloc.proofs.AllocationSteps.{handed_on}
-use Rattle.qcow2_alloc.proofs.KeptTables.Turning.{always_ok}
+use Rattle.qcow2_alloc.proofs.KeptTables.Switching.{always_ok}
 use Rattle.qcow2_image.specs.declared.image.Qcow2.{Qcow2}
 use Rattle.qcow2_image.specs.declared.mapping.MappingKind.TheVariants.{Raw}
 use Rattle.qcow2_image.specs.declared.mapping.Place.TheVariants.{Image}
@@ -19,60 +19,87 @@ use Rattle.qcow2_image.specs.HeldMappings.{FitsTables, IsHeldAs}
 use Rattle.std.specs.Prelude.{Result}
 use Rattle.std.proofs.lemmas.Bool.{cases_lt}
 use Rattle.qcow2_alloc.specs.ImageError.{IsFault}
-use Rattle.qcow2_image.specs.MetAlone.{IsCacheHeld, IsMetPutting}
-use Rattle.qcow2_image.proofs.Prepare.Met.{hands_met, met_as, told_sum}
-use Rattle.qcow2_image.proofs.Prepare.NearPlaces.{past_existing}
+use Rattle.qcow2_image.specs.MayFail.{IsCacheHeld, MayFailPutting}
+use Rattle.qcow2_image.proofs.Prepare.FailingCopies.{hands_met, met_as, told_sum}
+use Rattle.qcow2_image.proofs.Prepare.NameablePlaces.{past_existing}
 use Rattle.qcow2_image.proofs.Write.Hosted.{hosts_behind_header}
 use Rattle.qcow2_alloc.specs.ImageStorage.{changes_of}
 use Rattle.qcow2_image.specs.Image.{storage_of_image}
 use Rattle.qcow2_image.specs.Noted.{PutsOnce}
 use Rattle.qcow2_image.proofs.Write.ToldPuts.{checked_unseen, put_refused, put_unwritten}
 
+pub returns-in_err-check_in_place-clause-in_place : goal.returns-in_err-check_in_place-clause-in_place
+returns-in_err-check_in_place-clause-in_place g c = λ none p out sound.
+    record {
+      outdated = λ some is whole. let here = subst (λ o. IsFoundWhole g.S.Storage.view c.args.self.now (c.args.prepared.now.guest + c.args.at) (Raw Image o true) (length c.args.bytes.now)) (sym c.in-Some.ensures.1) whole in
+          handed_on (λ r. r ≡ Err OutdatedMapping → ⊥) c.from_residual.result c.in_err-check_in_place.field-0.0 c.from_residual.ensures (λ was. (c.in_err-check_in_place.ensures.sound p out sound).outdated some was here) is;
+      mapped = search rules;
+    }
+
 pub returns-in_err-check_in_place-clause-puts : goal.returns-in_err-check_in_place-clause-puts
-returns-in_err-check_in_place-clause-puts g c = λ some fits out k placed sound.
-    let view = g.S.Storage.view in
-    let below = g.F.BackingDisk.backing in
+returns-in_err-check_in_place-clause-puts g c = λ fits some out k placed sound.
     let old = c.args.self.now in
-    let new = c.check_in_place.new.self in
-    let p = c.args.prepared.now in
-    let e = c.in_err-check_in_place.field-0.0 in
-    handed_on (λ r. PutsPart view below old new out k p c.args.at c.args.bytes.now r) c.from_residual.result e c.from_residual.ensures
-    (puts_refused view below out k p c.args.at c.args.bytes.now placed old new e (record { keeps = c.check_in_place.ensures.keeps (pending_in view below old out) out sound; list = c.check_in_place.ensures.list }) sound)
+    let below = g.F.BackingDisk.backing in
+    let view = g.S.Storage.view in
+    record {
+      may_fail = let may_fail = (c.in_err-check_in_place.ensures.sound (pending_in view below old out) out sound).may_fail in
+          hands_met (MayFailPutting (IsCacheHeld old out) c.args.prepared.now c.args.at) c.from_residual.result c.in_err-check_in_place.field-0.0 c.from_residual.ensures (inr (may_fail.0, inl may_fail.1));
+      puts = let new = c.check_in_place.new.self in
+          let p = c.args.prepared.now in
+          let e = c.in_err-check_in_place.field-0.0 in
+          handed_on (λ r. PutsPart view below old new out k p c.args.at c.args.bytes.now r) c.from_residual.result e c.from_residual.ensures
+          (puts_refused view below out k p c.args.at c.args.bytes.now placed old new e (record { keeps = (c.check_in_place.ensures.sound (pending_in view below old out) out sound).keeps; list = c.check_in_place.ensures.step.list }) sound);
+    }
+
+pub returns-clause-in_place : goal.returns-clause-in_place
+returns-clause-in_place g c = λ none p out sound.
+    record {
+      outdated = search rules;
+      mapped = always_ok c.write_data.result
+          (subst (λ o. IsFoundWhole g.S.Storage.view c.args.self.now (c.args.prepared.now.guest + c.args.at) (Raw Image o true) (length c.args.bytes.now)) c.in-Some.ensures.1 ((c.in_ok-check_in_place.ensures.sound p out sound).found none));
+    }
 
 pub returns-clause-puts : goal.returns-clause-puts
-returns-clause-puts g c = λ some fits out k placed sound.
-    let view = g.S.Storage.view in
-    let below = g.F.BackingDisk.backing in
+returns-clause-puts g c = λ fits some out k placed sound.
     let old = c.args.self.now in
+    let below = g.F.BackingDisk.backing in
+    let view = g.S.Storage.view in
     let mid = c.check_in_place.new.self in
     let p = c.args.prepared.now in
-    let at = c.args.at in
-    let bytes = c.args.bytes.now in
-    let quiet : Quietly view below out old mid = record { keeps = c.in_ok-check_in_place.ensures.keeps (pending_in view below old out) out sound; list = c.in_ok-check_in_place.ensures.list } in
-    let still = quiet_sound view below out old mid (λ _. quiet) sound in
-    let host_is : c.in-Some.host ≡ p.offset + at = c.in-Some.ensures.1 in
-    let w = c.write_data.ensures.written in
-    let contents = (view_in view mid.file).contents in
-    let storage = c.write_data.new.self.file.storage in
-    let done = subst (λ o. IsWriteOutcome c.write_data.result contents (overwritten contents o bytes) (view_in view c.write_data.new.self.file).contents) host_is (w.written still.file.honest) in
-    let mapped : p.table ≡ None → IsMappedAs view mid (p.guest + at) (Raw Image (p.offset + at) true) (length bytes) = λ none.
-    subst (λ o. IsMappedAs view mid (p.guest + at) (Raw Image o true) (length bytes)) host_is (c.in_ok-check_in_place.ensures.mapped none some (pending_in view below old out) out sound) in
-    subst (λ (image : Qcow2 _ _). PutsPart view below old image out k p at bytes c.write_data.result) (sym w.rest)
-    (puts_then view below out k p at bytes placed old mid (record mid { file = record mid.file { storage = storage } }) c.write_data.result quiet sound
-    (puts_written view below out k p at bytes placed mid still fits (mapped_in_place view below out k p at bytes placed mid mapped) storage (w.honest still.file.honest) (w.time still.file.honest) c.write_data.result done))
-
-pub returns-in_err-check_in_place-clause-outdated : goal.returns-in_err-check_in_place-clause-outdated
-returns-in_err-check_in_place-clause-outdated g c = λ some none p out sound is whole.
-    let here = subst (λ o. IsFoundWhole g.S.Storage.view c.args.self.now (c.args.prepared.now.guest + c.args.at) (Raw Image o true) (length c.args.bytes.now)) (sym c.in-Some.ensures.1) whole in
-    handed_on (λ r. r ≡ Err OutdatedMapping → ⊥) c.from_residual.result c.in_err-check_in_place.field-0.0 c.from_residual.ensures (λ was. c.in_err-check_in_place.ensures.outdated some p out sound was here) is
+    let quiet : Quietly view below out old mid = record { keeps = (c.in_ok-check_in_place.ensures.sound (pending_in view below old out) out sound).keeps; list = c.in_ok-check_in_place.ensures.step.list } in
+    record {
+      may_fail = let n = length c.args.bytes.now in
+          let mapped : p.table ≡ None → IsMappedAs view mid (p.guest + c.args.at) (Raw Image (p.offset + c.args.at) true) n = λ none.
+          subst (λ o. IsMappedAs view mid (p.guest + c.args.at) (Raw Image o true) n) c.in-Some.ensures.1 ((c.in_ok-check_in_place.ensures.sound (pending_in view below old out) out sound).mapped none some) in
+          let behind = hosts_behind_header view below mid out (quiet_sound view below out old mid (λ _. quiet) sound) n k p c.args.at placed fits (mapped_in_place view below out k p c.args.at c.args.bytes.now placed mid mapped) 0 some in
+          let host_is = c.in-Some.ensures.1 in
+          met_as IsFault (MayFailPutting (IsCacheHeld old out) p c.args.at) c.write_data.result (λ e fault. inl fault) (c.write_data.ensures.fault (omega (arith, behind, host_is)));
+      puts = let at = c.args.at in
+          let bytes = c.args.bytes.now in
+          let still = quiet_sound view below out old mid (λ _. quiet) sound in
+          let host_is : c.in-Some.host ≡ p.offset + at = c.in-Some.ensures.1 in
+          let w = c.write_data.ensures.written in
+          let contents = (view_in view mid.file).contents in
+          let storage = c.write_data.new.self.file.storage in
+          let done = subst (λ o. IsWriteOutcome c.write_data.result contents (overwritten contents o bytes) (view_in view c.write_data.new.self.file).contents) host_is (w.written still.file.honest) in
+          let mapped : p.table ≡ None → IsMappedAs view mid (p.guest + at) (Raw Image (p.offset + at) true) (length bytes) = λ none.
+          subst (λ o. IsMappedAs view mid (p.guest + at) (Raw Image o true) (length bytes)) host_is ((c.in_ok-check_in_place.ensures.sound (pending_in view below old out) out sound).mapped none some) in
+          subst (λ (image : Qcow2 _ _). PutsPart view below old image out k p at bytes c.write_data.result) (sym w.rest)
+          (puts_then view below out k p at bytes placed old mid (record mid { file = record mid.file { storage = storage } }) c.write_data.result quiet sound
+          (puts_written view below out k p at bytes placed mid still fits (mapped_in_place view below out k p at bytes placed mid mapped) storage (w.honest still.file.honest) (w.time still.file.honest) c.write_data.result done));
+    }
 
 pub returns-in_default-clause-puts : goal.returns-in_default-clause-puts
-returns-in_default-clause-puts g c = λ some fits out k placed sound. puts_nothing g.S.Storage.view g.F.BackingDisk.backing out k c.args.prepared.now c.args.at c.args.bytes.now placed c.args.self.now Overflow sound
-
-pub returns-clause-mapped : goal.returns-clause-mapped
-returns-clause-mapped g c = λ none p out sound.
-    always_ok c.write_data.result
-    (subst (λ o. IsFoundWhole g.S.Storage.view c.args.self.now (c.args.prepared.now.guest + c.args.at) (Raw Image o true) (length c.args.bytes.now)) c.in-Some.ensures.1 (c.in_ok-check_in_place.ensures.found none p out sound))
+returns-in_default-clause-puts g c = λ fits some out k placed sound.
+    let old = c.args.self.now in
+    let below = g.F.BackingDisk.backing in
+    let view = g.S.Storage.view in
+    record {
+      may_fail = let p = c.args.prepared.now in
+          let past : 2 ^ 64 ≤ p.offset + c.args.at = elim (cases_lt (p.offset + c.args.at) (2 ^ 64)) [ inl lt ↦ absurd (told_sum c.checked_add.result (p.offset + c.args.at) c.checked_add.ensures lt c.in_default.is) | inr past ↦ past ] in
+          inr ((past_existing view below old out (pending_in view below old out) sound p (sound.ready k p placed).mapped c.args.at (length c.args.bytes.now) fits some past), inr (refl, past));
+      puts = puts_nothing view below out k c.args.prepared.now c.args.at c.args.bytes.now placed old Overflow sound;
+    }
 
 pub returns-in_err-check_in_place-clause-held : goal.returns-in_err-check_in_place-clause-held
 returns-in_err-check_in_place-clause-held g c = λ none some.
@@ -92,35 +119,6 @@ returns-clause-held g c = λ none some.
     let held = subst (λ o. IsHeldAs mid at (Raw Image o true) n) c.in-Some.ensures.1 (c.in_ok-check_in_place.ensures.held none some) in
     heeds_then at kind n new c.write_data.result c.write_data.ensures.current (held_as mid new at kind n (keeps_storage mid new new.file.storage c.write_data.ensures.written.rest) held)
 
-pub returns-in_default-clause-met : goal.returns-in_default-clause-met
-returns-in_default-clause-met g c = λ fits some out k placed sound.
-    let view = g.S.Storage.view in
-    let below = g.F.BackingDisk.backing in
-    let old = c.args.self.now in
-    let p = c.args.prepared.now in
-    let past : 2 ^ 64 ≤ p.offset + c.args.at = elim (cases_lt (p.offset + c.args.at) (2 ^ 64)) [ inl lt ↦ absurd (told_sum c.checked_add.result (p.offset + c.args.at) c.checked_add.ensures lt c.in_default.is) | inr past ↦ past ] in
-    inr ((past_existing view below old out (pending_in view below old out) sound p (sound.ready k p placed).mapped c.args.at (length c.args.bytes.now) fits some past), inr (refl, past))
-
-pub returns-in_err-check_in_place-clause-met : goal.returns-in_err-check_in_place-clause-met
-returns-in_err-check_in_place-clause-met g c = λ fits some out k placed sound.
-    let met = c.in_err-check_in_place.ensures.met (pending_in g.S.Storage.view g.F.BackingDisk.backing c.args.self.now out) out sound in
-    hands_met (IsMetPutting (IsCacheHeld c.args.self.now out) c.args.prepared.now c.args.at) c.from_residual.result c.in_err-check_in_place.field-0.0 c.from_residual.ensures (inr (met.0, inl met.1))
-
-pub returns-clause-met : goal.returns-clause-met
-returns-clause-met g c = λ fits some out k placed sound.
-    let view = g.S.Storage.view in
-    let below = g.F.BackingDisk.backing in
-    let old = c.args.self.now in
-    let mid = c.check_in_place.new.self in
-    let p = c.args.prepared.now in
-    let n = length c.args.bytes.now in
-    let quiet : Quietly view below out old mid = record { keeps = c.in_ok-check_in_place.ensures.keeps (pending_in view below old out) out sound; list = c.in_ok-check_in_place.ensures.list } in
-    let mapped : p.table ≡ None → IsMappedAs view mid (p.guest + c.args.at) (Raw Image (p.offset + c.args.at) true) n = λ none.
-    subst (λ o. IsMappedAs view mid (p.guest + c.args.at) (Raw Image o true) n) c.in-Some.ensures.1 (c.in_ok-check_in_place.ensures.mapped none some (pending_in view below old out) out sound) in
-    let behind = hosts_behind_header view below mid out (quiet_sound view below out old mid (λ _. quiet) sound) n k p c.args.at placed fits (mapped_in_place view below out k p c.args.at c.args.bytes.now placed mid mapped) 0 some in
-    let host_is = c.in-Some.ensures.1 in
-    met_as IsFault (IsMetPutting (IsCacheHeld c.args.self.now out) p c.args.at) c.write_data.result (λ e fault. inl fault) (c.write_data.ensures.fault (omega (arith, behind, host_is)))
-
 pub returns-in_default-clause-once : goal.returns-in_default-clause-once
 returns-in_default-clause-once g c = put_refused g.S.Storage.view g.F.BackingDisk.backing c.args.prepared.now c.args.at c.args.bytes.now c.args.self.now Overflow
 
@@ -130,8 +128,8 @@ returns-in_err-check_in_place-clause-once g c =
     let new = c.check_in_place.new.self in
     let e = c.in_err-check_in_place.field-0.0 in
     handed_on (PutsOnce g.S.Storage.view g.F.BackingDisk.backing p c.args.at c.args.bytes.now c.args.self.now new) c.from_residual.result e c.from_residual.ensures
-    (put_unwritten g.S.Storage.view g.F.BackingDisk.backing p c.args.at c.args.bytes.now c.args.self.now new e c.check_in_place.ensures.step.notes.storage.honest c.check_in_place.ensures.idle
-    (λ out sound. checked_unseen g.S.Storage.view g.F.BackingDisk.backing c.args.self.now new out c.check_in_place.ensures.keeps c.check_in_place.ensures.list sound))
+    (put_unwritten g.S.Storage.view g.F.BackingDisk.backing p c.args.at c.args.bytes.now c.args.self.now new e c.check_in_place.ensures.step.notes.storage.honest (λ some. (c.check_in_place.ensures.private some).1)
+    (λ out sound. checked_unseen g.S.Storage.view g.F.BackingDisk.backing c.args.self.now new out (λ p out sound. (c.check_in_place.ensures.sound p out sound).keeps) c.check_in_place.ensures.step.list sound))
 
 pub returns-clause-once : goal.returns-clause-once
 returns-clause-once g c =
@@ -142,14 +140,20 @@ returns-clause-once g c =
     record {
       before = mid;
       honest = c.check_in_place.ensures.step.notes.storage.honest;
-      unseen = λ out sound. checked_unseen view g.F.BackingDisk.backing c.args.self.now mid out c.check_in_place.ensures.keeps c.check_in_place.ensures.list sound;
-      idle = λ some. let same = c.check_in_place.ensures.idle some in (ap (λ (i : Qcow2 _ _). storage_of_image i) same, ap (λ (i : Qcow2 _ _). changes_of i.file.storage) same);
+      unseen = λ out sound. checked_unseen view g.F.BackingDisk.backing c.args.self.now mid out (λ p out sound. (c.check_in_place.ensures.sound p out sound).keeps) c.check_in_place.ensures.step.list sound;
+      idle = λ some. let same = (c.check_in_place.ensures.private some).1 in (ap (λ (i : Qcow2 _ _). storage_of_image i) same, ap (λ (i : Qcow2 _ _). changes_of i.file.storage) same);
       time = w.time;
       written = λ honest. subst (λ o. IsWriteOutcome c.write_data.result contents (overwritten contents o c.args.bytes.now) (view_in view c.write_data.new.self.file).contents) c.in-Some.ensures.1 (w.written honest);
     }
 
-pub returns-clause-list : goal.returns-clause-list
-returns-clause-list g c = ap (λ (image : Qcow2 _ _). image.file.free_list) c.write_data.ensures.written.rest ∙ c.check_in_place.ensures.list
-
 pub returns-clause-step : goal.returns-clause-step
-returns-clause-step g c = step_then c.check_in_place.ensures.step c.write_data.ensures.step
+returns-clause-step g c = keeping_then c.check_in_place.ensures.step (keeping_of_filling (filling_written c.write_data.ensures.step c.write_data.ensures.written.rest))
+
+pub returns-in_default-clause-step : goal.returns-in_default-clause-step
+returns-in_default-clause-step g c = keeping_of_filling filling_none
+
+pub returns-in_err-check_in_place-clause-step : goal.returns-in_err-check_in_place-clause-step
+returns-in_err-check_in_place-clause-step g c = c.check_in_place.ensures.step
+
+pub returns-in_default-clause-in_place : goal.returns-in_default-clause-in_place
+returns-in_default-clause-in_place g c = λ none p out sound. record { outdated = λ some is. absurd (cc); mapped = tt }

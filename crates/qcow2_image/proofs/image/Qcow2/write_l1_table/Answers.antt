@@ -1,44 +1,26 @@
 use Rattle.qcow2_image.proofs.image.Qcow2.write_l1_table.Goals as goal
 use Rattle.std.proofs.Common.{◌∙◌, ◌≡◌, inl, ap, subst, sym, rules}
 use Rattle.std.specs.Prelude.{OnOk}
-use Rattle.qcow2_metadata.specs.EntryTable.{entry_count, EntryTableView}
+use Rattle.qcow2_metadata.specs.EntryTable.{EntryTableView}
 use Rattle.qcow2_alloc.proofs.AllocationSteps.{handed_on}
 use Rattle.qcow2_image.specs.LongerTables.{NamesTable}
-use Rattle.qcow2_image.proofs.Grow.Lengthened.{named_then}
+use Rattle.qcow2_image.proofs.Grow.ReplacedL1Table.{named_then}
 use Rattle.qcow2_alloc.proofs.KeptMarks.{notes_then}
 use Rattle.qcow2_image.proofs.Call.BehindHeader.{behind_then, l1_placed}
 use Rattle.qcow2_image.proofs.Call.FaultCounts.{counted_since, same_of}
 use Rattle.qcow2_image.specs.declared.image.Qcow2.{Qcow2}
-use Rattle.qcow2_image.proofs.Prepare.Lacked.{hands_fault}
+use Rattle.qcow2_image.proofs.Prepare.LimitCauses.{hands_fault}
 use Rattle.qcow2_metadata.specs.L2Mapping.{IsHostCluster}
 
 pub returns-in_err-place_l1_table-clause-names : goal.returns-in_err-place_l1_table-clause-names
-returns-in_err-place_l1_table-clause-names g c = λ p out sound noted longer.
+returns-in_err-place_l1_table-clause-names g c = λ p out sound recorded longer.
     handed_on (NamesTable g.S.Storage.view g.F.BackingDisk.backing p c.args.self.now c.place_l1_table.new.self out c.args.table c.args.cluster) c.from_residual.result c.in_err-place_l1_table.field-0.0 c.from_residual.ensures
     (inl (c.in_err-place_l1_table.ensures.places p out sound longer))
 
 pub returns-clause-names : goal.returns-clause-names
-returns-clause-names g c = λ p out sound noted longer.
+returns-clause-names g c = λ p out sound recorded longer.
     named_then g.S.Storage.view g.F.BackingDisk.backing out p c.args.self.now c.place_l1_table.new.self c.name_l1_table.new.self c.args.table c.place_l1_table.new.table c.args.cluster c.name_l1_table.result sound c.in_ok-place_l1_table.ensures.table
-    (c.in_ok-place_l1_table.ensures.places p out sound longer) (λ placed. c.name_l1_table.ensures.names p out placed (c.place_l1_table.ensures.noted noted))
-
-pub returns-clause-entries : goal.returns-clause-entries
-returns-clause-entries g c = subst (λ n. OnOk c.name_l1_table.result (entry_count c.name_l1_table.new.self.l1_table ≡ n)) (ap entry_count c.in_ok-place_l1_table.ensures.table) c.name_l1_table.ensures.entries
-
-pub returns-in_err-place_l1_table-clause-notes : goal.returns-in_err-place_l1_table-clause-notes
-returns-in_err-place_l1_table-clause-notes g c = c.place_l1_table.ensures.notes
-
-pub returns-clause-notes : goal.returns-clause-notes
-returns-clause-notes g c = notes_then c.place_l1_table.ensures.notes c.name_l1_table.ensures.notes
-
-pub returns-in_err-place_l1_table-clause-header_cluster : goal.returns-in_err-place_l1_table-clause-header_cluster
-returns-in_err-place_l1_table-clause-header_cluster g c = c.place_l1_table.ensures.header_cluster
-
-pub returns-clause-header_cluster : goal.returns-clause-header_cluster
-returns-clause-header_cluster g c = λ as_wide some.
-    behind_then (c.place_l1_table.ensures.header_cluster as_wide some)
-    (c.name_l1_table.ensures.header_cluster
-    (l1_placed c.args.self.now.l1_table c.place_l1_table.new.self.l1_table c.args.table c.place_l1_table.new.table c.args.cluster (ap (λ (i : Qcow2 _ _). i.l1_table) c.place_l1_table.ensures.rest) c.in_ok-place_l1_table.ensures.table as_wide some))
+    (c.in_ok-place_l1_table.ensures.places p out sound longer) (λ placed. c.name_l1_table.ensures.names p out placed (c.place_l1_table.ensures.recorded recorded))
 
 pub returns-in_err-place_l1_table-clause-allocator : goal.returns-in_err-place_l1_table-clause-allocator
 returns-in_err-place_l1_table-clause-allocator g c = ap (λ (i : Qcow2 _ _). i.allocator) c.place_l1_table.ensures.rest
@@ -63,4 +45,17 @@ returns-clause-fails g c = record {
       let below = g.F.BackingDisk.backing in
       counted_since view below c.args.self.now c.place_l1_table.new.self c.name_l1_table.new.self c.name_l1_table.result
       (same_of view below c.args.self.now c.place_l1_table.new.self c.place_l1_table.result c.in_ok-place_l1_table.field-0 c.place_l1_table.ensures.fails.faults c.in_ok-place_l1_table.was) c.name_l1_table.ensures.fails.faults;
+}
+
+pub returns-in_err-place_l1_table-clause-step : goal.returns-in_err-place_l1_table-clause-step
+returns-in_err-place_l1_table-clause-step g c = record { stays = search rules; notes = c.place_l1_table.ensures.notes; header_cluster = λ behind. c.place_l1_table.ensures.header_cluster behind.0 behind.1 }
+
+pub returns-clause-step : goal.returns-clause-step
+returns-clause-step g c = record {
+  stays = search rules;
+  notes = notes_then c.place_l1_table.ensures.notes c.name_l1_table.ensures.step.notes;
+  header_cluster = λ behind.
+      behind_then (c.place_l1_table.ensures.header_cluster behind.0 behind.1)
+      (c.name_l1_table.ensures.step.header_cluster
+      (l1_placed c.args.self.now.l1_table c.place_l1_table.new.self.l1_table c.args.table c.place_l1_table.new.table c.args.cluster (ap (λ (i : Qcow2 _ _). i.l1_table) c.place_l1_table.ensures.rest) c.in_ok-place_l1_table.ensures.table behind.0 behind.1));
 }

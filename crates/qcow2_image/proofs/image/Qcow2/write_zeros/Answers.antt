@@ -1,7 +1,7 @@
 use Rattle.qcow2_alloc.proofs.KeptMarks.{told_kept, notes_of_storage}
 use Rattle.qcow2_image.proofs.Call.BehindHeader.{behind_guard, behind_wrote}
 use Rattle.std.proofs.Common.{ap, replicate, rules}
-use Rattle.qcow2_image.proofs.Prepare.Lacked.{hands_unlimited, hands_fault}
+use Rattle.qcow2_image.proofs.Prepare.LimitCauses.{hands_unlimited, hands_fault}
 use Rattle.qcow2_image.proofs.Call.Unlimited.{storage_unlimited, storage_fault}
 use Rattle.qcow2_alloc.specs.ImageError.{of_storage}
 use Rattle.qcow2_image.proofs.Call.ImageSteps.{step_none}
@@ -13,8 +13,8 @@ returns-in_err-write_zero_data-clause-fault g c = λ behind. hands_fault c.from_
 pub returns-in_err-write_zero_data-clause-step : goal.returns-in_err-write_zero_data-clause-step
 returns-in_err-write_zero_data-clause-step g c = record {
   stays = search rules;
-  notes = notes_of_storage (told_kept c.args.self.now.file.storage c.set_write_kind.new.self c.write_zero_data.new.self c.write_zero_data.result c.set_write_kind.ensures.storage c.set_write_kind.ensures.changed _ c.write_zero_data.ensures.zeroed c.write_zero_data.ensures.calls c.write_zero_data.ensures.noted);
-  header_cluster = behind_wrote c.write_zero_data.result c.args.at (replicate c.args.length 0) (ap g.S.Storage.view c.set_write_kind.ensures.storage) (λ bits lies. behind_guard bits _ c.cluster_size.result c.args.at lies.header c.cluster_size.ensures.value c.if-at-cluster_size.false) c.write_zero_data.ensures.zeroed c.write_zero_data.ensures.calls;
+  notes = notes_of_storage (told_kept c.args.self.now.file.storage c.set_write_kind.new.self c.write_zero_data.new.self c.write_zero_data.result c.set_write_kind.ensures.storage c.set_write_kind.ensures.changed _ c.write_zero_data.ensures.writes.written c.write_zero_data.ensures.writes.calls c.write_zero_data.ensures.writes.recorded);
+  header_cluster = behind_wrote c.write_zero_data.result c.args.at (replicate c.args.length 0) (ap g.S.Storage.view c.set_write_kind.ensures.storage) (λ bits lies. behind_guard bits _ c.cluster_size.result c.args.at lies.header c.cluster_size.ensures.value c.if-at-cluster_size.false) c.write_zero_data.ensures.writes.written c.write_zero_data.ensures.writes.calls;
 }
 
 pub returns-in_err-write_zero_data-clause-fails : goal.returns-in_err-write_zero_data-clause-fails
@@ -27,8 +27,8 @@ returns-in_err-write_zero_data-clause-fails g c = record {
 pub returns-clause-step : goal.returns-clause-step
 returns-clause-step g c = record {
   stays = search rules;
-  notes = notes_of_storage (told_kept c.args.self.now.file.storage c.set_write_kind.new.self c.write_zero_data.new.self c.write_zero_data.result c.set_write_kind.ensures.storage c.set_write_kind.ensures.changed _ c.write_zero_data.ensures.zeroed c.write_zero_data.ensures.calls c.write_zero_data.ensures.noted);
-  header_cluster = behind_wrote c.write_zero_data.result c.args.at (replicate c.args.length 0) (ap g.S.Storage.view c.set_write_kind.ensures.storage) (λ bits lies. behind_guard bits _ c.cluster_size.result c.args.at lies.header c.cluster_size.ensures.value c.if-at-cluster_size.false) c.write_zero_data.ensures.zeroed c.write_zero_data.ensures.calls;
+  notes = notes_of_storage (told_kept c.args.self.now.file.storage c.set_write_kind.new.self c.write_zero_data.new.self c.write_zero_data.result c.set_write_kind.ensures.storage c.set_write_kind.ensures.changed _ c.write_zero_data.ensures.writes.written c.write_zero_data.ensures.writes.calls c.write_zero_data.ensures.writes.recorded);
+  header_cluster = behind_wrote c.write_zero_data.result c.args.at (replicate c.args.length 0) (ap g.S.Storage.view c.set_write_kind.ensures.storage) (λ bits lies. behind_guard bits _ c.cluster_size.result c.args.at lies.header c.cluster_size.ensures.value c.if-at-cluster_size.false) c.write_zero_data.ensures.writes.written c.write_zero_data.ensures.writes.calls;
 }
 
 pub returns-then-at-cluster_size-clause-step : goal.returns-then-at-cluster_size-clause-step

@@ -1,5 +1,5 @@
 use Rattle.qcow2_image.proofs.Call.ImageSteps.{step_then, step_none}
-use Rattle.qcow2_image.proofs.Prepare.Lacked.{goes_step}
+use Rattle.qcow2_image.proofs.Prepare.LimitCauses.{goes_step}
 use Rattle.qcow2_image.proofs.image.Qcow2.zero_between.Goals as goal
 use Rattle.std.proofs.Common.{◌≤◌, subst, sym, arith}
 use Rattle.qcow2_alloc.proofs.AllocationSteps.{handed_on}
@@ -7,13 +7,13 @@ use Rattle.qcow2_image.specs.ImageInvariant.{abstract_of}
 use Rattle.qcow2_image.specs.Preallocation.{FillsOrRefuses}
 use Rattle.qcow2_image.proofs.Call.Called.{works_none}
 use Rattle.qcow2_image.proofs.Preallocate.Filled.{fills_before, fills_none, fills_or_refuses, refused_after, zeros_from}
-use Rattle.qcow2_image.proofs.Preallocate.Turns.{same_version, still_at}
+use Rattle.qcow2_image.proofs.Preallocate.FillSteps.{same_version, still_at}
 use Rattle.qcow2_alloc.specs.ImageFile.{known_in}
-use Rattle.qcow2_image.specs.MetAlone.{HasCompressedIn, MayFailAllocating}
-use Rattle.qcow2_image.proofs.Preallocate.Met.{hands_met, met_before, near_behind}
-use Rattle.qcow2_image.proofs.Prepare.Taken.{if_err}
+use Rattle.qcow2_image.specs.MayFail.{HasCompressedIn, MayFailAllocating}
+use Rattle.qcow2_image.proofs.Preallocate.FailingFills.{hands_met, met_before, near_behind}
+use Rattle.qcow2_image.proofs.Prepare.RefusedAsPrepared.{if_err}
 use Rattle.qcow2_image.specs.Backings.{HasPinnedMapping}
-use Rattle.qcow2_image.proofs.Prepare.MetTaking.{taking_as}
+use Rattle.qcow2_image.proofs.Prepare.FailingAllocations.{taking_as}
 
 pub returns-clause-emptied : goal.returns-clause-emptied
 returns-clause-emptied g c = λ none. c.zero_range.ensures.emptied (c.in_ok-fill_range.ensures.emptied (c.in_ok-next.ensures.emptied none))
@@ -39,8 +39,8 @@ returns-in_err-next-clause-sound g c = λ out sound before order whole third.
       fills = handed_on (λ r. FillsOrRefuses view below c.args.from c.args.old c.args.end a b out r) c.from_residual.result e c.from_residual.ensures
           (refused_after view below out a a b c.args.from c.args.old c.args.end c.args.old c.args.old c.args.from c.args.end (omega arith) (omega (arith, before, order)) before (omega arith) (fills_none view below out a c.args.from c.args.old sound (works_none (abstract_of view below a out) sound)) (goes_step step_none) e
           ((c.in_err-next.ensures.sound out sound order whole third).fills));
-      met = λ near. hands_met (MayFailAllocating (HasPinnedMapping out) (HasPinnedMapping out) (HasCompressedIn c.args.old c.args.from old.file.header.fields (known_in g.S.Storage.view old.file)) ⊥) c.from_residual.result c.in_err-next.field-0.0 c.from_residual.ensures
-          (taking_as (λ held. held) (λ kept. kept) (λ no. absurd no) (λ no. no) c.in_err-next.field-0.0 ((c.in_err-next.ensures.sound out sound order whole third).met near));
+      may_fail = λ near. hands_met (MayFailAllocating (HasPinnedMapping out) (HasPinnedMapping out) (HasCompressedIn c.args.old c.args.from old.file.header.fields (known_in g.S.Storage.view old.file)) ⊥) c.from_residual.result c.in_err-next.field-0.0 c.from_residual.ensures
+          (taking_as (λ held. held) (λ kept. kept) (λ no. absurd no) (λ no. no) c.in_err-next.field-0.0 ((c.in_err-next.ensures.sound out sound order whole third).may_fail near));
     }
 
 pub returns-in_err-fill_range-clause-sound : goal.returns-in_err-fill_range-clause-sound
@@ -59,10 +59,10 @@ returns-in_err-fill_range-clause-sound g c = λ out sound before order whole thi
       fills = handed_on (λ r. FillsOrRefuses view below c.args.from c.args.old c.args.end a d out r) c.from_residual-in_err-fill_range.result e c.from_residual-in_err-fill_range.ensures
           (refused_after view below out a b d c.args.from c.args.old c.args.end c.args.from c.in_ok-next.next c.args.old c.args.from before (omega (arith, next.2, order)) (omega arith) order first (goes_step c.zero_first.ensures.step) e
           ((c.in_err-fill_range.ensures.sound out first.sound before (still_at a.file.header.fields b.file.header.fields c.args.from first.header whole.0)).fills));
-      met = λ near. let first = (c.in_ok-next.ensures.sound out sound order whole third).fills in
+      may_fail = λ near. let first = (c.in_ok-next.ensures.sound out sound order whole third).fills in
           hands_met (MayFailAllocating (HasPinnedMapping out) (HasPinnedMapping out) (HasCompressedIn c.args.old c.args.from h (known_in view a.file)) ⊥) c.from_residual-in_err-fill_range.result e c.from_residual-in_err-fill_range.ensures
           (met_before view below out 0 c.args.from c.in_ok-next.next a b first c.args.old c.args.from c.args.old c.args.from (omega arith) (omega arith) e
-          ((c.in_err-fill_range.ensures.sound out first.sound before (still_at h h' c.args.from first.header whole.0)).met (near_behind view below out 0 c.args.from c.in_ok-next.next a b first c.args.end c.args.from (omega (arith, next.2, order)) order near)));
+          ((c.in_err-fill_range.ensures.sound out first.sound before (still_at h h' c.args.from first.header whole.0)).may_fail (near_behind view below out 0 c.args.from c.in_ok-next.next a b first c.args.end c.args.from (omega (arith, next.2, order)) order near)));
     }
 
 pub returns-clause-sound : goal.returns-clause-sound
@@ -85,8 +85,8 @@ returns-clause-sound g c = λ out sound before order whole third.
       fills = fills_or_refuses view below out a d c.zero_range.new.self c.args.from c.args.old c.in_ok-next.next c.args.end (omega (arith, before, next.0)) (omega (arith, next.2, order)) both (goes_step (step_then c.zero_first.ensures.step c.fill_range.ensures.step)) next.0 (still_at a.file.header.fields d.file.header.fields c.in_ok-next.next both.header ends) c.zero_range.result
           ((c.zero_range.ensures.sound out both.sound (omega (arith, next.2, order)) (still_at a.file.header.fields d.file.header.fields c.in_ok-next.next both.header ends, still_at a.file.header.fields d.file.header.fields c.args.end both.header whole.1)
           (subst (λ v. 3 ≤ v) (sym (same_version a.file.header.fields d.file.header.fields both.header)) third)).fills);
-      met = λ near. let second = (c.in_ok-fill_range.ensures.sound out first.sound before at).fills in
+      may_fail = λ near. let second = (c.in_ok-fill_range.ensures.sound out first.sound before at).fills in
           if_err c.zero_range.result (taking_as (λ held. held) (λ kept. kept) (λ no. absurd no) (λ no. no))
-          ((c.zero_range.ensures.sound out both.sound (omega (arith, next.2, order)) (still_at h h'' c.in_ok-next.next both.header ends, still_at h h'' c.args.end both.header whole.1) (subst (λ v. 3 ≤ v) (sym (same_version h h'' both.header)) third)).met
+          ((c.zero_range.ensures.sound out both.sound (omega (arith, next.2, order)) (still_at h h'' c.in_ok-next.next both.header ends, still_at h h'' c.args.end both.header whole.1) (subst (λ v. 3 ≤ v) (sym (same_version h h'' both.header)) third)).may_fail
           (near_behind view below out _ c.args.old c.in_ok-next.next a d both c.args.end c.args.end (omega (arith, next.2, order)) (omega arith) near));
     }

@@ -2,13 +2,13 @@ use Rattle.qcow2_alloc.proofs.KeptMarks.{notes_none, notes_then}
 use Rattle.std.proofs.Common.{◌≡◌, ◌≤◌, refl, subst, sym, arith, rules}
 use Rattle.qcow2_alloc.proofs.AllocationSteps.{handed_on}
 use Rattle.qcow2_image.specs.Preallocation.{FillsOrRefuses, FillsPart}
-use Rattle.qcow2_image.proofs.Preallocate.Turns.{same_version, still_at, zeroed_first, zeroed_next, zeroed_refused}
+use Rattle.qcow2_image.proofs.Preallocate.FillSteps.{same_version, still_at, zeroed_first, zeroed_next, zeroed_refused}
 use Rattle.qcow2_image.proofs.Call.FaultCounts.{counted_ok, counted_on, faults_then, untouched}
 use Rattle.qcow2_image.proofs.Call.BehindHeader.{behind_none, behind_then}
-use Rattle.qcow2_image.proofs.Preallocate.Met.{near_behind}
+use Rattle.qcow2_image.proofs.Preallocate.FailingFills.{near_behind}
 use Rattle.qcow2_image.specs.Backings.{HasPinnedMapping}
-use Rattle.qcow2_image.specs.MetAlone.{MayFailAllocating}
-use Rattle.qcow2_image.proofs.Prepare.Met.{hands_met}
+use Rattle.qcow2_image.specs.MayFail.{MayFailAllocating}
+use Rattle.qcow2_image.proofs.Prepare.FailingCopies.{hands_met}
 use Rattle.qcow2_image.proofs.image.Qcow2.zero_range.Goals as goal
 
 pub loop-at-init : goal.loop-at-init
@@ -66,8 +66,8 @@ returns-in_err-at-clause-sound g c = λ out sound le whole version.
     record {
       fills = handed_on (λ r. FillsOrRefuses view below 0 c.args.from c.args.to c.args.self.now c.zero_first.new.self out r) c.from_residual.result e c.from_residual.ensures
           (zeroed_refused view below c.args.from c.args.to c.loop-at.at c.args.self.now c.loop-at.self c.zero_first.new.self c.loop-at-test.true c.loop-at.invariant.turns c.loop-at.invariant.behind e (λ list still order full third. (c.in_err-at.ensures.sound list still order full third).fills) out sound le whole version);
-      met = λ near. hands_met (MayFailAllocating (HasPinnedMapping out) (HasPinnedMapping out) ⊥ ⊥) c.from_residual.result c.in_err-at.field-0.0 c.from_residual.ensures
-          ((c.in_err-at.ensures.sound out so.0.sound (omega (arith, lt)) (still_at h h' c.loop-at.at file_step so.1, still_at h h' to file_step whole.1) (subst (λ v. 3 ≤ v) (sym (same_version h h' file_step)) version)).met
+      may_fail = λ near. hands_met (MayFailAllocating (HasPinnedMapping out) (HasPinnedMapping out) ⊥ ⊥) c.from_residual.result c.in_err-at.field-0.0 c.from_residual.ensures
+          ((c.in_err-at.ensures.sound out so.0.sound (omega (arith, lt)) (still_at h h' c.loop-at.at file_step so.1, still_at h h' to file_step whole.1) (subst (λ v. 3 ≤ v) (sym (same_version h h' file_step)) version)).may_fail
           (near_behind g.S.Storage.view g.F.BackingDisk.backing out 0 c.args.from c.loop-at.at old now so.0 to to (omega (arith, lt)) (omega arith) near));
     }
 
@@ -77,6 +77,6 @@ returns-clause-sound g c = λ out sound le whole version.
     let past = c.loop-at-test.false in
     let end : c.loop-at.at ≡ c.args.to = omega (arith, high, past, le) in
     record {
-      met = search rules;
+      may_fail = search rules;
       fills = subst (λ n. FillsPart g.S.Storage.view g.F.BackingDisk.backing 0 c.args.from n c.args.self.now c.loop-at.self out) end (c.loop-at.invariant.turns.so_far out sound le whole version).0;
     }

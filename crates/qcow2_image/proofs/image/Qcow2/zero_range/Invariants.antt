@@ -3,10 +3,10 @@ use Rattle.std.proofs.Common.{◌-◌}
 use Rattle.qcow2_image.specs.BehindHeader.{PreservesHeaderCluster}
 use Rattle.qcow2_image.specs.Faults.{SameFaults}
 use Rattle.qcow2_image.specs.Image.{HasNothingToFree}
-use Rattle.qcow2_image.proofs.Preallocate.Turns.{ZeroedTo}
+use Rattle.qcow2_image.proofs.Preallocate.FillSteps.{ZeroedTo}
 use Rattle.qcow2_image.proofs.image.Qcow2.zero_range.Given as goal
 
--- zeros stand as far as the turns came, which take the lowest places, and nothing is to be freed where nothing was
+-- the range has zeros up to where the steps came, in the lowest places, and nothing waits to be freed if nothing did before
 abbrev pub invariant-loop-at : goal.invariant-loop-at
 invariant-loop-at g l = record {
   turns : ZeroedTo g.S.Storage.view g.F.BackingDisk.backing l.from l.to l.at l.fn.self l.self;

@@ -20,7 +20,7 @@ pub returns-in-Err-clause-step : goal.returns-in-Err-clause-step
 returns-in-Err-clause-step g c = same_device g.S.Storage.view g.F.BackingDisk.backing c.args.self.now.image c.flush.new.self c.flush.ensures.step.image (λ f. (c.flush.ensures.early f).1)
 
 pub returns-in-Err-clause-fails : goal.returns-in-Err-clause-fails
-returns-in-Err-clause-fails g c = fails_refused _ _ c.flush.result c.in-Err.refusal c.errno_of.result c.in-Err.is c.errno_of.ensures (λ f. (c.flush.ensures.early f).0) (λ sound. fault_told c.in-Err.refusal (c.in-Err.ensures.fault [] sound))
+returns-in-Err-clause-fails g c = fails_refused _ _ c.flush.result c.in-Err.refusal c.errno_of.result c.in-Err.is c.errno_of.ensures (λ f. (c.flush.ensures.early f).0) (λ sound. fault_told c.in-Err.refusal (c.in-Err.ensures.fails.fault [] sound))
 
 pub returns-in-Err-clause-sound : goal.returns-in-Err-clause-sound
 returns-in-Err-clause-sound g c = refused_same g.S.Storage.view g.F.BackingDisk.backing c.args.self.now.image c.flush.new.self _ _ (c.in-Err.ensures.sees [])

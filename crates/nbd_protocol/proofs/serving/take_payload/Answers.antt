@@ -1,5 +1,0 @@
-use Rattle.std.proofs.Common.{rules}
-use Rattle.nbd_protocol.proofs.serving.take_payload.Goals as goal
-
-pub returns-clause-skipped : goal.returns-clause-skipped
-returns-clause-skipped g c = (c.read_exact.new.buf, search rules, c.in_ok-read_exact.ensures.bytes)

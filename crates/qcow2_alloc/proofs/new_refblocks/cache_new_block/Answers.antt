@@ -1,0 +1,45 @@
+use Rattle.std.proofs.Common.{◌∙◌, ◌^◌, ap}
+use Rattle.qcow2_alloc.specs.MetadataCaches.{rb_at}
+use Rattle.qcow2_alloc.specs.Quiet.{OthersStayHeld}
+use Rattle.qcow2_alloc.specs.Rooms.{CachesBlock}
+use Rattle.qcow2_alloc.proofs.AllocationSteps.{handed_on}
+use Rattle.qcow2_alloc.proofs.KeptMarks.{marks_of_caches}
+use Rattle.qcow2_alloc.proofs.KeptTables.Places.{put_places}
+use Rattle.qcow2_alloc.proofs.NewRefblocks.{has_cached_block, new_blocks_kept, of_place, overlay_of}
+use Rattle.qcow2_alloc.proofs.SparedHeaders.{at_place}
+use Rattle.qcow2_alloc.proofs.Steps.{fails_ok, fails_on, table_step_cached, table_step_tables, table_step_then}
+use Rattle.qcow2_alloc.proofs.new_refblocks.cache_new_block.Goals as goal
+
+pub returns-in_err-rb_insert-clause-sound : goal.returns-in_err-rb_insert-clause-sound
+returns-in_err-rb_insert-clause-sound g c = λ q a old first n at blocks places is some here fits whole modified.
+    let view = g.S.Storage.view in
+    let f = c.args.file.now in
+    handed_on (CachesBlock view q old a (record f { storage = c.rb_insert.new.storage; caches = c.rb_insert.new.self }) f first n at c.args.block.bytes) c.from_residual.result c.in_err-rb_insert.field-0.0 c.from_residual.ensures (
+      c.in_err-rb_insert.ensures.faults blocks.room f.header.fields q blocks.honest blocks.caches places,
+      new_blocks_kept view q a first n old f c.rb_insert.new.storage c.rb_insert.new.self blocks c.rb_insert.ensures.sound.ordered c.rb_insert.ensures.step.marks
+          (c.in_err-rb_insert.ensures.sound.refused f.header.fields q blocks.honest blocks.caches),
+    )
+
+pub returns-clause-sound : goal.returns-clause-sound
+returns-clause-sound g c = λ q a old first n at blocks places is some here fits whole modified.
+    let view = g.S.Storage.view in
+    let f = c.args.file.now in
+    let lays = overlay_of view q a first n old f c.rb_insert.new.storage c.rb_insert.new.self blocks c.rb_insert.ensures.sound.ordered c.rb_insert.ensures.step.marks at c.args.block
+    c.in_ok-rb_insert.ensures.sound.laid fits modified is some in
+    let stay = of_place (OthersStayHeld rb_at f.caches c.rb_insert.new.self) c.args.block.cluster at is c.rb_insert.ensures.puts.stay in
+    has_cached_block view q a first n old f c.rb_insert.new.storage c.rb_insert.new.self blocks c.rb_insert.ensures.sound.ordered c.rb_insert.ensures.step.marks at c.args.block some lays
+    c.record_change.new.self c.record_change.ensures.rest c.record_change.ensures.recorded.0 (put_places f.header.fields f.caches c.rb_insert.new.self at here stay places) (whole.whole ∙ ap (λ m. 2 ^ m) fits.bits)
+
+pub returns-in_err-rb_insert-clause-step : goal.returns-in_err-rb_insert-clause-step
+returns-in_err-rb_insert-clause-step g c = λ t. table_step_cached c.rb_insert.ensures.step.marks (at_place c.args.block.cluster c.requires.placed c.requires.elsewhere c.rb_insert.ensures.step.header_cluster)
+
+pub returns-clause-step : goal.returns-clause-step
+returns-clause-step g c = λ t.
+    table_step_then (table_step_cached c.rb_insert.ensures.step.marks (at_place c.args.block.cluster c.requires.placed c.requires.elsewhere c.rb_insert.ensures.step.header_cluster))
+    (table_step_tables (marks_of_caches c.record_change.ensures.step.marks c.record_change.ensures.step.order) c.record_change.ensures.step.header_cluster)
+
+pub returns-in_err-rb_insert-clause-fails : goal.returns-in_err-rb_insert-clause-fails
+returns-in_err-rb_insert-clause-fails g c = fails_on c.from_residual.result c.in_err-rb_insert.field-0.0 c.from_residual.ensures c.in_err-rb_insert.ensures.fails
+
+pub returns-clause-fails : goal.returns-clause-fails
+returns-clause-fails g c = fails_ok c.in_ok-rb_insert.ensures.fails.told

@@ -1,0 +1,88 @@
+-- A new image is opened by the builder that a closure returned for its storage, and its disk is grown: what it holds, and what a stop leaves.
+use Rattle.std.proofs.Common.{◌≡◌, ◌⊎◌, inl, inr, ℕ, List, [], Option, Result, Ok, true, false, ap, ◌∙◌, subst, sym}
+use Rattle.std.specs.Prelude.{IfErr, IsTrue, is_some}
+use Rattle.std.specs.Option.{option_flatten}
+use Rattle.image_access.specs.Backing.{BackingView}
+use Rattle.image_access.specs.Moments.{StorageView}
+use Rattle.image_access.specs.declared.storage.PreallocateMode.TheVariants as Mode
+use Rattle.image_access.proofs.EachMomentSince.{passes_on}
+use Rattle.qcow2_metadata.specs.Bytes.{byte_at}
+use Rattle.qcow2_metadata.specs.Header.{header}
+use Rattle.qcow2_metadata.specs.declared.header.HeaderFields.{HeaderFields}
+use Rattle.qcow2_disk.specs.Calls.{shows_old}
+use Rattle.qcow2_alloc.specs.ImageFile.{known_in, view_in}
+use Rattle.qcow2_alloc.specs.declared.error.ImageError.{ImageError}
+use Rattle.qcow2_alloc.specs.declared.error.ImageError.TheVariants as I
+use Rattle.qcow2_image.specs.BehindHeader.{TablesBehindHeader}
+use Rattle.qcow2_image.specs.Created.{HoldsNewDisk, IsCreated, IsNewDisk, IsStopOfCreating, IsUnwritten, OpensGrown, StopsCreating, empty_of}
+use Rattle.qcow2_image.specs.ImageInvariant.{IsHonestBacking}
+use Rattle.qcow2_image.specs.Opened.{IsKeptSince, IsOpenedFrom, Opens}
+use Rattle.qcow2_image.specs.Readable.{IsNewlyOpened, OpeningStep, files_missing}
+use Rattle.qcow2_image.specs.Refusals.{IsFaultOrLimit}
+use Rattle.qcow2_image.specs.Resizing.{takes_over}
+use Rattle.qcow2_image.specs.declared.builder.Qcow2CreateBuilder.{Qcow2CreateBuilder}
+use Rattle.qcow2_image.specs.declared.image.Qcow2.{Qcow2}
+use Rattle.qcow2_image.specs.declared.opening.Qcow2OpenBuilder.{Qcow2OpenBuilder}
+use Rattle.qcow2_image.proofs.Create.Causes.{usable_opened}
+use Rattle.qcow2_image.proofs.Create.Creating.{opening_stops, opens_unwritten, stops_at_none}
+use Rattle.qcow2_image.proofs.Create.Faults.{grown_refused, unmapped_opened}
+use Rattle.qcow2_image.proofs.Create.Leaks.{surplus_taken}
+use Rattle.qcow2_image.proofs.Create.AllocatingPlace.{format_mid, known_covers, known_disk, stops_by}
+use Rattle.qcow2_image.proofs.Open.NamedBehind.{lies_if}
+
+module _ {S F : Type 0} (view : S → StorageView) (backing : F → BackingView) (builder : Qcow2CreateBuilder S) (storage : S) (made : IsCreated (empty_of builder) (view storage)) (opener : Qcow2OpenBuilder S F) (image : Qcow2 S F)
+    (same : opener.image ≡ storage) (honest : IsHonestBacking view backing (option_flatten opener.backing)) where
+  module _ (r : Result (Unit {0}) ImageError) (grown : OpensGrown view backing opener builder.preallocate builder.size image r) where
+    unwritten : IsUnwritten 0 (byte_at (view storage).contents)
+    unwritten = made.new_disk
+
+    from : IsOpenedFrom view backing (byte_at (view storage).contents) grown.opened
+    from = subst (λ (s : S). Opens view backing (view s) grown.opened) same (grown.opens honest) made.honest unwritten.consistent
+
+    since : IsKeptSince (view storage) (view_in view grown.opened.file)
+    since = (subst (λ (s : S). OpeningStep view (view s) true (files_missing opener.backing) (Ok grown.opened)) same grown.step).since made.honest unwritten.consistent
+
+    still : IsUnwritten 0 (byte_at (view_in view grown.opened.file).contents)
+    still = opens_unwritten 0 (view storage) (view_in view grown.opened.file) unwritten since
+
+    alone_as : (shows_old builder.preallocate ≡ true) ⊎ (is_some (option_flatten opener.backing) ≡ false) → (shows_old builder.preallocate ≡ true) ⊎ (is_some grown.opened.backing ≡ false)
+    alone_as which = elim which [ inl shows ↦ inl shows | inr none ↦ inr (ap (λ (o : Option F). is_some o) grown.over ∙ none) ]
+
+    -- what a stop leaves
+    pub grown_stops : (start : StorageView) → StopsCreating Mode.None 0 start (view storage) → (shows_old builder.preallocate ≡ true) ⊎ (is_some (option_flatten opener.backing) ≡ false) → StopsCreating builder.preallocate builder.size start (view_in view image.file)
+    grown_stops start first which =
+        let P : List ℕ → Type 0 = λ c. IsStopOfCreating builder.preallocate builder.size (byte_at c) in
+        passes_on P (stops_at_none builder.preallocate builder.size start (view storage) first)
+        (passes_on P (opening_stops builder.preallocate builder.size (view storage) (view_in view grown.opened.file) unwritten since)
+        (stops_by view backing builder.size grown.opened image from.opened grown.new.writable_is still builder.preallocate (alone_as which) r grown.takes) (λ c is. is)) (λ c is. is)
+
+    -- why it is refused
+    pub grown_reason : IfErr r (λ e. IsFaultOrLimit e ⊎ ((e ≡ I.Preallocation) × IsTrue (takes_over grown.opened builder.preallocate)))
+    grown_reason =
+        let usable = usable_opened view backing grown.opened from.opened grown.new.writable_is in
+        let new = subst (λ (s : S). IsNewlyOpened (view s) true opener.number grown.opened) same grown.new in
+        let unmapped = unmapped_opened view backing grown.opened (header (byte_at (view storage).contents)) 0 from.opened still made.version (new.format made.honest) in
+        grown_refused view grown.opened unmapped image builder.size _ builder.preallocate r (grown.takes.no_larger usable) (λ lt. grown.may_fail usable lt from.opened.sound)
+
+  -- what it holds
+  module _ (grown : OpensGrown view backing opener builder.preallocate builder.size image (Ok tt)) where
+    pub grown_disk : (shows_old builder.preallocate ≡ true) ⊎ (is_some (option_flatten opener.backing) ≡ false) → IsNewDisk builder.preallocate builder.size (known_in view image.file)
+    grown_disk which = known_disk view backing builder.size grown.opened image (from (Ok tt) grown).opened grown.new.writable_is (still (Ok tt) grown) builder.preallocate tt grown.takes (alone_as (Ok tt) grown which)
+
+    pub grown_holds : HoldsNewDisk view backing builder.preallocate builder.size opener.number image
+    grown_holds =
+        let opened = (from (Ok tt) grown).opened in
+        let usable = usable_opened view backing grown.opened opened grown.new.writable_is in
+        let keeps = surplus_taken view backing grown.opened image builder.size builder.preallocate (Ok tt) opened.sound (grown.takes.no_larger usable) grown.takes.image grown.takes.sees in
+        let acts = (grown.takes.sees []).acts in
+        let format = format_mid view backing builder.size grown.opened image opened grown.new.writable_is (still (Ok tt) grown) builder.preallocate tt grown.takes in
+        let new = subst (λ (s : S). IsNewlyOpened (view s) true opener.number grown.opened) same grown.new in
+        let lies = lies_if view backing (view storage).is_honest (view storage) (Ok grown.opened) (λ h. (h, (unwritten (Ok tt) grown).consistent)) (subst (λ (s : S). Opens view backing (view s) grown.opened) same (grown.opens honest)) new.header_cluster (inl made.honest) in
+        record {
+          sound = keeps.sound;
+          number_is = acts.number ∙ grown.new.number_is;
+          writable = keeps.writable ∙ grown.new.writable_is;
+          lost = record { counted = λ k. ap (λ (f : ℕ → ℕ). f k) (keeps.surplus ∙ (from (Ok tt) grown).surplus) ∙ made.no_leaks k; leaks = (acts.works opened.sound).leaks ∙ (from (Ok tt) grown).leaks };
+          behind = subst (λ n. TablesBehindHeader n image.file.header.fields.cluster_bits image.l1_table image.file.caches image.allocator) (sym (ap (λ (h : HeaderFields). h.cluster_bits) format)) (grown.marks.header_cluster.kept grown.opened.file.header.fields.cluster_bits lies);
+          covers = known_covers view backing builder.size grown.opened image opened grown.new.writable_is (still (Ok tt) grown) builder.preallocate tt grown.takes;
+        }

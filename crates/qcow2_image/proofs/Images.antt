@@ -1,0 +1,14 @@
+pub mod Sound
+pub mod Formats
+pub mod Ready
+pub mod Inside
+pub mod Apart
+pub mod Moving
+pub mod Moved
+pub mod UngivenCovers
+pub mod WholeClusters
+pub mod Free
+pub mod HiddenBytes
+pub mod Sizes
+pub mod Backings
+pub mod ClusterMappings

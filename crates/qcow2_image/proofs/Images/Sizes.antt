@@ -1,0 +1,27 @@
+-- On a sound image the size that a guest sees is the header's, and no call is refused as on an unusable one.
+use Rattle.std.proofs.Common.{◌≡◌, ◌∙◌, false, None, sym, ap, List, Option}
+use Rattle.std.specs.Option.{option_or}
+use Rattle.image_access.specs.Backing.{BackingView}
+use Rattle.image_access.specs.Moments.{StorageView}
+use Rattle.qcow2_metadata.specs.Header.{has_data_file}
+use Rattle.qcow2_laws.proofs.Shown.{shown_size}
+use Rattle.qcow2_disk.specs.AbstractImages.{guest_of}
+use Rattle.qcow2_alloc.specs.declared.error.ImageError.TheVariants as I
+use Rattle.qcow2_alloc.specs.ImageFile.{state_in}
+use Rattle.qcow2_image.specs.declared.image.Qcow2.{Qcow2}
+use Rattle.qcow2_image.specs.declared.prepared.Prepared.{Prepared}
+use Rattle.qcow2_image.specs.Image.{size_of, is_external}
+use Rattle.qcow2_image.specs.ImageInvariant.{abstract_of, pending_in, backing_bytes}
+use Rattle.qcow2_image.specs.Refusals.{refuse_if, unusable}
+
+module _ {S F : Type 0} (view : S → StorageView) (backing : F → BackingView) (image : Qcow2 S F) (out : List (Option Prepared)) (sound : (abstract_of view backing image out).is_sound) where
+  pub disk_size : size_of image ≡ (guest_of (abstract_of view backing image out)).disk.size
+  disk_size = sym (shown_size (state_in view image.file (pending_in view backing image out)) sound.file.caches.kept.kept.crash_invariant (backing_bytes view backing image.backing))
+
+  has_no_data_file : is_external image ≡ false
+  has_no_data_file = ap (λ bits. has_data_file (record image.file.header.fields { incompatible = bits })) sound.inside
+
+  pub sound_is_usable : unusable image ≡ None
+  sound_is_usable =
+      let failed : unusable image ≡ option_or (refuse_if false I.Failed) (refuse_if (is_external image) I.Dependency) = ap (λ b. option_or (refuse_if b I.Failed) (refuse_if (is_external image) I.Dependency)) sound.works in
+      failed ∙ ap (λ b. refuse_if b I.Dependency) has_no_data_file

@@ -1,0 +1,86 @@
+-- Why finding or making an L2 table, and clearing entries in one, is refused on a sound image.
+use Rattle.std.proofs.Common.{◌≡◌, inl, inr, ℕ, ◌+◌, ◌-◌, ◌*◌, ◌/◌, ◌%◌, ◌^◌, ◌<◌, ◌≤◌, List, length, Option, Some, Result, Ok, Err, false, refl, sym, ap, ◌∙◌, subst}
+use Rattle.std.specs.Prelude.{◌⊎◌, IfErr, IfSome, IsErr, IsErrAnd, IsSome}
+use Rattle.image_access.specs.Backing.{BackingView}
+use Rattle.image_access.specs.Contents.{overwritten}
+use Rattle.image_access.specs.Moments.{StorageView, Changes, Calls}
+use Rattle.image_access.specs.declared.error.StorageError.{StorageError}
+use Rattle.qcow2_metadata.specs.Header.{cluster_size, entries_per_cluster}
+use Rattle.qcow2_metadata.specs.L2Table.{L2TableView}
+use Rattle.qcow2_laws.specs.CrashInvariant.{Pending}
+use Rattle.qcow2_alloc.specs.CachePins.{IsInUseOrFault}
+use Rattle.qcow2_alloc.specs.ImageError.{IsFault}
+use Rattle.qcow2_alloc.specs.ImageFile.{FileInvariant, known_in}
+use Rattle.qcow2_alloc.specs.ImageStorage.{storage_of}
+use Rattle.qcow2_alloc.specs.MetadataCaches.{IsEntryAt, PutRefusesBy, l2_at}
+use Rattle.qcow2_alloc.specs.TableCaches.{IsTableOf}
+use Rattle.qcow2_alloc.specs.declared.error.ImageError.{ImageError}
+use Rattle.qcow2_alloc.specs.declared.image_storage.ImageStorage.{ImageStorage}
+use Rattle.qcow2_alloc.proofs.AllocationSteps.{handed_on}
+use Rattle.qcow2_image.specs.Backings.{HasPinnedMapping}
+use Rattle.qcow2_image.specs.CallParts.{RefusedCall, InternalCall}
+use Rattle.qcow2_image.specs.Clearing.{IsClearable}
+use Rattle.qcow2_image.specs.declared.discarding.ClearMode.{ClearMode}
+use Rattle.qcow2_image.specs.declared.image.Qcow2.{Qcow2}
+use Rattle.qcow2_image.specs.declared.prepared.Prepared.{Prepared}
+use Rattle.qcow2_image.specs.Found.{l1_index_of}
+use Rattle.qcow2_image.specs.ImageInvariant.{ImageInvariant, pending_in}
+use Rattle.qcow2_image.specs.L1Entries.{NeedsOverflowingL1Entry}
+use Rattle.qcow2_image.specs.MayFail.{MayFailAlone, MayFailLooking}
+use Rattle.qcow2_image.specs.NewTables.{IsStored}
+use Rattle.qcow2_image.specs.InternalSteps.{HoldsTable}
+use Rattle.qcow2_image.proofs.Clear.Between.{fits_table}
+use Rattle.qcow2_image.proofs.Prepare.MissingL2Table.{loads_looking}
+use Rattle.qcow2_image.proofs.Prepare.NewL2Table.{holds, keeps_placed, keeps_stored, stands_there}
+
+-- ---- refusals
+module _ {A : Type 0} (compressed far : Type 0) where
+  pub hands_alone : (r : Result A ImageError) (e : ImageError) → IsErr r × IsErrAnd r (λ x. x ≡ e) → MayFailAlone compressed far e → IfErr r (MayFailAlone compressed far)
+  hands_alone r e on why = handed_on (λ (x : Result _ _). IfErr x (MayFailAlone compressed far)) r e on why
+
+module _ {S F : Type 0} (view : S → StorageView) (backing : F → BackingView) (out : List (Option Prepared)) where
+  -- a table is loaded but for a fault, or where a mapping is prepared
+  pub faults_looking : {A : Type 0} (p : Pending) (image : Qcow2 S F) → ImageInvariant view backing p image out → (r : Result A ImageError) → IfErr r (IsInUseOrFault image.file.caches) → IfErr r (MayFailLooking (HasPinnedMapping out))
+  faults_looking p image sound (Ok x) cause = tt
+  faults_looking p image sound (Err e) cause = loads_looking view backing out p image sound e cause
+
+  -- clusters that are listed are freed after the refusal, or a fault refuses that
+  pub met_freed : (C : ImageError → Type 0) → ((e : ImageError) → IsFault e → C e) → (old mid new : Qcow2 S F) (e e' : ImageError) → RefusedCall view backing old mid out e → (IsFault e → (e' ≡ e) × (new ≡ mid))
+      → (ImageInvariant view backing (pending_in view backing mid out) mid out → (e' ≡ e) ⊎ IsFault e') → C e → C e'
+  met_freed C faults old mid new e e' left fault told why = elim left [
+    | inl stays ↦ elim (told stays.sound) [ inl same ↦ subst C (sym same) why | inr now ↦ faults e' now ]
+    | inr broken ↦ faults e' (subst IsFault (sym (fault broken.fault).0) broken.fault)
+  ]
+
+-- ---- a new table, and the entries of a held one
+module _ {S F : Type 0} (view : S → StorageView) (backing : F → BackingView) (old : Qcow2 S F) (out : List (Option Prepared)) (p : Pending) (sound : ImageInvariant view backing p old out)
+    (stored : IsStored view old) (at : ℕ) (some : 0 < p.new_tables at) where
+  -- the bytes of a new table were written to its cluster: its cache refuses it where no table may go, or for a fault
+  pub put_refused : (storage : ImageStorage S) (asked : S) (t t' u : L2TableView) (wrote : Result (Unit {0}) StorageError) (x : Unit {0}) (r : Result (Unit {0}) ImageError) → asked ≡ storage_of old.file.storage → t' ≡ record t { cluster = Some at } → u ≡ record t' { is_modified = false }
+      → IsTableOf old.file.header.fields t → length t.bytes ≡ 2 ^ t.cluster_bits → IfSome t'.cluster (λ k. Changes (view asked) (view (storage_of storage)) wrote (λ b. overwritten b (k * 2 ^ t'.cluster_bits) t'.bytes))
+      → Calls (view asked) (view (storage_of storage)) wrote → wrote ≡ Ok x → PutRefusesBy (IsInUseOrFault old.file.caches) view storage old.file.caches (λ h. IsTableOf h u) u.cluster u.bytes u.is_modified r → IfErr r (IsInUseOrFault old.file.caches)
+  put_refused storage asked t t' u wrote x r same is last format whole written called done refuses =
+      let h = old.file.header.fields in
+      let mid = record old { file = record old.file { storage = storage } } in
+      let placed = keeps_placed view backing old out p sound stored at some storage asked t t' wrote same is format.bits whole written called in
+      let still = keeps_stored view backing old out p sound stored at some storage asked t t' wrote same is format.bits whole written called in
+      let there = stands_there view backing old out p sound stored at some storage asked t t' wrote same is format.bits whole written called x done in
+      let put : u ≡ record t { cluster = Some at; is_modified = false } = last ∙ ap (λ (v : L2TableView). record v { is_modified = false }) is in
+      subst (λ (v : L2TableView). PutRefusesBy (IsInUseOrFault old.file.caches) view storage old.file.caches (λ h. IsTableOf h v) v.cluster v.bytes v.is_modified r) put refuses h p placed.sound.file.honest placed.sound.file.caches placed.sound.file.named_blocks
+      (record { bits = format.bits; zero_bit = format.zero_bit; external = format.external }) refl (holds view backing mid out p placed.sound still at some t.bytes (whole ∙ ap (λ n. 2 ^ n) format.bits) there)
+
+module _ {S F : Type 0} (view : S → StorageView) (backing : F → BackingView) (out : List (Option Prepared)) (old mid : Qcow2 S F) (how : ClearMode) (from to table : ℕ) (found : InternalCall view backing old mid out) (held : HoldsTable view backing mid from table) where
+  -- the entries of a range that can be cleared lie in the cached table, and reading them is refused only for a fault
+  pub reading_fault : IsClearable old.file.header.fields how from to → from < to → (first n : ℕ) (e : ImageError) → first ≡ from / cluster_size mid.file.header.fields → n ≡ (to - from) / cluster_size mid.file.header.fields
+      → ((q : Pending) (i : ℕ) → FileInvariant view q mid.file → mid.file.header.fields.incompatible ≡ 0 → IsEntryAt mid.file.header.fields (known_in view mid.file) i table (first % entries_per_cluster mid.file.header.fields) → first / entries_per_cluster mid.file.header.fields ≡ i
+      → first % entries_per_cluster mid.file.header.fields + n ≤ entries_per_cluster mid.file.header.fields → IsSome (l2_at mid.file.caches table) → IsFault e) → IsFault e
+  reading_fault whole some first n e at many faults =
+      let h = mid.file.header.fields in
+      faults (pending_in view backing mid out) (l1_index_of h from) found.sound.file found.sound.inside (subst (λ k. IsEntryAt h (known_in view mid.file) (l1_index_of h from) table (k % entries_per_cluster h)) (sym at) held.entry) (ap (λ k. k / entries_per_cluster h) at)
+      (subst (λ k. k % entries_per_cluster h + n ≤ entries_per_cluster h) (sym at) (subst (λ k. from / cluster_size h % entries_per_cluster h + k ≤ entries_per_cluster h) (sym many) (fits_table view backing out old mid how from to found whole some))) held.new_data
+
+-- a call that has begun needs an entry past 64 bits only where that was so before
+pub far_before : {S F : Type 0} (old begun : Qcow2 S F) (offset : ℕ) → begun ≡ record old { file = record old.file { storage = begun.file.storage; caches = begun.file.caches } } → NeedsOverflowingL1Entry begun offset → NeedsOverflowingL1Entry old offset
+far_before {S} {F} old begun offset rest needs =
+    let is = subst (λ (i : Qcow2 S F). NeedsOverflowingL1Entry i offset) rest needs in
+    (record { within = is.0.within; far = is.0.far }, is.1)

@@ -1,0 +1,59 @@
+-- Whether an L2 table of the image's own is pinned, as a call finds it.
+use Rattle.std.proofs.Common.{◌≡◌, ◌+◌, ◌*◌, ◌/◌, ◌^◌, ◌<◌, ℕ, false, true, refl, sym, ap, ◌∙◌, subst, arith, Ok, Err, Result}
+use Rattle.std.specs.Prelude.{IfErr, IsErr, IsErrAnd, IsSome, OnOk}
+use Rattle.std.proofs.lemmas.Nat.{div-mul-add, pow_pos}
+use Rattle.qcow2_alloc.specs.CachePins.{l2_pins}
+use Rattle.qcow2_alloc.specs.declared.cache.MetadataCaches.{MetadataCaches}
+use Rattle.qcow2_alloc.specs.declared.error.ImageError.{ImageError}
+use Rattle.qcow2_alloc.specs.declared.error.ImageError.TheVariants.{TablePrepared}
+use Rattle.qcow2_alloc.specs.ImageError.{IsOfTables}
+use Rattle.qcow2_alloc.proofs.AllocationSteps.{handed_on}
+use Rattle.qcow2_image.specs.declared.image.Qcow2.{Qcow2}
+use Rattle.qcow2_image.specs.declared.prepared.Prepared.{Prepared}
+use Rattle.qcow2_image.specs.Image.{IsBegun}
+use Rattle.qcow2_image.specs.L1Entries.{HasOwnTable}
+use Rattle.qcow2_image.specs.PinnedTables.{FindsOwn, RespectsPins, PreparesUnpinned, own_pins, own_table}
+use Rattle.qcow2_image.specs.Refusals.{MayFail}
+
+pub whole_quotient : (k c o : ℕ) → c * 2 ^ k ≡ o → c ≡ o / 2 ^ k
+whole_quotient k c o is =
+    let whole : c * 2 ^ k + 0 ≡ o = omega (arith, is) in
+    sym (sym (ap (λ x. x / 2 ^ k) whole) ∙ div-mul-add c (2 ^ k) 0 (pow_pos k))
+
+-- a refusal that comes during the work is not 9
+pub met_untaken : (e : ImageError) → MayFail e → e ≡ TablePrepared → ⊥
+met_untaken e may_fail is = subst MayFail is may_fail
+
+pub of_tables_untaken : (e : ImageError) → IsOfTables e → e ≡ TablePrepared → ⊥
+of_tables_untaken e may_fail is = subst IsOfTables is may_fail
+
+module _ {S F : Type 0} where
+  pub found_pins : (old new : Qcow2 S F) (offset table : ℕ) → FindsOwn old new offset (Ok table) → l2_pins new.file.caches table ≡ own_pins old offset
+  found_pins old new offset table found = found.pins table ∙ ap (l2_pins old.file.caches) found.table
+
+  pub heeds_refused : {A : Type 0} (image : Qcow2 S F) (offset : ℕ) (r : Result A ImageError) (e : ImageError) → IsErr r × IsErrAnd r (λ x. x ≡ e) → (e ≡ TablePrepared → 0 < own_pins image offset) → RespectsPins image offset r
+  heeds_refused image offset r e is why = handed_on (λ (x : Result _ _). RespectsPins image offset x) r e is why
+
+  pub unpinned_refused : (image : Qcow2 S F) (offset : ℕ) (r : Result Prepared ImageError) (e : ImageError) → IsErr r × IsErrAnd r (λ x. x ≡ e) → (e ≡ TablePrepared → 0 < own_pins image offset) → PreparesUnpinned image offset r
+  unpinned_refused image offset r e is why = handed_on (λ (x : Result _ _). PreparesUnpinned image offset x) r e is why
+
+  -- a part that prepares in the table that was found
+  pub prepared_unpinned : (image : Qcow2 S F) (offset n : ℕ) (r : Result Prepared ImageError) → n ≡ own_pins image offset → IfErr r (λ e. e ≡ TablePrepared → 0 < n) → OnOk r (n ≡ 0) → PreparesUnpinned image offset r
+  prepared_unpinned image offset n (Ok p) same taken none = λ some. sym same ∙ none
+  prepared_unpinned image offset n (Err e) same taken none = λ is. subst (λ k. 0 < k) same (taken is)
+
+  -- ---- a call that has begun
+  pub begun_pins : (old begun : Qcow2 S F) (offset : ℕ) → IsBegun old begun → own_pins begun offset ≡ own_pins old offset
+  begun_pins old begun offset begins =
+      ap (λ (i : Qcow2 S F). own_pins i offset) begins.rest ∙ ap (λ (k : MetadataCaches S). l2_pins k (own_table old offset)) begins.caches
+
+  pub begun_own : (old begun : Qcow2 S F) (offset : ℕ) → IsBegun old begun → HasOwnTable old offset → HasOwnTable begun offset
+  begun_own old begun offset begins own = subst (λ (i : Qcow2 S F). HasOwnTable i offset) (sym begins.rest) own
+
+  pub heeds_begun : {A : Type 0} (old begun : Qcow2 S F) (offset : ℕ) (r : Result A ImageError) → IsBegun old begun → RespectsPins begun offset r → RespectsPins old offset r
+  heeds_begun old begun offset (Ok x) begins none = sym (begun_pins old begun offset begins) ∙ none
+  heeds_begun old begun offset (Err e) begins taken = λ is. subst (λ n. 0 < n) (begun_pins old begun offset begins) (taken is)
+
+  pub unpinned_begun : (old begun : Qcow2 S F) (offset : ℕ) (r : Result Prepared ImageError) → IsBegun old begun → PreparesUnpinned begun offset r → PreparesUnpinned old offset r
+  unpinned_begun old begun offset (Ok p) begins none = λ some. sym (begun_pins old begun offset begins) ∙ none some
+  unpinned_begun old begun offset (Err e) begins taken = λ is. subst (λ n. 0 < n) (begun_pins old begun offset begins) (taken is)

@@ -1,0 +1,94 @@
+-- Why a range is refused 9 (table prepared).
+use Rattle.std.proofs.Common.{◌≡◌, inl, inr, ℕ, suc, ◌/◌, ◌%◌, ◌<◌, Bool, true, false, List, [], ◌∷◌, Option, Some, None, refl, sym, ap, ◌∙◌, subst, arith, is_some}
+use Rattle.std.specs.Prelude.{Result, Ok, Err, IfErr, slice_get, ◌==◌}
+use Rattle.std.proofs.lemmas.Bool.{cases_eq, cases_lt, eqb-true}
+use Rattle.image_access.specs.Backing.{BackingView}
+use Rattle.image_access.specs.Moments.{StorageView}
+use Rattle.qcow2_metadata.specs.Bytes.{Bytes, one_if}
+use Rattle.qcow2_metadata.specs.declared.header.HeaderFields.{HeaderFields}
+use Rattle.qcow2_metadata.specs.Header.{cluster_size, entries_per_cluster}
+use Rattle.qcow2_metadata.specs.Entries.{host_offset}
+use Rattle.qcow2_laws.specs.Guests.{table_at}
+use Rattle.qcow2_laws.proofs.Blocks.{table_once}
+use Rattle.qcow2_laws.proofs.Shares.{shares, two_tables}
+use Rattle.qcow2_alloc.proofs.KeptTables.Standing.{own_cluster}
+use Rattle.qcow2_laws.specs.CrashInvariant.{Pending}
+use Rattle.qcow2_alloc.specs.CachePins.{l2_pins}
+use Rattle.qcow2_alloc.specs.MetadataCaches.{order_of, IsEntryAt}
+use Rattle.qcow2_alloc.specs.ImageFile.{contents_in, known_in}
+use Rattle.qcow2_image.specs.declared.image.Qcow2.{Qcow2}
+use Rattle.qcow2_image.specs.declared.prepared.Prepared.{Prepared}
+use Rattle.qcow2_image.specs.Found.{l1_index_of}
+use Rattle.qcow2_image.specs.Preparing.{IsPlaceOf, IsTaken}
+use Rattle.qcow2_image.specs.InternalSteps.{HoldsTable}
+use Rattle.qcow2_image.specs.ImageInvariant.{over_all, pins_by, pins_of, IsPending, IsReadyWith, ImageInvariant}
+
+-- what follows of what is so of a refusal
+pub if_err : {A E : Type 0} {P Q : E → Type 0} (answer : Result A E) → ((e : E) → P e → Q e) → IfErr answer P → IfErr answer Q
+if_err (Ok x) follows is = tt
+if_err (Err e) follows is = follows e is
+
+-- a pin that is counted is one of a mapping
+pinned_by : (pinned : Option ℕ) (table : ℕ) → 0 < pins_of pinned table → pinned ≡ Some table
+pinned_by None table some = absurd (omega arith)
+pinned_by (Some t) table some = by_test (t == table) refl some where
+  by_test : (b : Bool) → (t == table) ≡ b → 0 < one_if b → Some t ≡ Some table
+  by_test true is one = ap Some (eqb-true t table is)
+  by_test false is none = absurd (omega arith)
+
+-- a mapping that is out and keeps the table
+pub record Keeper (out : List (Option Prepared)) (table : ℕ) : Type 0 where
+  pub place : ℕ
+  pub other : Prepared
+  pub is_out : slice_get out place ≡ Some (Some other)
+  pub keeps : other.table ≡ Some table
+
+pub keeper : (out : List (Option Prepared)) (table : ℕ) → 0 < over_all pins_by out table → Keeper out table
+keeper [] table some = absurd (omega arith)
+keeper (None ∷ out) table some = let rest = keeper out table (omega (arith, some)) in record { place = suc rest.place; other = rest.other; is_out = rest.is_out; keeps = rest.keeps }
+keeper (Some q ∷ out) table some = elim (cases_lt 0 (pins_by q table)) [
+  | inl here ↦ record { place = 0; other = q; is_out = refl; keeps = pinned_by q.table table here }
+  | inr none ↦ let rest = keeper out table (omega arith) in record { place = suc rest.place; other = rest.other; is_out = rest.is_out; keeps = rest.keeps }
+]
+
+module _ {S F : Type 0} (view : S → StorageView) (backing : F → BackingView) (image : Qcow2 S F) (p : Pending) (out : List (Option Prepared)) (sound : ImageInvariant view backing p image out) where
+  abbrev h : HeaderFields
+  h = image.file.header.fields
+
+  -- two L1 entries that name the same table are one
+  one_entry : (i j table a b : ℕ) → IsEntryAt h (known_in view image.file) i table a → IsEntryAt h (known_in view image.file) j table b → i ≡ j
+  one_entry i j table a b at_i at_j = elim (cases_eq i j) [
+    | inl same ↦ same
+    | inr other ↦
+        let on_storage = contents_in view image.file in
+        let crash_invariant = sound.file.caches.kept.kept.crash_invariant in
+        let e_i = ap host_offset (crash_invariant.same_top.l1 i) in
+        let e_j = ap host_offset (crash_invariant.same_top.l1 j) in
+        let in_i : table_at h on_storage i / cluster_size h ≡ table = ap (λ n. n / cluster_size h) (e_i ∙ at_i.place) ∙ own_cluster h.cluster_bits table in
+        let in_j : table_at h on_storage j / cluster_size h ≡ table = ap (λ n. n / cluster_size h) (e_j ∙ at_j.place) ∙ own_cluster h.cluster_bits table in
+        let two = two_tables h on_storage table i j other (λ none. at_i.real (sym e_i ∙ none)) (λ none. at_j.real (sym e_j ∙ none)) in_i in_j in
+        let parts = shares h on_storage table in
+        let once = table_once h (order_of image.file.caches) p on_storage (known_in view image.file) crash_invariant table (omega (arith, two, parts)) in
+        absurd (omega (arith, two, parts, once))
+  ]
+
+  -- a mapping that is out keeps the table that is held for an offset
+  module _ (offset table : ℕ) (holds : HoldsTable view backing image offset table) where
+    pub in_same : (q : Prepared) (t : Option ℕ) → t ≡ Some table → IsReadyWith h (known_in view image.file) (contents_in view image.file) q t → l1_index_of h q.guest ≡ l1_index_of h offset
+    in_same q None is ready = absurd cc
+    in_same q (Some t) is ready =
+        let pending : IsPending h (known_in view image.file) (contents_in view image.file) q t = ready in
+        let same : t ≡ table = cc in
+        one_entry (l1_index_of h q.guest) (l1_index_of h offset) table _ _ (subst (λ c. IsEntryAt h (known_in view image.file) (l1_index_of h q.guest) c (q.guest / cluster_size h % entries_per_cluster h)) same pending.named) holds.entry
+
+    pub taken_by : (known : Bytes) (n : ℕ) → 0 < l2_pins image.file.caches table → IsPlaceOf h known offset n None → IsTaken h known offset n out
+    taken_by known n pinned never =
+        let found = keeper out table (subst (λ k. 0 < k) (sound.pinned table) pinned) in
+        record {
+          place = found.place;
+          other = found.other;
+          is_out = found.is_out;
+          keeps_table = ap (λ (o : Option ℕ). is_some o) found.keeps;
+          same_table = in_same found.other found.other.table found.keeps (sound.ready found.place found.other found.is_out).mapped;
+          never = never;
+        }

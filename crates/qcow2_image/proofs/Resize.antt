@@ -1,0 +1,13 @@
+pub mod SizeWritten
+pub mod RecordedChanges
+pub mod DiscardedTails
+pub mod TailSteps
+pub mod ShrinkSteps
+pub mod Shrinking
+pub mod RefusedSteps
+pub mod ShrinkCalls
+pub mod GrowByParts
+pub mod GrowCalls
+pub mod GrownTables
+pub mod CountedSteps
+pub mod StepCalls

@@ -1,0 +1,64 @@
+-- A growth as a call: it is refused, or has nothing to do, before any work.
+use Rattle.std.proofs.Common.{◌≡◌, inl, inr, ◌≤◌, ℕ, true, false, [], ◌∷◌, refl, sym, ap, ◌∙◌, arith}
+use Rattle.std.specs.Prelude.{Some, Result, Ok, Err, not}
+use Rattle.std.proofs.lemmas.Bool.{cond-true, le-leb}
+use Rattle.image_access.specs.Backing.{BackingView}
+use Rattle.image_access.specs.Moments.{StorageView}
+use Rattle.image_access.specs.declared.storage.PreallocateMode.{PreallocateMode}
+use Rattle.image_access.proofs.EachMomentSince.{passes_none}
+use Rattle.qcow2_disk.specs.AbstractImages.{guest_of}
+use Rattle.qcow2_disk.specs.Calls.{shows_old, storage, with_disk}
+use Rattle.qcow2_disk.specs.Disk.{grown}
+use Rattle.qcow2_disk.proofs.Compose.{works_less}
+use Rattle.qcow2_alloc.specs.declared.error.ImageError.{ImageError}
+use Rattle.qcow2_alloc.specs.ImageFile.{view_in}
+use Rattle.qcow2_alloc.specs.declared.error.ImageError.TheVariants as I
+use Rattle.qcow2_image.specs.Calls.{refusal_of}
+use Rattle.qcow2_image.specs.Clearing.{setting_of}
+use Rattle.qcow2_image.specs.declared.image.Qcow2.{Qcow2}
+use Rattle.qcow2_image.specs.Image.{is_external, is_failed, is_writable, size_of}
+use Rattle.qcow2_image.specs.ImageInvariant.{abstract_of, disk_of}
+use Rattle.qcow2_image.specs.Resizing.{GrowsLast, GrowsTo, all_given_by_grow, refuses_to_resize}
+use Rattle.qcow2_image.proofs.Call.Called.{refuses_early, works_none}
+use Rattle.qcow2_image.proofs.Grow.GrownByParts.{call_none}
+use Rattle.qcow2_image.proofs.Images.Sizes.{disk_size}
+use Rattle.qcow2_image.proofs.Resize.ShrinkCalls.{none_fails}
+use Rattle.qcow2_image.proofs.Resize.TailSteps.{works_asking}
+
+module _ {S F : Type 0} (view : S → StorageView) (backing : F → BackingView) (old : Qcow2 S F) (size : ℕ) (mode : PreallocateMode) where
+  refused_unasked : (e : ImageError) → (refusal_of e ≡ storage → ⊥) → GrowsTo view backing old old size mode (Err e)
+  refused_unasked e none out =
+      let v = abstract_of view backing old out in
+      let r = refuses_early v (refusal_of e) none in
+      let gs = all_given_by_grow view backing old size mode in
+      record {
+        acts = record { number = r.acts.number; works = λ sound. works_asking v v gs (size ∷ []) (works_less v v [] gs [] (λ o x never. absurd never) (λ g u. tt) (r.acts.works sound)); rests = r.acts.rests };
+        answer = λ sound. elim (r.answer sound) [ inl still ↦ inl (still.0, ((guest_of v).disk, record { same_size = refl; values = λ o. inl refl }, still.1)) | inr failed ↦ inr failed ];
+        fault = r.fault;
+      }
+
+  pub grows_early : (e : ImageError) → refuses_to_resize old ≡ Some e → GrowsTo view backing old old size mode (Err e)
+  grows_early e is = refused_unasked e (none_fails (is_failed old) (is_external old) (not (is_writable old)) e is)
+
+  pub grows_over : GrowsTo view backing old old size mode (Err I.Preallocation)
+  grows_over = refused_unasked I.Preallocation (λ is. absurd cc)
+
+  -- it isn't larger
+  pub grows_nothing : is_failed old ≡ false → size ≤ size_of old → GrowsTo view backing old old size mode (Ok tt)
+  grows_nothing usable le out =
+      let v = abstract_of view backing old out in
+      let gs = all_given_by_grow view backing old size mode in
+      let d = disk_of view backing old in
+      record {
+        acts = record {
+          number = refl;
+          works = λ sound. works_asking v v gs (size ∷ []) (works_less v v [] gs [] (λ o x never. absurd never) (λ g u. tt) (works_none v sound));
+          rests = λ failed. absurd (let no : true ≡ false = sym failed ∙ usable in cc);
+        };
+        answer = λ sound. let s = disk_size view backing old out sound in
+            (sound, ap (λ e. with_disk (guest_of v) e) (sym (cond-true _ d (grown (setting_of view backing old).cluster_size d size (shows_old mode)) (le-leb size d.size (omega (arith, s, le))))));
+      }
+
+  -- what the storage holds stays at every moment
+  pub last_none : (r : Result (Unit {0}) ImageError) → GrowsLast view backing mode size old old r
+  last_none r = record { last = passes_none (view_in view old.file) _; lasts = λ shows. call_none view old (size ∷ []) r }

@@ -1,6 +1,0 @@
-use Rattle.qcow2_image.proofs.Commit.Entered.{EntersFirst}
-use Rattle.qcow2_image.proofs.image.Qcow2.enter_shares.Given as goal
-
--- the shares so far are in place: what they had private is visible
-abbrev pub invariant-loop-i : goal.invariant-loop-i
-invariant-loop-i g l = EntersFirst g.S.Storage.view g.F.BackingDisk.backing l.fn.self l.self l.fn.prepared l.prepared l.i l.entered
