@@ -1,18 +1,5 @@
 -- Tables of entries of 64 bits.
-use Rattle.std.proofs.Common.{◌≡◌, ℕ, ◌+◌, ◌-◌, ◌*◌, ◌/◌, ◌%◌, ◌^◌, ◌≤◌, inl, inr, subst, lit<, List, [], ◌++◌, Option, nat_lt, if◌then◌else◌, length, replicate, refl, sym, ap, ◌∙◌, arith}
-use Rattle.std.specs.Prelude.{bit_and}
-use Rattle.std.proofs.lemmas.List.{drop-replicate, get_or_append_left, get_or-append_right, length-replicate, nil_from_length}
-use Rattle.std.proofs.lemmas.Bool.{cases_eq, cases_lt, cond-false, cond-true, le-ltb, lt-ltb}
-use Rattle.std.proofs.lemmas.Nat.{and_block, and_le_l, and_mask, mod_below, pow-add, shr_split}
-use Rattle.image_access.specs.Contents.{bytes_at, overwritten}
-use Rattle.image_access.proofs.Bytes.{byte_at_past, length-bytes_at, put_mid-overwritten}
-use Rattle.qcow2_metadata.specs.Bytes.{byte_at, number_at}
-use Rattle.qcow2_metadata.specs.Header.{HeaderFields, reftable_entries}
-use Rattle.qcow2_metadata.specs.Entries.{l1_entry, l2_entry, reftable_entry, L1EntryReads, ReftableEntryReads}
-use Rattle.qcow2_metadata.specs.TableBytes.{entry_at, ChangesEntry}
-use Rattle.qcow2_metadata.specs.EntryTable.{EntryTableView, EachReads, HasRoomIfPlaced, IsClear, IsL1TableOf, IsReasonNotToLoad, IsRefTableOf, NamesL1Table, NamesRefTable, PassesLimit, SomeUnread}
-use Rattle.qcow2_metadata.specs.declared.error.MetadataError.{MetadataError}
-use Rattle.qcow2_metadata.specs.declared.error.MetadataError.TheVariants.{Storage, Memory, Version, Unaligned, Limit, Format}
+use Rattle.qcow2_metadata.proofs.Common.{◌≡◌, ℕ, ◌+◌, ◌-◌, ◌*◌, ◌/◌, ◌%◌, ◌^◌, ◌≤◌, inl, inr, subst, lit<, List, [], ◌++◌, Option, nat_lt, if◌then◌else◌, length, replicate, refl, sym, ap, ◌∙◌, arith, bit_and, drop-replicate, get_or_append_left, get_or-append_right, length-replicate, nil_from_length, cases_eq, cases_lt, cond-false, cond-true, le-ltb, lt-ltb, and_block, and_le_l, and_mask, mod_below, pow-add, shr_split, bytes_at, overwritten, byte_at_past, length-bytes_at, put_mid-overwritten, byte_at, number_at, HeaderFields, reftable_entries, l1_entry, l2_entry, reftable_entry, L1EntryReads, ReftableEntryReads, entry_at, ChangesEntry, EntryTableView, EachReads, HasRoomIfPlaced, IsClear, IsL1TableOf, IsReasonNotToLoad, IsRefTableOf, NamesL1Table, NamesRefTable, PassesLimit, SomeUnread, MetadataError, Storage, Memory, Version, Unaligned, Limit, Format}
 use Rattle.qcow2_metadata.proofs.TableEntries.{byte_at-zeros, entry_at-loaded, entry_at-zeros, number_at-moved, number_at-zeros}
 
 -- past its end a table has no entry

@@ -1,11 +1,5 @@
 -- A walk over the extensions of a header.
-use Rattle.std.proofs.Common.{◌≡◌, ◌≢◌, ℕ, ◌+◌, ◌<◌, ◌≤◌, ◌==◌, Bool, true, false, List, [], ◌∷◌, length, get_or, take, drop, Option, Some, None, refl, sym, ap, ◌∙◌, subst, ⊎_elim, if◌then◌else◌, arith}
-use Rattle.std.proofs.lemmas.List.{length-take, length-drop, get_or-take, get_or-drop, ext_get_or}
-use Rattle.std.proofs.lemmas.List.FromFn.{length-map-range_with_len, get_or-map-range_with_len}
-use Rattle.qcow2_metadata.specs.Bytes.{Bytes, byte_at, bytes_from, number_at}
-use Rattle.std.specs.Prelude.{IsUtf8}
-use Rattle.qcow2_metadata.specs.Header.{IsExtension, AreExtensions, ExtensionsRead, IsNameKind, behind_extension, first_of_kind, backing_format_kind, data_file_kind}
-use Rattle.qcow2_metadata.specs.HeaderLoad.{first_so_far, AreNamed}
+use Rattle.qcow2_metadata.proofs.Common.{◌≡◌, ◌≢◌, ℕ, ◌+◌, ◌<◌, ◌≤◌, ◌==◌, Bool, true, false, List, [], ◌∷◌, length, get_or, take, drop, Option, Some, None, refl, sym, ap, ◌∙◌, subst, ⊎_elim, if◌then◌else◌, arith, length-take, length-drop, get_or-take, get_or-drop, ext_get_or, length-map-range_with_len, get_or-map-range_with_len, Bytes, byte_at, bytes_from, number_at, IsUtf8, IsExtension, AreExtensions, ExtensionsRead, IsNameKind, behind_extension, first_of_kind, backing_format_kind, data_file_kind, first_so_far, AreNamed}
 
 -- no extension and no end begins where less than eight bytes are left
 pub stand_no_room : (b : Bytes) (limit place : ℕ) → limit < place + 8 → (list : List (ℕ × List ℕ)) → AreExtensions b limit place list → ⊥

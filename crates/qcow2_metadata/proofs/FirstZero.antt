@@ -1,8 +1,5 @@
 -- One-bit refcounts that are all 1.
-use Rattle.std.proofs.Common.{◌≡◌, ◌≢◌, ℕ, zero, suc, ◌+◌, ◌-◌, ◌*◌, ◌/◌, ◌%◌, ◌^◌, ◌<◌, ◌≤◌, List, length, inl, inr, ap, ◌∙◌, sym, refl, pow-suc, arith}
-use Rattle.std.proofs.lemmas.Bool.{cases_eq}
-use Rattle.qcow2_metadata.specs.Bytes.{Bytes, byte_at, number_at}
-use Rattle.qcow2_metadata.specs.RefBlock.{RefBlockView, count_in, counts_of, IsRefBlock}
+use Rattle.qcow2_metadata.proofs.Common.{◌≡◌, ◌≢◌, ℕ, zero, suc, ◌+◌, ◌-◌, ◌*◌, ◌/◌, ◌%◌, ◌^◌, ◌<◌, ◌≤◌, List, length, inl, inr, ap, ◌∙◌, sym, refl, pow-suc, arith, cases_eq, Bytes, byte_at, number_at, RefBlockView, count_in, counts_of, IsRefBlock}
 use Rattle.qcow2_metadata.proofs.Quotients.{multiple_of_8}
 use Rattle.qcow2_metadata.proofs.RefCounts.{narrow_count}
 

@@ -1,15 +1,6 @@
 -- The meaning of entries that are encoded here.
-use Rattle.std.proofs.Common.{◌≡◌, ℕ, ◌+◌, ◌-◌, ◌*◌, ◌/◌, ◌%◌, ◌^◌, ◌<◌, ◌≤◌, Bool, true, false, not, eqb, Option, Some, None, refl, sym, ap, ◌∙◌, arith, inl, inr, lit<, mul_assoc, mul-pos}
-use Rattle.std.specs.Prelude.{◌&&◌, ◌||◌, if◌then◌else◌, IfSome, IsTrue, bit_or}
-use Rattle.std.proofs.lemmas.Bool.{cases_eq, eq-eqb, ne_eqb, cond-true, cond-false, and_right}
-use Rattle.std.proofs.lemmas.Nat.{or_shifted, pow-add, pow_pos}
-use Rattle.qcow2_metadata.specs.Bytes.{has_bit}
-use Rattle.qcow2_metadata.specs.Entries.{host_offset, is_copied}
-use Rattle.qcow2_metadata.specs.Cover.{cover_of, has_host}
-use Rattle.qcow2_metadata.specs.TableBytes.{entry_at, ChangesEntry}
+use Rattle.qcow2_metadata.proofs.Common.{◌≡◌, ℕ, ◌+◌, ◌-◌, ◌*◌, ◌/◌, ◌%◌, ◌^◌, ◌<◌, ◌≤◌, Bool, true, false, not, eqb, Option, Some, None, refl, sym, ap, ◌∙◌, arith, inl, inr, lit<, mul_assoc, mul-pos, ◌&&◌, ◌||◌, if◌then◌else◌, IfSome, IsTrue, bit_or, cases_eq, eq-eqb, ne_eqb, cond-true, cond-false, and_right, or_shifted, pow-add, pow_pos, has_bit, host_offset, is_copied, cover_of, has_host, entry_at, ChangesEntry, L2TableView, cover_at, IsEntryHost, copied_entry, zero_entry, zero_cover, copied_host, Data, Zero, Compressed, Uncovered}
 use Rattle.qcow2_metadata.specs.L2Mapping.{greatest_offset}
-use Rattle.qcow2_metadata.specs.L2Table.{L2TableView, cover_at, IsEntryHost, copied_entry, zero_entry, zero_cover, copied_host}
-use Rattle.qcow2_metadata.specs.declared.l2_mapping.L2Mapping.TheVariants.{Data, Zero, Compressed, Uncovered}
 
 or_true : (b : Bool) → b || true ≡ true
 or_true true = refl

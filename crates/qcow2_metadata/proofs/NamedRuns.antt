@@ -1,15 +1,8 @@
 -- The host clusters that an entry refers to, as a run.
-use Rattle.std.proofs.Common.{◌≡◌, inl, inr, ℕ, ◌+◌, ◌-◌, ◌*◌, ◌/◌, ◌^◌, ◌≤◌, eqb, leb, ltb, Option, Some, None, refl, sym, ap, ◌∙◌, arith}
-use Rattle.std.specs.Prelude.{◌&&◌}
-use Rattle.std.proofs.Math.Nat.{div-mul-le_self}
-use Rattle.std.proofs.lemmas.Bool.{cases_lt, eq-eqb, ne_eqb, le-leb, lt-leb, lt-ltb, le-ltb, and_from, and_left, and_right}
-use Rattle.std.proofs.lemmas.Nat.{pow_pos, le-div}
-use Rattle.qcow2_metadata.specs.Bytes.{one_if}
-use Rattle.qcow2_metadata.specs.Header.{HeaderFields}
+use Rattle.qcow2_metadata.proofs.Common.{◌≡◌, inl, inr, ℕ, ◌+◌, ◌-◌, ◌*◌, ◌/◌, ◌^◌, ◌≤◌, eqb, leb, ltb, Option, Some, None, refl, sym, ap, ◌∙◌, arith, ◌&&◌, div-mul-le_self, cases_lt, eq-eqb, ne_eqb, le-leb, lt-leb, lt-ltb, le-ltb, and_from, and_left, and_right, pow_pos, le-div, one_if, HeaderFields, Data, Zero, Compressed, Uncovered}
 use Rattle.qcow2_metadata.specs.Named.{named_by_cover}
 use Rattle.qcow2_metadata.specs.L2Mapping.{IsInReach, run_of_bytes, named_run, run_has}
 use Rattle.qcow2_metadata.specs.declared.l2_mapping.L2Mapping.{L2Mapping}
-use Rattle.qcow2_metadata.specs.declared.l2_mapping.L2Mapping.TheVariants.{Data, Zero, Compressed, Uncovered}
 
 -- one cluster is a run of one
 one_is : (first cluster : ℕ) → one_if (eqb first cluster) ≡ run_has (Some (first, 1)) cluster

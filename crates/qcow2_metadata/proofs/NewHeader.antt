@@ -1,8 +1,5 @@
 -- The numbers and names of a new header satisfy the invariant of headers.
-use Rattle.std.proofs.Common.{◌≡◌, ◌⊎◌, inl, inr, ℕ, ◌^◌, ◌≤◌, List, [], length, Option, Some, None, is_some, unwrap_or, if◌then◌else◌, refl, arith}
-use Rattle.std.proofs.Math.Pow.{pow_mono}
-use Rattle.qcow2_metadata.specs.Header.{IsKept, IsShort}
-use Rattle.qcow2_metadata.specs.HeaderWrite.{CanBeNew, extension_size, new_fields}
+use Rattle.qcow2_metadata.proofs.Common.{◌≡◌, ◌⊎◌, inl, inr, ℕ, ◌^◌, ◌≤◌, List, [], length, Option, Some, None, is_some, unwrap_or, if◌then◌else◌, refl, arith, pow_mono, IsKept, IsShort, CanBeNew, extension_size, new_fields}
 
 pub short_name : (name : Option (List ℕ)) → length (unwrap_or name []) ≤ 2097152 → IsShort name
 short_name None short = tt

@@ -1,16 +1,5 @@
 -- The header depends only on the bytes of cluster 0.
-use Rattle.std.proofs.Common.{◌≡◌, ◌≢◌, ℕ, ◌+◌, ◌<◌, ◌≤◌, ◌==◌, Bool, List, [], ◌∷◌, length, Some, None, refl, sym, ap, ◌∙◌, subst, inl, inr, if◌then◌else◌, arith}
-use Rattle.std.specs.Prelude.{IsUtf8}
-use Rattle.std.proofs.lemmas.List.{ext_get_or}
-use Rattle.std.proofs.lemmas.List.FromFn.{length-map-range_with_len, get_or-map-range_with_len}
-use Rattle.std.proofs.lemmas.Bool.{cases_eq, eq-eqb}
-use Rattle.qcow2_metadata.specs.Bytes.{Bytes, byte_at, bytes_from, number_at}
-use Rattle.qcow2_metadata.specs.Header.{HeaderFields, HeaderView, header, cluster_size, backing_name, IsInRange, IsExtension, AreExtensions, BackingNameReads, IsWellFormed, HeaderReads, behind_extension}
-use Rattle.qcow2_metadata.specs.HeaderLoad.{IsHeaderOf, IsReasonToRefuse, IsReasonNotToRead}
-use Rattle.qcow2_metadata.specs.declared.error.MetadataError.{MetadataError}
-use Rattle.qcow2_metadata.specs.declared.error.MetadataError.TheVariants.{Storage, Memory, Version, Unaligned, Limit, Format}
-use Rattle.image_access.specs.Contents.{bytes_at}
-use Rattle.image_access.proofs.Bytes.{byte_at-bytes_at}
+use Rattle.qcow2_metadata.proofs.Common.{◌≡◌, ◌≢◌, ℕ, ◌+◌, ◌<◌, ◌≤◌, ◌==◌, Bool, List, [], ◌∷◌, length, Some, None, refl, sym, ap, ◌∙◌, subst, inl, inr, if◌then◌else◌, arith, IsUtf8, ext_get_or, length-map-range_with_len, get_or-map-range_with_len, cases_eq, eq-eqb, Bytes, byte_at, bytes_from, number_at, HeaderFields, HeaderView, header, cluster_size, backing_name, IsInRange, IsExtension, AreExtensions, BackingNameReads, IsWellFormed, HeaderReads, behind_extension, IsHeaderOf, IsReasonToRefuse, IsReasonNotToRead, MetadataError, Storage, Memory, Version, Unaligned, Limit, Format, bytes_at, byte_at-bytes_at}
 use Rattle.qcow2_metadata.proofs.BigEndian.{number_at-same}
 
 -- the bytes from one place to another are the same

@@ -1,11 +1,5 @@
 -- Names in cluster 0 are short.
-use Rattle.std.proofs.Common.{◌≡◌, ℕ, ◌^◌, ◌≤◌, ◌==◌, Bool, true, false, List, [], ◌∷◌, length, Option, Some, None, sym, subst, inl, inr, if◌then◌else◌, arith}
-use Rattle.std.proofs.lemmas.Bool.{cases_eq, eq-eqb, ne_eqb}
-use Rattle.std.proofs.lemmas.List.FromFn.{length-map-range_with_len}
-use Rattle.std.proofs.Math.Pow.{pow_mono}
-use Rattle.qcow2_metadata.specs.Bytes.{Bytes, bytes_from}
-use Rattle.qcow2_metadata.specs.Header.{HeaderFields, IsInRange, IsWithinLimits, IsShort, IsKept, AreExtensions, BackingNameReads, backing_name, behind_extension, first_of_kind, cluster_size}
-use Rattle.qcow2_metadata.specs.HeaderLoad.{AreNamed}
+use Rattle.qcow2_metadata.proofs.Common.{◌≡◌, ℕ, ◌^◌, ◌≤◌, ◌==◌, Bool, true, false, List, [], ◌∷◌, length, Option, Some, None, sym, subst, inl, inr, if◌then◌else◌, arith, cases_eq, eq-eqb, ne_eqb, length-map-range_with_len, pow_mono, Bytes, bytes_from, HeaderFields, IsInRange, IsWithinLimits, IsShort, IsKept, AreExtensions, BackingNameReads, backing_name, behind_extension, first_of_kind, cluster_size, AreNamed}
 
 one_short : (is_kind : Bool) (name : List ℕ) (others : Option (List ℕ)) → length name ≤ 2097152 → IsShort others → IsShort (if is_kind then Some name else others)
 one_short true name others short rest = short

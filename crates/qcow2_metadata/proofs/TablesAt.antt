@@ -1,14 +1,5 @@
 -- Tables whose bytes are in a file.
-use Rattle.std.proofs.Common.{◌≡◌, ℕ, zero, suc, ◌+◌, ◌*◌, ◌/◌, ◌%◌, ◌^◌, ◌<◌, ◌≤◌, List, Result, Ok, Err, length, sym, ap, ◌∙◌, arith, OnOk}
-use Rattle.image_access.specs.Contents.{bytes_at, overwritten}
-use Rattle.image_access.specs.Moments.{ContentsBecome}
-use Rattle.image_access.specs.declared.error.StorageError.{StorageError}
-use Rattle.image_access.proofs.Bytes.{length-bytes_at, byte_at-bytes_at, byte_at-overwritten}
-use Rattle.qcow2_metadata.specs.Bytes.{Bytes, byte_at, number_at}
-use Rattle.qcow2_metadata.specs.Entries.{l2_entry, block_count}
-use Rattle.qcow2_metadata.specs.TableBytes.{entry_at}
-use Rattle.qcow2_metadata.specs.RefBlock.{RefBlockView, count_in, IsRefBlock, IsRefBlockAt}
-use Rattle.qcow2_metadata.specs.L2Table.{L2TableView, IsL2Table, IsL2TableAt}
+use Rattle.qcow2_metadata.proofs.Common.{◌≡◌, ℕ, zero, suc, ◌+◌, ◌*◌, ◌/◌, ◌%◌, ◌^◌, ◌<◌, ◌≤◌, List, Result, Ok, Err, length, sym, ap, ◌∙◌, arith, OnOk, bytes_at, overwritten, ContentsBecome, StorageError, length-bytes_at, byte_at-bytes_at, byte_at-overwritten, Bytes, byte_at, number_at, l2_entry, block_count, entry_at, RefBlockView, count_in, IsRefBlock, IsRefBlockAt, L2TableView, IsL2Table, IsL2TableAt}
 use Rattle.qcow2_metadata.proofs.Quotients.{multiple_of_8}
 use Rattle.qcow2_metadata.proofs.TableEntries.{number_at-moved}
 

@@ -1,17 +1,5 @@
 -- What the file holds of a written table.
-use Rattle.std.proofs.Common.{◌≡◌, ◌≢◌, ℕ, ◌+◌, ◌*◌, ◌%◌, ◌^◌, ◌<◌, ◌≤◌, inl, inr, List, Option, Some, None, Result, Ok, Err, nat_lt, if◌then◌else◌, length, sym, ap, ◌∙◌, subst, arith, IfSome, OnOk}
-use Rattle.std.specs.Int.{w64, to_be_bytes}
-use Rattle.std.proofs.lemmas.Bool.{cases_eq, cases_lt, cond-false, cond-true, le-ltb, lt-ltb}
-use Rattle.std.proofs.lemmas.Nat.{from_be_bytes-to_be_bytes_8}
-use Rattle.image_access.specs.Contents.{overwritten}
-use Rattle.image_access.specs.Moments.{StorageView, ContentsBecome, Changes}
-use Rattle.image_access.specs.declared.error.StorageError.{StorageError}
-use Rattle.image_access.proofs.Bytes.{byte_at-overwritten, byte_at-overwritten_outside}
-use Rattle.qcow2_metadata.specs.Bytes.{byte_at, number_at}
-use Rattle.qcow2_metadata.specs.Header.{HeaderFields, reftable_entries}
-use Rattle.qcow2_metadata.specs.Entries.{l1_entry, l2_entry, reftable_entry}
-use Rattle.qcow2_metadata.specs.TableBytes.{entry_at}
-use Rattle.qcow2_metadata.specs.EntryTable.{EntryTableView, entry_count, IsL1TableOf, IsL1TableBut, IsRefTableOf, IsRefTableBut, NamesL1Table, NamesRefTable}
+use Rattle.qcow2_metadata.proofs.Common.{◌≡◌, ◌≢◌, ℕ, ◌+◌, ◌*◌, ◌%◌, ◌^◌, ◌<◌, ◌≤◌, inl, inr, List, Option, Some, None, Result, Ok, Err, nat_lt, if◌then◌else◌, length, sym, ap, ◌∙◌, subst, arith, IfSome, OnOk, w64, to_be_bytes, cases_eq, cases_lt, cond-false, cond-true, le-ltb, lt-ltb, from_be_bytes-to_be_bytes_8, overwritten, StorageView, ContentsBecome, Changes, StorageError, byte_at-overwritten, byte_at-overwritten_outside, byte_at, number_at, HeaderFields, reftable_entries, l1_entry, l2_entry, reftable_entry, entry_at, EntryTableView, entry_count, IsL1TableOf, IsL1TableBut, IsRefTableOf, IsRefTableBut, NamesL1Table, NamesRefTable}
 use Rattle.qcow2_metadata.proofs.BigEndian.{number_at-same, from_be_bytes-8}
 use Rattle.qcow2_metadata.proofs.TableEntries.{number_at-moved}
 use Rattle.qcow2_metadata.proofs.EntryTables.{entry_at_past}

@@ -1,5 +1,4 @@
-use Rattle.std.proofs.Common.{inl, inr, arith}
-use Rattle.std.proofs.lemmas.Bool.{cases_lt}
+use Rattle.qcow2_metadata.proofs.Common.{inl, inr, arith, cases_lt}
 use Rattle.qcow2_metadata.proofs.EntryTables.{entry_at_past, none_is_clear}
 use Rattle.qcow2_metadata.proofs.entry_table.is_clear.Goals as goal
 

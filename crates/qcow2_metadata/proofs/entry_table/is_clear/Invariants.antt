@@ -1,6 +1,4 @@
-use Rattle.std.proofs.Common.{ℕ, ◌<◌}
-use Rattle.qcow2_metadata.specs.TableBytes.{entry_at}
-use Rattle.qcow2_metadata.specs.EntryTable.{IsClear}
+use Rattle.qcow2_metadata.proofs.Common.{ℕ, ◌<◌, entry_at, IsClear}
 use Rattle.qcow2_metadata.proofs.entry_table.is_clear.Given as goal
 
 abbrev pub invariant-loop-i : goal.invariant-loop-i

@@ -1,4 +1,4 @@
-use Rattle.std.proofs.Common.{sym, ◌∙◌, arith}
+use Rattle.qcow2_metadata.proofs.Common.{sym, ◌∙◌, arith}
 use Rattle.qcow2_metadata.proofs.EntryTables.{no_bytes_at}
 use Rattle.qcow2_metadata.proofs.entry_table.load_bytes.Goals as goal
 

@@ -1,7 +1,4 @@
-use Rattle.std.proofs.Common.{◌^◌, arith, ◌∙◌, ap}
-use Rattle.std.specs.Prelude.{bit_or}
-use Rattle.std.proofs.lemmas.Bool.{eq-eqb}
-use Rattle.std.proofs.lemmas.Nat.{or_shifted}
+use Rattle.qcow2_metadata.proofs.Common.{◌^◌, arith, ◌∙◌, ap, bit_or, eq-eqb, or_shifted}
 use Rattle.qcow2_metadata.proofs.l1_table.copied_entry.Goals as goal
 
 pub returns : goal.returns

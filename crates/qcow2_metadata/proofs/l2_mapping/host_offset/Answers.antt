@@ -1,4 +1,4 @@
-use Rattle.std.proofs.lemmas.Nat.Bits.{and_high}
+use Rattle.qcow2_metadata.proofs.Common.{and_high}
 use Rattle.qcow2_metadata.proofs.l2_mapping.host_offset.Goals as goal
 
 pub returns-clause-value : goal.returns-clause-value

@@ -1,5 +1,4 @@
-use Rattle.std.proofs.Common.{◌/◌, ap, arith}
-use Rattle.std.proofs.lemmas.Nat.{one_shl}
+use Rattle.qcow2_metadata.proofs.Common.{◌/◌, ap, arith, one_shl}
 use Rattle.qcow2_metadata.proofs.Quotients.{eighth_pos}
 use Rattle.qcow2_metadata.proofs.numbers.entries_per_cluster.Goals as goal
 

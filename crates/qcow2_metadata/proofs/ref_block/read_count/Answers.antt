@@ -1,7 +1,4 @@
-use Rattle.std.proofs.Common.{◌≡◌, ◌*◌, ◌/◌, ◌%◌, ◌^◌, ◌∙◌, ap, sym, arith}
-use Rattle.std.proofs.lemmas.Nat.{one_shl}
-use Rattle.qcow2_metadata.specs.Bytes.{byte_at}
-use Rattle.qcow2_metadata.specs.RefBlock.{count_in}
+use Rattle.qcow2_metadata.proofs.Common.{◌≡◌, ◌*◌, ◌/◌, ◌%◌, ◌^◌, ◌∙◌, ap, sym, arith, one_shl, byte_at, count_in}
 use Rattle.qcow2_metadata.proofs.RefCounts.{narrow_count, count_of_16, count_of_32, count_of_64, pair_of_bytes}
 use Rattle.qcow2_metadata.proofs.ref_block.read_count.Goals as goal
 

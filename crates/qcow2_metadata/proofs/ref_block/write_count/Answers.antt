@@ -1,6 +1,4 @@
-use Rattle.std.proofs.Common.{◌*◌, ◌∙◌, ap, arith}
-use Rattle.std.proofs.lemmas.Nat.{one_shl}
-use Rattle.image_access.specs.Contents.{overwritten}
+use Rattle.qcow2_metadata.proofs.Common.{◌*◌, ◌∙◌, ap, arith, one_shl, overwritten}
 use Rattle.qcow2_metadata.proofs.RefCounts.{set_narrow_changes, wide_changes_16, wide_changes_32, wide_changes_64}
 use Rattle.qcow2_metadata.proofs.ref_block.write_count.Goals as goal
 

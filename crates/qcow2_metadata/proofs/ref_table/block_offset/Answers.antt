@@ -1,4 +1,4 @@
-use Rattle.std.proofs.lemmas.Nat.Bits.{and_high}
+use Rattle.qcow2_metadata.proofs.Common.{and_high}
 use Rattle.qcow2_metadata.proofs.ref_table.block_offset.Goals as goal
 
 pub returns : goal.returns

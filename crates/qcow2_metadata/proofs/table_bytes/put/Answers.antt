@@ -1,5 +1,4 @@
-use Rattle.std.proofs.Common.{◌≡◌, ◌+◌, ◌-◌, ℕ, List, ◌++◌, length, take, drop, ap, ◌∙◌, arith}
-use Rattle.image_access.proofs.Bytes.{put_mid-overwritten}
+use Rattle.qcow2_metadata.proofs.Common.{◌≡◌, ◌+◌, ◌-◌, ℕ, List, ◌++◌, length, take, drop, ap, ◌∙◌, arith, put_mid-overwritten}
 use Rattle.qcow2_metadata.proofs.table_bytes.put.Goals as goal
 
 pub returns : goal.returns

@@ -1,5 +1,4 @@
-use Rattle.std.proofs.Common.{◌*◌, ap, ◌∙◌, arith}
-use Rattle.image_access.specs.Contents.{overwritten}
+use Rattle.qcow2_metadata.proofs.Common.{◌*◌, ap, ◌∙◌, arith, overwritten}
 use Rattle.qcow2_metadata.proofs.TableEntries.{set_entry_changes}
 use Rattle.qcow2_metadata.proofs.table_bytes.set_entry.Goals as goal
 

@@ -1,7 +1,4 @@
-use Rattle.std.proofs.Common.{◌≡◌, ◌-◌, ◌*◌, ◌++◌, List, ℕ, length, take, drop, replicate, ap, sym, ◌∙◌, arith}
-use Rattle.image_access.specs.Contents.{overwritten}
-use Rattle.image_access.proofs.Bytes.{whole}
-use Rattle.qcow2_metadata.specs.EntryTable.{EntryTableView}
+use Rattle.qcow2_metadata.proofs.Common.{◌≡◌, ◌-◌, ◌*◌, ◌++◌, List, ℕ, length, take, drop, replicate, ap, sym, ◌∙◌, arith, overwritten, whole, EntryTableView}
 use Rattle.qcow2_metadata.proofs.EntryTables.{overwritten-zeros, same_table}
 use Rattle.qcow2_metadata.proofs.entry_table.EntryTable.clone_and_grow.Goals as goal
 

@@ -1,4 +1,4 @@
-use Rattle.std.proofs.Common.{lit<, arith}
+use Rattle.qcow2_metadata.proofs.Common.{lit<, arith}
 use Rattle.qcow2_metadata.proofs.Sizes.{shift_low, shift_high}
 use Rattle.qcow2_metadata.proofs.header.Header.cluster_size.Goals as goal
 

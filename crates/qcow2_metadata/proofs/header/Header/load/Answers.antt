@@ -1,5 +1,4 @@
-use Rattle.std.proofs.Common.{◌∙◌}
-use Rattle.std.proofs.lemmas.Result.{IfOk-weaker, IfErr-weaker, err_from_is_err_and}
+use Rattle.qcow2_metadata.proofs.Common.{◌∙◌, IfOk-weaker, IfErr-weaker, err_from_is_err_and}
 use Rattle.qcow2_metadata.proofs.SameHeader.{loaded, refused}
 use Rattle.qcow2_metadata.proofs.header.Header.load.Goals as goal
 

@@ -1,5 +1,4 @@
-use Rattle.std.proofs.Common.{◌^◌, ◌<◌, rules, subst}
-use Rattle.qcow2_metadata.specs.Header.{IsWithinLimits}
+use Rattle.qcow2_metadata.proofs.Common.{◌^◌, ◌<◌, rules, subst, IsWithinLimits}
 use Rattle.qcow2_metadata.proofs.StillHeader.{size_still}
 use Rattle.qcow2_metadata.proofs.header.Header.write_size.Goals as goal
 

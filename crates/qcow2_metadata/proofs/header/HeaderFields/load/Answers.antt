@@ -1,5 +1,4 @@
-use Rattle.std.proofs.Common.{◌∙◌}
-use Rattle.std.proofs.lemmas.Result.{err_from_is_err_and}
+use Rattle.qcow2_metadata.proofs.Common.{◌∙◌, err_from_is_err_and}
 use Rattle.qcow2_metadata.proofs.SameHeader.{reads, unread}
 use Rattle.qcow2_metadata.proofs.header.HeaderFields.load.Goals as goal
 

@@ -1,8 +1,4 @@
-use Rattle.std.proofs.Common.{◌+◌, ◌*◌, ◌≤◌, ◌^◌}
-use Rattle.std.proofs.lemmas.Result.{err_from_is_err_and}
-use Rattle.image_access.specs.Contents.{bytes_at}
-use Rattle.qcow2_metadata.specs.Entries.{ReftableEntryReads}
-use Rattle.qcow2_metadata.specs.EntryTable.{IsClear}
+use Rattle.qcow2_metadata.proofs.Common.{◌+◌, ◌*◌, ◌≤◌, ◌^◌, err_from_is_err_and, bytes_at, ReftableEntryReads, IsClear}
 use Rattle.qcow2_metadata.proofs.EntryTables.{reftable_entries-loaded, IsReasonNotToLoad-reads, clear_reftable_reads, reftable_reads_clear}
 use Rattle.qcow2_metadata.proofs.header.HeaderFields.load_reftable_entries.Goals as goal
 

@@ -1,4 +1,4 @@
-use Rattle.std.proofs.Common.{◌∙◌, refl, arith}
+use Rattle.qcow2_metadata.proofs.Common.{◌∙◌, refl, arith}
 use Rattle.qcow2_metadata.proofs.Extensions.{stand_no_room, stand_past, found}
 use Rattle.qcow2_metadata.proofs.header.extensions.extension_at.Goals as goal
 

@@ -1,5 +1,4 @@
-use Rattle.std.proofs.Common.{inl, inr, arith}
-use Rattle.std.proofs.lemmas.Result.{err_from_is_err_and}
+use Rattle.qcow2_metadata.proofs.Common.{inl, inr, arith, err_from_is_err_and}
 use Rattle.qcow2_metadata.proofs.Extensions.{text_of, read_more, read_to_end}
 use Rattle.qcow2_metadata.proofs.header.extensions.read_extensions.Goals as goal
 

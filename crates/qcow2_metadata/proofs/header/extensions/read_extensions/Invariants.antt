@@ -1,5 +1,4 @@
-use Rattle.std.proofs.Common.{◌+◌, ◌-◌, ◌≤◌, length, option_copied}
-use Rattle.qcow2_metadata.specs.Bytes.{byte_at}
+use Rattle.qcow2_metadata.proofs.Common.{◌+◌, ◌-◌, ◌≤◌, length, option_copied, byte_at}
 use Rattle.qcow2_metadata.proofs.Extensions.{IsReadSoFar}
 use Rattle.qcow2_metadata.proofs.header.extensions.read_extensions.Given as goal
 

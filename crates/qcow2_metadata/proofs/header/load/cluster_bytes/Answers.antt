@@ -1,4 +1,4 @@
-use Rattle.std.proofs.Common.{lit<}
+use Rattle.qcow2_metadata.proofs.Common.{lit<}
 use Rattle.qcow2_metadata.proofs.Sizes.{shift_high}
 use Rattle.qcow2_metadata.proofs.header.load.cluster_bytes.Goals as goal
 

@@ -1,7 +1,4 @@
-use Rattle.std.proofs.Common.{option_copied, refl, subst, ◌∙◌, arith, rules, tests}
-use Rattle.qcow2_metadata.specs.Bytes.{byte_at}
-use Rattle.qcow2_metadata.specs.Header.{IsWithinLimits}
-use Rattle.qcow2_metadata.specs.HeaderLoad.{AreNamed}
+use Rattle.qcow2_metadata.proofs.Common.{option_copied, refl, subst, ◌∙◌, arith, rules, tests, byte_at, IsWithinLimits, AreNamed}
 use Rattle.qcow2_metadata.proofs.ShortNames.{cluster_small, kept}
 use Rattle.qcow2_metadata.proofs.header.load.from_first_cluster.Goals as goal
 

@@ -1,5 +1,4 @@
-use Rattle.std.proofs.Common.{◌∙◌, rules, tests}
-use Rattle.qcow2_metadata.specs.Header.{IsInRange}
+use Rattle.qcow2_metadata.proofs.Common.{◌∙◌, rules, tests, IsInRange}
 use Rattle.qcow2_metadata.proofs.SameHeader.{header_read, not_formed}
 use Rattle.qcow2_metadata.proofs.header.load.read_first_cluster.Goals as goal
 

@@ -1,4 +1,4 @@
-use Rattle.std.proofs.Common.{arith}
+use Rattle.qcow2_metadata.proofs.Common.{arith}
 use Rattle.qcow2_metadata.proofs.ShortNames.{cluster_small}
 use Rattle.qcow2_metadata.proofs.header.load.require_readable.Goals as goal
 

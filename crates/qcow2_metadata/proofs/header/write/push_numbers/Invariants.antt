@@ -1,5 +1,4 @@
-use Rattle.std.proofs.Common.{◌≡◌, ◌++◌, take}
-use Rattle.qcow2_metadata.specs.HeaderWrite.{bytes_of_numbers}
+use Rattle.qcow2_metadata.proofs.Common.{◌≡◌, ◌++◌, take, bytes_of_numbers}
 use Rattle.qcow2_metadata.proofs.header.write.push_numbers.Given as goal
 
 abbrev pub invariant-loop-number : goal.invariant-loop-number

@@ -1,4 +1,4 @@
-use Rattle.qcow2_metadata.specs.Entries.{L1EntryReads}
+use Rattle.qcow2_metadata.proofs.Common.{L1EntryReads}
 use Rattle.qcow2_metadata.proofs.EntryTables.{EachReads-grown}
 use Rattle.qcow2_metadata.proofs.l1_table.L1Table.clone_and_grow.Goals as goal
 

@@ -1,4 +1,4 @@
-use Rattle.qcow2_metadata.specs.Entries.{L1EntryReads}
+use Rattle.qcow2_metadata.proofs.Common.{L1EntryReads}
 use Rattle.qcow2_metadata.proofs.EntryTables.{EachReads-set}
 use Rattle.qcow2_metadata.proofs.l1_table.L1Table.enter_l2_table.Goals as goal
 

@@ -1,8 +1,4 @@
-use Rattle.std.proofs.Common.{◌*◌, ◌^◌}
-use Rattle.std.proofs.lemmas.Result.{err_from_is_err_and}
-use Rattle.image_access.specs.Contents.{bytes_at}
-use Rattle.qcow2_metadata.specs.Entries.{L1EntryReads}
-use Rattle.qcow2_metadata.specs.EntryTable.{IsClear, PassesLimit}
+use Rattle.qcow2_metadata.proofs.Common.{◌*◌, ◌^◌, err_from_is_err_and, bytes_at, L1EntryReads, IsClear, PassesLimit}
 use Rattle.qcow2_metadata.proofs.EntryTables.{IsL1TableOf-loaded, IsReasonNotToLoad-reads, clear_l1_reads, l1_reads_clear}
 use Rattle.qcow2_metadata.proofs.l1_table.L1Table.load.Goals as goal
 

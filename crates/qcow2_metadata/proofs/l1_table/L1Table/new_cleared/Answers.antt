@@ -1,5 +1,4 @@
-use Rattle.std.proofs.Common.{refl}
-use Rattle.qcow2_metadata.specs.Entries.{L1EntryReads}
+use Rattle.qcow2_metadata.proofs.Common.{refl, L1EntryReads}
 use Rattle.qcow2_metadata.proofs.EntryTables.{EachReads-zeros}
 use Rattle.qcow2_metadata.proofs.TableEntries.{entry_at-zeros}
 use Rattle.qcow2_metadata.proofs.l1_table.L1Table.new_cleared.Goals as goal

@@ -1,7 +1,4 @@
-use Rattle.std.proofs.Common.{◌*◌, ◌^◌, List, ℕ}
-use Rattle.image_access.specs.Contents.{overwritten}
-use Rattle.qcow2_metadata.specs.Bytes.{byte_at}
-use Rattle.qcow2_metadata.specs.EntryTable.{entry_count, IsL1TableOf, NamesL1Table}
+use Rattle.qcow2_metadata.proofs.Common.{◌*◌, ◌^◌, List, ℕ, overwritten, byte_at, entry_count, IsL1TableOf, NamesL1Table}
 use Rattle.qcow2_metadata.proofs.WrittenTables.{after_write, IsL1TableOf-written}
 use Rattle.qcow2_metadata.proofs.l1_table.L1Table.write.Goals as goal
 

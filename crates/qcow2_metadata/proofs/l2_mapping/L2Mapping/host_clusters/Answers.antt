@@ -1,4 +1,4 @@
-use Rattle.std.proofs.Common.{Some, refl}
+use Rattle.qcow2_metadata.proofs.Common.{Some, refl}
 use Rattle.qcow2_metadata.proofs.NamedRuns.{named_by_value}
 use Rattle.qcow2_metadata.proofs.l2_mapping.L2Mapping.host_clusters.Goals as goal
 

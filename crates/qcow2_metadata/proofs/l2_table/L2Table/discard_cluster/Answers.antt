@@ -1,4 +1,4 @@
-use Rattle.std.proofs.Common.{◌∙◌}
+use Rattle.qcow2_metadata.proofs.Common.{◌∙◌}
 use Rattle.qcow2_metadata.proofs.MadeEntries.{cover_at-changed, cover_of-0}
 use Rattle.qcow2_metadata.proofs.l2_table.L2Table.discard_cluster.Goals as goal
 

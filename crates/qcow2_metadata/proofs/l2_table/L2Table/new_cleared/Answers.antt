@@ -1,5 +1,4 @@
-use Rattle.std.proofs.Common.{ap, ◌∙◌}
-use Rattle.qcow2_metadata.specs.TableBytes.{entry_at}
+use Rattle.qcow2_metadata.proofs.Common.{ap, ◌∙◌, entry_at}
 use Rattle.qcow2_metadata.proofs.TableEntries.{entry_at-zeros}
 use Rattle.qcow2_metadata.proofs.l2_table.L2Table.new_cleared.Goals as goal
 

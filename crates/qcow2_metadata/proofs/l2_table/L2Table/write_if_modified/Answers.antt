@@ -1,6 +1,4 @@
-use Rattle.std.proofs.Common.{◌*◌, ◌^◌, ap, ◌∙◌, subst}
-use Rattle.qcow2_metadata.specs.Bytes.{byte_at}
-use Rattle.qcow2_metadata.specs.L2Table.{IsL2Table}
+use Rattle.qcow2_metadata.proofs.Common.{◌*◌, ◌^◌, ap, ◌∙◌, subst, byte_at, IsL2Table}
 use Rattle.qcow2_metadata.proofs.TablesAt.{l2_table_at, stand_at-written}
 use Rattle.qcow2_metadata.proofs.l2_table.L2Table.write_if_modified.Goals as goal
 

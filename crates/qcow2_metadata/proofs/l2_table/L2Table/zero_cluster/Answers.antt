@@ -1,6 +1,4 @@
-use Rattle.std.proofs.Common.{◌∙◌, ap}
-use Rattle.qcow2_metadata.specs.Cover.{cover_of}
-use Rattle.qcow2_metadata.specs.L2Table.{zero_cover}
+use Rattle.qcow2_metadata.proofs.Common.{◌∙◌, ap, cover_of, zero_cover}
 use Rattle.qcow2_metadata.proofs.MadeEntries.{cover_at-changed, cover_of-zero_entry}
 use Rattle.qcow2_metadata.proofs.l2_table.L2Table.zero_cluster.Goals as goal
 

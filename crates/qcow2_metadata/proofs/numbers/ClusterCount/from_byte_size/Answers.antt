@@ -1,5 +1,4 @@
-use Rattle.std.proofs.Common.{◌∙◌, ◌%◌, ◌/◌, ◌+◌, min, ap, arith}
-use Rattle.std.proofs.lemmas.Nat.{one_shl}
+use Rattle.qcow2_metadata.proofs.Common.{◌∙◌, ◌%◌, ◌/◌, ◌+◌, min, ap, arith, one_shl}
 use Rattle.qcow2_metadata.proofs.Quotients.{div_ceil_is}
 use Rattle.qcow2_metadata.proofs.numbers.ClusterCount.from_byte_size.Goals as goal
 

@@ -1,5 +1,4 @@
-use Rattle.std.proofs.Common.{length, ◌∙◌, sym, ap, subst, arith}
-use Rattle.qcow2_metadata.specs.RefBlock.{count_in, IsRefBlock}
+use Rattle.qcow2_metadata.proofs.Common.{length, ◌∙◌, sym, ap, subst, arith, count_in, IsRefBlock}
 use Rattle.qcow2_metadata.proofs.FirstZero.{ones_within}
 use Rattle.qcow2_metadata.proofs.ref_block.RefBlock.above_zero.Goals as goal
 

@@ -1,6 +1,4 @@
-use Rattle.std.proofs.Common.{◌+◌, ◌-◌, ◌/◌, ◌^◌, ap, ◌∙◌, arith}
-use Rattle.std.proofs.lemmas.Nat.{one_shl}
-use Rattle.qcow2_metadata.specs.RefBlock.{count_limit}
+use Rattle.qcow2_metadata.proofs.Common.{◌+◌, ◌-◌, ◌/◌, ◌^◌, ap, ◌∙◌, arith, one_shl, count_limit}
 use Rattle.qcow2_metadata.proofs.Quotients.{pow_within, greatest_of}
 use Rattle.qcow2_metadata.proofs.ref_block.RefBlock.greatest_count.Goals as goal
 

@@ -1,5 +1,4 @@
-use Rattle.std.proofs.Common.{ap, ◌∙◌}
-use Rattle.qcow2_metadata.specs.RefBlock.{count_in}
+use Rattle.qcow2_metadata.proofs.Common.{ap, ◌∙◌, count_in}
 use Rattle.qcow2_metadata.proofs.RefCounts.{count_in-zeros}
 use Rattle.qcow2_metadata.proofs.ref_block.RefBlock.new_cleared.Goals as goal
 

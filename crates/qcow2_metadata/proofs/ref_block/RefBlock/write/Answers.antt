@@ -1,5 +1,4 @@
-use Rattle.std.proofs.Common.{◌≡◌, ◌*◌, ◌^◌, Some, sym, ap, ◌∙◌, subst}
-use Rattle.qcow2_metadata.specs.RefBlock.{IsRefBlock, IsRefBlockAt}
+use Rattle.qcow2_metadata.proofs.Common.{◌≡◌, ◌*◌, ◌^◌, Some, sym, ap, ◌∙◌, subst, IsRefBlock, IsRefBlockAt}
 use Rattle.qcow2_metadata.proofs.TablesAt.{ref_block_at, written_stands}
 use Rattle.qcow2_metadata.proofs.ref_block.RefBlock.write.Goals as goal
 

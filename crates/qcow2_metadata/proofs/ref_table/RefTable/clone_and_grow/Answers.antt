@@ -1,4 +1,4 @@
-use Rattle.qcow2_metadata.specs.Entries.{ReftableEntryReads}
+use Rattle.qcow2_metadata.proofs.Common.{ReftableEntryReads}
 use Rattle.qcow2_metadata.proofs.EntryTables.{EachReads-grown, entry_at-grown}
 use Rattle.qcow2_metadata.proofs.ref_table.RefTable.clone_and_grow.Goals as goal
 

@@ -1,6 +1,4 @@
-use Rattle.std.proofs.Common.{ap, arith, length}
-use Rattle.qcow2_metadata.specs.Entries.{ReftableEntryReads}
-use Rattle.qcow2_metadata.specs.EntryTable.{EntryTableView}
+use Rattle.qcow2_metadata.proofs.Common.{ap, arith, length, ReftableEntryReads, EntryTableView}
 use Rattle.qcow2_metadata.proofs.EntryTables.{EachReads-set, on_sector, room_as}
 use Rattle.qcow2_metadata.proofs.ref_table.RefTable.enter_refblock.Goals as goal
 

@@ -1,8 +1,4 @@
-use Rattle.std.proofs.Common.{◌*◌, ◌^◌, Some, ap}
-use Rattle.std.proofs.lemmas.Result.{err_from_is_err_and}
-use Rattle.image_access.specs.Contents.{bytes_at}
-use Rattle.qcow2_metadata.specs.Entries.{ReftableEntryReads}
-use Rattle.qcow2_metadata.specs.EntryTable.{EntryTableView, IsClear, PassesLimit}
+use Rattle.qcow2_metadata.proofs.Common.{◌*◌, ◌^◌, Some, ap, err_from_is_err_and, bytes_at, ReftableEntryReads, EntryTableView, IsClear, PassesLimit}
 use Rattle.qcow2_metadata.proofs.EntryTables.{IsRefTableOf-loaded, IsReasonNotToLoad-reads, clear_reftable_reads, passes_further, reftable_reads_clear, room_as}
 use Rattle.qcow2_metadata.proofs.ref_table.RefTable.load.Goals as goal
 

@@ -1,5 +1,4 @@
-use Rattle.std.proofs.Common.{refl}
-use Rattle.qcow2_metadata.specs.Entries.{ReftableEntryReads}
+use Rattle.qcow2_metadata.proofs.Common.{refl, ReftableEntryReads}
 use Rattle.qcow2_metadata.proofs.EntryTables.{EachReads-zeros}
 use Rattle.qcow2_metadata.proofs.TableEntries.{entry_at-zeros}
 use Rattle.qcow2_metadata.proofs.ref_table.RefTable.new_cleared.Goals as goal

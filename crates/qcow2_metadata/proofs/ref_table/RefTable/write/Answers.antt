@@ -1,7 +1,4 @@
-use Rattle.std.proofs.Common.{◌*◌, ◌^◌, List, ℕ}
-use Rattle.image_access.specs.Contents.{overwritten}
-use Rattle.qcow2_metadata.specs.Bytes.{byte_at}
-use Rattle.qcow2_metadata.specs.EntryTable.{entry_count, IsRefTableOf, NamesRefTable}
+use Rattle.qcow2_metadata.proofs.Common.{◌*◌, ◌^◌, List, ℕ, overwritten, byte_at, entry_count, IsRefTableOf, NamesRefTable}
 use Rattle.qcow2_metadata.proofs.WrittenTables.{after_write, IsRefTableOf-written}
 use Rattle.qcow2_metadata.proofs.ref_table.RefTable.write.Goals as goal
 

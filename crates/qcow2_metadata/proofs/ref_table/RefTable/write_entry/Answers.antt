@@ -1,9 +1,4 @@
-use Rattle.std.proofs.Common.{◌+◌, ◌*◌, ◌^◌, ◌<◌, List, ℕ}
-use Rattle.std.specs.Int.{w64, to_be_bytes}
-use Rattle.image_access.specs.Contents.{overwritten}
-use Rattle.qcow2_metadata.specs.Bytes.{byte_at}
-use Rattle.qcow2_metadata.specs.TableBytes.{entry_at}
-use Rattle.qcow2_metadata.specs.EntryTable.{entry_count, IsRefTableOf, IsRefTableBut, NamesRefTable}
+use Rattle.qcow2_metadata.proofs.Common.{◌+◌, ◌*◌, ◌^◌, ◌<◌, List, ℕ, w64, to_be_bytes, overwritten, byte_at, entry_at, entry_count, IsRefTableOf, IsRefTableBut, NamesRefTable}
 use Rattle.qcow2_metadata.proofs.WrittenTables.{after_write, IsRefTableOf-written_entry}
 use Rattle.qcow2_metadata.proofs.ref_table.RefTable.write_entry.Goals as goal
 
