@@ -1,22 +1,6 @@
 -- Storage writes outside of the caches' modified tables: the known contents change as the storage does.
-use Rattle.std.proofs.Common.{◌≡◌, ℕ, ◌+◌, ◌*◌, ◌/◌, ◌<◌, ◌≤◌, ◌⊎◌, inl, inr, List, length, refl, sym, ap, ◌∙◌, arith}
-use Rattle.std.proofs.lemmas.Bool.{cases_lt}
-use Rattle.std.proofs.lemmas.Nat.{div-mul-add}
-use Rattle.image_access.specs.Contents.{overwritten}
+use Rattle.qcow2_laws.proofs.Common.{◌≡◌, ℕ, ◌+◌, ◌*◌, ◌/◌, ◌<◌, ◌≤◌, ◌⊎◌, inl, inr, List, length, refl, sym, ap, ◌∙◌, arith, cases_lt, div-mul-add, overwritten, Bytes, byte_at, HeaderFields, header, HeaderReads, cluster_size, reftable_entries, l1_entry, reftable_entry, in_cluster, CachedTable, IsOfHeaderRest, GivenBytes, Direction, Pending, SameIn, IsUnnamed, MayChange, IsWritten, Places, with_places, IsSameBut, WritesL1Entry, WritesReftableEntry, WritesHeader, known_bytes, IsFreeOf, CacheInvariantOver, AreNamedBlocks}
 use Rattle.image_access.proofs.Bytes.{byte_at-overwritten_outside}
-use Rattle.qcow2_metadata.specs.Bytes.{Bytes, byte_at}
-use Rattle.qcow2_metadata.specs.declared.header.HeaderFields.{HeaderFields}
-use Rattle.qcow2_metadata.specs.Header.{header, HeaderReads, cluster_size, reftable_entries}
-use Rattle.qcow2_metadata.specs.Entries.{l1_entry, reftable_entry}
-use Rattle.qcow2_metadata.specs.Named.{in_cluster}
-use Rattle.qcow2_metadata.specs.Tables.{CachedTable}
-use Rattle.qcow2_disk.specs.HeaderRest.{IsOfHeaderRest}
-use Rattle.qcow2_disk.specs.Stops.{GivenBytes}
-use Rattle.qcow2_laws.specs.Clusters.{Direction}
-use Rattle.qcow2_laws.specs.CrashInvariant.{Pending, SameIn}
-use Rattle.qcow2_laws.specs.Writes.{IsUnnamed, MayChange, IsWritten}
-use Rattle.qcow2_laws.specs.Tops.{Places, with_places, IsSameBut, WritesL1Entry, WritesReftableEntry, WritesHeader}
-use Rattle.qcow2_laws.specs.Caches.{known_bytes, IsFreeOf, CacheInvariantOver, AreNamedBlocks}
 use Rattle.qcow2_laws.proofs.Places.{Sizes, l1-same, reftable-same}
 use Rattle.qcow2_laws.proofs.Consistency.{in_own}
 use Rattle.qcow2_laws.proofs.Shares.{in_l1, in_reftable, l1_has, reftable_has}

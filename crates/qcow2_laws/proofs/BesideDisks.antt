@@ -1,20 +1,6 @@
 -- What a guest sees of an image with an external data file: bytes of that file where the image has data, and no byte of a table.
-use Rattle.std.proofs.Common.{◌≡◌, ℕ, ◌+◌, ◌*◌, ◌/◌, ◌%◌, ◌≢◌, Bool, true, false, cond, eqb, refl, sym, ap, ◌∙◌, arith, subst, inl, inr}
-use Rattle.std.proofs.lemmas.Bool.{cases_eq, cond-true, cond-false, eq-eqb, ne_eqb}
-use mathlib.Core.Path.{fun_ext}
-use Rattle.std.specs.Prelude.{Option, Some, None}
-use Rattle.qcow2_metadata.specs.Bytes.{Bytes}
-use Rattle.qcow2_metadata.specs.declared.header.HeaderFields.{HeaderFields}
-use Rattle.qcow2_metadata.specs.Header.{header, cluster_size, with_reftable}
-use Rattle.qcow2_metadata.specs.Cover.{cover, cover_under}
-use Rattle.qcow2_metadata.specs.Entries.{l1_entry}
-use Rattle.qcow2_metadata.specs.Guest.{Value, known_byte, value_under, guest_value}
-use Rattle.qcow2_metadata.specs.declared.l2_mapping.L2Mapping.{L2Mapping}
-use Rattle.qcow2_metadata.specs.declared.l2_mapping.L2Mapping.TheVariants.{Data, Zero, Compressed, Uncovered}
-use Rattle.qcow2_disk.specs.Disk.{Disk, disk_with}
+use Rattle.qcow2_laws.proofs.Common.{◌≡◌, ℕ, ◌+◌, ◌*◌, ◌/◌, ◌%◌, ◌≢◌, Bool, true, false, cond, eqb, refl, sym, ap, ◌∙◌, arith, subst, inl, inr, cases_eq, cond-true, cond-false, eq-eqb, ne_eqb, fun_ext, Option, Some, None, Bytes, HeaderFields, header, cluster_size, with_reftable, cover, cover_under, l1_entry, Value, known_byte, value_under, guest_value, L2Mapping, Data, Zero, Compressed, Uncovered, Disk, disk_with, DriverState, StateInvariant, IsInternal, KeepsFormat, with_cluster}
 use Rattle.qcow2_laws.specs.Beside.{StandsAtGuest}
-use Rattle.qcow2_laws.specs.SafeSteps.{DriverState, StateInvariant}
-use Rattle.qcow2_laws.specs.Internal.{IsInternal, KeepsFormat, with_cluster}
 use Rattle.qcow2_laws.proofs.Internal.{known_header}
 
 -- but for compressed data no cover shows a byte of the image itself

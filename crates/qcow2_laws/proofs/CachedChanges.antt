@@ -1,27 +1,8 @@
 -- Changes of a cached table's bytes, as changes of the known contents.
-use Rattle.std.proofs.Common.{◌≡◌, ℕ, ◌+◌, ◌-◌, ◌/◌, ◌%◌, ◌<◌, ◌≤◌, ◌≢◌, Bool, true, false, cond, inl, inr, List, Some, None, refl, sym, ap, ◌∙◌, subst, arith, max}
-use Rattle.std.proofs.lemmas.Bool.{cases_eq, cases_lt, eq-eqb, ne_eqb, cond-true, cond-false}
-use Rattle.std.proofs.lemmas.Nat.{mod_below}
-use Rattle.qcow2_metadata.specs.Bytes.{Bytes}
-use Rattle.qcow2_metadata.specs.declared.header.HeaderFields.{HeaderFields}
-use Rattle.qcow2_metadata.specs.Header.{cluster_size, entries_per_cluster, count_width, counts_per_block, has_data_file}
-use Rattle.qcow2_metadata.specs.Entries.{l2_entry, block_count, host_offset}
-use Rattle.qcow2_metadata.specs.Cover.{cover, entry_cover}
-use Rattle.qcow2_metadata.specs.Guest.{guest_value, value_under}
-use Rattle.qcow2_metadata.specs.Named.{in_cluster}
-use Rattle.qcow2_metadata.specs.Named.{named_by_cover}
-use Rattle.qcow2_laws.specs.Guests.{named_by_guest, marked_by_cover}
-use Rattle.qcow2_metadata.specs.Consistent.{CoverIsAligned}
+use Rattle.qcow2_laws.proofs.Common.{◌≡◌, ℕ, ◌+◌, ◌-◌, ◌/◌, ◌%◌, ◌<◌, ◌≤◌, ◌≢◌, Bool, true, false, cond, inl, inr, List, Some, None, refl, sym, ap, ◌∙◌, subst, arith, max, cases_eq, cases_lt, eq-eqb, ne_eqb, cond-true, cond-false, mod_below, Bytes, HeaderFields, cluster_size, entries_per_cluster, count_width, counts_per_block, has_data_file, l2_entry, block_count, host_offset, cover, entry_cover, guest_value, value_under, in_cluster, named_by_cover, named_by_guest, marked_by_cover, CoverIsAligned, L2Mapping, Data, Zero, Compressed, Uncovered, names, marks, table_at, marked_by_guest, one_at, IsSameOutside, DriverState, StateInvariant, block_of, CountRises, CountFalls, EntryChanges, guest_at}
 use Rattle.qcow2_metadata.specs.TableBytes.{entry_at, ChangesEntry}
 use Rattle.qcow2_metadata.specs.RefBlock.{count_in, ChangesCount}
 use Rattle.qcow2_metadata.specs.L2Table.{copied_host}
-use Rattle.qcow2_metadata.specs.declared.l2_mapping.L2Mapping.{L2Mapping}
-use Rattle.qcow2_metadata.specs.declared.l2_mapping.L2Mapping.TheVariants.{Data, Zero, Compressed, Uncovered}
-use Rattle.qcow2_laws.specs.Guests.{names, marks, table_at, marked_by_guest}
-use Rattle.qcow2_laws.specs.Changes.{one_at}
-use Rattle.qcow2_laws.specs.Tops.{IsSameOutside}
-use Rattle.qcow2_laws.specs.SafeSteps.{DriverState, StateInvariant}
-use Rattle.qcow2_laws.specs.Steps.{block_of, CountRises, CountFalls, EntryChanges, guest_at}
 use Rattle.qcow2_laws.proofs.Places.{Sizes, Sizes-from, count_in as count_found, cover_at}
 use Rattle.qcow2_laws.proofs.Guests.{uncovered_names, uncovered_marks, own_names, own_marks, own_data_of, guest_le, names_within}
 use Rattle.qcow2_laws.proofs.Writes.{new_data_is_unnamed}

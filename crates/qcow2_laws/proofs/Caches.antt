@@ -1,19 +1,5 @@
 -- A cached table is written: the invariant holds, the known contents stay the same, and a stop is as safe as before.
-use Rattle.std.proofs.Common.{◌≡◌, ℕ, ◌+◌, ◌/◌, ◌<◌, ◌≤◌, ◌≢◌, ◌⊎◌, inl, inr, List, ◌∷◌, ◌++◌, true, refl, sym, ap, subst, ◌∙◌, arith}
-use mathlib.Core.Path.{fun_ext}
-use Rattle.std.proofs.lemmas.Bool.{cases_eq}
-use Rattle.qcow2_metadata.specs.Bytes.{Bytes}
-use Rattle.qcow2_metadata.specs.declared.header.HeaderFields.{HeaderFields}
-use Rattle.qcow2_metadata.specs.Header.{cluster_size, entries_per_cluster, counts_per_block}
-use Rattle.qcow2_metadata.specs.Entries.{l1_entry, is_copied, reftable_entry, host_offset, block_offset}
-use Rattle.qcow2_metadata.specs.Cover.{cover}
-use Rattle.qcow2_metadata.specs.Named.{in_cluster, named_for_tables, named_by_reftable, named_by_l1_table}
-use Rattle.qcow2_metadata.specs.Tables.{CachedTable, known}
-use Rattle.qcow2_laws.specs.Clusters.{Direction, Neither, L2DependsOnRb, RbDependsOnL2}
-use Rattle.qcow2_laws.specs.Guests.{table_at}
-use Rattle.qcow2_laws.specs.CrashInvariant.{Pending, CrashInvariant, SameTop, SameIn, IsPartly, SameCovers, SameCounts, IsInOrder, IsMixed, MayTurn}
-use Rattle.qcow2_laws.specs.Writes.{IsUnnamed}
-use Rattle.qcow2_laws.specs.Caches.{known_bytes, IsFreeAt, IsFreeOf, AreApart, AreClean, HasOwnL2, HasBlock, CacheInvariantOver, BlocksMayGo, TablesMayGo, IsWrittenSo, InternalTableWrite, AreNamedBlocks}
+use Rattle.qcow2_laws.proofs.Common.{◌≡◌, ℕ, ◌+◌, ◌/◌, ◌<◌, ◌≤◌, ◌≢◌, ◌⊎◌, inl, inr, List, ◌∷◌, ◌++◌, true, refl, sym, ap, subst, ◌∙◌, arith, fun_ext, cases_eq, Bytes, HeaderFields, cluster_size, entries_per_cluster, counts_per_block, l1_entry, is_copied, reftable_entry, host_offset, block_offset, cover, in_cluster, named_for_tables, named_by_reftable, named_by_l1_table, CachedTable, known, Direction, Neither, L2DependsOnRb, RbDependsOnL2, table_at, Pending, CrashInvariant, SameTop, SameIn, IsPartly, SameCovers, SameCounts, IsInOrder, IsMixed, MayTurn, IsUnnamed, known_bytes, IsFreeAt, IsFreeOf, AreApart, AreClean, HasOwnL2, HasBlock, CacheInvariantOver, BlocksMayGo, TablesMayGo, IsWrittenSo, InternalTableWrite, AreNamedBlocks}
 use Rattle.qcow2_laws.proofs.Places.{Sizes, Sizes-from}
 use Rattle.qcow2_laws.proofs.Tops.{for_tables-top}
 use Rattle.qcow2_laws.proofs.Mixes.{top_kept, mixed_crash_invariant, mixed_either, turned_crash_invariant}

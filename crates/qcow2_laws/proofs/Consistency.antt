@@ -1,20 +1,5 @@
 -- An image with the crash invariant is consistent, and a consistent image has the crash invariant.
-use Rattle.std.proofs.Common.{◌≡◌, ℕ, ◌+◌, ◌*◌, ◌/◌, ◌%◌, ◌<◌, ◌≢◌, Bool, false, true, cond, eqb, ap, refl, sym, ◌∙◌, arith, subst}
-use Rattle.std.specs.Prelude.{IsTrue, Option, Some, None}
-use Rattle.std.proofs.lemmas.Bool.{eq-eqb, ne_eqb, cond-true, cond-false}
-use Rattle.qcow2_metadata.specs.Bytes.{Bytes}
-use Rattle.qcow2_metadata.specs.declared.header.HeaderFields.{HeaderFields}
-use Rattle.qcow2_metadata.specs.Header.{header, cluster_size, entries_per_cluster, has_data_file}
-use Rattle.qcow2_metadata.specs.Entries.{l1_entry, is_copied, count}
-use Rattle.qcow2_metadata.specs.Cover.{cover}
-use Rattle.qcow2_metadata.specs.Named.{named, table_in, in_cluster}
-use Rattle.qcow2_metadata.specs.Consistent.{Consistent, IsConsistent, EachCover, CoverIsAligned, KeptIsOwn, CopiedIsOwn}
-use Rattle.qcow2_metadata.specs.declared.l2_mapping.L2Mapping.{L2Mapping}
-use Rattle.qcow2_metadata.specs.declared.l2_mapping.L2Mapping.TheVariants.{Data, Zero, Compressed, Uncovered}
-use Rattle.qcow2_disk.specs.Stops.{Checkpoint, StopOkEverywhere}
-use Rattle.qcow2_laws.specs.Clusters.{Direction}
-use Rattle.qcow2_laws.specs.Guests.{over_guests, marks, marked_by_cover, marked_by_guest, marked_by_kept, marked_by_l1_table, table_at}
-use Rattle.qcow2_laws.specs.CrashInvariant.{Pending, cluster, CrashInvariant}
+use Rattle.qcow2_laws.proofs.Common.{◌≡◌, ℕ, ◌+◌, ◌*◌, ◌/◌, ◌%◌, ◌<◌, ◌≢◌, Bool, false, true, cond, eqb, ap, refl, sym, ◌∙◌, arith, subst, IsTrue, Option, Some, None, eq-eqb, ne_eqb, cond-true, cond-false, Bytes, HeaderFields, header, cluster_size, entries_per_cluster, has_data_file, l1_entry, is_copied, count, cover, named, table_in, in_cluster, Consistent, IsConsistent, EachCover, CoverIsAligned, KeptIsOwn, CopiedIsOwn, L2Mapping, Data, Zero, Compressed, Uncovered, Checkpoint, StopOkEverywhere, Direction, over_guests, marks, marked_by_cover, marked_by_guest, marked_by_kept, marked_by_l1_table, table_at, Pending, cluster, CrashInvariant}
 use Rattle.qcow2_laws.proofs.Sums.{term_le-sum_below}
 use Rattle.qcow2_laws.proofs.Places.{Sizes, Sizes-from, cover_at}
 use Rattle.qcow2_laws.proofs.Clusters.{Fine, fine}

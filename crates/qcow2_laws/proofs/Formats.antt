@@ -1,15 +1,5 @@
 -- What stays the same if the header does, except the pointer to the reftable.
-use Rattle.std.proofs.Common.{◌≡◌, ℕ, refl, ap, sym, ◌∙◌}
-use Rattle.qcow2_metadata.specs.Bytes.{Bytes}
-use Rattle.qcow2_metadata.specs.declared.header.HeaderFields.{HeaderFields}
-use Rattle.qcow2_metadata.specs.Header.{cluster_size, with_reftable}
-use Rattle.qcow2_metadata.specs.Entries.{l1_entry}
-use Rattle.qcow2_metadata.specs.Cover.{cover, cover_under}
-use Rattle.qcow2_metadata.specs.Guest.{guest_value}
-use Rattle.qcow2_laws.specs.Guests.{named_by_guest}
-use Rattle.qcow2_laws.specs.Guests.{over_guests, guests, names, marks, marked_by_guest, marked_by_l1_table}
-use Rattle.qcow2_laws.specs.CrashInvariant.{SameCovers}
-use Rattle.qcow2_laws.specs.Internal.{KeepsFormat}
+use Rattle.qcow2_laws.proofs.Common.{◌≡◌, ℕ, refl, ap, sym, ◌∙◌, Bytes, HeaderFields, cluster_size, with_reftable, l1_entry, cover, cover_under, guest_value, named_by_guest, over_guests, guests, names, marks, marked_by_guest, marked_by_l1_table, SameCovers, KeepsFormat}
 use Rattle.qcow2_laws.proofs.Guests.{over_guests-same}
 
 -- ---- the same header, one step after another, and back

@@ -1,19 +1,7 @@
 -- What guests keep over steps.
-use Rattle.std.proofs.Common.{◌≡◌, ℕ, ◌+◌, ◌-◌, ◌*◌, ◌/◌, ◌≤◌, List, [], ◌∷◌, refl, sym, ap, ◌∙◌, arith, inl, inr, subst}
-use Rattle.std.proofs.lemmas.Bool.{cases_lt}
-use Rattle.std.proofs.lemmas.Nat.{pow_pos, le-div}
-use Rattle.image_access.proofs.EachMomentSince.{passes_if}
-use Rattle.qcow2_metadata.specs.Bytes.{Bytes, byte_at}
-use Rattle.qcow2_metadata.specs.Header.{header, cluster_size}
-use Rattle.qcow2_metadata.specs.Guest.{known_byte, guest_value, value_under}
-use Rattle.qcow2_disk.specs.Disk.{disk, disk_with}
-use Rattle.qcow2_disk.specs.Stops.{GivenBytes, Checkpoint, checkpoint_with, StopOkEverywhere}
-use Rattle.qcow2_disk.specs.Mappings.{given_shown}
-use Rattle.qcow2_laws.specs.Guests.{guests}
-use Rattle.qcow2_laws.specs.SafeSteps.{DriverState, StateInvariant}
+use Rattle.qcow2_laws.proofs.Common.{◌≡◌, ℕ, ◌+◌, ◌-◌, ◌*◌, ◌/◌, ◌≤◌, List, [], ◌∷◌, refl, sym, ap, ◌∙◌, arith, inl, inr, subst, cases_lt, pow_pos, le-div, passes_if, Bytes, byte_at, header, cluster_size, known_byte, guest_value, value_under, disk, disk_with, GivenBytes, Checkpoint, checkpoint_with, StopOkEverywhere, given_shown, guests, DriverState, StateInvariant, LongerL1TableKeepsGuests, SizeStaysUnlessAsked, HasSizeSince}
 use Rattle.qcow2_disk.specs.AbstractImages.{AbstractImage, stored_bytes}
 use Rattle.qcow2_disk.specs.Calls.{EffectOnSound, StartsAt}
-use Rattle.qcow2_laws.specs.GuestLaws.{LongerL1TableKeepsGuests, SizeStaysUnlessAsked, HasSizeSince}
 use Rattle.qcow2_laws.proofs.Places.{Sizes-from}
 use Rattle.qcow2_laws.proofs.Guests.{past_guests}
 use Rattle.qcow2_laws.proofs.Consistency.{crash_invariant_consistent, known_consistent}

@@ -1,17 +1,5 @@
 -- Sums over all guest clusters.
-use Rattle.std.proofs.Common.{◌≡◌, ℕ, ◌+◌, ◌*◌, ◌/◌, ◌%◌, ◌<◌, ◌≤◌, ◌≢◌, ◌^◌, Bool, true, false, cond, eqb, sym, ap, ◌∙◌, refl, arith, inl, inr}
-use Rattle.std.specs.Prelude.{Option, Some, None}
-use Rattle.std.proofs.lemmas.Bool.{cases_eq, cases_lt, ne_eqb, cond-false, cond-true, eq-eqb}
-use Rattle.std.proofs.lemmas.Nat.{div-mul-add, div-add-mod', mod_below, mul-le}
-use Rattle.qcow2_metadata.specs.Bytes.{Bytes, sum_below}
-use Rattle.qcow2_metadata.specs.declared.header.HeaderFields.{HeaderFields}
-use Rattle.qcow2_metadata.specs.Header.{entries_per_cluster, has_data_file}
-use Rattle.qcow2_metadata.specs.Entries.{l1_entry, l2_entry, is_copied}
-use Rattle.qcow2_metadata.specs.Cover.{cover, entry_cover}
-use Rattle.qcow2_metadata.specs.Named.{in_cluster, table_in, named_by_cover, named_by_kept, named_by_l2_table, named_by_l2_tables, named_by_l1_table, named_for_tables, named}
-use Rattle.qcow2_metadata.specs.declared.l2_mapping.L2Mapping.{L2Mapping}
-use Rattle.qcow2_metadata.specs.declared.l2_mapping.L2Mapping.TheVariants.{Data, Zero, Compressed, Uncovered}
-use Rattle.qcow2_laws.specs.Guests.{guests, over_guests, marked_by_kept, marked_by_cover, named_by_guest, marked_by_guest, names, table_at, marked_by_l1_table}
+use Rattle.qcow2_laws.proofs.Common.{◌≡◌, ℕ, ◌+◌, ◌*◌, ◌/◌, ◌%◌, ◌<◌, ◌≤◌, ◌≢◌, ◌^◌, Bool, true, false, cond, eqb, sym, ap, ◌∙◌, refl, arith, inl, inr, Option, Some, None, cases_eq, cases_lt, ne_eqb, cond-false, cond-true, eq-eqb, div-mul-add, div-add-mod', mod_below, mul-le, Bytes, sum_below, HeaderFields, entries_per_cluster, has_data_file, l1_entry, l2_entry, is_copied, cover, entry_cover, in_cluster, table_in, named_by_cover, named_by_kept, named_by_l2_table, named_by_l2_tables, named_by_l1_table, named_for_tables, named, L2Mapping, Data, Zero, Compressed, Uncovered, guests, over_guests, marked_by_kept, marked_by_cover, named_by_guest, marked_by_guest, names, table_at, marked_by_l1_table}
 use Rattle.qcow2_laws.proofs.Sums.{sum_below-le, sum_below-same, sum_below-zero, sum_below-change, sum_below-rows, term_le-sum_below, two_terms_le-sum_below, some_term}
 use Rattle.qcow2_laws.proofs.Places.{Sizes, l1_entry-past, cover_none, cover_at}
 

@@ -1,20 +1,5 @@
 -- Fields of the header are written: the size, or the pointer to the L1 table.
-use Rattle.std.proofs.Common.{◌≡◌, ℕ, ◌+◌, ◌*◌, ◌/◌, ◌<◌, ◌≤◌, ◌≢◌, ◌⊎◌, inl, inr, List, [], refl, sym, ap, ◌∙◌, arith, subst}
-use Rattle.std.proofs.lemmas.Bool.{cases_lt}
-use Rattle.std.proofs.lemmas.Nat.{div-mul-add}
-use Rattle.qcow2_metadata.specs.Bytes.{Bytes}
-use Rattle.qcow2_metadata.specs.declared.header.HeaderFields.{HeaderFields}
-use Rattle.qcow2_metadata.specs.Header.{header, HeaderReads, cluster_size}
-use Rattle.qcow2_metadata.specs.Entries.{l1_entry, reftable_entry, count, count_under, host_offset, block_offset, L1EntryReads, ReftableEntryReads}
-use Rattle.qcow2_metadata.specs.Cover.{cover, cover_under}
-use Rattle.qcow2_metadata.specs.Named.{in_cluster, named_for_tables, named_by_header, named_by_reftable, named_by_l1_table}
-use Rattle.qcow2_metadata.specs.Consistent.{IsAligned}
-use Rattle.qcow2_disk.specs.HeaderRest.{IsOfHeaderRest}
-use Rattle.qcow2_disk.specs.Stops.{IsAsked, Checkpoint, checkpoint_with, StopOkEverywhere}
-use Rattle.qcow2_laws.specs.Clusters.{Direction}
-use Rattle.qcow2_laws.specs.Guests.{named_in_either, marked_by_l1_table}
-use Rattle.qcow2_laws.specs.CrashInvariant.{Pending, CrashInvariant, IsTop, SameTop, SameCovers, SameCounts, SameIn}
-use Rattle.qcow2_laws.specs.Tops.{Places, with_places, KeepsCovers, IsSameBut, IsSameOutside, WritesHeader, WritesAt, resized_places}
+use Rattle.qcow2_laws.proofs.Common.{◌≡◌, ℕ, ◌+◌, ◌*◌, ◌/◌, ◌<◌, ◌≤◌, ◌≢◌, ◌⊎◌, inl, inr, List, [], refl, sym, ap, ◌∙◌, arith, subst, cases_lt, div-mul-add, Bytes, HeaderFields, header, HeaderReads, cluster_size, l1_entry, reftable_entry, count, count_under, host_offset, block_offset, L1EntryReads, ReftableEntryReads, cover, cover_under, in_cluster, named_for_tables, named_by_header, named_by_reftable, named_by_l1_table, IsAligned, IsOfHeaderRest, IsAsked, Checkpoint, checkpoint_with, StopOkEverywhere, Direction, named_in_either, marked_by_l1_table, Pending, CrashInvariant, IsTop, SameTop, SameCovers, SameCounts, SameIn, Places, with_places, KeepsCovers, IsSameBut, IsSameOutside, WritesHeader, WritesAt, resized_places}
 use Rattle.qcow2_laws.proofs.Places.{Sizes, Sizes-from}
 use Rattle.qcow2_laws.proofs.Tops.{IsTop-top, for_tables-top, l1_names-same, reftable_names-same, l1_marks-same}
 use Rattle.qcow2_laws.proofs.Consistency.{in_own}

@@ -1,21 +1,5 @@
 -- Steps of the driver that guests don't see.
-use Rattle.std.proofs.Common.{◌≡◌, ℕ, ◌+◌, ◌*◌, ◌/◌, ◌<◌, ◌≤◌, ◌≢◌, ◌⊎◌, refl, sym, ap, ◌∙◌, arith, inl, inr, subst}
-use mathlib.Core.Path.{fun_ext}
-use Rattle.qcow2_metadata.specs.Bytes.{Bytes}
-use Rattle.qcow2_metadata.specs.declared.header.HeaderFields.{HeaderFields}
-use Rattle.qcow2_metadata.specs.Header.{header, cluster_size}
-use Rattle.qcow2_metadata.specs.Entries.{l1_entry}
-use Rattle.qcow2_metadata.specs.Cover.{cover}
-use Rattle.qcow2_metadata.specs.Named.{named_for_tables}
-use Rattle.qcow2_laws.specs.Guests.{named_by_guest}
-use Rattle.qcow2_disk.specs.Disk.{disk, disk_with}
-use Rattle.qcow2_laws.specs.Guests.{over_guests, names, named_in_either}
-use Rattle.qcow2_laws.specs.CrashInvariant.{SameCovers, SameIn}
-use Rattle.qcow2_laws.specs.Tops.{IsSameOutside, WritesL1Entry, IsNewTable, WritesReftableEntry}
-use Rattle.qcow2_laws.specs.Writes.{IsUnnamed}
-use Rattle.qcow2_laws.specs.SafeSteps.{DriverState, StateInvariant}
-use Rattle.qcow2_laws.specs.Steps.{block_of}
-use Rattle.qcow2_laws.specs.Internal.{used_by_guests, SameUsedBytes, KeepsFormat, IsInternal, SameL1Table}
+use Rattle.qcow2_laws.proofs.Common.{◌≡◌, ℕ, ◌+◌, ◌*◌, ◌/◌, ◌<◌, ◌≤◌, ◌≢◌, ◌⊎◌, refl, sym, ap, ◌∙◌, arith, inl, inr, subst, fun_ext, Bytes, HeaderFields, header, cluster_size, l1_entry, cover, named_for_tables, named_by_guest, disk, disk_with, over_guests, names, named_in_either, SameCovers, SameIn, IsSameOutside, WritesL1Entry, IsNewTable, WritesReftableEntry, IsUnnamed, DriverState, StateInvariant, block_of, used_by_guests, SameUsedBytes, KeepsFormat, IsInternal, SameL1Table}
 use Rattle.qcow2_laws.proofs.Places.{Sizes-from}
 use Rattle.qcow2_laws.proofs.Guests.{own_data_of, over_guests-same, guest_le, names_within}
 use Rattle.qcow2_laws.proofs.Formats.{format_refl, format_same, format_then, size_format, l1_format, covers_format, guests_format, value_format}

@@ -1,27 +1,6 @@
 -- A cluster that a zero entry keeps: bytes are written into it, and it becomes data.
-use Rattle.std.proofs.Common.{◌≡◌, ℕ, ◌+◌, ◌-◌, ◌*◌, ◌/◌, ◌%◌, ◌<◌, ◌≤◌, ◌⊎◌, true, List, [], ◌∷◌, length, sym, ap, ◌∙◌, arith, inl, inr, subst}
-use Rattle.std.specs.Prelude.{Some}
-use mathlib.Core.Path.{fun_ext}
-use Rattle.std.proofs.lemmas.Nat.{div-mul-add, mod-mul-add, mod_below, pow_pos}
-use Rattle.qcow2_metadata.specs.Bytes.{Bytes, byte_at}
-use Rattle.qcow2_metadata.specs.Header.{cluster_size}
-use Rattle.qcow2_metadata.specs.Cover.{cover}
-use Rattle.qcow2_metadata.specs.Guest.{Value, known_byte, value_under}
-use Rattle.qcow2_metadata.specs.Named.{in_cluster}
+use Rattle.qcow2_laws.proofs.Common.{◌≡◌, ℕ, ◌+◌, ◌-◌, ◌*◌, ◌/◌, ◌%◌, ◌<◌, ◌≤◌, ◌⊎◌, true, List, [], ◌∷◌, length, sym, ap, ◌∙◌, arith, inl, inr, subst, Some, fun_ext, div-mul-add, mod-mul-add, mod_below, pow_pos, Bytes, byte_at, cluster_size, cover, Value, known_byte, value_under, in_cluster, named_by_guest, CoverIsAligned, Data, Zero, disk, IsGiven, given_of, names, marks, marked_by_guest, named_in_either, Pending, WritesAt, DriverState, StateInvariant, SafeStep, guest_at, EntryChanges, used_by_guests, Kept, IsHostedAt, WritesRun, KeptClusterIsWritten, KeptClusterIsCommitted}
 use Rattle.qcow2_laws.proofs.Guests.{own_names, own_marks, own_data_of}
-use Rattle.qcow2_laws.specs.Guests.{named_by_guest}
-use Rattle.qcow2_metadata.specs.Consistent.{CoverIsAligned}
-use Rattle.qcow2_metadata.specs.declared.l2_mapping.L2Mapping.TheVariants.{Data, Zero}
-use Rattle.qcow2_disk.specs.Disk.{disk}
-use Rattle.qcow2_disk.specs.Stops.{IsGiven}
-use Rattle.qcow2_disk.specs.Mappings.{given_of}
-use Rattle.qcow2_laws.specs.Guests.{names, marks, marked_by_guest, named_in_either}
-use Rattle.qcow2_laws.specs.CrashInvariant.{Pending}
-use Rattle.qcow2_laws.specs.Tops.{WritesAt}
-use Rattle.qcow2_laws.specs.SafeSteps.{DriverState, StateInvariant, SafeStep}
-use Rattle.qcow2_laws.specs.Steps.{guest_at, EntryChanges}
-use Rattle.qcow2_laws.specs.Internal.{used_by_guests}
-use Rattle.qcow2_laws.specs.GuestLaws.{Kept, IsHostedAt, WritesRun, KeptClusterIsWritten, KeptClusterIsCommitted}
 use Rattle.qcow2_laws.proofs.Places.{in_one}
 use Rattle.qcow2_laws.proofs.Mixes.{tied}
 use Rattle.qcow2_laws.proofs.Consistency.{in_own}

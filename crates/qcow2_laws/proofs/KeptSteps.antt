@@ -1,16 +1,5 @@
 -- The invariant of the caches, after their tables or the bytes under them changed.
-use Rattle.std.proofs.Common.{◌≡◌, ℕ, ◌/◌, ◌%◌, ◌≢◌, ◌⊎◌, inl, inr, List, [], ◌∷◌, ◌++◌, false, sym, ap, subst, ◌∙◌, max}
-use Rattle.std.proofs.lemmas.Bool.{cases_eq}
-use Rattle.qcow2_metadata.specs.Bytes.{Bytes}
-use Rattle.qcow2_metadata.specs.declared.header.HeaderFields.{HeaderFields}
-use Rattle.qcow2_metadata.specs.Header.{cluster_size}
-use Rattle.qcow2_metadata.specs.Tables.{CachedTable, known, overlays}
-use Rattle.qcow2_laws.specs.Guests.{named_by_guest}
-use Rattle.qcow2_laws.specs.Clusters.{Direction}
-use Rattle.qcow2_laws.specs.Guests.{names}
-use Rattle.qcow2_laws.specs.CrashInvariant.{Pending, CrashInvariant, SameCovers}
-use Rattle.qcow2_laws.specs.Writes.{IsUnnamed}
-use Rattle.qcow2_laws.specs.Caches.{known_bytes, IsFreeAt, IsFreeOf, AreApart, HasOwnL2, HasBlock, CacheInvariantOver, AreNamedBlocks}
+use Rattle.qcow2_laws.proofs.Common.{◌≡◌, ℕ, ◌/◌, ◌%◌, ◌≢◌, ◌⊎◌, inl, inr, List, [], ◌∷◌, ◌++◌, false, sym, ap, subst, ◌∙◌, max, cases_eq, Bytes, HeaderFields, cluster_size, CachedTable, known, overlays, named_by_guest, Direction, names, Pending, CrashInvariant, SameCovers, IsUnnamed, known_bytes, IsFreeAt, IsFreeOf, AreApart, HasOwnL2, HasBlock, CacheInvariantOver, AreNamedBlocks}
 use Rattle.qcow2_laws.proofs.Guests.{over_guests-same}
 use Rattle.qcow2_laws.proofs.Lists.{known-at, known-none, no_overlay, overlays_within, within_cluster}
 

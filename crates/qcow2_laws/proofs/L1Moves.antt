@@ -1,23 +1,5 @@
 -- The header's pointer to a new L1 table, which may be longer, is written.
-use Rattle.std.proofs.Common.{◌≡◌, ℕ, ◌+◌, ◌-◌, ◌*◌, ◌/◌, ◌<◌, ◌≤◌, ◌≢◌, cond, [], refl, sym, ap, ◌∙◌, arith, inl, inr, subst}
-use mathlib.Core.Path.{fun_ext}
-use Rattle.std.proofs.lemmas.Bool.{cases_lt}
-use Rattle.qcow2_metadata.specs.Bytes.{Bytes, sum_below}
-use Rattle.qcow2_metadata.specs.declared.header.HeaderFields.{HeaderFields}
-use Rattle.qcow2_metadata.specs.Header.{cluster_size, entries_per_cluster}
-use Rattle.qcow2_metadata.specs.Entries.{l1_entry, reftable_entry, count, count_under, host_offset, block_offset, is_copied, L1EntryReads, ReftableEntryReads}
-use Rattle.qcow2_metadata.specs.Cover.{cover, cover_under}
-use Rattle.qcow2_metadata.specs.Named.{in_run, table_in, named_for_tables, named_by_reftable, named_by_l1_table}
-use Rattle.qcow2_laws.specs.Guests.{named_by_guest}
-use Rattle.qcow2_metadata.specs.Consistent.{IsAligned}
-use Rattle.qcow2_disk.specs.Disk.{disk, disk_with}
-use Rattle.qcow2_disk.specs.Stops.{Checkpoint, StopOkEverywhere}
-use Rattle.qcow2_laws.specs.Clusters.{Direction}
-use Rattle.qcow2_laws.specs.Guests.{over_guests, names, named_in_either, marked_by_l1_table}
-use Rattle.qcow2_laws.specs.CrashInvariant.{Pending, CrashInvariant, IsTop, SameTop, SameIn}
-use Rattle.qcow2_laws.specs.Changes.{renamed}
-use Rattle.qcow2_laws.specs.Tops.{with_places, KeepsCovers, WritesHeader, with_l1_at, IsNewL1}
-use Rattle.qcow2_laws.specs.GuestLaws.{KeepsGuests, state_with_l1_table}
+use Rattle.qcow2_laws.proofs.Common.{◌≡◌, ℕ, ◌+◌, ◌-◌, ◌*◌, ◌/◌, ◌<◌, ◌≤◌, ◌≢◌, cond, [], refl, sym, ap, ◌∙◌, arith, inl, inr, subst, fun_ext, cases_lt, Bytes, sum_below, HeaderFields, cluster_size, entries_per_cluster, l1_entry, reftable_entry, count, count_under, host_offset, block_offset, is_copied, L1EntryReads, ReftableEntryReads, cover, cover_under, in_run, table_in, named_for_tables, named_by_reftable, named_by_l1_table, named_by_guest, IsAligned, disk, disk_with, Checkpoint, StopOkEverywhere, Direction, over_guests, names, named_in_either, marked_by_l1_table, Pending, CrashInvariant, IsTop, SameTop, SameIn, renamed, with_places, KeepsCovers, WritesHeader, with_l1_at, IsNewL1, KeepsGuests, state_with_l1_table}
 use Rattle.qcow2_laws.proofs.Sums.{sum_below-same, sum_below-longer}
 use Rattle.qcow2_laws.proofs.Places.{Sizes-from, l1-same, l1_entry-past}
 use Rattle.qcow2_laws.proofs.Writes.{new_tables_is_unnamed}

@@ -1,3 +1,4 @@
+pub mod Common
 pub mod Clusters
 pub mod Sums
 pub mod Places

@@ -1,14 +1,5 @@
 -- Lists of cached tables, one of which is written.
-use Rattle.std.proofs.Common.{◌≡◌, ℕ, ◌+◌, ◌-◌, ◌*◌, ◌/◌, ◌%◌, ◌<◌, inl, inr, Bool, true, false, cond, leb, ltb, List, [], ◌∷◌, ◌++◌, refl, sym, ap, subst, ◌∙◌, arith}
-use Rattle.std.specs.Prelude.{◌&&◌}
-use mathlib.Core.Path.{fun_ext}
-use Rattle.std.proofs.lemmas.Bool.{cases_eq, cases_Bool, cond-true, cond-false, le-leb, lt-ltb, and_from}
-use Rattle.std.proofs.lemmas.Nat.{div-add-mod', mod_below}
-use Rattle.qcow2_metadata.specs.Bytes.{Bytes, is_within}
-use Rattle.qcow2_metadata.specs.Tables.{CachedTable, known, overlays}
-use Rattle.qcow2_laws.specs.CrashInvariant.{IsPartly}
-use Rattle.qcow2_laws.specs.Tops.{IsSameOutside}
-use Rattle.qcow2_laws.specs.Caches.{IsFreeAt, AreApart, AreClean, IsWrittenSo}
+use Rattle.qcow2_laws.proofs.Common.{◌≡◌, ℕ, ◌+◌, ◌-◌, ◌*◌, ◌/◌, ◌%◌, ◌<◌, inl, inr, Bool, true, false, cond, leb, ltb, List, [], ◌∷◌, ◌++◌, refl, sym, ap, subst, ◌∙◌, arith, ◌&&◌, fun_ext, cases_eq, cases_Bool, cond-true, cond-false, le-leb, lt-ltb, and_from, div-add-mod', mod_below, Bytes, is_within, CachedTable, known, overlays, IsPartly, IsSameOutside, IsFreeAt, AreApart, AreClean, IsWrittenSo}
 use Rattle.qcow2_laws.proofs.Places.{in_one}
 use Rattle.qcow2_disk.proofs.Within.{within_is}
 

@@ -1,25 +1,5 @@
 -- One guest cluster gets another mapping: what it then shows, and that everything else stays the same.
-use Rattle.std.proofs.Common.{◌≡◌, ℕ, ◌+◌, ◌-◌, ◌*◌, ◌/◌, ◌%◌, ◌<◌, ◌≤◌, ◌⊎◌, Bool, true, cond, eqb, [], ◌∷◌, refl, sym, ap, ◌∙◌, arith, inl, inr, subst}
-use Rattle.std.specs.Prelude.{Option}
-use mathlib.Core.Path.{fun_ext}
-use Rattle.std.proofs.lemmas.Bool.{cases_eq, cases_lt, eq-eqb, ne_eqb, cond-true, cond-false}
-use Rattle.std.proofs.lemmas.Nat.{div-add-mod', mod_below, pow_pos}
-use Rattle.qcow2_metadata.specs.Bytes.{Bytes}
-use Rattle.qcow2_metadata.specs.Header.{header, cluster_size}
-use Rattle.qcow2_metadata.specs.Cover.{cover}
-use Rattle.qcow2_metadata.specs.Guest.{Value, known_byte, value_under}
-use Rattle.qcow2_metadata.specs.Named.{in_cluster, named_for_tables}
-use Rattle.qcow2_laws.specs.Guests.{named_by_guest}
-use Rattle.qcow2_metadata.specs.Consistent.{CoverIsAligned}
-use Rattle.qcow2_metadata.specs.declared.l2_mapping.L2Mapping.TheVariants.{Data, Zero, Uncovered}
-use Rattle.qcow2_disk.specs.Disk.{disk}
-use Rattle.qcow2_disk.specs.Mappings.{given_shown}
-use Rattle.qcow2_laws.specs.Guests.{names, table_at}
-use Rattle.qcow2_laws.specs.CrashInvariant.{Pending}
-use Rattle.qcow2_laws.specs.Changes.{remapped}
-use Rattle.qcow2_laws.specs.SafeSteps.{DriverState, StateInvariant, SafeStep}
-use Rattle.qcow2_laws.specs.Steps.{guest_at, EntryChanges}
-use Rattle.qcow2_laws.specs.Internal.{IsMappedAnew, with_cluster}
+use Rattle.qcow2_laws.proofs.Common.{◌≡◌, ℕ, ◌+◌, ◌-◌, ◌*◌, ◌/◌, ◌%◌, ◌<◌, ◌≤◌, ◌⊎◌, Bool, true, cond, eqb, [], ◌∷◌, refl, sym, ap, ◌∙◌, arith, inl, inr, subst, Option, fun_ext, cases_eq, cases_lt, eq-eqb, ne_eqb, cond-true, cond-false, div-add-mod', mod_below, pow_pos, Bytes, header, cluster_size, cover, Value, known_byte, value_under, in_cluster, named_for_tables, named_by_guest, CoverIsAligned, Data, Zero, Uncovered, disk, given_shown, names, table_at, Pending, remapped, DriverState, StateInvariant, SafeStep, guest_at, EntryChanges, IsMappedAnew, with_cluster}
 use Rattle.qcow2_laws.proofs.Places.{in_one}
 use Rattle.qcow2_laws.proofs.Guests.{own_names, own_data_of, uncovered_names, over_guests-change}
 use Rattle.qcow2_laws.proofs.Tops.{for_tables-top, IsTop-top}

@@ -1,28 +1,8 @@
 -- Mapping guest clusters one after another is mapping the range.
-use Rattle.std.proofs.Common.{◌≡◌, ℕ, zero, suc, ◌+◌, ◌-◌, ◌*◌, ◌/◌, ◌%◌, ◌<◌, ◌≤◌, ◌⊎◌, [], ◌∷◌, refl, sym, ap, ◌∙◌, arith, inl, inr, subst}
-use mathlib.Core.Path.{fun_ext}
-use Rattle.std.proofs.lemmas.Bool.{cases_lt, cond-true, cond-false, eq-eqb, ne_eqb}
-use Rattle.std.proofs.lemmas.Nat.{div-add-mod', div-mul-add, mod_below, pow_pos}
-use Rattle.qcow2_metadata.specs.Bytes.{Bytes, laid_over}
-use Rattle.qcow2_metadata.specs.declared.header.HeaderFields.{HeaderFields}
-use Rattle.qcow2_metadata.specs.Header.{cluster_size}
-use Rattle.qcow2_metadata.specs.Cover.{cover}
-use Rattle.qcow2_laws.specs.Guests.{named_by_guest}
-use Rattle.qcow2_metadata.specs.Guest.{Value, known_byte}
-use Rattle.qcow2_metadata.specs.declared.l2_mapping.L2Mapping.{L2Mapping}
-use Rattle.qcow2_metadata.specs.declared.l2_mapping.L2Mapping.TheVariants.{Data, Zero, Compressed, Uncovered}
-use Rattle.qcow2_disk.specs.Disk.{Disk, disk, with_values}
-use Rattle.qcow2_disk.specs.Stops.{IsIn, IsGiven}
-use Rattle.qcow2_disk.specs.Mappings.{given_shown}
-use Rattle.qcow2_laws.specs.Guests.{names}
-use Rattle.qcow2_laws.specs.Steps.{guest_at, EntryChanges}
-use Rattle.qcow2_laws.specs.SafeSteps.{DriverState, StateInvariant, SafeStep}
-use Rattle.qcow2_laws.specs.Internal.{used_by_guests, with_cluster}
-use Rattle.qcow2_laws.specs.GuestLaws.{MapsEntry, MapsInTurn, IsZeros, ClustersInTurnAreARange}
+use Rattle.qcow2_laws.proofs.Common.{◌≡◌, ℕ, zero, suc, ◌+◌, ◌-◌, ◌*◌, ◌/◌, ◌%◌, ◌<◌, ◌≤◌, ◌⊎◌, [], ◌∷◌, refl, sym, ap, ◌∙◌, arith, inl, inr, subst, fun_ext, cases_lt, cond-true, cond-false, eq-eqb, ne_eqb, div-add-mod', div-mul-add, mod_below, pow_pos, Bytes, laid_over, HeaderFields, cluster_size, cover, named_by_guest, Value, known_byte, L2Mapping, Data, Zero, Compressed, Uncovered, Disk, disk, with_values, IsIn, IsGiven, given_shown, names, guest_at, EntryChanges, DriverState, StateInvariant, SafeStep, used_by_guests, with_cluster, MapsEntry, MapsInTurn, IsZeros, ClustersInTurnAreARange, laid_inside, laid_outside}
 use Rattle.qcow2_laws.proofs.Guests.{over_guests-change}
 use Rattle.qcow2_laws.proofs.Blocks.{guest_within}
 use Rattle.qcow2_laws.proofs.SafeSteps.{safe_step_none, safe_step_then, safe_step_less}
-use Rattle.qcow2_disk.proofs.ForUsers.{laid_inside, laid_outside}
 use Rattle.qcow2_laws.proofs.MappedAnew.{Maps, pending_after, entry_unseen, entry_zeroed, entry_uncovered}
 
 -- what they do together: the range shows these values over each backing disk

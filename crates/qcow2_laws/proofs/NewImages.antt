@@ -1,20 +1,7 @@
 -- A new image of three clusters is consistent, for every cluster size and refcount width.
-use Rattle.std.proofs.Common.{◌≡◌, ℕ, zero, suc, ◌+◌, ◌-◌, ◌*◌, ◌/◌, ◌%◌, ◌^◌, ◌<◌, ◌≤◌, cond, eqb, ltb, refl, sym, ap, ◌∙◌, arith, inl, inr, subst}
-use Rattle.std.proofs.lemmas.Bool.{cases_eq, cases_lt, eq-eqb, ne_eqb, cond-true, cond-false, lt-ltb, le-ltb}
-use Rattle.std.specs.Prelude.{◌&&◌, nat_le, nat_lt}
-use Rattle.std.proofs.lemmas.Bool.Decides.{nat_tests}
-use Rattle.std.proofs.lemmas.Nat.{div-mul-add, mod-mul-add, pow-add, pow_pos, le-div}
-use Rattle.std.proofs.Math.Pow.{pow_mono}
+use Rattle.qcow2_laws.proofs.Common.{◌≡◌, ℕ, zero, suc, ◌+◌, ◌-◌, ◌*◌, ◌/◌, ◌%◌, ◌^◌, ◌<◌, ◌≤◌, cond, eqb, ltb, refl, sym, ap, ◌∙◌, arith, inl, inr, subst, cases_eq, cases_lt, eq-eqb, ne_eqb, cond-true, cond-false, lt-ltb, le-ltb, ◌&&◌, nat_le, nat_lt, nat_tests, div-mul-add, mod-mul-add, pow-add, pow_pos, le-div, pow_mono, Bytes, one_if, HeaderFields, ReftableFits, cluster_size, entries_per_cluster, reftable_entries, count_width, counts_per_block, reftable_entry, count, block_count, block_offset, ReftableEntryReads, in_cluster, table_in, named, named_for_tables, named_by_reftable, named_by_l1_table, named_by_l2_tables, Consistent, IsConsistent, IsAligned, one_at, HasNoLeaks, surplus_of}
 use Rattle.std.proofs.Math.Nat.{mod-eq_of_lt, div-one}
-use Rattle.qcow2_metadata.specs.Bytes.{Bytes, one_if}
-use Rattle.qcow2_metadata.specs.declared.header.HeaderFields.{HeaderFields}
-use Rattle.qcow2_metadata.specs.Header.{ReftableFits, cluster_size, entries_per_cluster, reftable_entries, count_width, counts_per_block}
-use Rattle.qcow2_metadata.specs.Entries.{reftable_entry, count, block_count, block_offset, ReftableEntryReads}
-use Rattle.qcow2_metadata.specs.Named.{in_cluster, table_in, named, named_for_tables, named_by_reftable, named_by_l1_table, named_by_l2_tables}
-use Rattle.qcow2_metadata.specs.Consistent.{Consistent, IsConsistent, IsAligned}
-use Rattle.qcow2_laws.specs.Changes.{one_at}
 use Rattle.qcow2_laws.specs.NewImages.{IsNewImage}
-use Rattle.qcow2_laws.specs.Opened.{HasNoLeaks, surplus_of}
 use Rattle.qcow2_laws.proofs.Sums.{sum_below-change, sum_below-zero}
 use Rattle.qcow2_laws.proofs.Places.{Sizes, Sizes-from, count_in, count_none}
 use Rattle.qcow2_laws.proofs.Shares.{shares, in_l1, in_reftable}

@@ -1,26 +1,10 @@
 -- Writing the L1 entry of a new table keeps the crash invariant, and leaves a stop as safe as before.
-use Rattle.std.proofs.Common.{◌≡◌, ℕ, ◌+◌, ◌-◌, ◌*◌, ◌/◌, ◌%◌, ◌<◌, ◌≤◌, ◌≢◌, Bool, true, false, cond, ltb, eqb, [], refl, sym, ap, ◌∙◌, arith, inl, inr, subst}
-use Rattle.std.proofs.lemmas.Bool.{cases_eq, cases_lt, eq-eqb, ne_eqb, cond-true, cond-false}
-use Rattle.qcow2_metadata.specs.Bytes.{Bytes, SameFrom}
-use Rattle.qcow2_metadata.specs.declared.header.HeaderFields.{HeaderFields}
-use Rattle.qcow2_metadata.specs.Header.{cluster_size, entries_per_cluster}
-use Rattle.qcow2_metadata.specs.Entries.{l1_entry, l2_entry, reftable_entry, count, host_offset, block_offset, is_copied, L1EntryReads, ReftableEntryReads}
-use Rattle.qcow2_metadata.specs.Cover.{cover, entry_cover}
-use Rattle.qcow2_metadata.specs.Named.{table_in, in_cluster, named_for_tables, named_by_l1_table}
-use Rattle.qcow2_metadata.specs.Consistent.{IsAligned}
-use Rattle.qcow2_metadata.proofs.BigEndian.{number_at-same}
-use Rattle.qcow2_disk.specs.Stops.{Checkpoint, StopOkEverywhere}
-use Rattle.qcow2_laws.specs.Clusters.{Direction}
-use Rattle.qcow2_laws.specs.Guests.{named_in_either, table_at, marked_by_l1_table}
-use Rattle.qcow2_laws.specs.CrashInvariant.{Pending, CrashInvariant, IsTop, SameTop, SameCovers, SameCounts, SameIn}
-use Rattle.qcow2_laws.specs.Changes.{renamed}
-use Rattle.qcow2_laws.specs.Tops.{places_of, IsSameBut, IsSameOutside, WritesL1Entry, IsNewTable}
+use Rattle.qcow2_laws.proofs.Common.{◌≡◌, ℕ, ◌+◌, ◌-◌, ◌*◌, ◌/◌, ◌%◌, ◌<◌, ◌≤◌, ◌≢◌, Bool, true, false, cond, ltb, eqb, [], refl, sym, ap, ◌∙◌, arith, inl, inr, subst, cases_eq, cases_lt, eq-eqb, ne_eqb, cond-true, cond-false, Bytes, SameFrom, HeaderFields, cluster_size, entries_per_cluster, l1_entry, l2_entry, reftable_entry, count, host_offset, block_offset, is_copied, L1EntryReads, ReftableEntryReads, cover, entry_cover, table_in, in_cluster, named_for_tables, named_by_l1_table, IsAligned, number_at-same, Checkpoint, StopOkEverywhere, Direction, named_in_either, table_at, marked_by_l1_table, Pending, CrashInvariant, IsTop, SameTop, SameCovers, SameCounts, SameIn, renamed, places_of, IsSameBut, IsSameOutside, WritesL1Entry, IsNewTable, mod_below}
 use Rattle.qcow2_laws.proofs.Sums.{sum_below-change}
 use Rattle.qcow2_laws.proofs.Places.{Sizes, Sizes-from, eight_in, SameFrom-in, l2_entry-same, cover_in, cond-same}
 use Rattle.qcow2_laws.proofs.Tops.{from_start, header-first, HeaderReads-same, IsTop-top, for_tables-top, reftable_names-same}
 use Rattle.qcow2_laws.proofs.Writes.{new_tables_is_unnamed}
 use Rattle.qcow2_laws.proofs.Blocks.{table_apart, table_once}
-use Rattle.std.proofs.lemmas.Nat.{mod_below}
 use Rattle.qcow2_laws.proofs.Shares.{shares, in_l1, l1_has, l1_first, l1_reftable, l1_covers, l1_counts}
 use Rattle.qcow2_laws.proofs.Renaming.{tables_renamed, moved_kept, moved_known_kept}
 

@@ -1,21 +1,5 @@
 -- A consistent image has the crash invariant when it is opened.
-use Rattle.std.proofs.Common.{◌≡◌, ℕ, ◌+◌, ◌/◌, ◌%◌, ◌<◌, ◌≤◌, ◌≢◌, Bool, true, false, cond, eqb, refl, sym, ap, ◌∙◌, arith, subst, inl, inr, max}
-use Rattle.std.specs.Prelude.{Option, Some, None}
-use Rattle.std.proofs.lemmas.Bool.{cases_eq, cases_lt, cond-false, eq-eqb, eqb-true}
-use Rattle.std.proofs.lemmas.Nat.{mod_below}
-use Rattle.qcow2_metadata.specs.Bytes.{Bytes}
-use Rattle.qcow2_metadata.specs.declared.header.HeaderFields.{HeaderFields}
-use Rattle.qcow2_metadata.specs.Header.{header, cluster_size, entries_per_cluster, has_data_file}
-use Rattle.qcow2_metadata.specs.Entries.{l1_entry, is_copied, count}
-use Rattle.qcow2_metadata.specs.Cover.{cover}
-use Rattle.qcow2_metadata.specs.Named.{named_for_tables, named_by_l1_table, table_in, in_cluster}
-use Rattle.qcow2_metadata.specs.Consistent.{Consistent, EachCover, CoverIsAligned, IsOwn, KeptIsOwn, CopiedIsOwn}
-use Rattle.qcow2_metadata.specs.declared.l2_mapping.L2Mapping.{L2Mapping}
-use Rattle.qcow2_metadata.specs.declared.l2_mapping.L2Mapping.TheVariants.{Data, Zero, Compressed, Uncovered}
-use Rattle.qcow2_laws.specs.Clusters.{Neither, ClusterInvariant}
-use Rattle.qcow2_laws.specs.Guests.{over_guests, names, marks, marked_by_cover, marked_by_guest, marked_by_kept, marked_by_l1_table, table_at}
-use Rattle.qcow2_laws.specs.CrashInvariant.{cluster, CrashInvariant}
-use Rattle.qcow2_laws.specs.Opened.{nothing_pending, surplus_of}
+use Rattle.qcow2_laws.proofs.Common.{◌≡◌, ℕ, ◌+◌, ◌/◌, ◌%◌, ◌<◌, ◌≤◌, ◌≢◌, Bool, true, false, cond, eqb, refl, sym, ap, ◌∙◌, arith, subst, inl, inr, max, Option, Some, None, cases_eq, cases_lt, cond-false, eq-eqb, eqb-true, mod_below, Bytes, HeaderFields, header, cluster_size, entries_per_cluster, has_data_file, l1_entry, is_copied, count, cover, named_for_tables, named_by_l1_table, table_in, in_cluster, Consistent, EachCover, CoverIsAligned, IsOwn, KeptIsOwn, CopiedIsOwn, L2Mapping, Data, Zero, Compressed, Uncovered, Neither, ClusterInvariant, over_guests, names, marks, marked_by_cover, marked_by_guest, marked_by_kept, marked_by_l1_table, table_at, cluster, CrashInvariant, nothing_pending, surplus_of}
 use Rattle.qcow2_laws.proofs.Sums.{some_term}
 use Rattle.qcow2_laws.proofs.Places.{Sizes, Sizes-from, cover_in, cover_none, has_table}
 use Rattle.qcow2_laws.proofs.Guests.{named-is, over_guests-same, some_guest, marks-all, l1_marks-le}

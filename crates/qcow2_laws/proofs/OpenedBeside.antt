@@ -1,20 +1,6 @@
 -- A consistent image with an external data file has the invariant when it is opened.
-use Rattle.std.proofs.Common.{◌≡◌, ℕ, ◌+◌, ◌-◌, ◌/◌, ◌%◌, ◌<◌, ◌≤◌, ◌≢◌, Bool, true, false, cond, eqb, refl, sym, ap, ◌∙◌, arith, subst, inl, inr, max}
-use Rattle.std.specs.Prelude.{Option, Some, None}
-use Rattle.std.proofs.lemmas.Bool.{cases_eq, cases_lt, cond-false, cond-true, eq-eqb, eqb-true}
-use Rattle.qcow2_metadata.specs.Bytes.{Bytes}
-use Rattle.qcow2_metadata.specs.declared.header.HeaderFields.{HeaderFields}
-use Rattle.qcow2_metadata.specs.Header.{header, cluster_size, entries_per_cluster, has_data_file}
-use Rattle.qcow2_metadata.specs.Entries.{l1_entry, is_copied, count}
-use Rattle.qcow2_metadata.specs.Cover.{cover}
-use Rattle.qcow2_metadata.specs.Named.{named_for_tables, named_by_l1_table, table_in, in_cluster}
-use Rattle.qcow2_metadata.specs.Consistent.{CoverIsAligned}
-use Rattle.qcow2_metadata.specs.declared.l2_mapping.L2Mapping.{L2Mapping}
+use Rattle.qcow2_laws.proofs.Common.{◌≡◌, ℕ, ◌+◌, ◌-◌, ◌/◌, ◌%◌, ◌<◌, ◌≤◌, ◌≢◌, Bool, true, false, cond, eqb, refl, sym, ap, ◌∙◌, arith, subst, inl, inr, max, Option, Some, None, cases_eq, cases_lt, cond-false, cond-true, eq-eqb, eqb-true, Bytes, HeaderFields, header, cluster_size, entries_per_cluster, has_data_file, l1_entry, is_copied, count, cover, named_for_tables, named_by_l1_table, table_in, in_cluster, CoverIsAligned, L2Mapping, Neither, ClusterInvariant, guests, over_guests, names, marks, named_by_guest, marked_by_guest, marked_by_l1_table, table_at, cluster, CrashInvariant, nothing_pending}
 use Rattle.qcow2_laws.specs.Beside.{ConsistentBeside, table_surplus_of}
-use Rattle.qcow2_laws.specs.Clusters.{Neither, ClusterInvariant}
-use Rattle.qcow2_laws.specs.Guests.{guests, over_guests, names, marks, named_by_guest, marked_by_guest, marked_by_l1_table, table_at}
-use Rattle.qcow2_laws.specs.CrashInvariant.{cluster, CrashInvariant}
-use Rattle.qcow2_laws.specs.Opened.{nothing_pending}
 use Rattle.qcow2_laws.proofs.Sums.{some_term, sum_below-zero}
 use Rattle.qcow2_laws.proofs.Places.{Sizes, Sizes-from}
 use Rattle.qcow2_laws.proofs.Guests.{l1_marks-le, marks-all}

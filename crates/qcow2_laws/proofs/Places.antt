@@ -1,17 +1,5 @@
 -- Numbers, entries, refcounts and mappings depend only on the bytes of their clusters.
-use Rattle.std.proofs.Common.{◌≡◌, ℕ, zero, suc, ◌+◌, ◌-◌, ◌*◌, ◌/◌, ◌%◌, ◌^◌, ◌<◌, ◌≤◌, ◌≢◌, true, false, cond, ltb, eqb, Bool, refl, sym, ap, ◌∙◌, arith, inl, inr}
-use Rattle.std.proofs.lemmas.Bool.{ltb-true, eqb-false, cases_lt, cond-true, cond-false, le-ltb, eq-eqb, ne_eqb}
-use Rattle.std.proofs.lemmas.Nat.{div-mul-add, div-add-mod', mod_below, mod-mul-add, pow_pos, pow-add, le-div}
-use Rattle.std.proofs.Math.Pow.{pow_mono}
-use Rattle.qcow2_metadata.specs.Bytes.{Bytes, number_at, SameFrom}
-use Rattle.qcow2_metadata.specs.declared.header.HeaderFields.{HeaderFields}
-use Rattle.qcow2_metadata.specs.Header.{HeaderReads, cluster_size, entries_per_cluster, reftable_entries, count_width, counts_per_block}
-use Rattle.qcow2_metadata.specs.Entries.{l1_entry, l2_entry, reftable_entry, block_count, count_under, count, host_offset, block_offset}
-use Rattle.qcow2_metadata.specs.Cover.{cover, cover_under, entry_cover}
-use Rattle.qcow2_metadata.specs.declared.l2_mapping.L2Mapping.TheVariants.{Uncovered}
-use Rattle.qcow2_metadata.proofs.BigEndian.{number_at-same}
-use Rattle.qcow2_laws.specs.CrashInvariant.{SameIn}
-use Rattle.qcow2_laws.specs.Guests.{table_at}
+use Rattle.qcow2_laws.proofs.Common.{◌≡◌, ℕ, zero, suc, ◌+◌, ◌-◌, ◌*◌, ◌/◌, ◌%◌, ◌^◌, ◌<◌, ◌≤◌, ◌≢◌, true, false, cond, ltb, eqb, Bool, refl, sym, ap, ◌∙◌, arith, inl, inr, ltb-true, eqb-false, cases_lt, cond-true, cond-false, le-ltb, eq-eqb, ne_eqb, div-mul-add, div-add-mod', mod_below, mod-mul-add, pow_pos, pow-add, le-div, pow_mono, Bytes, number_at, SameFrom, HeaderFields, HeaderReads, cluster_size, entries_per_cluster, reftable_entries, count_width, counts_per_block, l1_entry, l2_entry, reftable_entry, block_count, count_under, count, host_offset, block_offset, cover, cover_under, entry_cover, Uncovered, number_at-same, SameIn, table_at}
 
 -- what sizes of clusters and counts there are
 pub record Sizes (h : HeaderFields) : Type 0 where

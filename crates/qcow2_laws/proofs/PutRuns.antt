@@ -1,29 +1,6 @@
 -- One storage write over a run of clusters: in place, into clusters that zero entries keep, and into new data.
-use Rattle.std.proofs.Common.{◌≡◌, ℕ, zero, suc, ◌+◌, ◌-◌, ◌*◌, ◌/◌, ◌%◌, ◌<◌, ◌≤◌, ◌≢◌, ◌⊎◌, Bool, true, false, cond, List, [], ◌∷◌, length, refl, sym, ap, ◌∙◌, arith, inl, inr, subst}
-use Rattle.std.specs.Prelude.{Some}
-use mathlib.Core.Path.{fun_ext}
-use Rattle.std.proofs.lemmas.Bool.{cases_eq, cases_lt}
-use Rattle.std.proofs.lemmas.Nat.{div-add-mod', div-mul-add, mod_below, pow_pos}
-use Rattle.qcow2_metadata.specs.Bytes.{Bytes, byte_at, laid_over}
-use Rattle.qcow2_metadata.specs.Header.{cluster_size}
-use Rattle.qcow2_metadata.specs.Cover.{cover}
-use Rattle.qcow2_metadata.specs.Guest.{known_byte}
-use Rattle.qcow2_metadata.specs.Named.{in_cluster, named_for_tables}
+use Rattle.qcow2_laws.proofs.Common.{◌≡◌, ℕ, zero, suc, ◌+◌, ◌-◌, ◌*◌, ◌/◌, ◌%◌, ◌<◌, ◌≤◌, ◌≢◌, ◌⊎◌, Bool, true, false, cond, List, [], ◌∷◌, length, refl, sym, ap, ◌∙◌, arith, inl, inr, subst, Some, fun_ext, cases_eq, cases_lt, div-add-mod', div-mul-add, mod_below, pow_pos, Bytes, byte_at, laid_over, cluster_size, cover, known_byte, in_cluster, named_for_tables, named_by_guest, CoverIsAligned, Data, Zero, disk, with_values, GivenBytes, IsGiven, given_of, names, marks, marked_by_guest, named_in_either, SameCovers, SameIn, IsSameOutside, WritesAt, IsWritten, DriverState, StateInvariant, SafeStep, SameL1Table, IsDataAt, Hosting, InPlace, Kept, Held, IsHostedAt, IsHeld, is_private_hosting, IsGivenAt, WritesRun, RunIsWritten, laid_inside, laid_outside}
 use Rattle.qcow2_laws.proofs.Guests.{own_names, own_marks, own_data_of}
-use Rattle.qcow2_laws.specs.Guests.{named_by_guest}
-use Rattle.qcow2_metadata.specs.Consistent.{CoverIsAligned}
-use Rattle.qcow2_metadata.specs.declared.l2_mapping.L2Mapping.TheVariants.{Data, Zero}
-use Rattle.qcow2_disk.specs.Disk.{disk, with_values}
-use Rattle.qcow2_disk.specs.Stops.{GivenBytes, IsGiven}
-use Rattle.qcow2_disk.specs.Mappings.{given_of}
-use Rattle.qcow2_laws.specs.Guests.{names, marks, marked_by_guest, named_in_either}
-use Rattle.qcow2_laws.specs.CrashInvariant.{SameCovers, SameIn}
-use Rattle.qcow2_laws.specs.Tops.{IsSameOutside, WritesAt}
-use Rattle.qcow2_laws.specs.Writes.{IsWritten}
-use Rattle.qcow2_laws.specs.SafeSteps.{DriverState, StateInvariant, SafeStep}
-use Rattle.qcow2_laws.specs.Internal.{SameL1Table}
-use Rattle.qcow2_disk.specs.Alike.{IsDataAt}
-use Rattle.qcow2_laws.specs.GuestLaws.{Hosting, InPlace, Kept, Held, IsHostedAt, IsHeld, is_private_hosting, IsGivenAt, WritesRun, RunIsWritten}
 use Rattle.qcow2_laws.proofs.Places.{in_one}
 use Rattle.qcow2_laws.proofs.Mixes.{tied}
 use Rattle.qcow2_laws.proofs.Consistency.{in_own}
@@ -31,7 +8,6 @@ use Rattle.qcow2_laws.proofs.Writes.{new_data_is_unnamed, marked_alone, storage_
 use Rattle.qcow2_laws.proofs.Shares.{top_stays}
 use Rattle.qcow2_laws.proofs.Steps.{data_is_written}
 use Rattle.qcow2_laws.proofs.Shown.{Writes, shown_zero}
-use Rattle.qcow2_disk.proofs.ForUsers.{laid_inside, laid_outside}
 use Rattle.qcow2_laws.proofs.Internal.{named_some, size_stays, value_stays}
 use Rattle.qcow2_laws.proofs.Alike.{at_shown}
 

@@ -1,24 +1,5 @@
 -- The header, the L1 table or the reftable changes, on the storage and in the known contents, and all guest clusters keep their mappings.
-use Rattle.std.proofs.Common.{◌≡◌, ℕ, ◌+◌, ◌-◌, ◌*◌, ◌/◌, ◌<◌, ◌≤◌, ◌⊎◌, List, [], refl, sym, ap, ◌∙◌, arith, inl, inr, subst, max}
-use Rattle.std.proofs.lemmas.Nat.{mul-le}
-use Rattle.qcow2_metadata.specs.Bytes.{Bytes, sum_below}
-use Rattle.qcow2_metadata.specs.declared.header.HeaderFields.{HeaderFields}
-use Rattle.qcow2_metadata.specs.Header.{header, cluster_size, entries_per_cluster}
-use Rattle.qcow2_metadata.specs.Entries.{count}
-use Rattle.qcow2_metadata.specs.Cover.{cover}
-use Rattle.qcow2_metadata.specs.Guest.{guest_value, value_under}
-use Rattle.qcow2_metadata.specs.Named.{named_for_tables}
-use Rattle.qcow2_laws.specs.Guests.{named_by_guest}
-use Rattle.qcow2_metadata.specs.Consistent.{CoverIsAligned}
-use Rattle.qcow2_metadata.specs.declared.l2_mapping.L2Mapping.{L2Mapping}
-use Rattle.qcow2_metadata.specs.declared.l2_mapping.L2Mapping.TheVariants.{Uncovered}
-use Rattle.qcow2_disk.specs.Disk.{disk}
-use Rattle.qcow2_disk.specs.HeaderRest.{IsOfHeaderRest}
-use Rattle.qcow2_disk.specs.Stops.{IsAsked, Checkpoint, checkpoint_with, StopOkEverywhere}
-use Rattle.qcow2_laws.specs.Clusters.{Direction, RbDependsOnL2}
-use Rattle.qcow2_laws.specs.Guests.{guests, over_guests, names, named_in_either, marked_by_guest, marked_by_l1_table}
-use Rattle.qcow2_laws.specs.CrashInvariant.{IsTop, SameTop, Pending, cluster, CrashInvariant, SameCovers}
-use Rattle.qcow2_laws.specs.Tops.{Places, with_places, KeepsCovers}
+use Rattle.qcow2_laws.proofs.Common.{◌≡◌, ℕ, ◌+◌, ◌-◌, ◌*◌, ◌/◌, ◌<◌, ◌≤◌, ◌⊎◌, List, [], refl, sym, ap, ◌∙◌, arith, inl, inr, subst, max, mul-le, Bytes, sum_below, HeaderFields, header, cluster_size, entries_per_cluster, count, cover, guest_value, value_under, named_for_tables, named_by_guest, CoverIsAligned, L2Mapping, Uncovered, disk, IsOfHeaderRest, IsAsked, Checkpoint, checkpoint_with, StopOkEverywhere, Direction, RbDependsOnL2, guests, over_guests, names, named_in_either, marked_by_guest, marked_by_l1_table, IsTop, SameTop, Pending, cluster, CrashInvariant, SameCovers, Places, with_places, KeepsCovers, kept_on}
 use Rattle.qcow2_laws.proofs.Clusters.{Good, rename}
 use Rattle.qcow2_laws.proofs.Sums.{sum_below-same, sum_below-longer}
 use Rattle.qcow2_laws.proofs.Places.{Sizes, Sizes-from}
@@ -29,7 +10,6 @@ use Rattle.qcow2_laws.proofs.Writes.{written_covers}
 use Rattle.qcow2_laws.proofs.Tops.{IsTop-top, rest_kept, from_start}
 use Rattle.qcow2_laws.proofs.Consistency.{crash_invariant_consistent, known_consistent, own_of_kept}
 use Rattle.qcow2_laws.proofs.Values.{shown, value_is, size_is}
-use Rattle.qcow2_disk.proofs.Stops.{kept_on}
 
 -- a sum over the guest clusters of a longer L1 table
 over_guests-longer : (h : HeaderFields) (a : Places) (f g : ℕ → ℕ) → h.l1_entries ≤ a.l1_entries → ((k : ℕ) → f k ≡ g k) → ((k : ℕ) → guests h ≤ k → f k ≡ 0)

@@ -1,18 +1,7 @@
 -- Steps one after another, and the moments of a storage on the way: a function for each elementary step, which gets the step's own fact whole.
-use Rattle.std.proofs.Common.{◌≡◌, ◌⊎◌, inl, inr, ⊎_elim, ℕ, List, [], ◌++◌, Result, sym, ◌∙◌, subst, append_assoc}
+use Rattle.qcow2_laws.proofs.Common.{◌≡◌, ◌⊎◌, inl, inr, ⊎_elim, ℕ, List, [], ◌++◌, Result, sym, ◌∙◌, subst, append_assoc, overwritten, whole_or_nothing, passes_none, passes_on, passes_if, passes_change, Bytes, byte_at, Value, disk, GivenBytes, IsGiven, Checkpoint, checkpoint_with, StopOkEverywhere, SafeThroughout, LeavesKept, IsSafeAfter, L2Mapping, MapsInTurn, DriverState, StateInvariant, SafeStep, CountRises, CountFalls, EntryChanges, given_more, given_front, given_split, kept_more}
 use Rattle.image_access.specs.declared.error.StorageError.{StorageError}
-use Rattle.image_access.specs.Contents.{overwritten}
 use Rattle.image_access.specs.Moments.{StorageView, EachMomentSince, Calls, Changes, IsLeftBy}
-use Rattle.image_access.proofs.EachMomentSince.{whole_or_nothing, passes_none, passes_on, passes_if, passes_change}
-use Rattle.qcow2_metadata.specs.Bytes.{Bytes, byte_at}
-use Rattle.qcow2_metadata.specs.Guest.{Value}
-use Rattle.qcow2_disk.specs.Disk.{disk}
-use Rattle.qcow2_disk.specs.Stops.{GivenBytes, IsGiven, Checkpoint, checkpoint_with, StopOkEverywhere, SafeThroughout, LeavesKept, IsSafeAfter}
-use Rattle.qcow2_metadata.specs.declared.l2_mapping.L2Mapping.{L2Mapping}
-use Rattle.qcow2_laws.specs.GuestLaws.{MapsInTurn}
-use Rattle.qcow2_laws.specs.SafeSteps.{DriverState, StateInvariant, SafeStep}
-use Rattle.qcow2_laws.specs.Steps.{CountRises, CountFalls, EntryChanges}
-use Rattle.qcow2_disk.proofs.Stops.{given_more, given_front, given_split, kept_more}
 
 -- what two steps give and ask
 abbrev pub both_given : (Bytes → List GivenBytes) → (Bytes → List GivenBytes) → Bytes → List GivenBytes

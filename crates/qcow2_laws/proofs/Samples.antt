@@ -1,20 +1,8 @@
 -- The definitions tried on a small image.
-use Rattle.std.proofs.Common.{◌≡◌, ℕ, zero, suc, ◌%◌, ◌<◌, ◌≤◌, ◌≢◌, ◌⊎◌, length, refl, arith, inl, inr, lit≤, eqb, []}
-use Rattle.std.specs.Prelude.{Some, None, true, false, ◌==◌, ◌||◌}
-use Rattle.std.proofs.lemmas.Bool.{agree_below_at, or_cases, eqb-true, cond-false, ne_eqb}
-use Rattle.std.proofs.lemmas.Bool.Decides.{nat_tests}
+use Rattle.qcow2_laws.proofs.Common.{◌≡◌, ℕ, zero, suc, ◌%◌, ◌<◌, ◌≤◌, ◌≢◌, ◌⊎◌, length, refl, arith, inl, inr, lit≤, eqb, [], Some, None, true, false, ◌==◌, ◌||◌, agree_below_at, or_cases, eqb-true, cond-false, ne_eqb, nat_tests, Bytes, byte_at, number_at, sum_below, HeaderFields, header, HeaderReads, l1_entry, l2_entry, reftable_entry, block_count, count_under, count, block_offset, ReftableEntryReads, named_by_cover, table_in, named, named_for_tables, named_by_header, named_by_reftable, named_by_l1_table, named_by_l2_table, named_by_l2_tables, Consistent, IsConsistent, cover, cover_under, cover_of, guest_value, known_byte, Data, Zero, Compressed, Uncovered}
 use Rattle.qcow2_laws.proofs.Sums.{sum_below-zero}
-use Rattle.qcow2_metadata.specs.Bytes.{Bytes, byte_at, number_at, sum_below}
-use Rattle.qcow2_metadata.specs.declared.header.HeaderFields.{HeaderFields}
-use Rattle.qcow2_metadata.specs.Header.{header, HeaderReads}
-use Rattle.qcow2_metadata.specs.Entries.{l1_entry, l2_entry, reftable_entry, block_count, count_under, count, block_offset, ReftableEntryReads}
-use Rattle.qcow2_metadata.specs.Named.{named_by_cover, table_in, named, named_for_tables, named_by_header, named_by_reftable, named_by_l1_table, named_by_l2_table, named_by_l2_tables}
-use Rattle.qcow2_metadata.specs.Consistent.{Consistent, IsConsistent}
 use Rattle.qcow2_disk.specs.Rules.{answered}
 use Rattle.qcow2_laws.specs.Samples.{empty_image, written_image}
-use Rattle.qcow2_metadata.specs.Cover.{cover, cover_under, cover_of}
-use Rattle.qcow2_metadata.specs.Guest.{guest_value, known_byte}
-use Rattle.qcow2_metadata.specs.declared.l2_mapping.L2Mapping.TheVariants.{Data, Zero, Compressed, Uncovered}
 
 abbrev b : Bytes
 b = byte_at empty_image

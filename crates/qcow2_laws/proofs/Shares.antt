@@ -1,16 +1,5 @@
 -- What a cluster holds: the header, a part of the L1 table or of the reftable, a refblock or an L2 table. Changes of other bytes don't affect it.
-use Rattle.std.proofs.Common.{◌≡◌, ℕ, ◌+◌, ◌-◌, ◌*◌, ◌/◌, ◌%◌, ◌<◌, ◌≤◌, ◌≢◌, Bool, true, false, ltb, leb, refl, sym, ap, ◌∙◌, arith, subst}
-use Rattle.std.specs.Prelude.{◌&&◌}
-use Rattle.std.proofs.lemmas.Bool.{cond-true, le-leb, lt-ltb, and_from}
-use Rattle.std.proofs.lemmas.Nat.{div-add-mod', div-mul-add, mod_below, le-div}
-use Rattle.qcow2_metadata.specs.Bytes.{Bytes, SameFrom, one_if}
-use Rattle.qcow2_metadata.specs.declared.header.HeaderFields.{HeaderFields}
-use Rattle.qcow2_metadata.specs.Header.{cluster_size, entries_per_cluster, reftable_entries, counts_per_block}
-use Rattle.qcow2_metadata.specs.Entries.{l1_entry, reftable_entry, count, block_offset}
-use Rattle.qcow2_metadata.specs.Cover.{cover}
-use Rattle.qcow2_metadata.specs.Named.{in_cluster, in_run, table_in, named_by_header, named_by_reftable, named_by_l1_table, named_for_tables}
-use Rattle.qcow2_laws.specs.Guests.{table_at}
-use Rattle.qcow2_laws.specs.CrashInvariant.{IsTop, SameTop, SameCovers, SameCounts, SameIn}
+use Rattle.qcow2_laws.proofs.Common.{◌≡◌, ℕ, ◌+◌, ◌-◌, ◌*◌, ◌/◌, ◌%◌, ◌<◌, ◌≤◌, ◌≢◌, Bool, true, false, ltb, leb, refl, sym, ap, ◌∙◌, arith, subst, ◌&&◌, cond-true, le-leb, lt-ltb, and_from, div-add-mod', div-mul-add, mod_below, le-div, Bytes, SameFrom, one_if, HeaderFields, cluster_size, entries_per_cluster, reftable_entries, counts_per_block, l1_entry, reftable_entry, count, block_offset, cover, in_cluster, in_run, table_in, named_by_header, named_by_reftable, named_by_l1_table, named_for_tables, table_at, IsTop, SameTop, SameCovers, SameCounts, SameIn}
 use Rattle.qcow2_laws.proofs.Sums.{term_le-sum_below, two_terms_le-sum_below}
 use Rattle.qcow2_laws.proofs.Places.{Sizes, Sizes-from, div_mono, SameFrom-in, l1-same, reftable-same, has_table, has_block, count-same, cover-same}
 use Rattle.qcow2_laws.proofs.Consistency.{in_own, table_in_own}

@@ -1,21 +1,6 @@
 -- What guests read, and what they see of bytes that are written to a cluster of new data.
-use Rattle.std.proofs.Common.{◌≡◌, ℕ, ◌+◌, ◌/◌, ◌%◌, ◌<◌, Bool, List, [], sym, ap, ◌∙◌, arith, subst}
-use Rattle.std.specs.Prelude.{Option}
-use Rattle.std.proofs.lemmas.Nat.{mod_below, pow_pos}
-use Rattle.qcow2_metadata.specs.Bytes.{Bytes}
-use Rattle.qcow2_metadata.specs.Header.{cluster_size}
-use Rattle.qcow2_metadata.specs.Cover.{cover}
-use Rattle.qcow2_metadata.specs.Guest.{known_byte, guest_value, value_under}
+use Rattle.qcow2_laws.proofs.Common.{◌≡◌, ℕ, ◌+◌, ◌/◌, ◌%◌, ◌<◌, Bool, List, [], sym, ap, ◌∙◌, arith, subst, Option, mod_below, pow_pos, Bytes, cluster_size, cover, known_byte, guest_value, value_under, named_by_guest, CoverIsAligned, L2Mapping, Data, Zero, Uncovered, Disk, disk, GivenBytes, names, named_in_either, DriverState, StateInvariant, SafeStep, IsInternalBut, SameL1Table}
 use Rattle.qcow2_laws.proofs.Guests.{own_names, own_data_of}
-use Rattle.qcow2_laws.specs.Guests.{named_by_guest}
-use Rattle.qcow2_metadata.specs.Consistent.{CoverIsAligned}
-use Rattle.qcow2_metadata.specs.declared.l2_mapping.L2Mapping.{L2Mapping}
-use Rattle.qcow2_metadata.specs.declared.l2_mapping.L2Mapping.TheVariants.{Data, Zero, Uncovered}
-use Rattle.qcow2_disk.specs.Disk.{Disk, disk}
-use Rattle.qcow2_disk.specs.Stops.{GivenBytes}
-use Rattle.qcow2_laws.specs.Guests.{names, named_in_either}
-use Rattle.qcow2_laws.specs.SafeSteps.{DriverState, StateInvariant, SafeStep}
-use Rattle.qcow2_laws.specs.Internal.{IsInternalBut, SameL1Table}
 use Rattle.qcow2_laws.proofs.Places.{in_one}
 use Rattle.qcow2_laws.proofs.Mixes.{tied}
 use Rattle.qcow2_laws.proofs.Consistency.{in_own}

@@ -1,29 +1,10 @@
 -- Guest bytes stay the same if the mappings and the bytes that these refer to do.
-use Rattle.std.proofs.Common.{false, ◌≡◌, ℕ, ◌+◌, ◌-◌, ◌*◌, ◌/◌, ◌%◌, ◌<◌, ◌⊎◌, List, [], refl, sym, ap, ◌∙◌, arith, inl, inr, subst, max}
-use Rattle.std.proofs.lemmas.Bool.{cond-true, le-leb, and_from}
-use Rattle.std.proofs.lemmas.Nat.{mod_below, pow_pos}
-use Rattle.qcow2_metadata.specs.Bytes.{Bytes, SameFrom}
-use Rattle.qcow2_metadata.specs.declared.header.HeaderFields.{HeaderFields}
-use Rattle.qcow2_metadata.specs.Header.{header, cluster_size, has_data_file}
-use Rattle.qcow2_metadata.specs.Cover.{cover}
-use Rattle.qcow2_metadata.specs.Guest.{known_byte, compressed_byte, guest_value, value_under, bytes_of_sectors}
-use Rattle.qcow2_metadata.specs.Named.{in_cluster}
-use Rattle.qcow2_metadata.specs.Named.{named_by_cover}
-use Rattle.qcow2_laws.specs.Guests.{named_by_guest}
-use Rattle.qcow2_metadata.specs.Consistent.{CoverIsAligned, IsConsistent}
-use Rattle.qcow2_metadata.specs.declared.l2_mapping.L2Mapping.{L2Mapping}
-use Rattle.qcow2_metadata.specs.declared.l2_mapping.L2Mapping.TheVariants.{Data, Zero, Compressed, Uncovered}
-use Rattle.qcow2_disk.specs.Disk.{disk, disk_with}
-use Rattle.qcow2_disk.specs.Stops.{GivenBytes, IsGiven, Checkpoint, checkpoint_with, StopOkEverywhere}
-use Rattle.qcow2_laws.specs.Clusters.{Direction}
-use Rattle.qcow2_laws.specs.Guests.{names}
-use Rattle.qcow2_laws.specs.CrashInvariant.{Pending, CrashInvariant, IsMixed}
+use Rattle.qcow2_laws.proofs.Common.{false, ◌≡◌, ℕ, ◌+◌, ◌-◌, ◌*◌, ◌/◌, ◌%◌, ◌<◌, ◌⊎◌, List, [], refl, sym, ap, ◌∙◌, arith, inl, inr, subst, max, cond-true, le-leb, and_from, mod_below, pow_pos, Bytes, SameFrom, HeaderFields, header, cluster_size, has_data_file, cover, known_byte, compressed_byte, guest_value, value_under, bytes_of_sectors, in_cluster, named_by_cover, named_by_guest, CoverIsAligned, IsConsistent, L2Mapping, Data, Zero, Compressed, Uncovered, disk, disk_with, GivenBytes, IsGiven, Checkpoint, checkpoint_with, StopOkEverywhere, Direction, names, Pending, CrashInvariant, IsMixed, kept_on, kept_either}
 use Rattle.qcow2_laws.proofs.Places.{Sizes, Sizes-from, in_one, div_mono}
 use Rattle.qcow2_laws.proofs.Tops.{bytes_from-same, first_keeps_rest, IsTop-top}
 use Rattle.qcow2_laws.proofs.Guests.{guest_le, names_within, own_names, own_data_of}
 use Rattle.qcow2_laws.proofs.Consistency.{in_own, crash_invariant_consistent, own_of_kept}
 use Rattle.qcow2_laws.proofs.Mixes.{mixed_crash_invariant, either_cover, top_kept}
-use Rattle.qcow2_disk.proofs.Stops.{kept_on, kept_either}
 
 -- the value that a cover shows is as in another image where the bytes are so in each cluster that the cover names
 pub shown : (h : HeaderFields) (b c backing : Bytes) (o : ℕ) (v : L2Mapping) → CoverIsAligned h v → ((place : ℕ) → 0 < named_by_cover h (place / cluster_size h) v → b place ≡ c place)
