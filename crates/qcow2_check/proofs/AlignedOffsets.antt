@@ -1,16 +1,5 @@
 -- There is no unaligned offset exactly if each offset is aligned.
-use Rattle.std.proofs.Common.{◌≡◌, ◌≢◌, ℕ, ◌%◌, ◌<◌, eqb, Some, None, refl, ap, inl, inr}
-use Rattle.std.specs.Prelude.{not}
-use Rattle.std.proofs.lemmas.Bool.{cases_eq, eq-eqb}
-use Rattle.std.proofs.lemmas.Bool.Decides.{eqb_tells}
-use Rattle.qcow2_metadata.specs.Bytes.{sum_below}
-use Rattle.qcow2_metadata.specs.declared.header.HeaderFields.{HeaderFields}
-use Rattle.qcow2_metadata.specs.Header.{cluster_size, IsAligned}
-use Rattle.qcow2_metadata.specs.L2Mapping.{host_of}
-use Rattle.qcow2_metadata.specs.Consistent.{CoverIsAligned}
-use Rattle.qcow2_metadata.specs.declared.l2_mapping.L2Mapping.{L2Mapping}
-use Rattle.qcow2_metadata.specs.declared.l2_mapping.L2Mapping.TheVariants.{Data, Zero, Compressed, Uncovered}
-use Rattle.qcow2_check.specs.Offsets.{off_cluster, off_cluster_if}
+use Rattle.qcow2_check.proofs.Common.{◌≡◌, ◌≢◌, ℕ, ◌%◌, ◌<◌, eqb, Some, None, refl, ap, inl, inr, not, cases_eq, eq-eqb, eqb_tells, sum_below, HeaderFields, cluster_size, IsAligned, host_of, CoverIsAligned, L2Mapping, Data, Zero, Compressed, Uncovered, off_cluster, off_cluster_if}
 use Rattle.qcow2_check.proofs.Terms.{from_some_term, some-sum, one_if-some, true_from_some}
 use Rattle.qcow2_check.proofs.TallyTests.{both_true, right_true}
 

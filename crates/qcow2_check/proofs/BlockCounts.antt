@@ -1,13 +1,7 @@
 -- The refcounts of one refblock.
-use Rattle.std.proofs.Common.{◌≡◌, ℕ, ◌+◌, ◌*◌, ◌/◌, ◌%◌, ◌^◌, ◌<◌, ◌≤◌, ◌⊎◌, Bool, true, false, cond, ltb, List, [], length, sym, ap, ◌∙◌, arith, inl, inr}
-use Rattle.std.proofs.lemmas.Bool.{cond-true, cond-false, lt-ltb, le-ltb}
-use Rattle.std.proofs.Math.Nat.{zero-div, zero-mod}
-use Rattle.qcow2_metadata.specs.Bytes.{byte_at}
-use Rattle.qcow2_metadata.specs.Entries.{block_count}
+use Rattle.qcow2_check.proofs.Common.{◌≡◌, ℕ, ◌+◌, ◌*◌, ◌/◌, ◌%◌, ◌^◌, ◌<◌, ◌≤◌, ◌⊎◌, Bool, true, false, cond, ltb, List, [], length, sym, ap, ◌∙◌, arith, inl, inr, cond-true, cond-false, lt-ltb, le-ltb, zero-div, zero-mod, byte_at, block_count, Block, count_of, counts_kept}
 use Rattle.qcow2_metadata.specs.RefBlock.{count_in as count_in_bytes}
 use Rattle.qcow2_metadata.proofs.TableEntries.{number_at-zeros}
-use Rattle.qcow2_check.specs.declared.kept.Block.{Block}
-use Rattle.qcow2_check.specs.Counted.{count_of, counts_kept}
 
 -- past what is kept
 pub count_past_kept : (block : Block) (j : ℕ) → counts_kept block ≤ j → count_of block j ≡ 0

@@ -1,12 +1,5 @@
 -- The clusters with a breach, which have references or copied marks.
-use Rattle.std.proofs.Common.{◌≡◌, ℕ, ◌&&◌, Bool, true, false, cond, eqb, refl, sym, ap, ◌∙◌}
-use Rattle.std.proofs.lemmas.Bool.{cond-true, cond-false}
-use Rattle.qcow2_check.specs.declared.kept.Counts.{Counts}
-use Rattle.qcow2_check.specs.declared.tally.Tally.{Tally}
-use Rattle.qcow2_check.specs.declared.tally_map.TallyMap.{TallyMap}
-use Rattle.qcow2_check.specs.Tallies.{tally_in, no_tally}
-use Rattle.qcow2_check.specs.Counted.{count_in, counted_in, with_count}
-use Rattle.qcow2_check.specs.Lines.{lines, is_breached, numbered}
+use Rattle.qcow2_check.proofs.Common.{◌≡◌, ℕ, ◌&&◌, Bool, true, false, cond, eqb, refl, sym, ap, ◌∙◌, cond-true, cond-false, Counts, Tally, TallyMap, tally_in, no_tally, count_in, counted_in, with_count, lines, is_breached, numbered}
 use Rattle.qcow2_check.proofs.Rising.{lines-same}
 use Rattle.qcow2_check.proofs.TallyTests.{left_true, right_true, same_from_eqb, is_breached-blank}
 

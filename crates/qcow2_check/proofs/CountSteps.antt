@@ -1,15 +1,6 @@
 -- The refcounts that the reftable gives.
-use Rattle.std.proofs.Common.{◌≡◌, ◌≢◌, ℕ, ◌+◌, ◌-◌, ◌*◌, ◌/◌, ◌%◌, ◌^◌, ◌<◌, ◌≤◌, List, length, arith, sym, ap, ◌∙◌}
-use Rattle.std.proofs.lemmas.Bool.{cond-false, ne_eqb, le-ltb}
-use Rattle.std.proofs.lemmas.Nat.{pow_pos, pow-add, div-add-mod', div-mul-add, le-div}
-use Rattle.std.proofs.Math.Pow.{pow_mono}
-use Rattle.qcow2_metadata.specs.declared.header.HeaderFields.{HeaderFields}
-use Rattle.qcow2_metadata.specs.Bytes.{Bytes}
-use Rattle.qcow2_metadata.specs.Header.{cluster_size, counts_per_block, reftable_entries}
-use Rattle.qcow2_metadata.specs.Entries.{block_offset, reftable_entry, count, count_under}
-use Rattle.qcow2_metadata.proofs.TablesAt.{HasBytesAt, count_stands}
+use Rattle.qcow2_check.proofs.Common.{◌≡◌, ◌≢◌, ℕ, ◌+◌, ◌-◌, ◌*◌, ◌/◌, ◌%◌, ◌^◌, ◌<◌, ◌≤◌, List, length, arith, sym, ap, ◌∙◌, cond-false, ne_eqb, le-ltb, pow_pos, pow-add, div-add-mod', div-mul-add, le-div, pow_mono, HeaderFields, Bytes, cluster_size, counts_per_block, reftable_entries, block_offset, reftable_entry, count, count_under, HasBytesAt, count_stands, block_count_or_zero}
 use Rattle.qcow2_metadata.specs.RefBlock.{count_in}
-use Rattle.qcow2_check.specs.Counted.{block_count_or_zero}
 
 pub whole_cluster : (bits : ℕ) → 9 ≤ bits → 2 ^ bits % 8 ≡ 0
 whole_cluster bits low =

@@ -1,13 +1,5 @@
 -- Properties of every L2 entry, as sums of terms.
-use Rattle.std.proofs.Common.{◌≢◌, ℕ, ◌<◌, cond, eqb, sym, ◌∙◌, inl, inr}
-use Rattle.std.proofs.lemmas.Bool.{cases_eq, cond-true, cond-false, eq-eqb, ne_eqb}
-use Rattle.qcow2_metadata.specs.Bytes.{Bytes, sum_below}
-use Rattle.qcow2_metadata.specs.declared.header.HeaderFields.{HeaderFields}
-use Rattle.qcow2_metadata.specs.Header.{entries_per_cluster}
-use Rattle.qcow2_metadata.specs.Entries.{l1_entry, l2_entry, host_offset}
-use Rattle.qcow2_metadata.specs.Cover.{entry_cover}
-use Rattle.qcow2_metadata.specs.Consistent.{EachCover}
-use Rattle.qcow2_metadata.specs.declared.l2_mapping.L2Mapping.{L2Mapping}
+use Rattle.qcow2_check.proofs.Common.{◌≢◌, ℕ, ◌<◌, cond, eqb, sym, ◌∙◌, inl, inr, cases_eq, cond-true, cond-false, eq-eqb, ne_eqb, Bytes, sum_below, HeaderFields, entries_per_cluster, l1_entry, l2_entry, host_offset, entry_cover, EachCover, L2Mapping}
 use Rattle.qcow2_check.proofs.Terms.{from_some_term, some-sum}
 
 -- a term under an L1 entry with a table

@@ -1,15 +1,6 @@
 -- Steps of a map of tallies.
-use Rattle.std.proofs.Common.{◌≡◌, ℕ, ◌+◌, ◌*◌, arith, refl, sym, ap, ◌∙◌}
-use Rattle.qcow2_check.specs.declared.tally_map.TallyMap.{TallyMap}
-use Rattle.qcow2_metadata.specs.Bytes.{Bytes, sum_below}
-use Rattle.qcow2_metadata.specs.Entries.{l2_entry}
-use Rattle.qcow2_metadata.specs.Cover.{entry_cover}
-use Rattle.qcow2_metadata.specs.Named.{named_by_cover}
-use Rattle.qcow2_metadata.specs.declared.l2_mapping.L2Mapping.{L2Mapping}
-use Rattle.qcow2_metadata.specs.declared.header.HeaderFields.{HeaderFields}
+use Rattle.qcow2_check.proofs.Common.{◌≡◌, ℕ, ◌+◌, ◌*◌, arith, refl, sym, ap, ◌∙◌, TallyMap, Bytes, sum_below, l2_entry, entry_cover, named_by_cover, L2Mapping, HeaderFields, TalliesGrow, marks_of_cover, named_by_entries, marked_by_entries}
 use Rattle.qcow2_check.proofs.Sums.{sum_below_none, sum_below_more}
-use Rattle.qcow2_check.specs.Tallies.{TalliesGrow}
-use Rattle.qcow2_check.specs.Marks.{marks_of_cover, named_by_entries, marked_by_entries}
 
 pub grows_none : (m : TallyMap) (f g k : ℕ → ℕ) → ((q : ℕ) → f q ≡ 0) → ((q : ℕ) → g q ≡ 0) → ((q : ℕ) → k q ≡ 0) → TalliesGrow m m f g k
 grows_none m f g k f0 g0 k0 = record {

@@ -1,18 +1,7 @@
 -- Steps over the L1 table.
-use Rattle.std.proofs.Common.{◌≡◌, ◌≢◌, ℕ, ◌+◌, ◌*◌, List, length, Bool, true, false, ◌&&◌, refl, sym, ap, ◌∙◌, arith}
-use Rattle.std.proofs.lemmas.Bool.{cond-true, cond-false, eq-eqb, ne_eqb}
-use Rattle.qcow2_check.specs.declared.tally_map.TallyMap.{TallyMap}
-use Rattle.qcow2_metadata.specs.Bytes.{Bytes, one_if, byte_at}
-use Rattle.qcow2_metadata.specs.declared.header.HeaderFields.{HeaderFields}
-use Rattle.qcow2_metadata.specs.Header.{cluster_size, entries_per_cluster}
-use Rattle.qcow2_metadata.specs.Entries.{host_offset}
-use Rattle.qcow2_metadata.specs.Named.{named_by_l2_table, table_in}
+use Rattle.qcow2_check.proofs.Common.{◌≡◌, ◌≢◌, ℕ, ◌+◌, ◌*◌, List, length, Bool, true, false, ◌&&◌, refl, sym, ap, ◌∙◌, arith, cond-true, cond-false, eq-eqb, ne_eqb, TallyMap, Bytes, one_if, byte_at, HeaderFields, cluster_size, entries_per_cluster, host_offset, named_by_l2_table, table_in, TalliesGrow, tally_in, entry_at, named_by_entries, marked_by_entries, marked_by_l2_table, mark_of_entry, tables_among, marks_among, HasBytesAt}
 use Rattle.qcow2_check.proofs.Sums.{sum_below_none, sum_below_more}
-use Rattle.qcow2_check.specs.Tallies.{TalliesGrow, tally_in}
-use Rattle.qcow2_metadata.specs.TableBytes.{entry_at}
-use Rattle.qcow2_check.specs.Marks.{named_by_entries, marked_by_entries, marked_by_l2_table, mark_of_entry, tables_among, marks_among}
 use Rattle.qcow2_check.proofs.Grow.{grows_none, grows_more}
-use Rattle.qcow2_metadata.proofs.TablesAt.{HasBytesAt}
 use Rattle.qcow2_check.proofs.Shifts.{named_by_part, marked_by_part}
 
 pub one_if-and_true : (b : Bool) → one_if (b && true) ≡ one_if b

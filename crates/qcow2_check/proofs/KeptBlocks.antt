@@ -1,24 +1,7 @@
 -- The refblocks that are kept.
-use Rattle.std.proofs.Common.{ltb, ◌≡◌, ◌≢◌, ℕ, zero, suc, ◌+◌, ◌*◌, ◌/◌, ◌%◌, ◌<◌, ◌≤◌, false, Some, None, List, [], ◌∷◌, ◌++◌, ◌-◌, length, length-append, get_or, Option, refl, sym, ap, ◌∙◌, arith, inl, inr, subst}
+use Rattle.qcow2_check.proofs.Common.{ltb, ◌≡◌, ◌≢◌, ℕ, zero, suc, ◌+◌, ◌*◌, ◌/◌, ◌%◌, ◌<◌, ◌≤◌, false, Some, None, List, [], ◌∷◌, ◌++◌, ◌-◌, length, length-append, get_or, Option, refl, sym, ap, ◌∙◌, arith, inl, inr, subst, IfSome, is_some, slice_get, option_copied, BTreeMap, get, is_at, nat_cmp, lookup, cond-true, eq-eqb, lt-ltb, le-ltb, cases_eq, cases_lt, get_or_past, Bytes, HeaderFields, counts_per_block, reftable_entries, block_offset, reftable_entry, count, Block, Counts, count_of, counts_kept, count_kept, block_numbered, block_in, count_in, block_count_or_zero, HasBlock, KeepsBlocks, KeepsMore, mod_below, le-div, div-add-mod', div-mul-add, count_under, get_or_append_left, get_or_push}
 use denote.Ref.{Bor}
-use Rattle.std.specs.Prelude.{IfSome, is_some, slice_get}
-use Rattle.std.specs.Option.{option_copied}
-use Rattle.std.specs.BTreeMap.{BTreeMap, get, is_at}
-use Rattle.std.specs.Ordering.{nat_cmp}
-use Rattle.std.specs.Map.{lookup}
-use Rattle.std.proofs.lemmas.Bool.{cond-true, eq-eqb, lt-ltb, le-ltb, cases_eq, cases_lt}
-use Rattle.std.proofs.lemmas.List.{get_or_past}
 use Rattle.std.proofs.lemmas.Option.{slice_get-get_or, slice_get_past}
-use Rattle.qcow2_metadata.specs.Bytes.{Bytes}
-use Rattle.qcow2_metadata.specs.declared.header.HeaderFields.{HeaderFields}
-use Rattle.qcow2_metadata.specs.Header.{counts_per_block, reftable_entries}
-use Rattle.qcow2_metadata.specs.Entries.{block_offset, reftable_entry, count}
-use Rattle.qcow2_check.specs.declared.kept.Block.{Block}
-use Rattle.qcow2_check.specs.declared.kept.Counts.{Counts}
-use Rattle.qcow2_check.specs.Counted.{count_of, counts_kept, count_kept, block_numbered, block_in, count_in, block_count_or_zero, HasBlock, KeepsBlocks, KeepsMore}
-use Rattle.std.proofs.lemmas.Nat.{mod_below, le-div, div-add-mod', div-mul-add}
-use Rattle.qcow2_metadata.specs.Entries.{count_under}
-use Rattle.std.proofs.lemmas.List.{get_or_append_left, get_or_push}
 use Rattle.qcow2_check.proofs.BlockCounts.{count_past_kept}
 use Rattle.qcow2_check.proofs.CountSteps.{reftable_entry-past}
 use Rattle.qcow2_check.proofs.Rising.{at_other}

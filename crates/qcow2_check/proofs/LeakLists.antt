@@ -1,15 +1,5 @@
 -- The leaks from a cluster on, one after another.
-use Rattle.std.proofs.Common.{◌≡◌, ℕ, zero, suc, ◌+◌, ◌-◌, ◌^◌, ◌<◌, ◌≤◌, Bool, true, false, cond, Option, Some, None, List, [], ◌∷◌, ◌++◌, ◌*◌, length, length-append, add-one, map, refl, sym, ap, ◌∙◌, arith}
-use Rattle.std.proofs.lemmas.Bool.{cond-true, cond-false}
-use Rattle.qcow2_check.specs.declared.kept.Counts.{Counts}
-use Rattle.qcow2_check.specs.declared.report.Leak.{Leak}
-use Rattle.qcow2_check.specs.declared.tally.Tally.{Tally}
-use Rattle.qcow2_check.specs.declared.tally_map.TallyMap.{TallyMap}
-use Rattle.qcow2_check.specs.Counted.{count_in, counted_in}
-use Rattle.qcow2_check.specs.Lines.{lines, lines_from, is_leaked, leak_of_cluster}
-use Rattle.qcow2_check.specs.Leaked.{leaks_from, leak_at}
-use Rattle.qcow2_check.specs.Report.{leak_lines_of}
-use Rattle.std.proofs.lemmas.Nat.{mul-le}
+use Rattle.qcow2_check.proofs.Common.{◌≡◌, ℕ, zero, suc, ◌+◌, ◌-◌, ◌^◌, ◌<◌, ◌≤◌, Bool, true, false, cond, Option, Some, None, List, [], ◌∷◌, ◌++◌, ◌*◌, length, length-append, add-one, map, refl, sym, ap, ◌∙◌, arith, cond-true, cond-false, Counts, Leak, Tally, TallyMap, count_in, counted_in, lines, lines_from, is_leaked, leak_of_cluster, leaks_from, leak_at, leak_lines_of, mul-le}
 use Rattle.qcow2_check.proofs.KeptBlocks.{count_past_end}
 use Rattle.qcow2_check.proofs.Rising.{rising_all, lines-none, lines_more, lines-add}
 use Rattle.qcow2_check.proofs.TallyTests.{is_leaked-uncounted}

@@ -1,3 +1,4 @@
+pub mod Common
 pub mod AlignedOffsets
 pub mod BlockCounts
 pub mod Breached

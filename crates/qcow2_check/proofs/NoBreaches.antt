@@ -1,28 +1,7 @@
 -- A report has no breaches exactly if the image is consistent.
-use Rattle.std.proofs.Common.{◌≡◌, ◌≢◌, ℕ, ◌+◌, ◌^◌, ◌<◌, ◌≤◌, List, [], ◌++◌, ◌*◌, length, ap, refl, sym, subst, ◌∙◌, arith, inl, inr}
-use Rattle.std.specs.Prelude.{◌↔◌}
-use Rattle.std.proofs.lemmas.Bool.{cases_eq}
-use Rattle.qcow2_metadata.specs.Bytes.{Bytes, byte_at}
-use Rattle.qcow2_metadata.specs.declared.header.HeaderFields.{HeaderFields}
-use Rattle.qcow2_metadata.specs.Header.{entries_per_cluster, reftable_entries, HeaderReads, ReftableFits}
-use Rattle.qcow2_metadata.specs.Entries.{l1_entry, l2_entry, reftable_entry, host_offset, block_offset, is_copied}
-use Rattle.qcow2_metadata.specs.Cover.{entry_cover}
-use Rattle.qcow2_metadata.specs.L2Mapping.{host_of}
-use Rattle.qcow2_metadata.specs.Named.{named, named_for_tables}
-use Rattle.qcow2_metadata.specs.Consistent.{Consistent, CoverIsAligned, CopiedIsOwn}
-use Rattle.qcow2_check.specs.declared.report.Breach.{Breach}
-use Rattle.qcow2_check.specs.declared.report.Kind.TheVariants.{L1, Reftable, L2, Refblock, Data}
-use Rattle.qcow2_check.specs.Marks.{marked_at, marks_of_cover, marked_by_entries, marked_by_l2_table, mark_of_entry, marked_under, marked_below}
-use Rattle.qcow2_check.specs.Offsets.{times, off_cluster_if, off_l2_tables, off_refblocks, data_off_at, data_off_below}
-use Rattle.qcow2_check.specs.Lines.{lines, snapshot_lines, external_lines, header_lines, table_offset_lines, offset_lines, is_named, unaligned_line, is_under, under_line, is_shared, shared_line, is_miscopied, copied_line}
-use Rattle.qcow2_check.specs.declared.tally_map.TallyMap.{TallyMap}
-use Rattle.std.proofs.lemmas.Nat.{mul-le}
-use Rattle.qcow2_check.specs.declared.kept.Counts.{Counts}
-use Rattle.qcow2_check.specs.declared.tally.Tally.{Tally}
-use Rattle.qcow2_check.specs.Counted.{count_in, counted_in}
-use Rattle.qcow2_check.specs.Tallies.{tally_in, no_tally, TalliesWithin64Bits}
+use Rattle.qcow2_check.proofs.Common.{◌≡◌, ◌≢◌, ℕ, ◌+◌, ◌^◌, ◌<◌, ◌≤◌, List, [], ◌++◌, ◌*◌, length, ap, refl, sym, subst, ◌∙◌, arith, inl, inr, ◌↔◌, cases_eq, Bytes, byte_at, HeaderFields, entries_per_cluster, reftable_entries, HeaderReads, ReftableFits, l1_entry, l2_entry, reftable_entry, host_offset, block_offset, is_copied, entry_cover, host_of, named, named_for_tables, Consistent, CoverIsAligned, CopiedIsOwn, Breach, L1, Reftable, L2, Refblock, marked_at, marks_of_cover, marked_by_entries, marked_by_l2_table, mark_of_entry, marked_under, marked_below, times, off_cluster_if, off_l2_tables, off_refblocks, data_off_at, data_off_below, lines, snapshot_lines, external_lines, header_lines, table_offset_lines, offset_lines, is_named, unaligned_line, is_under, under_line, is_shared, shared_line, is_miscopied, copied_line, TallyMap, mul-le, Counts, Tally, count_in, counted_in, tally_in, no_tally, TalliesWithin64Bits, tally, breach_lines, TablesRead, ArePassed}
+use Rattle.qcow2_check.specs.declared.report.Kind.TheVariants.{Data}
 use Rattle.qcow2_check.proofs.KeptBlocks.{count_past_end}
-use Rattle.qcow2_check.specs.Report.{tally, breach_lines, TablesRead, ArePassed}
 use Rattle.qcow2_check.proofs.NoLines.{append-empty, front_empty, back_empty, EndsBelow, lines-empty, fails_each, zero-line, zero_from_line}
 use Rattle.qcow2_check.proofs.Terms.{from_some_term, some-sum}
 use Rattle.qcow2_check.proofs.TallyTests.{zero_from_is_named, is_named-zero, counted_from_is_under, is_under-counted, once_from_is_shared, is_shared-once, own_from_is_miscopied, is_miscopied-own}

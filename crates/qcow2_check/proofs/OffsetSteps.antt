@@ -1,20 +1,5 @@
 -- Steps over offsets.
-use Rattle.std.proofs.Common.{◌≡◌, ◌≢◌, ℕ, ◌+◌, ◌*◌, ◌/◌, ◌<◌, ◌≤◌, List, length, sym, ap, ◌∙◌, arith}
-use Rattle.std.proofs.Math.Nat.{div-mul-le_self}
-use Rattle.std.proofs.lemmas.Bool.{cond-true, cond-false, eq-eqb, ne_eqb}
-use Rattle.qcow2_check.specs.declared.tally_map.TallyMap.{TallyMap}
-use mathlib.Core.Path.{fun_ext}
-use Rattle.qcow2_metadata.specs.Bytes.{Bytes, byte_at, sum_below}
-use Rattle.qcow2_metadata.specs.declared.header.HeaderFields.{HeaderFields}
-use Rattle.qcow2_metadata.specs.Header.{cluster_size, entries_per_cluster, reftable_entries}
-use Rattle.qcow2_metadata.specs.Entries.{l1_entry, l2_entry, reftable_entry, host_offset, block_offset}
-use Rattle.qcow2_metadata.specs.Cover.{entry_cover}
-use Rattle.qcow2_metadata.specs.L2Mapping.{host_of}
-use Rattle.qcow2_metadata.specs.TableBytes.{entry_at}
-use Rattle.qcow2_metadata.proofs.TablesAt.{HasBytesAt, entry_stands}
-use Rattle.qcow2_check.specs.declared.tally.Tally.{Tally}
-use Rattle.qcow2_check.specs.Tallies.{TalliesGrow, tally_in, no_tally}
-use Rattle.qcow2_check.specs.Offsets.{off_cluster, off_cluster_if, tables_off, blocks_off, off_l2_tables, off_refblocks, data_off, data_off_at, times}
+use Rattle.qcow2_check.proofs.Common.{◌≡◌, ◌≢◌, ℕ, ◌+◌, ◌*◌, ◌/◌, ◌<◌, ◌≤◌, List, length, sym, ap, ◌∙◌, arith, div-mul-le_self, cond-true, cond-false, eq-eqb, ne_eqb, TallyMap, fun_ext, Bytes, byte_at, sum_below, HeaderFields, cluster_size, entries_per_cluster, reftable_entries, l1_entry, l2_entry, reftable_entry, host_offset, block_offset, entry_cover, host_of, entry_at, HasBytesAt, entry_stands, Tally, TalliesGrow, tally_in, no_tally, off_cluster, off_cluster_if, tables_off, blocks_off, off_l2_tables, off_refblocks, data_off, data_off_at, times}
 use Rattle.qcow2_check.proofs.Grow.{grows_none, grows_more, times_none, times_more}
 use Rattle.qcow2_check.proofs.Sums.{sum_below_none, sum_below_more, sum_below-same}
 use Rattle.qcow2_check.proofs.Totals.{tally_same, triple}

@@ -1,16 +1,5 @@
 -- Copied marks, by offset and by cluster: each mark is on a cluster with one reference and refcount 1 exactly if each cluster with a mark is such a one.
-use Rattle.std.proofs.Common.{◌≡◌, ◌≢◌, ℕ, ◌/◌, ◌&&◌, Bool, eqb, Some, None, refl, subst}
-use Rattle.std.specs.Prelude.{IsTrue}
-use Rattle.std.proofs.lemmas.Bool.{eq-eqb}
-use Rattle.qcow2_metadata.specs.Bytes.{Bytes}
-use Rattle.qcow2_metadata.specs.declared.header.HeaderFields.{HeaderFields}
-use Rattle.qcow2_metadata.specs.Header.{cluster_size}
-use Rattle.qcow2_metadata.specs.Entries.{count}
-use Rattle.qcow2_metadata.specs.Named.{named}
-use Rattle.qcow2_metadata.specs.Consistent.{IsOwn, CopiedIsOwn}
-use Rattle.qcow2_metadata.specs.declared.l2_mapping.L2Mapping.{L2Mapping}
-use Rattle.qcow2_metadata.specs.declared.l2_mapping.L2Mapping.TheVariants.{Data, Zero, Compressed, Uncovered}
-use Rattle.qcow2_check.specs.Marks.{marked_at, marks_of_cover}
+use Rattle.qcow2_check.proofs.Common.{◌≡◌, ◌≢◌, ℕ, ◌/◌, ◌&&◌, Bool, eqb, Some, None, refl, subst, IsTrue, eq-eqb, Bytes, HeaderFields, cluster_size, count, named, IsOwn, CopiedIsOwn, L2Mapping, Data, Zero, Compressed, Uncovered, marked_at, marks_of_cover}
 use Rattle.qcow2_check.proofs.Terms.{one_if-some, true_from_some}
 use Rattle.qcow2_check.proofs.TallyTests.{both_true, left_true, right_true, same_from_eqb}
 

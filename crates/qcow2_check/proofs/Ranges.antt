@@ -1,11 +1,5 @@
 -- The clusters of a range, one after another.
-use Rattle.std.proofs.Common.{◌≡◌, ℕ, ◌+◌, ◌-◌, ◌*◌, ◌≤◌, ◌&&◌, false, eqb, ap, ◌∙◌, arith}
-use Rattle.std.specs.Prelude.{nat_le, nat_lt}
-use Rattle.std.proofs.lemmas.Bool.Decides.{nat_tests}
-use Rattle.std.proofs.Math.Nat.{mul-le-mul_left}
-use Rattle.qcow2_check.specs.declared.tally_map.TallyMap.{TallyMap}
-use Rattle.qcow2_metadata.specs.Bytes.{one_if}
-use Rattle.qcow2_check.specs.Tallies.{TalliesGrow, AddsTimes}
+use Rattle.qcow2_check.proofs.Common.{◌≡◌, ℕ, ◌+◌, ◌-◌, ◌*◌, ◌≤◌, ◌&&◌, false, eqb, ap, ◌∙◌, arith, nat_le, nat_lt, nat_tests, mul-le-mul_left, TallyMap, one_if, TalliesGrow, AddsTimes}
 use Rattle.qcow2_check.proofs.Covers.{never_times}
 use Rattle.qcow2_check.proofs.Grow.{grows_more}
 

@@ -1,9 +1,7 @@
 -- Reads one after another.
-use Rattle.std.proofs.Common.{◌≡◌, Result, Ok, ◌∙◌}
+use Rattle.qcow2_check.proofs.Common.{◌≡◌, Result, Ok, ◌∙◌, MetadataError, OnlyReads}
 use Rattle.image_access.specs.Moments.{StorageView, IsLeftBy}
 use Rattle.image_access.proofs.EachMomentSince.{passes_on, cause_since}
-use Rattle.qcow2_metadata.specs.declared.error.MetadataError.{MetadataError}
-use Rattle.qcow2_metadata.specs.MetadataError.{OnlyReads}
 
 pub reads_more : {T U : Type 0} {one : Result T MetadataError} {two : Result U MetadataError} (old mid new : StorageView) → OnlyReads old mid one → mid.faults ≡ old.faults → OnlyReads mid new two → OnlyReads old new two
 reads_more old mid new first counted next = record {

@@ -1,17 +1,10 @@
 -- Why there is no report.
-use Rattle.std.proofs.Common.{ℕ, ◌+◌, ◌*◌, ◌^◌, ◌≤◌, List, refl, sym, subst, arith}
+use Rattle.qcow2_check.proofs.Common.{ℕ, ◌+◌, ◌*◌, ◌^◌, ◌≤◌, List, refl, sym, subst, arith, Bytes, byte_at, HeaderFields, reftable_entries, L1EntryReads, ReftableEntryReads, IsOfStorageOrMemory, MetadataError, IsReasonNotToCount}
 use Rattle.image_access.specs.Contents.{bytes_at}
 use Rattle.image_access.proofs.Bytes.{length-bytes_at}
-use Rattle.qcow2_metadata.specs.Bytes.{Bytes, byte_at}
-use Rattle.qcow2_metadata.specs.declared.header.HeaderFields.{HeaderFields}
-use Rattle.qcow2_metadata.specs.Header.{reftable_entries}
-use Rattle.qcow2_metadata.specs.Entries.{L1EntryReads, ReftableEntryReads}
 use Rattle.qcow2_metadata.specs.EntryTable.{SomeUnread, IsReasonNotToLoad}
-use Rattle.qcow2_metadata.specs.TableBytes.{IsOfStorageOrMemory}
-use Rattle.qcow2_metadata.specs.declared.error.MetadataError.{MetadataError}
 use Rattle.qcow2_metadata.specs.declared.error.MetadataError.TheVariants.{Storage, Memory, Version, Unaligned, Limit, Format}
 use Rattle.qcow2_metadata.proofs.EntryTables.{l1_entries-loaded, reftable_entries-loaded}
-use Rattle.qcow2_check.specs.Report.{IsReasonNotToCount}
 
 pub l1_unread : (h : HeaderFields) (contents : List ℕ) (e : MetadataError) (honest : Type 0) → honest
     → IsReasonNotToLoad (2 ^ 64 ≤ h.l1_offset + 8 * h.l1_entries) (honest → SomeUnread L1EntryReads (bytes_at contents h.l1_offset (8 * h.l1_entries))) e

@@ -1,13 +1,5 @@
 -- The lines of a report, put together.
-use Rattle.std.proofs.Common.{◌≡◌, ℕ, List, [], ◌++◌, ap, ◌∙◌, append_assoc}
-use Rattle.qcow2_metadata.specs.Bytes.{byte_at}
-use Rattle.qcow2_metadata.specs.declared.header.HeaderFields.{HeaderFields}
-use Rattle.qcow2_check.specs.declared.tally.Tally.{Tally}
-use Rattle.qcow2_check.specs.declared.report.Leak.{Leak}
-use Rattle.qcow2_check.specs.declared.report.Breach.{Breach}
-use Rattle.qcow2_check.specs.Lines.{header_lines, unaligned_lines}
-use Rattle.qcow2_check.specs.Offsets.{times, off_l2_tables, off_refblocks, data_off_below}
-use Rattle.qcow2_check.specs.Report.{ArePassed, tally, cluster_lines, leak_lines_of, breach_lines, leak_lines}
+use Rattle.qcow2_check.proofs.Common.{◌≡◌, ℕ, List, [], ◌++◌, ap, ◌∙◌, append_assoc, byte_at, HeaderFields, Tally, Leak, Breach, header_lines, unaligned_lines, times, off_l2_tables, off_refblocks, data_off_below, ArePassed, tally, cluster_lines, leak_lines_of, breach_lines, leak_lines}
 
 -- all lines under a header of a file
 whole : HeaderFields → List ℕ → List Breach

@@ -1,16 +1,6 @@
 -- The lines for the entries of a map are the lines for all numbers.
-use Rattle.std.proofs.Common.{◌≡◌, ◌≢◌, ℕ, zero, suc, ◌+◌, ◌<◌, ◌≤◌, Bool, true, false, cond, eqb, ltb, List, [], ◌∷◌, ◌++◌, map, filter, unwrap_or, refl, sym, ap, ◌∙◌, arith, inl, inr, add-one, append_assoc, append-nil, subst, ◌-◌, Less, Equal, Greater}
-use Rattle.std.specs.List.{range_with_len, AllByRecursion}
-use Rattle.std.specs.List.Sorted.{IsStrictlySortedBy}
-use Rattle.std.specs.Map.{lookup, keys_of}
-use Rattle.std.specs.BTreeMap.{is_at}
-use Rattle.std.specs.Ordering.{is_eq, nat_cmp}
-use Rattle.std.proofs.lemmas.Bool.{cond-true, cond-false, eq-eqb, ne_eqb, le-ltb, lt-ltb, cases_eq, cases_lt}
-use Rattle.std.proofs.lemmas.List.{map-append}
+use Rattle.qcow2_check.proofs.Common.{◌≡◌, ◌≢◌, ℕ, zero, suc, ◌+◌, ◌<◌, ◌≤◌, Bool, true, false, cond, eqb, ltb, List, [], ◌∷◌, ◌++◌, map, filter, unwrap_or, refl, sym, ap, ◌∙◌, arith, inl, inr, add-one, append_assoc, append-nil, subst, ◌-◌, Less, Equal, Greater, range_with_len, AllByRecursion, IsStrictlySortedBy, lookup, keys_of, is_at, is_eq, nat_cmp, cond-true, cond-false, eq-eqb, ne_eqb, le-ltb, lt-ltb, cases_eq, cases_lt, map-append, Tally, no_tally, rising, lines, lines_from, lines_of, numbered, entries_past}
 use Rattle.std.proofs.lemmas.Map.Keys.{sorted_head, sorted_tail}
-use Rattle.qcow2_check.specs.declared.tally.Tally.{Tally}
-use Rattle.qcow2_check.specs.Tallies.{no_tally}
-use Rattle.qcow2_check.specs.Lines.{rising, lines, lines_from, lines_of, numbered, entries_past}
 
 -- ---- keys
 

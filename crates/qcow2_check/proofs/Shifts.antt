@@ -1,15 +1,6 @@
 -- A table that was read into a buffer.
-use Rattle.std.proofs.Common.{◌≡◌, ℕ, ◌+◌, ◌*◌, ◌/◌, ◌<◌, ◌≤◌, List, length, ap, arith}
-use Rattle.std.proofs.Math.Nat.{div-mul-le_self}
-use Rattle.qcow2_metadata.specs.Bytes.{Bytes, byte_at}
-use Rattle.qcow2_metadata.specs.declared.header.HeaderFields.{HeaderFields}
-use Rattle.qcow2_metadata.specs.Header.{cluster_size, entries_per_cluster}
-use Rattle.qcow2_metadata.specs.Entries.{l2_entry}
-use Rattle.qcow2_metadata.specs.Cover.{entry_cover}
-use Rattle.qcow2_metadata.specs.Named.{named_by_cover}
-use Rattle.qcow2_metadata.proofs.TablesAt.{HasBytesAt, entry_stands}
+use Rattle.qcow2_check.proofs.Common.{◌≡◌, ℕ, ◌+◌, ◌*◌, ◌/◌, ◌<◌, ◌≤◌, List, length, ap, arith, div-mul-le_self, Bytes, byte_at, HeaderFields, cluster_size, entries_per_cluster, l2_entry, entry_cover, named_by_cover, HasBytesAt, entry_stands, marks_of_cover, named_by_entries, marked_by_entries}
 use Rattle.qcow2_check.proofs.Sums.{sum_below-same}
-use Rattle.qcow2_check.specs.Marks.{marks_of_cover, named_by_entries, marked_by_entries}
 
 inside_table : (size j : ℕ) → j < size / 8 → 8 * j + 8 ≤ size
 inside_table size j lt = let down = div-mul-le_self size 8 in omega arith

@@ -1,7 +1,5 @@
 -- Sums over a range.
-use Rattle.std.proofs.Common.{◌≡◌, ℕ, zero, suc, ◌+◌, ◌<◌, ◌≤◌, ◌≢◌, refl, sym, ap, arith, inl, inr, add-one}
-use Rattle.std.proofs.lemmas.Bool.{cases_eq}
-use Rattle.qcow2_metadata.specs.Bytes.{sum_below}
+use Rattle.qcow2_check.proofs.Common.{◌≡◌, ℕ, zero, suc, ◌+◌, ◌<◌, ◌≤◌, ◌≢◌, refl, sym, ap, arith, inl, inr, add-one, cases_eq, sum_below}
 
 pub sum_below-same : (n : ℕ) (f g : ℕ → ℕ) → ((i : ℕ) → i < n → f i ≡ g i) → sum_below n f ≡ sum_below n g
 unfolding sum_below

@@ -1,24 +1,6 @@
 -- The sums over the whole image.
-use Rattle.std.proofs.Common.{◌≡◌, ℕ, zero, suc, ◌+◌, ◌-◌, ◌*◌, ◌/◌, ◌%◌, ◌^◌, ◌<◌, ◌≤◌, ◌&&◌, Bool, true, false, eqb, List, length, refl, sym, ap, ◌∙◌, arith, subst}
-use Rattle.std.specs.Prelude.{nat_le, nat_lt}
-use Rattle.qcow2_check.specs.declared.tally_map.TallyMap.{TallyMap}
-use Rattle.std.proofs.lemmas.Nat.{one_shl, div_below, pow_pos, le-div}
-use Rattle.std.proofs.Math.Pow.{pow_mono}
-use Rattle.qcow2_metadata.specs.Bytes.{Bytes, sum_below, one_if}
-use Rattle.qcow2_metadata.specs.declared.header.HeaderFields.{HeaderFields}
-use Rattle.qcow2_metadata.specs.Header.{cluster_size, reftable_entries}
-use Rattle.qcow2_metadata.specs.Entries.{count, l1_entry, reftable_entry, block_offset, host_offset}
-use Rattle.qcow2_metadata.specs.Named.{table_in, in_cluster, named, named_for_tables, named_by_header, named_by_reftable, named_by_l1_table, named_by_l2_table, named_by_l2_tables}
+use Rattle.qcow2_check.proofs.Common.{◌≡◌, ℕ, zero, suc, ◌+◌, ◌-◌, ◌*◌, ◌/◌, ◌%◌, ◌^◌, ◌<◌, ◌≤◌, ◌&&◌, Bool, true, false, eqb, List, length, refl, sym, ap, ◌∙◌, arith, subst, nat_le, nat_lt, TallyMap, one_shl, div_below, pow_pos, le-div, pow_mono, Bytes, sum_below, one_if, HeaderFields, cluster_size, reftable_entries, count, l1_entry, reftable_entry, block_offset, host_offset, table_in, in_cluster, named, named_for_tables, named_by_header, named_by_reftable, named_by_l1_table, named_by_l2_table, named_by_l2_tables, Tally, fun_ext, Counts, TalliesGrow, AddsToTally, tally_in, no_tally, names_of, tally, mul-le-mul_left, entry_at, blocks_among, count_in, counted_in, named_below, tables_below, marked_below}
 use Rattle.qcow2_check.proofs.Sums.{sum_below_more, sum_below-same}
-use Rattle.qcow2_check.specs.declared.tally.Tally.{Tally}
-use mathlib.Core.Path.{fun_ext}
-use Rattle.qcow2_check.specs.declared.kept.Counts.{Counts}
-use Rattle.qcow2_check.specs.Tallies.{TalliesGrow, AddsToTally, tally_in, no_tally, names_of}
-use Rattle.qcow2_check.specs.Report.{tally}
-use Rattle.std.proofs.Math.Nat.{mul-le-mul_left}
-use Rattle.qcow2_metadata.specs.TableBytes.{entry_at}
-use Rattle.qcow2_check.specs.Counted.{blocks_among, count_in, counted_in}
-use Rattle.qcow2_check.specs.Marks.{named_below, tables_below, marked_below}
 use Rattle.qcow2_check.proofs.Grow.{grows_more}
 use Rattle.qcow2_check.proofs.GrowL1.{one_if-and_true}
 

@@ -1,15 +1,5 @@
 -- The L1 table, and then its L2 tables, put together.
-use Rattle.std.proofs.Common.{◌≡◌, ℕ, ◌+◌, List, ap, ◌∙◌, arith}
-use Rattle.std.specs.List.{sum_by}
-use Rattle.qcow2_check.specs.declared.tally_map.TallyMap.{TallyMap}
-use Rattle.qcow2_metadata.specs.Bytes.{Bytes, sum_below}
-use Rattle.qcow2_metadata.specs.declared.header.HeaderFields.{HeaderFields}
-use Rattle.qcow2_metadata.specs.Entries.{l1_entry, host_offset}
-use Rattle.qcow2_metadata.specs.Named.{table_in, named_by_l2_table}
-use Rattle.qcow2_metadata.specs.TableBytes.{entry_at}
-use Rattle.qcow2_check.specs.Tallies.{TalliesGrow}
-use Rattle.qcow2_check.specs.Offsets.{data_off_at, data_off_below, data_off_by_tables}
-use Rattle.qcow2_check.specs.Marks.{mark_of_entry, marked_by_l2_table, tables_among, marks_among, tables_below, named_below, marked_below, named_by_tables, marked_by_tables}
+use Rattle.qcow2_check.proofs.Common.{◌≡◌, ℕ, ◌+◌, List, ap, ◌∙◌, arith, sum_by, TallyMap, Bytes, sum_below, HeaderFields, l1_entry, host_offset, table_in, named_by_l2_table, entry_at, TalliesGrow, data_off_at, data_off_below, data_off_by_tables, mark_of_entry, marked_by_l2_table, tables_among, marks_among, tables_below, named_below, marked_below, named_by_tables, marked_by_tables}
 use Rattle.qcow2_check.proofs.Sums.{sum_below-same}
 use Rattle.qcow2_check.proofs.Grow.{grows_more}
 use Rattle.qcow2_check.proofs.OffsetSteps.{grows_as}

@@ -1,6 +1,4 @@
-use Rattle.std.proofs.Common.{length, arith, inl, inr}
-use Rattle.std.proofs.lemmas.Bool.{cases_lt}
-use Rattle.std.proofs.lemmas.List.{get_or_past}
+use Rattle.qcow2_check.proofs.Common.{length, arith, inl, inr, cases_lt, get_or_past}
 use Rattle.qcow2_check.proofs.block.kept_bytes.Goals as goal
 
 pub returns : goal.returns

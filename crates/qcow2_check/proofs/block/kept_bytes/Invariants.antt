@@ -1,5 +1,4 @@
-use Rattle.std.proofs.Common.{ℕ, ◌≡◌, ◌<◌}
-use Rattle.qcow2_metadata.specs.Bytes.{byte_at}
+use Rattle.qcow2_check.proofs.Common.{ℕ, ◌≡◌, ◌<◌, byte_at}
 use Rattle.qcow2_check.proofs.block.kept_bytes.Given as goal
 
 abbrev pub invariant-loop-byte : goal.invariant-loop-byte

@@ -1,5 +1,4 @@
-use Rattle.std.proofs.Common.{◌∙◌}
-use Rattle.qcow2_check.specs.Counted.{counted_in}
+use Rattle.qcow2_check.proofs.Common.{◌∙◌, counted_in}
 use Rattle.qcow2_check.proofs.Reported.{all_breaches, all_leaks}
 use Rattle.qcow2_check.proofs.NoBreaches.{all_end, breaches_told}
 use Rattle.qcow2_check.proofs.checker.check.Goals as goal

@@ -1,7 +1,4 @@
-use Rattle.std.proofs.Common.{◌≡◌, ◌*◌, ◌%◌, ◌^◌, ◌≤◌, arith}
-use Rattle.std.proofs.lemmas.Nat.{one_shl, le-div, pow_pos}
-use Rattle.std.proofs.Math.Pow.{pow_mono}
-use Rattle.std.proofs.Math.Nat.{div-le_self}
+use Rattle.qcow2_check.proofs.Common.{◌≡◌, ◌*◌, ◌%◌, ◌^◌, ◌≤◌, arith, one_shl, le-div, pow_pos, pow_mono, div-le_self}
 use Rattle.qcow2_check.proofs.counts.counts_per_block_of.Goals as goal
 
 pub returns-clause-some : goal.returns-clause-some

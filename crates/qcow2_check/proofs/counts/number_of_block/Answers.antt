@@ -1,9 +1,4 @@
-use Rattle.std.proofs.Common.{◌≡◌, ◌^◌, ◌%◌, ◌≤◌, length, ap, sym, ◌∙◌, arith, refl}
-use Rattle.std.proofs.Math.Pow.{pow_mono}
-use Rattle.std.specs.Option.{option_copied}
-use Rattle.qcow2_metadata.specs.Bytes.{byte_at}
-use Rattle.qcow2_metadata.specs.Header.{cluster_size}
-use Rattle.qcow2_metadata.proofs.TablesAt.{stand_at-loaded}
+use Rattle.qcow2_check.proofs.Common.{◌≡◌, ◌^◌, ◌%◌, ◌≤◌, length, ap, sym, ◌∙◌, arith, refl, pow_mono, option_copied, byte_at, cluster_size, stand_at-loaded}
 use Rattle.qcow2_check.proofs.CountSteps.{whole_cluster, read_counts}
 use Rattle.qcow2_check.proofs.KeptBlocks.{keeps_placeless, keeps_known, keeps_read}
 use Rattle.qcow2_check.proofs.counts.number_of_block.Goals as goal

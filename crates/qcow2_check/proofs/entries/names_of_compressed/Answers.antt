@@ -1,5 +1,4 @@
-use Rattle.std.proofs.Common.{subst}
-use Rattle.qcow2_metadata.specs.L2Mapping.{IsInReach}
+use Rattle.qcow2_check.proofs.Common.{subst, IsInReach}
 use Rattle.qcow2_check.proofs.Clusters.{few_of_bits}
 use Rattle.qcow2_check.proofs.entries.names_of_compressed.Goals as goal
 

@@ -1,8 +1,4 @@
-use Rattle.std.proofs.Common.{◌≡◌, ◌==◌, ◌*◌, ◌^◌, ◌≤◌, ap, ◌∙◌, arith}
-use Rattle.std.proofs.Math.Pow.{pow_mono}
-use Rattle.qcow2_metadata.specs.Bytes.{byte_at}
-use Rattle.qcow2_metadata.specs.Entries.{l2_entry}
-use Rattle.qcow2_metadata.specs.Cover.{cover_of, entry_cover}
+use Rattle.qcow2_check.proofs.Common.{◌≡◌, ◌==◌, ◌*◌, ◌^◌, ◌≤◌, ap, ◌∙◌, arith, pow_mono, byte_at, l2_entry, cover_of, entry_cover}
 use Rattle.qcow2_check.proofs.Grow.{l2_table_none, l2_table_more}
 use Rattle.qcow2_check.proofs.Ranges.{times_le}
 use Rattle.qcow2_check.proofs.entries.names_of_l2_table.Goals as goal

@@ -1,7 +1,4 @@
-use Rattle.std.proofs.Common.{◌+◌, ◌*◌, ◌^◌, ◌≤◌}
-use Rattle.qcow2_metadata.specs.Bytes.{byte_at}
-use Rattle.qcow2_check.specs.Tallies.{TalliesGrow}
-use Rattle.qcow2_check.specs.Marks.{named_by_entries, marked_by_entries}
+use Rattle.qcow2_check.proofs.Common.{◌+◌, ◌*◌, ◌^◌, ◌≤◌, byte_at, TalliesGrow, named_by_entries, marked_by_entries}
 use Rattle.qcow2_check.proofs.entries.names_of_l2_table.Given as goal
 
 abbrev pub invariant-loop-j : goal.invariant-loop-j

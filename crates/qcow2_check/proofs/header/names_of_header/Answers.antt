@@ -1,5 +1,4 @@
-use Rattle.std.proofs.Common.{arith}
-use Rattle.std.proofs.lemmas.Nat.{one_shl}
+use Rattle.qcow2_check.proofs.Common.{arith, one_shl}
 use Rattle.qcow2_check.proofs.Totals.{cluster_of_place, header_names}
 use Rattle.qcow2_check.proofs.header.names_of_header.Goals as goal
 

@@ -1,7 +1,5 @@
-use Rattle.std.proofs.Common.{arith, ap, ◌∙◌}
-use Rattle.qcow2_metadata.specs.Entries.{block_offset}
+use Rattle.qcow2_check.proofs.Common.{arith, ap, ◌∙◌, block_offset, blocks_among}
 use Rattle.qcow2_check.proofs.Sums.{sum_below_none}
-use Rattle.qcow2_check.specs.Counted.{blocks_among}
 use Rattle.qcow2_check.proofs.Grow.{grows_none}
 use Rattle.qcow2_check.proofs.Totals.{blocks_more}
 use Rattle.qcow2_check.proofs.header.names_of_reftable.Goals as goal

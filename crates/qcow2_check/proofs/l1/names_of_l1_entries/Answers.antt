@@ -1,4 +1,4 @@
-use Rattle.std.proofs.Common.{arith}
+use Rattle.qcow2_check.proofs.Common.{arith}
 use Rattle.qcow2_check.proofs.GrowL1.{entries_none, entries_more}
 use Rattle.qcow2_check.proofs.l1.names_of_l1_entries.Goals as goal
 

@@ -1,8 +1,4 @@
-use Rattle.std.proofs.Common.{◌≡◌, ◌/◌, length, ℕ, ap, ◌∙◌}
-use Rattle.std.specs.List.{sum_by}
-use Rattle.qcow2_metadata.specs.Bytes.{byte_at, sum_below}
-use Rattle.qcow2_metadata.specs.Entries.{host_offset}
-use Rattle.qcow2_metadata.specs.TableBytes.{entry_at}
+use Rattle.qcow2_check.proofs.Common.{◌≡◌, ◌/◌, length, ℕ, ap, ◌∙◌, sum_by, byte_at, sum_below, host_offset, entry_at}
 use Rattle.qcow2_check.proofs.WholeL1.{whole_l1, whole_data}
 use Rattle.qcow2_check.proofs.l1.names_of_l1_table.Goals as goal
 

@@ -1,10 +1,6 @@
-use Rattle.std.proofs.Common.{◌≡◌, ◌/◌, length, ap, sym, ◌∙◌, arith, length-append}
-use Rattle.std.specs.List.{sum_by}
+use Rattle.qcow2_check.proofs.Common.{◌≡◌, ◌/◌, length, ap, sym, ◌∙◌, arith, length-append, sum_by, sum_below, host_offset, entry_at}
 use Rattle.std.proofs.lemmas.List.Sums.{sum_by_push}
 use Rattle.std.proofs.lemmas.List.Sorted.{sum_by-IsPermutation}
-use Rattle.qcow2_metadata.specs.Bytes.{sum_below}
-use Rattle.qcow2_metadata.specs.Entries.{host_offset}
-use Rattle.qcow2_metadata.specs.TableBytes.{entry_at}
 use Rattle.qcow2_check.proofs.Sums.{sum_below_none, sum_below_more}
 use Rattle.qcow2_check.proofs.l1.table_places.Goals as goal
 

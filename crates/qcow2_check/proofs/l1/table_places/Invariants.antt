@@ -1,8 +1,4 @@
-use Rattle.std.proofs.Common.{ℕ, ◌≡◌, length}
-use Rattle.std.specs.List.{sum_by}
-use Rattle.qcow2_metadata.specs.Bytes.{sum_below}
-use Rattle.qcow2_metadata.specs.Entries.{host_offset}
-use Rattle.qcow2_metadata.specs.TableBytes.{entry_at}
+use Rattle.qcow2_check.proofs.Common.{ℕ, ◌≡◌, length, sum_by, sum_below, host_offset, entry_at}
 use Rattle.qcow2_check.proofs.l1.table_places.Given as goal
 
 abbrev pub invariant-loop-i : goal.invariant-loop-i

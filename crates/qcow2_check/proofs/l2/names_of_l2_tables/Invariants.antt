@@ -1,9 +1,4 @@
-use Rattle.std.proofs.Common.{◌+◌, ◌*◌, ◌^◌, ◌≤◌, Ok, take}
-use Rattle.qcow2_metadata.specs.Bytes.{byte_at}
-use Rattle.qcow2_metadata.specs.Named.{named_by_l2_table}
-use Rattle.qcow2_metadata.specs.MetadataError.{OnlyReads}
-use Rattle.qcow2_check.specs.Offsets.{data_off_at, data_off_by_tables}
-use Rattle.qcow2_check.specs.Marks.{marked_by_l2_table, named_by_tables, marked_by_tables}
+use Rattle.qcow2_check.proofs.Common.{◌+◌, ◌*◌, ◌^◌, ◌≤◌, Ok, take, byte_at, named_by_l2_table, OnlyReads, data_off_at, data_off_by_tables, marked_by_l2_table, named_by_tables, marked_by_tables}
 use Rattle.qcow2_check.proofs.Repeats.{IsBehind}
 use Rattle.qcow2_check.proofs.l2.names_of_l2_tables.Given as goal
 

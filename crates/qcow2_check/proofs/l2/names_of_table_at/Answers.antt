@@ -1,6 +1,4 @@
-use Rattle.std.proofs.Common.{arith, refl}
-use Rattle.qcow2_metadata.specs.Bytes.{byte_at}
-use Rattle.qcow2_metadata.proofs.TablesAt.{stand_at-loaded}
+use Rattle.qcow2_check.proofs.Common.{arith, refl, byte_at, stand_at-loaded}
 use Rattle.qcow2_check.proofs.GrowL1.{no_table, one_table}
 use Rattle.qcow2_check.proofs.OffsetSteps.{no_data, data_part}
 use Rattle.qcow2_check.proofs.l2.names_of_table_at.Goals as goal

@@ -1,5 +1,4 @@
-use Rattle.std.proofs.Common.{sym, ap, ◌∙◌, arith}
-use Rattle.qcow2_check.specs.Leaked.{leak_of_count}
+use Rattle.qcow2_check.proofs.Common.{sym, ap, ◌∙◌, arith, leak_of_count}
 use Rattle.qcow2_check.proofs.LeakLists.{leaks-uncounted, no_leaks, leaked_here, not_leaked_here}
 use Rattle.qcow2_check.proofs.leaks.next_leak.Goals as goal
 

@@ -1,10 +1,4 @@
-use Rattle.std.proofs.Common.{◌≡◌, ◌==◌, ◌^◌, ◌≤◌, arith, ap, ◌∙◌}
-use Rattle.std.proofs.Math.Pow.{pow_mono}
-use Rattle.qcow2_metadata.specs.Bytes.{byte_at}
-use Rattle.qcow2_metadata.specs.Entries.{l2_entry}
-use Rattle.qcow2_metadata.specs.Cover.{cover_of, entry_cover}
-use Rattle.qcow2_metadata.specs.L2Mapping.{host_of}
-use Rattle.qcow2_check.specs.Offsets.{off_cluster_if}
+use Rattle.qcow2_check.proofs.Common.{◌≡◌, ◌==◌, ◌^◌, ◌≤◌, arith, ap, ◌∙◌, pow_mono, byte_at, l2_entry, cover_of, entry_cover, host_of, off_cluster_if}
 use Rattle.qcow2_check.proofs.OffsetSteps.{times_terms_none, times_terms_more}
 use Rattle.qcow2_check.proofs.Ranges.{times_le}
 use Rattle.qcow2_check.proofs.offsets.offsets_of_l2_table.Goals as goal

@@ -1,7 +1,4 @@
-use Rattle.std.proofs.Common.{◌+◌, ◌*◌, ◌≤◌}
-use Rattle.qcow2_metadata.specs.Bytes.{byte_at}
-use Rattle.qcow2_check.specs.Tallies.{TalliesGrow}
-use Rattle.qcow2_check.specs.Offsets.{data_off}
+use Rattle.qcow2_check.proofs.Common.{◌+◌, ◌*◌, ◌≤◌, byte_at, TalliesGrow, data_off}
 use Rattle.qcow2_check.proofs.offsets.offsets_of_l2_table.Given as goal
 
 abbrev pub invariant-loop-j : goal.invariant-loop-j

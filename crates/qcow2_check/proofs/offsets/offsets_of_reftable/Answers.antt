@@ -1,7 +1,4 @@
-use Rattle.std.proofs.Common.{arith, ap, ◌∙◌}
-use Rattle.qcow2_metadata.specs.Entries.{block_offset}
-use Rattle.qcow2_metadata.specs.TableBytes.{entry_at}
-use Rattle.qcow2_check.specs.Offsets.{off_cluster}
+use Rattle.qcow2_check.proofs.Common.{arith, ap, ◌∙◌, block_offset, entry_at, off_cluster}
 use Rattle.qcow2_check.proofs.OffsetSteps.{once, terms_none, terms_more}
 use Rattle.qcow2_check.proofs.offsets.offsets_of_reftable.Goals as goal
 

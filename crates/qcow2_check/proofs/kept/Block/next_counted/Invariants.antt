@@ -1,5 +1,4 @@
-use Rattle.std.proofs.Common.{ℕ, ◌≡◌, ◌<◌, ◌≤◌}
-use Rattle.qcow2_check.specs.Counted.{count_of}
+use Rattle.qcow2_check.proofs.Common.{ℕ, ◌≡◌, ◌<◌, ◌≤◌, count_of}
 use Rattle.qcow2_check.proofs.kept.Block.next_counted.Given as goal
 
 abbrev pub invariant-loop-i : goal.invariant-loop-i

@@ -1,6 +1,4 @@
-use Rattle.std.proofs.Common.{◌-◌, ◌<◌, ap, sym, ◌∙◌, arith}
-use Rattle.std.specs.Prelude.{slice_get}
-use Rattle.qcow2_check.specs.Counted.{block_numbered}
+use Rattle.qcow2_check.proofs.Common.{◌-◌, ◌<◌, ap, sym, ◌∙◌, arith, slice_get, block_numbered}
 use Rattle.qcow2_check.proofs.KeptBlocks.{lent_at, numbered_some}
 use Rattle.qcow2_check.proofs.kept.Counts.block.Goals as goal
 

@@ -1,5 +1,4 @@
-use Rattle.std.proofs.Common.{sym, ap, ◌∙◌}
-use Rattle.std.specs.Option.{option_copied}
+use Rattle.qcow2_check.proofs.Common.{sym, ap, ◌∙◌, option_copied}
 use Rattle.qcow2_check.proofs.KeptBlocks.{count_some, count_none}
 use Rattle.qcow2_check.proofs.kept.Counts.count.Goals as goal
 

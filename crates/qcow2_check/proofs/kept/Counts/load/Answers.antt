@@ -1,9 +1,4 @@
-use Rattle.std.proofs.Common.{ℕ, ◌≡◌, ◌<◌, ◌/◌, List, length, get_or, ap, sym, subst, ◌∙◌, arith, inl, inr, length-append}
-use Rattle.std.proofs.lemmas.Bool.{cases_lt}
-use Rattle.qcow2_metadata.specs.Bytes.{byte_at}
-use Rattle.qcow2_metadata.specs.Entries.{block_offset}
-use Rattle.qcow2_metadata.specs.TableBytes.{entry_at}
-use Rattle.qcow2_check.specs.Counted.{HasBlock, KeepsBlocks, KeepsMore}
+use Rattle.qcow2_check.proofs.Common.{ℕ, ◌≡◌, ◌<◌, ◌/◌, List, length, get_or, ap, sym, subst, ◌∙◌, arith, inl, inr, length-append, cases_lt, byte_at, block_offset, entry_at, HasBlock, KeepsBlocks, KeepsMore}
 use Rattle.qcow2_check.proofs.KeptBlocks.{placed_before, placed_last, all_kept}
 use Rattle.qcow2_check.proofs.Reading.{reads_another, reads_more}
 use Rattle.qcow2_check.proofs.kept.Counts.load.Goals as goal

@@ -1,9 +1,4 @@
-use Rattle.std.proofs.Common.{ℕ, ◌≡◌, ◌<◌, Ok, length, get_or}
-use Rattle.qcow2_metadata.specs.Bytes.{byte_at}
-use Rattle.qcow2_metadata.specs.Entries.{block_offset}
-use Rattle.qcow2_metadata.specs.TableBytes.{entry_at}
-use Rattle.qcow2_metadata.specs.MetadataError.{OnlyReads}
-use Rattle.qcow2_check.specs.Counted.{HasBlock, KeepsBlocks}
+use Rattle.qcow2_check.proofs.Common.{ℕ, ◌≡◌, ◌<◌, Ok, length, get_or, byte_at, block_offset, entry_at, OnlyReads, HasBlock, KeepsBlocks}
 use Rattle.qcow2_check.proofs.kept.Counts.load.Given as goal
 
 abbrev pub invariant-loop-k : goal.invariant-loop-k

@@ -1,4 +1,4 @@
-use Rattle.std.proofs.Common.{arith}
+use Rattle.qcow2_check.proofs.Common.{arith}
 use Rattle.qcow2_check.proofs.Ranges.{range_more, one_longer}
 use Rattle.qcow2_check.proofs.names.Names.add_range.Goals as goal
 

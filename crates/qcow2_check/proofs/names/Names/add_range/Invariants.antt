@@ -1,7 +1,4 @@
-use Rattle.std.proofs.Common.{◌≡◌, ◌+◌, ◌-◌, ◌*◌, ◌&&◌}
-use Rattle.std.specs.Prelude.{nat_le, nat_lt}
-use Rattle.qcow2_metadata.specs.Bytes.{one_if}
-use Rattle.qcow2_check.specs.Tallies.{TalliesGrow}
+use Rattle.qcow2_check.proofs.Common.{◌≡◌, ◌+◌, ◌-◌, ◌*◌, ◌&&◌, nat_le, nat_lt, one_if, TalliesGrow}
 use Rattle.qcow2_check.proofs.names.Names.add_range.Given as goal
 
 abbrev pub invariant-loop-cluster : goal.invariant-loop-cluster

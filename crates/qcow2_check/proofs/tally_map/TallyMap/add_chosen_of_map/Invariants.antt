@@ -1,5 +1,4 @@
-use Rattle.std.proofs.Common.{◌≡◌, ◌++◌}
-use Rattle.qcow2_check.specs.Lines.{takes, shown_entries, entries_past}
+use Rattle.qcow2_check.proofs.Common.{◌≡◌, ◌++◌, takes, shown_entries, entries_past}
 use Rattle.qcow2_check.proofs.tally_map.TallyMap.add_chosen_of_map.Given as goal
 
 abbrev pub invariant-loop-cluster : goal.invariant-loop-cluster

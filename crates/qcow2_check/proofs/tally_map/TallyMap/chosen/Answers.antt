@@ -1,11 +1,6 @@
-use Rattle.std.proofs.Common.{ℕ, ◌≡◌, ◌^◌, ◌++◌, List, length, false, refl, sym, ap, subst, ◌∙◌, arith}
-use Rattle.std.specs.List.Sorted.{IsStrictlySortedBy}
-use Rattle.std.specs.Ordering.{nat_cmp}
-use Rattle.qcow2_check.specs.declared.tally.Tally.{Tally}
+use Rattle.qcow2_check.proofs.Common.{ℕ, ◌≡◌, ◌^◌, ◌++◌, List, length, false, refl, sym, ap, subst, ◌∙◌, arith, IsStrictlySortedBy, nat_cmp, Tally, no_tally, tally_in, takes, shown, shown_entries, entries_past}
 use Rattle.qcow2_check.specs.declared.told.Choice.{Choice}
 use Rattle.qcow2_check.specs.declared.told.Choice.TheVariants.{Breached, Named}
-use Rattle.qcow2_check.specs.Tallies.{no_tally, tally_in}
-use Rattle.qcow2_check.specs.Lines.{takes, shown, shown_entries, entries_past}
 use Rattle.qcow2_check.proofs.Rising.{lines_joined, keys_of-others, tally_of-others}
 use Rattle.qcow2_check.proofs.TallyMaps.{past_array}
 use Rattle.qcow2_check.proofs.tally_map.TallyMap.chosen.Goals as goal

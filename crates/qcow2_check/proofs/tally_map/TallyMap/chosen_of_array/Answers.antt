@@ -1,7 +1,4 @@
-use Rattle.std.proofs.Common.{ℕ, ◌≡◌, List, [], ◌∷◌, ◌++◌, sym, ap, ◌∙◌}
-use Rattle.qcow2_check.specs.declared.tally.Tally.{Tally}
-use Rattle.qcow2_check.specs.Tallies.{tally_in}
-use Rattle.qcow2_check.specs.Lines.{lines, takes, shown, numbered}
+use Rattle.qcow2_check.proofs.Common.{ℕ, ◌≡◌, List, [], ◌∷◌, ◌++◌, sym, ap, ◌∙◌, Tally, tally_in, lines, takes, shown, numbered}
 use Rattle.qcow2_check.proofs.Rising.{lines-none, lines-passed, lines-failed}
 use Rattle.qcow2_check.proofs.tally_map.TallyMap.chosen_of_array.Goals as goal
 use Rattle.qcow2_check.proofs.tally_map.TallyMap.chosen_of_array.Goals.{then-takes+in_ok-push, else-takes}

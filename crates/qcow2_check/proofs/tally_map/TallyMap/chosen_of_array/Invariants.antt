@@ -1,6 +1,4 @@
-use Rattle.std.proofs.Common.{◌≡◌}
-use Rattle.qcow2_check.specs.Tallies.{tally_in}
-use Rattle.qcow2_check.specs.Lines.{lines, takes, shown, numbered}
+use Rattle.qcow2_check.proofs.Common.{◌≡◌, tally_in, lines, takes, shown, numbered}
 use Rattle.qcow2_check.proofs.tally_map.TallyMap.chosen_of_array.Given as goal
 
 abbrev pub invariant-loop-cluster : goal.invariant-loop-cluster

@@ -1,5 +1,4 @@
-use Rattle.std.proofs.Common.{sym, ap, ◌∙◌}
-use Rattle.qcow2_check.specs.Tallies.{is_blank, widened}
+use Rattle.qcow2_check.proofs.Common.{sym, ap, ◌∙◌, is_blank, widened}
 use Rattle.qcow2_check.proofs.TallyMaps.{tally-large, tally-small}
 use Rattle.qcow2_check.proofs.tally_map.TallyMap.get.Goals as goal
 

@@ -1,9 +1,4 @@
-use Rattle.std.proofs.Common.{ℕ, List, get_or, unwrap_or, ap, ◌∙◌}
-use Rattle.std.specs.Map.{lookup}
-use Rattle.std.specs.BTreeMap.{is_at}
-use Rattle.std.specs.Ordering.{nat_cmp}
-use Rattle.qcow2_check.specs.declared.tally.Tally.{Tally}
-use Rattle.qcow2_check.specs.Tallies.{no_tally, blank, is_blank}
+use Rattle.qcow2_check.proofs.Common.{ℕ, List, get_or, unwrap_or, ap, ◌∙◌, lookup, is_at, nat_cmp, Tally, no_tally, blank, is_blank}
 use Rattle.qcow2_check.proofs.TallyMaps.{tally-large}
 use Rattle.qcow2_check.proofs.tally_map.TallyMap.new.Goals as goal
 

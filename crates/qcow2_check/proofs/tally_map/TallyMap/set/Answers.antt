@@ -1,6 +1,4 @@
-use Rattle.std.proofs.Common.{refl, ◌∙◌, arith}
-use Rattle.std.proofs.lemmas.List.{get_or-set_same, get_or-set_other}
-use Rattle.qcow2_check.specs.Tallies.{blank}
+use Rattle.qcow2_check.proofs.Common.{refl, ◌∙◌, arith, get_or-set_same, get_or-set_other, blank}
 use Rattle.qcow2_check.proofs.TallyMaps.{tally-same, tally_set}
 use Rattle.qcow2_check.proofs.tally_map.TallyMap.set.Goals as goal
 

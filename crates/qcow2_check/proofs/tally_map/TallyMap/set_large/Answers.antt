@@ -1,11 +1,4 @@
-use Rattle.std.proofs.Common.{ℕ, List, refl, ap, sym, arith}
-use Rattle.std.proofs.lemmas.List.{get_or_past, get_or-set_same, get_or-set_other}
-use Rattle.std.proofs.lemmas.Result.{err_from_is_err_and}
-use Rattle.std.specs.Map.{lookup}
-use Rattle.std.specs.BTreeMap.{is_at}
-use Rattle.std.specs.Ordering.{nat_cmp}
-use Rattle.qcow2_check.specs.declared.tally.Tally.{Tally}
-use Rattle.qcow2_check.specs.Tallies.{blank}
+use Rattle.qcow2_check.proofs.Common.{ℕ, List, refl, ap, sym, arith, get_or_past, get_or-set_same, get_or-set_other, err_from_is_err_and, lookup, is_at, nat_cmp, Tally, blank}
 use Rattle.qcow2_check.proofs.Rising.{at_other}
 use Rattle.qcow2_check.proofs.TallyMaps.{tally-same, tally_put}
 use Rattle.qcow2_check.proofs.tally_map.TallyMap.set_large.Goals as goal
