@@ -1,13 +1,5 @@
 -- Calls one after another, as a read or a write of several parts makes them, and the moments on the way, each of which is built here.
-use Rattle.std.proofs.Common.{◌≡◌, ◌⊎◌, ⊎_elim, inl, inr, ℕ, List, IsTrue, sym, ap, ◌∙◌, subst}
-use Rattle.image_access.specs.Moments.{StorageView, EachMomentSince, IsLeftBy}
-use Rattle.image_access.proofs.EachMomentSince.{passes_none, passes_if, passes_on}
-use Rattle.qcow2_metadata.specs.Bytes.{Bytes, byte_at}
-use Rattle.qcow2_metadata.specs.Guest.{Value}
-use Rattle.qcow2_disk.specs.Disk.{disk, disk_with}
-use Rattle.qcow2_disk.specs.Stops.{GivenBytes, IsGiven, Checkpoint, checkpoint_with, StopOkEverywhere, SafeThroughout, LeavesKept}
-use Rattle.qcow2_disk.specs.AbstractImages.{Setting, AbstractImage, stored_bytes, guest_of}
-use Rattle.qcow2_disk.specs.Calls.{StartsAt, Stops, EffectOnSound, EffectOnFailed}
+use Rattle.qcow2_disk.proofs.Common.{◌≡◌, ◌⊎◌, ⊎_elim, inl, inr, ℕ, List, IsTrue, sym, ap, ◌∙◌, subst, StorageView, EachMomentSince, IsLeftBy, passes_none, passes_if, passes_on, Bytes, byte_at, Value, disk, disk_with, GivenBytes, IsGiven, Checkpoint, checkpoint_with, StopOkEverywhere, SafeThroughout, LeavesKept, Setting, AbstractImage, stored_bytes, guest_of, StartsAt, Stops, EffectOnSound, EffectOnFailed}
 use Rattle.qcow2_disk.specs.UngivenCovers.{IsUngiven}
 use Rattle.qcow2_disk.proofs.Stops.{given_more, given_front, given_split, kept_more, kept_twice}
 

@@ -1,14 +1,5 @@
 -- The laws for users: values that were given, put and committed.
-use Rattle.std.proofs.Common.{◌≡◌, IsTrue, ◌⊎◌, ⊎_elim, inl, inr, ◌+◌, ◌-◌, ◌<◌, ◌≤◌, ltb, leb, ℕ, refl, sym, ap, ◌∙◌, subst, Bool, true, false, Option, Some, List, [], ◌∷◌, length, eqb, arith}
-use Rattle.std.specs.Prelude.{if◌then◌else◌}
-use Rattle.std.proofs.lemmas.Bool.{cases_lt, cond-true, cond-false, eq-eqb, le-leb, lt-ltb, lt-leb, le-ltb, and_from, and_left, and_right}
-use Rattle.qcow2_metadata.specs.Bytes.{byte_at, laid_over, is_within}
-use Rattle.qcow2_metadata.specs.Guest.{Value, known_byte}
-use Rattle.qcow2_disk.specs.Disk.{Disk, disk, with_bytes}
-use Rattle.qcow2_disk.specs.AbstractImages.{Guest}
-use Rattle.qcow2_disk.specs.Runs.{given_at}
-use Rattle.qcow2_disk.specs.Stops.{IsGiven}
-use Rattle.qcow2_disk.specs.Mappings.{PreparedMapping, given_by_put, put_disk, put_mapping, committed}
+use Rattle.qcow2_disk.proofs.Common.{◌≡◌, IsTrue, ◌⊎◌, ⊎_elim, inl, inr, ◌+◌, ◌-◌, ◌<◌, ◌≤◌, ltb, leb, ℕ, refl, sym, ap, ◌∙◌, subst, Bool, true, false, Option, Some, List, [], ◌∷◌, length, eqb, arith, if◌then◌else◌, cases_lt, cond-true, cond-false, eq-eqb, le-leb, lt-ltb, lt-leb, le-ltb, and_from, and_left, and_right, byte_at, laid_over, is_within, Value, known_byte, Disk, disk, with_bytes, Guest, given_at, IsGiven, PreparedMapping, given_by_put, put_disk, put_mapping, committed}
 use Rattle.qcow2_disk.specs.ForUsers.{PrivateBytesAreUnseen, CommittedIsReadBack, PutIsReadInPlace, HiddenBytesAreNotGiven, FlushedIsExact}
 
 pub exact : FlushedIsExact

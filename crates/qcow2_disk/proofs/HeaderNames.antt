@@ -1,13 +1,9 @@
 -- If the rest of a header stays the same, the names, the extensions and the refcount width do too.
-use Rattle.std.proofs.Common.{◌≡◌, ℕ, ◌+◌, ◌^◌, ◌<◌, ◌≤◌, ◌==◌, inl, inr, List, Some, None, Option, sym, ap, ◌∙◌, subst, arith, if◌then◌else◌}
-use Rattle.std.proofs.lemmas.Bool.{eq-eqb}
+use Rattle.qcow2_disk.proofs.Common.{◌≡◌, ℕ, ◌+◌, ◌^◌, ◌<◌, ◌≤◌, ◌==◌, inl, inr, List, Some, None, Option, sym, ap, ◌∙◌, subst, arith, if◌then◌else◌, eq-eqb, Bytes, number_at, bytes_from, header, cluster_size, backing_name, AreExtensions, HeaderReads, IsOfHeaderRest, KeepsHeaderRest}
 use Rattle.std.proofs.Math.Pow.{pow_mono}
-use Rattle.qcow2_metadata.specs.Bytes.{Bytes, number_at, bytes_from}
-use Rattle.qcow2_metadata.specs.Header.{header, cluster_size, backing_name, AreExtensions, HeaderReads}
 use Rattle.qcow2_metadata.proofs.BigEndian.{number_at-same}
 use Rattle.qcow2_metadata.proofs.SameHeader.{SameBetween, extensions-same, backing_name-same}
 use Rattle.qcow2_disk.specs.ForUsers.{HeaderRestHasNames}
-use Rattle.qcow2_disk.specs.HeaderRest.{IsOfHeaderRest, KeepsHeaderRest}
 
 module _ (old new : Bytes) (reads : HeaderReads (header old) old) (keeps : KeepsHeaderRest old new) where
   large : 512 ≤ cluster_size (header old)

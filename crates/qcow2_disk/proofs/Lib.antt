@@ -1,3 +1,4 @@
+pub mod Common
 pub mod ForUsers
 pub mod HeaderRest
 pub mod HeaderNames

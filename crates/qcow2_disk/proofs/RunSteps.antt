@@ -1,18 +1,6 @@
 -- One call is one step of a run.
-use Rattle.std.proofs.Common.{◌≡◌, ◌⊎◌, ⊎_elim, inl, inr, ℕ, List, [], ◌∷◌, ◌++◌, Bool, true, false, IsTrue, refl, sym, ap, ◌∙◌, subst, Option, None}
-use mathlib.Core.Path.{fun_ext}
-use Rattle.image_access.specs.Moments.{EachMomentSince}
-use Rattle.image_access.proofs.EachMomentSince.{passes_none, passes_if, passes_more, passes_on, since_start as since_began}
-use Rattle.qcow2_metadata.specs.Bytes.{Bytes, byte_at}
-use Rattle.qcow2_metadata.specs.Consistent.{IsConsistent}
-use Rattle.qcow2_metadata.specs.Guest.{Value}
-use Rattle.qcow2_disk.specs.Disk.{Disk, disk, disk_with}
-use Rattle.qcow2_disk.specs.HeaderRest.{KeepsHeaderRest}
-use Rattle.qcow2_disk.specs.Stops.{GivenBytes, IsGiven, Checkpoint, checkpoint_at, checkpoint_with, StopOkEverywhere, StopOk, LeavesKept, LeavesOk}
-use Rattle.qcow2_disk.specs.Mappings.{PreparedMapping}
-use Rattle.qcow2_disk.specs.AbstractImages.{Setting, Guest, Abstraction, AbstractImage, abstract_image, guest_of, stored_bytes, IsWhole}
-use Rattle.qcow2_disk.specs.Calls.{Refusal, memory, storage, not_compressed, another, CallEffect, AnsweredEffect, RefusedEffect, IsRefusalByFault, EffectOnSound, EffectOnFailed, Stops}
-use Rattle.qcow2_disk.specs.Runs.{Command, Reply, Found, CommandMeaning, IsFaultReply, IsStorageReply, MayAnswer, IsAnswerOfFailed, ReplyMatches, ResizesLast, State, CommandStep, Run, IsSafeWhile, RefinesGuest, RefinesAlong, IsStopIn, RefinesState, RefinesCommand, RefinesRun, RefinesWholeRun, RefinesDisk, IsOwnInterval, started, checkpoint_during, checkpoint_after, stepped, given_by, asked_by, flush, shrink, done, number_is}
+use Rattle.qcow2_disk.proofs.Common.{◌≡◌, ◌⊎◌, ⊎_elim, inl, inr, ℕ, List, [], ◌∷◌, ◌++◌, Bool, true, false, IsTrue, refl, sym, ap, ◌∙◌, subst, Option, None, fun_ext, EachMomentSince, passes_none, passes_if, passes_more, passes_on, Bytes, byte_at, IsConsistent, Value, Disk, disk, disk_with, KeepsHeaderRest, GivenBytes, IsGiven, Checkpoint, checkpoint_at, checkpoint_with, StopOkEverywhere, StopOk, LeavesKept, LeavesOk, PreparedMapping, Setting, Guest, Abstraction, AbstractImage, abstract_image, guest_of, stored_bytes, IsWhole, Refusal, memory, storage, not_compressed, another, CallEffect, AnsweredEffect, RefusedEffect, IsRefusalByFault, EffectOnSound, EffectOnFailed, Stops, Command, Reply, Found, CommandMeaning, IsFaultReply, IsStorageReply, MayAnswer, IsAnswerOfFailed, ReplyMatches, ResizesLast, State, CommandStep, Run, IsSafeWhile, RefinesGuest, RefinesAlong, IsStopIn, RefinesState, RefinesCommand, RefinesRun, RefinesWholeRun, RefinesDisk, IsOwnInterval, started, checkpoint_during, checkpoint_after, stepped, given_by, asked_by, flush, shrink, done, number_is}
+use Rattle.image_access.proofs.EachMomentSince.{since_start as since_began}
 use Rattle.qcow2_disk.specs.UngivenCovers.{UngivenStay}
 use Rattle.qcow2_disk.proofs.Compose.{TouchesLess, works_less, stops_none, rests_none}
 use Rattle.qcow2_disk.proofs.HeaderRest.{header_rest_same}

@@ -1,11 +1,5 @@
 -- What calls keep, from one image to the next, and what follows for a stop.
-use Rattle.std.proofs.Common.{◌≡◌, ◌⊎◌, ⊎_elim, inl, inr, ℕ, List, [], ◌∷◌, ◌++◌, refl, sym, ◌∙◌, subst}
-use Rattle.qcow2_metadata.specs.Bytes.{Bytes}
-use Rattle.qcow2_metadata.specs.Guest.{Value}
-use Rattle.qcow2_metadata.specs.Consistent.{IsConsistent}
-use Rattle.qcow2_disk.specs.Disk.{disk}
-use Rattle.qcow2_disk.specs.HeaderRest.{KeepsHeaderRest}
-use Rattle.qcow2_disk.specs.Stops.{GivenBytes, IsGiven, IsAsked, Checkpoint, checkpoint_with, StopOk, StopOkEverywhere}
+use Rattle.qcow2_disk.proofs.Common.{◌≡◌, ◌⊎◌, ⊎_elim, inl, inr, ℕ, List, [], ◌∷◌, ◌++◌, refl, sym, ◌∙◌, subst, Bytes, Value, IsConsistent, disk, KeepsHeaderRest, GivenBytes, IsGiven, IsAsked, Checkpoint, checkpoint_with, StopOk, StopOkEverywhere}
 use Rattle.qcow2_disk.proofs.HeaderRest.{header_rest_same, header_rest_then}
 
 -- ---- gifts and sizes of several calls

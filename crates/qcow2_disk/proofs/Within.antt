@@ -1,7 +1,5 @@
 -- Places in a cluster.
-use Rattle.std.proofs.Common.{◌≡◌, ℕ, ◌+◌, ◌<◌, ◌≤◌, inl, inr, Bool, true, false, leb, ltb}
-use Rattle.std.proofs.lemmas.Bool.{cases_lt, and_left, and_right, lt-leb, le-ltb}
-use Rattle.qcow2_metadata.specs.Bytes.{is_within}
+use Rattle.qcow2_disk.proofs.Common.{◌≡◌, ℕ, ◌+◌, ◌<◌, ◌≤◌, inl, inr, Bool, true, false, leb, ltb, cases_lt, and_left, and_right, lt-leb, le-ltb, is_within}
 
 pub within_is : (place size o : ℕ) → is_within place size o ≡ true → (place ≤ o) × (o < place + size)
 within_is place size o is =
