@@ -1,12 +1,5 @@
 -- Ranges whose refblock is aligned, and those whose refblock is not.
-use Rattle.std.proofs.Common.{◌≡◌, ℕ, ◌*◌, ◌/◌, ◌%◌, ◌^◌, sym, ap, ◌∙◌, subst}
-use Rattle.std.proofs.Math.Nat.{mul-mod_left}
-use Rattle.qcow2_metadata.specs.Entries.{block_offset}
-use Rattle.qcow2_metadata.specs.EntryTable.{EntryTableView}
-use Rattle.qcow2_metadata.specs.Header.{cluster_size, counts_per_block}
-use Rattle.qcow2_metadata.specs.TableBytes.{entry_at}
-use Rattle.qcow2_metadata.specs.declared.header.HeaderFields.{HeaderFields}
-use Rattle.qcow2_alloc.specs.Allocation.{IsUnaligned}
+use Rattle.qcow2_alloc.proofs.Common.{◌≡◌, ℕ, ◌*◌, ◌/◌, ◌%◌, ◌^◌, sym, ap, ◌∙◌, subst, mul-mod_left, block_offset, EntryTableView, cluster_size, counts_per_block, entry_at, HeaderFields, IsUnaligned}
 
 -- the range of a cluster, as a number of counts tells it
 pub unaligned_as : (h : HeaderFields) (t : EntryTableView) (cluster per : ℕ) → counts_per_block h ≡ per → IsUnaligned h t (cluster / counts_per_block h) → IsUnaligned h t (cluster / per)

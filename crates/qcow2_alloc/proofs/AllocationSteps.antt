@@ -1,35 +1,6 @@
 -- Loading refblocks, and allocating and freeing one cluster.
-use Rattle.std.proofs.Common.{◌≡◌, ◌≢◌, inl, inr, refl, ℕ, ◌+◌, ◌*◌, ◌/◌, ◌%◌, ◌^◌, ◌<◌, ◌≤◌, Bool, true, false, List, length, Option, Some, None, Result, Ok, Err, IsErr, IsErrAnd, IsSome, IsTrue, sym, ap, ◌∙◌, subst, mul-pos, arith}
-use Rattle.std.specs.Option.{is_some}
-use Rattle.std.proofs.lemmas.Bool.{cases_eq}
-use Rattle.std.proofs.Math.Nat.{mul-le-mul_right}
-use Rattle.std.proofs.lemmas.Nat.{mod_below, pow_pos, div-add-mod'}
-use Rattle.image_access.specs.Moments.{StorageView}
-use Rattle.qcow2_metadata.specs.Bytes.{byte_at}
-use Rattle.qcow2_metadata.specs.declared.header.HeaderFields.{HeaderFields}
-use Rattle.qcow2_metadata.specs.EntryTable.{EntryTableView, entry_table, NamesRefTable, IsRefTableOf}
-use Rattle.qcow2_metadata.specs.TableBytes.{entry_at, HasPlace, ChangesEntry}
-use Rattle.qcow2_metadata.specs.Header.{cluster_size, counts_per_block, reftable_entries}
-use Rattle.qcow2_metadata.specs.Entries.{reftable_entry, block_offset, count}
-use Rattle.qcow2_laws.specs.Changes.{one_at}
-use Rattle.qcow2_laws.specs.CrashInvariant.{Pending}
-use Rattle.qcow2_laws.proofs.Places.{count_none}
-use Rattle.qcow2_alloc.specs.declared.allocation.Allocator.{Allocator}
-use Rattle.qcow2_alloc.specs.declared.cache.MetadataCaches.{MetadataCaches}
-use Rattle.qcow2_alloc.specs.declared.error.ImageError.{ImageError}
-use Rattle.qcow2_alloc.specs.declared.image_file.ImageFile.{ImageFile}
-use Rattle.qcow2_alloc.specs.declared.clusters_to_free.ClusterKind.{ClusterKind}
-use Rattle.qcow2_alloc.specs.declared.clusters_to_free.ClusterKind.TheVariants.{Data, Metadata}
-use Rattle.qcow2_alloc.specs.declared.clusters_to_free.ClustersToFreeEntry.{ClustersToFreeEntry}
-use Rattle.qcow2_alloc.specs.Allocation.{run_at, is_data, taken_as, Owed, Taken, Listed, owed_as, MayAllocate, MayDecrement, HasNone, NamesBlock, NamesBehindHeader, KeepsRefblocks, NamesLacking, KeepsEntries, KeepsNamed, RefblockAt, InternalAllocatorStep, InternalAllocatorGrowth, PlacesBlock, GetsBlock, RefusedGrowth, AllocatesGiven, AllocatesCluster, Allocates}
-use Rattle.qcow2_alloc.specs.CachePins.{KeepsPinsAndNotes}
-use Rattle.qcow2_alloc.specs.ImageFile.{view_in, contents_in, known_in, FileInvariant, AllocatorInvariant, HasReftable, RefusedFileStep}
-use Rattle.image_access.specs.declared.error.StorageError.{StorageError}
-use Rattle.image_access.specs.declared.error.StorageError.TheVariants.{Fault, Memory}
-use Rattle.qcow2_alloc.specs.ImageError.{of_storage, IsFault}
-use Rattle.qcow2_alloc.specs.MetadataCaches.{order_of, rb_at, IsCountedAt, IncrementsCount, DecrementsCount, InternalCacheStep}
-use Rattle.qcow2_alloc.specs.declared.image_storage.ImageStorage.{ImageStorage}
-use Rattle.qcow2_alloc.specs.ImageStorage.{storage_of}
+use Rattle.qcow2_alloc.proofs.Common.{◌≡◌, ◌≢◌, inl, inr, refl, ℕ, ◌+◌, ◌*◌, ◌/◌, ◌%◌, ◌^◌, ◌<◌, ◌≤◌, Bool, true, false, List, length, Option, Some, None, Result, Ok, Err, IsErr, IsErrAnd, IsSome, IsTrue, sym, ap, ◌∙◌, subst, mul-pos, arith, is_some, cases_eq, mul-le-mul_right, mod_below, pow_pos, div-add-mod', StorageView, byte_at, HeaderFields, EntryTableView, entry_table, NamesRefTable, IsRefTableOf, entry_at, HasPlace, ChangesEntry, cluster_size, counts_per_block, reftable_entries, reftable_entry, block_offset, count, one_at, Pending, count_none, Allocator, MetadataCaches, ImageError, ImageFile, ClusterKind, Data, Metadata, ClustersToFreeEntry, run_at, is_data, taken_as, Owed, Taken, Listed, owed_as, MayAllocate, MayDecrement, HasNone, NamesBlock, NamesBehindHeader, KeepsRefblocks, NamesLacking, KeepsEntries, KeepsNamed, RefblockAt, InternalAllocatorStep, InternalAllocatorGrowth, PlacesBlock, GetsBlock, RefusedGrowth, AllocatesGiven, AllocatesCluster, Allocates, KeepsPinsAndNotes, view_in, contents_in, known_in, FileInvariant, AllocatorInvariant, HasReftable, RefusedFileStep, StorageError, Fault, of_storage, IsFault, order_of, rb_at, IsCountedAt, IncrementsCount, DecrementsCount, InternalCacheStep, ImageStorage, storage_of}
+use Rattle.image_access.specs.declared.error.StorageError.TheVariants.{Memory}
 use Rattle.qcow2_alloc.proofs.KeptTables.Standing.{own_cluster}
 use Rattle.qcow2_alloc.proofs.Runs.{new_data_more}
 use Rattle.qcow2_alloc.proofs.FileSteps.{one_here, file_step_none, file_step_then, file_step_on, on_then, on_interrupted, leaves_then, interrupted_after, file_step_cached, reftable_cached, reftable_counted, file_step_raised, file_step_lowered}

@@ -1,13 +1,5 @@
 -- What a cache call leaves of a measure of its store that steps never lower and faults increase.
-use Rattle.std.proofs.Common.{◌≡◌, ◌≤◌, ℕ, Bool, true, false, List, [], ◌∷◌, Option, Some, None, Result, Ok, Err, ⊎_elim, ap, sym, ◌∙◌, subst, arith}
-use Rattle.std.specs.Option.{option_or}
-use Rattle.image_access.specs.Moments.{Rose}
-use Rattle.image_access.proofs.EachMomentSince.{rose_since, rose_still}
-use Rattle.qcow2_alloc.specs.declared.async_lru_cache.slot.Slot.{Slot}
-use Rattle.qcow2_alloc.specs.declared.async_lru_cache.error.CacheError.{CacheError}
-use Rattle.qcow2_alloc.specs.declared.async_lru_cache.error.CacheError.TheVariants.{InUse, StillInUse, Memory, Backend}
-use Rattle.qcow2_alloc.specs.AsyncLruCacheBackend.{Steps}
-use Rattle.qcow2_alloc.specs.CacheAnswers.{Unit₀, FlushesEntry, FlushesAll, Flushes, Replaces, HasRoomForEntry, HasNoRoom, InsertsNew, GetsNew, Evicts}
+use Rattle.qcow2_alloc.proofs.Common.{◌≡◌, ◌≤◌, ℕ, Bool, true, false, List, [], ◌∷◌, Option, Some, None, Result, Ok, Err, ⊎_elim, ap, sym, ◌∙◌, subst, arith, option_or, Rose, rose_since, rose_still, Slot, CacheError, InUse, StillInUse, Memory, Backend, Steps, Unit₀, FlushesEntry, FlushesAll, Flushes, Replaces, HasRoomForEntry, HasNoRoom, InsertsNew, GetsNew, Evicts}
 
 module _ {S K V E : Type 0} (steps : Steps S K V E) (faults : S → ℕ) (IsFault : E → Type 0) where
   -- a failure with this error, where there was one, raised the number

@@ -1,22 +1,5 @@
 -- What calls of the caches do to pins and recorded changes.
-use Rattle.std.proofs.Common.{◌≡◌, ℕ, ◌+◌, ◌-◌, ◌^◌, ◌<◌, Bool, true, false, cond, eqb, nat_lt, List, [], ◌∷◌, map, Option, Some, None, IsTrue, refl, sym, ap, ◌∙◌, subst}
-use Rattle.std.specs.Cmp.{nat_eq_equiv}
-use Rattle.std.specs.Option.{option_map, option_map_or}
-use Rattle.std.specs.Map.{lookup, set_value}
-use Rattle.std.proofs.lemmas.Map.{lookup-set_value}
-use Rattle.qcow2_metadata.specs.L2Table.{L2TableView}
-use Rattle.qcow2_metadata.specs.RefBlock.{RefBlockView}
-use Rattle.qcow2_alloc.specs.declared.async_lru_cache.slot.Slot.{Slot}
-use Rattle.qcow2_alloc.specs.declared.cache.backends.L2CacheBackend.{L2CacheBackend}
-use Rattle.qcow2_alloc.specs.declared.cache.backends.RefBlockCacheBackend.{RefBlockCacheBackend}
-use Rattle.qcow2_alloc.specs.declared.cache.MetadataCaches.{MetadataCaches}
-use Rattle.qcow2_alloc.specs.AsyncLruCache.{Cache, slot_of, value_at, set_at, pins_at, pin_at, unpin_at, can_pin, can_unpin, with_entries, KeepsPins}
-use Rattle.qcow2_alloc.specs.KeptTables.{cached_table, cached_tables, AllValuesFit}
-use Rattle.qcow2_alloc.specs.TableCaches.{IsTableOf}
-use Rattle.qcow2_alloc.specs.MetadataCaches.{l2_tables}
-use Rattle.qcow2_alloc.specs.CountedChanges.{IsOneChange, counts_none, counts_one, counts_then}
-use Rattle.qcow2_alloc.specs.CachePins.{l2_pins, KeepsPinsAndNotes, SameTables, SetsPins}
-use Rattle.qcow2_alloc.specs.TableLaws.{same_number}
+use Rattle.qcow2_alloc.proofs.Common.{◌≡◌, ℕ, ◌+◌, ◌-◌, ◌^◌, ◌<◌, Bool, true, false, cond, eqb, nat_lt, List, [], ◌∷◌, map, Option, Some, None, IsTrue, refl, sym, ap, ◌∙◌, subst, nat_eq_equiv, option_map, option_map_or, lookup, set_value, lookup-set_value, L2TableView, RefBlockView, Slot, L2CacheBackend, RefBlockCacheBackend, MetadataCaches, Cache, slot_of, value_at, set_at, pins_at, pin_at, unpin_at, can_pin, can_unpin, with_entries, KeepsPins, cached_table, cached_tables, AllValuesFit, IsTableOf, l2_tables, IsOneChange, counts_none, counts_one, counts_then, l2_pins, KeepsPinsAndNotes, SameTables, SetsPins, same_number}
 use Rattle.qcow2_alloc.proofs.CachedEntries.Pins.{set_free}
 
 -- ---- calls that keep the marks

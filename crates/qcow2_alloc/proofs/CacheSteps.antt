@@ -1,35 +1,7 @@
 -- How steps of the caches compose, and how one cache call is such a step.
-use Rattle.std.proofs.Common.{◌≡◌, ◌≢◌, ℕ, Bool, true, eqb, List, Option, Some, Result, Ok, Err, IsErr, IsErrAnd, IsSome, refl, sym, ◌∙◌, subst}
-use Rattle.std.specs.Option.{IfSome, IsNone}
-use Rattle.std.specs.Map.{keys_of, lookup, lookup_entry, remove_entry}
-use Rattle.std.specs.Prelude.{IsFalse}
-use Rattle.std.specs.List.{IsDistinct}
-use Rattle.lru.specs.LruCache.{promoted}
-use Rattle.image_access.specs.Moments.{StorageView}
-use Rattle.qcow2_metadata.specs.declared.error.MetadataError.{MetadataError}
-use Rattle.qcow2_metadata.specs.Bytes.{byte_at}
-use Rattle.qcow2_metadata.specs.L2Table.{L2TableView}
-use Rattle.qcow2_metadata.specs.RefBlock.{RefBlockView}
-use Rattle.qcow2_metadata.specs.declared.header.HeaderFields.{HeaderFields}
+use Rattle.qcow2_alloc.proofs.Common.{◌≡◌, ◌≢◌, ℕ, Bool, true, eqb, List, Option, Some, Result, Ok, Err, IsErr, IsErrAnd, IsSome, refl, sym, ◌∙◌, subst, IfSome, IsNone, keys_of, lookup, lookup_entry, remove_entry, IsFalse, IsDistinct, promoted, StorageView, MetadataError, byte_at, L2TableView, RefBlockView, HeaderFields, Pending, MayTurn, AreClean, BlocksMayGo, TablesMayGo, CacheError, L2CacheBackend, RefBlockCacheBackend, MetadataCaches, ImageError, ImageStorage, Cache, KeepsPins, OthersStay, with_entries, Unit₀, Flushes, GetsNew, InsertsNew, Replaces, TablesGo, BlocksGo, CacheStep, TurnStep, LoadStep, PutStep, HeldStep, KeepsSoundly, PutsSoundly, KeepsL2Written, of_cache, IsOfTables, storage_of, KeepsNotes, order, order_of, l2_tables, refblocks, known_of, CacheInvariant, err_of, FailsFor, l2_steps, rb_steps}
 use Rattle.qcow2_laws.specs.Clusters as Order
-use Rattle.qcow2_laws.specs.CrashInvariant.{Pending, MayTurn}
-use Rattle.qcow2_laws.specs.Caches.{AreClean, BlocksMayGo, TablesMayGo}
-use Rattle.qcow2_alloc.specs.declared.async_lru_cache.error.CacheError.{CacheError}
-use Rattle.qcow2_alloc.specs.declared.cache.backends.L2CacheBackend.{L2CacheBackend}
-use Rattle.qcow2_alloc.specs.declared.cache.backends.RefBlockCacheBackend.{RefBlockCacheBackend}
 use Rattle.qcow2_alloc.specs.declared.cache.Direction.{Direction}
-use Rattle.qcow2_alloc.specs.declared.cache.MetadataCaches.{MetadataCaches}
-use Rattle.qcow2_alloc.specs.declared.error.ImageError.{ImageError}
-use Rattle.qcow2_alloc.specs.declared.image_storage.ImageStorage.{ImageStorage}
-use Rattle.qcow2_alloc.specs.AsyncLruCache.{Cache, KeepsPins, OthersStay, with_entries}
-use Rattle.qcow2_alloc.specs.CacheAnswers.{Unit₀, Flushes, GetsNew, InsertsNew, Replaces}
-use Rattle.qcow2_alloc.specs.CacheSteps.{TablesGo, BlocksGo, CacheStep, TurnStep, LoadStep, PutStep, HeldStep, KeepsSoundly, PutsSoundly, KeepsL2Written}
-use Rattle.qcow2_alloc.specs.ImageError.{of_cache, IsOfTables}
-use Rattle.qcow2_alloc.specs.ImageStorage.{storage_of}
-use Rattle.qcow2_alloc.specs.KeptNotes.{KeepsNotes}
-use Rattle.qcow2_alloc.specs.MetadataCaches.{order, order_of, l2_tables, refblocks, known_of, CacheInvariant}
-use Rattle.qcow2_alloc.specs.Steps.{err_of, FailsFor}
-use Rattle.qcow2_alloc.specs.TableCaches.{l2_steps, rb_steps}
 use Rattle.qcow2_alloc.proofs.CachePins.{marks_none, marks_tables, marks_blocks}
 use Rattle.qcow2_alloc.proofs.Faults.{CacheReports, cache_told}
 use Rattle.qcow2_alloc.proofs.KeptMarks.{kept_marks_none, kept_marks_then, marks_of_both}

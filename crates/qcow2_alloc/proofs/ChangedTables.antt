@@ -1,27 +1,5 @@
 -- What changing a cached table in place means for the caches.
-use Rattle.std.proofs.Common.{◌≡◌, ◌<◌, ℕ, true, List, Option, Some, None, eqb, refl, sym, ap, ◌∙◌, subst}
-use Rattle.std.specs.Prelude.{MatchOption}
-use Rattle.std.proofs.lemmas.Option.{none-some}
-use Rattle.std.specs.List.{IsDistinct}
-use Rattle.std.specs.Map.{keys_of}
-use Rattle.std.specs.Option.{IfSome, IsSome}
-use Rattle.qcow2_metadata.specs.Bytes.{Bytes}
-use Rattle.qcow2_metadata.specs.Entries.{count, is_copied, l1_entry}
-use Rattle.qcow2_metadata.specs.L2Mapping.{old_data_run}
-use Rattle.qcow2_metadata.specs.L2Table.{L2TableView, cover_at, entries_of}
-use Rattle.qcow2_metadata.specs.RefBlock.{RefBlockView, ChangesCount, count_at, counts_of}
-use Rattle.qcow2_metadata.specs.TableBytes.{ChangesEntry}
-use Rattle.qcow2_metadata.specs.declared.header.HeaderFields.{HeaderFields}
-use Rattle.qcow2_laws.specs.CrashInvariant.{Pending}
-use Rattle.qcow2_alloc.specs.declared.async_lru_cache.slot.Slot.{Slot}
-use Rattle.qcow2_alloc.specs.declared.cache.MetadataCaches.{MetadataCaches}
-use Rattle.qcow2_alloc.specs.ApartCaches.{ChangesTableApart, ChangesBlockApart}
-use Rattle.qcow2_alloc.specs.AsyncLruCache.{Cache, with_entries, set_at, value_at}
-use Rattle.qcow2_alloc.specs.CacheSteps.{HeldStep}
-use Rattle.qcow2_alloc.specs.CountedChanges.{IsOneChange}
-use Rattle.qcow2_alloc.specs.MetadataCaches.{known_of, CacheInvariant, IsCountedAt, IsEntryAt, MadeEntry}
-use Rattle.qcow2_alloc.specs.TableCache.{ChangesValue}
-use Rattle.qcow2_alloc.specs.TableChanges.{changed_block, changed_table, ChangesOrStays, SetsCount, SetsEntry, SetsTableCount, SetsTableEntry}
+use Rattle.qcow2_alloc.proofs.Common.{◌≡◌, ◌<◌, ℕ, true, List, Option, Some, None, eqb, refl, sym, ap, ◌∙◌, subst, MatchOption, none-some, IsDistinct, keys_of, IfSome, IsSome, Bytes, count, is_copied, l1_entry, old_data_run, L2TableView, cover_at, entries_of, RefBlockView, ChangesCount, count_at, counts_of, ChangesEntry, HeaderFields, Pending, Slot, MetadataCaches, ChangesTableApart, ChangesBlockApart, Cache, with_entries, set_at, value_at, HeldStep, IsOneChange, known_of, CacheInvariant, IsCountedAt, IsEntryAt, MadeEntry, ChangesValue, changed_block, changed_table, ChangesOrStays, SetsCount, SetsEntry, SetsTableCount, SetsTableEntry}
 use Rattle.qcow2_alloc.proofs.CachePins.{marks_blocks, marks_noted, marks_tables, set_keeps_pins}
 use Rattle.qcow2_alloc.proofs.KeptTables.ApartChanges.{block_changed_apart, table_changed_apart}
 use Rattle.qcow2_alloc.proofs.KeptTables.BehindHeader.{noted_behind, set_behind, set_table_behind}

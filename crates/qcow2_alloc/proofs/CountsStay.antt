@@ -1,19 +1,5 @@
 -- Refcounts over steps of an image's file: they change with what is pending, and rise when a refblock gets its reference.
-use Rattle.std.proofs.Common.{◌≡◌, ◌≢◌, inl, inr, ℕ, ◌+◌, ◌≤◌, ◌==◌, ap, arith}
-use Rattle.std.proofs.lemmas.Bool.{cases_eq, cond-true, eq-eqb}
-use Rattle.qcow2_metadata.specs.Bytes.{Bytes}
-use Rattle.qcow2_metadata.specs.declared.header.HeaderFields.{HeaderFields}
-use Rattle.qcow2_metadata.specs.Header.{reftable_entries}
-use Rattle.qcow2_metadata.specs.Entries.{l1_entry, reftable_entry, block_offset, count}
-use Rattle.qcow2_metadata.specs.Named.{in_cluster, table_in, named_by_reftable, named_for_tables}
-use Rattle.qcow2_laws.specs.Guests.{named_by_guest}
-use Rattle.qcow2_laws.specs.Clusters.{Direction}
-use Rattle.qcow2_laws.specs.CrashInvariant.{Pending, CrashInvariant, SameCovers}
-use Rattle.qcow2_laws.specs.Guests.{names}
-use Rattle.qcow2_laws.proofs.Guests.{over_guests-same}
-use Rattle.qcow2_laws.proofs.Sums.{sum_below-le}
-use Rattle.qcow2_laws.proofs.Tops.{l1_names-same}
-use Rattle.qcow2_alloc.specs.ImageFile.{pending_at}
+use Rattle.qcow2_alloc.proofs.Common.{◌≡◌, ◌≢◌, inl, inr, ℕ, ◌+◌, ◌≤◌, ◌==◌, ap, arith, cases_eq, cond-true, eq-eqb, Bytes, HeaderFields, reftable_entries, l1_entry, reftable_entry, block_offset, count, in_cluster, table_in, named_by_reftable, named_for_tables, named_by_guest, Direction, Pending, CrashInvariant, SameCovers, names, over_guests-same, sum_below-le, l1_names-same, pending_at}
 
 -- no refblock is named less
 module _ (h : HeaderFields) (on_storage on_storage' : Bytes) (kept : (k : ℕ) → block_offset (reftable_entry h on_storage k) ≢ 0 → reftable_entry h on_storage' k ≡ reftable_entry h on_storage k) where

@@ -1,32 +1,9 @@
 -- Which calls count a failure of the image's storage, and how such calls compose.
-use Rattle.std.proofs.Common.{◌≡◌, ◌≢◌, ℕ, ◌≤◌, Bool, true, false, eqb, inl, inr, List, Option, Some, None, Result, Ok, Err, IsErr, IsErrAnd, IsSome, refl, sym, ap, ◌∙◌, subst, arith}
-use Rattle.std.specs.Option.{IfSome, IsNone}
-use Rattle.std.specs.Map.{lookup, lookup_entry, remove_entry}
-use Rattle.lru.specs.LruCache.{promoted}
-use Rattle.std.specs.Prelude.{IsErrOf}
-use Rattle.image_access.specs.Moments.{StorageView, HasCause, Rose, UnlessErr}
-use Rattle.image_access.specs.declared.error.StorageError.{StorageError}
+use Rattle.qcow2_alloc.proofs.Common.{◌≡◌, ◌≢◌, ℕ, ◌≤◌, Bool, true, false, eqb, inl, inr, List, Option, Some, None, Result, Ok, Err, IsErr, IsErrAnd, IsSome, refl, sym, ap, ◌∙◌, subst, arith, IfSome, IsNone, lookup, lookup_entry, remove_entry, promoted, IsErrOf, StorageView, HasCause, Rose, UnlessErr, StorageError, storage_result, MetadataError, CacheError, Slot, ImageError, Steps, Unit₀, Flushes, GetsNew, InsertsNew, Replaces, FaultsReported, faults_of, storage_of, met_fault_of, RecordsFaults, l2_steps, rb_steps, cleared_l2, cleared_rb, IsTableOf, IsBlockOf, ImageStorage, L2TableView, RefBlockView, HeaderFields, of_storage, of_metadata, of_cache, IsTableFault, answer_refused, table_steps}
 use Rattle.image_access.specs.declared.error.StorageError.TheVariants as S
-use Rattle.qcow2_metadata.specs.MetadataError.{storage_result}
-use Rattle.qcow2_metadata.specs.declared.error.MetadataError.{MetadataError}
 use Rattle.qcow2_metadata.specs.declared.error.MetadataError.TheVariants as M
-use Rattle.qcow2_alloc.specs.declared.async_lru_cache.error.CacheError.{CacheError}
 use Rattle.qcow2_alloc.specs.declared.async_lru_cache.error.CacheError.TheVariants as C
-use Rattle.qcow2_alloc.specs.declared.async_lru_cache.slot.Slot.{Slot}
-use Rattle.qcow2_alloc.specs.declared.error.ImageError.{ImageError}
 use Rattle.qcow2_alloc.specs.declared.error.ImageError.TheVariants as I
-use Rattle.qcow2_alloc.specs.AsyncLruCacheBackend.{Steps}
-use Rattle.qcow2_alloc.specs.CacheAnswers.{Unit₀, Flushes, GetsNew, InsertsNew, Replaces}
-use Rattle.qcow2_alloc.specs.Faults.{FaultsReported, faults_of}
-use Rattle.qcow2_alloc.specs.ImageStorage.{storage_of, met_fault_of}
-use Rattle.qcow2_alloc.specs.RecordedFaults.{RecordsFaults}
-use Rattle.qcow2_alloc.specs.TableCaches.{l2_steps, rb_steps, cleared_l2, cleared_rb, IsTableOf, IsBlockOf}
-use Rattle.qcow2_alloc.specs.declared.image_storage.ImageStorage.{ImageStorage}
-use Rattle.qcow2_metadata.specs.L2Table.{L2TableView}
-use Rattle.qcow2_metadata.specs.RefBlock.{RefBlockView}
-use Rattle.qcow2_metadata.specs.declared.header.HeaderFields.{HeaderFields}
-use Rattle.qcow2_alloc.specs.ImageError.{of_storage, of_metadata, of_cache}
-use Rattle.qcow2_alloc.specs.TableSteps.{IsTableFault, answer_refused, table_steps}
 use Rattle.qcow2_alloc.proofs.CacheFaults as F
 use Rattle.qcow2_alloc.proofs.KeptTables.Fetching.{none_or_some}
 use Rattle.qcow2_alloc.proofs.KeptTables.Inserting.{found_or_not, lookup_none}

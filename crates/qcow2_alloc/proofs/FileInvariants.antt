@@ -1,11 +1,5 @@
 -- What makes the file of an image sound.
-use Rattle.image_access.specs.Moments.{StorageView}
-use Rattle.qcow2_laws.specs.CrashInvariant.{Pending}
-use Rattle.qcow2_laws.specs.Caches.{AreNamedBlocks}
-use Rattle.qcow2_alloc.specs.CachePins.{CachesHaveRoom}
-use Rattle.qcow2_alloc.specs.MetadataCaches.{refblocks, CacheInvariant}
-use Rattle.qcow2_alloc.specs.ImageFile.{view_in, contents_in, FileInvariant}
-use Rattle.qcow2_alloc.specs.declared.image_file.ImageFile.{ImageFile}
+use Rattle.qcow2_alloc.proofs.Common.{StorageView, Pending, AreNamedBlocks, CachesHaveRoom, refblocks, CacheInvariant, view_in, contents_in, FileInvariant, ImageFile}
 
 module _ {S : Type 0} {view : S → StorageView} {p : Pending} {file : ImageFile S} where
   -- a file is sound by the facts that its invariant has

@@ -1,38 +1,6 @@
 -- Steps of an image's file, one after another: calls of its caches, and refcounts that change. The moments on the way are built here, and from the definitions of `qcow2_laws`.
-use Rattle.std.proofs.lemmas.Bool.{or_right, cases_eq, eq-eqb, ne_eqb, cond-true, cond-false}
-use Rattle.std.proofs.Common.{◌≡◌, inl, inr, ℕ, ◌+◌, ◌/◌, ◌<◌, ◌≤◌, ◌==◌, Bool, true, false, cond, [], IsTrue, refl, sym, ap, ◌∙◌, subst, arith}
-use mathlib.Core.Path.{fun_ext}
-use Rattle.image_access.specs.Moments.{StorageView}
-use Rattle.image_access.proofs.EachMomentSince.{passes_on}
-use Rattle.qcow2_metadata.specs.Bytes.{Bytes}
-use Rattle.qcow2_metadata.specs.EntryTable.{EntryTableView}
-use Rattle.qcow2_metadata.specs.Header.{cluster_size}
-use Rattle.qcow2_metadata.specs.Entries.{l1_entry, count}
-use Rattle.qcow2_metadata.specs.Named.{named_for_tables}
-use Rattle.qcow2_disk.specs.Stops.{Checkpoint, StopOkEverywhere, SafeThroughout, LeavesKept}
-use Rattle.qcow2_laws.specs.Clusters.{Direction}
-use Rattle.qcow2_laws.specs.CrashInvariant.{Pending}
-use Rattle.qcow2_laws.specs.Changes.{one_at, with_new_data, with_new_tables, without_old_tables, without_old_data, new_data_to_old_tables, new_tables_to_old_tables}
-use Rattle.qcow2_laws.specs.SafeSteps.{DriverState, SafeStep}
-use Rattle.qcow2_laws.specs.Steps.{CountRises, CountFalls}
-use Rattle.qcow2_laws.specs.Internal.{IsInternal}
-use Rattle.qcow2_laws.proofs.Caches.{unnamed_free_l2, unnamed_free_rb}
-use Rattle.qcow2_laws.proofs.KeptSteps.{known_is_on_storage}
-use Rattle.qcow2_laws.proofs.SafeSteps.{safe_throughout_none, raise_safe_throughout, fall_safe_throughout}
-use Rattle.qcow2_laws.proofs.Steps.{count_is_changed, pending_is_changed}
-use Rattle.qcow2_laws.proofs.Internal.{unseen_none, unseen_then, unseen_known, unseen_count, l1_same_none, l1_same_then, l1_same_storage, l1_same_known}
-use Rattle.qcow2_alloc.specs.declared.allocation.Allocator.{Allocator}
-use Rattle.qcow2_alloc.specs.declared.cache.MetadataCaches.{MetadataCaches}
-use Rattle.qcow2_alloc.specs.declared.error.ImageError.{ImageError}
-use Rattle.qcow2_alloc.specs.declared.image_file.ImageFile.{ImageFile}
-use Rattle.qcow2_alloc.specs.declared.image_storage.ImageStorage.{ImageStorage}
-use Rattle.qcow2_alloc.specs.Allocation.{taken_as, listed_as, Owed, Taken, Listed, owed_as, MayAllocate, MayDecrement}
-use Rattle.qcow2_alloc.specs.declared.clusters_to_free.ClusterKind.TheVariants.{Data, Metadata}
-use Rattle.qcow2_alloc.specs.CachePins.{KeepsPinsAndNotes}
-use Rattle.qcow2_alloc.specs.ImageFile.{nothing_given, pending_at, view_in, contents_in, known_in, state_in, FileInvariant, HasReftable, InternalFileStep, InternalFileGrowth, InterruptedFileStep, RefusedFileStep, IsFault}
-use Rattle.qcow2_alloc.specs.ImageStorage.{storage_of, is_changed_of}
-use Rattle.qcow2_alloc.specs.KeptTables.{IsSafeSince}
-use Rattle.qcow2_alloc.specs.MetadataCaches.{order_of, l2_tables, refblocks, known_of, InternalCacheStep, Made}
+use Rattle.qcow2_alloc.proofs.Common.{or_right, cases_eq, eq-eqb, ne_eqb, cond-true, cond-false, ◌≡◌, inl, inr, ℕ, ◌+◌, ◌/◌, ◌<◌, ◌≤◌, ◌==◌, Bool, true, false, cond, [], IsTrue, refl, sym, ap, ◌∙◌, subst, arith, fun_ext, StorageView, passes_on, Bytes, EntryTableView, cluster_size, l1_entry, count, named_for_tables, Checkpoint, StopOkEverywhere, SafeThroughout, LeavesKept, Direction, Pending, one_at, with_new_data, with_new_tables, without_old_tables, without_old_data, new_data_to_old_tables, new_tables_to_old_tables, DriverState, SafeStep, CountRises, CountFalls, IsInternal, unnamed_free_l2, unnamed_free_rb, known_is_on_storage, safe_throughout_none, raise_safe_throughout, fall_safe_throughout, count_is_changed, pending_is_changed, unseen_none, unseen_then, unseen_known, unseen_count, l1_same_none, l1_same_then, l1_same_storage, l1_same_known, Allocator, MetadataCaches, ImageError, ImageFile, ImageStorage, taken_as, listed_as, Owed, Taken, Listed, owed_as, MayAllocate, MayDecrement, Data, Metadata, KeepsPinsAndNotes, nothing_given, pending_at, view_in, contents_in, known_in, state_in, FileInvariant, HasReftable, InternalFileStep, InternalFileGrowth, InterruptedFileStep, RefusedFileStep, storage_of, is_changed_of, IsSafeSince, order_of, l2_tables, refblocks, known_of, InternalCacheStep, Made}
+use Rattle.qcow2_alloc.specs.ImageFile.{IsFault}
 use Rattle.qcow2_alloc.proofs.CountsStay.{counts_follow}
 use Rattle.qcow2_alloc.proofs.KeptTables.BlocksNamed.{top_still}
 use Rattle.qcow2_alloc.proofs.FileInvariants.{file_invariant_of}

@@ -1,22 +1,5 @@
 -- Writing bytes to clusters of an image's file that have no reference and no cached table.
-use Rattle.std.proofs.Common.{◌≡◌, ◌⊎◌, inl, inr, ℕ, [], refl, sym, ◌∙◌}
-use Rattle.image_access.specs.Moments.{StorageView, EachMomentSince, IsLeftBy}
-use Rattle.qcow2_metadata.specs.Bytes.{byte_at}
-use Rattle.qcow2_metadata.specs.EntryTable.{EntryTableView}
-use Rattle.qcow2_metadata.specs.Header.{cluster_size}
-use Rattle.qcow2_metadata.specs.Named.{named_for_tables}
-use Rattle.qcow2_laws.specs.CrashInvariant.{Pending, SameIn}
-use Rattle.qcow2_laws.specs.SafeSteps.{SafeStep}
-use Rattle.qcow2_laws.specs.Writes.{IsUnnamed, IsWritten}
-use Rattle.qcow2_laws.proofs.Beside.{data_beside, same_beside, unnamed_free}
-use Rattle.qcow2_laws.proofs.SafeSteps.{done_safe_throughout}
-use Rattle.qcow2_laws.proofs.Steps.{data_is_written}
-use Rattle.qcow2_laws.proofs.Internal.{unseen_written}
-use Rattle.qcow2_alloc.specs.declared.image_file.ImageFile.{ImageFile}
-use Rattle.qcow2_alloc.specs.declared.image_storage.ImageStorage.{ImageStorage}
-use Rattle.qcow2_alloc.specs.ImageFile.{nothing_given, view_in, contents_in, known_in, state_in, FileInvariant, HasReftable, InternalFileStep}
-use Rattle.qcow2_alloc.specs.ImageStorage.{storage_of}
-use Rattle.qcow2_alloc.specs.MetadataCaches.{order_of, l2_tables, refblocks}
+use Rattle.qcow2_alloc.proofs.Common.{◌≡◌, ◌⊎◌, inl, inr, ℕ, [], refl, sym, ◌∙◌, StorageView, EachMomentSince, IsLeftBy, byte_at, EntryTableView, cluster_size, named_for_tables, Pending, SameIn, SafeStep, IsUnnamed, IsWritten, data_beside, same_beside, unnamed_free, done_safe_throughout, data_is_written, unseen_written, ImageFile, ImageStorage, nothing_given, view_in, contents_in, known_in, state_in, FileInvariant, HasReftable, InternalFileStep, storage_of, order_of, l2_tables, refblocks}
 use Rattle.qcow2_alloc.proofs.CountsStay.{counts_follow, fixed_more}
 use Rattle.qcow2_alloc.proofs.KeptTables.Beside.{top_beside, named_blocks_beside_write, sound_beside}
 use Rattle.qcow2_alloc.proofs.FileInvariants.{file_invariant_of}

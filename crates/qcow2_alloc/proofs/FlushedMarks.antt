@@ -1,19 +1,5 @@
 -- Flushing only the modified entries is flushing all.
-use Rattle.std.proofs.Common.{◌≡◌, ◌+◌, ◌≤◌, Bool, true, false, cond, List, [], ◌∷◌, ◌++◌, length, Option, Some, None, Result, Ok, Err, refl, sym, ap, ◌∙◌, subst, append_assoc, arith, length-append}
-use Rattle.std.proofs.lemmas.Map.Steps.{set_value_same}
-use Rattle.std.proofs.lemmas.Option.{none-some, same_Some}
-use Rattle.std.specs.Cmp.{IsEquivalence}
-use Rattle.std.specs.List.{IsDistinct, AllByRecursion}
-use Rattle.std.specs.Map.{keys_of, lookup, set_value}
-use Rattle.std.specs.Option.{option_map_or, option_or, IfSome, IsSome}
-use Rattle.qcow2_alloc.specs.declared.async_lru_cache.slot.Slot.{Slot}
-use Rattle.qcow2_alloc.specs.declared.async_lru_cache.error.CacheError.{CacheError}
-use Rattle.qcow2_alloc.specs.declared.async_lru_cache.error.CacheError.TheVariants.{InUse, StillInUse, Memory, Backend}
-use Rattle.qcow2_alloc.specs.AsyncLruCache.{Cache, with_entries, slot_of}
-use Rattle.qcow2_alloc.specs.AsyncLruCacheBackend.{Steps}
-use Rattle.qcow2_alloc.specs.CacheAnswers.{FlushesAll, FlushesKey}
-use Rattle.qcow2_alloc.specs.Uses.{first_marked, behind, IsFoundAs}
-use Rattle.qcow2_alloc.specs.TableCache.{marks_in, settled, failure_of, FlushesAt}
+use Rattle.qcow2_alloc.proofs.Common.{◌≡◌, ◌+◌, ◌≤◌, Bool, true, false, cond, List, [], ◌∷◌, ◌++◌, length, Option, Some, None, Result, Ok, Err, refl, sym, ap, ◌∙◌, subst, append_assoc, arith, length-append, set_value_same, none-some, same_Some, IsEquivalence, IsDistinct, AllByRecursion, keys_of, lookup, set_value, option_map_or, option_or, IfSome, IsSome, Slot, CacheError, InUse, StillInUse, Memory, Backend, Cache, with_entries, slot_of, Steps, FlushesAll, FlushesKey, first_marked, behind, IsFoundAs, marks_in, settled, failure_of, FlushesAt}
 use Rattle.qcow2_alloc.proofs.CachedEntries.Flushing.{Flushing, flushing_more, flushing_all}
 use Rattle.qcow2_alloc.proofs.CachedEntries.Lists.{option_or-none}
 use Rattle.qcow2_alloc.proofs.TableMarks.{marks_set, settled_right, mark_looked}

@@ -1,11 +1,6 @@
 -- Reftables that were replaced by longer ones, and whose clusters are listed to be freed.
-use Rattle.std.proofs.Common.{◌≡◌, ℕ, ◌+◌, ◌-◌, ◌*◌, ◌/◌, ◌%◌, ◌^◌, ◌<◌, ◌≤◌, List, [], ◌∷◌, ◌++◌, length, Some, refl, sym, ap, ◌∙◌, subst, append_assoc, arith}
+use Rattle.qcow2_alloc.proofs.Common.{◌≡◌, ℕ, ◌+◌, ◌-◌, ◌*◌, ◌/◌, ◌%◌, ◌^◌, ◌<◌, ◌≤◌, List, [], ◌∷◌, ◌++◌, length, Some, refl, sym, ap, ◌∙◌, subst, append_assoc, arith, EntryTableView, entry_count, IsRefTable, NamesBehindHeader, KeepsRefblocks, KeepsEntries, KeepsNamed, metadata_entry, SamePlace, IsRunOfTable, FillsClusters, ReftableReplaced, OldReftablesQueued, ClustersToFreeEntry}
 use Rattle.std.proofs.lemmas.List.{append-nil}
-use Rattle.qcow2_metadata.specs.EntryTable.{EntryTableView, entry_count, IsRefTable}
-use Rattle.qcow2_alloc.specs.Allocation.{NamesBehindHeader, KeepsRefblocks, KeepsEntries, KeepsNamed}
-use Rattle.qcow2_alloc.specs.ClustersToFree.{metadata_entry}
-use Rattle.qcow2_alloc.specs.FreeList.{SamePlace, IsRunOfTable, FillsClusters, ReftableReplaced, OldReftablesQueued}
-use Rattle.qcow2_alloc.specs.declared.clusters_to_free.ClustersToFreeEntry.{ClustersToFreeEntry}
 use Rattle.qcow2_alloc.proofs.AllocationSteps.{behind_none, behind_then, ranges_then, entries_then, entries_less}
 
 pub place_none : (t : EntryTableView) → SamePlace t t

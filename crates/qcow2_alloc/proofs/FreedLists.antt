@@ -1,22 +1,5 @@
 -- The entries of a list of clusters to free are freed one after another.
-use Rattle.std.proofs.Common.{◌≡◌, ◌≤◌, ◌++◌, ◌∷◌, [], List, Result, Ok, refl, sym, ap, ◌∙◌, subst, append_assoc, ℕ, ◌+◌, ◌-◌, ◌/◌, ◌^◌, ◌<◌, Err}
-use Rattle.std.proofs.Math.Nat.{le_refl, le_trans}
-use Rattle.image_access.specs.Moments.{StorageView}
-use Rattle.qcow2_metadata.specs.Header.{HeaderView, counts_per_block}
-use Rattle.qcow2_laws.specs.Changes.{one_at}
-use Rattle.qcow2_laws.specs.CrashInvariant.{Pending}
-use Rattle.qcow2_alloc.specs.declared.allocation.Allocator.{Allocator}
-use Rattle.qcow2_alloc.specs.declared.clusters_to_free.ClusterKind.{ClusterKind}
-use Rattle.qcow2_alloc.specs.declared.clusters_to_free.ClustersToFreeEntry.{ClustersToFreeEntry}
-use Rattle.qcow2_alloc.specs.declared.error.ImageError.{ImageError}
-use Rattle.qcow2_alloc.specs.declared.image_file.ImageFile.{ImageFile}
-use Rattle.qcow2_alloc.specs.Allocation.{Frees, GivesBack, IsUnaligned, Listed, MayFree, MayDecrement, Owed, listed_as, owed_as}
-use Rattle.qcow2_alloc.specs.FreeList.{but, run_of, with_listed}
-use Rattle.qcow2_alloc.specs.FreeSteps.{FreesListed}
-use Rattle.qcow2_alloc.specs.ImageError.{IsOfTables}
-use Rattle.qcow2_alloc.specs.ImageFile.{AllocatorInvariant}
-use Rattle.qcow2_alloc.specs.Leaks.{LeaksOne, LeaksUnaligned}
-use Rattle.qcow2_alloc.specs.Steps.{Fails, GivesSoundly, TableStep}
+use Rattle.qcow2_alloc.proofs.Common.{◌≡◌, ◌≤◌, ◌++◌, ◌∷◌, [], List, Result, Ok, refl, sym, ap, ◌∙◌, subst, append_assoc, ℕ, ◌+◌, ◌-◌, ◌/◌, ◌^◌, ◌<◌, Err, le_refl, le_trans, StorageView, HeaderView, counts_per_block, one_at, Pending, Allocator, ClusterKind, ClustersToFreeEntry, ImageError, ImageFile, Frees, GivesBack, IsUnaligned, Listed, MayFree, MayDecrement, Owed, listed_as, owed_as, but, run_of, with_listed, FreesListed, IsOfTables, AllocatorInvariant, LeaksOne, LeaksUnaligned, Fails, GivesSoundly, TableStep}
 use Rattle.qcow2_alloc.proofs.AllocationSteps.{allocator_step_none, is_sound_now, may_lower_still}
 use Rattle.qcow2_alloc.proofs.Freeing.{behind_first, but_more, but_same, first_owed, frees_as, frees_then, listed_none, run_freed, run_refused, with_both, with_one, with_relisted}
 use Rattle.qcow2_alloc.proofs.Steps.{fails_ok, fails_since, free_step_listed, free_step_none, free_step_of, free_step_then}

@@ -1,26 +1,6 @@
 -- Processing the list of clusters to free.
-use Rattle.std.proofs.Common.{◌≡◌, ◌≢◌, inl, inr, ℕ, ◌+◌, ◌-◌, ◌*◌, ◌/◌, ◌^◌, ◌<◌, ◌≤◌, Bool, true, false, cond, List, [], ◌∷◌, ◌++◌, append-nil, Result, Ok, Err, OnOk, refl, sym, ap, ◌∙◌, subst, arith}
-use Rattle.std.proofs.lemmas.Bool.{cases_lt}
-use Rattle.image_access.specs.Moments.{StorageView}
-use Rattle.qcow2_metadata.specs.declared.header.HeaderFields.{HeaderFields}
-use Rattle.qcow2_metadata.specs.Bytes.{Bytes}
-use Rattle.qcow2_metadata.specs.EntryTable.{EntryTableView}
-use Rattle.qcow2_metadata.specs.Header.{HeaderReads, cluster_size, counts_per_block, count_width, reftable_entries}
-use Rattle.qcow2_metadata.specs.Entries.{count, block_offset}
-use Rattle.qcow2_laws.specs.Changes.{one_at}
-use Rattle.qcow2_laws.specs.CrashInvariant.{Pending}
-use Rattle.std.proofs.Math.Nat.{div-le_self, lt-div-mul-add, mul-le-mul_left}
-use Rattle.std.proofs.Math.Pow.{pow_mono}
-use Rattle.qcow2_laws.proofs.Places.{Sizes-from, count_none, reftable_entry-past}
-use Rattle.qcow2_alloc.specs.declared.allocation.Allocator.{Allocator}
-use Rattle.qcow2_alloc.specs.declared.clusters_to_free.ClusterKind.{ClusterKind}
-use Rattle.qcow2_alloc.specs.declared.clusters_to_free.ClusterKind.TheVariants.{Data, Metadata}
-use Rattle.qcow2_alloc.specs.declared.clusters_to_free.ClustersToFreeEntry.{ClustersToFreeEntry}
-use Rattle.qcow2_alloc.specs.declared.error.ImageError.{ImageError}
-use Rattle.qcow2_alloc.specs.declared.image_file.ImageFile.{ImageFile}
-use Rattle.qcow2_alloc.specs.Allocation.{run_at, Listed, listed_as, owed_as, InternalAllocatorStep, GivesBack, Frees}
-use Rattle.qcow2_alloc.specs.FreeList.{run_of, of_data, of_tables, to_free, is_same, with_listed, but}
-use Rattle.qcow2_alloc.specs.ImageFile.{contents_in, known_in, FileInvariant, AllocatorInvariant, IsFault, HasReftable, RefusedFileStep}
+use Rattle.qcow2_alloc.proofs.Common.{◌≡◌, ◌≢◌, inl, inr, ℕ, ◌+◌, ◌-◌, ◌*◌, ◌/◌, ◌^◌, ◌<◌, ◌≤◌, Bool, true, false, cond, List, [], ◌∷◌, ◌++◌, append-nil, Result, Ok, Err, OnOk, refl, sym, ap, ◌∙◌, subst, arith, cases_lt, StorageView, HeaderFields, Bytes, EntryTableView, HeaderReads, cluster_size, counts_per_block, count_width, reftable_entries, count, block_offset, one_at, Pending, div-le_self, lt-div-mul-add, mul-le-mul_left, pow_mono, Sizes-from, count_none, reftable_entry-past, Allocator, ClusterKind, Data, Metadata, ClustersToFreeEntry, ImageError, ImageFile, run_at, Listed, listed_as, owed_as, InternalAllocatorStep, GivesBack, Frees, run_of, of_data, of_tables, to_free, is_same, with_listed, but, contents_in, known_in, FileInvariant, AllocatorInvariant, HasReftable, RefusedFileStep}
+use Rattle.qcow2_alloc.specs.ImageFile.{IsFault}
 use Rattle.qcow2_alloc.proofs.AllocationSteps.{owed_counted}
 use Rattle.qcow2_alloc.proofs.FileSteps.{pending_same, file_step_then, interrupted_then}
 use Rattle.qcow2_alloc.proofs.Runs.{run_before, run_after, run_first}

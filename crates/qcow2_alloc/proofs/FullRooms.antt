@@ -1,20 +1,6 @@
 -- A search for room continues only if there is none: a cluster of each room that it passed is in use.
-use Rattle.std.proofs.Common.{◌≡◌, inl, inr, ℕ, zero, suc, ◌+◌, ◌-◌, ◌*◌, ◌/◌, ◌<◌, ◌≤◌, Bool, true, false, refl, sym, ap, ◌∙◌, subst, arith, Result, Ok, Err, Some}
-use Rattle.std.proofs.lemmas.Bool.{cases_lt}
-use Rattle.std.proofs.lemmas.Bool.Decides.{nat_tests}
-use Rattle.image_access.specs.Moments.{StorageView}
-use Rattle.qcow2_metadata.specs.Bytes.{one_if}
-use Rattle.qcow2_metadata.specs.EntryTable.{EntryTableView, entry_count}
-use Rattle.qcow2_metadata.specs.Header.{counts_per_block, entries_per_cluster}
-use Rattle.qcow2_alloc.specs.declared.image_file.ImageFile.{ImageFile}
-use Rattle.qcow2_alloc.specs.Growing.{IsLeastLength}
-use Rattle.qcow2_alloc.specs.Limits.{nameable_clusters, HasNoRoomBelow, HasNoRoomFor, CantGrow, IsLowestRoom, LiesLowest}
-use Rattle.qcow2_alloc.specs.LowestRuns.{IsUsed, KeepsUsed}
-use Rattle.qcow2_alloc.specs.UsedCounts.{AreUsed}
-use Rattle.qcow2_alloc.specs.Rooms.{opens, opened}
+use Rattle.qcow2_alloc.proofs.Common.{◌≡◌, inl, inr, ℕ, zero, suc, ◌+◌, ◌-◌, ◌*◌, ◌/◌, ◌<◌, ◌≤◌, Bool, true, false, refl, sym, ap, ◌∙◌, subst, arith, Result, Ok, Err, Some, cases_lt, nat_tests, StorageView, one_if, EntryTableView, entry_count, counts_per_block, entries_per_cluster, ImageFile, IsLeastLength, nameable_clusters, HasNoRoomBelow, HasNoRoomFor, CantGrow, IsLowestRoom, LiesLowest, IsUsed, KeepsUsed, AreUsed, opens, opened, OnOk, ImageError}
 use Rattle.qcow2_alloc.proofs.Lengths.{one_least}
-use Rattle.std.specs.Prelude.{OnOk}
-use Rattle.qcow2_alloc.specs.declared.error.ImageError.{ImageError}
 use Rattle.qcow2_alloc.proofs.Rooms.{next_sum, opened_none, opening}
 
 -- ---- the ranges that a run enters are entered by its end, or before it

@@ -1,32 +1,5 @@
 -- Replacing the reftable by a longer one: in memory, then at a place with room, and the old one is listed to be freed.
-use Rattle.qcow2_alloc.specs.LowestRuns.{KeepsUsed}
-use Rattle.std.proofs.Common.{◌≡◌, ◌⊎◌, inl, IsTrue, ℕ, ◌+◌, ◌-◌, ◌*◌, ◌/◌, ◌%◌, ◌^◌, ◌==◌, List, length, [], ◌∷◌, ◌++◌, Some, Result, Ok, Err, refl, sym, ap, ◌∙◌, subst, arith}
-use Rattle.std.specs.Prelude.{IfErr}
-use Rattle.std.proofs.lemmas.Bool.{cond-true, eq-eqb}
-use Rattle.std.proofs.lemmas.Nat.{div-add-mod'}
-use Rattle.image_access.specs.Moments.{StorageView}
-use Rattle.qcow2_metadata.specs.Bytes.{sum_below}
-use Rattle.qcow2_metadata.specs.declared.header.HeaderFields.{HeaderFields}
-use Rattle.qcow2_metadata.specs.Header.{HeaderView, cluster_size, entries_per_cluster}
-use Rattle.qcow2_metadata.specs.Entries.{block_offset}
-use Rattle.qcow2_metadata.specs.EntryTable.{EntryTableView, IsRefTable, entry_count}
-use Rattle.qcow2_metadata.specs.Named.{in_cluster, table_in}
-use Rattle.qcow2_metadata.specs.TableBytes.{entry_at}
-use Rattle.qcow2_laws.specs.CrashInvariant.{Pending}
-use Rattle.qcow2_laws.proofs.Places.{Sizes}
-use Rattle.qcow2_laws.proofs.Sums.{sum_below-same, sum_below-longer}
-use Rattle.qcow2_alloc.specs.declared.allocation.Allocator.{Allocator}
-use Rattle.qcow2_alloc.specs.declared.clusters_to_free.ClustersToFreeEntry.{ClustersToFreeEntry}
-use Rattle.qcow2_alloc.specs.declared.error.ImageError.{ImageError}
-use Rattle.qcow2_alloc.specs.declared.image_file.ImageFile.{ImageFile}
-use Rattle.qcow2_alloc.specs.Allocation.{InternalAllocatorStep, InternalAllocatorGrowth}
-use Rattle.qcow2_alloc.specs.ClustersToFree.{metadata_entry}
-use Rattle.qcow2_alloc.specs.FreeList.{of_data, of_tables, to_free, pending_then}
-use Rattle.qcow2_alloc.specs.Growing.{IsCloneOf}
-use Rattle.qcow2_alloc.specs.GrownTables.{named_by_reftable_entries, counted_run, with_run, without_reftable, NamesReftable, EntersReftable}
-use Rattle.qcow2_alloc.specs.ImageFile.{FileInvariant, HasReftable, RefusedFileStep}
-use Rattle.qcow2_alloc.specs.Limits.{IsFaultOr}
-use Rattle.qcow2_alloc.specs.Rooms.{IsLonger}
+use Rattle.qcow2_alloc.proofs.Common.{KeepsUsed, ◌≡◌, ◌⊎◌, inl, IsTrue, ℕ, ◌+◌, ◌-◌, ◌*◌, ◌/◌, ◌%◌, ◌^◌, ◌==◌, List, length, [], ◌∷◌, ◌++◌, Some, Result, Ok, Err, refl, sym, ap, ◌∙◌, subst, arith, IfErr, cond-true, eq-eqb, div-add-mod', StorageView, sum_below, HeaderFields, HeaderView, cluster_size, entries_per_cluster, block_offset, EntryTableView, IsRefTable, entry_count, in_cluster, table_in, entry_at, Pending, Sizes, sum_below-same, sum_below-longer, Allocator, ClustersToFreeEntry, ImageError, ImageFile, InternalAllocatorStep, InternalAllocatorGrowth, metadata_entry, of_data, of_tables, to_free, pending_then, IsCloneOf, named_by_reftable_entries, counted_run, with_run, without_reftable, NamesReftable, EntersReftable, FileInvariant, HasReftable, RefusedFileStep, IsFaultOr, IsLonger}
 use Rattle.qcow2_alloc.proofs.AllocationSteps.{on_of, allocator_step_on, leaves_as}
 use Rattle.qcow2_alloc.proofs.FileSteps.{pending_same}
 use Rattle.qcow2_alloc.proofs.Freeing.{free_more}

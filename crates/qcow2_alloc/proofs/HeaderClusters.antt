@@ -1,16 +1,5 @@
 -- Writes past cluster 0 leave the bytes of cluster 0 the same.
-use Rattle.std.proofs.Common.{◌≡◌, ◌⊎◌, inl, inr, ℕ, ◌*◌, ◌/◌, ◌^◌, ◌<◌, ◌≤◌, false, true, List, Option, Some, None, Result, IsSome, refl, sym, ap, ◌∙◌, arith}
-use Rattle.std.specs.Prelude.{IfSome}
-use Rattle.std.proofs.lemmas.Nat.{div-add-mod', mod_below, mul-le, pow_pos}
-use Rattle.image_access.specs.Contents.{overwritten}
-use Rattle.image_access.specs.Moments.{StorageView, Calls, QuietCalls, Changes, ContentsStay}
-use Rattle.image_access.specs.declared.error.StorageError.{StorageError}
-use Rattle.image_access.proofs.Bytes.{byte_at-overwritten_below}
-use Rattle.image_access.proofs.EachMomentSince.{passes_none, passes_on, passes_if, whole_or_nothing}
-use Rattle.qcow2_metadata.specs.Bytes.{byte_at}
-use Rattle.qcow2_alloc.specs.ImageStorage.{storage_of, WritesPlaced}
-use Rattle.qcow2_alloc.specs.declared.image_storage.ImageStorage.{ImageStorage}
-use Rattle.qcow2_alloc.specs.HeaderClusters.{IsInHeaderCluster, SameAt, BytesStay, KeepsHeaderCluster}
+use Rattle.qcow2_alloc.proofs.Common.{◌≡◌, ◌⊎◌, inl, inr, ℕ, ◌*◌, ◌/◌, ◌^◌, ◌<◌, ◌≤◌, false, true, List, Option, Some, None, Result, IsSome, refl, sym, ap, ◌∙◌, arith, IfSome, div-add-mod', mod_below, mul-le, pow_pos, overwritten, StorageView, Calls, QuietCalls, Changes, ContentsStay, StorageError, byte_at-overwritten_below, passes_none, passes_on, passes_if, whole_or_nothing, byte_at, storage_of, WritesPlaced, ImageStorage, IsInHeaderCluster, SameAt, BytesStay, KeepsHeaderCluster}
 
 -- a byte of cluster 0 lies below each other cluster
 pub below_others : (bits c o : ℕ) → 0 < c → o / 2 ^ bits ≡ 0 → o < c * 2 ^ bits

@@ -1,22 +1,5 @@
 -- Header numbers are written, whatever tables are cached: the caches' invariant holds with the new header.
-use Rattle.std.proofs.Common.{◌≡◌, ◌≢◌, ◌⊎◌, inl, inr, ℕ, ◌+◌, ◌/◌, ◌<◌, refl, sym, ap, ◌∙◌, subst, arith}
-use Rattle.image_access.specs.Moments.{StorageView}
-use Rattle.qcow2_metadata.specs.Bytes.{Bytes}
-use Rattle.qcow2_metadata.specs.declared.header.HeaderFields.{HeaderFields}
-use Rattle.qcow2_metadata.specs.Header.{cluster_size}
-use Rattle.qcow2_metadata.specs.Entries.{is_copied, l1_entry, reftable_entry, host_offset, block_offset}
-use Rattle.qcow2_metadata.specs.Named.{in_cluster, named_for_tables, named_by_l1_table, named_by_reftable}
-use Rattle.qcow2_laws.specs.Caches.{CacheInvariantOver, HasL2, HasOwnL2, HasBlock, AreNamedBlocks}
-use Rattle.qcow2_laws.specs.CrashInvariant.{Pending, CrashInvariant, SameIn}
-use Rattle.qcow2_laws.specs.Tops.{Places, WritesHeader, with_places}
-use Rattle.qcow2_laws.proofs.Blocks.{table_once}
-use Rattle.qcow2_laws.proofs.Consistency.{in_own}
-use Rattle.qcow2_laws.proofs.Headers.{header_sizes, header_fixed, header_same}
-use Rattle.qcow2_laws.proofs.KeptSteps.{kept_beside}
-use Rattle.qcow2_laws.proofs.Shares.{shares, table_has, block_has}
-use Rattle.qcow2_alloc.specs.declared.image_file.ImageFile.{ImageFile}
-use Rattle.qcow2_alloc.specs.ImageFile.{contents_in, known_in, FileInvariant}
-use Rattle.qcow2_alloc.specs.MetadataCaches.{HasFormat, order_of, l2_tables, refblocks, known_of, CacheInvariant}
+use Rattle.qcow2_alloc.proofs.Common.{◌≡◌, ◌≢◌, ◌⊎◌, inl, inr, ℕ, ◌+◌, ◌/◌, ◌<◌, refl, sym, ap, ◌∙◌, subst, arith, StorageView, Bytes, HeaderFields, cluster_size, is_copied, l1_entry, reftable_entry, host_offset, block_offset, in_cluster, named_for_tables, named_by_l1_table, named_by_reftable, CacheInvariantOver, HasL2, HasOwnL2, HasBlock, AreNamedBlocks, Pending, CrashInvariant, SameIn, Places, WritesHeader, with_places, table_once, in_own, header_sizes, header_fixed, header_same, kept_beside, shares, table_has, block_has, ImageFile, contents_in, known_in, FileInvariant, HasFormat, order_of, l2_tables, refblocks, known_of, CacheInvariant}
 use Rattle.qcow2_alloc.proofs.KeptTables.Loaded.{loaded_beside}
 use Rattle.qcow2_alloc.proofs.KeptTables.Named.{AreCurrentIn, loaded_named}
 

@@ -1,31 +1,6 @@
 -- The first free cluster of an allocator over its steps: clusters in use stay in use, except those that are freed.
-use Rattle.std.proofs.Common.{◌≡◌, ◌≢◌, ◌⊎◌, inl, inr, ℕ, ◌==◌, IsTrue, IsSome, ◌+◌, ◌*◌, ◌/◌, ◌<◌, ◌≤◌, Bool, true, false, Some, None, Result, Ok, Err, sym, ap, ◌∙◌, subst, refl, arith}
-use Rattle.std.specs.Prelude.{OnOk}
-use Rattle.std.proofs.lemmas.Bool.{cases_eq, cases_lt}
-use Rattle.image_access.specs.Moments.{StorageView}
-use Rattle.qcow2_metadata.specs.Entries.{block_offset, reftable_entry, count}
-use Rattle.qcow2_metadata.specs.EntryTable.{EntryTableView, entry_count}
-use Rattle.qcow2_metadata.specs.TableBytes.{entry_at}
-use Rattle.qcow2_metadata.specs.Header.{cluster_size, counts_per_block}
-use Rattle.qcow2_metadata.specs.Named.{named_by_reftable, named_for_tables, in_cluster}
-use Rattle.std.proofs.lemmas.Nat.{div-mul-add, pow_pos}
-use Rattle.std.proofs.Math.Nat.{zero-div}
-use Rattle.qcow2_laws.proofs.Shares.{shares, block_has}
-use Rattle.qcow2_laws.proofs.Consistency.{in_own}
-use Rattle.qcow2_laws.proofs.Places.{count_none, has_block}
-use Rattle.qcow2_laws.specs.Changes.{one_at}
-use Rattle.qcow2_laws.specs.CrashInvariant.{Pending}
-use Rattle.qcow2_alloc.specs.declared.allocation.Allocator.{Allocator}
-use Rattle.qcow2_alloc.specs.declared.clusters_to_free.ClusterKind.TheVariants.{Data, Metadata}
-use Rattle.qcow2_alloc.specs.declared.error.ImageError.{ImageError}
-use Rattle.qcow2_alloc.specs.declared.image_file.ImageFile.{ImageFile}
-use Rattle.qcow2_alloc.specs.Allocation.{run_at, taken_as, Owed, Taken, Listed, owed_as, HasNone, RefblockAt, InternalAllocatorStep, GetsBlock, DecrementsOne, PlacesBlock, AllocatesGiven}
-use Rattle.qcow2_alloc.specs.ImageFile.{pending_at, contents_in, known_in, FileInvariant, HasReftable, RefusedFileStep, IsFault}
-use Rattle.qcow2_alloc.specs.MetadataCaches.{rb_at}
-use Rattle.qcow2_alloc.specs.declared.cache.MetadataCaches.{MetadataCaches}
-use Rattle.std.proofs.lemmas.Bool.Decides.{nat_tests}
-use Rattle.qcow2_alloc.specs.LowestRuns.{IsPassed, SearchStays, IsUsed, IsLowestRun, NoFreeBelowHint, KeepsNoFreeBelowHint, BrokeOff, KeepsUsed}
-use Rattle.qcow2_alloc.specs.UsedCounts.{AreUsed}
+use Rattle.qcow2_alloc.proofs.Common.{◌≡◌, ◌≢◌, ◌⊎◌, inl, inr, ℕ, ◌==◌, IsTrue, IsSome, ◌+◌, ◌*◌, ◌/◌, ◌<◌, ◌≤◌, Bool, true, false, Some, None, Result, Ok, Err, sym, ap, ◌∙◌, subst, refl, arith, OnOk, cases_eq, cases_lt, StorageView, block_offset, reftable_entry, count, EntryTableView, entry_count, entry_at, cluster_size, counts_per_block, named_by_reftable, named_for_tables, in_cluster, div-mul-add, pow_pos, zero-div, shares, block_has, in_own, count_none, has_block, one_at, Pending, Allocator, Data, Metadata, ImageError, ImageFile, run_at, taken_as, Owed, Taken, Listed, owed_as, HasNone, RefblockAt, InternalAllocatorStep, GetsBlock, DecrementsOne, PlacesBlock, AllocatesGiven, pending_at, contents_in, known_in, FileInvariant, HasReftable, RefusedFileStep, rb_at, MetadataCaches, nat_tests, IsPassed, SearchStays, IsUsed, IsLowestRun, NoFreeBelowHint, KeepsNoFreeBelowHint, BrokeOff, KeepsUsed, AreUsed}
+use Rattle.qcow2_alloc.specs.ImageFile.{IsFault}
 use Rattle.qcow2_alloc.proofs.FileSteps.{one_here}
 use Rattle.qcow2_alloc.proofs.Runs.{none_there, run_in}
 

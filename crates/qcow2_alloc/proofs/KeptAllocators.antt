@@ -1,18 +1,6 @@
 -- An allocator still belongs to its file after steps, and after refused calls.
-use Rattle.std.proofs.Common.{◌≡◌, ◌⊎◌, inl, inr, subst, sym, ℕ, ◌≤◌, List, Option, Some, None, arith}
-use Rattle.std.specs.Prelude.{IfSome}
-use Rattle.image_access.specs.Moments.{StorageView}
-use Rattle.qcow2_metadata.specs.Entries.{count}
-use Rattle.qcow2_metadata.specs.EntryTable.{EntryTableView}
-use Rattle.qcow2_laws.specs.CrashInvariant.{Pending}
-use Rattle.qcow2_alloc.specs.declared.allocation.Allocator.{Allocator}
-use Rattle.qcow2_alloc.specs.declared.error.ImageError.{ImageError}
-use Rattle.qcow2_alloc.specs.declared.image_file.ImageFile.{ImageFile}
-use Rattle.qcow2_alloc.specs.Allocation.{RefusedGrowth, InternalAllocatorStep}
-use Rattle.qcow2_alloc.specs.ImageFile.{known_in, HasReftable, InternalFileGrowth, InterruptedFileStep}
+use Rattle.qcow2_alloc.proofs.Common.{◌≡◌, ◌⊎◌, inl, inr, subst, sym, ℕ, ◌≤◌, List, Option, Some, None, arith, IfSome, StorageView, count, EntryTableView, Pending, Allocator, ImageError, ImageFile, RefusedGrowth, InternalAllocatorStep, known_in, HasReftable, InternalFileGrowth, InterruptedFileStep, NoFreeBelowHint, SearchesAnew, BrokeOff, IsIn}
 use Rattle.qcow2_alloc.specs.KeptAllocators.{IsAllocatorOf}
-use Rattle.qcow2_alloc.specs.LowestRuns.{NoFreeBelowHint, SearchesAnew, BrokeOff}
-use Rattle.number_runs.specs.NumberRuns.{IsIn}
 use Rattle.qcow2_alloc.proofs.AllocationSteps.{on_of}
 
 module _ {S : Type 0} (view : S → StorageView) where

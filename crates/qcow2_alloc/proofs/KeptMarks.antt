@@ -1,16 +1,5 @@
 -- Steps one after another keep the marks of an image's file.
-use Rattle.std.proofs.Common.{◌≡◌, ℕ, List, Option, Some, None, IsSome, Result, refl, sym, ◌∙◌, subst}
-use Rattle.std.specs.Option.{IfSome}
-use Rattle.image_access.specs.Moments.{StorageView, Calls, Changes}
-use Rattle.image_access.specs.declared.error.StorageError.{StorageError}
-use Rattle.qcow2_alloc.specs.CachePins.{KeepsPinsAndNotes}
-use Rattle.qcow2_alloc.specs.ImageStorage.{storage_of, RecordsWrite, SameNotes}
-use Rattle.qcow2_alloc.specs.CountedChanges.{counts_none, counts_then}
-use Rattle.qcow2_alloc.specs.KeptMarks.{KeepMarks, KeepNotes}
-use Rattle.qcow2_alloc.specs.KeptNotes.{KeepsNotes, kept_same, kept_then}
-use Rattle.qcow2_alloc.specs.MetadataCaches.{order_of}
-use Rattle.qcow2_alloc.specs.declared.cache.MetadataCaches.{MetadataCaches}
-use Rattle.qcow2_alloc.specs.declared.image_storage.ImageStorage.{ImageStorage}
+use Rattle.qcow2_alloc.proofs.Common.{◌≡◌, ℕ, List, Option, Some, None, IsSome, Result, refl, sym, ◌∙◌, subst, IfSome, StorageView, Calls, Changes, StorageError, KeepsPinsAndNotes, storage_of, RecordsWrite, SameNotes, counts_none, counts_then, KeepMarks, KeepNotes, KeepsNotes, kept_same, kept_then, order_of, MetadataCaches, ImageStorage}
 use Rattle.qcow2_alloc.proofs.CachePins.{marks_none, marks_then}
 use Rattle.qcow2_alloc.proofs.KeptNotes.{kept_told, write_kept}
 

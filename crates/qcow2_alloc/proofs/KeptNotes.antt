@@ -1,12 +1,6 @@
 -- Writes and reads of the image's storage keep recorded changes.
-use Rattle.std.proofs.Common.{◌≡◌, List, ℕ, IsTrue, Result, Ok, Err, sym, ◌∙◌, subst}
-use Rattle.image_access.specs.Moments.{StorageView, Calls, Changes, ContentsStay, QuietCalls}
-use Rattle.image_access.specs.declared.error.StorageError.{StorageError}
-use Rattle.image_access.specs.declared.error.StorageError.TheVariants.{Fault, Memory}
-use Rattle.qcow2_alloc.specs.CountedChanges.{CountsChanges, counts_none, counts_one}
-use Rattle.qcow2_alloc.specs.ImageStorage.{storage_of, is_changed_of, changes_of, RecordsWrite, SameNotes}
-use Rattle.qcow2_alloc.specs.KeptNotes.{KeepsNotes}
-use Rattle.qcow2_alloc.specs.declared.image_storage.ImageStorage.{ImageStorage}
+use Rattle.qcow2_alloc.proofs.Common.{◌≡◌, List, ℕ, IsTrue, Result, Ok, Err, sym, ◌∙◌, subst, StorageView, Calls, Changes, ContentsStay, QuietCalls, StorageError, Fault, CountsChanges, counts_none, counts_one, storage_of, is_changed_of, changes_of, RecordsWrite, SameNotes, KeepsNotes, ImageStorage}
+use Rattle.image_access.specs.declared.error.StorageError.TheVariants.{Memory}
 
 module _ {S : Type 0} where
   -- nothing is noted or counted before, or after

@@ -1,19 +1,6 @@
 -- The free runs that an allocator remembers: a search passes over no clusters but those that it passed before, and those in use.
-use Rattle.std.proofs.Common.{◌≡◌, ◌⊎◌, inl, inr, ℕ, ◌+◌, ◌-◌, ◌<◌, ◌≤◌, List, Bool, true, false, IsTrue, IsFalse, Option, Some, None, Result, Ok, Err, ap, subst, sym, refl, ◌∙◌, arith}
-use Rattle.std.specs.Prelude.{IfSome, IsErr, IsErrAnd}
-use Rattle.std.proofs.lemmas.Bool.Decides.{nat_tests}
-use Rattle.qcow2_laws.specs.CrashInvariant.{Pending}
-use Rattle.qcow2_alloc.specs.declared.cache.MetadataCaches.{MetadataCaches}
-use Rattle.qcow2_alloc.specs.declared.error.ImageError.{ImageError}
-use Rattle.qcow2_alloc.specs.ImageFile.{AllocatorInvariant, HasReftable}
-use Rattle.qcow2_alloc.specs.UsedCounts.{passed_hint, IsFoundUsed, SparedStayOut, ReportsUsed, AddsFree}
+use Rattle.qcow2_alloc.proofs.Common.{◌≡◌, ◌⊎◌, inl, inr, ℕ, ◌+◌, ◌-◌, ◌<◌, ◌≤◌, List, Bool, true, false, IsTrue, IsFalse, Option, Some, None, Result, Ok, Err, ap, subst, sym, refl, ◌∙◌, arith, IfSome, IsErr, IsErrAnd, nat_tests, Pending, MetadataCaches, ImageError, AllocatorInvariant, HasReftable, passed_hint, IsFoundUsed, SparedStayOut, ReportsUsed, AddsFree, StorageView, cases_eq, cases_lt, Adds, Forgets, IsIn, SameNumbers, Allocator, ImageFile, IsCovered, IsPassed, IsUsed, KeepsRuns, NoCluster, NoFreeBelowHint, PassesNoOthers, SearchStays}
 use Rattle.qcow2_alloc.proofs.Outcomes.{never}
-use Rattle.image_access.specs.Moments.{StorageView}
-use Rattle.std.proofs.lemmas.Bool.{cases_eq, cases_lt}
-use Rattle.number_runs.specs.NumberRuns.{Adds, Forgets, IsIn, SameNumbers}
-use Rattle.qcow2_alloc.specs.declared.allocation.Allocator.{Allocator}
-use Rattle.qcow2_alloc.specs.declared.image_file.ImageFile.{ImageFile}
-use Rattle.qcow2_alloc.specs.LowestRuns.{IsCovered, IsPassed, IsUsed, KeepsRuns, NoCluster, NoFreeBelowHint, PassesNoOthers, SearchStays}
 
 -- a search passes over no other clusters than before, or than are said
 pub passed_kept : (t t' : Allocator) (IsMore : ℕ → Type 0) → KeepsRuns t t' IsMore → (k : ℕ) → IsPassed t' k → IsPassed t k ⊎ IsMore k

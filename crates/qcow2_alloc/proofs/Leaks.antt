@@ -1,13 +1,5 @@
 -- A count that was lowered.
-use Rattle.std.proofs.Common.{◌≡◌, ℕ, ◌+◌, ◌-◌, ◌<◌, ◌%◌, Option, Some, None, Ok, IfSome, refl, subst, arith}
-use Rattle.std.specs.Option.{IsNone, is_some}
-use Rattle.qcow2_metadata.specs.Header.{counts_per_block}
-use Rattle.qcow2_metadata.specs.RefBlock.{RefBlockView, count_at}
-use Rattle.qcow2_alloc.specs.Leaks.{IsDecremented, TriesToDecrement}
-use Rattle.qcow2_alloc.specs.MetadataCaches.{rb_at}
-use Rattle.qcow2_alloc.specs.TableChanges.{LeavesCount, SetsCount}
-use Rattle.qcow2_alloc.specs.declared.cache.MetadataCaches.{MetadataCaches}
-use Rattle.qcow2_alloc.specs.declared.image_file.ImageFile.{ImageFile}
+use Rattle.qcow2_alloc.proofs.Common.{◌≡◌, ℕ, ◌+◌, ◌-◌, ◌<◌, ◌%◌, Option, Some, None, Ok, IfSome, refl, subst, arith, IsNone, is_some, counts_per_block, RefBlockView, count_at, IsDecremented, TriesToDecrement, rb_at, LeavesCount, SetsCount, MetadataCaches, ImageFile}
 use Rattle.qcow2_alloc.proofs.KeptTables.Inserting.{found_or_not}
 
 -- one less than one more

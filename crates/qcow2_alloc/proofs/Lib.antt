@@ -1,3 +1,4 @@
+pub mod Common
 pub mod CachedEntries
 pub mod CacheFaults
 pub mod CachePins

@@ -1,25 +1,8 @@
 -- Why an allocation is refused, other than by a fault.
-use Rattle.std.proofs.Common.{◌≡◌, inl, inr, ℕ, ◌<◌, ◌≤◌, Result, Ok, Err, ap, sym, ◌∙◌, subst, arith, ◌*◌, ◌^◌, Option, IsSome, refl, ◌/◌, ◌+◌, ◌⊎◌, Bool, true, false, IsTrue, ◌↔◌}
-use Rattle.std.specs.Prelude.{IfErr}
-use Rattle.image_access.specs.Moments.{StorageView}
-use Rattle.qcow2_laws.specs.CrashInvariant.{Pending}
-use Rattle.qcow2_alloc.specs.declared.allocation.Allocator.{Allocator}
-use Rattle.qcow2_alloc.specs.declared.error.ImageError.{ImageError}
+use Rattle.qcow2_alloc.proofs.Common.{◌≡◌, inl, inr, ℕ, ◌<◌, ◌≤◌, Result, Ok, Err, ap, sym, ◌∙◌, subst, arith, ◌*◌, ◌^◌, Option, IsSome, refl, ◌/◌, ◌+◌, ◌⊎◌, Bool, true, false, IsTrue, ◌↔◌, IfErr, StorageView, Pending, Allocator, ImageError, ImageFile, PlacesBlock, run_at, AllocatorInvariant, KeepsHeader, mul-le-mul_right, div-mul-le_self, IsHostCluster, greatest_offset, HeaderFields, counts_per_block, entries_per_cluster, cases_lt, EntryTableView, entry_count, IsUsed, IsLowestRun, IsLeastLength, opened, IsFaultOr, nameable_clusters, IsFull, CantGrow, CantCount}
 use Rattle.qcow2_alloc.specs.declared.error.ImageError.TheVariants as I
-use Rattle.qcow2_alloc.specs.declared.image_file.ImageFile.{ImageFile}
-use Rattle.qcow2_alloc.specs.Allocation.{PlacesBlock, run_at}
-use Rattle.qcow2_alloc.specs.ImageFile.{IsFault, AllocatorInvariant, KeepsHeader}
-use Rattle.std.proofs.Math.Nat.{mul-le-mul_right, div-mul-le_self}
-use Rattle.qcow2_metadata.specs.L2Mapping.{IsHostCluster, greatest_offset}
-use Rattle.qcow2_metadata.specs.declared.header.HeaderFields.{HeaderFields}
-use Rattle.qcow2_metadata.specs.Header.{counts_per_block, entries_per_cluster}
-use Rattle.std.proofs.lemmas.Bool.{cases_lt}
-use Rattle.qcow2_metadata.specs.EntryTable.{EntryTableView, entry_count}
-use Rattle.qcow2_alloc.specs.LowestRuns.{IsUsed, IsLowestRun}
-use Rattle.qcow2_alloc.specs.Growing.{IsLeastLength}
-use Rattle.qcow2_alloc.specs.Rooms.{opened}
+use Rattle.qcow2_alloc.specs.ImageFile.{IsFault}
 use Rattle.qcow2_alloc.proofs.ListedAfter.{header_counts}
-use Rattle.qcow2_alloc.specs.Limits.{IsFaultOr, nameable_clusters, IsFull, CantGrow, CantCount}
 
 -- another cause that follows from the one
 pub cause_as : (A B : Type 0) (e : ImageError) → (A → B) → IsFaultOr A e → IsFaultOr B e

@@ -1,21 +1,6 @@
 -- What replacing the reftable changes besides the table: the header points to the longer one, and the clusters of the old one are listed. What several such steps change.
-use Rattle.qcow2_alloc.specs.ImageStorage.{is_changed_of}
-use Rattle.std.proofs.lemmas.Bool.{or_right}
-use Rattle.std.proofs.Common.{◌≡◌, ℕ, ◌+◌, ◌<◌, Bool, true, false, List, [], ◌++◌, append_assoc, append-nil, Result, Ok, Err, IsTrue, inl, inr, refl, sym, ap, ◌∙◌, subst, arith}
-use Rattle.qcow2_metadata.specs.Header.{HeaderView, counts_per_block, with_fields, with_reftable}
-use Rattle.qcow2_laws.specs.Changes.{one_at}
-use Rattle.qcow2_laws.specs.CrashInvariant.{Pending}
-use Rattle.qcow2_laws.specs.Internal.{KeepsFormat}
-use Rattle.qcow2_alloc.specs.declared.clusters_to_free.ClusterKind.{ClusterKind}
-use Rattle.qcow2_alloc.specs.declared.clusters_to_free.ClusterKind.TheVariants.{Metadata}
-use Rattle.qcow2_alloc.specs.declared.clusters_to_free.ClustersToFreeEntry.{ClustersToFreeEntry}
-use Rattle.qcow2_alloc.specs.declared.allocation.Allocator.{Allocator}
-use Rattle.qcow2_alloc.specs.declared.error.ImageError.{ImageError}
-use Rattle.qcow2_alloc.specs.declared.image_file.ImageFile.{ImageFile}
-use Rattle.image_access.specs.Moments.{StorageView}
-use Rattle.qcow2_alloc.specs.Allocation.{run_at, taken_as, InternalAllocatorGrowth, GetsBlock, GrowsTable, RefusedGrowth}
-use Rattle.qcow2_alloc.specs.FreeList.{of_data, of_tables, to_free, pending_then, but, ListsTables}
-use Rattle.qcow2_alloc.specs.ImageFile.{KeepsHeader, IsFault, InterruptedFileStep}
+use Rattle.qcow2_alloc.proofs.Common.{is_changed_of, or_right, ◌≡◌, ℕ, ◌+◌, ◌<◌, Bool, true, false, List, [], ◌++◌, append_assoc, append-nil, Result, Ok, Err, IsTrue, inl, inr, refl, sym, ap, ◌∙◌, subst, arith, HeaderView, counts_per_block, with_fields, with_reftable, one_at, Pending, KeepsFormat, ClusterKind, Metadata, ClustersToFreeEntry, Allocator, ImageError, ImageFile, StorageView, run_at, taken_as, InternalAllocatorGrowth, GetsBlock, GrowsTable, RefusedGrowth, of_data, of_tables, to_free, pending_then, but, ListsTables, KeepsHeader, InterruptedFileStep}
+use Rattle.qcow2_alloc.specs.ImageFile.{IsFault}
 use Rattle.qcow2_alloc.proofs.AllocationSteps.{on_of, allocator_step_on, leaves_as, leaves_on}
 use Rattle.qcow2_alloc.proofs.FileSteps.{pending_same, safe_throughout_then}
 use Rattle.qcow2_alloc.proofs.Runs.{new_data_more, taken_last}

@@ -1,16 +1,7 @@
 -- A table is loaded if it is readable, and otherwise refused for that.
-use Rattle.std.proofs.Common.{◌≡◌, inl, inr, ℕ, ◌+◌, ◌*◌, ◌<◌, ◌≤◌, ◌^◌, List, Result, Err, sym, subst, arith}
-use Rattle.std.proofs.lemmas.Bool.{cases_lt}
-use Rattle.image_access.specs.Contents.{bytes_at}
+use Rattle.qcow2_alloc.proofs.Common.{◌≡◌, inl, inr, ℕ, ◌+◌, ◌*◌, ◌<◌, ◌≤◌, ◌^◌, List, Result, Err, sym, subst, arith, cases_lt, bytes_at, length-bytes_at, HeaderFields, EachReads, IsReasonNotToLoad, PassesLimit, SomeUnread, entry_at, MetadataError, of_metadata, EntriesRead, HasUnreadEntry, IsReasonAgainst}
 use Rattle.image_access.specs.declared.error.StorageError.TheVariants as S
-use Rattle.image_access.proofs.Bytes.{length-bytes_at}
-use Rattle.qcow2_metadata.specs.declared.header.HeaderFields.{HeaderFields}
-use Rattle.qcow2_metadata.specs.EntryTable.{EachReads, IsReasonNotToLoad, PassesLimit, SomeUnread}
-use Rattle.qcow2_metadata.specs.TableBytes.{entry_at}
-use Rattle.qcow2_metadata.specs.declared.error.MetadataError.{MetadataError}
 use Rattle.qcow2_metadata.specs.declared.error.MetadataError.TheVariants as M
-use Rattle.qcow2_alloc.specs.ImageError.{of_metadata}
-use Rattle.qcow2_alloc.specs.LoadedTables.{EntriesRead, HasUnreadEntry, IsReasonAgainst}
 
 -- the entries of a table that was loaded read
 pub entries_read : (entries : ℕ) (bytes : List ℕ) (entry : ℕ → ℕ) (Reads : ℕ → Type 0) → EachReads Reads bytes → ((i : ℕ) → entry_at bytes i ≡ entry i) → EntriesRead entries (λ i. Reads (entry i))

@@ -1,43 +1,7 @@
 -- Clusters that are in use only after steps that guests don't see: each is pending, or holds a new refblock or the new reftable.
-use Rattle.std.proofs.Common.{◌≡◌, ◌≢◌, ◌⊎◌, inl, inr, ℕ, ◌+◌, ◌-◌, ◌*◌, ◌/◌, ◌^◌, ◌<◌, ◌≤◌, ◌==◌, Bool, true, false, List, [], ◌∷◌, ◌++◌, Option, Some, None, Result, Ok, Err, refl, sym, ap, ◌∙◌, subst, arith}
-use Rattle.std.specs.Prelude.{IfOk, IsNone}
-use Rattle.std.proofs.lemmas.Bool.{cases_eq, cond-true, cond-false, eq-eqb, ne_eqb}
-use Rattle.std.proofs.Math.Nat.{mul-le-mul_left}
-use Rattle.std.proofs.lemmas.Nat.{div-add-mod', div-mul-add, pow_pos}
-use Rattle.image_access.specs.Moments.{StorageView}
-use Rattle.qcow2_metadata.specs.Bytes.{Bytes, sum_below}
-use Rattle.qcow2_metadata.specs.declared.header.HeaderFields.{HeaderFields}
-use Rattle.qcow2_metadata.specs.Header.{cluster_size, entries_per_cluster, reftable_entries, with_reftable}
-use Rattle.qcow2_metadata.specs.Entries.{l1_entry, reftable_entry, block_offset, count}
-use Rattle.qcow2_metadata.specs.EntryTable.{EntryTableView, IsRefTableOf, entry_count}
-use Rattle.qcow2_metadata.specs.TableBytes.{entry_at}
-use Rattle.qcow2_metadata.specs.Named.{in_cluster, table_in, named_by_reftable, named_by_l1_table, named_for_tables}
-use Rattle.qcow2_laws.specs.Guests.{named_by_guest}
-use Rattle.qcow2_laws.specs.Changes.{one_at}
-use Rattle.qcow2_laws.specs.Clusters.{Direction}
-use Rattle.qcow2_laws.specs.CrashInvariant.{Pending, CrashInvariant, SameCovers}
-use Rattle.qcow2_laws.specs.Guests.{over_guests, names}
-use Rattle.qcow2_laws.specs.Internal.{KeepsFormat}
+use Rattle.qcow2_alloc.proofs.Common.{◌≡◌, ◌≢◌, ◌⊎◌, inl, inr, ℕ, ◌+◌, ◌-◌, ◌*◌, ◌/◌, ◌^◌, ◌<◌, ◌≤◌, ◌==◌, Bool, true, false, List, [], ◌∷◌, ◌++◌, Option, Some, None, Result, Ok, Err, refl, sym, ap, ◌∙◌, subst, arith, IfOk, cases_eq, cond-true, cond-false, eq-eqb, ne_eqb, mul-le-mul_left, div-add-mod', div-mul-add, pow_pos, StorageView, Bytes, sum_below, HeaderFields, cluster_size, entries_per_cluster, reftable_entries, with_reftable, l1_entry, reftable_entry, block_offset, count, EntryTableView, IsRefTableOf, entry_count, entry_at, in_cluster, table_in, named_by_reftable, named_by_l1_table, named_for_tables, named_by_guest, one_at, Direction, Pending, CrashInvariant, SameCovers, over_guests, names, KeepsFormat, over_guests-same, reftable_entry-past, shares, in_l1, in_reftable, block_has, some_term, sum_below-le, sum_below-longer, l1_names-same, run_at, taken_as, is_data, Allocates, KeepsRefblocks, RefusedGrowth, InternalAllocatorGrowth, of_data, of_tables, to_free, pending_then, run_of, ListsTables, OldReftablesQueued, IsRunOfTable, reftable_at, without_reftable, pending_at, contents_in, known_in, FileInvariant, HasReftable, AllocatorInvariant, InternalFileGrowth, IsPastLimits, IsUsed, order_of, IsOfNewRefblock, IsOfReftable, IsAllocatedMetadata, IsMadeInTurn, IsListedSince, listed_at, run_in, CountsListed, ListsUsed, AllocatesOnly, Allocator, ClusterKind, Data, Metadata, ClustersToFreeEntry, ImageError, ImageFile}
+use Rattle.std.specs.Prelude.{IsNone}
 use Rattle.qcow2_laws.proofs.Formats.{size_format, guests_format, l1_format}
-use Rattle.qcow2_laws.proofs.Guests.{over_guests-same}
-use Rattle.qcow2_laws.proofs.Places.{reftable_entry-past}
-use Rattle.qcow2_laws.proofs.Shares.{shares, in_l1, in_reftable, block_has}
-use Rattle.qcow2_laws.proofs.Sums.{some_term, sum_below-le, sum_below-longer}
-use Rattle.qcow2_laws.proofs.Tops.{l1_names-same}
-use Rattle.qcow2_alloc.specs.Allocation.{run_at, taken_as, is_data, Allocates, KeepsRefblocks, RefusedGrowth, InternalAllocatorGrowth}
-use Rattle.qcow2_alloc.specs.FreeList.{of_data, of_tables, to_free, pending_then, run_of, ListsTables, OldReftablesQueued, IsRunOfTable}
-use Rattle.qcow2_alloc.specs.GrownTables.{reftable_at, without_reftable}
-use Rattle.qcow2_alloc.specs.ImageFile.{pending_at, contents_in, known_in, FileInvariant, HasReftable, AllocatorInvariant, InternalFileGrowth}
-use Rattle.qcow2_alloc.specs.Limits.{IsPastLimits}
-use Rattle.qcow2_alloc.specs.LowestRuns.{IsUsed}
-use Rattle.qcow2_alloc.specs.MetadataCaches.{order_of}
-use Rattle.qcow2_alloc.specs.MadeClusters.{IsOfNewRefblock, IsOfReftable, IsAllocatedMetadata, IsMadeInTurn, IsListedSince, listed_at, run_in, CountsListed, ListsUsed, AllocatesOnly}
-use Rattle.qcow2_alloc.specs.declared.allocation.Allocator.{Allocator}
-use Rattle.qcow2_alloc.specs.declared.clusters_to_free.ClusterKind.{ClusterKind}
-use Rattle.qcow2_alloc.specs.declared.clusters_to_free.ClusterKind.TheVariants.{Data, Metadata}
-use Rattle.qcow2_alloc.specs.declared.clusters_to_free.ClustersToFreeEntry.{ClustersToFreeEntry}
-use Rattle.qcow2_alloc.specs.declared.error.ImageError.{ImageError}
-use Rattle.qcow2_alloc.specs.declared.image_file.ImageFile.{ImageFile}
 use Rattle.qcow2_alloc.proofs.FormerReftables.{gave_longer}
 use Rattle.qcow2_alloc.proofs.Freeing.{free_more}
 use Rattle.qcow2_alloc.proofs.Hints.{taken_pending, header_used}

@@ -1,10 +1,7 @@
 -- Marked keys by their rising numbers, and how many there are.
-use Rattle.std.proofs.Common.{◌≡◌, ◌≢◌, ℕ, zero, suc, ◌+◌, ◌<◌, ◌≤◌, Bool, true, false, cond, eqb, ltb, ltb-true, ltb-false, lt-ltb, eqb-true, eq-eqb, ne_eqb, List, [], ◌∷◌, length, get_or, insert, remove, slice_get, Option, Some, None, is_some, refl, sym, ap, ◌∙◌, arith}
-use Rattle.std.proofs.lemmas.Option.{none-some, same_Some}
+use Rattle.qcow2_alloc.proofs.Common.{◌≡◌, ◌≢◌, ℕ, zero, suc, ◌+◌, ◌<◌, ◌≤◌, Bool, true, false, cond, eqb, ltb, ltb-true, ltb-false, List, [], ◌∷◌, length, get_or, insert, remove, slice_get, Option, Some, None, is_some, refl, sym, ap, ◌∙◌, arith, none-some, same_Some, lookup, remove_entry, set_value, IsSome, option_map_or, number_at, Rise, count_below, marks_of, marked_count, IsLastBelow}
+use Rattle.std.proofs.Common.{lt-ltb, eqb-true, eq-eqb, ne_eqb}
 use Rattle.std.specs.List.Sorted.{IsPartitionPoint, IsNonDecreasingBy}
-use Rattle.std.specs.Map.{lookup, remove_entry, set_value}
-use Rattle.std.specs.Option.{IsSome, option_map_or}
-use Rattle.qcow2_alloc.specs.Uses.{number_at, Rise, count_below, marks_of, marked_count, IsLastBelow}
 
 apart : (n m : ℕ) → n < m → eqb n m ≡ false
 apart n m low = ne_eqb n m (λ e. omega (arith, e, low))

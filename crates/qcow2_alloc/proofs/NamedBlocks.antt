@@ -1,49 +1,8 @@
 -- A reftable entry is written for a refblock that is in its cluster and in its cache.
-use Rattle.std.proofs.Common.{◌≡◌, ◌≢◌, ◌⊎◌, inl, inr, ℕ, ◌+◌, ◌*◌, ◌/◌, ◌%◌, ◌^◌, ◌<◌, ◌≤◌, Bool, true, false, List, [], Option, Some, Result, Ok, refl, sym, ap, ◌∙◌, subst, arith}
-use Rattle.std.proofs.lemmas.Bool.{cases_Bool, cases_eq, cases_lt, eq-eqb, ne_eqb, cond-true, cond-false}
-use Rattle.std.proofs.lemmas.Nat.{div-add-mod', mod_below}
-use Rattle.std.specs.Option.{IfSome}
-use Rattle.std.specs.Int.{w64, to_be_bytes}
-use Rattle.image_access.specs.Contents.{overwritten}
-use Rattle.image_access.specs.Moments.{StorageView, EachMomentSince, Changes, Calls, IsLeftBy}
-use Rattle.image_access.specs.declared.error.StorageError.{StorageError}
-use Rattle.qcow2_metadata.specs.Bytes.{Bytes, byte_at}
-use Rattle.qcow2_metadata.specs.EntryTable.{EntryTableView, IsRefTableOf, entry_count}
-use Rattle.qcow2_metadata.specs.RefBlock.{RefBlockView, IsRefBlock, count_at}
-use Rattle.qcow2_metadata.specs.TableBytes.{entry_at, ChangesEntry}
-use Rattle.qcow2_metadata.specs.declared.header.HeaderFields.{HeaderFields}
-use Rattle.qcow2_metadata.specs.Header.{cluster_size, counts_per_block, count_width, reftable_entries}
-use Rattle.qcow2_metadata.specs.Entries.{is_copied, reftable_entry, block_offset, block_count, host_offset}
-use Rattle.qcow2_metadata.specs.Named.{table_in, in_cluster, named_for_tables, named_by_l1_table, named_by_reftable}
-use Rattle.qcow2_metadata.proofs.EntryTables.{on_sector}
-use Rattle.qcow2_metadata.proofs.TablesAt.{ref_block_at}
+use Rattle.qcow2_alloc.proofs.Common.{◌≡◌, ◌≢◌, ◌⊎◌, inl, inr, ℕ, ◌+◌, ◌*◌, ◌/◌, ◌%◌, ◌^◌, ◌<◌, ◌≤◌, Bool, true, false, List, [], Option, Some, Result, Ok, refl, sym, ap, ◌∙◌, subst, arith, cases_Bool, cases_eq, cases_lt, eq-eqb, ne_eqb, cond-true, cond-false, div-add-mod', mod_below, IfSome, w64, to_be_bytes, overwritten, StorageView, EachMomentSince, Changes, Calls, IsLeftBy, StorageError, Bytes, byte_at, EntryTableView, IsRefTableOf, entry_count, RefBlockView, IsRefBlock, count_at, entry_at, ChangesEntry, HeaderFields, cluster_size, counts_per_block, count_width, reftable_entries, is_copied, reftable_entry, block_offset, block_count, host_offset, table_in, in_cluster, named_for_tables, named_by_l1_table, named_by_reftable, on_sector, ref_block_at, SafeThroughout, one_at, with_new_tables, named_now, Pending, SameIn, AreClean, BlocksMayGo, HasL2, HasOwnL2, HasBlock, table_at, SafeStep, IsInternal, SameL1Table, IsSameBut, IsSameOutside, WritesReftableEntry, IsNewBlock, overwritten_but, reftable_entry_beside, table_once, clean_counts, Sizes, block_count-moved, done_safe_throughout, write_safe_throughout, shares, table_has, block_has, reftable_has, table_is_named, unseen_refblock, ImageFile, ImageStorage, placing, first_counts, HasPlaceFor, StandsFirst, HasBytesAt, nothing_given, view_in, contents_in, known_in, state_in, FileInvariant, HasReftable, InternalFileStep, storage_of, AreLoaded, order_of, l2_tables, refblocks, rb_at, IsBlockOf}
 use Rattle.qcow2_metadata.proofs.WrittenTables.{IsRefTableOf-written_entry}
-use Rattle.qcow2_disk.specs.Stops.{SafeThroughout}
-use Rattle.qcow2_laws.specs.Changes.{one_at, with_new_tables, named_now}
-use Rattle.qcow2_laws.specs.CrashInvariant.{Pending, SameIn}
-use Rattle.qcow2_laws.specs.Caches.{AreClean, BlocksMayGo, HasL2, HasOwnL2, HasBlock}
-use Rattle.qcow2_laws.specs.Guests.{table_at}
-use Rattle.qcow2_laws.specs.SafeSteps.{SafeStep}
-use Rattle.qcow2_laws.specs.Internal.{IsInternal, SameL1Table}
-use Rattle.qcow2_laws.specs.Tops.{IsSameBut, IsSameOutside, WritesReftableEntry, IsNewBlock}
-use Rattle.qcow2_laws.proofs.Beside.{overwritten_but, reftable_entry_beside}
-use Rattle.qcow2_laws.proofs.Blocks.{table_once}
-use Rattle.qcow2_laws.proofs.Caches.{clean_counts}
 use Rattle.qcow2_laws.proofs.NewBlocks.{other_reftable}
 use Rattle.qcow2_laws.proofs.NewTables.{outside_eight}
-use Rattle.qcow2_laws.proofs.Places.{Sizes, block_count-moved}
-use Rattle.qcow2_laws.proofs.SafeSteps.{done_safe_throughout, write_safe_throughout}
-use Rattle.qcow2_laws.proofs.Shares.{shares, table_has, block_has, reftable_has}
-use Rattle.qcow2_laws.proofs.Steps.{table_is_named}
-use Rattle.qcow2_laws.proofs.Internal.{unseen_refblock}
-use Rattle.qcow2_alloc.specs.declared.image_file.ImageFile.{ImageFile}
-use Rattle.qcow2_alloc.specs.declared.image_storage.ImageStorage.{ImageStorage}
-use Rattle.qcow2_alloc.specs.Allocation.{placing, first_counts, HasPlaceFor, StandsFirst, HasBytesAt}
-use Rattle.qcow2_alloc.specs.ImageFile.{nothing_given, view_in, contents_in, known_in, state_in, FileInvariant, HasReftable, InternalFileStep}
-use Rattle.qcow2_alloc.specs.ImageStorage.{storage_of}
-use Rattle.qcow2_alloc.specs.KeptTables.{AreLoaded}
-use Rattle.qcow2_alloc.specs.MetadataCaches.{order_of, l2_tables, refblocks, rb_at}
-use Rattle.qcow2_alloc.specs.TableCaches.{IsBlockOf}
 use Rattle.qcow2_alloc.proofs.CountsStay.{counts_follow, fixed_more}
 use Rattle.qcow2_alloc.proofs.FileSteps.{one_here, pending_same}
 use Rattle.qcow2_alloc.proofs.KeptTables.Getting.{cluster_aligned}

@@ -1,38 +1,7 @@
 -- The header's pointer to a longer reftable is written, and the allocator uses that table from then on.
-use Rattle.std.proofs.Common.{◌≡◌, ◌≢◌, ◌⊎◌, inl, inr, ℕ, ◌+◌, ◌-◌, ◌*◌, ◌/◌, ◌^◌, ◌<◌, ◌≤◌, List, [], length, Some, Result, Ok, IsTrue, refl, sym, ap, ◌∙◌, subst, arith}
-use Rattle.std.proofs.Math.Nat.{mul-le-mul_left}
-use Rattle.std.proofs.lemmas.Bool.{cases_eq, or_left}
-use Rattle.image_access.specs.Moments.{StorageView, Changes, Calls}
-use Rattle.image_access.specs.declared.error.StorageError.{StorageError}
-use Rattle.qcow2_metadata.specs.Bytes.{Bytes, byte_at}
-use Rattle.qcow2_metadata.specs.declared.header.HeaderFields.{HeaderFields}
-use Rattle.qcow2_metadata.specs.Header.{HeaderView, cluster_size, entries_per_cluster, with_fields, with_reftable}
-use Rattle.qcow2_metadata.specs.HeaderWrite.{reftable_pointer_written}
-use Rattle.qcow2_metadata.specs.Entries.{l1_entry, reftable_entry, block_offset}
-use Rattle.qcow2_metadata.specs.EntryTable.{EntryTableView, IsRefTable, entry_count}
-use Rattle.qcow2_metadata.specs.TableBytes.{entry_at}
-use Rattle.qcow2_laws.specs.Caches.{HasBlock}
-use Rattle.qcow2_laws.specs.CrashInvariant.{Pending}
-use Rattle.qcow2_laws.specs.SafeSteps.{SafeStep}
-use Rattle.qcow2_disk.specs.Stops.{SafeThroughout}
-use Rattle.qcow2_laws.specs.Tops.{WritesHeader, with_reftable_at, IsNewReftable}
-use Rattle.qcow2_laws.specs.Internal.{IsInternal}
-use Rattle.qcow2_laws.proofs.Headers.{header_fixed, header_l1, header_known_covers}
-use Rattle.qcow2_laws.proofs.SafeSteps.{step_safe_throughout}
+use Rattle.qcow2_alloc.proofs.Common.{◌≡◌, ◌≢◌, ◌⊎◌, inl, inr, ℕ, ◌+◌, ◌-◌, ◌*◌, ◌/◌, ◌^◌, ◌<◌, ◌≤◌, List, [], length, Some, Result, Ok, IsTrue, refl, sym, ap, ◌∙◌, subst, arith, mul-le-mul_left, cases_eq, or_left, StorageView, Changes, Calls, StorageError, Bytes, byte_at, HeaderFields, HeaderView, cluster_size, entries_per_cluster, with_fields, with_reftable, reftable_pointer_written, l1_entry, reftable_entry, block_offset, EntryTableView, IsRefTable, entry_count, entry_at, HasBlock, Pending, SafeStep, SafeThroughout, WritesHeader, with_reftable_at, IsNewReftable, IsInternal, header_fixed, header_l1, header_known_covers, step_safe_throughout, header_is_written, table_bytes, Allocator, ImageFile, ImageStorage, ImageError, run_at, InternalAllocatorGrowth, reftable_at, with_run, without_reftable, StandsGrown, nothing_given, view_in, contents_in, known_in, state_in, FileInvariant, AllocatorInvariant, HasReftable, InternalFileGrowth, InterruptedFileStep, storage_of, is_changed_of, AreLoaded, IsUsed, order_of, refblocks, known_of}
 use Rattle.qcow2_laws.proofs.ReftableMoves.{now_l1, now_reftable, known_counts}
-use Rattle.qcow2_laws.proofs.Steps.{header_is_written}
-use Rattle.qcow2_laws.proofs.Internal.{table_bytes}
-use Rattle.qcow2_alloc.specs.declared.allocation.Allocator.{Allocator}
-use Rattle.qcow2_alloc.specs.declared.image_file.ImageFile.{ImageFile}
-use Rattle.qcow2_alloc.specs.declared.image_storage.ImageStorage.{ImageStorage}
-use Rattle.qcow2_alloc.specs.declared.error.ImageError.{ImageError}
-use Rattle.qcow2_alloc.specs.Allocation.{run_at, InternalAllocatorGrowth}
-use Rattle.qcow2_alloc.specs.GrownTables.{reftable_at, with_run, without_reftable, StandsGrown}
-use Rattle.qcow2_alloc.specs.ImageFile.{nothing_given, view_in, contents_in, known_in, state_in, FileInvariant, AllocatorInvariant, HasReftable, IsFault, InternalFileGrowth, InterruptedFileStep}
-use Rattle.qcow2_alloc.specs.ImageStorage.{storage_of, is_changed_of}
-use Rattle.qcow2_alloc.specs.KeptTables.{AreLoaded}
-use Rattle.qcow2_alloc.specs.LowestRuns.{IsUsed}
-use Rattle.qcow2_alloc.specs.MetadataCaches.{order_of, refblocks, known_of}
+use Rattle.qcow2_alloc.specs.ImageFile.{IsFault}
 use Rattle.qcow2_alloc.proofs.FileSteps.{pending_same}
 use Rattle.qcow2_alloc.proofs.GrownTables.{counted_anew, clusters_of_run, run_counted, whole_clusters, new_entries, few_entries, ends, new_reftable}
 use Rattle.qcow2_alloc.proofs.HeaderKept.{same_block, header_named_blocks, header_sound}

@@ -1,50 +1,8 @@
 -- New refblocks in the caches: they lie in clusters that nothing names, and nothing else of what is known changes.
-use Rattle.std.proofs.Common.{◌≡◌, ◌≢◌, ◌⊎◌, inl, inr, ℕ, ◌+◌, ◌-◌, ◌*◌, ◌/◌, ◌%◌, ◌^◌, ◌<◌, ◌≤◌, ◌==◌, max, Bool, true, false, cond, IsTrue, List, [], ◌∷◌, length, Option, Some, None, Result, Ok, Err, IfErr, OnOk, refl, sym, ap, ◌∙◌, subst, arith}
-use Rattle.std.proofs.lemmas.Bool.{cases_eq, cond-true, cond-false, eq-eqb, ne_eqb, or_right}
-use Rattle.std.proofs.lemmas.Nat.{pow_pos}
-use Rattle.std.specs.Option.{IfSome}
-use Rattle.image_access.specs.Moments.{StorageView}
-use Rattle.qcow2_metadata.specs.Bytes.{Bytes, byte_at}
-use Rattle.qcow2_metadata.specs.declared.header.HeaderFields.{HeaderFields}
-use Rattle.qcow2_metadata.specs.declared.l2_mapping.L2Mapping.{L2Mapping}
-use Rattle.qcow2_metadata.specs.Header.{HeaderView, cluster_size}
-use Rattle.qcow2_metadata.specs.Entries.{count}
-use Rattle.qcow2_metadata.specs.EntryTable.{EntryTableView}
-use Rattle.qcow2_metadata.specs.Named.{named_for_tables}
-use Rattle.qcow2_metadata.specs.RefBlock.{RefBlockView}
-use Rattle.qcow2_metadata.specs.TableBytes.{HasPlace}
-use Rattle.qcow2_metadata.specs.Tables.{CachedTable, known, overlays}
-use Rattle.qcow2_disk.specs.Stops.{Checkpoint, SafeThroughout, StopOkEverywhere}
-use Rattle.qcow2_laws.specs.Caches.{IsFreeAt, IsFreeOf, AreClean, AreNamedBlocks, BlocksMayGo, HasBlock}
-use Rattle.qcow2_laws.specs.Clusters.{Direction}
-use Rattle.qcow2_laws.specs.CrashInvariant.{Pending, CrashInvariant, IsTop, IsMixed, SameTop, SameCovers, SameCounts, SameIn}
-use Rattle.qcow2_laws.specs.Guests.{names, named_by_guest, named_in_either, over_guests}
-use Rattle.qcow2_laws.specs.Tops.{IsSameOutside}
-use Rattle.qcow2_laws.specs.Writes.{IsUnnamed, IsWritten}
-use Rattle.qcow2_laws.proofs.Caches.{unnamed_free_l2}
-use Rattle.qcow2_laws.proofs.Guests.{over_guests-le, over_guests-same}
-use Rattle.qcow2_laws.proofs.Internal.{unseen_none, unseen_known, unseen_then, l1_same_then}
-use Rattle.qcow2_laws.proofs.Lists.{known-none, known_elsewhere, known_there as known_over, no_overlay, overlays_within, unmodified_over, within_cluster, cluster_within}
-use Rattle.qcow2_laws.proofs.Places.{Sizes}
-use Rattle.qcow2_laws.proofs.Mixes.{mixed_crash_invariant, mixed_either}
-use Rattle.qcow2_laws.proofs.Shares.{top_stays, covers_stay, counts_stay}
-use Rattle.qcow2_laws.proofs.Tops.{SameTop-refl, SameTop-sym, SameTop-trans, IsTop-top, for_tables-top}
+use Rattle.qcow2_alloc.proofs.Common.{◌≡◌, ◌≢◌, ◌⊎◌, inl, inr, ℕ, ◌+◌, ◌-◌, ◌*◌, ◌/◌, ◌%◌, ◌^◌, ◌<◌, ◌≤◌, ◌==◌, max, Bool, true, false, cond, IsTrue, List, [], ◌∷◌, length, Option, Some, None, Result, Ok, Err, IfErr, OnOk, refl, sym, ap, ◌∙◌, subst, arith, cases_eq, cond-true, cond-false, eq-eqb, ne_eqb, or_right, pow_pos, IfSome, StorageView, Bytes, byte_at, HeaderFields, L2Mapping, HeaderView, cluster_size, count, EntryTableView, named_for_tables, RefBlockView, HasPlace, CachedTable, known, overlays, Checkpoint, SafeThroughout, StopOkEverywhere, IsFreeAt, IsFreeOf, AreClean, AreNamedBlocks, BlocksMayGo, HasBlock, Direction, Pending, CrashInvariant, IsTop, IsMixed, SameTop, SameCovers, SameCounts, SameIn, names, named_by_guest, named_in_either, over_guests, IsSameOutside, IsUnnamed, IsWritten, unnamed_free_l2, over_guests-le, over_guests-same, unseen_none, unseen_known, unseen_then, l1_same_then, known-none, known_elsewhere, no_overlay, overlays_within, unmodified_over, within_cluster, cluster_within, Sizes, mixed_crash_invariant, mixed_either, top_stays, covers_stay, counts_stay, SameTop-refl, SameTop-sym, SameTop-trans, IsTop-top, for_tables-top, Allocator, MetadataCaches, ImageError, Room, ImageFile, ImageStorage, run_at, HasBytesAt, InternalAllocatorStep, HeldStep, KeepsSoundly, IsGrown, nothing_given, view_in, contents_in, known_in, state_in, FileInvariant, AllocatorInvariant, RefusedFileStep, storage_of, is_changed_of, KeepMarks, order_of, l2_tables, refblocks, rb_at, laid_at, CacheInvariant, HavePlaces, InternalCacheStep, Overlay, OverlaysBlock, WritesInOrder, IsBlockOf, room_length, placed_at, AreFree, CountNew, InternalNewBlocks, HasCached, HasCachedBlock, PlacesBlocks, RefusedNewBlocks}
+use Rattle.qcow2_laws.proofs.Lists.{known_there as known_over}
 use Rattle.qcow2_laws.proofs.Writes.{same_crash_invariant, written_known_kept}
-use Rattle.qcow2_alloc.specs.declared.allocation.Allocator.{Allocator}
-use Rattle.qcow2_alloc.specs.declared.cache.MetadataCaches.{MetadataCaches}
-use Rattle.qcow2_alloc.specs.declared.error.ImageError.{ImageError}
-use Rattle.qcow2_alloc.specs.declared.free_room.Room.{Room}
-use Rattle.qcow2_alloc.specs.declared.image_file.ImageFile.{ImageFile}
-use Rattle.qcow2_alloc.specs.declared.image_storage.ImageStorage.{ImageStorage}
-use Rattle.qcow2_alloc.specs.Allocation.{run_at, HasBytesAt, InternalAllocatorStep}
-use Rattle.qcow2_alloc.specs.CacheSteps.{HeldStep, KeepsSoundly}
-use Rattle.qcow2_alloc.specs.GrownTables.{IsGrown}
-use Rattle.qcow2_alloc.specs.ImageFile.{nothing_given, view_in, contents_in, known_in, state_in, IsFault, FileInvariant, AllocatorInvariant, RefusedFileStep}
-use Rattle.qcow2_alloc.specs.ImageStorage.{storage_of, is_changed_of}
-use Rattle.qcow2_alloc.specs.KeptMarks.{KeepMarks}
-use Rattle.qcow2_alloc.specs.MetadataCaches.{order_of, l2_tables, refblocks, rb_at, laid_at, CacheInvariant, HavePlaces, InternalCacheStep, Overlay, OverlaysBlock, WritesInOrder}
-use Rattle.qcow2_alloc.specs.TableCaches.{IsBlockOf}
-use Rattle.qcow2_alloc.specs.Rooms.{room_length, placed_at, AreFree, CountNew, InternalNewBlocks, HasCached, HasCachedBlock, PlacesBlocks, RefusedNewBlocks}
+use Rattle.qcow2_alloc.specs.ImageFile.{IsFault}
 use Rattle.qcow2_alloc.proofs.AllocationSteps.{allocator_step_then, is_sound_now}
 use Rattle.qcow2_alloc.proofs.FileInvariants.{file_invariant_of}
 use Rattle.qcow2_alloc.proofs.FileSteps.{cached_safe_throughout, file_step_none, safe_throughout_then}

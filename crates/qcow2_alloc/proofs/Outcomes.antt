@@ -1,9 +1,6 @@
 -- What holds of the result of a call, whatever the call does.
-use Rattle.std.proofs.Common.{◌≡◌, ℕ, Bool, false, Result, Ok, Err, IsErr, IsErrAnd, IsTrue, refl, ap}
-use Rattle.std.specs.Prelude.{IsErrOf, IfOk, OnOk, OnErr}
-use Rattle.qcow2_metadata.specs.EntryTable.{EntryTableView}
-use Rattle.qcow2_alloc.specs.Allocation.{KeepsEntries}
-use Rattle.qcow2_alloc.specs.declared.error.ImageError.{ImageError}
+use Rattle.qcow2_alloc.proofs.Common.{◌≡◌, ℕ, Bool, false, Result, Ok, Err, IsErr, IsErrAnd, IsTrue, refl, ap, IsErrOf, IfOk, OnOk, EntryTableView, KeepsEntries, ImageError}
+use Rattle.std.specs.Prelude.{OnErr}
 use Rattle.qcow2_alloc.specs.declared.error.ImageError.TheVariants as I
 use Rattle.qcow2_alloc.proofs.AllocationSteps.{handed_on, behind_none}
 

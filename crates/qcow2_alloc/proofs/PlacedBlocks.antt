@@ -1,37 +1,5 @@
 -- A refblock is placed: its bytes are written to a cluster without references, and then a reftable entry names it.
-use Rattle.std.proofs.Common.{◌≡◌, ◌≢◌, ◌⊎◌, inl, inr, ℕ, ◌+◌, ◌-◌, ◌*◌, ◌/◌, ◌%◌, ◌^◌, ◌<◌, ◌≤◌, Bool, true, false, List, length, Option, Some, Result, sym, ap, ◌∙◌, subst, arith}
-use Rattle.std.proofs.lemmas.Bool.{cases_eq, cases_lt}
-use Rattle.std.proofs.lemmas.Nat.{div-mul-add, mod-mul-add}
-use Rattle.std.specs.Option.{IfSome}
-use Rattle.image_access.specs.Contents.{overwritten}
-use Rattle.image_access.specs.Moments.{StorageView, Changes, Calls}
-use Rattle.image_access.specs.declared.error.StorageError.{StorageError}
-use Rattle.image_access.proofs.EachMomentSince.{whole_or_nothing}
-use Rattle.qcow2_metadata.specs.Bytes.{Bytes, byte_at}
-use Rattle.qcow2_metadata.specs.EntryTable.{EntryTableView}
-use Rattle.qcow2_metadata.specs.RefBlock.{RefBlockView}
-use Rattle.qcow2_metadata.specs.TableBytes.{entry_at}
-use Rattle.qcow2_metadata.specs.Header.{cluster_size, counts_per_block}
-use Rattle.qcow2_metadata.specs.Entries.{reftable_entry, block_offset, count}
-use Rattle.qcow2_laws.specs.Changes.{one_at, with_new_tables}
-use Rattle.qcow2_laws.specs.Clusters.{RbDependsOnL2}
-use Rattle.qcow2_laws.specs.CrashInvariant.{Pending, SameCovers, SameIn}
-use Rattle.qcow2_laws.specs.Caches.{BlocksMayGo}
-use Rattle.qcow2_laws.specs.Writes.{IsUnnamed}
-use Rattle.qcow2_laws.proofs.Beside.{overwritten_but, unnamed_free}
-use Rattle.qcow2_laws.proofs.Caches.{clean_covers}
-use Rattle.qcow2_laws.proofs.KeptSteps.{known_is_on_storage}
-use Rattle.qcow2_laws.proofs.Places.{Sizes, Sizes-from, count_none, in_one}
-use Rattle.qcow2_laws.proofs.Steps.{data_is_written}
-use Rattle.qcow2_alloc.specs.declared.cache.MetadataCaches.{MetadataCaches}
-use Rattle.qcow2_alloc.specs.declared.image_file.ImageFile.{ImageFile}
-use Rattle.qcow2_alloc.specs.declared.image_storage.ImageStorage.{ImageStorage}
-use Rattle.qcow2_alloc.specs.Allocation.{placing, HasPlaceFor, HasBytesAt}
-use Rattle.qcow2_alloc.specs.ImageFile.{view_in, contents_in, known_in, state_in, FileInvariant, HasReftable, InternalFileStep}
-use Rattle.qcow2_alloc.specs.ImageStorage.{storage_of}
-use Rattle.qcow2_alloc.specs.MetadataCaches.{order_of, l2_tables, refblocks, HoldsKnown, InternalCacheStep}
-use Rattle.qcow2_alloc.specs.CachePins.{KeepsPinsAndNotes}
-use Rattle.qcow2_alloc.specs.TableCaches.{IsBlockOf}
+use Rattle.qcow2_alloc.proofs.Common.{◌≡◌, ◌≢◌, ◌⊎◌, inl, inr, ℕ, ◌+◌, ◌-◌, ◌*◌, ◌/◌, ◌%◌, ◌^◌, ◌<◌, ◌≤◌, Bool, true, false, List, length, Option, Some, Result, sym, ap, ◌∙◌, subst, arith, cases_eq, cases_lt, div-mul-add, mod-mul-add, IfSome, overwritten, StorageView, Changes, Calls, StorageError, whole_or_nothing, Bytes, byte_at, EntryTableView, RefBlockView, entry_at, cluster_size, counts_per_block, reftable_entry, block_offset, count, one_at, with_new_tables, RbDependsOnL2, Pending, SameCovers, SameIn, BlocksMayGo, IsUnnamed, overwritten_but, unnamed_free, clean_covers, known_is_on_storage, Sizes, Sizes-from, count_none, in_one, data_is_written, MetadataCaches, ImageFile, ImageStorage, placing, HasPlaceFor, HasBytesAt, view_in, contents_in, known_in, state_in, FileInvariant, HasReftable, InternalFileStep, storage_of, order_of, l2_tables, refblocks, HoldsKnown, InternalCacheStep, KeepsPinsAndNotes, IsBlockOf}
 use Rattle.qcow2_alloc.proofs.FileSteps.{one_here, file_step_cached, reftable_cached}
 use Rattle.qcow2_alloc.proofs.FileWrites.{file_step_written, reftable_written}
 use Rattle.qcow2_alloc.proofs.KeptTables.Getting.{cluster_aligned}

@@ -1,26 +1,5 @@
 -- The refblocks of a room are written to its clusters one after another, and entered in a longer reftable.
-use Rattle.std.proofs.Common.{◌≡◌, ◌≢◌, ◌⊎◌, inl, inr, ℕ, ◌+◌, ◌-◌, ◌*◌, ◌/◌, ◌%◌, ◌^◌, ◌<◌, ◌≤◌, ◌==◌, true, false, refl, sym, ap, ◌∙◌, subst, arith}
-use Rattle.std.proofs.lemmas.Bool.{cases_Bool, cases_eq, cases_lt, eq-eqb, ne_eqb, cond-true}
-use Rattle.std.proofs.lemmas.Nat.{div-add-mod', div-mul-add, mod_below, pow_pos}
-use Rattle.std.proofs.Math.Nat.{mul-le-mul_left}
-use Rattle.qcow2_metadata.specs.Bytes.{Bytes, sum_below}
-use Rattle.qcow2_metadata.specs.declared.header.HeaderFields.{HeaderFields}
-use Rattle.qcow2_metadata.specs.Header.{cluster_size, counts_per_block, count_width}
-use Rattle.qcow2_metadata.specs.Entries.{block_offset, block_count}
-use Rattle.qcow2_metadata.specs.EntryTable.{EntryTableView, entry_count}
-use Rattle.qcow2_metadata.specs.RefBlock.{RefBlockView, IsRefBlock, count_at}
-use Rattle.qcow2_metadata.proofs.TablesAt.{ref_block_at}
-use Rattle.qcow2_laws.specs.Tops.{IsSameOutside}
-use Rattle.qcow2_laws.proofs.Places.{Sizes, block_count-moved, in_one}
-use Rattle.qcow2_metadata.specs.Named.{table_in}
-use Rattle.qcow2_metadata.specs.TableBytes.{entry_at, ChangesEntry}
-use Rattle.qcow2_metadata.specs.Consistent.{IsAligned}
-use Rattle.qcow2_laws.specs.Changes.{one_at}
-use Rattle.qcow2_laws.proofs.Sums.{sum_below-change}
-use Rattle.qcow2_alloc.specs.Allocation.{run_at, HasBytesAt, HasNone}
-use Rattle.qcow2_alloc.specs.TableCaches.{IsBlockOf}
-use Rattle.qcow2_alloc.specs.GrownTables.{named_by_reftable_entries}
-use Rattle.qcow2_alloc.specs.Rooms.{lacks, opens, CountsRun}
+use Rattle.qcow2_alloc.proofs.Common.{◌≡◌, ◌≢◌, ◌⊎◌, inl, inr, ℕ, ◌+◌, ◌-◌, ◌*◌, ◌/◌, ◌%◌, ◌^◌, ◌<◌, ◌≤◌, ◌==◌, true, false, refl, sym, ap, ◌∙◌, subst, arith, cases_Bool, cases_eq, cases_lt, eq-eqb, ne_eqb, cond-true, div-add-mod', div-mul-add, mod_below, pow_pos, mul-le-mul_left, Bytes, sum_below, HeaderFields, cluster_size, counts_per_block, count_width, block_offset, block_count, EntryTableView, entry_count, RefBlockView, IsRefBlock, count_at, ref_block_at, IsSameOutside, Sizes, block_count-moved, in_one, table_in, entry_at, ChangesEntry, IsAligned, one_at, sum_below-change, run_at, HasBytesAt, HasNone, IsBlockOf, named_by_reftable_entries, lacks, opens, CountsRun}
 use Rattle.qcow2_alloc.proofs.KeptTables.Getting.{cluster_aligned}
 use Rattle.qcow2_alloc.proofs.KeptTables.Standing.{own_cluster}
 use Rattle.qcow2_alloc.proofs.NamedBlocks.{table_in-one}

@@ -1,12 +1,6 @@
 -- Loads and writes of tables record their failures.
-use Rattle.std.proofs.Common.{◌≡◌, ◌≤◌, true, inl, inr, Result, Ok, Err, refl, ap, sym, ◌∙◌, subst, arith}
-use Rattle.image_access.specs.Moments.{StorageView, HasCause, Rose}
-use Rattle.image_access.specs.declared.error.StorageError.{StorageError}
-use Rattle.image_access.specs.declared.error.StorageError.TheVariants.{Fault, Memory}
-use Rattle.qcow2_alloc.specs.Faults.{faults_of}
-use Rattle.qcow2_alloc.specs.ImageStorage.{storage_of, met_fault_of, RecordsFault}
-use Rattle.qcow2_alloc.specs.RecordedFaults.{RecordsFaults}
-use Rattle.qcow2_alloc.specs.declared.image_storage.ImageStorage.{ImageStorage}
+use Rattle.qcow2_alloc.proofs.Common.{◌≡◌, ◌≤◌, true, inl, inr, Result, Ok, Err, refl, ap, sym, ◌∙◌, subst, arith, StorageView, HasCause, Rose, StorageError, Fault, faults_of, storage_of, met_fault_of, RecordsFault, RecordsFaults, ImageStorage}
+use Rattle.image_access.specs.declared.error.StorageError.TheVariants.{Memory}
 
 module _ {S : Type 0} {view : S → StorageView} where
   -- a call that isn't a failure, and one that is

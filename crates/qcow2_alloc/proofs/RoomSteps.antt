@@ -1,32 +1,6 @@
 -- One more refblock of a room is written and entered.
-use Rattle.std.proofs.Common.{◌≡◌, inl, inr, ℕ, ◌+◌, ◌-◌, ◌*◌, ◌/◌, ◌%◌, ◌^◌, ◌<◌, ◌≤◌, Bool, true, List, None, Ok, Err, refl, sym, ap, ◌∙◌, subst, arith}
-use Rattle.std.proofs.lemmas.Bool.{cases_eq, cases_lt, cond-false, le-ltb}
-use Rattle.std.proofs.Math.Nat.{mul-mod_left, mul-le-mul_left}
-use Rattle.std.proofs.lemmas.Nat.{div-add-mod'}
-use Rattle.image_access.specs.Moments.{StorageView}
-use Rattle.qcow2_metadata.specs.Bytes.{Bytes, one_if}
-use Rattle.qcow2_metadata.specs.Consistent.{IsAligned}
-use Rattle.qcow2_metadata.specs.declared.header.HeaderFields.{HeaderFields}
-use Rattle.qcow2_metadata.specs.Header.{cluster_size, counts_per_block, reftable_entries}
-use Rattle.qcow2_metadata.specs.Entries.{block_offset, reftable_entry}
-use Rattle.qcow2_metadata.specs.EntryTable.{EntryTableView, entry_count}
-use Rattle.qcow2_metadata.specs.RefBlock.{RefBlockView, IsRefBlock}
-use Rattle.qcow2_metadata.specs.TableBytes.{entry_at, ChangesEntry}
-use Rattle.qcow2_metadata.specs.Tables.{CachedTable}
-use Rattle.qcow2_laws.specs.Caches.{BlocksMayGo}
-use Rattle.qcow2_laws.specs.Clusters.{Direction}
-use Rattle.qcow2_laws.specs.CrashInvariant.{Pending}
-use Rattle.qcow2_laws.specs.Tops.{IsSameOutside}
-use Rattle.qcow2_alloc.specs.declared.allocation.Allocator.{Allocator}
-use Rattle.qcow2_alloc.specs.declared.error.ImageError.{ImageError}
-use Rattle.qcow2_alloc.specs.declared.image_file.ImageFile.{ImageFile}
-use Rattle.qcow2_alloc.specs.Allocation.{run_at, HasBytesAt, InternalAllocatorStep}
-use Rattle.qcow2_alloc.specs.GrownTables.{with_run}
-use Rattle.qcow2_alloc.specs.ImageFile.{contents_in, IsFault, FileInvariant, AllocatorInvariant, HasReftable, RefusedFileStep}
-use Rattle.qcow2_alloc.specs.MetadataCaches.{order_of, l2_tables, rb_at}
-use Rattle.qcow2_alloc.specs.Rooms.{opens, opened, CountsRun}
-use Rattle.qcow2_alloc.specs.TableCaches.{IsBlockOf}
-use Rattle.qcow2_laws.proofs.Places.{Sizes}
+use Rattle.qcow2_alloc.proofs.Common.{◌≡◌, inl, inr, ℕ, ◌+◌, ◌-◌, ◌*◌, ◌/◌, ◌%◌, ◌^◌, ◌<◌, ◌≤◌, Bool, true, List, None, Ok, Err, refl, sym, ap, ◌∙◌, subst, arith, cases_eq, cases_lt, cond-false, le-ltb, mul-mod_left, mul-le-mul_left, div-add-mod', StorageView, Bytes, one_if, IsAligned, HeaderFields, cluster_size, counts_per_block, reftable_entries, block_offset, reftable_entry, EntryTableView, entry_count, RefBlockView, IsRefBlock, entry_at, ChangesEntry, CachedTable, BlocksMayGo, Direction, Pending, IsSameOutside, Allocator, ImageError, ImageFile, run_at, HasBytesAt, InternalAllocatorStep, with_run, contents_in, FileInvariant, AllocatorInvariant, HasReftable, RefusedFileStep, order_of, l2_tables, rb_at, opens, opened, CountsRun, IsBlockOf, Sizes}
+use Rattle.qcow2_alloc.specs.ImageFile.{IsFault}
 use Rattle.qcow2_alloc.proofs.PlacedRooms.{EntersSo, Counting, enters_more, counting_more}
 use Rattle.qcow2_alloc.proofs.Rooms.{opened_more}
 use Rattle.qcow2_alloc.proofs.Runs.{run_before, run_after, run_last, none_there}

@@ -1,35 +1,11 @@
 -- A longer reftable is written after its refblocks, and is then ready.
-use Rattle.qcow2_alloc.specs.LowestRuns.{KeepsUsed}
-use Rattle.std.proofs.Common.{◌≡◌, ℕ, ◌+◌, ◌*◌, ◌/◌, ◌%◌, ◌<◌, ◌≤◌, List, Option, None, Some, Result, Ok, Err, refl, sym, ap, ◌∙◌, subst, arith, inl, inr}
-use Rattle.std.specs.Option.{option_map}
-use Rattle.std.proofs.lemmas.Nat.{mod_below}
-use Rattle.image_access.specs.Moments.{StorageView}
-use Rattle.qcow2_metadata.specs.Bytes.{Bytes}
-use Rattle.qcow2_metadata.specs.declared.header.HeaderFields.{HeaderFields}
-use Rattle.qcow2_metadata.specs.Header.{cluster_size, counts_per_block}
-use Rattle.qcow2_metadata.specs.Entries.{block_offset}
-use Rattle.qcow2_metadata.specs.EntryTable.{EntryTableView}
-use Rattle.qcow2_metadata.specs.TableBytes.{entry_at}
-use Rattle.qcow2_laws.specs.Caches.{AreClean, BlocksMayGo}
-use Rattle.qcow2_laws.specs.CrashInvariant.{Pending, SameIn}
-use Rattle.qcow2_laws.proofs.Places.{Sizes, block_count-moved, in_one}
-use Rattle.qcow2_alloc.specs.declared.allocation.Allocator.{Allocator}
-use Rattle.qcow2_alloc.specs.declared.cache.MetadataCaches.{MetadataCaches}
-use Rattle.qcow2_alloc.specs.declared.error.ImageError.{ImageError}
-use Rattle.qcow2_alloc.specs.declared.image_file.ImageFile.{ImageFile}
-use Rattle.qcow2_alloc.specs.declared.image_storage.ImageStorage.{ImageStorage}
-use Rattle.qcow2_alloc.specs.Allocation.{run_at, HasBytesAt, InternalAllocatorStep, InternalAllocatorGrowth}
-use Rattle.qcow2_alloc.specs.GrownTables.{with_run, without_reftable, IsGrown, StandsGrown, NamesReftable}
+use Rattle.qcow2_alloc.proofs.Common.{KeepsUsed, ◌≡◌, ℕ, ◌+◌, ◌*◌, ◌/◌, ◌%◌, ◌<◌, ◌≤◌, List, Option, None, Some, Result, Ok, Err, refl, sym, ap, ◌∙◌, subst, arith, inl, inr, option_map, mod_below, StorageView, Bytes, HeaderFields, cluster_size, counts_per_block, block_offset, EntryTableView, entry_at, AreClean, BlocksMayGo, Pending, SameIn, Sizes, block_count-moved, in_one, Allocator, MetadataCaches, ImageError, ImageFile, ImageStorage, run_at, HasBytesAt, InternalAllocatorStep, InternalAllocatorGrowth, with_run, without_reftable, IsGrown, StandsGrown, NamesReftable, KeepsPinsAndNotes, view_in, contents_in, AllocatorInvariant, RefusedFileStep, storage_of, order_of, l2_tables, refblocks, rb_at, InternalCacheStep, WritesTable}
 use Rattle.qcow2_alloc.proofs.Hints.{used_stays}
 use Rattle.qcow2_alloc.proofs.AllocationSteps.{on_of, allocator_step_on, allocator_step_cached}
 use Rattle.qcow2_alloc.proofs.PlacedBlocks.{known_there}
 use Rattle.qcow2_alloc.proofs.RoomWrites.{free_in_run}
 use Rattle.qcow2_alloc.proofs.FileSteps.{leaves_then}
-use Rattle.qcow2_alloc.specs.CachePins.{KeepsPinsAndNotes}
-use Rattle.qcow2_alloc.specs.ImageFile.{view_in, contents_in, IsFault, AllocatorInvariant, RefusedFileStep}
-use Rattle.qcow2_alloc.specs.ImageStorage.{storage_of}
-use Rattle.qcow2_alloc.specs.MetadataCaches.{order_of, l2_tables, refblocks, rb_at, InternalCacheStep}
-use Rattle.qcow2_alloc.specs.Rooms.{WritesTable}
+use Rattle.qcow2_alloc.specs.ImageFile.{IsFault}
 use Rattle.qcow2_alloc.proofs.PlacedRooms.{Counting}
 use Rattle.qcow2_alloc.proofs.RoomSteps.{run_within}
 use Rattle.qcow2_alloc.proofs.Runs.{run_before, run_in}

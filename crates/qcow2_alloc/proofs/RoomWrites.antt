@@ -1,44 +1,5 @@
 -- Bytes are written to clusters of a run that have no references.
-use Rattle.std.proofs.Common.{◌≡◌, ◌⊎◌, inl, inr, ℕ, ◌+◌, ◌*◌, ◌/◌, ◌<◌, ◌≤◌, Bool, true, false, IsTrue, IsFalse, List, length, Some, None, Result, Ok, Err, ◌^◌, refl, sym, ap, ◌∙◌, subst, arith}
-use mathlib.Core.Path.{fun_ext}
-use Rattle.std.proofs.lemmas.Bool.{cases_eq, cases_lt, ne_eqb, cond-false}
-use Rattle.std.proofs.lemmas.Nat.{div-add-mod', mod_below, pow_pos}
-use Rattle.std.proofs.Math.Nat.{mul-le-mul_left}
-use Rattle.std.specs.Option.{IfSome}
-use Rattle.image_access.specs.Contents.{overwritten}
-use Rattle.image_access.specs.Moments.{StorageView, Changes, Calls}
-use Rattle.image_access.specs.declared.error.StorageError.{StorageError}
-use Rattle.image_access.proofs.Bytes.{byte_at-overwritten}
-use Rattle.image_access.proofs.EachMomentSince.{whole_or_nothing}
-use Rattle.qcow2_metadata.specs.Bytes.{Bytes, byte_at}
-use Rattle.qcow2_metadata.specs.declared.header.HeaderFields.{HeaderFields}
-use Rattle.qcow2_metadata.specs.EntryTable.{EntryTableView}
-use Rattle.qcow2_metadata.specs.RefBlock.{RefBlockView}
-use Rattle.qcow2_metadata.specs.TableBytes.{entry_at}
-use Rattle.qcow2_metadata.specs.Tables.{CachedTable}
-use Rattle.qcow2_metadata.specs.Header.{cluster_size, counts_per_block}
-use Rattle.qcow2_metadata.specs.Entries.{block_offset}
-use Rattle.qcow2_laws.specs.Caches.{BlocksMayGo}
-use Rattle.qcow2_laws.specs.CrashInvariant.{Pending, CrashInvariant, SameIn}
-use Rattle.qcow2_laws.specs.Writes.{IsUnnamed}
-use Rattle.qcow2_laws.specs.Clusters.{Direction}
-use Rattle.qcow2_laws.specs.Tops.{IsSameOutside}
-use Rattle.qcow2_laws.proofs.Beside.{overwritten_but}
-use Rattle.qcow2_laws.proofs.Places.{count_none}
-use Rattle.qcow2_laws.proofs.Steps.{data_is_written}
-use Rattle.qcow2_alloc.specs.declared.allocation.Allocator.{Allocator}
-use Rattle.qcow2_alloc.specs.declared.cache.MetadataCaches.{MetadataCaches}
-use Rattle.qcow2_alloc.specs.declared.image_file.ImageFile.{ImageFile}
-use Rattle.qcow2_alloc.specs.declared.image_storage.ImageStorage.{ImageStorage}
-use Rattle.qcow2_alloc.specs.Allocation.{run_at, HasBytesAt, InternalAllocatorStep}
-use Rattle.qcow2_alloc.specs.CachePins.{KeepsPinsAndNotes}
-use Rattle.qcow2_alloc.specs.GrownTables.{counted_run, with_run}
-use Rattle.qcow2_alloc.specs.ImageFile.{view_in, contents_in, known_in, state_in, FileInvariant, AllocatorInvariant, HasReftable}
-use Rattle.qcow2_alloc.specs.ImageStorage.{storage_of}
-use Rattle.qcow2_alloc.specs.MetadataCaches.{order_of, l2_tables, rb_at, known_of, InternalCacheStep, AllocatesBlock}
-use Rattle.qcow2_alloc.specs.ImageError.{of_storage}
-use Rattle.qcow2_alloc.specs.Rooms.{WritesTable}
-use Rattle.qcow2_alloc.specs.TableCaches.{IsBlockOf}
+use Rattle.qcow2_alloc.proofs.Common.{◌≡◌, ◌⊎◌, inl, inr, ℕ, ◌+◌, ◌*◌, ◌/◌, ◌<◌, ◌≤◌, Bool, true, false, IsTrue, IsFalse, List, length, Some, None, Result, Ok, Err, ◌^◌, refl, sym, ap, ◌∙◌, subst, arith, fun_ext, cases_eq, cases_lt, ne_eqb, cond-false, div-add-mod', mod_below, pow_pos, mul-le-mul_left, IfSome, overwritten, StorageView, Changes, Calls, StorageError, byte_at-overwritten, whole_or_nothing, Bytes, byte_at, HeaderFields, EntryTableView, RefBlockView, entry_at, CachedTable, cluster_size, counts_per_block, block_offset, BlocksMayGo, Pending, CrashInvariant, SameIn, IsUnnamed, Direction, IsSameOutside, overwritten_but, count_none, data_is_written, Allocator, MetadataCaches, ImageFile, ImageStorage, run_at, HasBytesAt, InternalAllocatorStep, KeepsPinsAndNotes, counted_run, with_run, view_in, contents_in, known_in, state_in, FileInvariant, AllocatorInvariant, HasReftable, storage_of, order_of, l2_tables, rb_at, known_of, InternalCacheStep, AllocatesBlock, of_storage, WritesTable, IsBlockOf}
 use Rattle.qcow2_alloc.proofs.AllocationSteps.{fault_of_storage, allocator_step_cached, allocator_step_then, is_sound_now}
 use Rattle.qcow2_alloc.proofs.FileWrites.{file_step_written, reftable_written}
 use Rattle.qcow2_alloc.proofs.KeptTables.Switching.{safe_none, stay_none}

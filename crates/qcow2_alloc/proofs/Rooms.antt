@@ -1,21 +1,6 @@
 -- Runs in which the clusters are allocated whose ranges have refblocks.
-use Rattle.std.proofs.Common.{◌≡◌, ◌⊎◌, inl, inr, ℕ, suc, ◌+◌, ◌-◌, ◌/◌, ◌<◌, ◌≤◌, Bool, true, false, IsTrue, Ok, refl, sym, ap, ◌∙◌, subst, arith}
-use Rattle.std.proofs.lemmas.Bool.{cases_Bool, cases_eq, cases_lt, cond-true, cond-false}
-use Rattle.std.specs.Int.{from_bool}
-use Rattle.image_access.specs.Moments.{StorageView}
-use Rattle.qcow2_metadata.specs.declared.header.HeaderFields.{HeaderFields}
-use Rattle.qcow2_metadata.specs.Bytes.{sum_below, one_if}
-use Rattle.qcow2_metadata.specs.EntryTable.{EntryTableView}
-use Rattle.qcow2_metadata.specs.Header.{counts_per_block}
-use Rattle.qcow2_laws.specs.Changes.{one_at, with_new_tables}
-use Rattle.qcow2_laws.specs.CrashInvariant.{Pending}
-use Rattle.qcow2_alloc.specs.declared.allocation.Allocator.{Allocator}
-use Rattle.qcow2_alloc.specs.declared.error.ImageError.{ImageError}
-use Rattle.qcow2_alloc.specs.declared.image_file.ImageFile.{ImageFile}
-use Rattle.qcow2_alloc.specs.Allocation.{run_at, InternalAllocatorStep, AllocatesGiven}
-use Rattle.qcow2_alloc.specs.GrownTables.{counted_run, with_run}
-use Rattle.qcow2_alloc.specs.ImageFile.{IsFault, AllocatorInvariant, RefusedFileStep}
-use Rattle.qcow2_alloc.specs.Rooms.{lacks, counted_one, opens, opened, AllocatesFree}
+use Rattle.qcow2_alloc.proofs.Common.{◌≡◌, ◌⊎◌, inl, inr, ℕ, suc, ◌+◌, ◌-◌, ◌/◌, ◌<◌, ◌≤◌, Bool, true, false, IsTrue, Ok, refl, sym, ap, ◌∙◌, subst, arith, cases_Bool, cases_eq, cases_lt, cond-true, cond-false, from_bool, StorageView, HeaderFields, sum_below, one_if, EntryTableView, counts_per_block, one_at, with_new_tables, Pending, Allocator, ImageError, ImageFile, run_at, InternalAllocatorStep, AllocatesGiven, counted_run, with_run, AllocatorInvariant, RefusedFileStep, lacks, counted_one, opens, opened, AllocatesFree}
+use Rattle.qcow2_alloc.specs.ImageFile.{IsFault}
 use Rattle.qcow2_alloc.proofs.FileSteps.{pending_same, file_step_then, leaves_then, interrupted_after}
 use Rattle.qcow2_alloc.proofs.AllocationSteps.{allocator_step_more, is_sound_now}
 use Rattle.qcow2_alloc.proofs.Runs.{run_in, run_before, run_after, run_first, run_last, none_there}

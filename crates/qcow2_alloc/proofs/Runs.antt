@@ -1,10 +1,5 @@
 -- Runs of clusters that are allocated cluster by cluster.
-use Rattle.std.proofs.Common.{◌≡◌, inl, inr, ℕ, ◌+◌, ◌-◌, ◌<◌, ◌≤◌, ◌==◌, ◌&&◌, Bool, true, false, nat_le, nat_lt, refl, sym, ap, ◌∙◌, arith}
-use Rattle.std.proofs.lemmas.Bool.{cases_eq, cases_lt, cond-false, ne_eqb}
-use Rattle.std.proofs.lemmas.Bool.Decides.{nat_tests}
-use Rattle.qcow2_laws.specs.Changes.{one_at, with_new_data, with_new_tables}
-use Rattle.qcow2_laws.specs.CrashInvariant.{Pending}
-use Rattle.qcow2_alloc.specs.Allocation.{run_at, taken_as}
+use Rattle.qcow2_alloc.proofs.Common.{◌≡◌, inl, inr, ℕ, ◌+◌, ◌-◌, ◌<◌, ◌≤◌, ◌==◌, ◌&&◌, Bool, true, false, nat_le, nat_lt, refl, sym, ap, ◌∙◌, arith, cases_eq, cases_lt, cond-false, ne_eqb, nat_tests, one_at, with_new_data, with_new_tables, Pending, run_at, taken_as}
 use Rattle.qcow2_alloc.proofs.FileSteps.{pending_same, one_here}
 
 pub run_in : (first n k : ℕ) → first ≤ k → k < first + n → run_at first n k ≡ 1

@@ -1,27 +1,6 @@
 -- Sparing clusters one after another, and which these are on a sound image.
-use Rattle.std.proofs.Common.{◌≡◌, ◌≢◌, ◌⊎◌, inl, inr, ℕ, ◌+◌, ◌-◌, ◌*◌, ◌/◌, ◌^◌, ◌<◌, ◌≤◌, Bool, true, false, Option, Some, None, List, IsTrue, IsFalse, sym, ap, ◌∙◌, subst, refl, arith}
-use Rattle.std.specs.Prelude.{IfSome, IsNone}
-use Rattle.std.specs.Option.{is_some}
-use Rattle.std.proofs.lemmas.Bool.{cases_eq, cond-true, and_from, le-leb, lt-ltb}
-use Rattle.std.proofs.lemmas.Nat.{pow_pos, le-div}
-use Rattle.std.proofs.Math.Nat.{div-mul-le_self, mul-le-mul_left}
-use Rattle.std.proofs.Math.Pow.{pow_mono}
-use Rattle.image_access.specs.Moments.{StorageView}
-use Rattle.number_runs.specs.NumberRuns.{IsIn, IsRun, Adds}
-use Rattle.qcow2_metadata.specs.Bytes.{Bytes}
-use Rattle.qcow2_metadata.specs.Entries.{block_offset, host_offset, reftable_entry, l1_entry}
-use Rattle.qcow2_metadata.specs.EntryTable.{EntryTableView, IsL1TableOf, IsRefTableOf, entry_count}
-use Rattle.qcow2_metadata.specs.Header.{cluster_size}
-use Rattle.qcow2_metadata.specs.Named.{named_by_l1_table, named_by_reftable, named_for_tables}
-use Rattle.qcow2_metadata.specs.TableBytes.{entry_at}
-use Rattle.qcow2_metadata.specs.declared.header.HeaderFields.{HeaderFields}
-use Rattle.qcow2_laws.proofs.Shares.{shares, block_has, table_has, in_l1, in_reftable}
-use Rattle.qcow2_laws.specs.CrashInvariant.{Pending}
-use Rattle.qcow2_alloc.specs.ImageFile.{contents_in, AllocatorInvariant}
-use Rattle.qcow2_alloc.specs.LowestRuns.{NoFreeBelowHint}
-use Rattle.qcow2_alloc.specs.SparedClusters.{IsWithin, NamesBlockIn, NamesTableIn, IsNamedHere, Spares}
-use Rattle.qcow2_alloc.specs.declared.allocation.Allocator.{Allocator}
-use Rattle.qcow2_alloc.specs.declared.image_file.ImageFile.{ImageFile}
+use Rattle.qcow2_alloc.proofs.Common.{◌≡◌, ◌≢◌, ◌⊎◌, inl, inr, ℕ, ◌+◌, ◌-◌, ◌*◌, ◌/◌, ◌^◌, ◌<◌, ◌≤◌, Bool, true, false, Option, Some, None, List, IsTrue, IsFalse, sym, ap, ◌∙◌, subst, refl, arith, IfSome, is_some, cases_eq, cond-true, and_from, le-leb, lt-ltb, pow_pos, le-div, div-mul-le_self, mul-le-mul_left, pow_mono, StorageView, IsIn, IsRun, Adds, Bytes, block_offset, host_offset, reftable_entry, l1_entry, EntryTableView, IsL1TableOf, IsRefTableOf, entry_count, cluster_size, named_by_l1_table, named_by_reftable, named_for_tables, entry_at, HeaderFields, shares, block_has, table_has, in_l1, in_reftable, Pending, contents_in, AllocatorInvariant, NoFreeBelowHint, IsWithin, NamesBlockIn, NamesTableIn, IsNamedHere, Spares, Allocator, ImageFile}
+use Rattle.std.specs.Prelude.{IsNone}
 use Rattle.qcow2_alloc.proofs.Hints.{tables_used}
 
 -- a number that a run was found for lies in it

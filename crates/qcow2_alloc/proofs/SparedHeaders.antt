@@ -1,26 +1,6 @@
 -- Calls on an image's file that keep cluster 0, one after another.
-use Rattle.std.proofs.Common.{◌≡◌, ◌⊎◌, inl, inr, ℕ, zero, suc, ◌+◌, ◌*◌, ◌^◌, ◌<◌, ◌≤◌, List, Option, Some, None, Result, IsSome, refl, sym, ap, ◌∙◌, subst, arith}
-use Rattle.std.specs.Prelude.{IfSome}
-use Rattle.image_access.specs.Contents.{overwritten}
-use Rattle.image_access.specs.Moments.{StorageView, Calls, Changes}
-use Rattle.image_access.specs.declared.error.StorageError.{StorageError}
-use Rattle.image_access.proofs.EachMomentSince.{whole_or_nothing}
-use Rattle.qcow2_metadata.specs.Bytes.{byte_at}
-use Rattle.qcow2_metadata.specs.declared.header.HeaderFields.{HeaderFields}
-use Rattle.qcow2_metadata.specs.EntryTable.{EntryTableView, entry_count}
-use Rattle.qcow2_metadata.specs.Header.{HeaderView, with_fields, with_reftable}
-use Rattle.qcow2_metadata.specs.HeaderWrite.{bytes_of_numbers, reftable_pointer_written}
-use Rattle.qcow2_alloc.specs.HeaderClusters.{IsInHeaderCluster, IsBesidePointer, BytesStay, KeepsHeaderCluster}
-use Rattle.qcow2_alloc.specs.SparedHeaders.{KeepBehindHeader, StandsBehindHeader, CachesSpareHeader, SparesBytes, SparesHeader, PreservesHeaderButPointer}
-use Rattle.qcow2_alloc.specs.ImageFile.{view_in}
-use Rattle.qcow2_alloc.specs.ImageStorage.{storage_of}
-use Rattle.qcow2_alloc.specs.declared.cache.MetadataCaches.{MetadataCaches}
-use Rattle.qcow2_alloc.specs.declared.clusters_to_free.ClustersToFreeEntry.{ClustersToFreeEntry}
-use Rattle.qcow2_alloc.specs.declared.image_file.ImageFile.{ImageFile}
-use Rattle.qcow2_alloc.specs.declared.image_storage.ImageStorage.{ImageStorage}
+use Rattle.qcow2_alloc.proofs.Common.{◌≡◌, ◌⊎◌, inl, inr, ℕ, zero, suc, ◌+◌, ◌*◌, ◌^◌, ◌<◌, ◌≤◌, List, Option, Some, None, Result, IsSome, refl, sym, ap, ◌∙◌, subst, arith, IfSome, overwritten, StorageView, Calls, Changes, StorageError, whole_or_nothing, byte_at, HeaderFields, EntryTableView, entry_count, HeaderView, with_fields, with_reftable, bytes_of_numbers, reftable_pointer_written, IsInHeaderCluster, IsBesidePointer, BytesStay, KeepsHeaderCluster, KeepBehindHeader, StandsBehindHeader, CachesSpareHeader, SparesBytes, SparesHeader, PreservesHeaderButPointer, view_in, storage_of, MetadataCaches, ClustersToFreeEntry, ImageFile, ImageStorage, IsSameBut, overwritten_but}
 use Rattle.qcow2_alloc.proofs.HeaderClusters.{below_others, bytes_stay, bytes_then, fewer_stay, call_keeps, wrote_above}
-use Rattle.qcow2_laws.specs.Tops.{IsSameBut}
-use Rattle.qcow2_laws.proofs.Beside.{overwritten_but}
 
 -- what begins at an offset that isn't 0 isn't cluster 0
 pub not_first : (cluster size offset : ℕ) → 0 < offset → cluster * size ≡ offset → 0 < cluster

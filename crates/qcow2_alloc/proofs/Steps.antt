@@ -1,30 +1,8 @@
 -- Steps of the allocator one after another, and refusals that are passed on.
-use Rattle.std.proofs.Common.{◌≡◌, ◌≢◌, ℕ, List, Option, Some, None, Result, Ok, Err, IsErr, IsErrAnd, refl, sym, ap, ◌∙◌, subst, arith}
-use Rattle.std.specs.Prelude.{IfErr}
-use Rattle.image_access.specs.Moments.{StorageView, HasCause}
-use Rattle.image_access.specs.declared.error.StorageError.{StorageError}
+use Rattle.qcow2_alloc.proofs.Common.{◌≡◌, ◌≢◌, ℕ, List, Option, Some, None, Result, Ok, Err, IsErr, IsErrAnd, refl, sym, ap, ◌∙◌, subst, arith, IfErr, StorageView, HasCause, StorageError, MetadataError, storage_result, EntryTableView, FaultsReported, KeepsPinsAndNotes, HeldStep, ReplacesReftable, OldReftablesQueued, KeepsHeaderCluster, view_in, of_storage, of_metadata, IsOfTables, KeepMarks, KeepsMarks, KeepsNotes, kept_then, ClustersToFreeEntry, CachesSpareHeader, KeepBehindHeader, MetadataCaches, ImageStorage, err_of, FailsFor, TableStep, FileStep, KeepsMarksInTurn, DataStep, PointerStep, PointerStepTo, GrowthStep, FreeStep, FreeStepInTurn, PartStep, ImageError, ImageFile}
 use Rattle.image_access.specs.declared.error.StorageError.TheVariants as S
-use Rattle.qcow2_metadata.specs.declared.error.MetadataError.{MetadataError}
 use Rattle.qcow2_metadata.specs.declared.error.MetadataError.TheVariants as M
-use Rattle.qcow2_metadata.specs.MetadataError.{storage_result}
-use Rattle.qcow2_metadata.specs.EntryTable.{EntryTableView}
-use Rattle.qcow2_alloc.specs.Faults.{FaultsReported}
-use Rattle.qcow2_alloc.specs.CachePins.{KeepsPinsAndNotes}
-use Rattle.qcow2_alloc.specs.CacheSteps.{HeldStep}
-use Rattle.qcow2_alloc.specs.FreeList.{ReplacesReftable, OldReftablesQueued}
-use Rattle.qcow2_alloc.specs.HeaderClusters.{KeepsHeaderCluster}
-use Rattle.qcow2_alloc.specs.ImageFile.{view_in}
-use Rattle.qcow2_alloc.specs.ImageError.{of_storage, of_metadata, IsOfTables}
-use Rattle.qcow2_alloc.specs.KeptMarks.{KeepMarks, KeepsMarks}
-use Rattle.qcow2_alloc.specs.KeptNotes.{KeepsNotes, kept_then}
-use Rattle.qcow2_alloc.specs.declared.clusters_to_free.ClustersToFreeEntry.{ClustersToFreeEntry}
-use Rattle.qcow2_alloc.specs.SparedHeaders.{CachesSpareHeader, KeepBehindHeader}
-use Rattle.qcow2_alloc.specs.declared.cache.MetadataCaches.{MetadataCaches}
-use Rattle.qcow2_alloc.specs.declared.image_storage.ImageStorage.{ImageStorage}
-use Rattle.qcow2_alloc.specs.Steps.{err_of, FailsFor, TableStep, FileStep, KeepsMarksInTurn, DataStep, PointerStep, PointerStepTo, GrowthStep, FreeStep, FreeStepInTurn, PartStep}
-use Rattle.qcow2_alloc.specs.declared.error.ImageError.{ImageError}
 use Rattle.qcow2_alloc.specs.declared.error.ImageError.TheVariants as I
-use Rattle.qcow2_alloc.specs.declared.image_file.ImageFile.{ImageFile}
 use Rattle.qcow2_alloc.proofs.AllocationSteps.{handed_on, named_then}
 use Rattle.qcow2_alloc.proofs.CachePins.{marks_then}
 use Rattle.qcow2_alloc.proofs.FormerReftables.{former_none, former_same, former_then}

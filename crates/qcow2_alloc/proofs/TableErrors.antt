@@ -1,12 +1,8 @@
 -- The error of a lower layer becomes a refusal of tables.
-use Rattle.image_access.specs.declared.error.StorageError.{StorageError}
+use Rattle.qcow2_alloc.proofs.Common.{StorageError, MetadataError, ℕ, CacheError, of_storage, of_metadata, of_cache, IsOfTables}
 use Rattle.image_access.specs.declared.error.StorageError.TheVariants as S
-use Rattle.qcow2_metadata.specs.declared.error.MetadataError.{MetadataError}
 use Rattle.qcow2_metadata.specs.declared.error.MetadataError.TheVariants as M
-use Rattle.std.proofs.Common.{ℕ}
-use Rattle.qcow2_alloc.specs.declared.async_lru_cache.error.CacheError.{CacheError}
 use Rattle.qcow2_alloc.specs.declared.async_lru_cache.error.CacheError.TheVariants as C
-use Rattle.qcow2_alloc.specs.ImageError.{of_storage, of_metadata, of_cache, IsOfTables}
 
 pub storage_of_tables : (e : StorageError) → IsOfTables (of_storage e)
 storage_of_tables S.Fault = tt

@@ -1,11 +1,6 @@
 -- A flush of a modified table that is refused.
-use Rattle.std.proofs.Common.{◌≡◌, ◌⊎◌, inl, inr, ℕ, ◌*◌, ◌^◌, Bool, true, List, length, Err, subst}
-use Rattle.image_access.specs.Contents.{overwritten}
-use Rattle.image_access.specs.Moments.{StorageView, Changes, Calls}
-use Rattle.image_access.specs.declared.error.StorageError.{StorageError}
-use Rattle.image_access.proofs.EachMomentSince.{whole_or_nothing}
+use Rattle.qcow2_alloc.proofs.Common.{◌≡◌, ◌⊎◌, inl, inr, ℕ, ◌*◌, ◌^◌, Bool, true, List, length, Err, subst, overwritten, StorageView, Changes, Calls, StorageError, whole_or_nothing, FailsToFlush}
 use Rattle.qcow2_metadata.specs.declared.error.MetadataError.TheVariants.{Storage}
-use Rattle.qcow2_alloc.specs.TableSteps.{FailsToFlush}
 
 module _ {S V : Type 0} (view : S → StorageView) (cluster_bits : ℕ) (bytes : V → List ℕ) (is_modified : V → Bool) (cleared : V → V) (IsFit : V → Type 0) where
   pub write_fails : (s t : S) (k : ℕ) (v : V) (e : StorageError) (before : StorageView) → before ≡ view s

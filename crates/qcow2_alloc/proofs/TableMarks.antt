@@ -1,22 +1,5 @@
 -- Which keys of a cache's entries have modified values.
-use Rattle.std.proofs.Common.{◌≡◌, ◌⊎◌, inl, inr, ℕ, suc, ◌+◌, ◌-◌, ◌^◌, ◌<◌, nat_lt, Bool, true, false, ◌||◌, not, cond, arith, List, [], ◌∷◌, length, Option, Some, None, Result, Ok, Err, refl, sym, ap, ◌∙◌, subst}
-use Rattle.std.proofs.lemmas.Map.Steps.{set_value_same}
-use Rattle.std.proofs.lemmas.Option.{none-some, same_Some}
-use Rattle.std.specs.Cmp.{IsEquivalence}
-use Rattle.std.specs.List.{IsDistinct}
-use Rattle.std.specs.Map.{keys_of, lookup, lookup_entry, remove_entry, set_value}
-use Rattle.std.specs.Option.{option_map, option_map_or, IsSome, IfSome, is_some}
-use Rattle.lru.specs.LruCache.{promoted}
-use Rattle.lru.proofs.CallerLemmas.{Contains-lookup_entry}
-use Rattle.qcow2_alloc.specs.declared.async_lru_cache.slot.Slot.{Slot}
-use Rattle.qcow2_alloc.specs.declared.async_lru_cache.error.CacheError.{CacheError}
-use Rattle.qcow2_alloc.specs.declared.async_lru_cache.error.CacheError.TheVariants.{InUse, StillInUse, Memory, Backend}
-use Rattle.qcow2_alloc.specs.AsyncLruCache.{Cache, with_entries, slot_of, is_pinned, can_remove, pinned, oldest_free, pin_at, unpin_at, set_at, value_at, KeepsOthers}
-use Rattle.qcow2_alloc.specs.AsyncLruCacheBackend.{Steps}
-use Rattle.qcow2_alloc.specs.CacheAnswers.{GetsNew, InsertsNew, Replaces, HasRoomForEntry}
-use Rattle.qcow2_alloc.specs.Uses.{placed}
-use Rattle.qcow2_alloc.specs.TableCache.{marks_in, settled}
-use Rattle.std.proofs.lemmas.Map.{lookup-remove_entry}
+use Rattle.qcow2_alloc.proofs.Common.{◌≡◌, ◌⊎◌, inl, inr, ℕ, suc, ◌+◌, ◌-◌, ◌^◌, ◌<◌, nat_lt, Bool, true, false, ◌||◌, not, cond, arith, List, [], ◌∷◌, length, Option, Some, None, Result, Ok, Err, refl, sym, ap, ◌∙◌, subst, set_value_same, none-some, same_Some, IsEquivalence, IsDistinct, keys_of, lookup, lookup_entry, remove_entry, set_value, option_map, option_map_or, IsSome, IfSome, is_some, promoted, Contains-lookup_entry, Slot, CacheError, InUse, StillInUse, Memory, Backend, Cache, with_entries, slot_of, is_pinned, can_remove, pinned, oldest_free, pin_at, unpin_at, set_at, value_at, KeepsOthers, Steps, GetsNew, InsertsNew, Replaces, HasRoomForEntry, placed, marks_in, settled, lookup-remove_entry}
 use Rattle.qcow2_alloc.proofs.CachedEntries.Lists.{oldest_free-lookup, lookup-from_entry, lookup_none-removed, none_of, promoted_none}
 use Rattle.qcow2_alloc.proofs.CachedEntries.Pins.{pins_same, oldest_unpinned}
 use Rattle.qcow2_alloc.proofs.CachedEntries.Staying.{stays_same}

@@ -1,18 +1,5 @@
 -- Clusters that leave the list and are leaked, since their refblock is not aligned.
-use Rattle.std.proofs.Common.{◌≡◌, ℕ, zero, suc, ◌+◌, ◌-◌, ◌/◌, ◌%◌, ◌^◌, ◌<◌, ◌≤◌, ◌==◌, nat_lt, not, min, inl, inr, Bool, true, false, if◌then◌else◌, List, [], ◌∷◌, ◌++◌, refl, sym, ap, ◌∙◌, subst, arith}
-use Rattle.std.proofs.lemmas.Bool.{and_parts, cases_lt, cases_eq}
-use Rattle.std.proofs.lemmas.Bool.Decides.{nat_tests}
-use Rattle.qcow2_metadata.specs.Entries.{block_offset}
-use Rattle.qcow2_metadata.specs.EntryTable.{EntryTableView, entry_count}
-use Rattle.qcow2_metadata.specs.Header.{cluster_size, counts_per_block}
-use Rattle.qcow2_metadata.specs.TableBytes.{entry_at}
-use Rattle.qcow2_metadata.specs.declared.header.HeaderFields.{HeaderFields}
-use Rattle.qcow2_alloc.specs.Allocation.{IsUnaligned, run_at}
-use Rattle.qcow2_alloc.specs.FreeList.{run_of}
-use Rattle.qcow2_alloc.specs.Leaks.{is_unaligned, unaligned_below, LeaksOne, LeaksUnaligned}
-use Rattle.qcow2_alloc.specs.MadeClusters.{listed_at}
-use Rattle.qcow2_alloc.specs.declared.allocation.Allocator.{Allocator}
-use Rattle.qcow2_alloc.specs.declared.clusters_to_free.ClustersToFreeEntry.{ClustersToFreeEntry}
+use Rattle.qcow2_alloc.proofs.Common.{◌≡◌, ℕ, zero, suc, ◌+◌, ◌-◌, ◌/◌, ◌%◌, ◌^◌, ◌<◌, ◌≤◌, ◌==◌, nat_lt, not, min, inl, inr, Bool, true, false, if◌then◌else◌, List, [], ◌∷◌, ◌++◌, refl, sym, ap, ◌∙◌, subst, arith, and_parts, cases_lt, cases_eq, nat_tests, block_offset, EntryTableView, entry_count, cluster_size, counts_per_block, entry_at, HeaderFields, IsUnaligned, run_at, run_of, is_unaligned, unaligned_below, LeaksOne, LeaksUnaligned, listed_at, Allocator, ClustersToFreeEntry}
 use Rattle.qcow2_alloc.proofs.Runs.{run_after, run_before, run_in, run_none}
 
 -- what the test tells

@@ -1,11 +1,5 @@
 -- What each call of a cache does to its entries, by cases.
-use Rattle.std.proofs.Common.{◌≡◌, inl, inr, ℕ, Bool, true, false, List, ◌∷◌, Option, Some, None, Result, Ok, Err, refl, sym, subst}
-use Rattle.qcow2_alloc.specs.declared.async_lru_cache.slot.Slot.{Slot}
-use Rattle.qcow2_alloc.specs.declared.async_lru_cache.error.CacheError.{CacheError}
-use Rattle.qcow2_alloc.specs.declared.async_lru_cache.error.CacheError.TheVariants.{InUse, StillInUse, Memory, Backend}
-use Rattle.qcow2_alloc.specs.AsyncLruCache.{slot_of}
-use Rattle.qcow2_alloc.specs.AsyncLruCacheBackend.{Steps}
-use Rattle.qcow2_alloc.specs.CacheAnswers.{Unit₀, FlushesAll, Flushes, GetsNew, HasRoomForEntry, InsertsNew, Replaces}
+use Rattle.qcow2_alloc.proofs.Common.{◌≡◌, inl, inr, ℕ, Bool, true, false, List, ◌∷◌, Option, Some, None, Result, Ok, Err, refl, sym, subst, Slot, CacheError, InUse, StillInUse, Memory, Backend, slot_of, Steps, Unit₀, FlushesAll, Flushes, GetsNew, HasRoomForEntry, InsertsNew, Replaces}
 
 module _ {S K V E : Type 0} (steps : Steps S K V E) (s t : S) (es fs : List (K × Slot V)) where
   -- a flush is one of each entry in turn

@@ -1,16 +1,5 @@
 -- Which entry moves to the front, and which is evicted.
-use Rattle.std.proofs.Common.{◌≡◌, ℕ, Bool, true, false, cond, inl, inr, List, ◌∷◌, Option, Some, None, Result, Ok, Err, refl, ap, ◌∙◌}
-use Rattle.std.specs.Cmp.{IsEquivalence}
-use Rattle.std.specs.Option.{is_some, IsSome, IsNone, option_map, option_map_or}
-use Rattle.std.specs.Map.{lookup, lookup_entry, remove_entry}
-use Rattle.lru.specs.LruCache.{promoted}
-use Rattle.lru.proofs.CallerLemmas.{Contains-lookup_entry}
-use Rattle.qcow2_alloc.specs.declared.async_lru_cache.slot.Slot.{Slot}
-use Rattle.qcow2_alloc.specs.declared.async_lru_cache.error.CacheError.{CacheError}
-use Rattle.qcow2_alloc.specs.declared.async_lru_cache.error.CacheError.TheVariants.{InUse, StillInUse, Memory, Backend}
-use Rattle.qcow2_alloc.specs.AsyncLruCache.{slot_of, IsInFront, OnlyOldestGoes}
-use Rattle.qcow2_alloc.specs.AsyncLruCacheBackend.{Steps}
-use Rattle.qcow2_alloc.specs.CacheAnswers.{HasRoomForEntry, HasNoRoom, GetsNew}
+use Rattle.qcow2_alloc.proofs.Common.{◌≡◌, ℕ, Bool, true, false, cond, inl, inr, List, ◌∷◌, Option, Some, None, Result, Ok, Err, refl, ap, ◌∙◌, IsEquivalence, is_some, IsSome, IsNone, option_map, option_map_or, lookup, lookup_entry, remove_entry, promoted, Contains-lookup_entry, Slot, CacheError, InUse, StillInUse, Memory, Backend, slot_of, IsInFront, OnlyOldestGoes, Steps, HasRoomForEntry, HasNoRoom, GetsNew}
 use Rattle.qcow2_alloc.proofs.CachedEntries.Lists.{lookup-from_entry}
 use Rattle.qcow2_alloc.proofs.CachedEntries.Knowing.{lookup-promoted, removed_apart}
 

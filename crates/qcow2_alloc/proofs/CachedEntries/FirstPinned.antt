@@ -1,14 +1,6 @@
 -- The first pinned entry.
-use Rattle.std.proofs.Common.{◌≡◌, ◌<◌, ◌∙◌, inl, inr, Bool, true, false, List, [], ◌∷◌, Option, Some, None, refl, sym, subst, arith}
-use Rattle.std.specs.Prelude.{slice_get, IfSome, IsNone}
-use Rattle.std.specs.Cmp.{IsEquivalence}
-use Rattle.std.specs.List.{AllByRecursion, IsDistinct}
-use Rattle.std.specs.Option.{option_map}
-use Rattle.std.specs.Map.{keys_of, lookup}
-use Rattle.std.proofs.lemmas.Bool.{cases_Bool}
-use Rattle.std.proofs.lemmas.Bool.Decides.{nat_tests}
-use Rattle.qcow2_alloc.specs.declared.async_lru_cache.slot.Slot.{Slot}
-use Rattle.qcow2_alloc.specs.AsyncLruCache.{pinned, is_pinned, pins_at}
+use Rattle.qcow2_alloc.proofs.Common.{◌≡◌, ◌<◌, ◌∙◌, inl, inr, Bool, true, false, List, [], ◌∷◌, Option, Some, None, refl, sym, subst, arith, slice_get, IfSome, IsEquivalence, AllByRecursion, IsDistinct, option_map, keys_of, lookup, cases_Bool, nat_tests, Slot, pinned, is_pinned, pins_at}
+use Rattle.std.specs.Prelude.{IsNone}
 use Rattle.qcow2_alloc.proofs.CachedEntries.Lists.{pinned_kept, pinned_gone}
 
 module _ {K V : Type 0} where

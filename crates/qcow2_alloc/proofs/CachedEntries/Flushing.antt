@@ -1,18 +1,5 @@
 -- Flushing all entries up to some entry.
-use Rattle.std.proofs.Common.{◌≡◌, List, [], ◌∷◌, ◌++◌, length, Option, Some, None, Bool, true, Result, Ok, Err, refl, sym, ap, ◌∙◌, subst, append_assoc, append-nil, arith}
-use Rattle.std.specs.Option.{option_or, IfSome, IsSome}
-use Rattle.std.specs.Result.{OnOk, OnErr, IfErr, result_err}
-use Rattle.std.specs.Map.{lookup, set_value}
-use Rattle.std.proofs.lemmas.Map.{length-set_value}
-use Rattle.std.proofs.lemmas.Map.Steps.{set_value_same}
-use Rattle.lru.specs.LruCache.{LruCache, lru_cache}
-use Rattle.qcow2_alloc.specs.declared.async_lru_cache.slot.Slot.{Slot}
-use Rattle.qcow2_alloc.specs.AsyncLruCacheBackend.{Steps}
-use Rattle.qcow2_alloc.specs.AsyncLruCache.{slot_of}
-use Rattle.qcow2_alloc.specs.declared.async_lru_cache.error.CacheError.{CacheError}
-use Rattle.qcow2_alloc.specs.declared.async_lru_cache.error.CacheError.TheVariants.{Backend}
-use Rattle.qcow2_alloc.specs.CacheAnswers.{Unit₀, FlushesEntry, FlushesAll, FlushesKey}
-use Rattle.qcow2_alloc.specs.CachedEntries.{FlushesFound}
+use Rattle.qcow2_alloc.proofs.Common.{◌≡◌, List, [], ◌∷◌, ◌++◌, length, Option, Some, None, Bool, true, Result, Ok, Err, refl, sym, ap, ◌∙◌, subst, append_assoc, append-nil, arith, option_or, IfSome, IsSome, OnOk, OnErr, IfErr, result_err, lookup, set_value, length-set_value, set_value_same, LruCache, lru_cache, Slot, Steps, slot_of, CacheError, Backend, Unit₀, FlushesEntry, FlushesAll, FlushesKey, FlushesFound}
 use Rattle.qcow2_alloc.proofs.CachedEntries.Lists.{option_or-assoc, option_or-none}
 
 module _ {S K V E : Type 0} (steps : Steps S K V E) (s : S) (es : List (K × Slot V)) where

@@ -1,15 +1,5 @@
 -- Calls for a key that is in the cache already.
-use Rattle.std.proofs.Common.{◌≡◌, inl, inr, ℕ, Bool, true, false, eqb, List, [], ◌∷◌, Option, Some, None, Result, Ok, IsSome, refl, sym, ap, ◌∙◌}
-use Rattle.std.specs.Cmp.{IsEquivalence}
-use Rattle.std.specs.Option.{option_map, IsNone}
-use Rattle.std.specs.Map.{lookup}
-use Rattle.std.proofs.lemmas.Bool.{eq-eqb, eqb-true}
-use Rattle.lru.specs.LruCache.{promoted}
-use Rattle.qcow2_alloc.specs.declared.async_lru_cache.slot.Slot.{Slot}
-use Rattle.qcow2_alloc.specs.declared.async_lru_cache.error.CacheError.{CacheError}
-use Rattle.qcow2_alloc.specs.AsyncLruCache.{value_at, IsInFront}
-use Rattle.qcow2_alloc.specs.AsyncLruCacheBackend.{Steps}
-use Rattle.qcow2_alloc.specs.CacheAnswers.{GetsNew}
+use Rattle.qcow2_alloc.proofs.Common.{◌≡◌, inl, inr, ℕ, Bool, true, false, eqb, List, [], ◌∷◌, Option, Some, None, Result, Ok, IsSome, refl, sym, ap, ◌∙◌, IsEquivalence, option_map, IsNone, lookup, eq-eqb, eqb-true, promoted, Slot, CacheError, value_at, IsInFront, Steps, GetsNew}
 use Rattle.qcow2_alloc.proofs.CachedEntries.Knowing.{lookup-promoted}
 use Rattle.qcow2_alloc.proofs.KeptTables.Fetching.{none_or_some}
 

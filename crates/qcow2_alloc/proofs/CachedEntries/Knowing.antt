@@ -1,20 +1,5 @@
 -- Loads and flushes leave the known bytes the same: those of the store with the modified values overlaid.
-use Rattle.std.proofs.Common.{◌≡◌, ◌≢◌, ℕ, Bool, true, false, cond, inl, inr, List, [], ◌∷◌, Option, Some, None, Result, Ok, Err, refl, sym, ap, ◌∙◌, subst}
-use Rattle.std.specs.Cmp.{IsEquivalence}
-use Rattle.std.specs.List.{AllByRecursion, IsDistinct}
-use Rattle.std.specs.Option.{IfSome, IsSome, option_map, option_map_or}
-use Rattle.std.specs.Map.{keys_of, lookup, lookup_entry, remove_entry, set_value}
-use Rattle.std.proofs.lemmas.Map.{lookup-remove_entry, lookup-set_value}
-use Rattle.std.proofs.lemmas.Map.Steps.{set_value_same}
-use Rattle.lru.specs.LruCache.{LruCache, promoted}
-use Rattle.lru.proofs.CallerLemmas.{Contains-lookup_entry}
-use Rattle.qcow2_alloc.specs.declared.async_lru_cache.slot.Slot.{Slot}
-use Rattle.qcow2_alloc.specs.declared.async_lru_cache.error.CacheError.{CacheError}
-use Rattle.qcow2_alloc.specs.declared.async_lru_cache.error.CacheError.TheVariants.{InUse, StillInUse, Memory, Backend}
-use Rattle.qcow2_alloc.specs.AsyncLruCache.{slot_of}
-use Rattle.qcow2_alloc.specs.AsyncLruCacheBackend.{Steps, IsLawful, KeepsBytes, value_laid_over, known_under_key, KeepsKnown, OverlaysBytes}
-use Rattle.qcow2_alloc.specs.CacheAnswers.{FlushesEntry, FlushesAll, Evicts, HasRoomForEntry, HasNoRoom, InsertsNew, GetsNew, Replaces}
-use Rattle.qcow2_alloc.specs.CachedEntries.{FlushesFound}
+use Rattle.qcow2_alloc.proofs.Common.{◌≡◌, ◌≢◌, ℕ, Bool, true, false, cond, inl, inr, List, [], ◌∷◌, Option, Some, None, Result, Ok, Err, refl, sym, ap, ◌∙◌, subst, IsEquivalence, AllByRecursion, IsDistinct, IfSome, IsSome, option_map, option_map_or, keys_of, lookup, lookup_entry, remove_entry, set_value, lookup-remove_entry, lookup-set_value, set_value_same, LruCache, promoted, Contains-lookup_entry, Slot, CacheError, InUse, StillInUse, Memory, Backend, slot_of, Steps, IsLawful, KeepsBytes, value_laid_over, known_under_key, KeepsKnown, OverlaysBytes, FlushesEntry, FlushesAll, Evicts, HasRoomForEntry, HasNoRoom, InsertsNew, GetsNew, Replaces, FlushesFound}
 use Rattle.qcow2_alloc.proofs.CachedEntries.Lists.{none_is_none, lookup-from_entry, oldest_free-lookup}
 use Rattle.qcow2_alloc.proofs.CachedEntries.Room.{room_missing}
 

@@ -1,15 +1,5 @@
 -- Lists of entries.
-use Rattle.std.proofs.lemmas.Map.Steps.{set_value_same}
-use Rattle.std.proofs.Common.{◌≡◌, ◌+◌, ◌-◌, ◌^◌, ◌≤◌, Bool, true, false, cond, List, [], ◌∷◌, ◌++◌, length, Option, Some, None, refl, sym, ap, ◌∙◌, subst, arith, nat_lt}
-use Rattle.std.specs.Cmp.{IsEquivalence}
-use Rattle.std.specs.List.{AllByRecursion, IsDistinct}
-use Rattle.std.proofs.lemmas.Option.{none-some}
-use Rattle.std.specs.Option.{option_map_or, option_or, option_map, is_some, IsSome}
-use Rattle.std.specs.Map.{keys_of, lookup, lookup_entry, remove_entry, set_value}
-use Rattle.std.proofs.lemmas.Bool.Decides.{nat_tests}
-use Rattle.lru.specs.LruCache.{promoted, demoted}
-use Rattle.qcow2_alloc.specs.declared.async_lru_cache.slot.Slot.{Slot}
-use Rattle.qcow2_alloc.specs.AsyncLruCache.{oldest_free, pinned, is_pinned, pin_at, unpin_at}
+use Rattle.qcow2_alloc.proofs.Common.{set_value_same, ◌≡◌, ◌+◌, ◌-◌, ◌^◌, ◌≤◌, Bool, true, false, cond, List, [], ◌∷◌, ◌++◌, length, Option, Some, None, refl, sym, ap, ◌∙◌, subst, arith, nat_lt, IsEquivalence, AllByRecursion, IsDistinct, none-some, option_map_or, option_or, option_map, is_some, IsSome, keys_of, lookup, lookup_entry, remove_entry, set_value, nat_tests, promoted, demoted, Slot, oldest_free, pinned, is_pinned, pin_at, unpin_at}
 
 pub option_or-assoc : {X : Type 0} (o p q : Option X) → option_or (option_or o p) q ≡ option_or o (option_or p q)
 option_or-assoc None p q = refl

@@ -1,15 +1,6 @@
 -- Inserting a value into a cache, and replacing one there.
-use Rattle.std.proofs.Common.{◌≡◌, ℕ, ◌-◌, ◌^◌, ◌<◌, ◌≤◌, Bool, true, List, ◌∷◌, length, take, Option, Some, None, IfSome, IsSome, refl, ap, ◌∙◌, arith}
-use Rattle.std.proofs.lemmas.Option.{none-some}
+use Rattle.qcow2_alloc.proofs.Common.{◌≡◌, ℕ, ◌-◌, ◌^◌, ◌<◌, ◌≤◌, Bool, true, List, ◌∷◌, length, take, Option, Some, None, IfSome, IsSome, refl, ap, ◌∙◌, arith, none-some, option_map, lookup, lookup_entry, remove_entry, set_value, LruCache, lru_cache, promoted, put_entries, Contains-lookup_entry, Slot, Steps, FlushesEntry, FlushesFound}
 use Rattle.std.proofs.lemmas.Grind.{common_steps}
-use Rattle.std.specs.Option.{option_map}
-use Rattle.std.specs.Map.{lookup, lookup_entry, remove_entry, set_value}
-use Rattle.lru.specs.LruCache.{LruCache, lru_cache, promoted, put_entries}
-use Rattle.lru.proofs.CallerLemmas.{Contains-lookup_entry}
-use Rattle.qcow2_alloc.specs.declared.async_lru_cache.slot.Slot.{Slot}
-use Rattle.qcow2_alloc.specs.AsyncLruCacheBackend.{Steps}
-use Rattle.qcow2_alloc.specs.CacheAnswers.{FlushesEntry}
-use Rattle.qcow2_alloc.specs.CachedEntries.{FlushesFound}
 use Rattle.qcow2_alloc.proofs.CachedEntries.Lists.{none_is_none, entry_none, lookup-from_entry, lookup_front, set_front, length-remove_found}
 
 pub some_of : {X : Type 0} (o : Option X) → IsSome o → (x : X) × (o ≡ Some x)

@@ -1,17 +1,5 @@
 -- Making room for one more entry.
-use Rattle.std.proofs.Common.{◌≡◌, ℕ, ◌<◌, ◌≤◌, Bool, true, length, Option, Some, None, Result, Ok, IfSome, inl, inr, List, refl, sym, ap, ◌∙◌, subst, arith}
-use Rattle.std.specs.Cmp.{IsEquivalence}
-use Rattle.std.specs.List.{IsDistinct}
-use Rattle.std.specs.Option.{option_map}
-use Rattle.std.specs.Map.{keys_of, lookup, remove_entry}
-use Rattle.std.proofs.lemmas.Map.Steps.{set_value_same}
-use Rattle.lru.specs.LruCache.{LruCache, lru_cache}
-use Rattle.qcow2_alloc.specs.declared.async_lru_cache.slot.Slot.{Slot}
-use Rattle.qcow2_alloc.specs.declared.async_lru_cache.error.CacheError.{CacheError}
-use Rattle.qcow2_alloc.specs.AsyncLruCache.{oldest_free}
-use Rattle.qcow2_alloc.specs.AsyncLruCacheBackend.{Steps}
-use Rattle.qcow2_alloc.specs.CacheAnswers.{MustEvict, FailsToEvict, HasRoomForEntry, MakesRoom}
-use Rattle.qcow2_alloc.specs.CachedEntries.{FlushesFound}
+use Rattle.qcow2_alloc.proofs.Common.{◌≡◌, ℕ, ◌<◌, ◌≤◌, Bool, true, length, Option, Some, None, Result, Ok, IfSome, inl, inr, List, refl, sym, ap, ◌∙◌, subst, arith, IsEquivalence, IsDistinct, option_map, keys_of, lookup, remove_entry, set_value_same, LruCache, lru_cache, Slot, CacheError, oldest_free, Steps, MustEvict, FailsToEvict, HasRoomForEntry, MakesRoom, FlushesFound}
 use Rattle.qcow2_alloc.proofs.CachedEntries.Lists.{remove_entry-set_value, length-remove_found, lookup_none-removed, oldest_free-lookup}
 
 module _ {K V : Type 0} (eq : K → K → Bool) (es : List (K × Slot V)) where

@@ -1,17 +1,5 @@
 -- The other entries that are still in the cache after a call are unchanged.
-use Rattle.std.proofs.Common.{◌≡◌, ℕ, Bool, true, false, cond, inl, inr, List, ◌∷◌, Option, Some, None, Result, eqb, refl, sym, ap, ◌∙◌, subst}
-use Rattle.std.specs.Cmp.{IsEquivalence}
-use Rattle.std.specs.List.{IsDistinct}
-use Rattle.std.specs.Option.{option_map, IfSome, IsSome}
-use Rattle.std.specs.Map.{keys_of, lookup, lookup_entry, remove_entry}
-use Rattle.std.proofs.lemmas.Map.{lookup-remove_entry}
-use Rattle.lru.specs.LruCache.{promoted}
-use Rattle.lru.proofs.CallerLemmas.{Contains-lookup_entry}
-use Rattle.qcow2_alloc.specs.declared.async_lru_cache.slot.Slot.{Slot}
-use Rattle.qcow2_alloc.specs.declared.async_lru_cache.error.CacheError.{CacheError}
-use Rattle.qcow2_alloc.specs.AsyncLruCache.{slot_of, value_at, OthersStay}
-use Rattle.qcow2_alloc.specs.AsyncLruCacheBackend.{Steps}
-use Rattle.qcow2_alloc.specs.CacheAnswers.{HasRoomForEntry, InsertsNew, GetsNew, Replaces}
+use Rattle.qcow2_alloc.proofs.Common.{◌≡◌, ℕ, Bool, true, false, cond, inl, inr, List, ◌∷◌, Option, Some, None, Result, eqb, refl, sym, ap, ◌∙◌, subst, IsEquivalence, IsDistinct, option_map, IfSome, IsSome, keys_of, lookup, lookup_entry, remove_entry, lookup-remove_entry, promoted, Contains-lookup_entry, Slot, CacheError, slot_of, value_at, OthersStay, Steps, HasRoomForEntry, InsertsNew, GetsNew, Replaces}
 use Rattle.qcow2_alloc.proofs.CachedEntries.Knowing.{removed_apart, lookup-promoted}
 use Rattle.qcow2_alloc.proofs.CachedEntries.Lists.{none_is_none, lookup-from_entry}
 use Rattle.qcow2_alloc.proofs.CachedEntries.Cases.{get_cases, insert_cases, replace_cases}

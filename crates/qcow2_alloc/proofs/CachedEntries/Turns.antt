@@ -1,17 +1,6 @@
 -- One step of the loops that visit each entry once.
-use Rattle.std.proofs.Common.{◌≡◌, ℕ, ◌+◌, ◌<◌, ◌≤◌, Bool, true, false, List, [], ◌∷◌, ◌++◌, length, All, Option, Some, None, refl, sym, ap, ◌∙◌, subst, arith, append_assoc, append-nil}
-use Rattle.std.specs.Cmp.{IsEquivalence}
-use Rattle.std.specs.List.{slice_get}
-use Rattle.std.specs.Option.{option_map, option_or, IsSome, IfSome}
-use Rattle.std.specs.Map.{lookup, remove_entry, set_value}
-use Rattle.std.proofs.lemmas.Option.{same_Some, none-some}
+use Rattle.qcow2_alloc.proofs.Common.{◌≡◌, ℕ, ◌+◌, ◌<◌, ◌≤◌, Bool, true, false, List, [], ◌∷◌, ◌++◌, length, All, Option, Some, None, refl, sym, ap, ◌∙◌, subst, arith, append_assoc, append-nil, IsEquivalence, slice_get, option_map, option_or, IsSome, IfSome, lookup, remove_entry, set_value, same_Some, none-some, LruCache, lru_cache, demoted, Slot, pinned, is_pinned, Steps, FlushesAll, FlushesFound}
 use Rattle.std.proofs.lemmas.List.Elements.{All-cons}
-use Rattle.lru.specs.LruCache.{LruCache, lru_cache, demoted}
-use Rattle.qcow2_alloc.specs.declared.async_lru_cache.slot.Slot.{Slot}
-use Rattle.qcow2_alloc.specs.AsyncLruCache.{pinned, is_pinned}
-use Rattle.qcow2_alloc.specs.AsyncLruCacheBackend.{Steps}
-use Rattle.qcow2_alloc.specs.CacheAnswers.{FlushesAll}
-use Rattle.qcow2_alloc.specs.CachedEntries.{FlushesFound}
 use Rattle.qcow2_alloc.proofs.CachedEntries.Lists.{pinned_kept, pinned_gone, demoted_front, removed_front, set_front, lookup_front}
 use Rattle.qcow2_alloc.proofs.CachedEntries.Flushing.{Flushing, flushing_more, flushing_all}
 

@@ -1,23 +1,6 @@
 -- If no cached table is modified, none is afterwards, and nothing is written, whatever the tables hold.
-use Rattle.std.proofs.Common.{◌≡◌, ℕ, Bool, true, eqb, Result, Ok, IsSome, ap}
-use Rattle.std.specs.Option.{IsNone}
-use Rattle.std.specs.Map.{lookup}
-use Rattle.lru.specs.LruCache.{promoted}
-use Rattle.image_access.specs.Moments.{StorageView}
-use Rattle.qcow2_metadata.specs.declared.error.MetadataError.{MetadataError}
-use Rattle.qcow2_metadata.specs.L2Table.{L2TableView}
-use Rattle.qcow2_metadata.specs.RefBlock.{RefBlockView}
-use Rattle.qcow2_alloc.specs.declared.async_lru_cache.error.CacheError.{CacheError}
-use Rattle.qcow2_alloc.specs.declared.cache.backends.L2CacheBackend.{L2CacheBackend}
-use Rattle.qcow2_alloc.specs.declared.cache.backends.RefBlockCacheBackend.{RefBlockCacheBackend}
+use Rattle.qcow2_alloc.proofs.Common.{◌≡◌, ℕ, Bool, true, eqb, Result, Ok, IsSome, ap, IsNone, lookup, promoted, StorageView, MetadataError, L2TableView, RefBlockView, CacheError, L2CacheBackend, RefBlockCacheBackend, MetadataCaches, ImageStorage, Cache, Unit₀, Flushes, GetsNew, storage_of, l2_steps, rb_steps, KeepAllWritten}
 use Rattle.qcow2_alloc.specs.declared.cache.Direction.{Direction}
-use Rattle.qcow2_alloc.specs.declared.cache.MetadataCaches.{MetadataCaches}
-use Rattle.qcow2_alloc.specs.declared.image_storage.ImageStorage.{ImageStorage}
-use Rattle.qcow2_alloc.specs.AsyncLruCache.{Cache}
-use Rattle.qcow2_alloc.specs.CacheAnswers.{Unit₀, Flushes, GetsNew}
-use Rattle.qcow2_alloc.specs.ImageStorage.{storage_of}
-use Rattle.qcow2_alloc.specs.TableCaches.{l2_steps, rb_steps}
-use Rattle.qcow2_alloc.specs.Quiet.{KeepAllWritten}
 use Rattle.qcow2_alloc.proofs.KeptTables.Clean.{clean_as, clean_next, flush_clean, get_clean}
 use Rattle.qcow2_alloc.proofs.KeptTables.Quiet.{quiet_none, quiet_then, tables_quiet, blocks_quiet, block_got_quietly, table_got_quietly}
 

@@ -1,17 +1,5 @@
 -- What holds throughout calls of caches in which no cluster has a modified table in both.
-use Rattle.std.proofs.Common.{◌≡◌, ◌⊎◌, inl, inr, ℕ, ◌/◌, ◌%◌, ◌^◌, ◌<◌, Bool, false, eqb, List, [], ◌∷◌, ◌++◌, None, refl, sym, ap, ◌∙◌, subst}
-use mathlib.Core.Path.{fun_ext}
-use Rattle.std.specs.List.{AllByRecursion, IsDistinct}
-use Rattle.std.specs.Map.{keys_of, lookup}
-use Rattle.qcow2_metadata.specs.Bytes.{Bytes}
-use Rattle.qcow2_metadata.specs.Tables.{CachedTable, known}
-use Rattle.qcow2_laws.specs.Clusters.{Direction, Neither, L2DependsOnRb, RbDependsOnL2}
-use Rattle.qcow2_laws.specs.CrashInvariant.{SameIn, IsPartly}
-use Rattle.qcow2_laws.specs.Caches.{known_bytes, IsFreeAt, IsFreeOf, AreApart, AreClean, BlocksMayGo, TablesMayGo, IsWrittenSo}
-use Rattle.qcow2_laws.proofs.Lists.{known-at, known-none, unmodified_over, free_too, written_partly, written_known}
-use Rattle.qcow2_alloc.specs.ApartCaches.{IsFlushedSo}
-use Rattle.qcow2_alloc.specs.KeptTables.{cached_tables, AreElsewhere, AreLoaded}
-use Rattle.qcow2_alloc.specs.declared.async_lru_cache.slot.Slot.{Slot}
+use Rattle.qcow2_alloc.proofs.Common.{◌≡◌, ◌⊎◌, inl, inr, ℕ, ◌/◌, ◌%◌, ◌^◌, ◌<◌, Bool, false, eqb, List, [], ◌∷◌, ◌++◌, None, refl, sym, ap, ◌∙◌, subst, fun_ext, AllByRecursion, IsDistinct, keys_of, lookup, Bytes, CachedTable, known, Direction, Neither, L2DependsOnRb, RbDependsOnL2, SameIn, IsPartly, known_bytes, IsFreeAt, IsFreeOf, AreApart, AreClean, BlocksMayGo, TablesMayGo, IsWrittenSo, known-at, known-none, unmodified_over, free_too, written_partly, written_known, IsFlushedSo, cached_tables, AreElsewhere, AreLoaded, Slot}
 use Rattle.qcow2_alloc.proofs.KeptTables.Loaded.{stays_free, loaded_written, loaded_without, loaded_promoted}
 use Rattle.qcow2_alloc.proofs.KeptTables.Listing.{loaded_distinct, ShowsSame, shows_without, shows_more, shows_promoted}
 use Rattle.qcow2_alloc.proofs.KeptTables.Changing.{loaded_apart}

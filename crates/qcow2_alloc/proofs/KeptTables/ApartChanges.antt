@@ -1,24 +1,5 @@
 -- A cached table is changed in place, in caches in which no cluster has a modified table in both.
-use Rattle.std.proofs.Common.{◌≡◌, ◌⊎◌, inl, inr, ℕ, ◌+◌, ◌-◌, ◌*◌, ◌/◌, ◌%◌, ◌^◌, ◌<◌, ◌&&◌, Bool, true, eqb, List, ◌∷◌, ◌++◌, Option, Some, None, arith, refl, sym, ap, ◌∙◌, subst}
-use Rattle.std.proofs.lemmas.Bool.{cases_Bool}
-use Rattle.std.proofs.lemmas.Nat.{pow_pos, div-mul-add}
-use Rattle.std.specs.List.{IsDistinct}
-use Rattle.std.specs.Option.{IfSome}
-use Rattle.std.specs.Map.{keys_of, lookup}
-use Rattle.qcow2_metadata.specs.Bytes.{Bytes, byte_at, is_within}
-use Rattle.qcow2_metadata.specs.Header.{cluster_size}
-use Rattle.qcow2_metadata.specs.L2Table.{L2TableView}
-use Rattle.qcow2_metadata.specs.RefBlock.{RefBlockView}
-use Rattle.qcow2_metadata.specs.Tables.{CachedTable, known, overlays}
-use Rattle.qcow2_laws.specs.Caches.{known_bytes, IsFreeAt, IsFreeOf, AreApart}
-use Rattle.qcow2_laws.specs.Tops.{IsSameOutside}
-use Rattle.qcow2_laws.proofs.Lists.{known-none, known_there, known_elsewhere, unmodified_over, cluster_within, differs, changed_outside, changed_there}
-use Rattle.qcow2_alloc.specs.declared.async_lru_cache.slot.Slot.{Slot}
-use Rattle.qcow2_alloc.specs.declared.cache.MetadataCaches.{MetadataCaches}
-use Rattle.qcow2_alloc.specs.AsyncLruCache.{slot_of, value_at, set_at, with_entries}
-use Rattle.qcow2_alloc.specs.KeptTables.{cached_table, cached_tables}
-use Rattle.qcow2_alloc.specs.MetadataCaches.{l2_tables, refblocks}
-use Rattle.qcow2_alloc.specs.ApartCaches.{ChangesTableApart, ChangesBlockApart}
+use Rattle.qcow2_alloc.proofs.Common.{◌≡◌, ◌⊎◌, inl, inr, ℕ, ◌+◌, ◌-◌, ◌*◌, ◌/◌, ◌%◌, ◌^◌, ◌<◌, ◌&&◌, Bool, true, eqb, List, ◌∷◌, ◌++◌, Option, Some, None, arith, refl, sym, ap, ◌∙◌, subst, cases_Bool, pow_pos, div-mul-add, IsDistinct, IfSome, keys_of, lookup, Bytes, byte_at, is_within, cluster_size, L2TableView, RefBlockView, CachedTable, known, overlays, known_bytes, IsFreeAt, IsFreeOf, AreApart, IsSameOutside, known-none, known_there, known_elsewhere, unmodified_over, cluster_within, differs, changed_outside, changed_there, Slot, MetadataCaches, slot_of, value_at, set_at, with_entries, cached_table, cached_tables, l2_tables, refblocks, ChangesTableApart, ChangesBlockApart}
 use Rattle.qcow2_alloc.proofs.KeptTables.Loaded.{in_own_cluster, loaded_without}
 use Rattle.qcow2_alloc.proofs.KeptTables.Listing.{loaded_distinct, free_elsewhere, free_of}
 use Rattle.qcow2_alloc.proofs.KeptTables.Entries.{tables_at, away_from}

@@ -1,28 +1,5 @@
 -- Tables are dropped unwritten from caches in which no cluster has a modified table in both.
-use Rattle.std.proofs.Common.{◌≡◌, ◌⊎◌, inl, inr, ℕ, ◌+◌, ◌*◌, ◌/◌, ◌%◌, ◌^◌, ◌<◌, ◌&&◌, Bool, true, false, cond, eqb, List, ◌∷◌, ◌++◌, Option, Some, None, IsTrue, arith, refl, sym, ap, ◌∙◌, subst}
-use Rattle.std.proofs.lemmas.Nat.{pow_pos, div-mul-add}
-use Rattle.std.specs.List.{IsDistinct}
-use Rattle.std.specs.Option.{IfSome, option_map}
-use Rattle.std.specs.Map.{keys_of, lookup_entry, remove_entry}
-use Rattle.lru.proofs.CallerLemmas.{Contains-lookup_entry}
-use Rattle.qcow2_metadata.specs.Bytes.{Bytes, is_within}
-use Rattle.qcow2_metadata.specs.declared.header.HeaderFields.{HeaderFields}
-use Rattle.qcow2_metadata.specs.Header.{cluster_size}
-use Rattle.qcow2_metadata.specs.L2Table.{L2TableView}
-use Rattle.qcow2_metadata.specs.RefBlock.{RefBlockView}
-use Rattle.qcow2_metadata.specs.Tables.{CachedTable, known, overlays}
-use Rattle.qcow2_laws.specs.CrashInvariant.{SameIn, IsPartly}
-use Rattle.qcow2_laws.specs.Caches.{known_bytes, IsFreeAt, IsFreeOf, AreApart, AreClean}
-use Rattle.qcow2_laws.proofs.Lists.{known-at, known-none, known_elsewhere, known_unmodified, clean_known, no_overlay, overlays_within, within_cluster, cluster_within, differs}
-use Rattle.qcow2_alloc.specs.declared.async_lru_cache.slot.Slot.{Slot}
-use Rattle.qcow2_alloc.specs.declared.cache.backends.L2CacheBackend.{L2CacheBackend}
-use Rattle.qcow2_alloc.specs.declared.cache.backends.RefBlockCacheBackend.{RefBlockCacheBackend}
-use Rattle.qcow2_alloc.specs.declared.cache.MetadataCaches.{MetadataCaches}
-use Rattle.qcow2_alloc.specs.AsyncLruCache.{Cache, can_remove, with_entries}
-use Rattle.qcow2_alloc.specs.TableLaws.{same_number}
-use Rattle.qcow2_alloc.specs.KeptTables.{cached_table, cached_tables}
-use Rattle.qcow2_alloc.specs.MetadataCaches.{rb_at, l2_tables, refblocks}
-use Rattle.qcow2_alloc.specs.ApartCaches.{AreNoMore, NoClusterDirtyInBoth, KnownWithout, EvictsTableApart, KnownWithoutBlock, AllocatesBlockApart}
+use Rattle.qcow2_alloc.proofs.Common.{◌≡◌, ◌⊎◌, inl, inr, ℕ, ◌+◌, ◌*◌, ◌/◌, ◌%◌, ◌^◌, ◌<◌, ◌&&◌, Bool, true, false, cond, eqb, List, ◌∷◌, ◌++◌, Option, Some, None, IsTrue, arith, refl, sym, ap, ◌∙◌, subst, pow_pos, div-mul-add, IsDistinct, IfSome, option_map, keys_of, lookup_entry, remove_entry, Contains-lookup_entry, Bytes, is_within, HeaderFields, cluster_size, L2TableView, RefBlockView, CachedTable, known, overlays, SameIn, IsPartly, known_bytes, IsFreeAt, IsFreeOf, AreApart, AreClean, known-at, known-none, known_elsewhere, known_unmodified, clean_known, no_overlay, overlays_within, within_cluster, cluster_within, differs, Slot, L2CacheBackend, RefBlockCacheBackend, MetadataCaches, Cache, can_remove, with_entries, same_number, cached_table, cached_tables, rb_at, l2_tables, refblocks, AreNoMore, NoClusterDirtyInBoth, KnownWithout, EvictsTableApart, KnownWithoutBlock, AllocatesBlockApart}
 use Rattle.qcow2_alloc.proofs.CachedEntries.Lists.{lookup-from_entry}
 use Rattle.qcow2_alloc.proofs.KeptTables.Loaded.{loaded_without}
 use Rattle.qcow2_alloc.proofs.KeptTables.Listing.{loaded_distinct, free_elsewhere, free_of}

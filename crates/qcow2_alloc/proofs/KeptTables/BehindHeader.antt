@@ -1,28 +1,6 @@
 -- If no cached table lies in cluster 0, calls of the caches leave that cluster the same.
-use Rattle.std.proofs.Common.{◌≡◌, inl, inr, ℕ, ◌*◌, ◌<◌, ◌^◌, Bool, true, false, cond, eqb, List, [], ◌∷◌, Option, Some, None, Result, Ok, Err, IsSome, refl, sym, ap, ◌∙◌, subst, arith}
-use Rattle.std.specs.Option.{IfSome, IsNone, option_map, option_map_or, option_or}
-use Rattle.std.specs.Map.{lookup, lookup_entry, remove_entry, set_value}
-use Rattle.std.proofs.lemmas.Bool.Decides.{nat_tests}
-use Rattle.lru.specs.LruCache.{promoted}
-use Rattle.image_access.specs.Moments.{StorageView}
-use Rattle.qcow2_metadata.specs.declared.error.MetadataError.{MetadataError}
-use Rattle.qcow2_metadata.specs.L2Table.{L2TableView}
-use Rattle.qcow2_metadata.specs.RefBlock.{RefBlockView}
-use Rattle.qcow2_alloc.specs.declared.async_lru_cache.slot.Slot.{Slot}
-use Rattle.qcow2_alloc.specs.declared.async_lru_cache.error.CacheError.{CacheError}
-use Rattle.qcow2_alloc.specs.declared.async_lru_cache.error.CacheError.TheVariants.{InUse, StillInUse, Memory, Backend}
-use Rattle.qcow2_alloc.specs.declared.cache.backends.L2CacheBackend.{L2CacheBackend}
-use Rattle.qcow2_alloc.specs.declared.cache.backends.RefBlockCacheBackend.{RefBlockCacheBackend}
+use Rattle.qcow2_alloc.proofs.Common.{◌≡◌, inl, inr, ℕ, ◌*◌, ◌<◌, ◌^◌, Bool, true, false, cond, eqb, List, [], ◌∷◌, Option, Some, None, Result, Ok, Err, IsSome, refl, sym, ap, ◌∙◌, subst, arith, IfSome, IsNone, option_map, option_map_or, option_or, lookup, lookup_entry, remove_entry, set_value, nat_tests, promoted, StorageView, MetadataError, L2TableView, RefBlockView, Slot, CacheError, InUse, StillInUse, Memory, Backend, L2CacheBackend, RefBlockCacheBackend, MetadataCaches, ImageStorage, Cache, oldest_free, is_pinned, slot_of, set_at, with_entries, OthersStay, Unit₀, FlushesEntry, FlushesAll, Flushes, HasRoomForEntry, HasNoRoom, GetsNew, InsertsNew, Replaces, IsInHeaderCluster, BytesStay, KeepsHeaderCluster, LeaveHeaderCluster, CachesSpareHeader, KeepBehindHeader, storage_of, answer_done, answer_refused, table_steps, LoadsTable, FailsToLoad, FlushesTable, FailsToFlush, l2_steps, rb_steps, cleared_l2, cleared_rb, IsTableOf, IsBlockOf}
 use Rattle.qcow2_alloc.specs.declared.cache.Direction.{Direction}
-use Rattle.qcow2_alloc.specs.declared.cache.MetadataCaches.{MetadataCaches}
-use Rattle.qcow2_alloc.specs.declared.image_storage.ImageStorage.{ImageStorage}
-use Rattle.qcow2_alloc.specs.AsyncLruCache.{Cache, oldest_free, is_pinned, slot_of, set_at, with_entries, OthersStay}
-use Rattle.qcow2_alloc.specs.CacheAnswers.{Unit₀, FlushesEntry, FlushesAll, Flushes, HasRoomForEntry, HasNoRoom, GetsNew, InsertsNew, Replaces}
-use Rattle.qcow2_alloc.specs.HeaderClusters.{IsInHeaderCluster, BytesStay, KeepsHeaderCluster}
-use Rattle.qcow2_alloc.specs.SparedHeaders.{LeaveHeaderCluster, CachesSpareHeader, KeepBehindHeader}
-use Rattle.qcow2_alloc.specs.ImageStorage.{storage_of}
-use Rattle.qcow2_alloc.specs.TableSteps.{answer_done, answer_refused, table_steps, LoadsTable, FailsToLoad, FlushesTable, FailsToFlush}
-use Rattle.qcow2_alloc.specs.TableCaches.{l2_steps, rb_steps, cleared_l2, cleared_rb, IsTableOf, IsBlockOf}
 use Rattle.qcow2_alloc.proofs.HeaderClusters.{below_others, call_keeps, quiet_keeps, same_kept, above_kept, header_cluster_none, header_cluster_then}
 use Rattle.qcow2_alloc.proofs.KeptTables.Fetching.{none_or_some}
 use Rattle.qcow2_alloc.proofs.KeptTables.Inserting.{found_or_not, lookup_none}

@@ -1,16 +1,5 @@
 -- A write to bytes that belong to no table keeps the invariant of the caches.
-use Rattle.std.proofs.Common.{◌≡◌, ◌⊎◌, inl, inr, ℕ, ◌/◌, ◌<◌, refl, sym, ap, ◌∙◌, subst, arith}
-use Rattle.qcow2_metadata.specs.Bytes.{Bytes}
-use Rattle.qcow2_metadata.specs.declared.header.HeaderFields.{HeaderFields}
-use Rattle.qcow2_metadata.specs.Header.{cluster_size}
-use Rattle.qcow2_metadata.specs.Entries.{l1_entry, reftable_entry, host_offset, block_offset, is_copied}
-use Rattle.qcow2_metadata.specs.Named.{named_for_tables}
-use Rattle.qcow2_laws.specs.CrashInvariant.{Pending, CrashInvariant, SameIn, SameTop}
-use Rattle.qcow2_laws.specs.Caches.{HasL2, HasOwnL2, HasBlock, AreNamedBlocks}
-use Rattle.qcow2_laws.proofs.KeptSteps.{kept_beside}
-use Rattle.qcow2_laws.proofs.Shares.{shares, top_stays, table_has, block_has}
-use Rattle.qcow2_alloc.specs.declared.cache.MetadataCaches.{MetadataCaches}
-use Rattle.qcow2_alloc.specs.MetadataCaches.{order_of, l2_tables, refblocks, known_of, CacheInvariant}
+use Rattle.qcow2_alloc.proofs.Common.{◌≡◌, ◌⊎◌, inl, inr, ℕ, ◌/◌, ◌<◌, refl, sym, ap, ◌∙◌, subst, arith, Bytes, HeaderFields, cluster_size, l1_entry, reftable_entry, host_offset, block_offset, is_copied, named_for_tables, Pending, CrashInvariant, SameIn, SameTop, HasL2, HasOwnL2, HasBlock, AreNamedBlocks, kept_beside, shares, top_stays, table_has, block_has, MetadataCaches, order_of, l2_tables, refblocks, known_of, CacheInvariant}
 use Rattle.qcow2_alloc.proofs.KeptTables.Loaded.{loaded_beside}
 
 module _ {S : Type 0} (h : HeaderFields) (p p' : Pending) (caches : MetadataCaches S) (on_storage on_storage' : Bytes) (sound : CacheInvariant h p caches on_storage) (named_blocks : AreNamedBlocks h (refblocks caches) on_storage)

@@ -1,23 +1,5 @@
 -- The reftable still names each refblock that it named before, and the offset of every table fits into 64 bits.
-use Rattle.std.proofs.Common.{◌≡◌, ◌⊎◌, inl, inr, ℕ, ◌*◌, ◌/◌, ◌%◌, ◌^◌, ◌<◌, List, sym, ap, ◌∙◌, subst, arith}
-use Rattle.std.proofs.lemmas.Nat.{mod_below, pow_pos, div-add-mod'}
-use Rattle.qcow2_metadata.specs.Bytes.{Bytes}
-use Rattle.qcow2_metadata.specs.declared.header.HeaderFields.{HeaderFields}
-use Rattle.qcow2_metadata.specs.Header.{cluster_size}
-use Rattle.qcow2_metadata.specs.Entries.{l1_entry, reftable_entry, host_offset, block_offset}
-use Rattle.qcow2_metadata.specs.L2Table.{L2TableView}
-use Rattle.qcow2_metadata.specs.RefBlock.{RefBlockView}
-use Rattle.qcow2_metadata.specs.TableBytes.{HasPlace}
-use Rattle.qcow2_metadata.specs.Tables.{CachedTable}
-use Rattle.qcow2_laws.specs.Clusters.{Direction}
-use Rattle.qcow2_laws.specs.CrashInvariant.{Pending, SameTop}
-use Rattle.qcow2_laws.specs.Caches.{known_bytes, IsFreeOf, HasL2, HasBlock, AreNamedBlocks}
-use Rattle.qcow2_laws.proofs.Tops.{SameTop-sym, SameTop-trans}
-use Rattle.qcow2_alloc.specs.declared.async_lru_cache.slot.Slot.{Slot}
-use Rattle.qcow2_alloc.specs.declared.cache.MetadataCaches.{MetadataCaches}
-use Rattle.qcow2_alloc.specs.TableCaches.{IsTableOf, IsBlockOf}
-use Rattle.qcow2_alloc.specs.KeptTables.{cached_tables, AreKept}
-use Rattle.qcow2_alloc.specs.MetadataCaches.{l2_tables, refblocks, CacheInvariant}
+use Rattle.qcow2_alloc.proofs.Common.{◌≡◌, ◌⊎◌, inl, inr, ℕ, ◌*◌, ◌/◌, ◌%◌, ◌^◌, ◌<◌, List, sym, ap, ◌∙◌, subst, arith, mod_below, pow_pos, div-add-mod', Bytes, HeaderFields, cluster_size, l1_entry, reftable_entry, host_offset, block_offset, L2TableView, RefBlockView, HasPlace, CachedTable, Direction, Pending, SameTop, known_bytes, IsFreeOf, HasL2, HasBlock, AreNamedBlocks, SameTop-sym, SameTop-trans, Slot, MetadataCaches, IsTableOf, IsBlockOf, cached_tables, AreKept, l2_tables, refblocks, CacheInvariant}
 use Rattle.qcow2_alloc.proofs.KeptTables.Standing.{AreStanding, standing_of, free_or_named}
 
 -- ---- where tables are named

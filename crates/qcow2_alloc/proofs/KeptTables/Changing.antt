@@ -1,16 +1,5 @@
 -- A cached table is changed in place.
-use Rattle.std.proofs.Common.{◌≡◌, inl, inr, ℕ, ◌+◌, ◌-◌, ◌/◌, ◌%◌, ◌<◌, ◌&&◌, Bool, true, false, eqb, List, [], ◌∷◌, ◌++◌, Option, Some, None, IsSome, refl, sym, ap, ◌∙◌, subst, arith}
-use Rattle.std.proofs.lemmas.Bool.{cases_Bool, eq-eqb}
-use Rattle.std.specs.Option.{option_map}
-use Rattle.std.specs.Map.{lookup, set_value}
-use Rattle.qcow2_metadata.specs.Bytes.{Bytes, is_within}
-use Rattle.qcow2_metadata.specs.Tables.{CachedTable, known, overlays}
-use Rattle.qcow2_laws.specs.Caches.{AreApart}
-use Rattle.qcow2_laws.proofs.Lists.{known-none, known_there, known_elsewhere, unmodified_over, overlays_within, within_cluster, cluster_within}
-use Rattle.qcow2_alloc.specs.declared.async_lru_cache.slot.Slot.{Slot}
-use Rattle.qcow2_alloc.specs.AsyncLruCache.{slot_of, value_at, set_at}
-use Rattle.qcow2_alloc.specs.TableLaws.{same_number}
-use Rattle.qcow2_alloc.specs.KeptTables.{AreElsewhere, IsCurrent, AreLoaded, AllValuesFit}
+use Rattle.qcow2_alloc.proofs.Common.{◌≡◌, inl, inr, ℕ, ◌+◌, ◌-◌, ◌/◌, ◌%◌, ◌<◌, ◌&&◌, Bool, true, false, eqb, List, [], ◌∷◌, ◌++◌, Option, Some, None, IsSome, refl, sym, ap, ◌∙◌, subst, arith, cases_Bool, eq-eqb, option_map, lookup, set_value, Bytes, is_within, CachedTable, known, overlays, AreApart, known-none, known_there, known_elsewhere, unmodified_over, overlays_within, within_cluster, cluster_within, Slot, slot_of, value_at, set_at, same_number, AreElsewhere, IsCurrent, AreLoaded, AllValuesFit}
 use Rattle.qcow2_alloc.proofs.KeptTables.Loaded.{elsewhere_with, in_own_cluster}
 use Rattle.qcow2_alloc.proofs.KeptTables.Listing.{free_elsewhere, loaded_distinct}
 use Rattle.qcow2_alloc.proofs.KeptTables.Entries.{away_from}

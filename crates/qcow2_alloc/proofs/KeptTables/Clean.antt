@@ -1,30 +1,5 @@
 -- If no table of a cache is modified, none is after a flush, or after an unmodified one was inserted.
-use Rattle.std.proofs.Common.{◌≡◌, inl, inr, ℕ, Bool, true, false, cond, eqb, List, [], ◌∷◌, Option, Some, None, Result, Ok, IsSome, refl, sym, subst}
-use Rattle.std.specs.Option.{IfSome, IsNone, option_or}
-use Rattle.std.specs.Map.{lookup, lookup_entry, remove_entry}
-use Rattle.lru.specs.LruCache.{promoted}
-use Rattle.image_access.specs.Moments.{StorageView}
-use Rattle.qcow2_metadata.specs.declared.error.MetadataError.{MetadataError}
-use Rattle.qcow2_metadata.specs.L2Table.{L2TableView}
-use Rattle.qcow2_metadata.specs.RefBlock.{RefBlockView}
-use Rattle.qcow2_metadata.specs.Tables.{CachedTable, overlays}
-use Rattle.qcow2_laws.specs.Clusters.{Direction, Neither, L2DependsOnRb, RbDependsOnL2}
-use Rattle.qcow2_laws.specs.Caches.{IsFreeAt, AreClean, BlocksMayGo, TablesMayGo}
-use Rattle.qcow2_laws.proofs.Lists.{unmodified_over}
-use Rattle.qcow2_alloc.specs.declared.async_lru_cache.slot.Slot.{Slot}
-use Rattle.qcow2_alloc.specs.declared.async_lru_cache.error.CacheError.{CacheError}
-use Rattle.qcow2_alloc.specs.declared.cache.backends.L2CacheBackend.{L2CacheBackend}
-use Rattle.qcow2_alloc.specs.declared.cache.backends.RefBlockCacheBackend.{RefBlockCacheBackend}
-use Rattle.qcow2_alloc.specs.declared.cache.MetadataCaches.{MetadataCaches}
-use Rattle.qcow2_alloc.specs.declared.image_storage.ImageStorage.{ImageStorage}
-use Rattle.qcow2_alloc.specs.AsyncLruCache.{Cache, is_pinned, oldest_free, slot_of}
-use Rattle.qcow2_alloc.specs.AsyncLruCacheBackend.{Steps}
-use Rattle.qcow2_alloc.specs.CacheAnswers.{Unit₀, GetsNew, InsertsNew, Replaces, Flushes}
-use Rattle.qcow2_alloc.specs.ImageStorage.{storage_of}
-use Rattle.qcow2_alloc.specs.TableCaches.{l2_steps}
-use Rattle.qcow2_alloc.specs.KeptTables.{cached_table, cached_tables}
-use Rattle.qcow2_alloc.specs.MetadataCaches.{l2_tables, refblocks}
-use Rattle.qcow2_alloc.specs.Quiet.{NextIsClean}
+use Rattle.qcow2_alloc.proofs.Common.{◌≡◌, inl, inr, ℕ, Bool, true, false, cond, eqb, List, [], ◌∷◌, Option, Some, None, Result, Ok, IsSome, refl, sym, subst, IfSome, IsNone, option_or, lookup, lookup_entry, remove_entry, promoted, StorageView, MetadataError, L2TableView, RefBlockView, CachedTable, overlays, Direction, Neither, L2DependsOnRb, RbDependsOnL2, IsFreeAt, AreClean, BlocksMayGo, TablesMayGo, unmodified_over, Slot, CacheError, L2CacheBackend, RefBlockCacheBackend, MetadataCaches, ImageStorage, Cache, is_pinned, oldest_free, slot_of, Steps, Unit₀, GetsNew, InsertsNew, Replaces, Flushes, storage_of, l2_steps, cached_table, cached_tables, l2_tables, refblocks, NextIsClean}
 use Rattle.qcow2_alloc.proofs.KeptTables.Fetching.{none_or_some}
 use Rattle.qcow2_alloc.proofs.KeptTables.Inserting.{found_or_not, lookup_none}
 use Rattle.qcow2_alloc.proofs.CachedEntries.Each.{IsOfEach, each_flushed, each_got, each_inserted, each_promoted, each_replaced}

@@ -1,31 +1,7 @@
 -- One refcount of a cached refblock changes.
-use Rattle.std.proofs.Common.{◌≡◌, ◌↔◌, IsTrue, ℕ, ◌+◌, ◌-◌, ◌*◌, ◌/◌, ◌%◌, ◌^◌, ◌<◌, ◌≤◌, ◌==◌, Bool, true, false, eqb, List, [], ◌∷◌, ◌++◌, Some, refl, sym, ap, ◌∙◌, subst, arith}
-use Rattle.std.proofs.lemmas.Nat.{mod_below}
-use Rattle.std.proofs.lemmas.Bool.{eq-eqb, ne_eqb}
-use Rattle.qcow2_metadata.specs.Bytes.{Bytes, byte_at}
-use Rattle.qcow2_metadata.specs.declared.header.HeaderFields.{HeaderFields}
-use Rattle.qcow2_metadata.specs.Header.{cluster_size, count_width, counts_per_block}
-use Rattle.qcow2_metadata.specs.Entries.{reftable_entry, block_offset, block_count, count}
-use Rattle.qcow2_metadata.specs.Named.{named_by_reftable}
-use Rattle.qcow2_metadata.specs.RefBlock.{RefBlockView, count_in, count_at, counts_of, ChangesCount}
-use Rattle.qcow2_metadata.specs.Tables.{CachedTable, known}
-use Rattle.qcow2_laws.specs.CrashInvariant.{Pending, CrashInvariant, SameCovers}
-use Rattle.qcow2_laws.specs.Steps.{block_of, CountRises, CountFalls}
-use Rattle.qcow2_laws.specs.Tops.{IsSameOutside}
-use Rattle.qcow2_laws.specs.Caches.{known_bytes, HasBlock, AreNamedBlocks}
-use Rattle.qcow2_laws.proofs.Places.{Sizes, block_count-moved, count_in as count_found}
-use Rattle.qcow2_laws.proofs.Lists.{known-at, known-none, changed_outside}
-use Rattle.qcow2_laws.proofs.Shares.{block_has}
-use Rattle.qcow2_laws.proofs.Caches.{kept_sizes, l2s_free}
-use Rattle.qcow2_laws.proofs.Blocks.{counted_covers}
+use Rattle.qcow2_alloc.proofs.Common.{◌≡◌, ◌↔◌, IsTrue, ℕ, ◌+◌, ◌-◌, ◌*◌, ◌/◌, ◌%◌, ◌^◌, ◌<◌, ◌≤◌, ◌==◌, Bool, true, false, eqb, List, [], ◌∷◌, ◌++◌, Some, refl, sym, ap, ◌∙◌, subst, arith, mod_below, eq-eqb, ne_eqb, Bytes, byte_at, HeaderFields, cluster_size, count_width, counts_per_block, reftable_entry, block_offset, block_count, count, named_by_reftable, RefBlockView, count_in, count_at, counts_of, ChangesCount, CachedTable, known, Pending, CrashInvariant, SameCovers, block_of, CountRises, CountFalls, IsSameOutside, known_bytes, HasBlock, AreNamedBlocks, Sizes, block_count-moved, known-at, known-none, changed_outside, block_has, kept_sizes, l2s_free, counted_covers, refblock_changed, Slot, MetadataCaches, slot_of, value_at, set_at, with_entries, IsBlockOf, cached_table, cached_tables, AreKept, AreLoaded, AllValuesFit, order_of, l2_tables, refblocks, known_of, CacheInvariant, IsCountedAt, Made}
+use Rattle.qcow2_laws.proofs.Places.{count_in as count_found}
 use Rattle.qcow2_laws.proofs.CachedChanges.{count_rises, count_falls}
-use Rattle.qcow2_laws.proofs.KeptSteps.{refblock_changed}
-use Rattle.qcow2_alloc.specs.declared.async_lru_cache.slot.Slot.{Slot}
-use Rattle.qcow2_alloc.specs.declared.cache.MetadataCaches.{MetadataCaches}
-use Rattle.qcow2_alloc.specs.AsyncLruCache.{slot_of, value_at, set_at, with_entries}
-use Rattle.qcow2_alloc.specs.TableCaches.{IsBlockOf}
-use Rattle.qcow2_alloc.specs.KeptTables.{cached_table, cached_tables, AreKept, AreLoaded, AllValuesFit}
-use Rattle.qcow2_alloc.specs.MetadataCaches.{order_of, l2_tables, refblocks, known_of, CacheInvariant, IsCountedAt, Made}
 use Rattle.qcow2_alloc.proofs.KeptTables.Entries.{tables_at}
 use Rattle.qcow2_alloc.proofs.KeptTables.Loaded.{in_own_cluster}
 use Rattle.qcow2_alloc.proofs.KeptTables.BlocksNamed.{blocks_stand, named_blocks_in}

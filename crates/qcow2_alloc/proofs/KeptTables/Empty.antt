@@ -1,14 +1,5 @@
 -- Empty caches.
-use Rattle.std.proofs.Common.{◌≡◌, ◌==◌, ℕ, inl, [], refl, sym, ap, subst}
-use Rattle.qcow2_metadata.specs.Bytes.{Bytes}
-use Rattle.qcow2_metadata.specs.declared.header.HeaderFields.{HeaderFields}
-use Rattle.qcow2_metadata.specs.Header.{cluster_size, has_data_file}
-use Rattle.qcow2_metadata.specs.Tables.{known}
-use Rattle.qcow2_laws.specs.Clusters.{Neither}
-use Rattle.qcow2_laws.specs.CrashInvariant.{Pending, CrashInvariant}
-use Rattle.qcow2_laws.specs.Caches.{known_bytes}
-use Rattle.qcow2_alloc.specs.declared.cache.MetadataCaches.{MetadataCaches}
-use Rattle.qcow2_alloc.specs.MetadataCaches.{HasFormat, order_of, known_of, CacheInvariant}
+use Rattle.qcow2_alloc.proofs.Common.{◌≡◌, ◌==◌, ℕ, inl, [], refl, sym, ap, subst, Bytes, HeaderFields, cluster_size, has_data_file, known, Neither, Pending, CrashInvariant, known_bytes, MetadataCaches, HasFormat, order_of, known_of, CacheInvariant}
 
 -- no table is laid over the bytes
 pub known_empty : (size : ℕ) (b : Bytes) → known_bytes size [] [] b ≡ b

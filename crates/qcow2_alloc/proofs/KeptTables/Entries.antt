@@ -1,15 +1,5 @@
 -- Entries of a cache as tables: which one is evicted, moves to the front, or is inserted.
-use Rattle.std.proofs.Common.{◌≡◌, ◌≢◌, ℕ, ◌+◌, ◌*◌, ◌^◌, ◌<◌, ◌≤◌, ◌⊎◌, Bool, true, false, cond, eqb, inl, inr, List, [], ◌∷◌, ◌++◌, Option, Some, None, refl, sym, ap, arith}
-use Rattle.std.proofs.lemmas.Bool.{cases_Bool}
-use Rattle.std.proofs.lemmas.Bool.Decides.{nat_tests}
-use Rattle.std.proofs.lemmas.Nat.{pow_pos}
-use Rattle.std.specs.Option.{option_or}
-use Rattle.std.specs.Map.{lookup, lookup_entry, remove_entry}
-use Rattle.qcow2_metadata.specs.Tables.{CachedTable}
-use Rattle.qcow2_alloc.specs.declared.async_lru_cache.slot.Slot.{Slot}
-use Rattle.qcow2_alloc.specs.AsyncLruCache.{oldest_free, is_pinned}
-use Rattle.qcow2_alloc.specs.TableLaws.{apart}
-use Rattle.qcow2_alloc.specs.KeptTables.{cached_table, cached_tables, AreElsewhere}
+use Rattle.qcow2_alloc.proofs.Common.{◌≡◌, ◌≢◌, ℕ, ◌+◌, ◌*◌, ◌^◌, ◌<◌, ◌≤◌, ◌⊎◌, Bool, true, false, cond, eqb, inl, inr, List, [], ◌∷◌, ◌++◌, Option, Some, None, refl, sym, ap, arith, cases_Bool, nat_tests, pow_pos, option_or, lookup, lookup_entry, remove_entry, CachedTable, Slot, oldest_free, is_pinned, apart, cached_table, cached_tables, AreElsewhere}
 use Rattle.qcow2_alloc.proofs.KeptTables.Loaded.{elsewhere_of}
 
 -- each begins at a place of its own

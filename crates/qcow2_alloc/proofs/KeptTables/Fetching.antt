@@ -1,27 +1,5 @@
 -- A table is loaded into the caches.
-use Rattle.std.proofs.Common.{◌≡◌, ◌⊎◌, inl, inr, ℕ, ◌^◌, ◌%◌, Bool, true, false, eqb, List, ◌∷◌, Option, Some, None, Result, Ok, IsSome, refl, sym, ap, subst}
-use Rattle.std.specs.Option.{IsNone}
-use Rattle.std.specs.Map.{lookup}
-use Rattle.lru.specs.LruCache.{promoted}
-use Rattle.image_access.specs.Moments.{StorageView}
-use Rattle.qcow2_metadata.specs.Bytes.{Bytes, byte_at}
-use Rattle.qcow2_metadata.specs.declared.error.MetadataError.{MetadataError}
-use Rattle.qcow2_metadata.specs.Header.{cluster_size}
-use Rattle.qcow2_metadata.specs.L2Table.{L2TableView}
-use Rattle.qcow2_metadata.specs.RefBlock.{RefBlockView}
-use Rattle.qcow2_metadata.specs.Tables.{CachedTable}
-use Rattle.qcow2_laws.specs.Caches.{known_bytes, BlocksMayGo, TablesMayGo, HasL2, HasBlock}
-use Rattle.qcow2_alloc.specs.declared.async_lru_cache.error.CacheError.{CacheError}
-use Rattle.qcow2_alloc.specs.declared.cache.backends.L2CacheBackend.{L2CacheBackend}
-use Rattle.qcow2_alloc.specs.declared.cache.backends.RefBlockCacheBackend.{RefBlockCacheBackend}
-use Rattle.qcow2_alloc.specs.declared.cache.MetadataCaches.{MetadataCaches}
-use Rattle.qcow2_alloc.specs.declared.image_storage.ImageStorage.{ImageStorage}
-use Rattle.qcow2_alloc.specs.AsyncLruCache.{Cache, with_entries}
-use Rattle.qcow2_alloc.specs.CacheAnswers.{GetsNew}
-use Rattle.qcow2_alloc.specs.ImageStorage.{storage_of}
-use Rattle.qcow2_alloc.specs.TableCaches.{l2_steps, rb_steps, cleared_l2, cleared_rb, IsTableOf, IsBlockOf}
-use Rattle.qcow2_alloc.specs.KeptTables.{cached_tables, AllValuesFit, AreElsewhere, AreKept}
-use Rattle.qcow2_alloc.specs.MetadataCaches.{order_of, l2_tables, refblocks, KeepSound}
+use Rattle.qcow2_alloc.proofs.Common.{◌≡◌, ◌⊎◌, inl, inr, ℕ, ◌^◌, ◌%◌, Bool, true, false, eqb, List, ◌∷◌, Option, Some, None, Result, Ok, IsSome, refl, sym, ap, subst, IsNone, lookup, promoted, StorageView, Bytes, byte_at, MetadataError, cluster_size, L2TableView, RefBlockView, CachedTable, known_bytes, BlocksMayGo, TablesMayGo, HasL2, HasBlock, CacheError, L2CacheBackend, RefBlockCacheBackend, MetadataCaches, ImageStorage, Cache, with_entries, GetsNew, storage_of, l2_steps, rb_steps, cleared_l2, cleared_rb, IsTableOf, IsBlockOf, cached_tables, AllValuesFit, AreElsewhere, AreKept, order_of, l2_tables, refblocks, KeepSound}
 use Rattle.qcow2_alloc.proofs.KeptTables.BlocksNamed.{named_blocks_beside, named_blocks_anew, blocks_stand, block_place}
 use Rattle.qcow2_alloc.proofs.KeptTables.Standing.{AreStanding, stand_promoted, get_stands}
 use Rattle.qcow2_alloc.proofs.KeptTables.Writing.{crash_safety, Flushed}

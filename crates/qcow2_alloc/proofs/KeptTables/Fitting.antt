@@ -1,15 +1,5 @@
 -- The tables of a cache have the image's format, whatever is flushed, loaded or inserted.
-use Rattle.std.proofs.Common.{◌≡◌, ℕ, Bool, true, eqb, List, Option, Some, Result, Ok, sym, subst}
-use Rattle.std.specs.Map.{lookup_entry, remove_entry}
-use Rattle.lru.specs.LruCache.{promoted}
-use Rattle.image_access.specs.Moments.{StorageView}
-use Rattle.qcow2_metadata.specs.declared.error.MetadataError.{MetadataError}
-use Rattle.qcow2_alloc.specs.declared.async_lru_cache.slot.Slot.{Slot}
-use Rattle.qcow2_alloc.specs.declared.async_lru_cache.error.CacheError.{CacheError}
-use Rattle.qcow2_alloc.specs.TableSteps.{table_steps}
-use Rattle.qcow2_alloc.specs.CacheAnswers.{Unit₀, Flushes, GetsNew, InsertsNew, Replaces}
-use Rattle.qcow2_alloc.specs.KeptTables.{AllValuesFit}
-use Rattle.qcow2_alloc.specs.AsyncLruCacheBackend.{Steps}
+use Rattle.qcow2_alloc.proofs.Common.{◌≡◌, ℕ, Bool, true, eqb, List, Option, Some, Result, Ok, sym, subst, lookup_entry, remove_entry, promoted, StorageView, MetadataError, Slot, CacheError, table_steps, Unit₀, Flushes, GetsNew, InsertsNew, Replaces, AllValuesFit, Steps}
 use Rattle.qcow2_alloc.proofs.CachedEntries.Each.{IsOfEach, each_flushed, each_got, each_inserted, each_promoted, each_replaced}
 
 fits_each : {V : Type 0} (IsFit : V → Type 0) → IsOfEach (λ k v. IsFit v) (AllValuesFit IsFit)

@@ -1,24 +1,5 @@
 -- A table moves to the front of a cache, is loaded, or is evicted: the invariant holds, the known contents stay the same, and a stop is as safe as before.
-use Rattle.std.proofs.Common.{◌≡◌, ◌⊎◌, ℕ, ◌+◌, ◌*◌, ◌%◌, ◌^◌, ◌<◌, Bool, true, false, eqb, inl, inr, List, ◌∷◌, ◌++◌, Option, Some, None, Result, Ok, Err, refl, sym, ap, ◌∙◌, subst, arith}
-use Rattle.std.proofs.lemmas.Nat.{mod-mul-add, pow_pos}
-use Rattle.std.specs.Option.{option_map_or}
-use Rattle.std.specs.Map.{lookup, lookup_entry, remove_entry}
-use Rattle.lru.specs.LruCache.{promoted}
-use Rattle.lru.proofs.CallerLemmas.{Contains-lookup_entry}
-use Rattle.image_access.specs.Moments.{StorageView, EachMomentSince}
-use Rattle.image_access.proofs.Bytes.{byte_at-bytes_at}
-use Rattle.image_access.proofs.EachMomentSince.{passes_if}
-use Rattle.qcow2_metadata.specs.Bytes.{Bytes, byte_at}
-use Rattle.qcow2_metadata.specs.declared.error.MetadataError.{MetadataError}
-use Rattle.qcow2_metadata.specs.Tables.{CachedTable}
-use Rattle.qcow2_alloc.specs.declared.async_lru_cache.slot.Slot.{Slot}
-use Rattle.qcow2_alloc.specs.declared.async_lru_cache.error.CacheError.{CacheError}
-use Rattle.qcow2_alloc.specs.declared.async_lru_cache.error.CacheError.TheVariants.{InUse, StillInUse, Memory, Backend}
-use Rattle.qcow2_alloc.specs.AsyncLruCache.{slot_of}
-use Rattle.qcow2_alloc.specs.TableSteps.{LoadsTable, FailsToLoad, FlushesTable, FailsToFlush, table_steps}
-use Rattle.qcow2_alloc.specs.CacheAnswers.{Evicts, HasRoomForEntry, HasNoRoom, GetsNew, InsertsNew, Replaces}
-use Rattle.qcow2_alloc.specs.TableLaws.{same_number}
-use Rattle.qcow2_alloc.specs.KeptTables.{cached_table, cached_tables, AreElsewhere, IsCurrent}
+use Rattle.qcow2_alloc.proofs.Common.{◌≡◌, ◌⊎◌, ℕ, ◌+◌, ◌*◌, ◌%◌, ◌^◌, ◌<◌, Bool, true, false, eqb, inl, inr, List, ◌∷◌, ◌++◌, Option, Some, None, Result, Ok, Err, refl, sym, ap, ◌∙◌, subst, arith, mod-mul-add, pow_pos, option_map_or, lookup, lookup_entry, remove_entry, promoted, Contains-lookup_entry, StorageView, EachMomentSince, byte_at-bytes_at, passes_if, Bytes, byte_at, MetadataError, CachedTable, Slot, CacheError, InUse, StillInUse, Memory, Backend, slot_of, LoadsTable, FailsToLoad, FlushesTable, FailsToFlush, table_steps, Evicts, HasRoomForEntry, HasNoRoom, GetsNew, InsertsNew, Replaces, same_number, cached_table, cached_tables, AreElsewhere, IsCurrent}
 use Rattle.qcow2_alloc.proofs.CachedEntries.Lists.{lookup_none-removed}
 use Rattle.qcow2_alloc.proofs.KeptTables.Writing.{Safety, WritesOne, Flushed, Puts, flushed_none, flushed_then, flushed_entry}
 use Rattle.qcow2_alloc.proofs.KeptTables.Entries.{AreDistinct, away_from, split_oldest, split_found, tables_at, tables_both, removed_at, elsewhere_of_none}

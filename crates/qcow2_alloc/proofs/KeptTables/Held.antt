@@ -1,21 +1,5 @@
 -- A flush leaves the bytes of each cached table the same.
-use Rattle.std.proofs.Common.{◌≡◌, ℕ, Bool, inl, inr, eqb, List, [], ◌∷◌, Option, Some, None, Result, ap, ◌∙◌}
-use Rattle.std.proofs.lemmas.Bool.{cases_Bool}
-use Rattle.std.specs.Option.{option_map}
-use Rattle.image_access.specs.Moments.{StorageView}
-use Rattle.qcow2_metadata.specs.declared.error.MetadataError.{MetadataError}
-use Rattle.qcow2_metadata.specs.RefBlock.{RefBlockView}
-use Rattle.qcow2_alloc.specs.declared.async_lru_cache.slot.Slot.{Slot}
-use Rattle.qcow2_alloc.specs.declared.async_lru_cache.error.CacheError.{CacheError}
-use Rattle.qcow2_alloc.specs.declared.cache.backends.RefBlockCacheBackend.{RefBlockCacheBackend}
-use Rattle.qcow2_alloc.specs.declared.cache.MetadataCaches.{MetadataCaches}
-use Rattle.qcow2_alloc.specs.declared.image_storage.ImageStorage.{ImageStorage}
-use Rattle.qcow2_alloc.specs.AsyncLruCache.{Cache, value_at}
-use Rattle.qcow2_alloc.specs.AsyncLruCacheBackend.{Steps}
-use Rattle.qcow2_alloc.specs.CacheAnswers.{Unit₀, Flushes, FlushesEntry, FlushesAll}
-use Rattle.qcow2_alloc.specs.ImageStorage.{storage_of}
-use Rattle.qcow2_alloc.specs.MetadataCaches.{rb_at}
-use Rattle.qcow2_alloc.specs.TableCaches.{rb_steps}
+use Rattle.qcow2_alloc.proofs.Common.{◌≡◌, ℕ, Bool, inl, inr, eqb, List, [], ◌∷◌, Option, Some, None, Result, ap, ◌∙◌, cases_Bool, option_map, StorageView, MetadataError, RefBlockView, Slot, CacheError, RefBlockCacheBackend, MetadataCaches, ImageStorage, Cache, value_at, Steps, Unit₀, Flushes, FlushesEntry, FlushesAll, storage_of, rb_at, rb_steps}
 use Rattle.qcow2_alloc.proofs.KeptTables.Flushing.{all_of}
 
 module _ {S V E : Type 0} (steps : Steps S ℕ V E) (bytes : V → List ℕ) (keeps : (s t : S) (k : ℕ) (v w : V) → steps.flushed s k v w t → bytes w ≡ bytes v) (test : ℕ → Bool) where

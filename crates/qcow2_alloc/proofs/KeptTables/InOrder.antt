@@ -1,32 +1,5 @@
 -- Calls of the caches write tables in the order of the direction.
-use Rattle.std.proofs.Common.{◌≡◌, inl, inr, ℕ, Bool, true, false, eqb, List, [], Option, Some, Result, Ok, Err, IsSome, refl, subst}
-use Rattle.std.specs.Option.{IfSome, IsNone}
-use Rattle.std.specs.Map.{lookup, lookup_entry, remove_entry}
-use Rattle.lru.specs.LruCache.{promoted}
-use Rattle.image_access.specs.Moments.{StorageView}
-use Rattle.image_access.proofs.EachMomentSince.{passes_none, passes_on, passes_if}
-use Rattle.qcow2_metadata.specs.Bytes.{Bytes, byte_at}
-use Rattle.qcow2_metadata.specs.declared.header.HeaderFields.{HeaderFields}
-use Rattle.qcow2_metadata.specs.declared.error.MetadataError.{MetadataError}
-use Rattle.qcow2_metadata.specs.Header.{cluster_size}
-use Rattle.qcow2_metadata.specs.L2Table.{L2TableView}
-use Rattle.qcow2_metadata.specs.RefBlock.{RefBlockView}
-use Rattle.qcow2_metadata.specs.Tables.{CachedTable}
-use Rattle.qcow2_laws.specs.Clusters.{Direction}
-use Rattle.qcow2_laws.specs.CrashInvariant.{IsMixed}
-use Rattle.qcow2_laws.specs.Caches.{known_bytes, BlocksMayGo, TablesMayGo, HasL2, HasBlock}
-use Rattle.qcow2_alloc.specs.declared.async_lru_cache.slot.Slot.{Slot}
-use Rattle.qcow2_alloc.specs.declared.async_lru_cache.error.CacheError.{CacheError}
-use Rattle.qcow2_alloc.specs.declared.cache.backends.L2CacheBackend.{L2CacheBackend}
-use Rattle.qcow2_alloc.specs.declared.cache.backends.RefBlockCacheBackend.{RefBlockCacheBackend}
-use Rattle.qcow2_alloc.specs.declared.cache.MetadataCaches.{MetadataCaches}
-use Rattle.qcow2_alloc.specs.declared.image_storage.ImageStorage.{ImageStorage}
-use Rattle.qcow2_alloc.specs.AsyncLruCache.{Cache}
-use Rattle.qcow2_alloc.specs.CacheAnswers.{Unit₀, Flushes, GetsNew, InsertsNew, Replaces}
-use Rattle.qcow2_alloc.specs.ImageStorage.{storage_of}
-use Rattle.qcow2_alloc.specs.TableCaches.{l2_steps, rb_steps, cleared_l2, cleared_rb, IsTableOf, IsBlockOf}
-use Rattle.qcow2_alloc.specs.KeptTables.{IsInOrderSince}
-use Rattle.qcow2_alloc.specs.MetadataCaches.{order_of, l2_tables, refblocks, known_of, KeepSound, WritesInOrder}
+use Rattle.qcow2_alloc.proofs.Common.{◌≡◌, inl, inr, ℕ, Bool, true, false, eqb, List, [], Option, Some, Result, Ok, Err, IsSome, refl, subst, IfSome, IsNone, lookup, lookup_entry, remove_entry, promoted, StorageView, passes_none, passes_on, passes_if, Bytes, byte_at, HeaderFields, MetadataError, cluster_size, L2TableView, RefBlockView, CachedTable, Direction, IsMixed, known_bytes, BlocksMayGo, TablesMayGo, HasL2, HasBlock, Slot, CacheError, L2CacheBackend, RefBlockCacheBackend, MetadataCaches, ImageStorage, Cache, Unit₀, Flushes, GetsNew, InsertsNew, Replaces, storage_of, l2_steps, rb_steps, cleared_l2, cleared_rb, IsTableOf, IsBlockOf, IsInOrderSince, order_of, l2_tables, refblocks, known_of, KeepSound, WritesInOrder}
 use Rattle.qcow2_alloc.proofs.KeptTables.Writing.{crash_safety, Flushed, Puts, flushed_all}
 use Rattle.qcow2_alloc.proofs.KeptTables.Flushing.{all_of}
 use Rattle.qcow2_alloc.proofs.KeptTables.Fetching.{none_or_some, is_none}

@@ -1,26 +1,5 @@
 -- A modified table is inserted into the caches: it is overlaid on the known contents.
-use Rattle.std.proofs.Common.{◌≡◌, ◌≢◌, ◌⊎◌, inl, inr, ℕ, ◌-◌, ◌/◌, ◌%◌, ◌≤◌, max, true, false, cond, List, [], ◌∷◌, refl, sym, ap, ◌∙◌, subst, arith}
-use Rattle.std.proofs.lemmas.Bool.{cases_Bool, cases_eq, cond-true}
-use mathlib.Core.Path.{fun_ext}
-use Rattle.qcow2_metadata.specs.Bytes.{Bytes}
-use Rattle.qcow2_metadata.specs.declared.header.HeaderFields.{HeaderFields}
-use Rattle.qcow2_metadata.specs.declared.l2_mapping.L2Mapping.{L2Mapping}
-use Rattle.qcow2_metadata.specs.Header.{cluster_size, entries_per_cluster}
-use Rattle.qcow2_metadata.specs.Entries.{host_offset}
-use Rattle.qcow2_metadata.specs.Named.{named_by_l1_table, named_by_reftable}
-use Rattle.qcow2_laws.specs.Guests.{named_by_guest}
-use Rattle.qcow2_metadata.specs.Tables.{CachedTable, known, overlays}
-use Rattle.qcow2_laws.specs.Clusters.{Direction}
-use Rattle.qcow2_laws.specs.CrashInvariant.{Pending, CrashInvariant, SameCovers, SameIn}
-use Rattle.qcow2_laws.specs.Guests.{names, table_at}
-use Rattle.qcow2_laws.specs.Writes.{IsUnnamed}
-use Rattle.qcow2_laws.specs.Caches.{known_bytes, IsFreeAt, AreNamedBlocks, HasL2, HasOwnL2, HasBlock}
-use Rattle.qcow2_laws.proofs.Blocks.{table_once}
-use Rattle.qcow2_laws.proofs.Guests.{over_guests-same}
-use Rattle.qcow2_laws.proofs.Lists.{known-at, known-none, known_elsewhere, no_overlay, overlays_within, within_cluster, differs}
-use Rattle.qcow2_laws.proofs.Shares.{shares, table_has, block_has, cover_stays}
-use Rattle.qcow2_laws.proofs.Tops.{IsTop-top}
-use Rattle.qcow2_alloc.specs.KeptTables.{AreElsewhere, AreKept}
+use Rattle.qcow2_alloc.proofs.Common.{◌≡◌, ◌≢◌, ◌⊎◌, inl, inr, ℕ, ◌-◌, ◌/◌, ◌%◌, ◌≤◌, max, true, false, cond, List, [], ◌∷◌, refl, sym, ap, ◌∙◌, subst, arith, cases_Bool, cases_eq, cond-true, fun_ext, Bytes, HeaderFields, L2Mapping, cluster_size, entries_per_cluster, host_offset, named_by_l1_table, named_by_reftable, named_by_guest, CachedTable, known, overlays, Direction, Pending, CrashInvariant, SameCovers, SameIn, names, table_at, IsUnnamed, known_bytes, IsFreeAt, AreNamedBlocks, HasL2, HasOwnL2, HasBlock, table_once, over_guests-same, known-at, known-none, known_elsewhere, no_overlay, overlays_within, within_cluster, differs, shares, table_has, block_has, cover_stays, IsTop-top, AreElsewhere, AreKept}
 use Rattle.qcow2_alloc.proofs.KeptTables.Listing.{free_elsewhere}
 
 -- ---- what is known

@@ -1,19 +1,5 @@
 -- The lists of cached tables change, and the known contents don't: an unmodified table is inserted, evicted or moved to the front.
-use Rattle.std.proofs.Common.{◌≡◌, ◌⊎◌, ℕ, ◌+◌, ◌%◌, ◌/◌, ◌<◌, ◌≤◌, arith, true, false, inl, inr, List, [], ◌∷◌, ◌++◌, sym, ap, ◌∙◌, subst}
-use Rattle.qcow2_metadata.specs.Bytes.{Bytes}
-use Rattle.qcow2_metadata.specs.declared.header.HeaderFields.{HeaderFields}
-use Rattle.qcow2_metadata.specs.Header.{cluster_size}
-use Rattle.qcow2_metadata.specs.Named.{named_by_reftable, named_by_l1_table}
-use Rattle.qcow2_metadata.specs.Tables.{CachedTable, known, overlays}
-use Rattle.qcow2_laws.specs.Clusters.{Direction}
-use Rattle.qcow2_laws.specs.CrashInvariant.{Pending, CrashInvariant}
-use Rattle.qcow2_laws.specs.Writes.{IsUnnamed}
-use Rattle.qcow2_laws.specs.Caches.{known_bytes, IsFreeAt, AreApart, HasL2, HasBlock, CacheInvariantOver}
-use Rattle.qcow2_laws.proofs.Lists.{known_unmodified, known_promoted, unmodified_over, overlays_within, within_cluster, no_overlay, differs}
-use Rattle.qcow2_laws.proofs.Shares.{table_has, block_has}
-use Rattle.qcow2_laws.proofs.Caches.{rbs_free, l2s_free}
-use Rattle.qcow2_laws.proofs.KeptSteps.{known_is_on_storage}
-use Rattle.qcow2_alloc.specs.KeptTables.{AreElsewhere, IsCurrent, AreLoaded, AreKept}
+use Rattle.qcow2_alloc.proofs.Common.{◌≡◌, ◌⊎◌, ℕ, ◌+◌, ◌%◌, ◌/◌, ◌<◌, ◌≤◌, arith, true, false, inl, inr, List, [], ◌∷◌, ◌++◌, sym, ap, ◌∙◌, subst, Bytes, HeaderFields, cluster_size, named_by_reftable, named_by_l1_table, CachedTable, known, overlays, Direction, Pending, CrashInvariant, IsUnnamed, known_bytes, IsFreeAt, AreApart, HasL2, HasBlock, CacheInvariantOver, known_unmodified, known_promoted, unmodified_over, overlays_within, within_cluster, no_overlay, differs, table_has, block_has, rbs_free, l2s_free, known_is_on_storage, AreElsewhere, IsCurrent, AreLoaded, AreKept}
 use Rattle.qcow2_alloc.proofs.KeptTables.Loaded.{one_place, in_own_cluster, loaded_without, loaded_promoted}
 use Rattle.qcow2_alloc.proofs.KeptTables.Entries.{AreDistinct}
 

@@ -1,13 +1,5 @@
 -- What the caches hold after one of their tables was written.
-use Rattle.std.proofs.Common.{◌≡◌, ◌≢◌, ℕ, ◌+◌, ◌-◌, ◌*◌, ◌/◌, ◌%◌, ◌<◌, true, false, ◌&&◌, inl, inr, List, [], ◌∷◌, ◌++◌, sym, ap, ◌∙◌, subst, arith}
-use Rattle.std.proofs.lemmas.Bool.{cases_Bool}
-use Rattle.std.proofs.lemmas.Nat.{div-add-mod', div-mul-add}
-use Rattle.qcow2_metadata.specs.Bytes.{Bytes, is_within}
-use Rattle.qcow2_metadata.specs.Tables.{CachedTable, overlays}
-use Rattle.qcow2_laws.specs.CrashInvariant.{SameIn}
-use Rattle.qcow2_laws.specs.Caches.{IsFreeAt, IsFreeOf, IsWrittenSo}
-use Rattle.qcow2_laws.proofs.Lists.{known_there, known-none, unmodified_over, overlays_within, within_cluster, cluster_within, no_overlay}
-use Rattle.qcow2_alloc.specs.KeptTables.{AreElsewhere, IsCurrent, AreLoaded}
+use Rattle.qcow2_alloc.proofs.Common.{◌≡◌, ◌≢◌, ℕ, ◌+◌, ◌-◌, ◌*◌, ◌/◌, ◌%◌, ◌<◌, true, false, ◌&&◌, inl, inr, List, [], ◌∷◌, ◌++◌, sym, ap, ◌∙◌, subst, arith, cases_Bool, div-add-mod', div-mul-add, Bytes, is_within, CachedTable, overlays, SameIn, IsFreeAt, IsFreeOf, IsWrittenSo, known_there, known-none, unmodified_over, overlays_within, within_cluster, cluster_within, no_overlay, AreElsewhere, IsCurrent, AreLoaded}
 
 -- ---- places
 

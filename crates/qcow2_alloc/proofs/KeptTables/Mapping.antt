@@ -1,31 +1,6 @@
 -- One entry of a cached L2 table changes.
-use Rattle.std.proofs.Common.{◌≡◌, ℕ, ◌+◌, ◌*◌, ◌/◌, ◌%◌, ◌^◌, ◌<◌, ◌≤◌, true, eqb, List, [], ◌∷◌, ◌++◌, Option, Some, None, IfSome, refl, sym, ap, ◌∙◌, subst, arith}
-use Rattle.qcow2_metadata.specs.Bytes.{Bytes, byte_at}
-use Rattle.qcow2_metadata.specs.declared.header.HeaderFields.{HeaderFields}
-use Rattle.qcow2_metadata.specs.Header.{cluster_size, entries_per_cluster}
-use Rattle.qcow2_metadata.specs.Entries.{l1_entry, l2_entry, host_offset, is_copied}
+use Rattle.qcow2_alloc.proofs.Common.{◌≡◌, ℕ, ◌+◌, ◌*◌, ◌/◌, ◌%◌, ◌^◌, ◌<◌, ◌≤◌, true, eqb, List, [], ◌∷◌, ◌++◌, Option, Some, None, IfSome, refl, sym, ap, ◌∙◌, subst, arith, Bytes, byte_at, HeaderFields, cluster_size, entries_per_cluster, l1_entry, l2_entry, host_offset, is_copied, named_by_l1_table, old_data_run, L2TableView, cover_at, entries_of, entry_at, ChangesEntry, CachedTable, known, number_at-moved, table_at, Pending, CrashInvariant, IsSameOutside, known_bytes, HasL2, HasOwnL2, AreNamedBlocks, Sizes, known-at, known-none, changed_outside, table_has, kept_sizes, rbs_free, l2_table_changed, Slot, MetadataCaches, slot_of, value_at, set_at, with_entries, IsTableOf, cached_table, cached_tables, AreKept, AreLoaded, AllValuesFit, order_of, l2_tables, refblocks, known_of, CacheInvariant, IsEntryAt, MadeEntry, ShowsEntry, ShowsKnown}
 use Rattle.qcow2_metadata.specs.Cover.{entry_cover}
-use Rattle.qcow2_metadata.specs.Named.{named_by_l1_table}
-use Rattle.qcow2_metadata.specs.L2Mapping.{old_data_run}
-use Rattle.qcow2_metadata.specs.L2Table.{L2TableView, cover_at, entries_of}
-use Rattle.qcow2_metadata.specs.TableBytes.{entry_at, ChangesEntry}
-use Rattle.qcow2_metadata.specs.Tables.{CachedTable, known}
-use Rattle.qcow2_metadata.proofs.TableEntries.{number_at-moved}
-use Rattle.qcow2_laws.specs.Guests.{table_at}
-use Rattle.qcow2_laws.specs.CrashInvariant.{Pending, CrashInvariant}
-use Rattle.qcow2_laws.specs.Tops.{IsSameOutside}
-use Rattle.qcow2_laws.specs.Caches.{known_bytes, HasL2, HasOwnL2, AreNamedBlocks}
-use Rattle.qcow2_laws.proofs.Places.{Sizes}
-use Rattle.qcow2_laws.proofs.Lists.{known-at, known-none, changed_outside}
-use Rattle.qcow2_laws.proofs.Shares.{table_has}
-use Rattle.qcow2_laws.proofs.Caches.{kept_sizes, rbs_free}
-use Rattle.qcow2_laws.proofs.KeptSteps.{l2_table_changed}
-use Rattle.qcow2_alloc.specs.declared.async_lru_cache.slot.Slot.{Slot}
-use Rattle.qcow2_alloc.specs.declared.cache.MetadataCaches.{MetadataCaches}
-use Rattle.qcow2_alloc.specs.AsyncLruCache.{slot_of, value_at, set_at, with_entries}
-use Rattle.qcow2_alloc.specs.TableCaches.{IsTableOf}
-use Rattle.qcow2_alloc.specs.KeptTables.{cached_table, cached_tables, AreKept, AreLoaded, AllValuesFit}
-use Rattle.qcow2_alloc.specs.MetadataCaches.{order_of, l2_tables, refblocks, known_of, CacheInvariant, IsEntryAt, MadeEntry, ShowsEntry, ShowsKnown}
 use Rattle.qcow2_alloc.proofs.KeptTables.Entries.{tables_at}
 use Rattle.qcow2_alloc.proofs.KeptTables.Loaded.{in_own_cluster}
 use Rattle.qcow2_alloc.proofs.KeptTables.Changing.{Held, new_data, loaded_apart, loaded_changed, list_knows, fit_set, fit_new_data}

@@ -1,19 +1,5 @@
 -- A cached table gets its reference: the invariant of the caches holds over the new bytes.
-use Rattle.std.proofs.Common.{◌≡◌, ◌≢◌, ◌⊎◌, inl, inr, ℕ, ◌+◌, ◌*◌, ◌/◌, ◌%◌, ◌^◌, ◌<◌, Bool, eqb, List, [], ◌∷◌, ◌++◌, Option, Some, None, refl, sym, ap, ◌∙◌, subst}
-use Rattle.std.specs.Map.{lookup}
-use Rattle.std.specs.Option.{option_map}
-use Rattle.qcow2_metadata.specs.Bytes.{Bytes, byte_at}
-use Rattle.qcow2_metadata.specs.declared.header.HeaderFields.{HeaderFields}
-use Rattle.qcow2_metadata.specs.Header.{cluster_size}
-use Rattle.qcow2_metadata.specs.Tables.{CachedTable}
-use Rattle.qcow2_laws.specs.CrashInvariant.{Pending, CrashInvariant, SameIn}
-use Rattle.qcow2_laws.specs.Caches.{HasL2, HasOwnL2, HasBlock, AreNamedBlocks}
-use Rattle.qcow2_laws.proofs.KeptSteps.{kept_beside}
-use Rattle.qcow2_alloc.specs.declared.async_lru_cache.slot.Slot.{Slot}
-use Rattle.qcow2_alloc.specs.declared.cache.MetadataCaches.{MetadataCaches}
-use Rattle.qcow2_alloc.specs.AsyncLruCache.{slot_of, value_at}
-use Rattle.qcow2_alloc.specs.KeptTables.{cached_table, cached_tables, AreElsewhere, IsCurrent, AreLoaded}
-use Rattle.qcow2_alloc.specs.MetadataCaches.{order_of, l2_tables, refblocks, known_of, CacheInvariant}
+use Rattle.qcow2_alloc.proofs.Common.{◌≡◌, ◌≢◌, ◌⊎◌, inl, inr, ℕ, ◌+◌, ◌*◌, ◌/◌, ◌%◌, ◌^◌, ◌<◌, Bool, eqb, List, [], ◌∷◌, ◌++◌, Option, Some, None, refl, sym, ap, ◌∙◌, subst, lookup, option_map, Bytes, byte_at, HeaderFields, cluster_size, CachedTable, Pending, CrashInvariant, SameIn, HasL2, HasOwnL2, HasBlock, AreNamedBlocks, kept_beside, Slot, MetadataCaches, slot_of, value_at, cached_table, cached_tables, AreElsewhere, IsCurrent, AreLoaded, order_of, l2_tables, refblocks, known_of, CacheInvariant}
 use Rattle.qcow2_alloc.proofs.KeptTables.Changing.{new_data}
 use Rattle.qcow2_alloc.proofs.KeptTables.Entries.{tables_at, elsewhere_of_none}
 use Rattle.qcow2_alloc.proofs.KeptTables.Getting.{cluster_aligned}

@@ -1,11 +1,5 @@
 -- A cached value is replaced by another one.
-use Rattle.std.proofs.Common.{◌≡◌, ℕ, false, cond, eqb, List, Option, Some, None, refl, ap, ◌∙◌}
-use Rattle.std.specs.Cmp.{nat_eq_equiv}
-use Rattle.std.specs.Option.{option_map, option_map_or}
-use Rattle.std.specs.Map.{lookup, set_value}
-use Rattle.qcow2_alloc.specs.declared.async_lru_cache.slot.Slot.{Slot}
-use Rattle.qcow2_alloc.specs.AsyncLruCache.{slot_of, value_at, set_at}
-use Rattle.qcow2_alloc.specs.TableChanges.{ChangesHeld}
+use Rattle.qcow2_alloc.proofs.Common.{◌≡◌, ℕ, false, cond, eqb, List, Option, Some, None, refl, ap, ◌∙◌, nat_eq_equiv, option_map, option_map_or, lookup, set_value, Slot, slot_of, value_at, set_at, ChangesHeld}
 use Rattle.qcow2_alloc.proofs.CachePins.{set_found}
 
 module _ {V : Type 0} (key : ℕ) (es : List (ℕ × Slot V)) (w : V) where

@@ -1,16 +1,5 @@
 -- Tables are written in an order that the direction allows.
-use Rattle.std.proofs.Common.{◌≡◌, inl, inr, ℕ, ◌%◌, ◌^◌, ◌++◌, false, List, ◌∷◌, refl, sym, ◌∙◌, subst}
-use Rattle.qcow2_metadata.specs.Bytes.{Bytes}
-use Rattle.qcow2_metadata.specs.declared.header.HeaderFields.{HeaderFields}
-use Rattle.qcow2_metadata.specs.Header.{cluster_size}
-use Rattle.qcow2_metadata.specs.Tables.{CachedTable}
-use Rattle.qcow2_laws.specs.Clusters.{Direction, Neither, L2DependsOnRb, RbDependsOnL2}
-use Rattle.qcow2_laws.specs.CrashInvariant.{Pending, CrashInvariant, IsInOrder, IsMixed, SameCovers, SameCounts}
-use Rattle.qcow2_laws.specs.Caches.{known_bytes, BlocksMayGo, TablesMayGo, IsWrittenSo, IsSafeBetween}
-use Rattle.qcow2_laws.proofs.Caches.{rb_mixed, l2_mixed}
-use Rattle.qcow2_laws.proofs.Mixes.{top_kept, either_cover, either_count}
-use Rattle.qcow2_laws.proofs.Tops.{IsTop-top, SameTop-sym, SameTop-trans}
-use Rattle.qcow2_alloc.specs.KeptTables.{AreElsewhere, AreKept}
+use Rattle.qcow2_alloc.proofs.Common.{◌≡◌, inl, inr, ℕ, ◌%◌, ◌^◌, ◌++◌, false, List, ◌∷◌, refl, sym, ◌∙◌, subst, Bytes, HeaderFields, cluster_size, CachedTable, Direction, Neither, L2DependsOnRb, RbDependsOnL2, Pending, CrashInvariant, IsInOrder, IsMixed, SameCovers, SameCounts, known_bytes, BlocksMayGo, TablesMayGo, IsWrittenSo, IsSafeBetween, rb_mixed, l2_mixed, top_kept, either_cover, either_count, IsTop-top, SameTop-sym, SameTop-trans, AreElsewhere, AreKept}
 use Rattle.qcow2_alloc.proofs.KeptTables.Flushing.{l2_step, rb_step}
 use Rattle.qcow2_alloc.proofs.KeptTables.Getting.{HoldsWhatStands}
 use Rattle.qcow2_alloc.proofs.KeptTables.Listing.{l2_drop, l2_add, l2_promote, rb_drop, rb_add, rb_promote}

@@ -1,23 +1,5 @@
 -- The clusters of modified refblocks have places, also those of new ones.
-use Rattle.std.proofs.Common.{◌≡◌, ◌≢◌, ◌⊎◌, inl, inr, ℕ, ◌+◌, ◌*◌, ◌^◌, ◌<◌, ◌≤◌, ◌==◌, Bool, true, false, eqb, List, [], ◌∷◌, Option, Some, None, IsSome, refl, sym, ap, ◌∙◌, subst}
-use Rattle.std.specs.Map.{lookup}
-use Rattle.std.specs.Option.{IfSome, option_map}
-use Rattle.std.proofs.lemmas.Bool.{cases_eq, eq-eqb, ne_eqb}
-use Rattle.qcow2_metadata.specs.Bytes.{Bytes}
-use Rattle.qcow2_metadata.specs.declared.header.HeaderFields.{HeaderFields}
-use Rattle.qcow2_metadata.specs.Header.{cluster_size}
-use Rattle.qcow2_metadata.specs.RefBlock.{RefBlockView}
-use Rattle.qcow2_metadata.specs.TableBytes.{HasPlace}
-use Rattle.qcow2_laws.specs.CrashInvariant.{Pending}
-use Rattle.qcow2_laws.specs.Caches.{HasBlock, AreNamedBlocks}
-use Rattle.qcow2_alloc.specs.declared.async_lru_cache.slot.Slot.{Slot}
-use Rattle.qcow2_alloc.specs.declared.cache.backends.RefBlockCacheBackend.{RefBlockCacheBackend}
-use Rattle.qcow2_alloc.specs.declared.cache.MetadataCaches.{MetadataCaches}
-use Rattle.qcow2_alloc.specs.AsyncLruCache.{Cache, value_at}
-use Rattle.qcow2_alloc.specs.KeptTables.{cached_table, cached_tables, AllValuesFit, AreElsewhere, AreLoaded}
-use Rattle.qcow2_alloc.specs.MetadataCaches.{refblocks, rb_at, HavePlaces, CacheInvariant}
-use Rattle.qcow2_alloc.specs.Quiet.{OthersStayHeld}
-use Rattle.qcow2_alloc.specs.TableCaches.{IsBlockOf}
+use Rattle.qcow2_alloc.proofs.Common.{◌≡◌, ◌≢◌, ◌⊎◌, inl, inr, ℕ, ◌+◌, ◌*◌, ◌^◌, ◌<◌, ◌≤◌, ◌==◌, Bool, true, false, eqb, List, [], ◌∷◌, Option, Some, None, IsSome, refl, sym, ap, ◌∙◌, subst, lookup, IfSome, option_map, cases_eq, eq-eqb, ne_eqb, Bytes, HeaderFields, cluster_size, RefBlockView, HasPlace, Pending, HasBlock, AreNamedBlocks, Slot, RefBlockCacheBackend, MetadataCaches, Cache, value_at, cached_table, cached_tables, AllValuesFit, AreElsewhere, AreLoaded, refblocks, rb_at, HavePlaces, CacheInvariant, OthersStayHeld, IsBlockOf}
 use Rattle.qcow2_alloc.proofs.KeptTables.BlocksNamed.{blocks_stand, block_place}
 use Rattle.qcow2_alloc.proofs.KeptTables.Standing.{AreStanding}
 

@@ -1,33 +1,5 @@
 -- A modified refblock is inserted into the caches, or nothing is.
-use Rattle.std.proofs.Common.{◌≡◌, ◌⊎◌, ℕ, ◌*◌, ◌/◌, ◌%◌, ◌^◌, Bool, true, false, eqb, List, [], ◌∷◌, Option, Some, Result, Ok, refl, sym, ap, ◌∙◌, subst}
-use Rattle.std.proofs.Math.Nat.{mul-mod_left}
-use Rattle.std.specs.Option.{IfSome, IsNone}
-use Rattle.std.specs.Map.{lookup, lookup_entry, remove_entry}
-use Rattle.lru.proofs.CallerLemmas.{Contains-lookup_entry}
-use Rattle.image_access.specs.Moments.{StorageView}
-use Rattle.qcow2_metadata.specs.Bytes.{Bytes, byte_at}
-use Rattle.qcow2_metadata.specs.declared.header.HeaderFields.{HeaderFields}
-use Rattle.qcow2_metadata.specs.declared.error.MetadataError.{MetadataError}
-use Rattle.qcow2_metadata.specs.Header.{cluster_size}
-use Rattle.qcow2_metadata.specs.RefBlock.{RefBlockView}
-use Rattle.qcow2_metadata.specs.Tables.{CachedTable, known}
-use Rattle.qcow2_laws.specs.CrashInvariant.{Pending, CrashInvariant}
-use Rattle.qcow2_laws.specs.Writes.{IsUnnamed}
-use Rattle.qcow2_laws.specs.Caches.{known_bytes, BlocksMayGo, IsFreeOf, AreNamedBlocks, HasBlock}
-use Rattle.qcow2_laws.proofs.Tops.{SameTop-sym}
-use Rattle.qcow2_laws.proofs.Lists.{overlays_within, within_cluster}
-use Rattle.qcow2_alloc.specs.declared.async_lru_cache.slot.Slot.{Slot}
-use Rattle.qcow2_alloc.specs.declared.async_lru_cache.error.CacheError.{CacheError}
-use Rattle.qcow2_alloc.specs.declared.cache.backends.RefBlockCacheBackend.{RefBlockCacheBackend}
-use Rattle.qcow2_alloc.specs.declared.cache.MetadataCaches.{MetadataCaches}
-use Rattle.qcow2_alloc.specs.declared.image_storage.ImageStorage.{ImageStorage}
-use Rattle.qcow2_alloc.specs.AsyncLruCache.{Cache, slot_of, with_entries}
-use Rattle.qcow2_alloc.specs.CacheAnswers.{InsertsNew, Replaces}
-use Rattle.qcow2_alloc.specs.ImageStorage.{storage_of}
-use Rattle.qcow2_alloc.specs.TableLaws.{same_number}
-use Rattle.qcow2_alloc.specs.TableCaches.{rb_steps, cleared_rb, IsBlockOf}
-use Rattle.qcow2_alloc.specs.KeptTables.{cached_table, cached_tables, AllValuesFit, AreElsewhere, AreKept}
-use Rattle.qcow2_alloc.specs.MetadataCaches.{laid_at, order_of, l2_tables, refblocks, CacheInvariant, InternalCacheStep, Overlay}
+use Rattle.qcow2_alloc.proofs.Common.{◌≡◌, ◌⊎◌, ℕ, ◌*◌, ◌/◌, ◌%◌, ◌^◌, Bool, true, false, eqb, List, [], ◌∷◌, Option, Some, Result, Ok, refl, sym, ap, ◌∙◌, subst, mul-mod_left, IfSome, IsNone, lookup, lookup_entry, remove_entry, Contains-lookup_entry, StorageView, Bytes, byte_at, HeaderFields, MetadataError, cluster_size, RefBlockView, CachedTable, known, Pending, CrashInvariant, IsUnnamed, known_bytes, BlocksMayGo, IsFreeOf, AreNamedBlocks, HasBlock, SameTop-sym, overlays_within, within_cluster, Slot, CacheError, RefBlockCacheBackend, MetadataCaches, ImageStorage, Cache, slot_of, with_entries, InsertsNew, Replaces, storage_of, same_number, rb_steps, cleared_rb, IsBlockOf, cached_table, cached_tables, AllValuesFit, AreElsewhere, AreKept, laid_at, order_of, l2_tables, refblocks, CacheInvariant, InternalCacheStep, Overlay}
 use Rattle.qcow2_alloc.proofs.KeptTables.BlocksNamed.{top_still, named_blocks_anew, blocks_stand, block_place}
 use Rattle.qcow2_alloc.proofs.KeptTables.Standing.{IsStanding, AreStanding, own_cluster, insert_stands, replace_stands}
 use Rattle.qcow2_alloc.proofs.KeptTables.Writing.{crash_safety, block_named, Ready, Puts, nothing_new, made_ready}

@@ -1,27 +1,5 @@
 -- The modified tables of a cache lie where the image has tables, whatever is flushed, loaded or inserted. So flushes and loads are refused only by the storage or because memory runs out.
-use Rattle.std.proofs.Common.{◌≡◌, ◌⊎◌, inl, inr, ℕ, ◌+◌, ◌*◌, ◌/◌, ◌^◌, ◌≤◌, Bool, true, false, ◌&&◌, eqb, List, [], ◌∷◌, ◌++◌, length, Option, Some, None, Result, Ok, Err, IfErr, refl, sym, ap, ◌∙◌, subst, arith}
-use Rattle.std.proofs.lemmas.Bool.{cases_Bool, cases_eq}
-use Rattle.std.specs.Option.{option_or, IfSome}
-use Rattle.std.specs.Map.{lookup_entry, remove_entry}
-use Rattle.std.proofs.lemmas.Nat.{div-mul-add, pow_pos}
-use Rattle.lru.specs.LruCache.{promoted}
-use Rattle.lru.proofs.CallerLemmas.{Contains-lookup_entry}
-use Rattle.image_access.specs.Moments.{StorageView}
-use Rattle.qcow2_metadata.specs.Bytes.{is_within}
-use Rattle.qcow2_metadata.specs.declared.error.MetadataError.{MetadataError}
-use Rattle.qcow2_metadata.specs.TableBytes.{HasPlace, IsOfStorageOrMemory}
-use Rattle.qcow2_metadata.specs.Tables.{CachedTable, overlays}
-use Rattle.qcow2_laws.specs.Caches.{IsFreeOf}
-use Rattle.qcow2_laws.proofs.Lists.{overlays_within, within_cluster, cluster_within, no_overlay, unmodified_over, differs}
-use Rattle.qcow2_alloc.specs.declared.async_lru_cache.slot.Slot.{Slot}
-use Rattle.qcow2_alloc.specs.declared.async_lru_cache.error.CacheError.{CacheError}
-use Rattle.qcow2_alloc.specs.declared.async_lru_cache.error.CacheError.TheVariants.{InUse, StillInUse, Memory, Backend}
-use Rattle.qcow2_alloc.specs.AsyncLruCache.{slot_of, oldest_free}
-use Rattle.qcow2_alloc.specs.AsyncLruCacheBackend.{Steps}
-use Rattle.qcow2_alloc.specs.TableSteps.{table_steps}
-use Rattle.qcow2_alloc.specs.CacheAnswers.{Unit₀, FlushesEntry, FlushesAll, Flushes, HasNoRoom, GetsNew, InsertsNew, Replaces}
-use Rattle.qcow2_alloc.specs.KeptTables.{cached_table, cached_tables, AllValuesFit}
-use Rattle.qcow2_alloc.specs.TableLaws.{same_number}
+use Rattle.qcow2_alloc.proofs.Common.{◌≡◌, ◌⊎◌, inl, inr, ℕ, ◌+◌, ◌*◌, ◌/◌, ◌^◌, ◌≤◌, Bool, true, false, ◌&&◌, eqb, List, [], ◌∷◌, ◌++◌, length, Option, Some, None, Result, Ok, Err, IfErr, refl, sym, ap, ◌∙◌, subst, arith, cases_Bool, cases_eq, option_or, IfSome, lookup_entry, remove_entry, div-mul-add, pow_pos, promoted, Contains-lookup_entry, StorageView, is_within, MetadataError, HasPlace, IsOfStorageOrMemory, CachedTable, overlays, IsFreeOf, overlays_within, within_cluster, cluster_within, no_overlay, unmodified_over, differs, Slot, CacheError, InUse, StillInUse, Memory, Backend, slot_of, oldest_free, Steps, table_steps, Unit₀, FlushesEntry, FlushesAll, Flushes, HasNoRoom, GetsNew, InsertsNew, Replaces, cached_table, cached_tables, AllValuesFit, same_number}
 use Rattle.qcow2_alloc.proofs.KeptTables.Entries.{split_oldest}
 use Rattle.qcow2_alloc.proofs.KeptTables.Getting.{cluster_aligned}
 use Rattle.qcow2_alloc.proofs.CachedEntries.Each.{IsOfEach, each_flushed, each_found, each_got, each_inserted, each_promoted, each_replaced}

@@ -1,20 +1,6 @@
 -- Calls of the caches one after another, and changes of the order of writes.
-use Rattle.std.proofs.Common.{◌≡◌, ◌⊎◌, inl, inr, List, ℕ, Result, Ok, Err, OnOk, refl, sym, ◌∙◌, subst}
-use Rattle.image_access.specs.Moments.{StorageView, EachMomentSince, IsLeftBy}
-use Rattle.image_access.proofs.EachMomentSince.{passes_none, passes_on, passes_if}
-use Rattle.qcow2_metadata.specs.Bytes.{Bytes, byte_at}
-use Rattle.qcow2_metadata.specs.declared.header.HeaderFields.{HeaderFields}
-use Rattle.qcow2_disk.specs.Stops.{StopOkEverywhere}
-use Rattle.qcow2_laws.specs.Clusters.{Direction, Neither, L2DependsOnRb, RbDependsOnL2}
-use Rattle.qcow2_laws.specs.CrashInvariant.{Pending, MayTurn}
-use Rattle.qcow2_laws.specs.Caches.{AreClean, BlocksMayGo, TablesMayGo, IsSafeBetween}
-use Rattle.qcow2_laws.proofs.Caches.{clean_covers, clean_counts, kept_turned}
+use Rattle.qcow2_alloc.proofs.Common.{◌≡◌, ◌⊎◌, inl, inr, List, ℕ, Result, Ok, Err, OnOk, refl, sym, ◌∙◌, subst, StorageView, EachMomentSince, IsLeftBy, passes_none, passes_on, passes_if, Bytes, byte_at, HeaderFields, StopOkEverywhere, Direction, Neither, L2DependsOnRb, RbDependsOnL2, Pending, MayTurn, AreClean, BlocksMayGo, TablesMayGo, IsSafeBetween, clean_covers, clean_counts, kept_turned, MetadataCaches, ImageStorage, storage_of, IsSafeSince, order, order_of, l2_tables, refblocks, known_of, AreAllWritten, CacheInvariant, InternalCacheStep, KeepSound}
 use Rattle.qcow2_alloc.specs.declared.cache.Direction.TheVariants as D
-use Rattle.qcow2_alloc.specs.declared.cache.MetadataCaches.{MetadataCaches}
-use Rattle.qcow2_alloc.specs.declared.image_storage.ImageStorage.{ImageStorage}
-use Rattle.qcow2_alloc.specs.ImageStorage.{storage_of}
-use Rattle.qcow2_alloc.specs.KeptTables.{IsSafeSince}
-use Rattle.qcow2_alloc.specs.MetadataCaches.{order, order_of, l2_tables, refblocks, known_of, AreAllWritten, CacheInvariant, InternalCacheStep, KeepSound}
 
 -- ---- moments: a word for each elementary step of the caches
 

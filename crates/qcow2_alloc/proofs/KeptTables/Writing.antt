@@ -1,35 +1,6 @@
 -- One cached table is written, or a whole cache is flushed: the invariant holds, the known contents stay the same, and a stop is as safe as before.
-use Rattle.std.proofs.Common.{◌≡◌, ℕ, ◌+◌, ◌-◌, ◌*◌, ◌/◌, ◌^◌, ◌<◌, ◌≤◌, ◌⊎◌, Bool, true, false, ◌&&◌, cond, inl, inr, List, [], ◌∷◌, ◌++◌, Option, Some, None, Result, Ok, Err, length, refl, sym, ap, ◌∙◌, subst, append_assoc, arith}
-use Rattle.std.proofs.lemmas.Bool.{cases_lt, and_from, le-leb, lt-ltb}
-use mathlib.Core.Path.{fun_ext}
-use Rattle.std.specs.Option.{option_or}
-use Rattle.image_access.specs.Contents.{overwritten}
-use Rattle.image_access.specs.Moments.{StorageView, EachMomentSince, IsLeftBy}
-use Rattle.image_access.proofs.Bytes.{byte_at-overwritten, byte_at-overwritten_outside}
-use Rattle.image_access.proofs.EachMomentSince.{passes_none, passes_on, passes_if}
-use Rattle.qcow2_metadata.specs.Bytes.{Bytes, byte_at, is_within}
-use Rattle.qcow2_metadata.specs.declared.header.HeaderFields.{HeaderFields}
-use Rattle.qcow2_metadata.specs.declared.error.MetadataError.{MetadataError}
-use Rattle.qcow2_metadata.specs.Header.{cluster_size}
-use Rattle.qcow2_metadata.specs.Entries.{host_offset, block_offset}
-use Rattle.qcow2_metadata.specs.Named.{named_by_reftable, named_by_l1_table}
-use Rattle.qcow2_metadata.specs.Tables.{CachedTable, known}
-use Rattle.qcow2_disk.specs.Stops.{StopOkEverywhere}
-use Rattle.qcow2_laws.specs.Clusters.{Direction}
-use Rattle.qcow2_laws.specs.CrashInvariant.{Pending, SameTop}
-use Rattle.qcow2_laws.specs.Caches.{known_bytes, AreClean, HasL2, HasBlock, CacheInvariantOver, BlocksMayGo, TablesMayGo, IsWrittenSo, IsSafeBetween, InternalTableWrite}
-use Rattle.qcow2_laws.proofs.Tops.{SameTop-sym, SameTop-trans}
-use Rattle.qcow2_laws.proofs.Shares.{table_has, block_has}
-use Rattle.qcow2_laws.proofs.Caches.{rbs_free, l2s_free}
-use Rattle.qcow2_laws.proofs.Lists.{differs}
+use Rattle.qcow2_alloc.proofs.Common.{◌≡◌, ℕ, ◌+◌, ◌-◌, ◌*◌, ◌/◌, ◌^◌, ◌<◌, ◌≤◌, ◌⊎◌, Bool, true, false, ◌&&◌, cond, inl, inr, List, [], ◌∷◌, ◌++◌, Option, Some, None, Result, Ok, Err, length, refl, sym, ap, ◌∙◌, subst, append_assoc, arith, cases_lt, and_from, le-leb, lt-ltb, fun_ext, option_or, overwritten, StorageView, EachMomentSince, IsLeftBy, byte_at-overwritten, byte_at-overwritten_outside, passes_none, passes_on, passes_if, Bytes, byte_at, is_within, HeaderFields, MetadataError, cluster_size, host_offset, block_offset, named_by_reftable, named_by_l1_table, CachedTable, known, StopOkEverywhere, Direction, Pending, SameTop, known_bytes, AreClean, HasL2, HasBlock, CacheInvariantOver, BlocksMayGo, TablesMayGo, IsWrittenSo, IsSafeBetween, InternalTableWrite, SameTop-sym, SameTop-trans, table_has, block_has, rbs_free, l2s_free, differs, table_is_written, Slot, CacheError, slot_of, FlushesTable, FailsToFlush, table_steps, FlushesEntry, FlushesAll, cached_table, cached_tables, AreElsewhere, AreKept, IsSafeSince}
 use Rattle.qcow2_disk.proofs.Within.{within_is}
-use Rattle.qcow2_laws.proofs.Steps.{table_is_written}
-use Rattle.qcow2_alloc.specs.declared.async_lru_cache.slot.Slot.{Slot}
-use Rattle.qcow2_alloc.specs.declared.async_lru_cache.error.CacheError.{CacheError}
-use Rattle.qcow2_alloc.specs.AsyncLruCache.{slot_of}
-use Rattle.qcow2_alloc.specs.TableSteps.{FlushesTable, FailsToFlush, table_steps}
-use Rattle.qcow2_alloc.specs.CacheAnswers.{FlushesEntry, FlushesAll}
-use Rattle.qcow2_alloc.specs.KeptTables.{cached_table, cached_tables, AreElsewhere, AreKept, IsSafeSince}
 use Rattle.qcow2_alloc.proofs.KeptTables.Loaded.{stays_free, loaded_written, loaded_beside}
 use Rattle.qcow2_alloc.proofs.KeptTables.Switching.{safe_none, safe_then}
 

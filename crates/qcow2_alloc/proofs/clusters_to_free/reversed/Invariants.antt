@@ -1,5 +1,4 @@
-use Rattle.std.proofs.Common.{◌≡◌, ◌++◌, reverse}
-use Rattle.qcow2_alloc.specs.ClustersToFree.{entries_at}
+use Rattle.qcow2_alloc.proofs.Common.{◌≡◌, ◌++◌, reverse, entries_at}
 use Rattle.qcow2_alloc.proofs.clusters_to_free.reversed.Given as goal
 
 abbrev pub invariant-loop-rest : goal.invariant-loop-rest

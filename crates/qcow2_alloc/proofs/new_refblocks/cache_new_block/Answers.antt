@@ -1,7 +1,4 @@
-use Rattle.std.proofs.Common.{◌∙◌, ◌^◌, ap}
-use Rattle.qcow2_alloc.specs.MetadataCaches.{rb_at}
-use Rattle.qcow2_alloc.specs.Quiet.{OthersStayHeld}
-use Rattle.qcow2_alloc.specs.Rooms.{CachesBlock}
+use Rattle.qcow2_alloc.proofs.Common.{◌∙◌, ◌^◌, ap, rb_at, OthersStayHeld, CachesBlock}
 use Rattle.qcow2_alloc.proofs.AllocationSteps.{handed_on}
 use Rattle.qcow2_alloc.proofs.KeptMarks.{marks_of_caches}
 use Rattle.qcow2_alloc.proofs.KeptTables.Places.{put_places}

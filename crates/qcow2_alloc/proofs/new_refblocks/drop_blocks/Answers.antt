@@ -1,11 +1,4 @@
-use Rattle.std.proofs.Common.{◌≡◌, ℕ, ◌+◌, ◌-◌, ◌<◌, ◌≤◌, None, refl, sym, ap, ◌∙◌, subst, arith}
-use Rattle.qcow2_metadata.specs.Bytes.{Bytes}
-use Rattle.qcow2_laws.specs.Writes.{IsUnnamed}
-use Rattle.qcow2_alloc.specs.declared.image_file.ImageFile.{ImageFile}
-use Rattle.qcow2_alloc.specs.Allocation.{run_at}
-use Rattle.qcow2_alloc.specs.ImageFile.{contents_in}
-use Rattle.qcow2_alloc.specs.MetadataCaches.{rb_at}
-use Rattle.qcow2_alloc.specs.Rooms.{room_length}
+use Rattle.qcow2_alloc.proofs.Common.{◌≡◌, ℕ, ◌+◌, ◌-◌, ◌<◌, ◌≤◌, None, refl, sym, ap, ◌∙◌, subst, arith, Bytes, IsUnnamed, ImageFile, run_at, contents_in, rb_at, room_length}
 use Rattle.qcow2_alloc.proofs.AllocationSteps.{allocator_step_none, allocator_step_then}
 use Rattle.qcow2_alloc.proofs.CachePins.{marks_then}
 use Rattle.qcow2_alloc.proofs.CacheSteps.{held_none}

@@ -1,12 +1,4 @@
-use Rattle.std.proofs.Common.{◌≡◌, ℕ, ◌+◌, ◌-◌, ◌<◌, None}
-use Rattle.qcow2_laws.specs.Caches.{AreClean}
-use Rattle.qcow2_laws.specs.CrashInvariant.{Pending}
-use Rattle.qcow2_alloc.specs.declared.allocation.Allocator.{Allocator}
-use Rattle.qcow2_alloc.specs.Allocation.{run_at, InternalAllocatorStep}
-use Rattle.qcow2_alloc.specs.CacheSteps.{HeldStep}
-use Rattle.qcow2_alloc.specs.ImageFile.{AllocatorInvariant}
-use Rattle.qcow2_alloc.specs.MetadataCaches.{l2_tables, refblocks, rb_at}
-use Rattle.qcow2_alloc.specs.Rooms.{room_length, AreFree}
+use Rattle.qcow2_alloc.proofs.Common.{◌≡◌, ℕ, ◌+◌, ◌-◌, ◌<◌, None, AreClean, Pending, Allocator, run_at, InternalAllocatorStep, HeldStep, AllocatorInvariant, l2_tables, refblocks, rb_at, room_length, AreFree}
 use Rattle.qcow2_alloc.proofs.new_refblocks.drop_blocks.Given as goal
 
 -- the refblocks of the clusters before this one are dropped

@@ -1,13 +1,4 @@
-use Rattle.std.proofs.Common.{◌*◌, ◌^◌, ◌<◌, subst, refl, sym, IsSome, ◌∙◌}
-use Rattle.std.specs.Option.{IfSome}
-use Rattle.image_access.specs.Contents.{overwritten}
-use Rattle.image_access.specs.Moments.{Changes}
-use Rattle.qcow2_metadata.specs.EntryTable.{EntryTableView}
-use Rattle.qcow2_alloc.specs.GrownTables.{with_run}
-use Rattle.qcow2_alloc.specs.ImageError.{of_storage}
-use Rattle.qcow2_alloc.specs.HeaderClusters.{KeepsHeaderCluster}
-use Rattle.qcow2_alloc.specs.ImageStorage.{storage_of}
-use Rattle.qcow2_alloc.specs.Rooms.{WritesTable}
+use Rattle.qcow2_alloc.proofs.Common.{◌*◌, ◌^◌, ◌<◌, subst, refl, sym, IsSome, ◌∙◌, IfSome, overwritten, Changes, EntryTableView, with_run, of_storage, KeepsHeaderCluster, storage_of, WritesTable}
 use Rattle.qcow2_alloc.proofs.AllocationSteps.{handed_on}
 use Rattle.qcow2_alloc.proofs.RoomWrites.{table_refused, table_stands}
 use Rattle.qcow2_alloc.proofs.KeptMarks.{placed_kept, marks_of_storage}

@@ -1,34 +1,9 @@
 use Rattle.qcow2_alloc.proofs.Outcomes.{on_ok}
-use Rattle.std.proofs.Common.{◌≡◌, inl, ℕ, Bool, Option, Some, Result, Ok, Err, IfErr, length, refl, sym, ap, ◌∙◌, ◌+◌, ◌*◌, ◌^◌, subst, ◌<◌}
-use Rattle.std.specs.Prelude.{OnOk, IfSome}
-use Rattle.image_access.specs.Contents.{overwritten}
-use Rattle.image_access.specs.Moments.{StorageView, Changes, Calls}
-use Rattle.image_access.specs.declared.error.StorageError.{StorageError}
-use Rattle.image_access.proofs.Bytes.{byte_at-overwritten}
-use Rattle.qcow2_metadata.specs.declared.header.HeaderFields.{HeaderFields}
-use Rattle.qcow2_metadata.specs.Bytes.{byte_at}
-use Rattle.qcow2_metadata.specs.Header.{cluster_size}
-use Rattle.qcow2_metadata.specs.RefBlock.{RefBlockView}
-use Rattle.qcow2_laws.specs.Caches.{BlocksMayGo}
-use Rattle.qcow2_laws.specs.CrashInvariant.{Pending}
-use Rattle.qcow2_alloc.specs.Allocation.{placing, HasPlaceFor, HasBytesAt, InternalAllocatorStep, WritesBlock}
-use Rattle.qcow2_alloc.specs.ImageError.{of_storage, IsFault}
-use Rattle.qcow2_alloc.specs.declared.cache.MetadataCaches.{MetadataCaches}
-use Rattle.qcow2_alloc.specs.declared.image_storage.ImageStorage.{ImageStorage}
-use Rattle.qcow2_alloc.specs.CachePins.{KeepsPinsAndNotes}
-use Rattle.qcow2_alloc.specs.declared.allocation.Allocator.{Allocator}
-use Rattle.qcow2_alloc.specs.declared.error.ImageError.{ImageError}
-use Rattle.qcow2_alloc.specs.declared.image_file.ImageFile.{ImageFile}
-use Rattle.qcow2_alloc.specs.ImageFile.{contents_in, AllocatorInvariant}
+use Rattle.qcow2_alloc.proofs.Common.{◌≡◌, inl, ℕ, Bool, Option, Some, Result, Ok, Err, IfErr, length, refl, sym, ap, ◌∙◌, ◌+◌, ◌*◌, ◌^◌, subst, ◌<◌, OnOk, IfSome, overwritten, StorageView, Changes, Calls, StorageError, byte_at-overwritten, HeaderFields, byte_at, cluster_size, RefBlockView, BlocksMayGo, Pending, placing, HasPlaceFor, HasBytesAt, InternalAllocatorStep, WritesBlock, of_storage, IsFault, MetadataCaches, ImageStorage, KeepsPinsAndNotes, Allocator, ImageError, ImageFile, contents_in, AllocatorInvariant, storage_of, order_of, l2_tables, rb_at, KeepSound, InsertKeeps, IsBlockOf, cleared_rb, CachesSpareHeader, KeepsHeaderCluster}
 use Rattle.qcow2_alloc.proofs.FileSteps.{file_step_then}
-use Rattle.qcow2_alloc.specs.ImageStorage.{storage_of}
-use Rattle.qcow2_alloc.specs.MetadataCaches.{order_of, l2_tables, rb_at, KeepSound, InsertKeeps}
-use Rattle.qcow2_alloc.specs.TableCaches.{IsBlockOf, cleared_rb}
 use Rattle.qcow2_alloc.proofs.AllocationSteps.{handed_on, fault_of_storage, allocator_step_then, allocator_step_cached, is_sound_now}
 use Rattle.qcow2_alloc.proofs.PlacedBlocks.{IsFree, is_free, file_step_rewritten, reftable_rewritten, write_as, holds_known, still_stands}
 use Rattle.qcow2_alloc.proofs.SparedHeaders.{spares_cached, spares_then, spares_written, at_place}
-use Rattle.qcow2_alloc.specs.SparedHeaders.{CachesSpareHeader}
-use Rattle.qcow2_alloc.specs.HeaderClusters.{KeepsHeaderCluster}
 use Rattle.qcow2_alloc.proofs.KeptMarks.{kept_marks_then, placed_kept, marks_of_storage}
 use Rattle.qcow2_alloc.proofs.Steps.{fails_on, fails_since, fails_storage, same_faults}
 use Rattle.qcow2_alloc.proofs.HeaderClusters.{placed_elsewhere}

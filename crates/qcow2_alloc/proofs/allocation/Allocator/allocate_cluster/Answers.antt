@@ -1,16 +1,9 @@
-use Rattle.qcow2_laws.specs.CrashInvariant.{Pending}
-use Rattle.qcow2_metadata.specs.Header.{counts_per_block}
-use Rattle.qcow2_alloc.specs.declared.allocation.Allocator.{Allocator}
-use Rattle.qcow2_alloc.specs.Allocation.{RefusedGrowth, AllocatesCluster}
-use Rattle.qcow2_alloc.specs.FreeList.{pending_then}
+use Rattle.qcow2_alloc.proofs.Common.{Pending, counts_per_block, Allocator, RefusedGrowth, AllocatesCluster, pending_then, ◌≡◌, ◌∙◌, Ok, ap, refl, sym, subst, inl, inr, IsUsed, NoFreeBelowHint, AllocatesClusterSoundly}
 use Rattle.qcow2_alloc.proofs.Hints.{passed_same, hint_more, hint_raised, hint_refused, raised_used, range_as, uses_raised, uses_refused}
 use Rattle.qcow2_alloc.proofs.AllocationSteps.{handed_on, leaves_as, leaves_on, may_still, is_sound_on, takes_on}
 use Rattle.qcow2_alloc.proofs.allocation.Allocator.allocate_cluster.Goals.{then-cluster-self, else-cluster-self}
 use Rattle.qcow2_alloc.proofs.MadeClusters.{lists_used_still}
-use Rattle.std.proofs.Common.{◌≡◌, ◌∙◌, Ok, ap, refl, sym, subst, inl, inr}
-use Rattle.qcow2_alloc.specs.LowestRuns.{IsUsed, NoFreeBelowHint}
 use Rattle.qcow2_alloc.proofs.KeptRuns.{hint_kept}
-use Rattle.qcow2_alloc.specs.Steps.{AllocatesClusterSoundly}
 use Rattle.qcow2_alloc.proofs.ListedAfter.{header_counts}
 use Rattle.qcow2_alloc.proofs.Steps.{fails_ok, fails_on, fails_since, step_as, step_on, step_then}
 use Rattle.qcow2_alloc.proofs.allocation.Allocator.allocate_cluster.Goals as goal

@@ -1,21 +1,9 @@
-use Rattle.std.proofs.Common.{◌≡◌, ◌≢◌, ◌⊎◌, inl, refl, sym, subst, Result, ◌∙◌}
-use Rattle.qcow2_laws.specs.CrashInvariant.{Pending}
-use Rattle.qcow2_alloc.specs.declared.clusters_to_free.ClusterKind.TheVariants.{Data}
-use Rattle.qcow2_alloc.specs.declared.image_file.ImageFile.{ImageFile}
-use Rattle.qcow2_alloc.specs.Allocation.{InternalAllocatorGrowth, Allocates}
-use Rattle.qcow2_alloc.specs.FreeList.{pending_then, run_of}
-use Rattle.qcow2_alloc.specs.LowestRuns.{KeepsNoFreeBelowHint, IsUsed, StaysUsed}
+use Rattle.qcow2_alloc.proofs.Common.{◌≡◌, ◌≢◌, ◌⊎◌, inl, refl, sym, subst, Result, ◌∙◌, Pending, Data, ImageFile, InternalAllocatorGrowth, Allocates, pending_then, run_of, KeepsNoFreeBelowHint, IsUsed, StaysUsed, IfErr, ImageError, ClustersToFreeEntry, IsFaultOr, HasNoPlace, IsMadeInTurn, AllocatesOnly, count}
 use Rattle.qcow2_alloc.proofs.Hints.{hint_stays, ok_as, passed_still}
 use Rattle.qcow2_alloc.proofs.AllocationSteps.{handed_on, on_of, allocator_step_cached, is_sound_now, allocates_then}
 use Rattle.qcow2_alloc.proofs.ListedAfter.{listed_after_same}
-use Rattle.std.specs.Prelude.{IfErr}
-use Rattle.qcow2_alloc.specs.declared.error.ImageError.{ImageError}
-use Rattle.qcow2_alloc.specs.declared.clusters_to_free.ClustersToFreeEntry.{ClustersToFreeEntry}
-use Rattle.qcow2_alloc.specs.Limits.{IsFaultOr, HasNoPlace}
 use Rattle.qcow2_alloc.proofs.Outcomes.{on_no_ok, if_no_ok, on_ok}
 use Rattle.qcow2_alloc.proofs.MadeClusters.{alone_none, alone_since, made_run}
-use Rattle.qcow2_alloc.specs.MadeClusters.{IsMadeInTurn, AllocatesOnly}
-use Rattle.qcow2_metadata.specs.Entries.{count}
 use Rattle.qcow2_alloc.proofs.Steps.{data_then, fails_on, fails_since, data_cached}
 use Rattle.qcow2_alloc.proofs.allocation.Allocator.allocate_data.Goals as goal
 

@@ -1,14 +1,7 @@
-use Rattle.std.proofs.lemmas.Bool.{eq-eqb}
-use Rattle.qcow2_metadata.specs.Entries.{block_offset}
-use Rattle.qcow2_metadata.specs.Header.{counts_per_block}
-use Rattle.qcow2_metadata.specs.TableBytes.{entry_at}
-use Rattle.qcow2_laws.specs.CrashInvariant.{Pending}
-use Rattle.qcow2_alloc.specs.Allocation.{InternalAllocatorStep}
-use Rattle.qcow2_alloc.specs.Rooms.{lacks}
+use Rattle.qcow2_alloc.proofs.Common.{eq-eqb, block_offset, counts_per_block, entry_at, Pending, InternalAllocatorStep, lacks, inl, inr, ◌≡◌, true, false, ◌/◌, ap, sym, ◌∙◌, subst}
 use Rattle.qcow2_alloc.proofs.AllocationSteps.{allocator_step_none, still_sound}
 use Rattle.qcow2_alloc.proofs.Rooms.{one_none, free_taken}
 use Rattle.qcow2_alloc.proofs.Outcomes.{not_both}
-use Rattle.std.proofs.Common.{inl, inr, ◌≡◌, true, false, ◌/◌, ap, sym, ◌∙◌, subst}
 use Rattle.qcow2_alloc.proofs.Steps.{fails_ok, table_step_none}
 use Rattle.qcow2_alloc.proofs.allocation.Allocator.allocate_if_free.Goals as goal
 

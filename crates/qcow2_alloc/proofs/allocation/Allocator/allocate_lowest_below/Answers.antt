@@ -1,11 +1,4 @@
-use Rattle.std.proofs.Common.{◌≡◌, ◌*◌, ◌≤◌, false, refl, sym, ap, subst, ◌∙◌, arith}
-use Rattle.qcow2_metadata.specs.EntryTable.{EntryTableView}
-use Rattle.qcow2_metadata.specs.Header.{counts_per_block}
-use Rattle.qcow2_laws.specs.Changes.{one_at}
-use Rattle.qcow2_alloc.specs.Allocation.{KeepsEntries, AllocatesLowest}
-use Rattle.qcow2_alloc.specs.LowestRuns.{IsUsed, KeepsNoFreeBelowHint}
-use Rattle.qcow2_alloc.specs.Steps.{TableStep}
-use Rattle.qcow2_alloc.specs.declared.allocation.Allocator.{Allocator}
+use Rattle.qcow2_alloc.proofs.Common.{◌≡◌, ◌*◌, ◌≤◌, false, refl, sym, ap, subst, ◌∙◌, arith, EntryTableView, counts_per_block, one_at, KeepsEntries, AllocatesLowest, IsUsed, KeepsNoFreeBelowHint, TableStep, Allocator}
 use Rattle.qcow2_alloc.proofs.AllocationSteps.{handed_on, allocator_step_as}
 use Rattle.qcow2_alloc.proofs.FileSteps.{one_here}
 use Rattle.qcow2_alloc.proofs.Hints.{taken_used}

@@ -1,4 +1,4 @@
-use Rattle.qcow2_alloc.specs.declared.clusters_to_free.ClusterKind.TheVariants.{Metadata}
+use Rattle.qcow2_alloc.proofs.Common.{Metadata}
 use Rattle.qcow2_alloc.proofs.MadeClusters.{made_run}
 use Rattle.qcow2_alloc.proofs.allocation.Allocator.allocate_meta.Goals as goal
 

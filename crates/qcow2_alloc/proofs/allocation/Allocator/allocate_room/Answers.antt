@@ -1,6 +1,4 @@
-use Rattle.std.proofs.Common.{refl, ap, ◌∙◌}
-use Rattle.qcow2_alloc.specs.Steps.{AllocatesRoomSoundly}
-use Rattle.qcow2_alloc.specs.declared.allocation.Allocator.{Allocator}
+use Rattle.qcow2_alloc.proofs.Common.{refl, ap, ◌∙◌, AllocatesRoomSoundly, Allocator}
 use Rattle.qcow2_alloc.proofs.AllocationSteps.{handed_on, allocator_step_as}
 use Rattle.qcow2_alloc.proofs.Hints.{search_then}
 use Rattle.qcow2_alloc.proofs.KeptRuns.{search_kept}

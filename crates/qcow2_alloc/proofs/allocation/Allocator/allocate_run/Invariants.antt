@@ -1,10 +1,5 @@
-use Rattle.std.proofs.Common.{◌≡◌, ◌<◌, Bool, IsTrue}
-use Rattle.qcow2_laws.specs.CrashInvariant.{Pending}
-use Rattle.qcow2_alloc.specs.Allocation.{MayAllocate}
-use Rattle.qcow2_alloc.specs.Faults.{faults_of}
+use Rattle.qcow2_alloc.proofs.Common.{◌≡◌, ◌<◌, Bool, IsTrue, Pending, MayAllocate, faults_of, AllocatorInvariant, FileStep, TakenSoFar}
 use Rattle.qcow2_alloc.proofs.allocation.Allocator.allocate_run.Given as goal
-use Rattle.qcow2_alloc.specs.ImageFile.{AllocatorInvariant}
-use Rattle.qcow2_alloc.specs.Steps.{FileStep, TakenSoFar}
 
 -- so many clusters are taken
 abbrev pub invariant-taking : goal.invariant-taking

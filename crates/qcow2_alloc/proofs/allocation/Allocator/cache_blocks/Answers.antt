@@ -1,19 +1,4 @@
-use Rattle.std.proofs.Common.{◌≡◌, inl, inr, ℕ, ◌+◌, ◌-◌, ◌*◌, ◌/◌, ◌%◌, ◌^◌, ◌<◌, ◌≤◌, length, refl, sym, ap, ◌∙◌, subst, arith}
-use Rattle.std.proofs.lemmas.Nat.{div-add-mod'}
-use Rattle.std.proofs.Math.Nat.{div-le_self, mul-le-mul_left}
-use Rattle.qcow2_metadata.specs.L2Mapping.{greatest_offset, IsHostCluster}
-use Rattle.qcow2_metadata.specs.EntryTable.{EntryTableView, entry_count}
-use Rattle.qcow2_metadata.specs.declared.header.HeaderFields.{HeaderFields}
-use Rattle.qcow2_metadata.specs.Header.{HeaderView, cluster_size, counts_per_block}
-use Rattle.qcow2_laws.specs.Tops.{IsSameOutside}
-use Rattle.qcow2_metadata.specs.Bytes.{Bytes, one_if}
-use Rattle.qcow2_metadata.specs.TableBytes.{ChangesEntry, HasPlace}
-use Rattle.qcow2_alloc.specs.Allocation.{run_at, NamesLacking, HasBytesAt}
-use Rattle.qcow2_alloc.specs.GrownTables.{with_run}
-use Rattle.qcow2_alloc.specs.ImageFile.{contents_in, known_in}
-use Rattle.qcow2_alloc.specs.MetadataCaches.{HavePlaces}
-use Rattle.qcow2_alloc.specs.Rooms.{opens, opened, room_length, CachesBlocks, InternalNewBlocks}
-use Rattle.qcow2_alloc.specs.TableCaches.{IsBlockOf}
+use Rattle.qcow2_alloc.proofs.Common.{◌≡◌, inl, inr, ℕ, ◌+◌, ◌-◌, ◌*◌, ◌/◌, ◌%◌, ◌^◌, ◌<◌, ◌≤◌, length, refl, sym, ap, ◌∙◌, subst, arith, div-add-mod', div-le_self, mul-le-mul_left, greatest_offset, IsHostCluster, EntryTableView, entry_count, HeaderFields, HeaderView, cluster_size, counts_per_block, IsSameOutside, Bytes, one_if, ChangesEntry, HasPlace, run_at, NamesLacking, HasBytesAt, with_run, contents_in, known_in, HavePlaces, opens, opened, room_length, CachesBlocks, InternalNewBlocks, IsBlockOf, faults_of}
 use Rattle.qcow2_alloc.proofs.AllocationSteps.{handed_on, lacking_none, lacking_more, entries_entered}
 use Rattle.qcow2_alloc.proofs.KeptTables.Places.{named_have_places}
 use Rattle.qcow2_alloc.proofs.NewRefblocks.{new_blocks_none}
@@ -24,7 +9,6 @@ use Rattle.qcow2_alloc.proofs.PlacedRooms.{EntersSo, Counting, opens_range, ente
 use Rattle.qcow2_alloc.proofs.RoomSteps.{entries_aligned, of_three, rest_then, placed_more, range_within, run_within, counts_as, room_enters, room_counts}
 use Rattle.qcow2_alloc.proofs.PlacedBlocks.{file_sizes}
 use Rattle.qcow2_alloc.proofs.allocation.Allocator.cache_blocks.Goals.{then-opens_range+in_ok-block+in_ok-cache_new_block, else-opens_range+in_ok-bring_to_front}
-use Rattle.qcow2_alloc.specs.Faults.{faults_of}
 use Rattle.qcow2_alloc.proofs.Steps.{fails_by, fails_ok, fails_on, fails_since, memory_other, other_as, table_step_as, table_step_none, table_step_then}
 use Rattle.qcow2_alloc.proofs.allocation.Allocator.cache_blocks.Goals as goal
 

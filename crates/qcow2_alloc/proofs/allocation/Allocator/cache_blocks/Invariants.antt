@@ -1,15 +1,5 @@
-use Rattle.std.proofs.Common.{◌≡◌, ℕ, ◌+◌, ◌-◌, ◌^◌, ◌<◌, ◌≤◌, length}
-use Rattle.qcow2_metadata.specs.Header.{counts_per_block}
-use Rattle.qcow2_laws.specs.Caches.{BlocksMayGo}
-use Rattle.qcow2_laws.specs.CrashInvariant.{Pending}
-use Rattle.qcow2_alloc.specs.Allocation.{NamesLacking}
-use Rattle.qcow2_alloc.specs.Faults.{faults_of}
-use Rattle.qcow2_alloc.specs.GrownTables.{with_run}
-use Rattle.qcow2_alloc.specs.ImageFile.{known_in, AllocatorInvariant}
-use Rattle.qcow2_alloc.specs.MetadataCaches.{order_of, l2_tables, HavePlaces}
-use Rattle.qcow2_alloc.specs.Rooms.{opened, room_length, InternalNewBlocks, IsLonger}
+use Rattle.qcow2_alloc.proofs.Common.{◌≡◌, ℕ, ◌+◌, ◌-◌, ◌^◌, ◌<◌, ◌≤◌, length, counts_per_block, BlocksMayGo, Pending, NamesLacking, faults_of, with_run, known_in, AllocatorInvariant, order_of, l2_tables, HavePlaces, opened, room_length, InternalNewBlocks, IsLonger, TableStep}
 use Rattle.qcow2_alloc.proofs.PlacedRooms.{EntersSo, Counting}
-use Rattle.qcow2_alloc.specs.Steps.{TableStep}
 use Rattle.qcow2_alloc.proofs.allocation.Allocator.cache_blocks.Given as goal
 
 -- the refblocks of the ranges that the clusters before this one enter are cached

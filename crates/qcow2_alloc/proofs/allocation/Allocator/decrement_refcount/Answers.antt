@@ -1,13 +1,6 @@
-use Rattle.std.proofs.Common.{◌≡◌, ◌==◌, ◌/◌, ◌%◌, ◌^◌, ℕ, true, Option, Some, None, Ok, refl, ap, ◌∙◌, sym}
-use Rattle.std.specs.Option.{IfSome, IsSome, unwrap_or}
-use Rattle.qcow2_laws.specs.Changes.{one_at}
-use Rattle.qcow2_alloc.specs.Allocation.{owed_as, DecrementsOne}
-use Rattle.qcow2_alloc.specs.LowestRuns.{KeepsNoFreeBelowHint}
-use Rattle.qcow2_alloc.specs.ImageFile.{contents_in}
-use Rattle.qcow2_alloc.specs.MetadataCaches.{ReportsCount}
+use Rattle.qcow2_alloc.proofs.Common.{◌≡◌, ◌==◌, ◌/◌, ◌%◌, ◌^◌, ℕ, true, Option, Some, None, Ok, refl, ap, ◌∙◌, sym, IfSome, IsSome, unwrap_or, one_at, owed_as, DecrementsOne, KeepsNoFreeBelowHint, contents_in, ReportsCount, counts_per_block}
 use Rattle.qcow2_alloc.proofs.Hints.{hint_lowered, is_zero, lowered_so, passed_still, stands_still, hint_refused}
 use Rattle.qcow2_alloc.proofs.AllocationSteps.{handed_on, of_equal, allocator_step_as, may_lower_still, counted_at, given_one, owed_counted, owed_has_block}
-use Rattle.qcow2_metadata.specs.Header.{counts_per_block}
 use Rattle.qcow2_alloc.proofs.Leaks.{tried}
 use Rattle.qcow2_alloc.proofs.KeptMarks.{marks_of_caches}
 use Rattle.qcow2_alloc.specs.declared.error.ImageError.TheVariants as I

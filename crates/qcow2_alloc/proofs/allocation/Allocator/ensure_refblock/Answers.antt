@@ -1,19 +1,9 @@
-use Rattle.std.proofs.Common.{sym, ap, subst, ◌/◌, arith, ◌^◌, ◌∙◌, Result, refl, Ok}
-use Rattle.qcow2_laws.specs.CrashInvariant.{Pending}
-use Rattle.qcow2_metadata.specs.Header.{counts_per_block}
-use Rattle.qcow2_alloc.specs.Allocation.{GrowsTable}
-use Rattle.qcow2_alloc.specs.FreeList.{pending_then}
-use Rattle.qcow2_alloc.specs.LowestRuns.{KeepsNoFreeBelowHint, KeepsUsed, IsUsed}
+use Rattle.qcow2_alloc.proofs.Common.{sym, ap, subst, ◌/◌, arith, ◌^◌, ◌∙◌, Result, refl, Ok, Pending, counts_per_block, GrowsTable, pending_then, KeepsNoFreeBelowHint, KeepsUsed, IsUsed, CantCount, IsFaultOr, IfErr, IsHostCluster, entry_count, ImageError}
 use Rattle.qcow2_alloc.proofs.PlacedRooms.{has_some}
 use Rattle.qcow2_alloc.proofs.AllocationSteps.{handed_on, is_sound_on, on_none}
 use Rattle.qcow2_alloc.proofs.ListedAfter.{listed_after_same, grows_none, grows_on, header_counts, header_bits}
 use Rattle.qcow2_alloc.proofs.Hints.{has_entries, hint_used, ok_as, range_as, uses_got, uses_then, hint_or_interruption}
-use Rattle.qcow2_alloc.specs.Limits.{CantCount, IsFaultOr}
 use Rattle.qcow2_alloc.proofs.Limits.{fault_or, grown_why, not_below}
-use Rattle.std.specs.Prelude.{IfErr}
-use Rattle.qcow2_metadata.specs.L2Mapping.{IsHostCluster}
-use Rattle.qcow2_metadata.specs.EntryTable.{entry_count}
-use Rattle.qcow2_alloc.specs.declared.error.ImageError.{ImageError}
 use Rattle.qcow2_alloc.specs.declared.error.ImageError.TheVariants as I
 use Rattle.qcow2_alloc.proofs.Outcomes.{entries_none}
 use Rattle.qcow2_alloc.proofs.MadeClusters.{lists_used_none, lists_used_one, lists_used_still}

@@ -1,15 +1,8 @@
-use Rattle.std.proofs.Common.{◌≡◌, mul-pos, inl, inr, true, false, ◌*◌, ◌<◌, ◌^◌, sym, ap, ◌∙◌, arith, Result, IsTrue, refl, subst}
-use Rattle.qcow2_metadata.specs.Header.{counts_per_block}
-use Rattle.qcow2_alloc.specs.Allocation.{GetsBlock}
+use Rattle.qcow2_alloc.proofs.Common.{◌≡◌, mul-pos, inl, inr, true, false, ◌*◌, ◌<◌, ◌^◌, sym, ap, ◌∙◌, arith, Result, IsTrue, refl, subst, counts_per_block, GetsBlock, IfErr, IsFault, pow_pos, ImageError, IsHostCluster}
 use Rattle.qcow2_alloc.proofs.Hints.{lacking_above, search_by, search_same}
 use Rattle.qcow2_alloc.proofs.AllocationSteps.{named_covered, none_named, handed_on, gets_placed, gets_then, is_sound_now, none_in_memory, stands_none}
-use Rattle.std.specs.Prelude.{IfErr}
-use Rattle.qcow2_alloc.specs.ImageError.{IsFault}
-use Rattle.std.proofs.lemmas.Nat.{pow_pos}
-use Rattle.qcow2_alloc.specs.declared.error.ImageError.{ImageError}
 use Rattle.qcow2_alloc.proofs.Limits.{placed_fault, host_below, is_able}
 use Rattle.qcow2_alloc.proofs.Outcomes.{entries_none, on_no_ok}
-use Rattle.qcow2_metadata.specs.L2Mapping.{IsHostCluster}
 use Rattle.qcow2_alloc.proofs.SparedHeaders.{spares_then}
 use Rattle.qcow2_alloc.proofs.KeptMarks.{kept_marks_then}
 use Rattle.qcow2_alloc.proofs.Steps.{limit_other, memory_other, other_as, fails_by, fails_ok, fails_on, fails_since}

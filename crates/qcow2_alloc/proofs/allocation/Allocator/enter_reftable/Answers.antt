@@ -1,24 +1,4 @@
-use Rattle.std.proofs.Common.{refl, Option, Some, Ok, Err, ◌≡◌, ℕ, ◌+◌, ◌*◌, ◌/◌, ◌%◌, ◌^◌, ◌<◌, ◌≤◌, min, Result, ◌∙◌, sym, ap, subst, arith}
-use Rattle.std.proofs.Math.Nat.{mul-le-mul_left}
-use Rattle.std.proofs.Math.Pow.{pow_mono}
-use Rattle.std.specs.Prelude.{IfSome, IfErr, OnOk}
-use Rattle.qcow2_metadata.specs.Header.{HeaderView, counts_per_block, entries_per_cluster}
-use Rattle.qcow2_metadata.specs.EntryTable.{EntryTableView, entry_count}
-use Rattle.qcow2_metadata.specs.L2Mapping.{greatest_offset}
-use Rattle.qcow2_laws.specs.CrashInvariant.{Pending}
-use Rattle.qcow2_alloc.specs.declared.error.ImageError.{ImageError}
-use Rattle.qcow2_alloc.specs.declared.image_file.ImageFile.{ImageFile}
-use Rattle.qcow2_alloc.specs.Allocation.{NamesLacking, InternalAllocatorStep}
-use Rattle.qcow2_alloc.specs.Growing.{IsCloneOf}
-use Rattle.qcow2_alloc.specs.GrownTables.{with_run, EntersReftable, NamesReftable}
-use Rattle.qcow2_alloc.specs.ImageFile.{AllocatorInvariant, KeepsHeader}
-use Rattle.qcow2_alloc.specs.Limits.{IsFaultOr, nameable_clusters, HasNoRoomBelow, HasNoRoomFor, LiesLowest}
-use Rattle.qcow2_alloc.specs.LowestRuns.{KeepsUsed, IsUsed}
-use Rattle.qcow2_alloc.specs.Rooms.{IsLonger, room_length, opened}
-use Rattle.qcow2_alloc.specs.Steps.{EntersRoom, EntersTable}
-use Rattle.qcow2_alloc.specs.declared.allocation.Allocator.{Allocator}
-use Rattle.qcow2_alloc.specs.declared.free_room.Room.{Room}
-use Rattle.qcow2_metadata.specs.declared.header.HeaderFields.{HeaderFields}
+use Rattle.qcow2_alloc.proofs.Common.{refl, Option, Some, Ok, Err, ◌≡◌, ℕ, ◌+◌, ◌*◌, ◌/◌, ◌%◌, ◌^◌, ◌<◌, ◌≤◌, min, Result, ◌∙◌, sym, ap, subst, arith, mul-le-mul_left, pow_mono, IfSome, IfErr, OnOk, HeaderView, counts_per_block, entries_per_cluster, EntryTableView, entry_count, greatest_offset, Pending, ImageError, ImageFile, NamesLacking, InternalAllocatorStep, IsCloneOf, with_run, EntersReftable, NamesReftable, AllocatorInvariant, KeepsHeader, IsFaultOr, nameable_clusters, HasNoRoomBelow, HasNoRoomFor, LiesLowest, KeepsUsed, IsUsed, IsLonger, room_length, opened, EntersRoom, EntersTable, Allocator, Room, HeaderFields}
 use Rattle.qcow2_alloc.proofs.AllocationSteps.{handed_on, is_sound_now, leaves_as}
 use Rattle.qcow2_alloc.proofs.FullRooms.{no_room_for, lies_lowest, lowest_entered}
 use Rattle.qcow2_alloc.proofs.Limits.{cause_as}

@@ -1,15 +1,4 @@
-use Rattle.qcow2_alloc.specs.LowestRuns.{IsUsed}
-use Rattle.std.proofs.Common.{◌≡◌, ℕ, Result, inl, inr, ◌+◌, refl, sym, ap, ◌∙◌, subst, arith}
-use Rattle.std.specs.Prelude.{IfErr}
-use Rattle.qcow2_metadata.specs.EntryTable.{EntryTableView}
-use Rattle.qcow2_metadata.specs.Header.{HeaderView, counts_per_block}
-use Rattle.qcow2_laws.specs.CrashInvariant.{Pending}
-use Rattle.qcow2_alloc.specs.Allocation.{InternalAllocatorStep}
-use Rattle.qcow2_alloc.specs.GrownTables.{with_run}
-use Rattle.qcow2_alloc.specs.declared.error.ImageError.{ImageError}
-use Rattle.qcow2_alloc.specs.declared.free_room.Room.{Room}
-use Rattle.qcow2_alloc.specs.Limits.{IsFaultOr, HasNoRoomBelow}
-use Rattle.qcow2_alloc.specs.Rooms.{opened, AllocatesRoom}
+use Rattle.qcow2_alloc.proofs.Common.{IsUsed, ◌≡◌, ℕ, Result, inl, inr, ◌+◌, refl, sym, ap, ◌∙◌, subst, arith, IfErr, EntryTableView, HeaderView, counts_per_block, Pending, InternalAllocatorStep, with_run, ImageError, Room, IsFaultOr, HasNoRoomBelow, opened, AllocatesRoom, Allocator}
 use Rattle.qcow2_alloc.proofs.FileSteps.{leaves_then}
 use Rattle.qcow2_alloc.proofs.AllocationSteps.{handed_on, allocator_step_none, allocator_step_then, is_sound_now}
 use Rattle.qcow2_alloc.proofs.Runs.{run_after}
@@ -17,7 +6,6 @@ use Rattle.qcow2_alloc.proofs.Hints.{hint_stays, passed_still, search_after, sea
 use Rattle.qcow2_alloc.proofs.FullRooms.{full_behind, full_passed, full_stays, IsFullBelow}
 use Rattle.qcow2_alloc.proofs.Rooms.{run_of_same, noted_of_same, noted_of_room}
 use Rattle.qcow2_alloc.proofs.Outcomes.{if_no_ok}
-use Rattle.qcow2_alloc.specs.declared.allocation.Allocator.{Allocator}
 use Rattle.qcow2_alloc.proofs.Steps.{fails_by, fails_ok, fails_on, fails_since, limit_other, table_step_none, table_step_then}
 use Rattle.qcow2_alloc.specs.declared.error.ImageError.TheVariants as I
 use Rattle.qcow2_alloc.proofs.allocation.Allocator.find_room.Goals as goal

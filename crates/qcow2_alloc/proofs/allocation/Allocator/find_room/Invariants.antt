@@ -1,12 +1,5 @@
-use Rattle.std.proofs.Common.{◌≡◌, ◌-◌, ◌<◌, ◌≤◌}
-use Rattle.qcow2_metadata.specs.Header.{counts_per_block}
-use Rattle.qcow2_laws.specs.CrashInvariant.{Pending}
-use Rattle.qcow2_alloc.specs.Allocation.{SameLeaks, InternalAllocatorStep}
-use Rattle.qcow2_alloc.specs.Faults.{faults_of}
-use Rattle.qcow2_alloc.specs.ImageFile.{AllocatorInvariant}
-use Rattle.qcow2_alloc.specs.LowestRuns.{NoFreeBelowHint, SearchStays}
+use Rattle.qcow2_alloc.proofs.Common.{◌≡◌, ◌-◌, ◌<◌, ◌≤◌, counts_per_block, Pending, SameLeaks, InternalAllocatorStep, faults_of, AllocatorInvariant, NoFreeBelowHint, SearchStays, TableStep}
 use Rattle.qcow2_alloc.proofs.FullRooms.{IsFullBelow}
-use Rattle.qcow2_alloc.specs.Steps.{TableStep}
 use Rattle.qcow2_alloc.proofs.allocation.Allocator.find_room.Given as goal
 
 -- nothing is taken yet

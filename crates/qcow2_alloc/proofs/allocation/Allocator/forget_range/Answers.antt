@@ -1,4 +1,4 @@
-use Rattle.std.proofs.Common.{inl, refl}
+use Rattle.qcow2_alloc.proofs.Common.{inl, refl}
 use Rattle.qcow2_alloc.proofs.KeptRuns.{covered_still}
 use Rattle.qcow2_alloc.proofs.allocation.Allocator.forget_range.Goals as goal
 

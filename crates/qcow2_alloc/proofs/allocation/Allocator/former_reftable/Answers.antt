@@ -1,5 +1,4 @@
-use Rattle.std.proofs.Common.{sym, ap, ◌∙◌}
-use Rattle.qcow2_alloc.specs.ClustersToFree.{metadata_entry}
+use Rattle.qcow2_alloc.proofs.Common.{sym, ap, ◌∙◌, metadata_entry}
 use Rattle.qcow2_alloc.proofs.FormerReftables.{run_of_table}
 use Rattle.qcow2_alloc.proofs.allocation.Allocator.former_reftable.Goals as goal
 

@@ -1,14 +1,7 @@
-use Rattle.std.proofs.Common.{refl, inl, ap, ◌∙◌}
-use Rattle.qcow2_laws.specs.CrashInvariant.{Pending}
-use Rattle.qcow2_alloc.specs.declared.clusters_to_free.ClusterKind.TheVariants.{Data}
-use Rattle.qcow2_alloc.specs.declared.image_file.ImageFile.{ImageFile}
-use Rattle.qcow2_alloc.specs.Allocation.{Frees}
-use Rattle.qcow2_alloc.specs.FreeList.{with_listed, but}
-use Rattle.qcow2_alloc.specs.LowestRuns.{KeepsNoFreeBelowHint}
+use Rattle.qcow2_alloc.proofs.Common.{refl, inl, ap, ◌∙◌, Pending, Data, ImageFile, Frees, with_listed, but, KeepsNoFreeBelowHint, HeaderView}
 use Rattle.qcow2_alloc.proofs.AllocationSteps.{handed_on, is_sound_now, allocator_step_cached}
 use Rattle.qcow2_alloc.proofs.Hints.{hint_stays, passed_still}
 use Rattle.qcow2_alloc.proofs.Freeing.{but_both, on_ok, allocator_step_on, frees_then}
-use Rattle.qcow2_metadata.specs.Header.{HeaderView}
 use Rattle.qcow2_alloc.proofs.UnalignedLeaks.{leaks_as, leaks_then}
 use Rattle.qcow2_alloc.proofs.Steps.{fails_ok, fails_on, fails_since, free_in_turn, turn_cached, turn_then}
 use Rattle.qcow2_alloc.proofs.allocation.Allocator.free.Goals as goal

@@ -1,7 +1,4 @@
-use Rattle.std.proofs.Common.{◌-◌, true, inl, inr, sym, ap, ◌∙◌, subst, arith}
-use Rattle.std.proofs.lemmas.Bool.{cases_eq}
-use Rattle.std.specs.Option.{option_copied}
-use Rattle.qcow2_alloc.specs.MetadataCaches.{ReportsZero}
+use Rattle.qcow2_alloc.proofs.Common.{◌-◌, true, inl, inr, sym, ap, ◌∙◌, subst, arith, cases_eq, option_copied, ReportsZero}
 use Rattle.qcow2_alloc.proofs.KeptTables.Counting.{zero_told}
 use Rattle.qcow2_alloc.proofs.allocation.Allocator.free_from.Goals as goal
 

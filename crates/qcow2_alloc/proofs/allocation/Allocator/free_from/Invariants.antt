@@ -1,5 +1,4 @@
-use Rattle.std.proofs.Common.{◌-◌, ◌≤◌}
-use Rattle.qcow2_alloc.specs.UsedCounts.{AreFoundFree}
+use Rattle.qcow2_alloc.proofs.Common.{◌-◌, ◌≤◌, AreFoundFree}
 use Rattle.qcow2_alloc.proofs.allocation.Allocator.free_from.Given as goal
 
 -- the counts up to here are 0

@@ -1,6 +1,4 @@
-use Rattle.std.proofs.Common.{◌≡◌, ◌++◌, ◌∷◌, [], sym, subst, rules, refl}
-use Rattle.qcow2_alloc.specs.declared.clusters_to_free.ClusterKind.{ClusterKind}
-use Rattle.qcow2_alloc.specs.FreeSteps.{FreesListed}
+use Rattle.qcow2_alloc.proofs.Common.{◌≡◌, ◌++◌, ◌∷◌, [], sym, subst, rules, refl, ClusterKind, FreesListed}
 use Rattle.qcow2_alloc.proofs.FreedLists.{listed_as_well, listed_stay}
 use Rattle.qcow2_alloc.proofs.allocation.Allocator.free_or_list.Goals as goal
 

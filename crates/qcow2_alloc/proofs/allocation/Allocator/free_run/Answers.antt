@@ -1,6 +1,4 @@
-use Rattle.std.proofs.Common.{refl, subst, [], ◌∷◌, ◌++◌, ◌<◌, ◌∙◌, Ok, Err, arith}
-use Rattle.qcow2_alloc.specs.declared.clusters_to_free.ClusterKind.{ClusterKind}
-use Rattle.qcow2_alloc.specs.FreeSteps.{FreesListed}
+use Rattle.qcow2_alloc.proofs.Common.{refl, subst, [], ◌∷◌, ◌++◌, ◌<◌, ◌∙◌, Ok, Err, arith, ClusterKind, FreesListed}
 use Rattle.qcow2_alloc.proofs.AllocationSteps.{handed_on}
 use Rattle.qcow2_alloc.proofs.FreedLists.{listed_stay, listed_then, run_lowered, run_stays}
 use Rattle.qcow2_alloc.proofs.allocation.Allocator.free_run.Goals as goal

@@ -1,9 +1,4 @@
-use Rattle.std.proofs.Common.{◌≡◌, ◌+◌, ◌-◌, ◌<◌, inr, refl, sym, ◌∙◌, subst, arith}
-use Rattle.qcow2_laws.specs.Changes.{one_at}
-use Rattle.qcow2_laws.specs.CrashInvariant.{Pending}
-use Rattle.qcow2_alloc.specs.Allocation.{run_at, taken_as, Taken, InternalAllocatorGrowth, GivesBackAs}
-use Rattle.qcow2_alloc.specs.ImageFile.{AllocatorInvariant, InternalFileGrowth}
-use Rattle.qcow2_alloc.specs.LowestRuns.{KeepsNoFreeBelowHint, KeepsUsedBut}
+use Rattle.qcow2_alloc.proofs.Common.{◌≡◌, ◌+◌, ◌-◌, ◌<◌, inr, refl, sym, ◌∙◌, subst, arith, one_at, Pending, run_at, taken_as, Taken, InternalAllocatorGrowth, GivesBackAs, AllocatorInvariant, InternalFileGrowth, KeepsNoFreeBelowHint, KeepsUsedBut}
 use Rattle.qcow2_alloc.proofs.FileSteps.{file_step_on, on_then, on_interrupted_after}
 use Rattle.qcow2_alloc.proofs.AllocationSteps.{handed_on, is_sound_now}
 use Rattle.qcow2_alloc.proofs.Hints.{kept_refused, not_in_run, taken_pending, used_stays}

@@ -1,11 +1,4 @@
-use Rattle.std.proofs.Common.{◌≡◌, ℕ, ◌+◌, ◌-◌, ◌<◌, Bool}
-use Rattle.qcow2_laws.specs.CrashInvariant.{Pending}
-use Rattle.qcow2_alloc.specs.Allocation.{run_at, taken_as, SameLeaks, InternalAllocatorGrowth}
-use Rattle.qcow2_alloc.specs.Faults.{faults_of}
-use Rattle.qcow2_alloc.specs.declared.image_file.ImageFile.{ImageFile}
-use Rattle.qcow2_alloc.specs.ImageFile.{AllocatorInvariant}
-use Rattle.qcow2_alloc.specs.LowestRuns.{NoFreeBelowHint, IsUsed}
-use Rattle.qcow2_alloc.specs.Steps.{TableStep}
+use Rattle.qcow2_alloc.proofs.Common.{◌≡◌, ℕ, ◌+◌, ◌-◌, ◌<◌, Bool, Pending, run_at, taken_as, SameLeaks, InternalAllocatorGrowth, faults_of, ImageFile, AllocatorInvariant, NoFreeBelowHint, IsUsed, TableStep}
 use Rattle.qcow2_alloc.proofs.allocation.Allocator.give_back.Given as goal
 
 -- the clusters before this one are given back

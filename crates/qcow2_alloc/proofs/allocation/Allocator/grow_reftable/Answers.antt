@@ -1,15 +1,4 @@
-use Rattle.std.proofs.Common.{◌≡◌, ℕ, ◌^◌, ◌≤◌, IsSome, inl, inr, Result, refl, ◌∙◌, ◌++◌, ◌∷◌, [], List, sym, ap, subst, arith, Err}
-use Rattle.qcow2_alloc.specs.LowestRuns.{IsUsed, KeepsUsed}
-use Rattle.std.specs.Prelude.{IfErr}
-use Rattle.qcow2_metadata.specs.EntryTable.{entry_count}
-use Rattle.qcow2_metadata.specs.Header.{HeaderView, counts_per_block, entries_per_cluster}
-use Rattle.qcow2_laws.specs.CrashInvariant.{Pending}
-use Rattle.qcow2_alloc.specs.declared.clusters_to_free.ClustersToFreeEntry.{ClustersToFreeEntry}
-use Rattle.qcow2_alloc.specs.Allocation.{InternalAllocatorGrowth, RefusedGrowth, GrowsTable}
-use Rattle.qcow2_alloc.specs.declared.error.ImageError.{ImageError}
-use Rattle.qcow2_alloc.specs.FreeList.{pending_then}
-use Rattle.qcow2_alloc.specs.Growing.{IsLeastLength, IsLongEnough}
-use Rattle.qcow2_alloc.specs.Limits.{IsFaultOr, HasNoRoomFor, CantGrow}
+use Rattle.qcow2_alloc.proofs.Common.{◌≡◌, ℕ, ◌^◌, ◌≤◌, IsSome, inl, inr, Result, refl, ◌∙◌, ◌++◌, ◌∷◌, [], List, sym, ap, subst, arith, Err, IsUsed, KeepsUsed, IfErr, entry_count, HeaderView, counts_per_block, entries_per_cluster, Pending, ClustersToFreeEntry, InternalAllocatorGrowth, RefusedGrowth, GrowsTable, ImageError, pending_then, IsLeastLength, IsLongEnough, IsFaultOr, HasNoRoomFor, CantGrow, IsAllocatedMetadata, AllocatesOnly}
 use Rattle.qcow2_alloc.proofs.SparedHeaders.{spares_listed}
 use Rattle.qcow2_alloc.proofs.AllocationSteps.{handed_on, lacking_clone, on_none}
 use Rattle.qcow2_alloc.proofs.FullRooms.{cant_grow}
@@ -17,7 +6,6 @@ use Rattle.qcow2_alloc.proofs.Limits.{cause_as}
 use Rattle.qcow2_alloc.proofs.ListedAfter.{listed_after_same}
 use Rattle.qcow2_alloc.proofs.GrownReftables.{grown}
 use Rattle.qcow2_alloc.proofs.Outcomes.{on_no_ok}
-use Rattle.qcow2_alloc.specs.MadeClusters.{IsAllocatedMetadata, AllocatesOnly}
 use Rattle.qcow2_alloc.proofs.MadeClusters.{made_entered, made_unentered}
 use Rattle.qcow2_alloc.proofs.Steps.{growth_step_none, growth_step_on, fails_by, fails_ok, fails_on}
 use Rattle.qcow2_alloc.proofs.allocation.Allocator.grow_reftable.Goals as goal

@@ -1,4 +1,4 @@
-use Rattle.std.proofs.Common.{sym, ◌∙◌}
+use Rattle.qcow2_alloc.proofs.Common.{sym, ◌∙◌}
 use Rattle.qcow2_alloc.proofs.SparedClusters.{lies_in, lies_not}
 use Rattle.qcow2_alloc.proofs.allocation.Allocator.is_spared.Goals as goal
 

@@ -1,9 +1,4 @@
-use Rattle.std.proofs.Common.{◌≡◌, ℕ, ◌+◌, ◌-◌, ◌*◌, ◌/◌, ◌%◌, ◌^◌, ◌<◌, ◌≤◌, inl, inr, refl, sym, ap, ◌∙◌, arith}
-use Rattle.std.proofs.lemmas.Nat.{div-mul-add, mod-mul-add}
-use Rattle.qcow2_alloc.specs.ImageFile.{contents_in}
-use Rattle.qcow2_alloc.specs.LowestRuns.{KeepsNoFreeBelowHint}
-use Rattle.qcow2_alloc.specs.UsedCounts.{IsFoundUsed, StaysSound}
-use Rattle.qcow2_alloc.specs.declared.allocation.Allocator.{Allocator}
+use Rattle.qcow2_alloc.proofs.Common.{◌≡◌, ℕ, ◌+◌, ◌-◌, ◌*◌, ◌/◌, ◌%◌, ◌^◌, ◌<◌, ◌≤◌, inl, inr, refl, sym, ap, ◌∙◌, arith, div-mul-add, mod-mul-add, contents_in, KeepsNoFreeBelowHint, IsFoundUsed, StaysSound, Allocator}
 use Rattle.qcow2_alloc.proofs.AllocationSteps.{handed_on, allocator_step_as, counted_at}
 use Rattle.qcow2_alloc.proofs.Hints.{hint_refused, hint_stays, passed_still}
 use Rattle.qcow2_alloc.proofs.KeptRuns.{hint_kept}

@@ -1,16 +1,8 @@
-use Rattle.std.proofs.Common.{◌≡◌, inl, inr, ◌+◌, ◌-◌, ◌/◌, ◌^◌, false, true, refl, sym, ap, ◌∙◌, subst, arith}
-use Rattle.qcow2_metadata.specs.Header.{counts_per_block}
-use Rattle.qcow2_laws.specs.Changes.{one_at}
-use Rattle.qcow2_laws.specs.CrashInvariant.{Pending}
-use Rattle.qcow2_alloc.specs.Allocation.{Taken, taken_as, InternalAllocatorStep, GivesBack}
-use Rattle.qcow2_alloc.specs.LowestRuns.{IsUsed}
-use Rattle.qcow2_alloc.specs.GrownTables.{with_run}
-use Rattle.qcow2_alloc.specs.Rooms.{lacks}
+use Rattle.qcow2_alloc.proofs.Common.{◌≡◌, inl, inr, ◌+◌, ◌-◌, ◌/◌, ◌^◌, false, true, refl, sym, ap, ◌∙◌, subst, arith, counts_per_block, one_at, Pending, Taken, taken_as, InternalAllocatorStep, GivesBack, IsUsed, with_run, lacks, faults_of}
 use Rattle.qcow2_alloc.proofs.AllocationSteps.{handed_on, of_equal}
 use Rattle.qcow2_alloc.proofs.Hints.{not_in_run, search_as, search_same, search_then, taken_pending, used_stays}
 use Rattle.qcow2_alloc.proofs.Rooms.{run_past, left_none, left_one, left_fault, owed_now}
 use Rattle.qcow2_alloc.proofs.allocation.Allocator.leave_run.Goals.{then-not-lacks_block+in_ok-decrement_or_leak, else-not-lacks_block}
-use Rattle.qcow2_alloc.specs.Faults.{faults_of}
 use Rattle.qcow2_alloc.proofs.Steps.{fails_ok, fails_on, fails_since, table_step_none, table_step_then, table_step_as}
 use Rattle.qcow2_alloc.proofs.Outcomes.{on_no_ok}
 use Rattle.qcow2_alloc.proofs.allocation.Allocator.leave_run.Goals as goal

@@ -1,12 +1,4 @@
-use Rattle.std.proofs.Common.{◌≡◌, ℕ, ◌+◌, ◌-◌, ◌^◌}
-use Rattle.qcow2_metadata.specs.Header.{counts_per_block}
-use Rattle.qcow2_laws.specs.CrashInvariant.{Pending}
-use Rattle.qcow2_alloc.specs.Allocation.{run_at, SameLeaks, InternalAllocatorStep}
-use Rattle.qcow2_alloc.specs.Faults.{faults_of}
-use Rattle.qcow2_alloc.specs.GrownTables.{with_run}
-use Rattle.qcow2_alloc.specs.declared.image_file.ImageFile.{ImageFile}
-use Rattle.qcow2_alloc.specs.LowestRuns.{IsUsed, SearchStays}
-use Rattle.qcow2_alloc.specs.Steps.{TableStep}
+use Rattle.qcow2_alloc.proofs.Common.{◌≡◌, ℕ, ◌+◌, ◌-◌, ◌^◌, counts_per_block, Pending, run_at, SameLeaks, InternalAllocatorStep, faults_of, with_run, ImageFile, IsUsed, SearchStays, TableStep}
 use Rattle.qcow2_alloc.proofs.allocation.Allocator.leave_run.Given as goal
 
 -- the clusters before this one are given back

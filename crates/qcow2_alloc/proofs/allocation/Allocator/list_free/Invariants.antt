@@ -1,6 +1,4 @@
-use Rattle.std.proofs.Common.{◌≡◌, ◌⊎◌, ◌-◌, ◌<◌, ◌≤◌, ℕ}
-use Rattle.number_runs.specs.NumberRuns.{IsIn, NoneIn}
-use Rattle.qcow2_alloc.specs.UsedCounts.{IsFoundUsed, AddsFree}
+use Rattle.qcow2_alloc.proofs.Common.{◌≡◌, ◌⊎◌, ◌-◌, ◌<◌, ◌≤◌, ℕ, IsIn, NoneIn, IsFoundUsed, AddsFree}
 use Rattle.qcow2_alloc.proofs.allocation.Allocator.list_free.Given as goal
 
 -- the clusters up to here are listed, or not free

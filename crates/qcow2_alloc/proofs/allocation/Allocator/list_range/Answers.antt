@@ -1,7 +1,4 @@
-use Rattle.std.proofs.Common.{ℕ, List, inl, ap, subst}
-use Rattle.number_runs.specs.NumberRuns.{IsIn}
-use Rattle.qcow2_alloc.specs.UsedCounts.{IsFoundUsed}
-use Rattle.qcow2_alloc.specs.declared.allocation.Allocator.{Allocator}
+use Rattle.qcow2_alloc.proofs.Common.{ℕ, List, inl, ap, subst, IsIn, IsFoundUsed, Allocator}
 use Rattle.qcow2_alloc.proofs.KeptRuns.{listed_covered, runs_rest, stays_covered}
 use Rattle.qcow2_alloc.proofs.allocation.Allocator.list_range.Goals as goal
 

@@ -1,5 +1,4 @@
-use Rattle.std.proofs.Common.{inl, inr, arith}
-use Rattle.number_runs.specs.NumberRuns.{IsIn}
+use Rattle.qcow2_alloc.proofs.Common.{inl, inr, arith, IsIn}
 use Rattle.qcow2_alloc.proofs.KeptRuns.{listed_open, one_used}
 use Rattle.qcow2_alloc.proofs.allocation.Allocator.list_stretch.Goals as goal
 

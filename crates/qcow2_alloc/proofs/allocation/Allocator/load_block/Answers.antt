@@ -1,8 +1,6 @@
-use Rattle.std.proofs.Common.{refl, inl, ◌^◌}
-use Rattle.qcow2_alloc.specs.Allocation.{LoadsBlock}
+use Rattle.qcow2_alloc.proofs.Common.{refl, inl, ◌^◌, LoadsBlock, contents_in}
 use Rattle.qcow2_alloc.proofs.FileSteps.{file_step_cached, reftable_cached}
 use Rattle.qcow2_alloc.proofs.AllocationSteps.{handed_on, place_fits, stands}
-use Rattle.qcow2_alloc.specs.ImageFile.{contents_in}
 use Rattle.qcow2_alloc.proofs.KeptTables.Places.{named_have_places}
 use Rattle.qcow2_alloc.proofs.AlignedBlocks.{not_off}
 use Rattle.qcow2_alloc.proofs.SparedHeaders.{not_first}

@@ -1,6 +1,4 @@
-use Rattle.std.proofs.Common.{ap, arith}
-use Rattle.qcow2_metadata.specs.EntryTable.{EntryTableView}
-use Rattle.qcow2_metadata.proofs.EntryTables.{entry_at_past}
+use Rattle.qcow2_alloc.proofs.Common.{ap, arith, EntryTableView, entry_at_past}
 use Rattle.qcow2_alloc.proofs.allocation.Allocator.longer_reftable.Goals as goal
 
 pub returns-clause-entries : goal.returns-clause-entries

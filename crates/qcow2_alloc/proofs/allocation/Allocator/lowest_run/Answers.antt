@@ -1,8 +1,4 @@
-use Rattle.std.proofs.Common.{ap, subst, sym, ◌∙◌}
-use Rattle.qcow2_metadata.specs.EntryTable.{EntryTableView}
-use Rattle.qcow2_alloc.specs.ImageFile.{HasReftable}
-use Rattle.qcow2_alloc.specs.Steps.{FileStep}
-use Rattle.qcow2_alloc.specs.declared.allocation.Allocator.{Allocator}
+use Rattle.qcow2_alloc.proofs.Common.{ap, subst, sym, ◌∙◌, EntryTableView, HasReftable, FileStep, Allocator}
 use Rattle.qcow2_alloc.proofs.allocation.Allocator.lowest_run.Goals as goal
 
 pub returns-clause-step : goal.returns-clause-step

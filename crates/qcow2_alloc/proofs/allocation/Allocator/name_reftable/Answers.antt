@@ -1,17 +1,9 @@
-use Rattle.std.proofs.Common.{inr, ◌+◌, ◌*◌, ◌^◌, sym, ap, ◌∙◌, refl, subst}
-use Rattle.qcow2_alloc.specs.GrownTables.{with_run, NamesReftable}
-use Rattle.qcow2_alloc.specs.ImageError.{of_storage, of_metadata}
-use Rattle.qcow2_alloc.specs.ImageStorage.{storage_of}
-use Rattle.qcow2_alloc.specs.LowestRuns.{KeepsUsed}
-use Rattle.qcow2_alloc.specs.ImageFile.{KeepsHeader}
-use Rattle.qcow2_alloc.specs.declared.image_file.ImageFile.{ImageFile}
+use Rattle.qcow2_alloc.proofs.Common.{inr, ◌+◌, ◌*◌, ◌^◌, sym, ap, ◌∙◌, refl, subst, with_run, NamesReftable, of_storage, of_metadata, storage_of, KeepsUsed, KeepsHeader, ImageFile, PreservesHeaderButPointer, HeaderView}
 use Rattle.qcow2_alloc.proofs.AllocationSteps.{handed_on, fault_of_storage}
 use Rattle.qcow2_alloc.proofs.NamedReftables.{within_limit, interrupted_named, allocator_step_named, keeps_used}
 use Rattle.qcow2_alloc.proofs.ListedAfter.{header_same}
 use Rattle.qcow2_alloc.proofs.KeptNotes.{note_kept}
 use Rattle.qcow2_alloc.proofs.SparedHeaders.{spares_none, spares_pointer, placed_above}
-use Rattle.qcow2_alloc.specs.SparedHeaders.{PreservesHeaderButPointer}
-use Rattle.qcow2_metadata.specs.Header.{HeaderView}
 use Rattle.qcow2_alloc.proofs.KeptMarks.{kept_marks_none, told_kept, marks_of_storage}
 use Rattle.qcow2_alloc.proofs.Steps.{fails_by, limit_other, fails_ok, fails_on, fails_since, fails_storage, other_as, same_faults}
 use Rattle.qcow2_alloc.specs.declared.error.ImageError.TheVariants as I

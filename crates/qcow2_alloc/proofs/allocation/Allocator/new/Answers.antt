@@ -1,18 +1,5 @@
 use Rattle.qcow2_alloc.proofs.AllocationSteps.{table_loaded, handed_on}
-use Rattle.std.proofs.Common.{◌≡◌, inl, inr, ℕ, ◌+◌, ◌*◌, ◌<◌, ◌≤◌, ◌^◌, Ok, Result, Some, sym, ap, ◌∙◌, subst, refl, arith, rules}
-use Rattle.std.specs.Prelude.{MatchResult}
-use Rattle.image_access.specs.Contents.{bytes_at}
-use Rattle.qcow2_metadata.specs.Bytes.{byte_at}
-use Rattle.qcow2_metadata.specs.EntryTable.{SomeUnread, EntryTableView, entry_count}
-use Rattle.qcow2_metadata.specs.TableBytes.{entry_at}
-use Rattle.qcow2_metadata.specs.Entries.{reftable_entry, ReftableEntryReads}
-use Rattle.qcow2_metadata.specs.Header.{reftable_entries, cluster_size, entries_per_cluster}
-use Rattle.qcow2_metadata.proofs.EntryTables.{reftable_entries-loaded}
-use Rattle.qcow2_alloc.specs.declared.allocation.Allocator.{Allocator}
-use Rattle.qcow2_alloc.specs.declared.error.ImageError.{ImageError}
-use Rattle.qcow2_alloc.specs.ImageError.{of_metadata}
-use Rattle.qcow2_alloc.specs.ImageFile.{contents_in, view_in}
-use Rattle.qcow2_alloc.specs.LoadedTables.{HasUnreadEntry, IsReasonAgainst, IsReasonAgainstReftable, ReftableReads}
+use Rattle.qcow2_alloc.proofs.Common.{◌≡◌, inl, inr, ℕ, ◌+◌, ◌*◌, ◌<◌, ◌≤◌, ◌^◌, Ok, Result, Some, sym, ap, ◌∙◌, subst, refl, arith, rules, MatchResult, bytes_at, byte_at, SomeUnread, EntryTableView, entry_count, entry_at, reftable_entry, ReftableEntryReads, reftable_entries, cluster_size, entries_per_cluster, reftable_entries-loaded, Allocator, ImageError, of_metadata, contents_in, view_in, HasUnreadEntry, IsReasonAgainst, IsReasonAgainstReftable, ReftableReads}
 use Rattle.qcow2_alloc.proofs.LoadedTables.{entries_read, fits_so, not_loaded}
 use Rattle.qcow2_alloc.proofs.SparedHeaders.{not_first, placed_above}
 use Rattle.qcow2_alloc.proofs.Steps.{fails_by, fails_loaded, fails_ok}

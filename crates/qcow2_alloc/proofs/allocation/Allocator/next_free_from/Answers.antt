@@ -1,8 +1,4 @@
-use Rattle.std.proofs.Common.{◌≡◌, ℕ, ◌/◌, refl, ap, subst, sym, ◌∙◌}
-use Rattle.qcow2_metadata.specs.Header.{HeaderView}
-use Rattle.qcow2_alloc.specs.LowestRuns.{KeepsNoFreeBelowHint, NoFreeBelowHint}
-use Rattle.qcow2_alloc.specs.UsedCounts.{SearchContinuesIn, PassesKnown}
-use Rattle.qcow2_alloc.specs.declared.allocation.Allocator.{Allocator}
+use Rattle.qcow2_alloc.proofs.Common.{◌≡◌, ℕ, ◌/◌, refl, ap, subst, sym, ◌∙◌, HeaderView, KeepsNoFreeBelowHint, NoFreeBelowHint, SearchContinuesIn, PassesKnown, Allocator}
 use Rattle.qcow2_alloc.proofs.AllocationSteps.{handed_on, allocator_step_as, allocator_step_then, is_sound_now}
 use Rattle.qcow2_alloc.proofs.FileSteps.{leaves_then}
 use Rattle.qcow2_alloc.proofs.Hints.{hint_passed, hint_refused, hint_stays, passed_still}

@@ -1,17 +1,4 @@
-use Rattle.std.proofs.Common.{◌≡◌, ℕ, ◌+◌, ◌-◌, ◌*◌, ◌/◌, ◌%◌, ◌^◌, ◌<◌, ◌≤◌, min, Some, IsSome, inl, inr, refl, sym, ap, subst, ◌∙◌, arith}
-use Rattle.std.specs.Option.{is_some}
-use Rattle.std.proofs.lemmas.Bool.{cases_lt}
-use Rattle.std.proofs.lemmas.Nat.{one_shl, mod_below, pow_pos, div-add-mod', div-mul-add, mod-mul-add}
-use Rattle.qcow2_metadata.specs.declared.header.HeaderFields.{HeaderFields}
-use Rattle.qcow2_metadata.specs.EntryTable.{EntryTableView}
-use Rattle.qcow2_metadata.specs.FirstZero.{IsFirstZero}
-use Rattle.qcow2_metadata.specs.Header.{counts_per_block}
-use Rattle.qcow2_metadata.specs.RefBlock.{count_at, counts_of}
-use Rattle.qcow2_alloc.specs.Allocation.{HasNone, NamesBlock}
-use Rattle.qcow2_alloc.specs.MetadataCaches.{rb_at}
-use Rattle.qcow2_alloc.specs.UsedCounts.{PassesKnown, ReportsFirstFree, SearchContinuesAt}
-use Rattle.qcow2_alloc.specs.declared.cache.MetadataCaches.{MetadataCaches}
-use Rattle.qcow2_alloc.specs.ImageFile.{contents_in}
+use Rattle.qcow2_alloc.proofs.Common.{◌≡◌, ℕ, ◌+◌, ◌-◌, ◌*◌, ◌/◌, ◌%◌, ◌^◌, ◌<◌, ◌≤◌, min, Some, IsSome, inl, inr, refl, sym, ap, subst, ◌∙◌, arith, is_some, cases_lt, one_shl, mod_below, pow_pos, div-add-mod', div-mul-add, mod-mul-add, HeaderFields, EntryTableView, IsFirstZero, counts_per_block, count_at, counts_of, HasNone, NamesBlock, rb_at, PassesKnown, ReportsFirstFree, SearchContinuesAt, MetadataCaches, contents_in}
 use Rattle.qcow2_alloc.proofs.AllocationSteps.{handed_on, counted_at, none_named}
 use Rattle.qcow2_alloc.proofs.CachedEntries.Putting.{some_of}
 use Rattle.qcow2_alloc.proofs.Outcomes.{if_no_ok}

@@ -1,29 +1,4 @@
-use Rattle.std.proofs.Common.{◌≡◌, inr, ℕ, ◌+◌, ◌*◌, ◌/◌, ◌^◌, ◌<◌, ◌≤◌, Bool, IsTrue, Some, Result, Ok, Err, refl, sym, ap, ◌∙◌, subst, arith, IsSome}
-use Rattle.std.proofs.lemmas.Nat.{div-add-mod'}
-use Rattle.std.specs.Option.{IfSome}
-use Rattle.std.specs.Int.{w64, to_be_bytes}
-use Rattle.image_access.specs.Contents.{overwritten}
-use Rattle.image_access.specs.Moments.{StorageView, Changes, Calls}
-use Rattle.image_access.specs.declared.error.StorageError.{StorageError}
-use Rattle.qcow2_metadata.specs.declared.header.HeaderFields.{HeaderFields}
-use Rattle.qcow2_metadata.specs.EntryTable.{EntryTableView, entry_count}
-use Rattle.qcow2_metadata.specs.Header.{cluster_size}
-use Rattle.qcow2_metadata.specs.RefBlock.{RefBlockView, IsRefBlock, count_at}
-use Rattle.qcow2_metadata.specs.L2Mapping.{IsHostCluster}
-use Rattle.qcow2_metadata.specs.TableBytes.{entry_at, ChangesEntry, HasPlace}
-use Rattle.qcow2_metadata.specs.Entries.{block_offset}
-use Rattle.qcow2_laws.specs.CrashInvariant.{Pending}
-use Rattle.qcow2_laws.specs.Caches.{AreClean, BlocksMayGo}
-use Rattle.qcow2_alloc.specs.declared.allocation.Allocator.{Allocator}
-use Rattle.qcow2_alloc.specs.declared.error.ImageError.{ImageError}
-use Rattle.qcow2_alloc.specs.declared.image_storage.ImageStorage.{ImageStorage}
-use Rattle.qcow2_alloc.specs.declared.image_file.ImageFile.{ImageFile}
-use Rattle.qcow2_alloc.specs.Allocation.{placing, first_counts, HasPlaceFor, RefblockAt, InternalAllocatorStep, HoldsBlock, PlacesBlock}
-use Rattle.qcow2_alloc.specs.ImageError.{of_storage, IsFault}
-use Rattle.qcow2_alloc.specs.ImageFile.{view_in, AllocatorInvariant}
-use Rattle.qcow2_alloc.specs.ImageStorage.{storage_of, is_changed_of}
-use Rattle.qcow2_alloc.specs.MetadataCaches.{order_of, l2_tables, refblocks, rb_at}
-use Rattle.qcow2_alloc.specs.TableCaches.{cleared_rb, IsBlockOf}
+use Rattle.qcow2_alloc.proofs.Common.{◌≡◌, inr, ℕ, ◌+◌, ◌*◌, ◌/◌, ◌^◌, ◌<◌, ◌≤◌, Bool, IsTrue, Some, Result, Ok, Err, refl, sym, ap, ◌∙◌, subst, arith, IsSome, div-add-mod', IfSome, w64, to_be_bytes, overwritten, StorageView, Changes, Calls, StorageError, HeaderFields, EntryTableView, entry_count, cluster_size, RefBlockView, IsRefBlock, count_at, IsHostCluster, entry_at, ChangesEntry, HasPlace, block_offset, Pending, AreClean, BlocksMayGo, Allocator, ImageError, ImageStorage, ImageFile, placing, first_counts, HasPlaceFor, RefblockAt, InternalAllocatorStep, HoldsBlock, PlacesBlock, of_storage, IsFault, view_in, AllocatorInvariant, storage_of, is_changed_of, order_of, l2_tables, refblocks, rb_at, cleared_rb, IsBlockOf, or_left}
 use Rattle.qcow2_alloc.proofs.FileSteps.{file_step_then, interrupted_then}
 use Rattle.qcow2_alloc.proofs.AllocationSteps.{entered_has, handed_on, entries_entered, fault_of_storage, is_sound_now, stands}
 use Rattle.qcow2_alloc.proofs.NamedBlocks.{entry_write_as, real, safe_throughout_named, named_so}
@@ -31,7 +6,6 @@ use Rattle.qcow2_alloc.proofs.Outcomes.{on_no_ok, entries_none}
 use Rattle.qcow2_alloc.proofs.SparedHeaders.{spares_then, spares_entry}
 use Rattle.qcow2_alloc.proofs.KeptMarks.{kept_marks_then, placed_kept, marks_of_storage}
 use Rattle.qcow2_alloc.proofs.KeptNotes.{note_kept}
-use Rattle.std.proofs.lemmas.Bool.{or_left}
 use Rattle.qcow2_alloc.proofs.Steps.{fails_on, fails_ok, fails_since, fails_storage, same_faults}
 use Rattle.qcow2_alloc.proofs.allocation.Allocator.place_block.Goals as goal
 

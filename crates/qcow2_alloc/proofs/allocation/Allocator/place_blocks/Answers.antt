@@ -1,6 +1,4 @@
-use Rattle.std.proofs.Common.{ap}
-use Rattle.qcow2_alloc.specs.GrownTables.{with_run}
-use Rattle.qcow2_alloc.specs.Rooms.{room_length, PlacesBlocks}
+use Rattle.qcow2_alloc.proofs.Common.{ap, with_run, room_length, PlacesBlocks}
 use Rattle.qcow2_alloc.proofs.AllocationSteps.{handed_on}
 use Rattle.qcow2_alloc.proofs.NewRefblocks.{new_blocks_flushed}
 use Rattle.qcow2_alloc.proofs.Steps.{fails_on, fails_since, table_step_cached, table_step_then}

@@ -1,5 +1,4 @@
-use Rattle.std.proofs.Common.{refl}
-use Rattle.qcow2_alloc.specs.UsedCounts.{IsFoundUsed}
+use Rattle.qcow2_alloc.proofs.Common.{refl, IsFoundUsed}
 use Rattle.qcow2_alloc.proofs.KeptRuns.{keeps_then, read_kept, spared_read}
 use Rattle.qcow2_alloc.proofs.allocation.Allocator.read_range.Goals as goal
 

@@ -1,6 +1,4 @@
-use Rattle.std.proofs.Common.{inl, inr, ap, subst, arith}
-use Rattle.qcow2_alloc.specs.LowestRuns.{IsCovered}
-use Rattle.qcow2_alloc.specs.declared.allocation.Allocator.{Allocator}
+use Rattle.qcow2_alloc.proofs.Common.{inl, inr, ap, subst, arith, IsCovered, Allocator}
 use Rattle.qcow2_alloc.proofs.KeptRuns.{passes_kept}
 use Rattle.qcow2_alloc.proofs.allocation.Allocator.record_decrement.Goals as goal
 

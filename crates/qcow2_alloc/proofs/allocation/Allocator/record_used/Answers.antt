@@ -1,5 +1,4 @@
-use Rattle.std.proofs.Common.{◌≡◌, inl, inr, refl, subst, arith}
-use Rattle.qcow2_alloc.specs.LowestRuns.{IsCovered}
+use Rattle.qcow2_alloc.proofs.Common.{◌≡◌, inl, inr, refl, subst, arith, IsCovered}
 use Rattle.qcow2_alloc.proofs.KeptRuns.{covered_but, kept_more}
 use Rattle.qcow2_alloc.proofs.allocation.Allocator.record_used.Goals as goal
 

@@ -1,9 +1,4 @@
-use Rattle.std.proofs.Common.{false, ◌≡◌, inl, ◌+◌, ◌/◌, ◌^◌, refl, sym, ap, ◌∙◌, subst, arith}
-use Rattle.qcow2_metadata.specs.Header.{counts_per_block}
-use Rattle.qcow2_laws.specs.CrashInvariant.{Pending}
-use Rattle.qcow2_alloc.specs.Allocation.{InternalAllocatorStep}
-use Rattle.qcow2_alloc.specs.GrownTables.{counted_run, with_run}
-use Rattle.qcow2_alloc.specs.Rooms.{lacks, opens, ReachesRoom}
+use Rattle.qcow2_alloc.proofs.Common.{false, ◌≡◌, inl, ◌+◌, ◌/◌, ◌^◌, refl, sym, ap, ◌∙◌, subst, arith, counts_per_block, Pending, InternalAllocatorStep, counted_run, with_run, lacks, opens, ReachesRoom}
 use Rattle.qcow2_alloc.proofs.AllocationSteps.{handed_on, allocator_step_none, is_sound_now}
 use Rattle.qcow2_alloc.proofs.Rooms.{counted_few, run_none, run_taken, run_not_taken, ends_room, opened_none, opened_more, more_short, is_flag, flag_few, noted_more, still_noted}
 use Rattle.qcow2_alloc.proofs.allocation.Allocator.reserve_room.Goals.{then-reaching-test+else-taken-end, else-reaching-test}

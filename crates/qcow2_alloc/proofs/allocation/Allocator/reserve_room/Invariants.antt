@@ -1,12 +1,4 @@
-use Rattle.std.proofs.Common.{◌≡◌, ◌⊎◌, ℕ, ◌+◌, ◌-◌, ◌^◌, ◌<◌, ◌≤◌, IsTrue}
-use Rattle.qcow2_metadata.specs.Header.{counts_per_block}
-use Rattle.qcow2_laws.specs.CrashInvariant.{Pending}
-use Rattle.qcow2_alloc.specs.Allocation.{InternalAllocatorStep}
-use Rattle.qcow2_alloc.specs.Faults.{faults_of}
-use Rattle.qcow2_alloc.specs.GrownTables.{counted_run, with_run}
-use Rattle.qcow2_alloc.specs.ImageFile.{AllocatorInvariant}
-use Rattle.qcow2_alloc.specs.Rooms.{opened}
-use Rattle.qcow2_alloc.specs.Steps.{TableStep}
+use Rattle.qcow2_alloc.proofs.Common.{◌≡◌, ◌⊎◌, ℕ, ◌+◌, ◌-◌, ◌^◌, ◌<◌, ◌≤◌, IsTrue, counts_per_block, Pending, InternalAllocatorStep, faults_of, counted_run, with_run, AllocatorInvariant, opened, TableStep}
 use Rattle.qcow2_alloc.proofs.allocation.Allocator.reserve_room.Given as goal
 
 -- so many clusters are taken

@@ -1,17 +1,7 @@
-use Rattle.std.proofs.Common.{◌≡◌, inl, false, refl, sym, ap, ◌+◌, ◌/◌, ◌^◌, ◌∙◌, subst, arith, inr, Result, ℕ, ◌≤◌, ◌<◌}
-use Rattle.qcow2_metadata.specs.L2Mapping.{greatest_offset}
-use Rattle.std.proofs.Math.Nat.{div-le_self}
-use Rattle.qcow2_laws.specs.CrashInvariant.{Pending}
-use Rattle.qcow2_alloc.specs.LowestRuns.{KeepsNoFreeBelowHint, IsUsed}
-use Rattle.qcow2_alloc.specs.declared.allocation.Allocator.{Allocator}
+use Rattle.qcow2_alloc.proofs.Common.{◌≡◌, inl, false, refl, sym, ap, ◌+◌, ◌/◌, ◌^◌, ◌∙◌, subst, arith, inr, Result, ℕ, ◌≤◌, ◌<◌, greatest_offset, div-le_self, Pending, KeepsNoFreeBelowHint, IsUsed, Allocator, run_at, InternalAllocatorGrowth, AllocatesSomeRun, RefusedGrowth, pending_then, IfErr, ImageError, IsFaultOr, HasNoPlace, nameable_clusters}
 use Rattle.qcow2_alloc.proofs.Hints.{hint_header, lowest_behind, lowest_first, lowest_passed, lowest_stays, not_broken, used_stays}
-use Rattle.qcow2_alloc.specs.Allocation.{run_at, InternalAllocatorGrowth, AllocatesSomeRun, RefusedGrowth}
-use Rattle.qcow2_alloc.specs.FreeList.{pending_then}
 use Rattle.qcow2_alloc.proofs.AllocationSteps.{handed_on, may_still, on_none, on_of, leaves_as, is_sound_on}
 use Rattle.qcow2_alloc.proofs.ListedAfter.{lists_same, lists_then, listed_after_same, then_none, then_taken, then_leaves, header_bits}
-use Rattle.std.specs.Prelude.{IfErr}
-use Rattle.qcow2_alloc.specs.declared.error.ImageError.{ImageError}
-use Rattle.qcow2_alloc.specs.Limits.{IsFaultOr, HasNoPlace, nameable_clusters}
 use Rattle.qcow2_alloc.proofs.Limits.{full_behind, limit_is_no_fault}
 use Rattle.qcow2_alloc.proofs.allocation.Allocator.search_run.Goals.{then-search-test+then-n-limit+else-first-limit, then-search-test+else-n-limit, else-search-test}
 use Rattle.qcow2_alloc.proofs.Outcomes.{on_no_ok, if_no_ok}

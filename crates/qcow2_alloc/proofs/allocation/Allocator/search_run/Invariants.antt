@@ -1,12 +1,4 @@
-use Rattle.std.proofs.Common.{max, ◌≡◌, ◌+◌, ◌-◌, ◌/◌, ◌^◌, ◌<◌, ◌≤◌, Bool}
-use Rattle.qcow2_metadata.specs.L2Mapping.{greatest_offset}
-use Rattle.qcow2_laws.specs.CrashInvariant.{Pending}
-use Rattle.qcow2_alloc.specs.Allocation.{InternalAllocatorGrowth, MayAllocate, SameLeaks}
-use Rattle.qcow2_alloc.specs.Faults.{faults_of}
-use Rattle.qcow2_alloc.specs.ImageFile.{AllocatorInvariant}
-use Rattle.qcow2_alloc.specs.FreeList.{pending_then}
-use Rattle.qcow2_alloc.specs.LowestRuns.{NoFreeBelowHint, IsLowestRun, IsUsed, StaysUsed}
-use Rattle.qcow2_alloc.specs.Steps.{FileStep}
+use Rattle.qcow2_alloc.proofs.Common.{max, ◌≡◌, ◌+◌, ◌-◌, ◌/◌, ◌^◌, ◌<◌, ◌≤◌, Bool, greatest_offset, Pending, InternalAllocatorGrowth, MayAllocate, SameLeaks, faults_of, AllocatorInvariant, pending_then, NoFreeBelowHint, IsLowestRun, IsUsed, StaysUsed, FileStep}
 use Rattle.qcow2_alloc.proofs.allocation.Allocator.search_run.Given as goal
 
 -- nothing is taken yet

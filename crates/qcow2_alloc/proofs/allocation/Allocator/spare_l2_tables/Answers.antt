@@ -1,9 +1,4 @@
-use Rattle.std.proofs.Common.{◌≡◌, ◌≢◌, ◌+◌, ◌/◌, ◌^◌, true, false, ap, sym, subst, refl, ◌∙◌, arith}
-use Rattle.qcow2_metadata.specs.Entries.{host_offset}
-use Rattle.qcow2_metadata.specs.EntryTable.{entry_count}
-use Rattle.qcow2_metadata.specs.TableBytes.{entry_at}
-use Rattle.qcow2_alloc.specs.SparedClusters.{NamesTableIn, Spares}
-use Rattle.qcow2_alloc.specs.declared.allocation.Allocator.{Allocator}
+use Rattle.qcow2_alloc.proofs.Common.{◌≡◌, ◌≢◌, ◌+◌, ◌/◌, ◌^◌, true, false, ap, sym, subst, refl, ◌∙◌, arith, host_offset, entry_count, entry_at, NamesTableIn, Spares, Allocator}
 use Rattle.qcow2_alloc.proofs.SparedClusters.{table_more, table_none, named_rest, spares_none}
 use Rattle.qcow2_alloc.proofs.allocation.Allocator.spare_l2_tables.Goals.{in-Some+else-not-spare, in_default}
 use Rattle.qcow2_alloc.proofs.allocation.Allocator.spare_l2_tables.Goals as goal

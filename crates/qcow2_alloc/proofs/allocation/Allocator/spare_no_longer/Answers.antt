@@ -1,4 +1,4 @@
-use Rattle.std.proofs.Common.{arith}
+use Rattle.qcow2_alloc.proofs.Common.{arith}
 use Rattle.qcow2_alloc.proofs.allocation.Allocator.spare_no_longer.Goals as goal
 
 pub returns-then-not-take-clause-gone : goal.returns-then-not-take-clause-gone

@@ -1,9 +1,4 @@
-use Rattle.std.proofs.Common.{◌≡◌, ◌≢◌, ◌+◌, ◌/◌, ◌^◌, true, false, ap, sym, subst, refl, ◌∙◌, arith}
-use Rattle.qcow2_metadata.specs.Entries.{block_offset}
-use Rattle.qcow2_metadata.specs.EntryTable.{EntryTableView, entry_count}
-use Rattle.qcow2_metadata.specs.TableBytes.{entry_at}
-use Rattle.qcow2_alloc.specs.SparedClusters.{NamesBlockIn, Spares}
-use Rattle.qcow2_alloc.specs.declared.allocation.Allocator.{Allocator}
+use Rattle.qcow2_alloc.proofs.Common.{◌≡◌, ◌≢◌, ◌+◌, ◌/◌, ◌^◌, true, false, ap, sym, subst, refl, ◌∙◌, arith, block_offset, EntryTableView, entry_count, entry_at, NamesBlockIn, Spares, Allocator}
 use Rattle.qcow2_alloc.proofs.SparedClusters.{block_more, block_none, named_rest, spares_none}
 use Rattle.qcow2_alloc.proofs.allocation.Allocator.spare_refblocks.Goals.{in-Some+else-not-spare, in_default}
 use Rattle.qcow2_alloc.proofs.allocation.Allocator.spare_refblocks.Goals as goal

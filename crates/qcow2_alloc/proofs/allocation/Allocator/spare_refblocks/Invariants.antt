@@ -1,6 +1,4 @@
-use Rattle.std.proofs.Common.{◌≡◌, ◌^◌, ◌≤◌, true}
-use Rattle.qcow2_metadata.specs.EntryTable.{entry_count}
-use Rattle.qcow2_alloc.specs.SparedClusters.{NamesBlockIn, Spares}
+use Rattle.qcow2_alloc.proofs.Common.{◌≡◌, ◌^◌, ◌≤◌, true, entry_count, NamesBlockIn, Spares}
 use Rattle.qcow2_alloc.proofs.allocation.Allocator.spare_refblocks.Given as goal
 
 -- the refblocks of the ranges before this one are spared

@@ -1,8 +1,4 @@
-use Rattle.std.proofs.Common.{◌+◌, ◌-◌, ◌*◌, ◌/◌, ◌^◌, ◌≤◌, true, false, ◌∙◌, arith}
-use Rattle.std.proofs.Math.Nat.{div-le_self}
-use Rattle.std.proofs.Math.Pow.{pow_mono}
-use Rattle.qcow2_metadata.specs.Header.{cluster_size}
-use Rattle.qcow2_alloc.specs.SparedClusters.{IsWithin}
+use Rattle.qcow2_alloc.proofs.Common.{◌+◌, ◌-◌, ◌*◌, ◌/◌, ◌^◌, ◌≤◌, true, false, ◌∙◌, arith, div-le_self, pow_mono, cluster_size, IsWithin}
 use Rattle.qcow2_alloc.proofs.SparedClusters.{first_near, l1_within, reftable_within, spares_both, spares_first}
 use Rattle.qcow2_alloc.proofs.allocation.Allocator.spare_tables.Goals as goal
 

@@ -1,4 +1,4 @@
-use Rattle.std.proofs.Common.{arith}
+use Rattle.qcow2_alloc.proofs.Common.{arith}
 use Rattle.qcow2_alloc.proofs.allocation.Allocator.spared_from.Goals as goal
 
 pub returns-in-Some-clause-none : goal.returns-in-Some-clause-none

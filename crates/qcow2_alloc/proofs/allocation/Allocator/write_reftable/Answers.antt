@@ -1,18 +1,4 @@
-use Rattle.std.proofs.Common.{◌≡◌, ℕ, ◌+◌, ◌*◌, ◌/◌, ◌<◌, ◌≤◌, sym, ap, ◌∙◌, subst, arith, Some, refl, inl}
-use Rattle.qcow2_metadata.specs.declared.header.HeaderFields.{HeaderFields}
-use Rattle.qcow2_metadata.specs.EntryTable.{EntryTableView, entry_count}
-use Rattle.qcow2_metadata.specs.Header.{cluster_size, HeaderView}
-use Rattle.qcow2_laws.specs.Caches.{AreClean}
-use Rattle.qcow2_alloc.specs.declared.image_file.ImageFile.{ImageFile}
-use Rattle.qcow2_alloc.specs.declared.cache.MetadataCaches.{MetadataCaches}
-use Rattle.qcow2_alloc.specs.Allocation.{run_at, NamesLacking, HasBytesAt}
-use Rattle.qcow2_alloc.specs.Faults.{faults_of}
-use Rattle.qcow2_alloc.specs.GrownTables.{with_run, NamesReftable, StandsGrown}
-use Rattle.qcow2_alloc.specs.ImageFile.{contents_in, AllocatorInvariant}
-use Rattle.qcow2_alloc.specs.LowestRuns.{KeepsUsed}
-use Rattle.qcow2_alloc.specs.MetadataCaches.{order_of, l2_tables, refblocks, rb_at}
-use Rattle.qcow2_alloc.specs.Rooms.{room_length, placed_at}
-use Rattle.qcow2_alloc.specs.Steps.{EntersRoom}
+use Rattle.qcow2_alloc.proofs.Common.{◌≡◌, ℕ, ◌+◌, ◌*◌, ◌/◌, ◌<◌, ◌≤◌, sym, ap, ◌∙◌, subst, arith, Some, refl, inl, HeaderFields, EntryTableView, entry_count, cluster_size, HeaderView, AreClean, ImageFile, MetadataCaches, run_at, NamesLacking, HasBytesAt, faults_of, with_run, NamesReftable, StandsGrown, contents_in, AllocatorInvariant, KeepsUsed, order_of, l2_tables, refblocks, rb_at, room_length, placed_at, EntersRoom, or_left, is_changed_of, IfSome}
 use Rattle.qcow2_alloc.proofs.AllocationSteps.{handed_on, allocator_step_cached, allocator_step_then, is_sound_now}
 use Rattle.qcow2_alloc.proofs.FileSteps.{leaves_then}
 use Rattle.qcow2_alloc.proofs.PlacedBlocks.{file_sizes}
@@ -21,9 +7,6 @@ use Rattle.qcow2_alloc.proofs.RoomSteps.{may_go}
 use Rattle.qcow2_alloc.proofs.NewRefblocks.{new_blocks_refused}
 use Rattle.qcow2_alloc.proofs.RoomTables.{counting_beside, table_err, table_ok, stands_ready, names_then, uses_after}
 use Rattle.qcow2_alloc.proofs.Hints.{ok_as, uses_refused}
-use Rattle.std.proofs.lemmas.Bool.{or_left}
-use Rattle.qcow2_alloc.specs.ImageStorage.{is_changed_of}
-use Rattle.std.specs.Prelude.{IfSome}
 use Rattle.qcow2_alloc.proofs.Steps.{fails_on, fails_since, fails_still, pointer_step_on, pointer_step_then, table_step_cached, table_step_dropped, table_step_then, table_step_part, pointer_step_to}
 use Rattle.qcow2_alloc.proofs.allocation.Allocator.write_reftable.Goals as goal
 

@@ -1,4 +1,4 @@
-use Rattle.std.proofs.Common.{◌∙◌, arith}
+use Rattle.qcow2_alloc.proofs.Common.{◌∙◌, arith}
 use Rattle.qcow2_alloc.proofs.CachedEntries.Flushing.{length_flushed}
 use Rattle.qcow2_alloc.proofs.CachedEntries.Knowing.{all_keeps}
 use Rattle.qcow2_alloc.proofs.CachedEntries.Pins.{all_keep_pins}

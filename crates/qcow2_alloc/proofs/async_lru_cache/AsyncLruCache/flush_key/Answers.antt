@@ -1,4 +1,4 @@
-use Rattle.std.proofs.Common.{sym, ◌∙◌, arith}
+use Rattle.qcow2_alloc.proofs.Common.{sym, ◌∙◌, arith}
 use Rattle.qcow2_alloc.proofs.CachedEntries.Flushing.{flushed_at, failed_at}
 use Rattle.qcow2_alloc.proofs.CachedEntries.Knowing.{flushed_entry_keeps, failed_entry_keeps}
 use Rattle.qcow2_alloc.proofs.async_lru_cache.AsyncLruCache.flush_key.Goals as goal

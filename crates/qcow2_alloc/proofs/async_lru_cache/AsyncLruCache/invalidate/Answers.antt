@@ -1,4 +1,4 @@
-use Rattle.std.proofs.Common.{arith}
+use Rattle.qcow2_alloc.proofs.Common.{arith}
 use Rattle.qcow2_alloc.proofs.CachedEntries.Lists.{length-pinned}
 use Rattle.qcow2_alloc.proofs.CachedEntries.Pins.{pins_pinned}
 use Rattle.qcow2_alloc.proofs.async_lru_cache.AsyncLruCache.invalidate.Goals as goal

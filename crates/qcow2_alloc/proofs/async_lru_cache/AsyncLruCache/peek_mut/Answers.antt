@@ -1,4 +1,4 @@
-use Rattle.std.proofs.lemmas.Map.{length-set_value}
+use Rattle.qcow2_alloc.proofs.Common.{length-set_value}
 use Rattle.qcow2_alloc.proofs.async_lru_cache.AsyncLruCache.peek_mut.Goals as goal
 
 pub invariant_of-self-lent : goal.invariant_of-self-lent

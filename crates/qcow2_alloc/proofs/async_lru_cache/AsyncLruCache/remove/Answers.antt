@@ -1,4 +1,4 @@
-use Rattle.std.proofs.Common.{arith}
+use Rattle.qcow2_alloc.proofs.Common.{arith}
 use Rattle.qcow2_alloc.proofs.CachedEntries.Lists.{length-remove_entry}
 use Rattle.qcow2_alloc.proofs.async_lru_cache.AsyncLruCache.remove.Goals as goal
 

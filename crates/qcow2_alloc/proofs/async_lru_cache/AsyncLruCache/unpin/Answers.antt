@@ -1,6 +1,4 @@
-use Rattle.std.proofs.Common.{sym, ap}
-use Rattle.std.proofs.lemmas.Map.{length-set_value}
-use Rattle.qcow2_alloc.specs.AsyncLruCache.{cache_of}
+use Rattle.qcow2_alloc.proofs.Common.{sym, ap, length-set_value, cache_of}
 use Rattle.qcow2_alloc.proofs.CachedEntries.Lists.{unpin_none}
 use Rattle.qcow2_alloc.proofs.async_lru_cache.AsyncLruCache.unpin.Goals as goal
 

@@ -1,4 +1,4 @@
-use Rattle.std.proofs.Common.{sym, ◌∙◌, arith}
+use Rattle.qcow2_alloc.proofs.Common.{sym, ◌∙◌, arith}
 use Rattle.qcow2_alloc.proofs.CachedEntries.Lists.{is_pinned-true, is_pinned-false}
 use Rattle.qcow2_alloc.proofs.CachedEntries.Turns.{lookup-first, kept_turn, gone_turn}
 use Rattle.qcow2_alloc.proofs.async_lru_cache.entries.evict_free.Goals as goal

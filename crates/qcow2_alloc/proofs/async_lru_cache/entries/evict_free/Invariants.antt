@@ -1,5 +1,4 @@
-use Rattle.std.proofs.Common.{◌≡◌, false}
-use Rattle.qcow2_alloc.specs.AsyncLruCache.{is_pinned}
+use Rattle.qcow2_alloc.proofs.Common.{◌≡◌, false, is_pinned}
 use Rattle.qcow2_alloc.proofs.CachedEntries.Turns.{IsAround, IsEvicting}
 use Rattle.qcow2_alloc.proofs.async_lru_cache.entries.evict_free.Given as goal
 

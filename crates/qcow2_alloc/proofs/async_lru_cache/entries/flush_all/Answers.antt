@@ -1,6 +1,4 @@
-use Rattle.std.proofs.Common.{refl, sym, ap, ◌∙◌, arith}
-use Rattle.std.specs.Option.{option_or}
-use Rattle.std.specs.Result.{result_err}
+use Rattle.qcow2_alloc.proofs.Common.{refl, sym, ap, ◌∙◌, arith, option_or, result_err}
 use Rattle.qcow2_alloc.proofs.CachedEntries.Turns.{has_first, flush_begins, flush_turn, flushed_around}
 use Rattle.qcow2_alloc.proofs.async_lru_cache.entries.flush_all.Goals as goal
 

@@ -1,5 +1,4 @@
-use Rattle.std.proofs.Common.{Ok, ap, ◌∙◌}
-use Rattle.qcow2_alloc.specs.AsyncLruCache.{slot_of}
+use Rattle.qcow2_alloc.proofs.Common.{Ok, ap, ◌∙◌, slot_of}
 use Rattle.qcow2_alloc.proofs.CachedEntries.Room.{room_at, room_missing}
 use Rattle.qcow2_alloc.proofs.CachedEntries.Putting.{put_new}
 use Rattle.qcow2_alloc.proofs.async_lru_cache.entries.load_new.Goals as goal

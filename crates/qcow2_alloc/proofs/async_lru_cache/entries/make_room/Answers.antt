@@ -1,4 +1,4 @@
-use Rattle.std.proofs.Common.{length, ap, arith}
+use Rattle.qcow2_alloc.proofs.Common.{length, ap, arith}
 use Rattle.qcow2_alloc.proofs.CachedEntries.Room.{oldest, room_refused, room_made}
 use Rattle.qcow2_alloc.proofs.async_lru_cache.entries.make_room.Goals as goal
 

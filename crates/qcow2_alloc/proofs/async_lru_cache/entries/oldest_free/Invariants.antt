@@ -1,5 +1,4 @@
-use Rattle.std.proofs.Common.{◌≡◌, length}
-use Rattle.qcow2_alloc.specs.AsyncLruCache.{oldest_free}
+use Rattle.qcow2_alloc.proofs.Common.{◌≡◌, length, oldest_free}
 use Rattle.qcow2_alloc.proofs.async_lru_cache.entries.oldest_free.Given as goal
 
 abbrev pub invariant-loop-key : goal.invariant-loop-key

@@ -1,6 +1,4 @@
-use Rattle.std.proofs.Common.{◌≡◌, ◌++◌}
-use Rattle.std.specs.Map.{keys_of}
-use Rattle.qcow2_alloc.specs.AsyncLruCache.{pinned}
+use Rattle.qcow2_alloc.proofs.Common.{◌≡◌, ◌++◌, keys_of, pinned}
 use Rattle.qcow2_alloc.proofs.async_lru_cache.entries.pinned_keys.Given as goal
 
 abbrev pub invariant-loop-key : goal.invariant-loop-key

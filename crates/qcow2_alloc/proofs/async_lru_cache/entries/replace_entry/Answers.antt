@@ -1,8 +1,4 @@
-use Rattle.std.proofs.Common.{◌≡◌, ◌∷◌, Some, None, refl, sym, ap, ◌∙◌}
-use Rattle.std.specs.Map.{remove_entry}
-use Rattle.std.proofs.lemmas.Map.{length-set_value}
-use Rattle.std.proofs.lemmas.Option.{same_Some}
-use Rattle.qcow2_alloc.specs.AsyncLruCache.{slot_of}
+use Rattle.qcow2_alloc.proofs.Common.{◌≡◌, ◌∷◌, Some, None, refl, sym, ap, ◌∙◌, remove_entry, length-set_value, same_Some, slot_of}
 use Rattle.qcow2_alloc.proofs.CachedEntries.Putting.{is_promoted, flushed_in_front, some_of, is_some_mapped}
 use Rattle.qcow2_alloc.proofs.async_lru_cache.entries.replace_entry.Goals as goal
 

@@ -1,9 +1,4 @@
-use Rattle.std.proofs.Common.{inr, refl, sym, ap, ◌∙◌, subst, OnOk}
-use Rattle.qcow2_metadata.specs.Bytes.{byte_at}
-use Rattle.qcow2_laws.specs.Caches.{TablesMayGo}
-use Rattle.qcow2_laws.specs.Clusters.{Direction}
-use Rattle.qcow2_alloc.specs.ImageStorage.{storage_of}
-use Rattle.qcow2_alloc.specs.MetadataCaches.{order, refblocks}
+use Rattle.qcow2_alloc.proofs.Common.{inr, refl, sym, ap, ◌∙◌, subst, OnOk, byte_at, TablesMayGo, Direction, storage_of, order, refblocks}
 use Rattle.qcow2_alloc.proofs.CacheSteps.{cache_step_none, soundly_none}
 use Rattle.qcow2_alloc.proofs.KeptTables.Quiet.{quiet_none}
 use Rattle.qcow2_alloc.proofs.KeptTables.Switching.{tables_free, blocks_free}

@@ -1,7 +1,4 @@
-use Rattle.std.proofs.Common.{inr, refl, sym, ap, ◌∙◌, subst, OnOk}
-use Rattle.qcow2_laws.specs.Caches.{BlocksMayGo}
-use Rattle.qcow2_laws.specs.Clusters.{Direction}
-use Rattle.qcow2_alloc.specs.MetadataCaches.{order, l2_tables}
+use Rattle.qcow2_alloc.proofs.Common.{inr, refl, sym, ap, ◌∙◌, subst, OnOk, BlocksMayGo, Direction, order, l2_tables}
 use Rattle.qcow2_alloc.proofs.CacheSteps.{cache_step_none, soundly_none}
 use Rattle.qcow2_alloc.proofs.KeptTables.Quiet.{quiet_none}
 use Rattle.qcow2_alloc.proofs.KeptTables.Switching.{tables_free, blocks_free}

@@ -1,11 +1,8 @@
-use Rattle.std.proofs.Common.{inr, ◌∙◌}
-use Rattle.qcow2_alloc.specs.ImageError.{IsFault}
+use Rattle.qcow2_alloc.proofs.Common.{inr, ◌∙◌, IsFault, byte_at, storage_of}
 use Rattle.qcow2_alloc.proofs.CacheSteps.{cache_step_then, soundly_then}
 use Rattle.qcow2_alloc.proofs.KeptTables.Causes.{given_err}
 use Rattle.qcow2_alloc.proofs.KeptTables.Switching.{tables_free, blocks_free, tables_clean, blocks_either, both_written}
 use Rattle.qcow2_alloc.proofs.Steps.{fails_on, fails_since}
-use Rattle.qcow2_metadata.specs.Bytes.{byte_at}
-use Rattle.qcow2_alloc.specs.ImageStorage.{storage_of}
 use Rattle.qcow2_alloc.proofs.KeptTables.Places.{named_have_places}
 use Rattle.qcow2_alloc.proofs.cache.MetadataCaches.flush_all.Goals as goal
 

@@ -1,11 +1,4 @@
-use Rattle.std.proofs.Common.{inr, eqb, ap, ◌∙◌, subst}
-use Rattle.std.specs.Option.{option_map}
-use Rattle.qcow2_laws.specs.Caches.{BlocksMayGo}
-use Rattle.qcow2_laws.specs.Clusters.{Direction}
-use Rattle.qcow2_alloc.specs.AsyncLruCache.{value_at}
-use Rattle.qcow2_alloc.specs.ImageError.{IsFault}
-use Rattle.qcow2_alloc.specs.ImageStorage.{storage_of}
-use Rattle.qcow2_alloc.specs.MetadataCaches.{order, l2_tables}
+use Rattle.qcow2_alloc.proofs.Common.{inr, eqb, ap, ◌∙◌, subst, option_map, BlocksMayGo, Direction, value_at, IsFault, storage_of, order, l2_tables}
 use Rattle.qcow2_alloc.proofs.CacheSteps.{cache_step_then, soundly_then}
 use Rattle.qcow2_alloc.proofs.KeptTables.Causes.{given_err}
 use Rattle.qcow2_alloc.proofs.KeptTables.Clean.{blocks_as, tables_as}

@@ -1,4 +1,4 @@
-use Rattle.std.proofs.Common.{refl}
+use Rattle.qcow2_alloc.proofs.Common.{refl}
 use Rattle.qcow2_alloc.proofs.KeptTables.Off.{left_of, left_err, blocks_taken}
 use Rattle.qcow2_alloc.proofs.KeptTables.BehindHeader.{blocks_left_behind}
 use Rattle.qcow2_alloc.proofs.KeptTables.ApartOff.{blocks_taken_apart}

@@ -1,9 +1,5 @@
-use Rattle.std.proofs.Common.{inl, inr, refl, ap, ◌∙◌, subst}
-use Rattle.qcow2_laws.specs.Caches.{BlocksMayGo}
-use Rattle.qcow2_laws.specs.Clusters.{Direction}
+use Rattle.qcow2_alloc.proofs.Common.{inl, inr, refl, ap, ◌∙◌, subst, BlocksMayGo, Direction, IsFault, order, l2_tables}
 use Rattle.qcow2_alloc.specs.declared.cache.Direction.TheVariants as D
-use Rattle.qcow2_alloc.specs.ImageError.{IsFault}
-use Rattle.qcow2_alloc.specs.MetadataCaches.{order, l2_tables}
 use Rattle.qcow2_alloc.proofs.CacheSteps.{cache_step_none, step_in_turn, step_turned, soundly_none, soundly_turned, differ, l2_not_rb, neither_rb}
 use Rattle.qcow2_alloc.proofs.KeptTables.Causes.{given_err}
 use Rattle.qcow2_alloc.proofs.KeptTables.Quiet.{quiet_none}

@@ -1,8 +1,4 @@
-use Rattle.std.proofs.Common.{◌≤◌, ℕ, Option, eqb, refl, subst, arith}
-use Rattle.std.specs.Option.{IfSome}
-use Rattle.qcow2_metadata.specs.L2Table.{L2TableView, entries_of}
-use Rattle.qcow2_alloc.specs.AsyncLruCache.{value_at}
-use Rattle.qcow2_alloc.specs.TableChanges.{SetsTableEntry}
+use Rattle.qcow2_alloc.proofs.Common.{◌≤◌, ℕ, Option, eqb, refl, subst, arith, IfSome, L2TableView, entries_of, value_at, SetsTableEntry}
 use Rattle.qcow2_alloc.proofs.CacheSteps.{held_none}
 use Rattle.qcow2_alloc.proofs.ChangedTables.{changed_by, entry_apart, entry_made_so, entry_set, entry_step, entry_there, if_some_then, stays, table_stays_apart}
 use Rattle.qcow2_alloc.proofs.KeptTables.Inserting.{if_some}

@@ -1,13 +1,7 @@
-use Rattle.std.proofs.Common.{refl, true, false, inr, Ok, ap, ◌∙◌, eqb}
+use Rattle.qcow2_alloc.proofs.Common.{refl, true, false, inr, Ok, ap, ◌∙◌, eqb, of_cache, byte_at, storage_of, IsInUseOrFault, with_entries, l2_steps}
 use Rattle.qcow2_alloc.proofs.CachedEntries.Hits.{got_at_last, held_in_front}
 use Rattle.qcow2_alloc.proofs.KeptTables.Fetching.{table_got}
-use Rattle.qcow2_alloc.specs.ImageError.{of_cache}
 use Rattle.qcow2_alloc.proofs.KeptTables.Causes.{given_err, in_use_as, not_fetched, table_load_refused}
-use Rattle.qcow2_metadata.specs.Bytes.{byte_at}
-use Rattle.qcow2_alloc.specs.ImageStorage.{storage_of}
-use Rattle.qcow2_alloc.specs.CachePins.{IsInUseOrFault}
-use Rattle.qcow2_alloc.specs.AsyncLruCache.{with_entries}
-use Rattle.qcow2_alloc.specs.TableCaches.{l2_steps}
 use Rattle.qcow2_alloc.proofs.KeptTables.Quiet.{quiet_then, next_table, table_got_quietly, table_waits, table_got_same}
 use Rattle.qcow2_alloc.proofs.CachedEntries.Staying.{stays_same, stays_then, values_stay}
 use Rattle.qcow2_alloc.proofs.Outcomes.{never, on_no_ok}

@@ -1,16 +1,8 @@
-use Rattle.std.proofs.Common.{◌≡◌, Bool, true, false, inr, Some, Result, Ok, Err, refl, sym, ap, ◌∙◌, ◌+◌, ◌*◌, eqb}
+use Rattle.qcow2_alloc.proofs.Common.{◌≡◌, Bool, true, false, inr, Some, Result, Ok, Err, refl, sym, ap, ◌∙◌, ◌+◌, ◌*◌, eqb, cluster_size, of_cache, Bytes, byte_at, storage_of, IsInUseOrFault, with_entries, l2_steps, laid_at}
 use Rattle.qcow2_alloc.proofs.KeptTables.Inserting.{table_put, l2_taken, taken_at_last, if_some}
-use Rattle.qcow2_metadata.specs.Header.{cluster_size}
 use Rattle.qcow2_alloc.proofs.KeptTables.Switching.{stay_then}
 use Rattle.qcow2_alloc.specs.declared.error.ImageError.TheVariants as I
-use Rattle.qcow2_alloc.specs.ImageError.{of_cache}
 use Rattle.qcow2_alloc.proofs.KeptTables.Causes.{given_err, in_use_as, not_put, table_put_refused}
-use Rattle.qcow2_metadata.specs.Bytes.{Bytes, byte_at}
-use Rattle.qcow2_alloc.specs.ImageStorage.{storage_of}
-use Rattle.qcow2_alloc.specs.CachePins.{IsInUseOrFault}
-use Rattle.qcow2_alloc.specs.AsyncLruCache.{with_entries}
-use Rattle.qcow2_alloc.specs.TableCaches.{l2_steps}
-use Rattle.qcow2_alloc.specs.MetadataCaches.{laid_at}
 use Rattle.qcow2_alloc.proofs.KeptTables.Putting.{put_at_last, laid_then, table_kept, table_laid}
 use Rattle.qcow2_alloc.proofs.KeptTables.Clean.{tables_as, table_put_clean}
 use Rattle.qcow2_alloc.proofs.KeptTables.InOrder.{order_then, table_put_in_order}

@@ -1,4 +1,4 @@
-use Rattle.std.specs.Option.{option_copied}
+use Rattle.qcow2_alloc.proofs.Common.{option_copied}
 use Rattle.qcow2_alloc.proofs.KeptTables.Mapping.{shown_if}
 use Rattle.qcow2_alloc.proofs.cache.MetadataCaches.l2_peek.Goals as goal
 

@@ -1,4 +1,4 @@
-use Rattle.std.proofs.Common.{rules, false, ap, ◌∙◌, refl}
+use Rattle.qcow2_alloc.proofs.Common.{rules, false, ap, ◌∙◌, refl}
 use Rattle.qcow2_alloc.specs.declared.cache.Direction.TheVariants as D
 use Rattle.qcow2_alloc.proofs.KeptTables.Empty.{known_of_empty, sound_empty}
 use Rattle.qcow2_alloc.proofs.KeptTables.BehindHeader.{empty_behind}

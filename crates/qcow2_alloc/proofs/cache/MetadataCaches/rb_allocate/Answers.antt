@@ -1,11 +1,4 @@
-use Rattle.std.proofs.Common.{◌≡◌, ℕ, Option, ◌+◌, ◌<◌, eqb, refl, sym, ap, ◌∙◌, subst, arith}
-use Rattle.std.proofs.lemmas.Bool.{eq-eqb, ne_eqb}
-use Rattle.std.specs.Option.{IsNone}
-use Rattle.qcow2_metadata.specs.Entries.{count}
-use Rattle.qcow2_metadata.specs.RefBlock.{RefBlockView, ChangesCount, count_at, counts_of}
-use Rattle.qcow2_alloc.specs.AsyncLruCache.{value_at}
-use Rattle.qcow2_alloc.specs.MetadataCaches.{known_of}
-use Rattle.qcow2_alloc.specs.TableChanges.{SetsTableCount}
+use Rattle.qcow2_alloc.proofs.Common.{◌≡◌, ℕ, Option, ◌+◌, ◌<◌, eqb, refl, sym, ap, ◌∙◌, subst, arith, eq-eqb, ne_eqb, IsNone, count, RefBlockView, ChangesCount, count_at, counts_of, value_at, known_of, SetsTableCount}
 use Rattle.qcow2_alloc.proofs.CacheSteps.{held_none}
 use Rattle.qcow2_alloc.proofs.ChangedTables.{block_stays_apart, changed_by, count_after, count_apart, count_set, count_step, count_there, stays}
 use Rattle.qcow2_alloc.proofs.KeptTables.Counting.{count_is, raised}

@@ -1,9 +1,4 @@
-use Rattle.std.proofs.Common.{◌≡◌, ℕ, ◌-◌, Option, Some, None, subst}
-use Rattle.std.specs.Option.{IfSome, is_some}
-use Rattle.qcow2_metadata.specs.RefBlock.{RefBlockView, count_at}
-use Rattle.qcow2_alloc.specs.MetadataCaches.{rb_at}
-use Rattle.qcow2_alloc.specs.TableChanges.{CountsLess, LeavesCount, SetsCount}
-use Rattle.qcow2_alloc.specs.declared.cache.MetadataCaches.{MetadataCaches}
+use Rattle.qcow2_alloc.proofs.Common.{◌≡◌, ℕ, ◌-◌, Option, Some, None, subst, IfSome, is_some, RefBlockView, count_at, rb_at, CountsLess, LeavesCount, SetsCount, MetadataCaches}
 use Rattle.qcow2_alloc.proofs.Leaks.{one_above, one_less}
 use Rattle.qcow2_alloc.proofs.cache.MetadataCaches.rb_decrement.Goals as goal
 

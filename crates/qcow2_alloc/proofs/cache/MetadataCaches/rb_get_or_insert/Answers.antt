@@ -1,12 +1,8 @@
-use Rattle.std.proofs.Common.{refl, inr, true, false, Ok, ap, sym, ◌∙◌, eqb}
-use Rattle.qcow2_alloc.specs.TableCaches.{rb_steps}
+use Rattle.qcow2_alloc.proofs.Common.{refl, inr, true, false, Ok, ap, sym, ◌∙◌, eqb, rb_steps, of_cache, IsFault, byte_at, storage_of}
 use Rattle.qcow2_alloc.proofs.KeptTables.Fetching.{block_got}
 use Rattle.qcow2_alloc.proofs.CachePins.{marks_blocks, marks_then}
 use Rattle.qcow2_alloc.specs.declared.error.ImageError.TheVariants as I
-use Rattle.qcow2_alloc.specs.ImageError.{of_cache, IsFault}
 use Rattle.qcow2_alloc.proofs.KeptTables.Causes.{given_err, block_load_refused}
-use Rattle.qcow2_metadata.specs.Bytes.{byte_at}
-use Rattle.qcow2_alloc.specs.ImageStorage.{storage_of}
 use Rattle.qcow2_alloc.proofs.KeptTables.Quiet.{quiet_then, next_block, block_got_quietly, block_waits, block_got_same}
 use Rattle.qcow2_alloc.proofs.CachedEntries.Hits.{got_at_last, got_there, held_in_front}
 use Rattle.qcow2_alloc.proofs.CachedEntries.Staying.{stays_same, stays_then, values_stay}

@@ -1,21 +1,10 @@
-use Rattle.std.proofs.Common.{inr, ◌≡◌, ℕ, Bool, true, false, Some, Result, Ok, Err, refl, sym, ap, ◌∙◌, subst, ◌+◌, ◌*◌, eqb}
+use Rattle.qcow2_alloc.proofs.Common.{inr, ◌≡◌, ℕ, Bool, true, false, Some, Result, Ok, Err, refl, sym, ap, ◌∙◌, subst, ◌+◌, ◌*◌, eqb, cluster_size, of_cache, IsFault, Bytes, byte_at, storage_of, AreClean, RefBlockView, Cache, cached_tables, rb_steps, RefBlockCacheBackend, laid_at}
 use Rattle.qcow2_alloc.proofs.KeptTables.Inserting.{block_put, rb_taken, taken_at_last, if_some}
-use Rattle.qcow2_metadata.specs.Header.{cluster_size}
 use Rattle.qcow2_alloc.proofs.KeptTables.Switching.{stay_then}
 use Rattle.qcow2_alloc.proofs.CachePins.{marks_blocks, marks_then}
 use Rattle.qcow2_alloc.specs.declared.error.ImageError.TheVariants as I
-use Rattle.qcow2_alloc.specs.ImageError.{of_cache, IsFault}
 use Rattle.qcow2_alloc.proofs.KeptTables.Causes.{given_err, block_put_refused}
-use Rattle.qcow2_metadata.specs.Bytes.{Bytes, byte_at}
-use Rattle.qcow2_alloc.specs.ImageStorage.{storage_of}
-use Rattle.qcow2_laws.specs.Caches.{AreClean}
-use Rattle.qcow2_metadata.specs.RefBlock.{RefBlockView}
-use Rattle.qcow2_alloc.specs.AsyncLruCache.{Cache}
-use Rattle.qcow2_alloc.specs.KeptTables.{cached_tables}
-use Rattle.qcow2_alloc.specs.TableCaches.{rb_steps}
-use Rattle.qcow2_alloc.specs.declared.cache.backends.RefBlockCacheBackend.{RefBlockCacheBackend}
 use Rattle.qcow2_alloc.proofs.KeptTables.Clean.{clean_as, put_clean}
-use Rattle.qcow2_alloc.specs.MetadataCaches.{laid_at}
 use Rattle.qcow2_alloc.proofs.KeptTables.Putting.{put_at_last, laid_then}
 use Rattle.qcow2_alloc.proofs.KeptTables.PuttingBlocks.{block_kept, block_laid}
 use Rattle.qcow2_alloc.proofs.KeptTables.InOrder.{order_then, block_put_in_order}

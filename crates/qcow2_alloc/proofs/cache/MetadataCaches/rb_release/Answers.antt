@@ -1,8 +1,4 @@
-use Rattle.std.proofs.Common.{◌≡◌, ℕ, Option, ◌+◌, ◌<◌, eqb, refl, ap, ◌∙◌, subst}
-use Rattle.std.specs.Option.{IsNone}
-use Rattle.qcow2_metadata.specs.RefBlock.{RefBlockView, ChangesCount, count_at, counts_of}
-use Rattle.qcow2_alloc.specs.AsyncLruCache.{value_at}
-use Rattle.qcow2_alloc.specs.TableChanges.{changed_block, SetsTableCount}
+use Rattle.qcow2_alloc.proofs.Common.{◌≡◌, ℕ, Option, ◌+◌, ◌<◌, eqb, refl, ap, ◌∙◌, subst, IsNone, RefBlockView, ChangesCount, count_at, counts_of, value_at, changed_block, SetsTableCount}
 use Rattle.qcow2_alloc.proofs.CacheSteps.{held_none}
 use Rattle.qcow2_alloc.proofs.ChangedTables.{block_stays_apart, changed_by, count_after, count_apart, count_set, count_step, count_there, stays}
 use Rattle.qcow2_alloc.proofs.KeptTables.Changing.{still_new_data}

@@ -1,4 +1,4 @@
-use Rattle.std.proofs.Common.{refl}
+use Rattle.qcow2_alloc.proofs.Common.{refl}
 use Rattle.qcow2_alloc.proofs.KeptTables.Off.{removed_others, removed_marks, removed_takes, removed_clean, removed_gone}
 use Rattle.qcow2_alloc.proofs.KeptTables.BehindHeader.{removed_behind}
 use Rattle.qcow2_alloc.proofs.KeptTables.ApartOff.{removed_apart_block}

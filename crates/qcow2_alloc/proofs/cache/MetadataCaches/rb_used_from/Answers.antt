@@ -1,7 +1,4 @@
-use Rattle.std.proofs.Common.{◌≡◌, ◌+◌, ◌<◌, ℕ, arith, refl, sym, subst, ◌∙◌, eqb}
-use Rattle.qcow2_metadata.specs.FirstZero.{IsFirstZero}
-use Rattle.qcow2_metadata.specs.RefBlock.{RefBlockView, counts_of}
-use Rattle.qcow2_alloc.specs.AsyncLruCache.{value_at}
+use Rattle.qcow2_alloc.proofs.Common.{◌≡◌, ◌+◌, ◌<◌, ℕ, arith, refl, sym, subst, ◌∙◌, eqb, IsFirstZero, RefBlockView, counts_of, value_at}
 use Rattle.qcow2_alloc.proofs.ChangedTables.{changed_by, if_some_then, stays, unchanged_by}
 use Rattle.qcow2_alloc.proofs.KeptTables.Counting.{count_is}
 use Rattle.qcow2_alloc.proofs.KeptTables.Inserting.{if_some}

@@ -1,5 +1,4 @@
-use Rattle.std.proofs.Common.{refl, true}
-use Rattle.qcow2_alloc.specs.CountedChanges.{counts_one}
+use Rattle.qcow2_alloc.proofs.Common.{refl, true, counts_one}
 use Rattle.qcow2_alloc.proofs.cache.MetadataCaches.record_change.Goals as goal
 
 pub returns-clause-step : goal.returns-clause-step

@@ -1,12 +1,7 @@
-use Rattle.std.proofs.Common.{false, Err, inl, refl, ◌∙◌, ap}
+use Rattle.qcow2_alloc.proofs.Common.{false, Err, inl, refl, ◌∙◌, ap, of_cache, IsFault, IsOfTables, byte_at, storage_of, met_fault_of, RefBlockView, rb_steps}
 use Rattle.qcow2_alloc.proofs.KeptTables.Flushing.{blocks_written}
 use Rattle.qcow2_alloc.proofs.KeptTables.Held.{blocks_held}
-use Rattle.qcow2_alloc.specs.ImageError.{of_cache, IsFault, IsOfTables}
 use Rattle.qcow2_alloc.proofs.KeptTables.Causes.{blocks_flush_refused}
-use Rattle.qcow2_metadata.specs.Bytes.{byte_at}
-use Rattle.qcow2_alloc.specs.ImageStorage.{storage_of, met_fault_of}
-use Rattle.qcow2_metadata.specs.RefBlock.{RefBlockView}
-use Rattle.qcow2_alloc.specs.TableCaches.{rb_steps}
 use Rattle.qcow2_alloc.proofs.KeptTables.Clean.{clean_as, flush_clean}
 use Rattle.qcow2_alloc.proofs.KeptTables.Quiet.{blocks_quiet}
 use Rattle.qcow2_alloc.proofs.Faults.{flush_refused, told_as, rb_flush_tells}

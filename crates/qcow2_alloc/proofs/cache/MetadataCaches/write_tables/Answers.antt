@@ -1,15 +1,6 @@
-use Rattle.std.proofs.Common.{false, Err, inl, refl, ◌∙◌, ℕ, sym, ap, subst}
+use Rattle.qcow2_alloc.proofs.Common.{false, Err, inl, refl, ◌∙◌, ℕ, sym, ap, subst, of_cache, IsFault, IsOfTables, byte_at, storage_of, met_fault_of, L2TableView, IsFreeOf, Cache, cached_tables, L2CacheBackend, l2_steps}
 use Rattle.qcow2_alloc.proofs.KeptTables.Flushing.{tables_written}
-use Rattle.qcow2_alloc.specs.ImageError.{of_cache, IsFault, IsOfTables}
 use Rattle.qcow2_alloc.proofs.KeptTables.Causes.{tables_flush_refused}
-use Rattle.qcow2_metadata.specs.Bytes.{byte_at}
-use Rattle.qcow2_alloc.specs.ImageStorage.{storage_of, met_fault_of}
-use Rattle.qcow2_metadata.specs.L2Table.{L2TableView}
-use Rattle.qcow2_laws.specs.Caches.{IsFreeOf}
-use Rattle.qcow2_alloc.specs.AsyncLruCache.{Cache}
-use Rattle.qcow2_alloc.specs.KeptTables.{cached_tables}
-use Rattle.qcow2_alloc.specs.declared.cache.backends.L2CacheBackend.{L2CacheBackend}
-use Rattle.qcow2_alloc.specs.TableCaches.{l2_steps}
 use Rattle.qcow2_alloc.proofs.KeptTables.Clean.{flush_free}
 use Rattle.qcow2_alloc.proofs.KeptTables.Quiet.{tables_quiet}
 use Rattle.qcow2_alloc.proofs.Faults.{flush_refused, told_as, l2_flush_tells}

@@ -1,9 +1,4 @@
-use Rattle.std.proofs.Common.{◌≡◌, ◌+◌, ◌<◌, ◌≤◌, ℕ, refl, ap, ◌∙◌, subst, arith, length}
-use Rattle.std.specs.Map.{lookup}
-use Rattle.std.specs.Option.{option_map_or, option_or, IfSome}
-use Rattle.qcow2_alloc.specs.TableCache.{FlushesAt}
-use Rattle.qcow2_alloc.specs.AsyncLruCache.{Cache, with_entries}
-use Rattle.qcow2_alloc.specs.Uses.{behind}
+use Rattle.qcow2_alloc.proofs.Common.{◌≡◌, ◌+◌, ◌<◌, ◌≤◌, ℕ, refl, ap, ◌∙◌, subst, arith, length, lookup, option_map_or, option_or, IfSome, FlushesAt, Cache, with_entries, behind}
 use Rattle.qcow2_alloc.proofs.FlushedMarks.{IsWalking, walk_begins, walk_ends, is_held, walks_on, left_to_walk}
 use Rattle.qcow2_alloc.proofs.table_cache.TableCache.flush_modified.Goals as goal
 

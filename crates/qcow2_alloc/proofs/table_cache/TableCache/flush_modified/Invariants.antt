@@ -1,9 +1,4 @@
-use Rattle.std.proofs.Common.{◌≡◌, ◌+◌, length}
-use Rattle.std.specs.List.{IsDistinct}
-use Rattle.std.specs.Map.{keys_of}
-use Rattle.std.specs.Option.{option_map_or}
-use Rattle.qcow2_alloc.specs.AsyncLruCache.{with_entries}
-use Rattle.qcow2_alloc.specs.Uses.{behind}
+use Rattle.qcow2_alloc.proofs.Common.{◌≡◌, ◌+◌, length, IsDistinct, keys_of, option_map_or, with_entries, behind}
 use Rattle.qcow2_alloc.proofs.FlushedMarks.{IsWalking}
 use Rattle.qcow2_alloc.proofs.table_cache.TableCache.flush_modified.Given as goal
 

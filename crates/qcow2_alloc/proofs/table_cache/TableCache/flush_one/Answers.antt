@@ -1,6 +1,4 @@
-use Rattle.std.proofs.Common.{refl, ap, ◌∙◌}
-use Rattle.std.specs.Map.{lookup}
-use Rattle.qcow2_alloc.specs.TableCache.{settled}
+use Rattle.qcow2_alloc.proofs.Common.{refl, ap, ◌∙◌, lookup, settled}
 use Rattle.qcow2_alloc.proofs.FlushedMarks.{is_flushed_so}
 use Rattle.qcow2_alloc.proofs.table_cache.TableCache.flush_one.Goals as goal
 

@@ -1,7 +1,4 @@
-use Rattle.std.proofs.Common.{◌≡◌, None, refl, ap, ◌∙◌}
-use Rattle.std.specs.Map.{lookup}
-use Rattle.qcow2_alloc.specs.AsyncLruCache.{Cache}
-use Rattle.qcow2_alloc.specs.Uses.{placed}
+use Rattle.qcow2_alloc.proofs.Common.{◌≡◌, None, refl, ap, ◌∙◌, lookup, Cache, placed}
 use Rattle.qcow2_alloc.proofs.TableMarks.{kept_same, new_settled, put_new}
 use Rattle.qcow2_alloc.proofs.table_cache.TableCache.insert_new.Goals as goal
 

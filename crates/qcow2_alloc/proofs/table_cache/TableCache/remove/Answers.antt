@@ -1,5 +1,4 @@
-use Rattle.std.proofs.Common.{sym, ap, ◌∙◌}
-use Rattle.std.specs.Map.{remove_entry}
+use Rattle.qcow2_alloc.proofs.Common.{sym, ap, ◌∙◌, remove_entry}
 use Rattle.qcow2_alloc.proofs.TableMarks.{marks_removed}
 use Rattle.qcow2_alloc.proofs.table_cache.TableCache.remove.Goals as goal
 

@@ -1,5 +1,4 @@
-use Rattle.std.proofs.Common.{ap, ◌∙◌}
-use Rattle.qcow2_alloc.specs.Uses.{placed}
+use Rattle.qcow2_alloc.proofs.Common.{ap, ◌∙◌, placed}
 use Rattle.qcow2_alloc.proofs.TableMarks.{kept_same, put_instead}
 use Rattle.qcow2_alloc.proofs.table_cache.TableCache.replace.Goals as goal
 

@@ -1,6 +1,4 @@
-use Rattle.std.proofs.Common.{sym, ap, ◌∙◌}
-use Rattle.std.specs.Map.{remove_entry}
-use Rattle.qcow2_alloc.specs.AsyncLruCache.{Cache, with_entries, pinned}
+use Rattle.qcow2_alloc.proofs.Common.{sym, ap, ◌∙◌, remove_entry, Cache, with_entries, pinned}
 use Rattle.qcow2_alloc.proofs.CachedEntries.Pins.{all_pinned}
 use Rattle.qcow2_alloc.proofs.TableMarks.{next_out, none_out, removed_next, fewer_without, pinned_without}
 use Rattle.qcow2_alloc.proofs.table_cache.TableCache.take_free.Goals as goal

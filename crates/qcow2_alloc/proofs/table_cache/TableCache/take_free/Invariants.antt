@@ -1,5 +1,4 @@
-use Rattle.std.proofs.Common.{◌≡◌, length}
-use Rattle.qcow2_alloc.specs.AsyncLruCache.{pinned, with_entries}
+use Rattle.qcow2_alloc.proofs.Common.{◌≡◌, length, pinned, with_entries}
 use Rattle.qcow2_alloc.proofs.table_cache.TableCache.take_free.Given as goal
 
 abbrev pub invariant-taking : goal.invariant-taking

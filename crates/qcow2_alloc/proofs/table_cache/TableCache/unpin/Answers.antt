@@ -1,4 +1,4 @@
-use Rattle.std.proofs.Common.{sym, ◌∙◌}
+use Rattle.qcow2_alloc.proofs.Common.{sym, ◌∙◌}
 use Rattle.qcow2_alloc.proofs.TableMarks.{marks_unpinned}
 use Rattle.qcow2_alloc.proofs.table_cache.TableCache.unpin.Goals as goal
 

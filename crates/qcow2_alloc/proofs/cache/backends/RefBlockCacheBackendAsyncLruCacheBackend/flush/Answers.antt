@@ -1,7 +1,4 @@
-use Rattle.std.proofs.Common.{◌≡◌, ◌^◌, true, ap, sym, ◌∙◌}
-use Rattle.qcow2_metadata.specs.RefBlock.{RefBlockView}
-use Rattle.qcow2_alloc.specs.ImageStorage.{storage_of}
-use Rattle.qcow2_alloc.specs.TableCaches.{cleared_rb, IsBlockOf}
+use Rattle.qcow2_alloc.proofs.Common.{◌≡◌, ◌^◌, true, ap, sym, ◌∙◌, RefBlockView, storage_of, cleared_rb, IsBlockOf}
 use Rattle.qcow2_alloc.proofs.TableFlush.{write_fails}
 use Rattle.qcow2_alloc.proofs.KeptNotes.{kept_told, write_kept}
 use Rattle.qcow2_alloc.proofs.RecordedFaults.{met_written}

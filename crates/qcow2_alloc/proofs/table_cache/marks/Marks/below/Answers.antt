@@ -1,5 +1,4 @@
-use Rattle.std.proofs.Common.{ℕ, ◌≡◌, ◌-◌, ◌∙◌, ap, sym, arith, Some, slice_get}
-use Rattle.std.proofs.lemmas.Option.{same_Some}
+use Rattle.qcow2_alloc.proofs.Common.{ℕ, ◌≡◌, ◌-◌, ◌∙◌, ap, sym, arith, Some, slice_get, same_Some}
 use Rattle.qcow2_alloc.proofs.Marks.{last_is, last_below, got_at, below_most}
 use Rattle.qcow2_alloc.proofs.table_cache.marks.Marks.below.Goals as goal
 

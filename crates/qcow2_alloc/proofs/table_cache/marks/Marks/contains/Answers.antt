@@ -1,4 +1,4 @@
-use Rattle.std.proofs.Common.{◌∙◌, ap, arith, slice_get}
+use Rattle.qcow2_alloc.proofs.Common.{◌∙◌, ap, arith, slice_get}
 use Rattle.qcow2_alloc.proofs.Marks.{found_some, found_none, got_at}
 use Rattle.qcow2_alloc.proofs.table_cache.marks.Marks.contains.Goals as goal
 

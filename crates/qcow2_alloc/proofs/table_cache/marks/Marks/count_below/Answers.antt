@@ -1,4 +1,4 @@
-use Rattle.std.proofs.Common.{ℕ, ltb, rules, sym, ◌∙◌, subst}
+use Rattle.qcow2_alloc.proofs.Common.{ℕ, ltb, rules, sym, ◌∙◌, subst}
 use Rattle.std.proofs.lemmas.List.Sorted.{IsPartitionPoint-from_clause, IsPartitionedBy-ltb}
 use Rattle.std.specs.List.Sorted.{IsPartitionedBy}
 use Rattle.qcow2_alloc.proofs.Marks.{rise_sorted, point_is, none_below}

@@ -1,4 +1,4 @@
-use Rattle.std.proofs.Common.{arith}
+use Rattle.qcow2_alloc.proofs.Common.{arith}
 use Rattle.qcow2_alloc.proofs.Marks.{take_within, take_here, take_beside, take_rise}
 use Rattle.qcow2_alloc.proofs.table_cache.marks.Marks.take.Goals as goal
 

@@ -1,4 +1,4 @@
-use Rattle.qcow2_alloc.specs.Uses.{number_at}
+use Rattle.qcow2_alloc.proofs.Common.{number_at}
 use Rattle.qcow2_alloc.proofs.Uses.{first_found}
 use Rattle.qcow2_alloc.proofs.table_cache.uses.Uses.first_marked.Goals as goal
 

@@ -1,5 +1,4 @@
-use Rattle.std.proofs.Common.{◌∙◌}
-use Rattle.qcow2_alloc.specs.Uses.{number_at}
+use Rattle.qcow2_alloc.proofs.Common.{◌∙◌, number_at}
 use Rattle.qcow2_alloc.proofs.Uses.{first_is, none_is_first}
 use Rattle.qcow2_alloc.proofs.table_cache.uses.Uses.is_first.Goals as goal
 

@@ -1,5 +1,4 @@
-use Rattle.std.proofs.Common.{true, not, sym, ◌∙◌}
-use Rattle.qcow2_alloc.specs.Uses.{number_at}
+use Rattle.qcow2_alloc.proofs.Common.{true, not, sym, ◌∙◌, number_at}
 use Rattle.qcow2_alloc.proofs.Uses.{lacks, none_is, set_none, lookup_none-marks, mark_seen, room_left, room_put, put_numbered}
 use Rattle.qcow2_alloc.proofs.table_cache.uses.Uses.mark.Goals as goal
 

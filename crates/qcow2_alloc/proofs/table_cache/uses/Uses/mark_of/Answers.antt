@@ -1,4 +1,4 @@
-use Rattle.qcow2_alloc.specs.Uses.{number_at}
+use Rattle.qcow2_alloc.proofs.Common.{number_at}
 use Rattle.qcow2_alloc.proofs.Uses.{mark_is_none, mark_is_some}
 use Rattle.qcow2_alloc.proofs.table_cache.uses.Uses.mark_of.Goals as goal
 

@@ -1,5 +1,4 @@
-use Rattle.std.proofs.Common.{sym}
-use Rattle.qcow2_alloc.specs.Uses.{number_at}
+use Rattle.qcow2_alloc.proofs.Common.{sym, number_at}
 use Rattle.qcow2_alloc.proofs.Uses.{next_found, next_missing}
 use Rattle.qcow2_alloc.proofs.table_cache.uses.Uses.next_marked.Goals as goal
 

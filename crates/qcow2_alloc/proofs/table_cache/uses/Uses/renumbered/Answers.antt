@@ -1,4 +1,4 @@
-use Rattle.qcow2_alloc.specs.Uses.{number_at}
+use Rattle.qcow2_alloc.proofs.Common.{number_at}
 use Rattle.qcow2_alloc.proofs.Uses.{numbering_begins, numbering_goes}
 use Rattle.qcow2_alloc.proofs.table_cache.uses.Uses.renumbered.Goals as goal
 

@@ -1,5 +1,4 @@
-use Rattle.std.proofs.Common.{length}
-use Rattle.qcow2_alloc.specs.Uses.{number_at}
+use Rattle.qcow2_alloc.proofs.Common.{length, number_at}
 use Rattle.qcow2_alloc.proofs.Uses.{IsNumbering}
 use Rattle.qcow2_alloc.proofs.table_cache.uses.Uses.renumbered.Given as goal
 

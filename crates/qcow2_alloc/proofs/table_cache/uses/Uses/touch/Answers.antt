@@ -1,4 +1,4 @@
-use Rattle.std.proofs.Common.{◌∙◌}
+use Rattle.qcow2_alloc.proofs.Common.{◌∙◌}
 use Rattle.qcow2_alloc.proofs.Uses.{none_promoted, placed_promoted}
 use Rattle.qcow2_alloc.proofs.table_cache.uses.Uses.touch.Goals as goal
 
