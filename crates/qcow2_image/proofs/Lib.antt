@@ -1,3 +1,4 @@
+pub mod Common
 pub mod Images
 pub mod Open
 pub mod Create

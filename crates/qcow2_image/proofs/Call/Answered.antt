@@ -1,33 +1,8 @@
 -- What a call that guests don't see does, from its parts.
-use Rattle.std.proofs.Common.{◌≡◌, ℕ, ◌/◌, ◌<◌, ◌≤◌, Bool, true, false, List, [], refl, sym, ap, ◌∙◌, subst, arith}
-use Rattle.std.specs.Prelude.{Option, Some, None, IsTrue, slice_get}
-use Rattle.std.specs.Option.{option_map_or}
-use Rattle.std.proofs.lemmas.Bool.{cond-true, cond-false}
-use mathlib.Core.Path.{fun_ext}
-use Rattle.image_access.specs.Backing.{BackingView}
-use Rattle.image_access.specs.Moments.{StorageView}
-use Rattle.qcow2_metadata.specs.Bytes.{Bytes}
-use Rattle.qcow2_metadata.specs.Header.{cluster_size}
-use Rattle.qcow2_metadata.specs.Guest.{known_byte}
-use Rattle.qcow2_disk.specs.Disk.{disk}
-use Rattle.qcow2_laws.specs.CrashInvariant.{Pending}
-use Rattle.qcow2_laws.specs.SafeSteps.{StateInvariant}
-use Rattle.qcow2_disk.specs.Mappings.{PreparedMapping}
-use Rattle.qcow2_laws.specs.Internal.{SameUsedBytes, used_by_guests}
-use Rattle.qcow2_disk.specs.AbstractImages.{Setting, Guest, guest_of, meaning_at}
-use Rattle.qcow2_disk.specs.Calls.{EffectOnSound}
-use Rattle.qcow2_laws.proofs.Internal.{unseen_disk}
-use Rattle.qcow2_metadata.specs.declared.header.HeaderFields.{HeaderFields}
-use Rattle.qcow2_alloc.specs.ImageFile.{state_in, contents_in, known_in, nothing_given}
-use Rattle.qcow2_image.specs.declared.image.Qcow2.{Qcow2}
-use Rattle.qcow2_image.specs.declared.prepared.Prepared.{Prepared}
-use Rattle.qcow2_image.specs.ImageInvariant.{below_of, of_data, of_tables, to_free, new_data_by, over_all, pending_in, abstract_of, meaning, is_entered, is_new, is_private, is_hidden, place_of, mapping_of_cluster, backing_bytes, ImageInvariant}
-use Rattle.qcow2_image.specs.MovedTables.{MovesTables}
-use Rattle.qcow2_image.specs.InternalSteps.{pending_with_listed, ListGrows, InternalStep, InternalFreeingStep}
+use Rattle.qcow2_image.proofs.Common.{◌≡◌, ℕ, ◌/◌, ◌<◌, ◌≤◌, Bool, true, false, List, [], refl, sym, ap, ◌∙◌, subst, arith, Option, Some, None, IsTrue, slice_get, option_map_or, cond-true, cond-false, fun_ext, BackingView, StorageView, Bytes, cluster_size, known_byte, disk, Pending, StateInvariant, PreparedMapping, SameUsedBytes, used_by_guests, Setting, Guest, guest_of, meaning_at, EffectOnSound, unseen_disk, HeaderFields, state_in, contents_in, known_in, nothing_given, Qcow2, Prepared, below_of, of_data, of_tables, to_free, new_data_by, over_all, pending_in, abstract_of, meaning, is_entered, is_new, is_private, is_hidden, place_of, mapping_of_cluster, backing_bytes, ImageInvariant, MovesTables, pending_with_listed, ListGrows, InternalStep, InternalFreeingStep, stops_of}
 use Rattle.qcow2_image.proofs.Images.Moved.{format_file_step, format_stay}
 use Rattle.qcow2_image.proofs.Images.ClusterMappings.{private_used, used_unlaid}
 use Rattle.qcow2_image.proofs.Images.Sound.{free_more, pending_is}
-use Rattle.qcow2_disk.proofs.Compose.{stops_of}
 use Rattle.qcow2_image.proofs.Images.UngivenCovers.{all_stay}
 
 pub same_guest : (a b : Guest) → a.disk ≡ b.disk → a.slots ≡ b.slots → a ≡ b

@@ -1,20 +1,6 @@
 -- What the parts of a call say of its result.
-use Rattle.std.proofs.Common.{◌≡◌, ℕ, Bool, true, false, List, [], refl, sym, subst}
-use Rattle.std.specs.Prelude.{◌&&◌, nat_lt, not, Option, MatchOption, Result, Ok, Err, IsErr, IsErrAnd}
-use Rattle.std.specs.Option.{option_or}
-use Rattle.image_access.specs.Backing.{BackingView}
-use Rattle.image_access.specs.Moments.{StorageView}
-use Rattle.qcow2_disk.specs.Stops.{GivenBytes}
-use Rattle.qcow2_disk.specs.AbstractImages.{Guest}
-use Rattle.qcow2_disk.specs.Calls.{RefusedEffect, IsSame}
-use Rattle.qcow2_alloc.specs.declared.error.ImageError.{ImageError}
+use Rattle.qcow2_image.proofs.Common.{◌≡◌, ℕ, Bool, true, false, List, [], refl, sym, subst, ◌&&◌, nat_lt, not, Option, MatchOption, Result, Ok, Err, IsErr, IsErrAnd, option_or, BackingView, StorageView, GivenBytes, Guest, RefusedEffect, IsSame, ImageError, Qcow2, Prepared, refusal_of, AnswersCall, is_failed, is_external, is_writable, size_of, passes, refuse_if, refuses_to_prepare, unusable, abstract_of}
 use Rattle.qcow2_alloc.specs.declared.error.ImageError.TheVariants as I
-use Rattle.qcow2_image.specs.declared.image.Qcow2.{Qcow2}
-use Rattle.qcow2_image.specs.declared.prepared.Prepared.{Prepared}
-use Rattle.qcow2_image.specs.Calls.{refusal_of, AnswersCall}
-use Rattle.qcow2_image.specs.Image.{is_failed, is_external, is_writable, size_of}
-use Rattle.qcow2_image.specs.Refusals.{passes, refuse_if, refuses_to_prepare, unusable}
-use Rattle.qcow2_image.specs.ImageInvariant.{abstract_of}
 
 module _ {S F : Type 0} (view : S → StorageView) (backing : F → BackingView) (old new : Qcow2 S F) where
   -- an answer that is this refusal

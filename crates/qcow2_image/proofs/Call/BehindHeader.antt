@@ -1,32 +1,6 @@
 -- Calls that keep tables out of cluster 0 and leave its bytes the same, one after another.
-use Rattle.std.proofs.Common.{◌≡◌, ◌∙◌, ◌⊎◌, inl, inr, ℕ, List, [], ◌∷◌, length, Result, Option, Some, None, true, false, ◌+◌, ◌*◌, ◌/◌, ◌^◌, ◌<◌, ◌≤◌, zero, suc, refl, sym, ap, subst, arith}
-use Rattle.std.specs.Prelude.{IfSome, IsSome}
-use Rattle.std.specs.Int.{w64, to_be_bytes}
-use Rattle.std.proofs.lemmas.Nat.{mul-le, pow_pos}
-use Rattle.image_access.specs.Contents.{overwritten}
-use Rattle.image_access.specs.Moments.{StorageView, Calls, Changes, ContentsStay, QuietCalls}
-use Rattle.image_access.specs.declared.error.StorageError.{StorageError}
-use Rattle.image_access.proofs.Bytes.{byte_at-overwritten_outside}
-use Rattle.image_access.proofs.EachMomentSince.{whole_or_nothing}
-use Rattle.qcow2_metadata.specs.Bytes.{byte_at}
-use Rattle.qcow2_metadata.specs.EntryTable.{EntryTableView, entry_count, entry_table}
-use Rattle.qcow2_metadata.specs.Header.{without_autoclear}
-use Rattle.qcow2_metadata.specs.declared.header.HeaderFields.{HeaderFields}
-use Rattle.qcow2_metadata.specs.HeaderWrite.{bytes_of_numbers, l1_table_pointer_written, size_written}
-use Rattle.qcow2_metadata.specs.L2Table.{L2TableView}
-use Rattle.qcow2_alloc.specs.BehindHeader.{LeaveHeaderCluster, KeepBehindHeader}
+use Rattle.qcow2_image.proofs.Common.{◌≡◌, ◌∙◌, ◌⊎◌, inl, inr, ℕ, List, [], ◌∷◌, length, Result, Option, Some, None, true, false, ◌+◌, ◌*◌, ◌/◌, ◌^◌, ◌<◌, ◌≤◌, zero, suc, refl, sym, ap, subst, arith, IfSome, IsSome, w64, to_be_bytes, mul-le, pow_pos, overwritten, StorageView, Calls, Changes, ContentsStay, QuietCalls, StorageError, byte_at-overwritten_outside, whole_or_nothing, byte_at, EntryTableView, entry_count, entry_table, without_autoclear, HeaderFields, bytes_of_numbers, l1_table_pointer_written, size_written, L2TableView, LeaveHeaderCluster, KeepBehindHeader, view_in, storage_of, CachesSpareHeader, SparesBytes, SparesHeader, PreservesHeaderButPointer, StandsBehindHeader, Allocator, MetadataCaches, ImageFile, ImageStorage, below_others, bytes_stay, bytes_then, call_keeps, fewer_stay, quiet_keeps, same_kept, Qcow2, IsBegun, IsBesideNumbers, IsL1TableBehind, KeepsL1TableBehind, KeepsTablesBehind, NamesTablesBehind, PreservesHeaderCluster, TablesBehindHeader}
 use Rattle.qcow2_alloc.specs.HeaderClusters.{IsInHeaderCluster, IsBesidePointer, BytesStay, SameAt}
-use Rattle.qcow2_alloc.specs.ImageFile.{view_in}
-use Rattle.qcow2_alloc.specs.ImageStorage.{storage_of}
-use Rattle.qcow2_alloc.specs.SparedHeaders.{CachesSpareHeader, SparesBytes, SparesHeader, PreservesHeaderButPointer, StandsBehindHeader}
-use Rattle.qcow2_alloc.specs.declared.allocation.Allocator.{Allocator}
-use Rattle.qcow2_alloc.specs.declared.cache.MetadataCaches.{MetadataCaches}
-use Rattle.qcow2_alloc.specs.declared.image_file.ImageFile.{ImageFile}
-use Rattle.qcow2_alloc.specs.declared.image_storage.ImageStorage.{ImageStorage}
-use Rattle.qcow2_alloc.proofs.HeaderClusters.{below_others, bytes_stay, bytes_then, call_keeps, fewer_stay, quiet_keeps, same_kept}
-use Rattle.qcow2_image.specs.declared.image.Qcow2.{Qcow2}
-use Rattle.qcow2_image.specs.Image.{IsBegun}
-use Rattle.qcow2_image.specs.BehindHeader.{IsBesideNumbers, IsL1TableBehind, KeepsL1TableBehind, KeepsTablesBehind, NamesTablesBehind, PreservesHeaderCluster, TablesBehindHeader}
 
 -- a byte of cluster 0 lies below each offset after it
 below_first : (bits o at : ℕ) → o / 2 ^ bits ≡ 0 → 2 ^ bits ≤ at → o < at

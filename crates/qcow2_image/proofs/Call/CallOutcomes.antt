@@ -1,19 +1,7 @@
 -- A call succeeds, or is refused and marks the image as failed by the rule, depending on what its work did.
-use Rattle.std.proofs.Common.{◌≡◌, ◌⊎◌, inl, inr, Bool, true, false, List, [], refl, sym, ap, ◌∙◌, subst}
-use Rattle.std.specs.Prelude.{Option, IsTrue}
-use Rattle.image_access.specs.Backing.{BackingView}
-use Rattle.image_access.specs.Moments.{StorageView}
-use Rattle.qcow2_disk.specs.Stops.{GivenBytes}
-use Rattle.qcow2_disk.specs.Calls.{storage, IsRefusalByFault, EffectOnSound, AnsweredEffect, RefusedEffect, IsSame}
-use Rattle.qcow2_alloc.specs.declared.error.ImageError.{ImageError}
+use Rattle.qcow2_image.proofs.Common.{◌≡◌, ◌⊎◌, inl, inr, Bool, true, false, List, [], refl, sym, ap, ◌∙◌, subst, Option, IsTrue, BackingView, StorageView, GivenBytes, storage, IsRefusalByFault, EffectOnSound, AnsweredEffect, RefusedEffect, IsSame, ImageError, Qcow2, Prepared, refusal_of, number_of, is_failed, ImageInvariant, pending_in, abstract_of, stops_as}
 use Rattle.qcow2_alloc.specs.declared.error.ImageError.TheVariants as I
-use Rattle.qcow2_image.specs.declared.image.Qcow2.{Qcow2}
-use Rattle.qcow2_image.specs.declared.prepared.Prepared.{Prepared}
-use Rattle.qcow2_image.specs.Calls.{refusal_of}
-use Rattle.qcow2_image.specs.Image.{number_of, is_failed}
 use Rattle.qcow2_image.proofs.Call.Marked.{MayMark}
-use Rattle.qcow2_image.specs.ImageInvariant.{ImageInvariant, pending_in, abstract_of}
-use Rattle.qcow2_disk.proofs.Compose.{stops_as}
 
 -- what a refusal leaves: a fault, or a failed allocation, that marks the image; or the image is marked as before, and no fault was reported
 abbrev pub IsOutcome : ImageError → Bool → Bool → Type 0

@@ -1,30 +1,8 @@
 -- Calls that guests don't see, from their parts.
-use Rattle.std.proofs.Common.{◌≡◌, inl, ℕ, ◌<◌, Bool, false, List, [], ◌++◌, refl, sym, ap, ◌∙◌, subst, arith}
-use Rattle.std.specs.Prelude.{Option, Result, Ok, Err, IfOk}
-use Rattle.std.proofs.lemmas.List.{append_assoc}
-use mathlib.Core.Path.{fun_ext}
-use Rattle.image_access.specs.Backing.{BackingView}
-use Rattle.image_access.specs.Moments.{StorageView}
-use Rattle.qcow2_metadata.specs.Entries.{l1_entry}
-use Rattle.qcow2_laws.specs.CrashInvariant.{Pending}
-use Rattle.qcow2_laws.specs.Internal.{KeepsFormat}
-use Rattle.qcow2_disk.specs.AbstractImages.{Guest, AbstractImage, guest_of}
-use Rattle.qcow2_disk.specs.Calls.{Refusal, storage, EffectOnSound, AnsweredEffect, RefusedEffect, IsSame}
-use Rattle.qcow2_laws.proofs.Formats.{l1_format}
-use Rattle.qcow2_laws.proofs.SafeSteps.{safe_step_then, steps_safe_throughout}
-use Rattle.qcow2_laws.proofs.Internal.{unseen_then}
-use Rattle.qcow2_alloc.specs.declared.error.ImageError.{ImageError}
-use Rattle.qcow2_alloc.specs.ImageFile.{state_in, view_in, nothing_given}
-use Rattle.qcow2_image.specs.declared.image.Qcow2.{Qcow2}
-use Rattle.qcow2_image.specs.declared.prepared.Prepared.{Prepared}
-use Rattle.qcow2_image.specs.Calls.{refusal_of, AnswersCall}
-use Rattle.qcow2_image.specs.Image.{number_of, is_failed}
+use Rattle.qcow2_image.proofs.Common.{◌≡◌, inl, ℕ, ◌<◌, Bool, false, List, [], ◌++◌, refl, sym, ap, ◌∙◌, subst, arith, Option, Result, Ok, Err, IfOk, append_assoc, fun_ext, BackingView, StorageView, l1_entry, Pending, KeepsFormat, Guest, AbstractImage, guest_of, Refusal, storage, EffectOnSound, AnsweredEffect, RefusedEffect, IsSame, l1_format, safe_step_then, steps_safe_throughout, unseen_then, ImageError, state_in, view_in, nothing_given, Qcow2, Prepared, refusal_of, AnswersCall, number_of, is_failed, of_data, of_tables, to_free, ImageInvariant, pending_in, abstract_of, NamesOwn, KeepsCopied, pending_with_listed, InternalStep, stops_none, rests_none}
 use Rattle.qcow2_image.proofs.Call.Marked.{MayMark, MayMarkBy}
-use Rattle.qcow2_image.specs.ImageInvariant.{of_data, of_tables, to_free, ImageInvariant, pending_in, abstract_of}
-use Rattle.qcow2_image.specs.InternalSteps.{NamesOwn, KeepsCopied, pending_with_listed, InternalStep}
 use Rattle.qcow2_image.proofs.Call.Answered.{works_now, sound_now, same_now}
 use Rattle.qcow2_image.proofs.Call.CallOutcomes.{outcome_answered, outcome_refused}
-use Rattle.qcow2_disk.proofs.Compose.{stops_none, rests_none}
 
 -- ---- a call that was refused before it did anything
 module _ (v : AbstractImage) where

@@ -1,12 +1,8 @@
 -- Refusals of tables are among the refusals that come during the work of a call.
-use Rattle.image_access.specs.declared.error.StorageError.{StorageError}
+use Rattle.qcow2_image.proofs.Common.{StorageError, MetadataError, ImageError, of_storage, of_metadata, IsOfTables, MayFail}
 use Rattle.image_access.specs.declared.error.StorageError.TheVariants as S
-use Rattle.qcow2_metadata.specs.declared.error.MetadataError.{MetadataError}
 use Rattle.qcow2_metadata.specs.declared.error.MetadataError.TheVariants as M
-use Rattle.qcow2_alloc.specs.declared.error.ImageError.{ImageError}
 use Rattle.qcow2_alloc.specs.declared.error.ImageError.TheVariants as I
-use Rattle.qcow2_alloc.specs.ImageError.{of_storage, of_metadata, IsOfTables}
-use Rattle.qcow2_image.specs.Refusals.{MayFail}
 
 pub tables_met : (e : ImageError) → IsOfTables e → MayFail e
 tables_met I.ReadOnly h = absurd h

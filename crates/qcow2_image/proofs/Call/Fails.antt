@@ -1,13 +1,5 @@
 -- Why a part is refused: a refusal of one of its own parts that `?` passes on, also one after which clusters are freed.
-use Rattle.std.proofs.Common.{◌≡◌, Result, Err, IsErr, IsErrAnd, refl, subst}
-use Rattle.std.specs.Prelude.{IfErr}
-use Rattle.image_access.specs.Backing.{BackingView}
-use Rattle.image_access.specs.Moments.{StorageView}
-use Rattle.qcow2_alloc.proofs.AllocationSteps.{handed_on}
-use Rattle.qcow2_alloc.specs.declared.error.ImageError.{ImageError}
-use Rattle.qcow2_image.specs.Faults.{CountsImageFaults}
-use Rattle.qcow2_image.specs.ImageSteps.{ImageFails}
-use Rattle.qcow2_image.specs.declared.image.Qcow2.{Qcow2}
+use Rattle.qcow2_image.proofs.Common.{◌≡◌, Result, Err, IsErr, IsErrAnd, refl, subst, IfErr, BackingView, StorageView, handed_on, ImageError, CountsImageFaults, ImageFails, Qcow2}
 use Rattle.qcow2_image.proofs.Call.FaultCounts.{counted_as, counted_of, untouched}
 
 module _ {S F : Type 0} {view : S → StorageView} {backing : F → BackingView} {T A : Type 0} {R Q : ImageError → Type 0} where

@@ -1,17 +1,6 @@
 -- Which calls on an image count a failure of its storage or of the backing disk, and how such calls compose.
-use Rattle.std.proofs.Common.{◌≡◌, ◌≤◌, inl, inr, Option, Some, None, Result, Ok, Err, IsErr, IsErrAnd, ap, arith, subst, sym, ◌∙◌}
+use Rattle.qcow2_image.proofs.Common.{◌≡◌, ◌≤◌, inl, inr, Option, Some, None, Result, Ok, Err, IsErr, IsErrAnd, ap, arith, subst, sym, ◌∙◌, IfErr-weaker, le_trans, BackingView, StorageView, Rose, UnlessErr, ImageError, Storage, CountsFaults, faults_of, handed_on, Qcow2, CountsImageFaults, NoFewerFaults, OneRose, SameFaults, ReportsEachIn, ReportsFault, faults_below}
 use Rattle.std.specs.Option.{IfSome}
-use Rattle.std.proofs.lemmas.Result.{IfErr-weaker}
-use Rattle.std.proofs.Math.Nat.{le_trans}
-use Rattle.image_access.specs.Backing.{BackingView}
-use Rattle.image_access.specs.Moments.{StorageView, Rose, UnlessErr}
-use Rattle.qcow2_alloc.specs.declared.error.ImageError.{ImageError}
-use Rattle.qcow2_alloc.specs.declared.error.ImageError.TheVariants.{Storage}
-use Rattle.qcow2_alloc.specs.Faults.{CountsFaults, faults_of}
-use Rattle.qcow2_alloc.proofs.AllocationSteps.{handed_on}
-use Rattle.qcow2_image.specs.declared.image.Qcow2.{Qcow2}
-use Rattle.qcow2_image.specs.Faults.{CountsImageFaults, NoFewerFaults, OneRose, SameFaults, ReportsEachIn, ReportsFault}
-use Rattle.qcow2_image.specs.ImageInvariant.{faults_below}
 
 -- a weaker statement, if the refusal is another one
 pub unless_weaker : {T E : Type 0} (r : Result T E) (refusal : E) {P Q : Type 0} → (P → Q) → UnlessErr r refusal P → UnlessErr r refusal Q

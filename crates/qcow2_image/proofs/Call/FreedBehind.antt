@@ -1,19 +1,5 @@
 -- A part is refused, and clusters are freed after the refusal.
-use Rattle.std.proofs.Common.{◌≡◌, ℕ, inl, inr, List, sym, subst}
-use Rattle.std.specs.Prelude.{Option}
-use Rattle.image_access.specs.Backing.{BackingView}
-use Rattle.image_access.specs.Moments.{StorageView}
-use Rattle.qcow2_metadata.specs.Header.{HeaderView}
-use Rattle.qcow2_alloc.specs.ImageError.{IsFault}
-use Rattle.qcow2_alloc.specs.declared.error.ImageError.{ImageError}
-use Rattle.qcow2_alloc.specs.declared.error.ImageError.TheVariants.{TablePrepared}
-use Rattle.qcow2_image.specs.CallParts.{RefusedCall}
-use Rattle.qcow2_image.specs.declared.image.Qcow2.{Qcow2}
-use Rattle.qcow2_image.specs.declared.prepared.Prepared.{Prepared}
-use Rattle.qcow2_image.specs.Found.{l1_index_of}
-use Rattle.qcow2_image.specs.ImageInvariant.{ImageInvariant, pending_in}
-use Rattle.qcow2_image.specs.NewTables.{IsFaultOrLacksTable, MayName}
-use Rattle.qcow2_image.specs.Refusals.{FreesRefused, MayFail, MayFailPreparing}
+use Rattle.qcow2_image.proofs.Common.{◌≡◌, ℕ, inl, inr, List, sym, subst, Option, BackingView, StorageView, HeaderView, IsFault, ImageError, TablePrepared, RefusedCall, Qcow2, Prepared, l1_index_of, ImageInvariant, pending_in, IsFaultOrLacksTable, MayName, FreesRefused, MayFail, MayFailPreparing}
 use Rattle.qcow2_image.proofs.Prepare.UnlinkedL2Table.{may_still}
 
 -- the refusal that is reported afterwards comes during the work if the first one did, and is not 9

@@ -1,10 +1,5 @@
 -- Parts of a call one after another leave an image as each of them does.
-use Rattle.std.proofs.Common.{refl, ◌∙◌}
-use Rattle.image_access.specs.Moments.{StorageView}
-use Rattle.qcow2_alloc.proofs.KeptMarks.{notes_none, notes_then}
-use Rattle.qcow2_image.specs.Image.{ImageStays}
-use Rattle.qcow2_image.specs.ImageSteps.{ImageStep, ImageStepWhere}
-use Rattle.qcow2_image.specs.declared.image.Qcow2.{Qcow2}
+use Rattle.qcow2_image.proofs.Common.{refl, ◌∙◌, StorageView, notes_none, notes_then, ImageStays, ImageStep, ImageStepWhere, Qcow2}
 use Rattle.qcow2_image.proofs.Call.BehindHeader.{behind_none, behind_then}
 
 pub stays_then : {S F : Type 0} {a b c : Qcow2 S F} → ImageStays a b → ImageStays b c → ImageStays a c

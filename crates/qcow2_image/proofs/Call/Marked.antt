@@ -1,15 +1,6 @@
 -- The marks of a call, from the marks of its parts.
-use Rattle.qcow2_alloc.specs.ImageError.{IsFault}
-use Rattle.std.proofs.Common.{◌≡◌, ◌⊎◌, ⊎_elim, inl, inr, Bool, true, false, refl, sym, ap, ◌∙◌, subst}
-use Rattle.std.specs.Prelude.{IfErr, IsTrue, Result, Ok, Err, ◌||◌, OnOk}
-use Rattle.std.proofs.lemmas.Bool.{or_left, or_right}
-use Rattle.qcow2_alloc.specs.declared.error.ImageError.{ImageError}
+use Rattle.qcow2_image.proofs.Common.{IsFault, ◌≡◌, ◌⊎◌, ⊎_elim, inl, inr, Bool, true, false, refl, sym, ap, ◌∙◌, subst, IfErr, IsTrue, Result, Ok, Err, ◌||◌, OnOk, or_left, or_right, ImageError, ImageFile, has_noted, Qcow2, has_noted_change, is_failed, failed_after, failed_by, MarksFailed, MarksRefused}
 use Rattle.qcow2_alloc.specs.declared.error.ImageError.TheVariants as I
-use Rattle.qcow2_alloc.specs.declared.image_file.ImageFile.{ImageFile}
-use Rattle.qcow2_alloc.specs.ImageFile.{has_noted}
-use Rattle.qcow2_image.specs.declared.image.Qcow2.{Qcow2}
-use Rattle.qcow2_image.specs.Image.{has_noted_change, is_failed}
-use Rattle.qcow2_image.specs.Refusals.{failed_after, failed_by, MarksFailed, MarksRefused}
 
 -- a failing storage marks the image, want of memory may, and nothing else does
 abbrev pub MayMark : ImageError → Bool → Bool → Type 0

@@ -1,15 +1,5 @@
 -- A call that begins, does one part, and marks a failure.
-use Rattle.std.proofs.Common.{◌≡◌, sym, ap, ◌∙◌, subst}
-use Rattle.std.specs.Prelude.{Result}
-use Rattle.image_access.specs.Backing.{BackingView}
-use Rattle.image_access.specs.Moments.{StorageView}
-use Rattle.qcow2_alloc.specs.declared.error.ImageError.{ImageError}
-use Rattle.qcow2_image.specs.Faults.{CountsImageFaults, SameFaults}
-use Rattle.qcow2_image.specs.Image.{ImageStays, IsBegun, IsSameImage}
-use Rattle.qcow2_image.specs.ImageSteps.{CallStep, ImageStep, ReadingCall, ReadingStep}
-use Rattle.qcow2_image.specs.Refusals.{MarksFailed}
-use Rattle.qcow2_image.specs.WriteSteps.{KeepingStep, PuttingCall}
-use Rattle.qcow2_image.specs.declared.image.Qcow2.{Qcow2}
+use Rattle.qcow2_image.proofs.Common.{◌≡◌, sym, ap, ◌∙◌, subst, Result, BackingView, StorageView, ImageError, CountsImageFaults, SameFaults, ImageStays, IsBegun, IsSameImage, CallStep, ImageStep, ReadingCall, ReadingStep, MarksFailed, KeepingStep, PuttingCall, Qcow2}
 use Rattle.qcow2_image.proofs.Call.BehindHeader.{behind_call}
 use Rattle.qcow2_image.proofs.Call.FaultCounts.{counted_marked}
 use Rattle.qcow2_image.proofs.Call.ImageSteps.{stays_then}

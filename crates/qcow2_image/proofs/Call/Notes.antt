@@ -1,13 +1,5 @@
 -- Steps that leave the storage the same keep recorded changes.
-use Rattle.std.proofs.Common.{◌≡◌, sym, subst}
-use Rattle.image_access.specs.Moments.{StorageView}
-use Rattle.qcow2_alloc.specs.CachePins.{CountsTableChanges, KeepsPinsAndNotes}
-use Rattle.qcow2_alloc.specs.CountedChanges.{counts_none}
-use Rattle.qcow2_alloc.specs.KeptMarks.{KeepsFileNotes}
-use Rattle.qcow2_alloc.specs.KeptNotes.{KeepsNotes, kept_same}
-use Rattle.qcow2_alloc.specs.declared.cache.MetadataCaches.{MetadataCaches}
-use Rattle.qcow2_alloc.specs.declared.image_storage.ImageStorage.{ImageStorage}
-use Rattle.qcow2_image.specs.declared.image.Qcow2.{Qcow2}
+use Rattle.qcow2_image.proofs.Common.{◌≡◌, sym, subst, StorageView, CountsTableChanges, KeepsPinsAndNotes, counts_none, KeepsFileNotes, KeepsNotes, kept_same, MetadataCaches, ImageStorage, Qcow2}
 
 module _ {S F : Type 0} {view : S → StorageView} (a b : Qcow2 S F) (same : b.file.storage ≡ a.file.storage) where
   storage_kept : KeepsNotes view a.file.storage b.file.storage

@@ -1,24 +1,5 @@
 -- A call begins with no recorded change, does parts that record their changes, and marks a failure: if memory runs out, the image fails exactly if a change was counted.
-use Rattle.std.proofs.Common.{◌≡◌, ◌⊎◌, ℕ, ◌<◌, ◌≤◌, Bool, true, false, Ok, Err, inl, inr, refl, sym, ap, ◌∙◌, subst, arith}
-use Rattle.std.specs.Prelude.{IsTrue, Result, ◌||◌}
-use Rattle.std.proofs.lemmas.Bool.{or_cases, or_left, or_right}
-use Rattle.std.proofs.Math.Nat.{le_refl, le_trans}
-use Rattle.image_access.specs.Moments.{StorageView, ContentsStay, Rose}
-use Rattle.qcow2_alloc.specs.CountedChanges.{CountsChanges}
-use Rattle.qcow2_alloc.specs.KeptMarks.{KeepsFileNotes}
-use Rattle.qcow2_alloc.specs.ImageFile.{view_in}
-use Rattle.qcow2_alloc.specs.ImageStorage.{changes_of, is_changed_of, storage_of}
-use Rattle.qcow2_alloc.specs.declared.cache.MetadataCaches.{MetadataCaches}
-use Rattle.qcow2_alloc.specs.declared.error.ImageError.{ImageError}
-use Rattle.qcow2_alloc.specs.declared.error.ImageError.TheVariants.{Memory}
-use Rattle.qcow2_alloc.specs.declared.image_file.ImageFile.{ImageFile}
-use Rattle.qcow2_alloc.specs.declared.image_storage.ImageStorage.{ImageStorage}
-use Rattle.qcow2_image.specs.declared.image.Qcow2.{Qcow2}
-use Rattle.qcow2_image.specs.Image.{IsBegun, has_noted_change, is_failed, with_marks}
-use Rattle.qcow2_image.specs.Noted.{ChangesRose, CommitFailsOnceWritten, CountsImageChanges, FailsOnceWritten, HasMoreChanges, MarksOnceChanged, NoFewerChanges, RecordsChanges, RecordsPart}
-use Rattle.qcow2_image.specs.Ranges.{ReleasesOneMapping}
-use Rattle.qcow2_image.specs.declared.prepared.CommitRefused.{CommitRefused}
-use Rattle.qcow2_image.specs.Refusals.{MarksFailed}
+use Rattle.qcow2_image.proofs.Common.{◌≡◌, ◌⊎◌, ℕ, ◌<◌, ◌≤◌, Bool, true, false, Ok, Err, inl, inr, refl, sym, ap, ◌∙◌, subst, arith, IsTrue, Result, ◌||◌, or_cases, or_left, or_right, le_refl, le_trans, StorageView, ContentsStay, Rose, CountsChanges, KeepsFileNotes, view_in, changes_of, is_changed_of, storage_of, MetadataCaches, ImageError, Memory, ImageFile, ImageStorage, Qcow2, IsBegun, has_noted_change, is_failed, with_marks, ChangesRose, CommitFailsOnceWritten, CountsImageChanges, FailsOnceWritten, HasMoreChanges, MarksOnceChanged, NoFewerChanges, RecordsChanges, RecordsPart, ReleasesOneMapping, CommitRefused, MarksFailed}
 
 -- a number that rose has risen since before, and goes on having risen
 rose_later : (a b c : ℕ) → b ≤ c → Rose a b → Rose a c

@@ -1,28 +1,8 @@
 -- A refused call: everything is as before except for the clusters to free, or a fault interrupted the call.
-use Rattle.std.proofs.Common.{◌≡◌, ◌⊎◌, ⊎_elim, inl, inr, ℕ, Bool, true, false, List, [], Option, Some, refl, sym, ap, ◌∙◌, subst, arith}
-use Rattle.std.specs.Prelude.{Result, Ok, Err, IsTrue, slice_set}
-use Rattle.image_access.specs.Backing.{BackingView}
-use Rattle.image_access.specs.Moments.{StorageView}
-use Rattle.qcow2_metadata.specs.declared.header.HeaderFields.{HeaderFields}
-use Rattle.qcow2_metadata.specs.Header.{cluster_size}
-use Rattle.qcow2_disk.specs.Calls.{IsRefusalByFault, IsSame, RefusedEffect, EffectOnSound, with_slot}
-use Rattle.qcow2_disk.specs.Disk.{Disk}
-use Rattle.qcow2_disk.specs.Mappings.{IsPrepared}
-use Rattle.qcow2_disk.proofs.Compose.{works_then, stops_of}
-use Rattle.qcow2_laws.specs.CrashInvariant.{Pending, SameCovers}
-use Rattle.qcow2_disk.specs.AbstractImages.{Guest, Setting, guest_of}
+use Rattle.qcow2_image.proofs.Common.{◌≡◌, ◌⊎◌, ⊎_elim, inl, inr, ℕ, Bool, true, false, List, [], Option, Some, refl, sym, ap, ◌∙◌, subst, arith, Result, Ok, Err, IsTrue, slice_set, BackingView, StorageView, HeaderFields, cluster_size, IsRefusalByFault, IsSame, RefusedEffect, EffectOnSound, with_slot, Disk, IsPrepared, works_then, stops_of, Pending, SameCovers, Guest, Setting, guest_of, ImageError, known_in, nothing_given, InterruptedFileStep, Qcow2, Prepared, refusal_of, number_of, is_failed, KeepsRestOn, has_noted_change, leaked_in, InternalCall, InterruptedCall, RefusedCall, FindsTable, IsReadied, PreparesRange, InterruptedStep, Ensures, InternalFillingStep, RefusedFillingStep, InternalStep, RefusedStep, pending_with_listed, of_data, of_tables, to_free, pending_in, abstract_of, meaning, below_of, ImageInvariant}
 use Rattle.qcow2_alloc.specs.ImageError.{IsFault as FaultOfTables}
-use Rattle.qcow2_alloc.specs.declared.error.ImageError.{ImageError}
 use Rattle.qcow2_alloc.specs.declared.error.ImageError.TheVariants as I
-use Rattle.qcow2_alloc.specs.ImageFile.{known_in, nothing_given, InterruptedFileStep}
-use Rattle.qcow2_image.specs.declared.image.Qcow2.{Qcow2}
-use Rattle.qcow2_image.specs.declared.prepared.Prepared.{Prepared}
-use Rattle.qcow2_image.specs.Calls.{refusal_of}
-use Rattle.qcow2_image.specs.Image.{number_of, is_failed, KeepsRestOn, has_noted_change, leaked_in}
 use Rattle.qcow2_image.proofs.Call.Marked.{MayMark}
-use Rattle.qcow2_image.specs.CallParts.{InternalCall, InterruptedCall, RefusedCall, FindsTable, IsReadied, PreparesRange}
-use Rattle.qcow2_image.specs.InternalSteps.{InterruptedStep, Ensures, InternalFillingStep, RefusedFillingStep, InternalStep, RefusedStep, pending_with_listed}
-use Rattle.qcow2_image.specs.ImageInvariant.{of_data, of_tables, to_free, pending_in, abstract_of, meaning, below_of, ImageInvariant}
 use Rattle.qcow2_image.proofs.Images.Moved.{file_step_then, format_file_step, stay_then, format_stay}
 use Rattle.qcow2_image.proofs.Images.Sound.{free_more}
 use Rattle.qcow2_image.proofs.Call.Answered.{same_setting, same_now, sound_now, works_now}

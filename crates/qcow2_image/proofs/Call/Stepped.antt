@@ -1,25 +1,7 @@
 -- What a call does, from one step of the driver and the mappings that are prepared afterwards.
-use Rattle.std.proofs.Common.{◌≡◌, List, [], sym, ap, ◌∙◌, subst}
-use Rattle.std.specs.Prelude.{Option}
-use Rattle.image_access.specs.Backing.{BackingView}
-use Rattle.image_access.specs.Moments.{StorageView}
-use Rattle.qcow2_metadata.specs.Bytes.{Bytes}
-use Rattle.qcow2_metadata.specs.declared.header.HeaderFields.{HeaderFields}
-use Rattle.qcow2_metadata.specs.Header.{cluster_size}
-use Rattle.qcow2_laws.specs.CrashInvariant.{Pending}
-use Rattle.qcow2_laws.specs.SafeSteps.{SafeStep}
-use Rattle.qcow2_disk.specs.Stops.{SafeThroughout, GivenBytes}
-use Rattle.qcow2_disk.specs.Calls.{EffectOnSound}
-use Rattle.qcow2_disk.specs.UngivenCovers.{UngivenStay}
-use Rattle.qcow2_laws.specs.Internal.{KeepsFormat}
-use Rattle.qcow2_alloc.specs.ImageFile.{state_in, view_in, known_in}
-use Rattle.qcow2_image.specs.declared.image.Qcow2.{Qcow2}
-use Rattle.qcow2_image.specs.declared.prepared.Prepared.{Prepared}
-use Rattle.qcow2_image.specs.ImageInvariant.{backing_bytes, below_of, ImageInvariant, pending_in, abstract_of}
+use Rattle.qcow2_image.proofs.Common.{◌≡◌, List, [], sym, ap, ◌∙◌, subst, Option, BackingView, StorageView, Bytes, HeaderFields, cluster_size, Pending, SafeStep, SafeThroughout, GivenBytes, EffectOnSound, UngivenStay, KeepsFormat, state_in, view_in, known_in, Qcow2, Prepared, backing_bytes, below_of, ImageInvariant, pending_in, abstract_of, leaked_in, stops_of}
 use Rattle.qcow2_image.proofs.Call.Answered.{same_setting}
 use Rattle.qcow2_image.proofs.Images.Sound.{IsOnly, pending_is}
-use Rattle.qcow2_image.specs.Image.{leaked_in}
-use Rattle.qcow2_disk.proofs.Compose.{stops_of}
 
 module _ {S F : Type 0} (view : S → StorageView) (backing : F → BackingView) (old new : Qcow2 S F) (out out' : List (Option Prepared)) where
   -- From sound to sound, with what this gives. What was pending beyond what mappings hold and what is to be freed stays.

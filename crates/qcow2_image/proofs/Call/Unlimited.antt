@@ -1,17 +1,8 @@
 -- Refusals that are not limits.
-use Rattle.std.proofs.Common.{◌≡◌, inl, inr, refl, sym, subst}
-use Rattle.image_access.specs.declared.error.StorageError.{StorageError}
+use Rattle.qcow2_image.proofs.Common.{◌≡◌, inl, inr, refl, sym, subst, StorageError, MetadataError, IsOfLengthOrMemory, IsInUseOrFault, IsFault, of_metadata, of_storage, MetadataCaches, ImageError, MayFailLooking, IsUnlimited}
 use Rattle.image_access.specs.declared.error.StorageError.TheVariants as S
-use Rattle.qcow2_metadata.specs.declared.error.MetadataError.{MetadataError}
 use Rattle.qcow2_metadata.specs.declared.error.MetadataError.TheVariants as M
-use Rattle.qcow2_metadata.specs.EntryTable.{IsOfLengthOrMemory}
-use Rattle.qcow2_alloc.specs.CachePins.{IsInUseOrFault}
-use Rattle.qcow2_alloc.specs.ImageError.{IsFault, of_metadata, of_storage}
-use Rattle.qcow2_alloc.specs.declared.cache.MetadataCaches.{MetadataCaches}
-use Rattle.qcow2_alloc.specs.declared.error.ImageError.{ImageError}
 use Rattle.qcow2_alloc.specs.declared.error.ImageError.TheVariants as I
-use Rattle.qcow2_image.specs.MayFail.{MayFailLooking}
-use Rattle.qcow2_image.specs.Refusals.{IsUnlimited}
 
 pub storage_fault : (e : StorageError) → IsFault (of_storage e)
 storage_fault S.Fault = inl refl

@@ -1,14 +1,5 @@
 -- The parts of a write: how they leave an image one after another, and what each promises in addition.
-use Rattle.std.proofs.Common.{◌≡◌, ℕ, List, refl, ap, ◌∙◌}
-use Rattle.image_access.specs.Moments.{StorageView}
-use Rattle.qcow2_alloc.specs.declared.clusters_to_free.ClustersToFreeEntry.{ClustersToFreeEntry}
-use Rattle.qcow2_alloc.proofs.KeptMarks.{notes_none, notes_then}
-use Rattle.qcow2_alloc.proofs.ListedAfter.{header_same, header_then}
-use Rattle.qcow2_image.specs.Image.{ImageStays, is_external, is_writable}
-use Rattle.qcow2_image.specs.ImageSteps.{ImageStep, ImageStepWhere, ReadingStep}
-use Rattle.qcow2_image.specs.InternalSteps.{FreesLater, Pins}
-use Rattle.qcow2_image.specs.WriteSteps.{FillingStep, KeepingStep, AllocatingStep, AllocatingStepWhere}
-use Rattle.qcow2_image.specs.declared.image.Qcow2.{Qcow2}
+use Rattle.qcow2_image.proofs.Common.{◌≡◌, ℕ, List, refl, ap, ◌∙◌, StorageView, ClustersToFreeEntry, notes_none, notes_then, header_same, header_then, ImageStays, is_external, is_writable, ImageStep, ImageStepWhere, ReadingStep, FreesLater, Pins, FillingStep, KeepingStep, AllocatingStep, AllocatingStepWhere, Qcow2}
 use Rattle.qcow2_image.proofs.Call.BehindHeader.{behind_by, behind_none, behind_tables, behind_then}
 use Rattle.qcow2_image.proofs.Call.ImageSteps.{stays_then, step_none}
 use Rattle.qcow2_image.proofs.Call.Notes.{pins_kept, same_kept}

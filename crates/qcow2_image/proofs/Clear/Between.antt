@@ -1,38 +1,5 @@
 -- The clusters between two offsets are cleared, as a part of a call.
-use Rattle.std.proofs.Common.{◌≡◌, inl, inr, ℕ, suc, ◌+◌, ◌-◌, ◌*◌, ◌/◌, ◌%◌, ◌<◌, ◌≤◌, Bool, true, false, List, [], ◌∷◌, ◌++◌, Option, Some, None, refl, sym, ap, ◌∙◌, subst, arith, cond, mul_assoc}
-use Rattle.std.specs.Prelude.{IsSome, IsTrue, slice_get, ◌↔◌, Result, Ok, Err, OnOk}
-use Rattle.std.proofs.lemmas.Bool.{cases_eq, cases_lt}
-use Rattle.std.proofs.lemmas.Nat.{div-add-mod', div-mul-add, mod-mul-add, mod_below, pow_pos}
-use Rattle.image_access.specs.Backing.{BackingView}
-use Rattle.image_access.specs.Moments.{StorageView}
-use Rattle.qcow2_metadata.specs.Bytes.{Bytes}
-use Rattle.qcow2_metadata.specs.declared.header.HeaderFields.{HeaderFields}
-use Rattle.qcow2_metadata.specs.Header.{cluster_size, entries_per_cluster}
-use Rattle.qcow2_metadata.specs.Cover.{cover}
-use Rattle.qcow2_metadata.specs.L2Mapping.{IsInReach, old_data_run}
-use Rattle.qcow2_disk.specs.AbstractImages.{Guest, Setting, guest_of}
-use Rattle.qcow2_disk.specs.Calls.{EffectOnSound, cleared, with_disk}
-use Rattle.qcow2_laws.specs.CrashInvariant.{Pending}
-use Rattle.qcow2_disk.specs.Disk.{Disk}
-use Rattle.qcow2_laws.specs.Guests.{table_at}
-use Rattle.qcow2_disk.specs.Mappings.{given_shown}
-use Rattle.qcow2_laws.specs.Steps.{guest_at}
-use Rattle.qcow2_disk.proofs.Compose.{works_less, works_then}
-use Rattle.qcow2_laws.proofs.Places.{Sizes-from, Sizes}
-use Rattle.qcow2_alloc.specs.CachePins.{l2_pins}
-use Rattle.qcow2_alloc.specs.declared.clusters_to_free.ClustersToFreeEntry.{ClustersToFreeEntry}
-use Rattle.qcow2_alloc.specs.ImageFile.{contents_in, known_in}
-use Rattle.qcow2_alloc.specs.MetadataCaches.{IsEntryAt}
-use Rattle.qcow2_alloc.proofs.KeptTables.Standing.{own_cluster}
-use Rattle.qcow2_image.specs.CallParts.{InternalCall}
-use Rattle.qcow2_image.specs.Clearing.{ClearsImageCovers, ClearsPart, ClearsTable, IsUnderMapping, IsClearable, MayClear, ReadsAll, ReadsDropped, cover_once_cleared, given_bytes_between, is_between, listed_by, setting_of, shown_by, AreCleared}
-use Rattle.qcow2_image.specs.declared.discarding.ClearMode.{ClearMode}
-use Rattle.qcow2_image.specs.declared.image.Qcow2.{Qcow2}
-use Rattle.qcow2_image.specs.declared.prepared.Prepared.{Prepared}
-use Rattle.qcow2_image.specs.Found.{l1_index_of, l2_index_of}
-use Rattle.qcow2_image.specs.ImageInvariant.{IsPending, IsReadyWith, abstract_of, disk_of, listed_run, pending_in, pins_by}
-use Rattle.qcow2_image.specs.MovedTables.{MovesTables, CoversStay}
-use Rattle.qcow2_image.specs.InternalSteps.{HoldsTable}
+use Rattle.qcow2_image.proofs.Common.{◌≡◌, inl, inr, ℕ, suc, ◌+◌, ◌-◌, ◌*◌, ◌/◌, ◌%◌, ◌<◌, ◌≤◌, Bool, true, false, List, [], ◌∷◌, ◌++◌, Option, Some, None, refl, sym, ap, ◌∙◌, subst, arith, cond, mul_assoc, IsSome, IsTrue, slice_get, ◌↔◌, Result, Ok, Err, OnOk, cases_eq, cases_lt, div-add-mod', div-mul-add, mod-mul-add, mod_below, pow_pos, BackingView, StorageView, Bytes, HeaderFields, cluster_size, entries_per_cluster, cover, IsInReach, old_data_run, Guest, Setting, guest_of, EffectOnSound, cleared, with_disk, Pending, Disk, table_at, given_shown, guest_at, works_less, works_then, Sizes-from, Sizes, l2_pins, ClustersToFreeEntry, contents_in, known_in, IsEntryAt, own_cluster, InternalCall, ClearsImageCovers, ClearsPart, ClearsTable, IsUnderMapping, IsClearable, MayClear, ReadsAll, ReadsDropped, cover_once_cleared, given_bytes_between, is_between, listed_by, setting_of, shown_by, AreCleared, ClearMode, Qcow2, Prepared, l1_index_of, l2_index_of, IsPending, IsReadyWith, abstract_of, disk_of, listed_run, pending_in, pins_by, MovesTables, CoversStay, HoldsTable}
 use Rattle.qcow2_image.proofs.Images.Apart.{pins_own}
 use Rattle.qcow2_image.proofs.Clear.Cleared.{all_cleared}
 use Rattle.qcow2_image.proofs.Images.Moved.{file_step_then}

@@ -1,39 +1,7 @@
 -- Clearing as a call: it succeeds, or is refused and perhaps marked as failed.
-use Rattle.std.proofs.Common.{◌≡◌, ◌⊎◌, inl, inr, ℕ, ◌+◌, ◌-◌, ◌<◌, ◌≤◌, Bool, true, false, List, [], ◌∷◌, Option, refl, sym, ap, ◌∙◌, subst, arith, min, cond}
-use Rattle.std.specs.Prelude.{IsTrue, IsErr, IsErrAnd, IfSome, MatchOption, Result, Ok, Err, Some, None, nat_lt, not, ◌&&◌}
-use Rattle.std.specs.Option.{option_or}
-use Rattle.std.proofs.lemmas.Nat.{pow_pos}
-use Rattle.std.proofs.lemmas.Bool.{cases_lt, cond-true, cond-false, le-ltb, lt-ltb}
-use mathlib.Core.Path.{fun_ext}
-use Rattle.image_access.specs.Backing.{BackingView}
-use Rattle.image_access.specs.Moments.{StorageView}
-use Rattle.qcow2_metadata.specs.declared.header.HeaderFields.{HeaderFields}
-use Rattle.qcow2_metadata.specs.Header.{cluster_size, entries_per_cluster}
-use Rattle.qcow2_metadata.specs.Guest.{Value, known_byte}
-use Rattle.qcow2_metadata.specs.Bytes.{Bytes, laid_over}
-use Rattle.qcow2_disk.specs.AbstractImages.{AbstractImage, Setting, guest_of}
-use Rattle.qcow2_disk.specs.Calls.{Clearing, to_zero, to_kept_zero, to_backing, IsRefusalByFault, IsSame, Refusal, storage, another, EffectOnSound, RefusedEffect, cleared, with_disk}
-use Rattle.qcow2_disk.specs.Disk.{Disk}
-use Rattle.qcow2_disk.specs.Mappings.{given_shown}
-use Rattle.qcow2_disk.specs.Rules.{answered, touched_to}
-use Rattle.qcow2_disk.specs.Stops.{GivenBytes}
-use Rattle.qcow2_laws.proofs.Places.{Sizes-from}
-use Rattle.qcow2_disk.proofs.Compose.{works_less, works_then}
-use Rattle.qcow2_disk.proofs.ForUsers.{laid_outside}
-use Rattle.qcow2_alloc.specs.declared.error.ImageError.{ImageError}
+use Rattle.qcow2_image.proofs.Common.{◌≡◌, ◌⊎◌, inl, inr, ℕ, ◌+◌, ◌-◌, ◌<◌, ◌≤◌, Bool, true, false, List, [], ◌∷◌, Option, refl, sym, ap, ◌∙◌, subst, arith, min, cond, IsTrue, IsErr, IsErrAnd, IfSome, MatchOption, Result, Ok, Err, Some, None, nat_lt, not, ◌&&◌, option_or, pow_pos, cases_lt, cond-true, cond-false, le-ltb, lt-ltb, fun_ext, BackingView, StorageView, HeaderFields, cluster_size, entries_per_cluster, Value, known_byte, Bytes, laid_over, AbstractImage, Setting, guest_of, Clearing, to_zero, to_kept_zero, to_backing, IsRefusalByFault, IsSame, Refusal, storage, another, EffectOnSound, RefusedEffect, cleared, with_disk, Disk, given_shown, answered, touched_to, GivenBytes, Sizes-from, works_less, works_then, laid_outside, ImageError, contents_in, known_in, EndsFreeing, RefusedCall, InternalCall, refusal_of, Clears, ClearsImageCovers, ClearsPart, IsUnderMapping, IsClearable, RefusesUngiven, from_in, given_bytes_between, all_given_by_clear, needs_zero_entries, refuses_to_clear, rounds_past, setting_of, shown_by, to_in, ClearMode, Qcow2, Prepared, number_of, is_external, is_failed, is_writable, size_of, has_noted_change, ImageInvariant, abstract_of, disk_of, pending_in, passes, refuse_if, MovesTables, CoversStay}
 use Rattle.qcow2_alloc.specs.declared.error.ImageError.TheVariants as I
-use Rattle.qcow2_alloc.specs.ImageFile.{contents_in, known_in}
-use Rattle.qcow2_image.specs.CallParts.{EndsFreeing, RefusedCall, InternalCall}
-use Rattle.qcow2_image.specs.Calls.{refusal_of}
-use Rattle.qcow2_image.specs.Clearing.{Clears, ClearsImageCovers, ClearsPart, IsUnderMapping, IsClearable, RefusesUngiven, from_in, given_bytes_between, all_given_by_clear, needs_zero_entries, refuses_to_clear, rounds_past, setting_of, shown_by, to_in}
-use Rattle.qcow2_image.specs.declared.discarding.ClearMode.{ClearMode}
-use Rattle.qcow2_image.specs.declared.image.Qcow2.{Qcow2}
-use Rattle.qcow2_image.specs.declared.prepared.Prepared.{Prepared}
-use Rattle.qcow2_image.specs.Image.{number_of, is_external, is_failed, is_writable, size_of, has_noted_change}
-use Rattle.qcow2_image.specs.ImageInvariant.{ImageInvariant, abstract_of, disk_of, pending_in}
-use Rattle.qcow2_image.specs.Refusals.{passes, refuse_if}
 use Rattle.qcow2_image.proofs.Call.Marked.{MayMark}
-use Rattle.qcow2_image.specs.MovedTables.{MovesTables, CoversStay}
 use Rattle.qcow2_image.proofs.Call.Called.{Quietly, listed, refuses_early, works_none}
 use Rattle.qcow2_image.proofs.Call.Refused.{refused_then, refuses_left, stays_kept}
 use Rattle.qcow2_image.proofs.Call.CallOutcomes.{outcome_answered}

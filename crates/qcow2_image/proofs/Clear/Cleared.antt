@@ -1,39 +1,8 @@
 -- Entries of a cached table are cleared one after another, and the clusters that they named wait to be freed.
-use Rattle.std.proofs.Common.{◌≡◌, inl, inr, ℕ, zero, suc, ◌+◌, ◌-◌, ◌*◌, ◌^◌, ◌<◌, ◌≤◌, true, false, List, [], ◌∷◌, ◌++◌, Option, refl, sym, ap, ◌∙◌, subst, arith, min}
-use Rattle.std.specs.Prelude.{IsSome, IsTrue, nat_le, nat_lt}
-use Rattle.std.proofs.lemmas.Bool.{cases_eq, cases_lt, and_from, and_left, and_right, cond-true, cond-false, le-leb, lt-leb, lt-ltb, le-ltb}
-use Rattle.std.proofs.lemmas.Nat.{pow_pos}
-use Rattle.std.proofs.Math.Pow.{pow_mono}
-use Rattle.image_access.specs.Backing.{BackingView}
-use Rattle.image_access.specs.Moments.{StorageView}
-use Rattle.qcow2_metadata.specs.Bytes.{Bytes}
-use Rattle.qcow2_metadata.specs.declared.header.HeaderFields.{HeaderFields}
-use Rattle.qcow2_metadata.specs.Header.{cluster_size}
-use Rattle.qcow2_metadata.specs.Cover.{cover}
-use Rattle.qcow2_metadata.specs.L2Mapping.{IsInReach, old_data_run}
-use Rattle.qcow2_disk.specs.AbstractImages.{Setting}
-use Rattle.qcow2_disk.specs.Calls.{EffectOnSound, cleared}
-use Rattle.qcow2_laws.specs.CrashInvariant.{Pending}
-use Rattle.qcow2_disk.specs.Disk.{Disk, disk, uncovered, zeroed_between}
-use Rattle.qcow2_laws.specs.GuestLaws.{ClearsRange, MapsEntry, MapsInTurn}
-use Rattle.qcow2_disk.specs.Mappings.{given_shown}
-use Rattle.qcow2_laws.specs.SafeSteps.{DriverState}
-use Rattle.qcow2_laws.specs.Steps.{guest_at}
-use Rattle.qcow2_disk.specs.Stops.{GivenBytes}
+use Rattle.qcow2_image.proofs.Common.{◌≡◌, inl, inr, ℕ, zero, suc, ◌+◌, ◌-◌, ◌*◌, ◌^◌, ◌<◌, ◌≤◌, true, false, List, [], ◌∷◌, ◌++◌, Option, refl, sym, ap, ◌∙◌, subst, arith, min, IsSome, IsTrue, nat_le, nat_lt, cases_eq, cases_lt, and_from, and_left, and_right, cond-true, cond-false, le-leb, lt-leb, lt-ltb, le-ltb, pow_pos, pow_mono, BackingView, StorageView, Bytes, HeaderFields, cluster_size, cover, IsInReach, old_data_run, Setting, EffectOnSound, cleared, Pending, Disk, disk, uncovered, zeroed_between, ClearsRange, MapsEntry, MapsInTurn, given_shown, DriverState, guest_at, GivenBytes, entries_safe_throughout, KeepsPinsAndNotes, MetadataCaches, ClustersToFreeEntry, state_in, view_in, contents_in, known_in, IsEntryAt, l2_at, AreCleared, ClearsImageCovers, ClearsEntry, ClearsPart, ClearsTable, MayClear, cover_once_cleared, given_bytes_between, is_between, is_cleared, listed_by, setting_of, shown_by, with_caches, ClearMode, Zeros, KeptZeros, Qcow2, Prepared, ImageInvariant, abstract_of, backing_bytes, disk_of, listed_run, of_data, of_tables, pending_in, to_free, IsUngiven, file_invariant_of}
 use Rattle.qcow2_laws.proofs.MappedRanges.{clusters_in_turn_are_a_range}
-use Rattle.qcow2_laws.proofs.SafeSteps.{entries_safe_throughout}
 use Rattle.qcow2_alloc.proofs.CachePins.{marks_none, marks_then}
-use Rattle.qcow2_alloc.specs.CachePins.{KeepsPinsAndNotes}
-use Rattle.qcow2_alloc.specs.declared.cache.MetadataCaches.{MetadataCaches}
-use Rattle.qcow2_alloc.specs.declared.clusters_to_free.ClustersToFreeEntry.{ClustersToFreeEntry}
-use Rattle.qcow2_alloc.specs.ImageFile.{state_in, view_in, contents_in, known_in}
-use Rattle.qcow2_alloc.specs.MetadataCaches.{IsEntryAt, l2_at}
-use Rattle.qcow2_image.specs.Clearing.{AreCleared, ClearsImageCovers, ClearsEntry, ClearsPart, ClearsTable, MayClear, cover_once_cleared, given_bytes_between, is_between, is_cleared, listed_by, setting_of, shown_by, with_caches}
-use Rattle.qcow2_image.specs.declared.discarding.ClearMode.{ClearMode}
-use Rattle.qcow2_image.specs.declared.discarding.ClearMode.TheVariants.{Uncovered, Zeros, KeptZeros}
-use Rattle.qcow2_image.specs.declared.image.Qcow2.{Qcow2}
-use Rattle.qcow2_image.specs.declared.prepared.Prepared.{Prepared}
-use Rattle.qcow2_image.specs.ImageInvariant.{ImageInvariant, abstract_of, backing_bytes, disk_of, listed_run, of_data, of_tables, pending_in, to_free}
+use Rattle.qcow2_image.specs.declared.discarding.ClearMode.TheVariants.{Uncovered}
 use Rattle.qcow2_image.proofs.Call.Answered.{same_guest}
 use Rattle.qcow2_image.proofs.Call.Stepped.{Steps, stepped_sound, stepped_works}
 use Rattle.qcow2_image.proofs.Clear.Entries.{OneCleared, one_cleared}
@@ -41,8 +10,6 @@ use Rattle.qcow2_image.proofs.Commit.Committing.{listed_tables}
 use Rattle.qcow2_image.proofs.Open.Reftables.{reftable_still}
 use Rattle.qcow2_image.proofs.Images.Sound.{free_more}
 use Rattle.qcow2_image.proofs.Images.UngivenCovers.{ungiven_stay}
-use Rattle.qcow2_disk.specs.UngivenCovers.{IsUngiven}
-use Rattle.qcow2_alloc.proofs.FileInvariants.{file_invariant_of}
 
 -- what is listed is no table
 pub listed_no_table : (how : ClearMode) (h : HeaderFields) (known : Bytes) (first n k : ℕ) → to_free of_tables (listed_by how h known first n) k ≡ 0

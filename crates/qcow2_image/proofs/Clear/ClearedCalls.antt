@@ -1,30 +1,6 @@
 -- The contract of calls that clear a range: if one is refused at once, if no cluster is whole, and how one begins that clears some.
-use Rattle.std.proofs.Common.{◌≡◌, ◌∙◌, inl, inr, ℕ, ◌*◌, ◌<◌, ◌≤◌, Bool, true, false, List, Option, Some, None, Result, Ok, Err, refl, sym, ap, subst, arith}
-use Rattle.std.specs.Prelude.{IfSome, IsErr, IsErrAnd, IsTrue, MatchOption, nat_le, nat_lt, not, ◌&&◌}
-use Rattle.std.specs.Option.{option_or}
-use Rattle.std.proofs.lemmas.Bool.{and_left, and_right, cases_lt, cond-false, le-ltb, lt-leb}
-use Rattle.image_access.specs.Backing.{BackingView}
-use Rattle.image_access.specs.Moments.{StorageView}
-use Rattle.qcow2_laws.specs.CrashInvariant.{Pending}
-use Rattle.qcow2_metadata.specs.Bytes.{Bytes}
-use Rattle.qcow2_metadata.specs.Cover.{cover}
-use Rattle.qcow2_metadata.specs.Header.{cluster_size}
-use Rattle.qcow2_metadata.specs.declared.header.HeaderFields.{HeaderFields}
-use Rattle.qcow2_alloc.proofs.AllocationSteps.{handed_on}
-use Rattle.qcow2_alloc.specs.ImageFile.{known_in}
-use Rattle.qcow2_alloc.specs.declared.error.ImageError.{ImageError}
+use Rattle.qcow2_image.proofs.Common.{◌≡◌, ◌∙◌, inl, inr, ℕ, ◌*◌, ◌<◌, ◌≤◌, Bool, true, false, List, Option, Some, None, Result, Ok, Err, refl, sym, ap, subst, arith, IfSome, IsErr, IsErrAnd, IsTrue, MatchOption, nat_le, nat_lt, not, ◌&&◌, option_or, and_left, and_right, cases_lt, cond-false, le-ltb, lt-leb, BackingView, StorageView, Pending, Bytes, cover, cluster_size, HeaderFields, handed_on, known_in, ImageError, InternalCall, ClearsImageCovers, ClearsOrRefuses, ClearsPart, IsClearable, cover_once_cleared, from_in, is_between, needs_zero_entries, refuses_to_clear, rounds_past, to_in, ClearsSoundly, ClearsStep, FailsToClear, CountsImageFaults, IsNotOfStorage, SameFaults, IsSameImage, has_noted_change, is_external, is_failed, is_writable, size_of, ImageInvariant, pending_in, failed_after, passes, refuse_if, InternalStep, ClearMode, Qcow2, Prepared}
 use Rattle.qcow2_alloc.specs.declared.error.ImageError.TheVariants as I
-use Rattle.qcow2_image.specs.CallParts.{InternalCall}
-use Rattle.qcow2_image.specs.Clearing.{ClearsImageCovers, ClearsOrRefuses, ClearsPart, IsClearable, cover_once_cleared, from_in, is_between, needs_zero_entries, refuses_to_clear, rounds_past, to_in}
-use Rattle.qcow2_image.specs.ClearingCalls.{ClearsSoundly, ClearsStep, FailsToClear}
-use Rattle.qcow2_image.specs.Faults.{CountsImageFaults, IsNotOfStorage, SameFaults}
-use Rattle.qcow2_image.specs.Image.{IsSameImage, has_noted_change, is_external, is_failed, is_writable, size_of}
-use Rattle.qcow2_image.specs.ImageInvariant.{ImageInvariant, pending_in}
-use Rattle.qcow2_image.specs.Refusals.{failed_after, passes, refuse_if}
-use Rattle.qcow2_image.specs.InternalSteps.{InternalStep}
-use Rattle.qcow2_image.specs.declared.discarding.ClearMode.{ClearMode}
-use Rattle.qcow2_image.specs.declared.image.Qcow2.{Qcow2}
-use Rattle.qcow2_image.specs.declared.prepared.Prepared.{Prepared}
 use Rattle.qcow2_image.proofs.Call.BehindHeader.{behind_none}
 use Rattle.qcow2_image.proofs.Call.Called.{Quietly}
 use Rattle.qcow2_image.proofs.Call.FaultCounts.{counted_ok, fewer_of, untouched}

@@ -1,46 +1,8 @@
 -- An entry of a cached table is cleared: the new mapping of its guest cluster, the references that it loses, and that everything else stays the same.
-use Rattle.std.proofs.Common.{◌≡◌, inl, inr, ℕ, ◌+◌, ◌*◌, ◌/◌, ◌%◌, ◌<◌, ◌≤◌, Bool, true, false, List, length, Option, Some, None, refl, sym, ap, ◌∙◌, subst, arith, cond}
-use Rattle.std.specs.Prelude.{IsSome, IsTrue, slice_get, ◌==◌, ◌&&◌, ◌≢◌}
-use Rattle.std.proofs.lemmas.Bool.{eq-eqb}
-use Rattle.std.proofs.lemmas.Nat.{div-mul-add}
-use Rattle.std.proofs.lemmas.Option.{slice_get_within}
-use Rattle.image_access.specs.Backing.{BackingView}
-use Rattle.image_access.specs.Moments.{StorageView}
-use Rattle.qcow2_metadata.specs.Bytes.{Bytes}
-use Rattle.qcow2_metadata.specs.declared.header.HeaderFields.{HeaderFields}
-use Rattle.qcow2_metadata.specs.declared.l2_mapping.L2Mapping.{L2Mapping}
-use Rattle.qcow2_metadata.specs.declared.l2_mapping.L2Mapping.TheVariants.{Data, Zero, Compressed}
+use Rattle.qcow2_image.proofs.Common.{◌≡◌, inl, inr, ℕ, ◌+◌, ◌*◌, ◌/◌, ◌%◌, ◌<◌, ◌≤◌, Bool, true, false, List, length, Option, Some, None, refl, sym, ap, ◌∙◌, subst, arith, cond, IsSome, IsTrue, slice_get, ◌==◌, ◌&&◌, ◌≢◌, eq-eqb, div-mul-add, slice_get_within, BackingView, StorageView, Bytes, HeaderFields, L2Mapping, Data, Zero, Compressed, cluster_size, entries_per_cluster, has_data_file, cover, cover_of, entry_cover, is_copied, l1_entry, l2_entry, host_offset, count, CoverIsAligned, IsInReach, named_run, is_same_run, old_data_run, copied_host, copied_kept, zero_cover, named_by_cover, copied_host_is, cover_of-0, cover_of-zero_entry, named_by_cover-run, Pending, CrashInvariant, IsZeros, MapsEntry, names, table_at, DriverState, StateInvariant, guest_at, EntryChanges, SameOtherCovers, Takes, takes_nothing, takes_own, entry_uncovered, entry_zeroed, pending_after, Sizes-from, cover_at, l2_pins, MetadataCaches, state_in, contents_in, known_in, IsEntryAt, MadeEntry, known_of, l2_at, own_cluster, file_invariant_of, ClearsEntry, cover_once_cleared, cleared_entry, is_cleared, needs_zero_entries, ClearMode, Zeros, KeptZeros, Qcow2, Prepared, ImageInvariant, IsPending, IsReadyWith, cluster_of, listed_run, of_data, pins_by, to_free}
 use Rattle.qcow2_metadata.specs.declared.l2_mapping.L2Mapping.TheVariants as M
-use Rattle.qcow2_metadata.specs.Header.{cluster_size, entries_per_cluster, has_data_file}
-use Rattle.qcow2_metadata.specs.Cover.{cover, cover_of, entry_cover}
-use Rattle.qcow2_metadata.specs.Entries.{is_copied, l1_entry, l2_entry, host_offset, count}
-use Rattle.qcow2_metadata.specs.Consistent.{CoverIsAligned}
-use Rattle.qcow2_metadata.specs.L2Mapping.{IsInReach, named_run, run_has, is_same_run, old_data_run}
-use Rattle.qcow2_metadata.specs.L2Table.{copied_host, copied_kept, zero_cover}
-use Rattle.qcow2_metadata.specs.Named.{named_by_cover}
-use Rattle.qcow2_metadata.proofs.MadeEntries.{copied_host_is, cover_of-0, cover_of-zero_entry}
-use Rattle.qcow2_metadata.proofs.NamedRuns.{named_by_cover-run}
-use Rattle.qcow2_laws.specs.CrashInvariant.{Pending, CrashInvariant}
-use Rattle.qcow2_laws.specs.GuestLaws.{IsZeros, MapsEntry}
-use Rattle.qcow2_laws.specs.Guests.{names, table_at}
-use Rattle.qcow2_laws.specs.SafeSteps.{DriverState, StateInvariant}
-use Rattle.qcow2_laws.specs.Steps.{guest_at, EntryChanges}
-use Rattle.qcow2_laws.specs.Internal.{SameOtherCovers}
-use Rattle.qcow2_laws.proofs.CachedChanges.{Takes, takes_nothing, takes_own}
-use Rattle.qcow2_laws.proofs.MappedAnew.{entry_uncovered, entry_zeroed, pending_after}
-use Rattle.qcow2_laws.proofs.Places.{Sizes-from, cover_at}
-use Rattle.qcow2_alloc.specs.CachePins.{l2_pins}
-use Rattle.qcow2_alloc.specs.declared.cache.MetadataCaches.{MetadataCaches}
-use Rattle.qcow2_alloc.specs.ImageFile.{state_in, contents_in, known_in}
-use Rattle.qcow2_alloc.specs.MetadataCaches.{IsEntryAt, MadeEntry, known_of, l2_at}
-use Rattle.qcow2_alloc.proofs.KeptTables.Standing.{own_cluster}
-use Rattle.qcow2_alloc.proofs.FileInvariants.{file_invariant_of}
-use Rattle.qcow2_image.specs.Clearing.{ClearsEntry, cover_once_cleared, cleared_entry, is_cleared, needs_zero_entries}
-use Rattle.qcow2_image.specs.declared.discarding.ClearMode.{ClearMode}
-use Rattle.qcow2_image.specs.declared.discarding.ClearMode.TheVariants.{Uncovered, Zeros, KeptZeros}
-use Rattle.qcow2_image.specs.declared.image.Qcow2.{Qcow2}
-use Rattle.qcow2_image.specs.declared.prepared.Prepared.{Prepared}
-use Rattle.qcow2_image.specs.ImageInvariant.{ImageInvariant, IsPending, IsReadyWith, cluster_of, listed_run, of_data, pins_by, to_free}
+use Rattle.qcow2_metadata.specs.L2Mapping.{run_has}
+use Rattle.qcow2_image.specs.declared.discarding.ClearMode.TheVariants.{Uncovered}
 use Rattle.qcow2_image.proofs.Images.Inside.{names_inside}
 use Rattle.qcow2_image.proofs.Images.Apart.{pins_own, same_row}
 use Rattle.qcow2_image.proofs.Commit.Committing.{cover_now, known_entry_changes, listed_has, counts_now}

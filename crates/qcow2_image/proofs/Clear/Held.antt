@@ -1,10 +1,5 @@
 -- A table is still cached after one of its entries changes.
-use Rattle.std.proofs.Common.{◌≡◌, ℕ, ◌≤◌, ◌<◌, true, false, Option, Some, None, inl, inr, refl, sym, ap, ◌∙◌, subst}
-use Rattle.std.specs.Prelude.{IsSome, IfSome}
-use Rattle.std.proofs.lemmas.Bool.{cases_lt}
-use Rattle.qcow2_metadata.specs.L2Table.{L2TableView, entries_of}
-use Rattle.qcow2_alloc.specs.declared.cache.MetadataCaches.{MetadataCaches}
-use Rattle.qcow2_alloc.specs.MetadataCaches.{l2_at}
+use Rattle.qcow2_image.proofs.Common.{◌≡◌, ℕ, ◌≤◌, ◌<◌, true, false, Option, Some, None, inl, inr, refl, sym, ap, ◌∙◌, subst, IsSome, IfSome, cases_lt, L2TableView, entries_of, MetadataCaches, l2_at}
 use Rattle.qcow2_alloc.specs.TableChanges.{SetsEntry}
 
 module _ {S : Type 0} (old new : MetadataCaches S) (table index : ℕ) (entry : L2TableView → ℕ) (answer : Option (ℕ × ℕ)) where

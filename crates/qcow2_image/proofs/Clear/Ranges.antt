@@ -1,12 +1,5 @@
 -- The range that a call touches: whole clusters within one L2 table.
-use Rattle.std.proofs.Common.{◌≡◌, inl, inr, ℕ, ◌+◌, ◌-◌, ◌*◌, ◌/◌, ◌%◌, ◌<◌, ◌≤◌, Bool, true, false, sym, ap, ◌∙◌, arith, cond, min, mul_assoc}
-use Rattle.std.specs.Prelude.{◌==◌}
-use Rattle.std.proofs.lemmas.Bool.{cases_lt}
-use Rattle.std.proofs.lemmas.Nat.{div-add-mod', mod-mul-add, mod_below}
-use Rattle.qcow2_metadata.specs.declared.header.HeaderFields.{HeaderFields}
-use Rattle.qcow2_metadata.specs.Header.{cluster_size, entries_per_cluster, rounded_up, rounded_down}
-use Rattle.qcow2_disk.specs.Found.{rest_of_table}
-use Rattle.qcow2_disk.specs.Rules.{touched_from, touched_to}
+use Rattle.qcow2_image.proofs.Common.{◌≡◌, inl, inr, ℕ, ◌+◌, ◌-◌, ◌*◌, ◌/◌, ◌%◌, ◌<◌, ◌≤◌, Bool, true, false, sym, ap, ◌∙◌, arith, cond, min, mul_assoc, ◌==◌, cases_lt, div-add-mod', mod-mul-add, mod_below, HeaderFields, cluster_size, entries_per_cluster, rounded_up, rounded_down, rest_of_table, touched_from, touched_to}
 
 -- where the touched range ends, by the rest of a table
 module _ (h : HeaderFields) (some : 0 < cluster_size h) (rows : 0 < entries_per_cluster h) (from : ℕ) where

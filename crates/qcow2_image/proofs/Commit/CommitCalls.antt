@@ -1,23 +1,5 @@
 -- A commit as a call: its clusters are entered, clusters are freed, and the mapping is released.
-use Rattle.std.proofs.Common.{◌≡◌, ◌⊎◌, inl, inr, ℕ, Bool, true, false, List, [], ◌∷◌, refl, sym, ap, ◌∙◌, subst, eqb}
-use Rattle.std.specs.Prelude.{Option, Some, None, IsTrue, IsSome, Result, Ok, Err, slice_get, slice_set}
-use Rattle.std.proofs.lemmas.Bool.{cases_eq, cond-true, cond-false, eq-eqb, ne_eqb}
-use mathlib.Core.Path.{fun_ext}
-use Rattle.image_access.specs.Backing.{BackingView}
-use Rattle.image_access.specs.Moments.{StorageView}
-use Rattle.qcow2_disk.specs.Calls.{Refusal, storage, IsRefusalByFault, IsSame, EffectOnSound, EffectOnFailed, AnsweredEffect, RefusedEffect, with_disk, with_slot}
-use Rattle.qcow2_disk.specs.Mappings.{PreparedMapping, given_by_commit, committed}
-use Rattle.qcow2_disk.specs.Stops.{GivenBytes}
-use Rattle.qcow2_disk.specs.AbstractImages.{AbstractImage, Guest, guest_of, meaning_at}
-use Rattle.qcow2_disk.proofs.Compose.{works_less, works_then, stops_as}
-use Rattle.qcow2_alloc.specs.declared.error.ImageError.{ImageError}
-use Rattle.qcow2_image.specs.declared.image.Qcow2.{Qcow2}
-use Rattle.qcow2_image.specs.declared.prepared.Prepared.{Prepared}
-use Rattle.qcow2_image.specs.Image.{number_of, is_failed}
-use Rattle.qcow2_image.specs.Calls.{Discards, refusal_of}
-use Rattle.qcow2_image.specs.CallParts.{CommitsAll, EndsFreeing, EntersAll, ShowsPart, InternalCall}
-use Rattle.qcow2_alloc.specs.ImageFile.{contents_in, known_in}
-use Rattle.qcow2_image.specs.ImageInvariant.{pending_in, abstract_of, meaning, IsReadyWith, ImageInvariant}
+use Rattle.qcow2_image.proofs.Common.{◌≡◌, ◌⊎◌, inl, inr, ℕ, Bool, true, false, List, [], ◌∷◌, refl, sym, ap, ◌∙◌, subst, eqb, Option, Some, None, IsTrue, IsSome, Result, Ok, Err, slice_get, slice_set, cases_eq, cond-true, cond-false, eq-eqb, ne_eqb, fun_ext, BackingView, StorageView, Refusal, storage, IsRefusalByFault, IsSame, EffectOnSound, EffectOnFailed, AnsweredEffect, RefusedEffect, with_disk, with_slot, PreparedMapping, given_by_commit, committed, GivenBytes, AbstractImage, Guest, guest_of, meaning_at, works_less, works_then, stops_as, ImageError, Qcow2, Prepared, number_of, is_failed, Discards, refusal_of, CommitsAll, EndsFreeing, EntersAll, ShowsPart, InternalCall, contents_in, known_in, pending_in, abstract_of, meaning, IsReadyWith, ImageInvariant}
 use Rattle.qcow2_image.proofs.Call.Answered.{same_guest}
 use Rattle.qcow2_image.proofs.Call.Called.{Quietly, quiet_same, quiet_sound, quiet_works}
 use Rattle.qcow2_image.proofs.Call.CallOutcomes.{outcome_answered}

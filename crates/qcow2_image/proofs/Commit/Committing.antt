@@ -1,61 +1,8 @@
 -- A cluster of a prepared mapping is entered in its L2 table: its private bytes become visible.
-use Rattle.std.proofs.Common.{◌≡◌, ◌≢◌, ◌⊎◌, inl, inr, ℕ, ◌+◌, ◌-◌, ◌*◌, ◌/◌, ◌%◌, ◌<◌, ◌≤◌, true, false, List, length, [], ◌∷◌, ◌++◌, refl, sym, ap, ◌∙◌, subst, arith, cond, Bool}
-use Rattle.std.specs.Prelude.{Option, Some, None, IsSome, IsTrue, nat_le, nat_lt, ◌&&◌, slice_get, slice_set, ◌==◌, if◌then◌else◌}
-use Rattle.std.specs.Option.{option_map_or}
-use Rattle.std.proofs.lemmas.Bool.{cases_lt, cases_eq, cond-true, cond-false, eq-eqb, ne_eqb, lt-leb}
-use Rattle.std.proofs.lemmas.Nat.{div-mul-add, mod-mul-add, div-add-mod', pow_pos}
-use Rattle.std.proofs.lemmas.Option.{slice_get_within}
-use Rattle.image_access.specs.Backing.{BackingView}
-use Rattle.image_access.specs.Moments.{StorageView}
-use Rattle.qcow2_metadata.specs.Bytes.{Bytes, one_if}
-use Rattle.qcow2_metadata.specs.declared.header.HeaderFields.{HeaderFields}
-use Rattle.qcow2_metadata.specs.Header.{cluster_size, entries_per_cluster, has_data_file, rounded_up}
-use Rattle.qcow2_metadata.specs.Entries.{l1_entry, l2_entry, host_offset, count}
-use Rattle.qcow2_metadata.specs.Guest.{Value, known_byte}
-use Rattle.qcow2_metadata.specs.Cover.{cover, entry_cover}
-use Rattle.qcow2_metadata.specs.L2Mapping.{IsHostCluster, named_run, run_has}
-use Rattle.qcow2_metadata.proofs.NamedRuns.{named_by_cover-run}
-use Rattle.qcow2_metadata.specs.L2Table.{IsEntryHost, copied_entry, copied_host}
-use Rattle.qcow2_metadata.specs.Named.{in_cluster, named_for_tables}
-use Rattle.qcow2_metadata.specs.declared.l2_mapping.L2Mapping.TheVariants.{Data, Zero}
-use Rattle.qcow2_metadata.specs.Consistent.{CoverIsAligned}
-use Rattle.qcow2_metadata.proofs.MadeEntries.{cover_of-copied_entry, cluster_is_host}
-use Rattle.qcow2_disk.specs.Disk.{Disk, disk}
-use Rattle.qcow2_laws.specs.CrashInvariant.{Pending, CrashInvariant}
+use Rattle.qcow2_image.proofs.Common.{◌≡◌, ◌≢◌, ◌⊎◌, inl, inr, ℕ, ◌+◌, ◌-◌, ◌*◌, ◌/◌, ◌%◌, ◌<◌, ◌≤◌, true, false, List, length, [], ◌∷◌, ◌++◌, refl, sym, ap, ◌∙◌, subst, arith, cond, Bool, Option, Some, None, IsSome, IsTrue, nat_le, nat_lt, ◌&&◌, slice_get, slice_set, ◌==◌, if◌then◌else◌, option_map_or, cases_lt, cases_eq, cond-true, cond-false, eq-eqb, ne_eqb, lt-leb, div-mul-add, mod-mul-add, div-add-mod', pow_pos, slice_get_within, BackingView, StorageView, Bytes, one_if, HeaderFields, cluster_size, entries_per_cluster, has_data_file, rounded_up, l1_entry, l2_entry, host_offset, count, Value, known_byte, cover, entry_cover, IsHostCluster, named_run, named_by_cover-run, IsEntryHost, copied_entry, copied_host, in_cluster, named_for_tables, Data, Zero, CoverIsAligned, cover_of-copied_entry, cluster_is_host, Disk, disk, Pending, CrashInvariant, names, marks, named_by_guest, marked_by_guest, table_at, DriverState, StateInvariant, SafeStep, PreparedMapping, given_shown, given_by_commit, committed, first_of, end_of, GivenBytes, IsGiven, guest_at, EntryChanges, guest_of, entry_top, entry_counts, Takes, takes_new_data, takes_own, works_less, TouchesLess, kept_committed, Maps, pending_after, private_committed, committed_new_data, committed_old_data, Sizes-from, cover_at, beside_tables, shares, in_own, entry_safe_throughout, run_at, KeepsPinsAndNotes, data_entry, MetadataCaches, ClustersToFreeEntry, IsEntryAt, ChangesKnownEntry, MadeEntry, MapsCachedEntry, l2_at, order_of, known_of, run_in, run_before, run_after, state_in, view_in, file_invariant_of, Qcow2, Prepared, ClusterMapping, InPlace, Kept, New, CommitsPart, ShowsPart, old_data_by, to_free, of_data, of_tables, listed_run, new_data_in, new_data_by, pins_by, over_all, pending_in, abstract_of, meaning, is_entered, is_private, cluster_of, host_begin_of, mapping_of_cluster, backing_bytes, IsNewAt, IsClusterMappingAt, IsPending, IsReady, IsReadyWith, ImageInvariant}
+use Rattle.qcow2_metadata.specs.L2Mapping.{run_has}
 use Rattle.qcow2_laws.specs.GuestLaws.{Kept as HostedKept, Held as HostedHeld}
-use Rattle.qcow2_laws.specs.Guests.{names, marks, named_by_guest, marked_by_guest, table_at}
-use Rattle.qcow2_laws.specs.SafeSteps.{DriverState, StateInvariant, SafeStep}
-use Rattle.qcow2_disk.specs.Mappings.{PreparedMapping, given_shown, given_by_commit, committed, first_of, end_of}
-use Rattle.qcow2_disk.specs.Stops.{GivenBytes, IsGiven}
-use Rattle.qcow2_laws.specs.Steps.{guest_at, EntryChanges}
-use Rattle.qcow2_disk.specs.AbstractImages.{guest_of}
-use Rattle.qcow2_laws.proofs.Blocks.{entry_top, entry_counts}
-use Rattle.qcow2_laws.proofs.CachedChanges.{Takes, takes_new_data, takes_own}
-use Rattle.qcow2_disk.proofs.Compose.{works_less, TouchesLess}
-use Rattle.qcow2_laws.proofs.KeptClusters.{kept_committed}
-use Rattle.qcow2_laws.proofs.MappedAnew.{Maps, pending_after, private_committed, committed_new_data, committed_old_data}
-use Rattle.qcow2_laws.proofs.Places.{Sizes-from, cover_at}
-use Rattle.qcow2_laws.proofs.PutRuns.{beside_tables}
-use Rattle.qcow2_laws.proofs.Shares.{shares}
-use Rattle.qcow2_laws.proofs.Consistency.{in_own}
-use Rattle.qcow2_laws.proofs.SafeSteps.{entry_safe_throughout}
-use Rattle.qcow2_alloc.specs.Allocation.{run_at}
-use Rattle.qcow2_alloc.specs.CachePins.{KeepsPinsAndNotes}
-use Rattle.qcow2_alloc.specs.ClustersToFree.{data_entry}
-use Rattle.qcow2_alloc.specs.declared.cache.MetadataCaches.{MetadataCaches}
-use Rattle.qcow2_alloc.specs.declared.clusters_to_free.ClustersToFreeEntry.{ClustersToFreeEntry}
-use Rattle.qcow2_alloc.specs.MetadataCaches.{IsEntryAt, ChangesKnownEntry, MadeEntry, MapsCachedEntry, l2_at, order_of, known_of}
-use Rattle.qcow2_alloc.proofs.Runs.{run_in, run_before, run_after}
-use Rattle.qcow2_alloc.specs.ImageFile.{state_in, view_in}
-use Rattle.qcow2_alloc.proofs.FileInvariants.{file_invariant_of}
-use Rattle.qcow2_image.specs.declared.image.Qcow2.{Qcow2}
-use Rattle.qcow2_image.specs.declared.prepared.Prepared.{Prepared}
-use Rattle.qcow2_image.specs.declared.prepared.ClusterMapping.{ClusterMapping}
-use Rattle.qcow2_image.specs.declared.prepared.ClusterMapping.TheVariants.{InPlace, Kept, New}
-use Rattle.qcow2_image.specs.CallParts.{CommitsPart, ShowsPart}
-use Rattle.qcow2_image.specs.InternalSteps.{old_data_by}
 use Rattle.qcow2_image.proofs.Images.Sound.{free_more}
-use Rattle.qcow2_image.specs.ImageInvariant.{to_free, of_data, of_tables, listed_run, new_data_in, new_data_by, pins_by, over_all, pending_in, abstract_of, meaning, is_entered, is_private, cluster_of, host_begin_of, mapping_of_cluster, backing_bytes, IsNewAt, IsClusterMappingAt, IsPending, IsReady, IsReadyWith, ImageInvariant}
 use Rattle.qcow2_image.proofs.Images.Apart.{apart_guests}
 use Rattle.qcow2_image.proofs.Images.Ready.{still_pending, still_mapping}
 use Rattle.qcow2_image.proofs.Images.Inside.{names_inside}

@@ -1,21 +1,5 @@
 -- A committed mapping is copied data, each byte at the host offset that the prepare returned.
-use Rattle.std.proofs.Common.{◌≡◌, ℕ, ◌+◌, ◌/◌, ◌%◌, ◌<◌, Bool, true, false, List, Option, Some, None, length, sym, ap, ◌∙◌, subst, arith}
-use Rattle.std.specs.Prelude.{IsSome, Ok, Result, slice_get, slice_set}
-use Rattle.image_access.specs.Backing.{BackingView}
-use Rattle.image_access.specs.Moments.{StorageView}
-use Rattle.qcow2_metadata.specs.Bytes.{Bytes}
-use Rattle.qcow2_metadata.specs.declared.header.HeaderFields.{HeaderFields}
-use Rattle.qcow2_metadata.specs.Header.{cluster_size}
-use Rattle.qcow2_metadata.specs.Cover.{cover}
-use Rattle.qcow2_disk.specs.Alike.{AreDataAt, IsDataAt}
-use Rattle.qcow2_alloc.specs.declared.error.ImageError.{ImageError}
-use Rattle.qcow2_alloc.specs.ImageFile.{contents_in, known_in}
-use Rattle.qcow2_image.specs.declared.image.Qcow2.{Qcow2}
-use Rattle.qcow2_image.specs.declared.prepared.Prepared.{Prepared}
-use Rattle.qcow2_image.specs.declared.prepared.ClusterMapping.TheVariants.{InPlace}
-use Rattle.qcow2_image.specs.CallParts.{CommitsAll, EndsFreeing, EntersAll, IsEntered, InternalCall}
-use Rattle.qcow2_image.specs.ImageInvariant.{cluster_of, host_begin_of, pending_in, IsPending, IsReadyWith, ImageInvariant}
-use Rattle.qcow2_image.specs.Ranges.{ReleasesOneMapping}
+use Rattle.qcow2_image.proofs.Common.{◌≡◌, ℕ, ◌+◌, ◌/◌, ◌%◌, ◌<◌, Bool, true, false, List, Option, Some, None, length, sym, ap, ◌∙◌, subst, arith, IsSome, Ok, Result, slice_get, slice_set, BackingView, StorageView, Bytes, HeaderFields, cluster_size, cover, AreDataAt, IsDataAt, ImageError, contents_in, known_in, Qcow2, Prepared, InPlace, CommitsAll, EndsFreeing, EntersAll, IsEntered, InternalCall, cluster_of, host_begin_of, pending_in, IsPending, IsReadyWith, ImageInvariant, ReleasesOneMapping}
 use Rattle.qcow2_image.proofs.Call.Called.{Quietly, quiet_sound}
 use Rattle.qcow2_image.proofs.Call.Slots.{get_set_same}
 use Rattle.qcow2_image.proofs.Images.Moved.{data_moved}

@@ -1,43 +1,8 @@
 -- The clusters of a prepared mapping are entered one after another, until no byte of it is private.
-use Rattle.qcow2_alloc.specs.KeptMarks.{KeepsFileNotes}
+use Rattle.qcow2_image.proofs.Common.{KeepsFileNotes, notes_none, notes_then, ◌≡◌, ◌⊎◌, inl, inr, ℕ, ◌+◌, ◌-◌, ◌*◌, ◌/◌, ◌%◌, ◌^◌, ◌<◌, ◌≤◌, Bool, true, false, List, length, [], ◌∷◌, ◌++◌, refl, sym, ap, ◌∙◌, subst, arith, min, if◌then◌else◌, ◌==◌, Option, Some, None, IsSome, IsTrue, slice_get, slice_set, option_map_or, lookup, cases_eq, cond-true, cond-false, eq-eqb, ne_eqb, append-nil, pow_pos, slice_get_within, pow_mono, fun_ext, BackingView, StorageView, Bytes, HeaderFields, cluster_size, entries_per_cluster, rounded_down, rounded_up, IsHostCluster, Guest, Setting, guest_of, meaning_at, EffectOnSound, PreparedMapping, first_of, end_of, given_shown, given_by_commit, committed, works_less, works_then, l2_pins, MetadataCaches, Slot, MapsCachedEntry, l2_at, contents_in, known_in, ClustersToFreeEntry, PreservesHeaderCluster, Qcow2, Prepared, ClusterMapping, InPlace, Kept, New, CommitsPart, EntersAll, IsEntered, ShowsPart, ImageStays, DropsNothing, EntersMapping, old_data_by, cluster_of, host_begin_of, is_entered, pins_by, pending_in, abstract_of, meaning, is_private, IsClusterMappingAt, IsPending, IsReadyWith, ImageInvariant}
 use Rattle.qcow2_image.proofs.Call.Notes.{same_kept, table_kept}
-use Rattle.qcow2_alloc.proofs.KeptMarks.{notes_none, notes_then}
-use Rattle.std.proofs.Common.{◌≡◌, ◌⊎◌, inl, inr, ℕ, ◌+◌, ◌-◌, ◌*◌, ◌/◌, ◌%◌, ◌^◌, ◌<◌, ◌≤◌, Bool, true, false, List, length, [], ◌∷◌, ◌++◌, refl, sym, ap, ◌∙◌, subst, arith, min}
-use Rattle.std.specs.Prelude.{if◌then◌else◌, ◌==◌, Option, Some, None, IsSome, IsTrue, slice_get, slice_set, ◌==◌}
-use Rattle.std.specs.Option.{option_map, option_map_or}
-use Rattle.std.specs.Map.{lookup}
-use Rattle.std.proofs.lemmas.Bool.{cases_eq, cond-true, cond-false, eq-eqb, ne_eqb}
-use Rattle.std.proofs.lemmas.List.{append-nil}
-use Rattle.std.proofs.lemmas.Nat.{pow_pos}
-use Rattle.std.proofs.lemmas.Option.{slice_get_within}
-use Rattle.std.proofs.Math.Pow.{pow_mono}
-use mathlib.Core.Path.{fun_ext}
-use Rattle.image_access.specs.Backing.{BackingView}
-use Rattle.image_access.specs.Moments.{StorageView}
-use Rattle.qcow2_metadata.specs.Bytes.{Bytes}
-use Rattle.qcow2_metadata.specs.declared.header.HeaderFields.{HeaderFields}
-use Rattle.qcow2_metadata.specs.Header.{cluster_size, entries_per_cluster, rounded_down, rounded_up}
-use Rattle.qcow2_metadata.specs.L2Mapping.{IsHostCluster}
-use Rattle.qcow2_disk.specs.AbstractImages.{Guest, Setting, guest_of, meaning_at}
-use Rattle.qcow2_disk.specs.Calls.{EffectOnSound}
-use Rattle.qcow2_disk.specs.Mappings.{PreparedMapping, first_of, end_of, given_shown, given_by_commit, committed}
-use Rattle.qcow2_disk.proofs.Compose.{works_less, works_then}
-use Rattle.qcow2_alloc.specs.CachePins.{l2_pins}
-use Rattle.qcow2_alloc.specs.declared.cache.MetadataCaches.{MetadataCaches}
-use Rattle.qcow2_alloc.specs.declared.async_lru_cache.slot.Slot.{Slot}
-use Rattle.qcow2_alloc.specs.MetadataCaches.{MapsCachedEntry, l2_at}
-use Rattle.qcow2_alloc.specs.ImageFile.{contents_in, known_in}
-use Rattle.qcow2_alloc.specs.declared.clusters_to_free.ClustersToFreeEntry.{ClustersToFreeEntry}
-use Rattle.qcow2_image.specs.BehindHeader.{PreservesHeaderCluster}
+use Rattle.std.specs.Option.{option_map}
 use Rattle.qcow2_image.proofs.Call.BehindHeader.{behind_by, behind_none, behind_tables, behind_then}
-use Rattle.qcow2_image.specs.declared.image.Qcow2.{Qcow2}
-use Rattle.qcow2_image.specs.declared.prepared.Prepared.{Prepared}
-use Rattle.qcow2_image.specs.declared.prepared.ClusterMapping.{ClusterMapping}
-use Rattle.qcow2_image.specs.declared.prepared.ClusterMapping.TheVariants.{InPlace, Kept, New}
-use Rattle.qcow2_image.specs.CallParts.{CommitsPart, EntersAll, IsEntered, ShowsPart}
-use Rattle.qcow2_image.specs.Image.{ImageStays}
-use Rattle.qcow2_image.specs.InternalSteps.{DropsNothing, EntersMapping, old_data_by}
-use Rattle.qcow2_image.specs.ImageInvariant.{cluster_of, host_begin_of, is_entered, pins_by, pending_in, abstract_of, meaning, is_private, IsClusterMappingAt, IsPending, IsReadyWith, ImageInvariant}
 use Rattle.qcow2_image.proofs.Images.Apart.{pins_own}
 use Rattle.qcow2_image.proofs.Call.Called.{works_none}
 use Rattle.qcow2_image.proofs.Call.Slots.{get_set_other, get_set_same, length_set, set_same, set_set}

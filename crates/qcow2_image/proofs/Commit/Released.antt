@@ -1,44 +1,11 @@
 -- A prepared mapping is released: its slot is empty, and its new clusters wait to be freed.
-use Rattle.std.proofs.Common.{◌≡◌, inl, inr, ℕ, ◌+◌, ◌-◌, ◌≤◌, Bool, true, false, List, [], ◌++◌, refl, sym, ap, ◌∙◌, subst, arith, cond}
-use Rattle.std.specs.Prelude.{Option, Some, None, slice_get, slice_set, nat_le, nat_lt, ◌&&◌}
-use Rattle.std.proofs.lemmas.Bool.{cases_lt}
-use mathlib.Core.Path.{fun_ext}
-use Rattle.image_access.specs.Backing.{BackingView}
-use Rattle.image_access.specs.Moments.{StorageView}
-use Rattle.qcow2_metadata.specs.Bytes.{Bytes}
-use Rattle.qcow2_metadata.specs.declared.header.HeaderFields.{HeaderFields}
-use Rattle.qcow2_laws.specs.Changes.{new_data_to_old_data}
-use Rattle.qcow2_disk.specs.Disk.{disk}
-use Rattle.qcow2_laws.specs.CrashInvariant.{Pending, CrashInvariant}
-use Rattle.qcow2_laws.specs.SafeSteps.{DriverState, SafeStep}
-use Rattle.qcow2_laws.specs.Caches.{AreNamedBlocks}
-use Rattle.qcow2_disk.specs.AbstractImages.{guest_of}
-use Rattle.qcow2_disk.specs.Calls.{with_slot}
-use Rattle.qcow2_laws.proofs.SafeSteps.{pending_safe_throughout}
-use Rattle.qcow2_laws.proofs.Steps.{pending_is_changed}
-use Rattle.qcow2_metadata.specs.Tables.{CachedTable}
-use Rattle.qcow2_alloc.specs.Allocation.{run_at}
-use Rattle.qcow2_alloc.specs.CachePins.{l2_pins, SameTables}
-use Rattle.qcow2_alloc.specs.declared.cache.MetadataCaches.{MetadataCaches}
-use Rattle.qcow2_alloc.specs.MetadataCaches.{order_of, known_of, CacheInvariant}
-use Rattle.qcow2_alloc.specs.ImageFile.{state_in, view_in, contents_in, known_in, nothing_given}
-use Rattle.qcow2_metadata.specs.Entries.{count}
-use Rattle.qcow2_image.specs.declared.image.Qcow2.{Qcow2}
-use Rattle.qcow2_image.specs.declared.prepared.Prepared.{Prepared}
-use Rattle.qcow2_image.specs.declared.prepared.ClusterMapping.{ClusterMapping}
-use Rattle.qcow2_image.specs.Calls.{Discards}
-use Rattle.qcow2_image.specs.InternalSteps.{freed_by}
-use Rattle.qcow2_image.specs.ImageInvariant.{of_data, of_tables, new_data_by, pins_by, pending_in, abstract_of, meaning, backing_bytes, IsReadyWith, ImageInvariant}
+use Rattle.qcow2_image.proofs.Common.{◌≡◌, inl, inr, ℕ, ◌+◌, ◌-◌, ◌≤◌, Bool, true, false, List, [], ◌++◌, refl, sym, ap, ◌∙◌, subst, arith, cond, Option, Some, None, slice_get, slice_set, nat_le, nat_lt, ◌&&◌, cases_lt, fun_ext, BackingView, StorageView, Bytes, HeaderFields, new_data_to_old_data, disk, Pending, CrashInvariant, DriverState, SafeStep, AreNamedBlocks, guest_of, with_slot, pending_safe_throughout, pending_is_changed, CachedTable, run_at, l2_pins, SameTables, MetadataCaches, order_of, known_of, CacheInvariant, state_in, view_in, contents_in, known_in, nothing_given, count, Qcow2, Prepared, ClusterMapping, Discards, freed_by, of_data, of_tables, new_data_by, pins_by, pending_in, abstract_of, meaning, backing_bytes, IsReadyWith, ImageInvariant, rests_none, header, cover, file_invariant_of}
 use Rattle.qcow2_image.proofs.Call.Answered.{same_guest}
 use Rattle.qcow2_image.proofs.Images.ClusterMappings.{IsOfData, freed_data, freed_tables, of_data_at, over_all_at, ready_table}
 use Rattle.qcow2_image.proofs.Images.Sound.{free_more}
 use Rattle.qcow2_image.proofs.Open.Reftables.{reftable_still}
 use Rattle.qcow2_image.proofs.Call.Slots.{others_left, over_all_left, slot_set}
 use Rattle.qcow2_image.proofs.Call.Stepped.{Steps, stepped_sound, stepped_works}
-use Rattle.qcow2_disk.proofs.Compose.{rests_none}
-use Rattle.qcow2_metadata.specs.Header.{header}
-use Rattle.qcow2_metadata.specs.Cover.{cover}
-use Rattle.qcow2_alloc.proofs.FileInvariants.{file_invariant_of}
 
 -- what is kept of the caches is kept while something else is pending that is guarded too
 pub sound_while : {S : Type 0} (h : HeaderFields) (p q : Pending) (caches : MetadataCaches S) (on_storage : Bytes) → CrashInvariant h (order_of caches) q on_storage (known_of h caches on_storage) → CacheInvariant h p caches on_storage → CacheInvariant h q caches on_storage

@@ -1,44 +1,10 @@
 -- A new disk is grown and flushed. If clusters are allocated for it, every moment shows zeros, and each guest cluster gets the mapping of the mode.
-use Rattle.std.proofs.Common.{◌≡◌, ◌⊎◌, inl, inr, ⊎_elim, ℕ, ◌<◌, ◌≤◌, true, false, List, [], ◌∷◌, Option, None, Some, Result, Ok, Err, refl, sym, ap, ◌∙◌, subst, arith}
-use Rattle.std.specs.Prelude.{IsTrue, is_some, not}
-use Rattle.std.specs.Option.{option_or}
-use Rattle.std.proofs.lemmas.Bool.{cases_lt}
-use Rattle.image_access.specs.Backing.{BackingView}
-use Rattle.image_access.specs.Moments.{StorageView}
-use Rattle.image_access.specs.declared.storage.PreallocateMode.{PreallocateMode}
+use Rattle.qcow2_image.proofs.Common.{◌≡◌, ◌⊎◌, inl, inr, ⊎_elim, ℕ, ◌<◌, ◌≤◌, true, false, List, [], ◌∷◌, Option, None, Some, Result, Ok, Err, refl, sym, ap, ◌∙◌, subst, arith, IsTrue, is_some, not, option_or, cases_lt, BackingView, StorageView, PreallocateMode, passes_if, passes_on, KeepsHeaderRest, Bytes, byte_at, cover, header, cluster_size, rounded_up, HeaderFields, Uncovered, IsOpened, Stops, EffectOnSound, shows_old, disk, first_zeros, Checkpoint, GivenBytes, StopOkEverywhere, checkpoint_at, Pending, places_of, with_places, with_listed, ImageError, known_in, state_in, view_in, FlushesImage, setting_of, Enlarges, IsNewDisk, IsPreallocated, IsStopOfCreating, IsUnwritten, ShowsZeros, StopsCreating, AllocatesPlace, Qcow2, KeepsFormat, FitsSize, Extends, Lasts, ReachesSize, SameFormat, WritesBack, is_writable, size_of, ImageInvariant, abstract_of, backing_bytes, disk_of, pending_in, CoversStay, refuse_if, GrowsTo, LeavesTables, all_given_by_grow, refuses_to_resize, known_header}
 use Rattle.image_access.specs.declared.storage.PreallocateMode.TheVariants as Mode
-use Rattle.image_access.proofs.EachMomentSince.{passes_if, passes_on}
-use Rattle.qcow2_disk.specs.HeaderRest.{KeepsHeaderRest}
-use Rattle.qcow2_metadata.specs.Bytes.{Bytes, byte_at}
-use Rattle.qcow2_metadata.specs.Cover.{cover}
-use Rattle.qcow2_metadata.specs.Header.{header, cluster_size, rounded_up}
-use Rattle.qcow2_metadata.specs.declared.header.HeaderFields.{HeaderFields}
-use Rattle.qcow2_metadata.specs.declared.l2_mapping.L2Mapping.TheVariants.{Uncovered}
-use Rattle.qcow2_disk.specs.AbstractImages.{IsOpened}
-use Rattle.qcow2_disk.specs.Calls.{Stops, EffectOnSound, shows_old}
-use Rattle.qcow2_disk.specs.Disk.{disk}
-use Rattle.qcow2_disk.specs.GrownCovers.{FilledCovers, first_zeros}
-use Rattle.qcow2_disk.specs.Stops.{Checkpoint, GivenBytes, StopOkEverywhere, checkpoint_at}
-use Rattle.qcow2_laws.specs.CrashInvariant.{Pending}
-use Rattle.qcow2_laws.specs.Tops.{places_of, with_places}
-use Rattle.qcow2_alloc.specs.FreeList.{with_listed}
-use Rattle.qcow2_alloc.specs.declared.error.ImageError.{ImageError}
+use Rattle.qcow2_disk.specs.GrownCovers.{FilledCovers}
 use Rattle.qcow2_alloc.specs.declared.error.ImageError.TheVariants as I
-use Rattle.qcow2_alloc.specs.ImageFile.{known_in, state_in, view_in}
-use Rattle.qcow2_image.specs.Calls.{FlushesImage}
-use Rattle.qcow2_image.specs.Clearing.{setting_of}
-use Rattle.qcow2_image.specs.Created.{Enlarges, IsNewDisk, IsPreallocated, IsStopOfCreating, IsUnwritten, ShowsZeros, StopsCreating, AllocatesPlace}
-use Rattle.qcow2_image.specs.declared.image.Qcow2.{Qcow2}
-use Rattle.qcow2_laws.specs.Internal.{KeepsFormat}
 use Rattle.qcow2_image.proofs.Grow.L1Lengths.{fits_grown}
-use Rattle.qcow2_image.specs.Growing.{FitsSize, Extends, Lasts, ReachesSize, SameFormat, WritesBack}
-use Rattle.qcow2_image.specs.Image.{is_writable, size_of}
-use Rattle.qcow2_image.specs.ImageInvariant.{ImageInvariant, abstract_of, backing_bytes, disk_of, pending_in}
-use Rattle.qcow2_image.specs.MovedTables.{CoversStay}
-use Rattle.qcow2_image.specs.Refusals.{refuse_if}
-use Rattle.qcow2_image.specs.Resizing.{GrowsTo, LeavesTables, all_given_by_grow, refuses_to_resize}
 use Rattle.qcow2_image.proofs.Create.Creating.{format_stored, grown_rest, grown_unwritten, growing_stops, unwritten_as}
-use Rattle.qcow2_laws.proofs.Internal.{known_header}
 use Rattle.qcow2_image.proofs.Create.NewDisks.{grow_gives_zeros, kept_either, kept_since, kept_zeros, preallocated_none, preallocated_so, starts_unwritten, unwritten_covers, unwritten_uncovered, zeros_new}
 use Rattle.qcow2_image.proofs.Flush.Freeing.{all_listed, beside}
 use Rattle.qcow2_image.proofs.Grow.GrownByParts.{call_since, lasts_then}

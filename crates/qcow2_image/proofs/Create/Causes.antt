@@ -1,38 +1,10 @@
 -- Why an image is not created: the refusals of its parts, and when a fault of the storage is reported.
-use Rattle.std.proofs.Common.{[], ◌≡◌, ◌≢◌, ◌⊎◌, inl, inr, ℕ, ◌+◌, ◌^◌, ◌<◌, ◌≤◌, true, Option, Some, None, Result, Ok, Err, refl, sym, ap, ◌∙◌, subst, arith}
-use Rattle.std.specs.Prelude.{IfErr, IsTrue, not}
-use Rattle.std.specs.Option.{option_or}
-use Rattle.std.specs.Int.{bit_at, trailing_zeros, w64}
-use Rattle.std.proofs.lemmas.Bool.{cases_eq, cases_lt}
-use Rattle.std.proofs.lemmas.Nat.{pow-add, pow_pos}
+use Rattle.qcow2_image.proofs.Common.{[], ◌≡◌, ◌≢◌, ◌⊎◌, inl, inr, ℕ, ◌+◌, ◌^◌, ◌<◌, ◌≤◌, true, Option, Some, None, Result, Ok, Err, refl, sym, ap, ◌∙◌, subst, arith, IfErr, IsTrue, not, option_or, bit_at, trailing_zeros, w64, cases_eq, cases_lt, pow-add, pow_pos, pow_mono, BackingView, StorageView, rose_since, ImageError, byte_at, header, CanBeNew, IsConsistent, IsNewImage, new_image_consistent, IsOpened, FaultsReported, IsFault, Qcow2, CountsImageFaults, is_writable, storage_of_image, abstract_of, faults_below, HasLogarithms, IsAllowed, IsReasonAgainst, backing_format_in, backing_name_in, IsCreated, IsReasonNotToCreate, IsReasonNotToCreateOpen, LacksPlaceCreating, longest_disk, Qcow2CreateBuilder, IsJustifiedRefusal, OpensRightly, IsFaultOrLimit, MayFail, IsUnlimited, refuse_if, refuses_to_resize}
 use Rattle.std.proofs.lemmas.Nat.Bits.{bit_at-pow_other, bit_at-pow_same, bit_at-trailing_zeros}
-use Rattle.std.proofs.Math.Pow.{pow_mono}
-use Rattle.image_access.specs.Backing.{BackingView}
-use Rattle.image_access.specs.Moments.{StorageView}
-use Rattle.image_access.proofs.EachMomentSince.{rose_since}
-use Rattle.qcow2_alloc.specs.declared.error.ImageError.{ImageError}
 use Rattle.qcow2_alloc.specs.declared.error.ImageError.TheVariants as I
-use Rattle.qcow2_metadata.specs.Bytes.{byte_at}
-use Rattle.qcow2_metadata.specs.Header.{header}
-use Rattle.qcow2_metadata.specs.HeaderWrite.{CanBeNew}
-use Rattle.qcow2_metadata.specs.Consistent.{IsConsistent}
-use Rattle.qcow2_laws.specs.NewImages.{IsNewImage}
-use Rattle.qcow2_laws.proofs.NewImages.{new_image_consistent}
-use Rattle.qcow2_disk.specs.AbstractImages.{IsOpened}
-use Rattle.qcow2_alloc.specs.Faults.{FaultsReported}
 use Rattle.qcow2_image.proofs.Images.Sizes.{sound_is_usable}
-use Rattle.qcow2_alloc.specs.ImageError.{IsFault}
 use Rattle.qcow2_image.specs.declared.image.Missing.TheVariants as N
-use Rattle.qcow2_image.specs.declared.image.Qcow2.{Qcow2}
 use Rattle.qcow2_image.specs.CountedOpening.{OpeningCounts}
-use Rattle.qcow2_image.specs.Faults.{CountsImageFaults}
-use Rattle.qcow2_image.specs.Image.{is_writable, storage_of_image}
-use Rattle.qcow2_image.specs.ImageInvariant.{abstract_of, faults_below}
-use Rattle.qcow2_image.specs.Created.{HasLogarithms, IsAllowed, IsReasonAgainst, backing_format_in, backing_name_in, IsCreated, IsReasonNotToCreate, IsReasonNotToCreateOpen, LacksPlaceCreating, longest_disk}
-use Rattle.qcow2_image.specs.declared.builder.Qcow2CreateBuilder.{Qcow2CreateBuilder}
-use Rattle.qcow2_image.specs.Readable.{IsJustifiedRefusal, OpensRightly}
-use Rattle.qcow2_image.specs.Refusals.{IsFaultOrLimit, MayFail, IsUnlimited, refuse_if}
-use Rattle.qcow2_image.specs.Resizing.{refuses_to_resize}
 use Rattle.qcow2_image.proofs.Create.Faults.{opening_fault}
 use Rattle.qcow2_image.proofs.Create.NewDisks.{new_disk_consistent}
 

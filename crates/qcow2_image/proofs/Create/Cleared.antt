@@ -1,10 +1,5 @@
 -- A storage is emptied, unless it is empty: at each moment since, it has its old contents or none.
-use Rattle.std.proofs.Common.{◌≡◌, ◌⊎◌, inl, inr, ⊎_elim, ℕ, ◌≤◌, List, [], ◌∷◌, length, Result, sym, ◌∙◌, subst, arith}
-use Rattle.image_access.specs.Contents.{resized}
-use Rattle.image_access.specs.declared.error.StorageError.{StorageError}
-use Rattle.image_access.specs.Moments.{StorageView, EachMomentSince, Calls, QuietCalls, Changes, IsLeftBy}
-use Rattle.image_access.proofs.Bytes.{length-resized}
-use Rattle.image_access.proofs.EachMomentSince.{whole_or_nothing, passes_on}
+use Rattle.qcow2_image.proofs.Common.{◌≡◌, ◌⊎◌, inl, inr, ⊎_elim, ℕ, ◌≤◌, List, [], ◌∷◌, length, Result, sym, ◌∙◌, subst, arith, resized, StorageError, StorageView, EachMomentSince, Calls, QuietCalls, Changes, IsLeftBy, length-resized, whole_or_nothing, passes_on}
 
 -- contents of no length
 pub none_there : (c : List ℕ) → length c ≡ 0 → c ≡ []

@@ -1,39 +1,11 @@
 -- An unwritten image is opened, grown and flushed: what a stop leaves meanwhile, and what the storage holds then.
-use Rattle.std.proofs.Common.{◌≡◌, ◌⊎◌, inl, inr, ⊎_elim, ℕ, ◌^◌, List, [], ◌∷◌, ◌++◌, None, Some, Result, Ok, Err, refl, sym, ap, ◌∙◌, subst, arith, false}
-use Rattle.std.specs.Prelude.{IfOk, OnOk, Option, is_some, option_map}
+use Rattle.qcow2_image.proofs.Common.{◌≡◌, ◌⊎◌, inl, inr, ⊎_elim, ℕ, ◌^◌, List, [], ◌∷◌, ◌++◌, None, Some, Result, Ok, Err, refl, sym, ap, ◌∙◌, subst, arith, false, IfOk, OnOk, Option, is_some, option_map, BackingView, StorageView, PreallocateMode, passes_on, passes_if, IsHeaderIn, KeepsHeaderRest, Bytes, byte_at, HeaderFields, HeaderView, cluster_size, header, new_header, new_fields, HasNewNames, disk, disk_with, SafeThroughout, Checkpoint, checkpoint_at, checkpoint_with, IsAsked, StopOkEverywhere, LeavesKept, IsNewImage, HasNoLeaks, places_of, with_places, IsOpened, ImageError, nothing_given, view_in, Qcow2CreateBuilder, Qcow2, backing_format_in, backing_name_in, IsUnwritten, IsStopOfCreating, StopsCreating, StaysCreating, IsNewHeader, IsCreated, Enlarges, IsMade, WritesThree, FitsSize, SameFormat, ReachesSize, storage_of_image, IsKeptSince, needs_another, abstract_of, header_rest_same, header_rest_then, new_image_exact}
 use Rattle.std.specs.String.{string_bytes}
-use Rattle.image_access.specs.Backing.{BackingView}
-use Rattle.image_access.specs.Moments.{StorageView}
-use Rattle.image_access.specs.declared.storage.PreallocateMode.{PreallocateMode}
 use Rattle.image_access.specs.declared.storage.PreallocateMode.TheVariants as Mode
-use Rattle.image_access.proofs.EachMomentSince.{passes_on, passes_if}
 use Rattle.qcow2_image.proofs.Open.SameHeaders.{alone_still, names_still, not_needed}
-use Rattle.qcow2_metadata.specs.HeaderLoad.{IsHeaderIn}
-use Rattle.qcow2_disk.specs.HeaderRest.{KeepsHeaderRest}
-use Rattle.qcow2_metadata.specs.Bytes.{Bytes, byte_at}
-use Rattle.qcow2_metadata.specs.declared.header.HeaderFields.{HeaderFields}
-use Rattle.qcow2_metadata.specs.Header.{HeaderView, cluster_size, header}
-use Rattle.qcow2_metadata.specs.HeaderWrite.{new_header, new_fields, HasNewNames}
-use Rattle.qcow2_disk.specs.Disk.{disk, disk_with}
-use Rattle.qcow2_disk.specs.Stops.{SafeThroughout, Checkpoint, checkpoint_at, checkpoint_with, IsAsked, StopOkEverywhere, LeavesKept}
-use Rattle.qcow2_laws.specs.NewImages.{IsNewImage}
-use Rattle.qcow2_laws.specs.Opened.{HasNoLeaks}
-use Rattle.qcow2_laws.specs.Tops.{places_of, with_places}
-use Rattle.qcow2_disk.specs.AbstractImages.{IsOpened}
-use Rattle.qcow2_alloc.specs.declared.error.ImageError.{ImageError}
 use Rattle.qcow2_alloc.specs.declared.error.ImageError.TheVariants as I
-use Rattle.qcow2_alloc.specs.ImageFile.{nothing_given, view_in}
-use Rattle.qcow2_image.specs.declared.builder.Qcow2CreateBuilder.{Qcow2CreateBuilder}
 use Rattle.qcow2_image.specs.declared.image.Missing.TheVariants as N
-use Rattle.qcow2_image.specs.declared.image.Qcow2.{Qcow2}
-use Rattle.qcow2_image.specs.Created.{backing_format_in, backing_name_in, IsUnwritten, IsStopOfCreating, StopsCreating, StaysCreating, IsNewHeader, IsCreated, Enlarges, IsMade, WritesThree}
-use Rattle.qcow2_image.specs.Growing.{FitsSize, SameFormat, ReachesSize}
-use Rattle.qcow2_image.specs.Image.{storage_of_image}
-use Rattle.qcow2_image.specs.Opened.{IsKeptSince, needs_another}
-use Rattle.qcow2_image.specs.ImageInvariant.{abstract_of}
-use Rattle.qcow2_disk.proofs.HeaderRest.{header_rest_same, header_rest_then}
 use Rattle.qcow2_image.proofs.Create.NewDisks.{new_disk_consistent, unwritten_covers, unwritten_new, starts_unwritten}
-use Rattle.qcow2_laws.proofs.NewImages.{new_image_exact}
 use Rattle.qcow2_image.proofs.Create.ThreeWrites.{new_unwritten}
 
 disk_size : (b backing : Bytes) → (disk b backing).size ≡ (header b).size

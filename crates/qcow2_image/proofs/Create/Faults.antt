@@ -1,38 +1,9 @@
 -- Creating is refused only for a limit or a fault.
-use Rattle.std.proofs.Common.{◌≡◌, ◌⊎◌, inl, inr, ℕ, ◌<◌, ◌≤◌, true, false, List, [], None, Result, Ok, Err, refl, sym, ap, ◌∙◌, subst, arith}
-use Rattle.std.specs.Prelude.{IfErr, IsTrue, is_some}
-use Rattle.std.proofs.lemmas.Bool.{cases_lt}
-use Rattle.image_access.specs.Backing.{BackingView}
-use Rattle.image_access.specs.Moments.{StorageView}
-use Rattle.image_access.specs.declared.storage.PreallocateMode.{PreallocateMode}
+use Rattle.qcow2_image.proofs.Common.{◌≡◌, ◌⊎◌, inl, inr, ℕ, ◌<◌, ◌≤◌, true, false, List, [], None, Result, Ok, Err, refl, sym, ap, ◌∙◌, subst, arith, IfErr, IsTrue, is_some, cases_lt, BackingView, StorageView, PreallocateMode, Bytes, byte_at, IsConsistent, cover, header, HasAlignedTables, MetadataError, HeaderFields, L2Mapping, Uncovered, IsOpened, IsCompressed, IsFault, of_metadata, known_in, view_in, ImageError, HasPinnedMapping, IsUnmapped, IsUnwritten, SameFormat, size_of, abstract_of, HasCompressedIn, MayFailGrowing, IsJustifiedRefusal, IsTableRefused, IsFaultOrLimit, takes_over, Qcow2}
 use Rattle.image_access.specs.declared.storage.PreallocateMode.TheVariants as Mode
-use Rattle.qcow2_metadata.specs.Bytes.{Bytes, byte_at}
-use Rattle.qcow2_metadata.specs.Consistent.{IsConsistent}
-use Rattle.qcow2_metadata.specs.Cover.{cover}
-use Rattle.qcow2_metadata.specs.Header.{header}
-use Rattle.qcow2_metadata.specs.HeaderLoad.{HasAlignedTables}
-use Rattle.qcow2_metadata.specs.declared.error.MetadataError.{MetadataError}
 use Rattle.qcow2_metadata.specs.declared.error.MetadataError.TheVariants as M
-use Rattle.qcow2_metadata.specs.declared.header.HeaderFields.{HeaderFields}
-use Rattle.qcow2_metadata.specs.declared.l2_mapping.L2Mapping.{L2Mapping}
-use Rattle.qcow2_metadata.specs.declared.l2_mapping.L2Mapping.TheVariants.{Uncovered}
-use Rattle.qcow2_disk.specs.AbstractImages.{IsOpened}
-use Rattle.qcow2_disk.specs.Found.{IsCompressed}
-use Rattle.qcow2_alloc.specs.ImageError.{IsFault, of_metadata}
-use Rattle.qcow2_alloc.specs.ImageFile.{known_in, view_in}
-use Rattle.qcow2_alloc.specs.declared.error.ImageError.{ImageError}
 use Rattle.qcow2_alloc.specs.declared.error.ImageError.TheVariants as I
-use Rattle.qcow2_image.specs.Backings.{HasPinnedMapping}
-use Rattle.qcow2_image.specs.Created.{IsUnmapped, IsUnwritten}
-use Rattle.qcow2_image.specs.Growing.{SameFormat}
-use Rattle.qcow2_image.specs.Image.{size_of}
-use Rattle.qcow2_image.specs.ImageInvariant.{abstract_of}
-use Rattle.qcow2_image.specs.MayFail.{HasCompressedIn, MayFailGrowing}
-use Rattle.qcow2_image.specs.Readable.{IsJustifiedRefusal, IsTableRefused}
-use Rattle.qcow2_image.specs.Refusals.{IsFaultOrLimit}
-use Rattle.qcow2_image.specs.Resizing.{takes_over}
 use Rattle.qcow2_image.specs.declared.image.Missing.TheVariants as N
-use Rattle.qcow2_image.specs.declared.image.Qcow2.{Qcow2}
 use Rattle.qcow2_image.proofs.Create.NewDisks.{unwritten_uncovered}
 use Rattle.qcow2_image.proofs.Prepare.RefusedAsPrepared.{if_err}
 

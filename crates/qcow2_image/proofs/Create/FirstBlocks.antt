@@ -1,10 +1,5 @@
 -- The refblock of a new image counts the image's clusters, one after another.
-use Rattle.std.proofs.Common.{◌≡◌, ◌≢◌, inl, inr, ℕ, zero, suc, ◌+◌, ◌-◌, ◌^◌, ◌<◌, ◌≤◌, Bool, true, false, IsTrue, IsFalse, refl, sym, ap, ◌∙◌, subst, arith, if◌then◌else◌}
-use Rattle.std.specs.Prelude.{nat_lt}
-use Rattle.std.proofs.lemmas.Bool.{cases_eq, cases_lt, cond-true, cond-false, lt-ltb, le-ltb}
-use Rattle.std.proofs.lemmas.Nat.{pow_pos}
-use Rattle.std.proofs.Math.Pow.{pow_mono}
-use Rattle.qcow2_metadata.specs.RefBlock.{RefBlockView, IsRefBlock, ChangesCount, count_at, count_limit, counts_of}
+use Rattle.qcow2_image.proofs.Common.{◌≡◌, ◌≢◌, inl, inr, ℕ, zero, suc, ◌+◌, ◌-◌, ◌^◌, ◌<◌, ◌≤◌, Bool, true, false, IsTrue, IsFalse, refl, sym, ap, ◌∙◌, subst, arith, if◌then◌else◌, nat_lt, cases_eq, cases_lt, cond-true, cond-false, lt-ltb, le-ltb, pow_pos, pow_mono, RefBlockView, IsRefBlock, ChangesCount, count_at, count_limit, counts_of}
 use Rattle.qcow2_metadata.proofs.Sizes.{counts_in_block}
 
 -- the greatest count is above 0

@@ -1,25 +1,7 @@
 -- The three clusters of a new image: before the header is written the storage holds no image, afterwards a new one.
-use Rattle.std.proofs.Common.{◌≡◌, inl, inr, ℕ, ◌+◌, ◌*◌, ◌/◌, ◌%◌, ◌^◌, ◌<◌, ◌≤◌, false, List, [], ◌++◌, length, replicate, Option, sym, ap, ◌∙◌, subst, arith, lit<}
-use Rattle.std.specs.Prelude.{◌==◌, ◌&&◌, ◌||◌, if◌then◌else◌, is_some, unwrap_or}
-use Rattle.std.proofs.lemmas.Bool.{cases_lt, cond-false, ne_eqb}
-use Rattle.std.proofs.lemmas.List.{length-append}
-use Rattle.std.proofs.lemmas.Nat.{le-div, div-mul-add, mod-mul-add}
-use Rattle.image_access.specs.Contents.{overwritten}
-use Rattle.image_access.proofs.Bytes.{byte_at-overwritten_below, byte_at-overwritten_behind}
-use Rattle.qcow2_metadata.specs.Bytes.{byte_at, number_at}
-use Rattle.qcow2_metadata.specs.declared.header.HeaderFields.{HeaderFields}
-use Rattle.qcow2_metadata.specs.Header.{HeaderView, HeaderReads, backing_format_kind, cluster_size, data_file_kind, count_width, counts_per_block, entries_per_cluster, reftable_entries}
-use Rattle.qcow2_metadata.specs.HeaderLoad.{IsHeaderIn}
-use Rattle.qcow2_metadata.specs.HeaderWrite.{numbers_of, bytes_of_numbers, extension_size, header_bytes, header_written, name_extension, name_place, new_fields}
-use Rattle.qcow2_metadata.specs.Entries.{reftable_entry, block_count}
-use Rattle.qcow2_metadata.specs.EntryTable.{EntryTableView, entry_count}
-use Rattle.qcow2_metadata.specs.RefBlock.{RefBlockView, IsRefBlockAt, count_at, counts_of}
-use Rattle.qcow2_metadata.specs.TableBytes.{entry_at}
+use Rattle.qcow2_image.proofs.Common.{◌≡◌, inl, inr, ℕ, ◌+◌, ◌*◌, ◌/◌, ◌%◌, ◌^◌, ◌<◌, ◌≤◌, false, List, [], ◌++◌, length, replicate, Option, sym, ap, ◌∙◌, subst, arith, lit<, ◌==◌, ◌&&◌, ◌||◌, if◌then◌else◌, is_some, unwrap_or, cases_lt, cond-false, ne_eqb, length-append, le-div, div-mul-add, mod-mul-add, overwritten, byte_at-overwritten_below, byte_at-overwritten_behind, byte_at, number_at, HeaderFields, HeaderView, HeaderReads, backing_format_kind, cluster_size, data_file_kind, count_width, counts_per_block, entries_per_cluster, reftable_entries, IsHeaderIn, numbers_of, bytes_of_numbers, extension_size, header_bytes, header_written, name_extension, name_place, new_fields, reftable_entry, block_count, EntryTableView, entry_count, RefBlockView, IsRefBlockAt, count_at, counts_of, entry_at, IsNewImage, Sizes, Sizes-from, reftable-same, block_count-moved, begins_image, IsNewHeader, CountsThree, NamesOne}
 use Rattle.qcow2_metadata.proofs.ReadBack.{length-name_extension, length-numbers}
 use Rattle.qcow2_metadata.proofs.WrittenTables.{IsRefTableOf-written}
-use Rattle.qcow2_laws.specs.NewImages.{IsNewImage}
-use Rattle.qcow2_laws.proofs.Places.{Sizes, Sizes-from, reftable-same, block_count-moved}
-use Rattle.qcow2_image.specs.Created.{begins_image, IsNewHeader, CountsThree, NamesOne}
 
 -- ---- before the header is there
 abbrev pub IsBlank : List ℕ → Type 0

@@ -1,28 +1,7 @@
 -- A new image is opened by the builder that a closure returned for its storage, and its disk is grown: what it holds, and what a stop leaves.
-use Rattle.std.proofs.Common.{◌≡◌, ◌⊎◌, inl, inr, ℕ, List, [], Option, Result, Ok, true, false, ap, ◌∙◌, subst, sym}
-use Rattle.std.specs.Prelude.{IfErr, IsTrue, is_some}
-use Rattle.std.specs.Option.{option_flatten}
-use Rattle.image_access.specs.Backing.{BackingView}
-use Rattle.image_access.specs.Moments.{StorageView}
+use Rattle.qcow2_image.proofs.Common.{◌≡◌, ◌⊎◌, inl, inr, ℕ, List, [], Option, Result, Ok, true, false, ap, ◌∙◌, subst, sym, IfErr, IsTrue, is_some, option_flatten, BackingView, StorageView, passes_on, byte_at, header, HeaderFields, shows_old, known_in, view_in, ImageError, TablesBehindHeader, HoldsNewDisk, IsCreated, IsNewDisk, IsStopOfCreating, IsUnwritten, OpensGrown, StopsCreating, empty_of, IsHonestBacking, IsKeptSince, IsOpenedFrom, Opens, IsNewlyOpened, OpeningStep, files_missing, IsFaultOrLimit, takes_over, Qcow2CreateBuilder, Qcow2, Qcow2OpenBuilder}
 use Rattle.image_access.specs.declared.storage.PreallocateMode.TheVariants as Mode
-use Rattle.image_access.proofs.EachMomentSince.{passes_on}
-use Rattle.qcow2_metadata.specs.Bytes.{byte_at}
-use Rattle.qcow2_metadata.specs.Header.{header}
-use Rattle.qcow2_metadata.specs.declared.header.HeaderFields.{HeaderFields}
-use Rattle.qcow2_disk.specs.Calls.{shows_old}
-use Rattle.qcow2_alloc.specs.ImageFile.{known_in, view_in}
-use Rattle.qcow2_alloc.specs.declared.error.ImageError.{ImageError}
 use Rattle.qcow2_alloc.specs.declared.error.ImageError.TheVariants as I
-use Rattle.qcow2_image.specs.BehindHeader.{TablesBehindHeader}
-use Rattle.qcow2_image.specs.Created.{HoldsNewDisk, IsCreated, IsNewDisk, IsStopOfCreating, IsUnwritten, OpensGrown, StopsCreating, empty_of}
-use Rattle.qcow2_image.specs.ImageInvariant.{IsHonestBacking}
-use Rattle.qcow2_image.specs.Opened.{IsKeptSince, IsOpenedFrom, Opens}
-use Rattle.qcow2_image.specs.Readable.{IsNewlyOpened, OpeningStep, files_missing}
-use Rattle.qcow2_image.specs.Refusals.{IsFaultOrLimit}
-use Rattle.qcow2_image.specs.Resizing.{takes_over}
-use Rattle.qcow2_image.specs.declared.builder.Qcow2CreateBuilder.{Qcow2CreateBuilder}
-use Rattle.qcow2_image.specs.declared.image.Qcow2.{Qcow2}
-use Rattle.qcow2_image.specs.declared.opening.Qcow2OpenBuilder.{Qcow2OpenBuilder}
 use Rattle.qcow2_image.proofs.Create.Causes.{usable_opened}
 use Rattle.qcow2_image.proofs.Create.Creating.{opening_stops, opens_unwritten, stops_at_none}
 use Rattle.qcow2_image.proofs.Create.Faults.{grown_refused, unmapped_opened}

@@ -1,26 +1,6 @@
 -- A new image has no leaks: growing and flushing keep each surplus, and at the end nothing is pending.
-use Rattle.qcow2_image.specs.Limits.{IfLimit}
-use Rattle.std.proofs.Common.{◌≡◌, inl, inr, ℕ, ◌+◌, ◌-◌, ◌<◌, ◌≤◌, List, [], Result, Ok, Err, ap, ◌∙◌, subst, arith}
-use Rattle.std.specs.Prelude.{IsTrue, OnOk}
-use Rattle.std.proofs.lemmas.Bool.{cases_lt}
-use Rattle.image_access.specs.Backing.{BackingView}
-use Rattle.image_access.specs.Moments.{StorageView}
-use Rattle.image_access.specs.declared.storage.PreallocateMode.{PreallocateMode}
-use Rattle.qcow2_metadata.specs.Bytes.{Bytes, byte_at}
-use Rattle.qcow2_metadata.specs.Entries.{count}
-use Rattle.qcow2_metadata.specs.Named.{named}
-use Rattle.qcow2_laws.specs.Opened.{HasNoLeaks, surplus_of}
-use Rattle.qcow2_alloc.specs.declared.clusters_to_free.ClustersToFreeEntry.{ClustersToFreeEntry}
-use Rattle.qcow2_alloc.specs.declared.error.ImageError.{ImageError}
+use Rattle.qcow2_image.proofs.Common.{IfLimit, ◌≡◌, inl, inr, ℕ, ◌+◌, ◌-◌, ◌<◌, ◌≤◌, List, [], Result, Ok, Err, ap, ◌∙◌, subst, arith, IsTrue, OnOk, cases_lt, BackingView, StorageView, PreallocateMode, Bytes, byte_at, count, named, HasNoLeaks, surplus_of, ClustersToFreeEntry, ImageError, known_in, view_in, IsRefusalByFault, FlushesImage, refusal_of, Qcow2, KeepsSurplus, LeavesSound, HasNothingToFree, is_writable, size_of, abstract_of, new_data_by, of_data, of_tables, over_all, surplus_in, to_free, GrowsTo, IsResized, size_after}
 use Rattle.qcow2_alloc.specs.declared.error.ImageError.TheVariants as I
-use Rattle.qcow2_alloc.specs.ImageFile.{known_in, view_in}
-use Rattle.qcow2_disk.specs.Calls.{IsRefusalByFault}
-use Rattle.qcow2_image.specs.Calls.{FlushesImage, refusal_of}
-use Rattle.qcow2_image.specs.declared.image.Qcow2.{Qcow2}
-use Rattle.qcow2_image.specs.Growing.{KeepsSurplus, LeavesSound}
-use Rattle.qcow2_image.specs.Image.{HasNothingToFree, is_writable, size_of}
-use Rattle.qcow2_image.specs.ImageInvariant.{abstract_of, new_data_by, of_data, of_tables, over_all, surplus_in, to_free}
-use Rattle.qcow2_image.specs.Resizing.{GrowsTo, IsResized, size_after}
 
 module _ {S F : Type 0} (view : S → StorageView) (backing : F → BackingView) where
   -- clusters are allocated

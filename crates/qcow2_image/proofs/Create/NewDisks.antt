@@ -1,28 +1,9 @@
 -- New disks: an unwritten one shows zeros, and its guest clusters are unmapped; the mappings that a mode leaves; and what calls keep that give only zeros.
-use Rattle.std.proofs.Common.{◌≡◌, ◌⊎◌, inl, inr, ⊎_elim, ℕ, ◌+◌, ◌*◌, ◌/◌, ◌%◌, ◌<◌, ◌≤◌, Bool, true, false, List, [], ◌∷◌, None, refl, sym, ap, ◌∙◌, subst, arith}
-use Rattle.std.specs.Prelude.{◌||◌, nat_le, if◌then◌else◌}
-use Rattle.std.proofs.lemmas.Nat.{div-mul-add, mod-mul-add, pow_pos}
-use Rattle.image_access.specs.declared.storage.PreallocateMode.{PreallocateMode}
+use Rattle.qcow2_image.proofs.Common.{◌≡◌, ◌⊎◌, inl, inr, ⊎_elim, ℕ, ◌+◌, ◌*◌, ◌/◌, ◌%◌, ◌<◌, ◌≤◌, Bool, true, false, List, [], ◌∷◌, None, refl, sym, ap, ◌∙◌, subst, arith, ◌||◌, nat_le, if◌then◌else◌, div-mul-add, mod-mul-add, pow_pos, PreallocateMode, Bytes, IsConsistent, cover, Value, guest_value, known_byte, value_under, HeaderFields, L2Mapping, Data, Zero, Compressed, Uncovered, header, cluster_size, rounded_up, given_by_grow, shows_old, to_kept_zero, Disk, disk, disk_with, zeroed_between, Setting, Touches, first_zeros, given_shown, is_copied_data, GivenBytes, IsGiven, Checkpoint, checkpoint_at, checkpoint_with, StopOkEverywhere, header_rest_same, IsCoverOf, IsNewDisk, IsPreallocated, IsUnwritten, ShowsZeros, CoversStay}
 use Rattle.image_access.specs.declared.storage.PreallocateMode.TheVariants as Mode
-use Rattle.qcow2_metadata.specs.Bytes.{Bytes}
-use Rattle.qcow2_metadata.specs.Consistent.{IsConsistent}
-use Rattle.qcow2_metadata.specs.Cover.{cover}
-use Rattle.qcow2_metadata.specs.Guest.{Value, guest_value, known_byte, value_under}
-use Rattle.qcow2_metadata.specs.declared.header.HeaderFields.{HeaderFields}
-use Rattle.qcow2_metadata.specs.declared.l2_mapping.L2Mapping.{L2Mapping}
-use Rattle.qcow2_metadata.specs.declared.l2_mapping.L2Mapping.TheVariants.{Data, Zero, Compressed, Uncovered}
-use Rattle.qcow2_metadata.specs.Header.{header, cluster_size, rounded_up}
-use Rattle.qcow2_disk.specs.Calls.{given_by_grow, shows_old, to_kept_zero}
 use Rattle.qcow2_disk.specs.ClearedCovers.{cleared_cover}
-use Rattle.qcow2_disk.specs.Disk.{Disk, disk, disk_with, zeroed_between}
-use Rattle.qcow2_disk.specs.AbstractImages.{Setting}
-use Rattle.qcow2_disk.specs.GrownCovers.{FilledCovers, Touches, first_zeros}
-use Rattle.qcow2_disk.specs.Mappings.{given_shown, is_copied_data}
-use Rattle.qcow2_disk.specs.Stops.{GivenBytes, IsGiven, Checkpoint, checkpoint_at, checkpoint_with, StopOkEverywhere}
-use Rattle.qcow2_disk.proofs.HeaderRest.{header_rest_same}
+use Rattle.qcow2_disk.specs.GrownCovers.{FilledCovers}
 use Rattle.qcow2_disk.proofs.Stops.{given_split}
-use Rattle.qcow2_image.specs.Created.{IsCoverOf, IsNewDisk, IsPreallocated, IsUnwritten, ShowsZeros}
-use Rattle.qcow2_image.specs.MovedTables.{CoversStay}
 use Rattle.qcow2_image.proofs.Preallocate.FilledGrowth.{up_least}
 use Rattle.qcow2_image.proofs.Preallocate.Zeros.{shown_zeros}
 use Rattle.qcow2_image.proofs.Resize.TailSteps.{least_up}

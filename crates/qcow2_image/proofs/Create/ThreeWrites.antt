@@ -1,29 +1,6 @@
 -- The refblock, the reftable and the header of a new image are written one after another: what a stop may leave on the way.
-use Rattle.std.proofs.Common.{◌≡◌, inl, inr, ℕ, ◌*◌, ◌/◌, ◌^◌, ◌≤◌, List, [], Option, Result, Ok, Err, sym, ap, ◌∙◌, subst, arith}
-use Rattle.std.specs.Prelude.{IfSome, OnOk}
-use Rattle.image_access.specs.Contents.{overwritten}
-use Rattle.image_access.specs.Moments.{StorageView, EachMomentSince, Changes, Calls}
+use Rattle.qcow2_image.proofs.Common.{◌≡◌, inl, inr, ℕ, ◌*◌, ◌/◌, ◌^◌, ◌≤◌, List, [], Option, Result, Ok, Err, sym, ap, ◌∙◌, subst, arith, IfSome, OnOk, overwritten, StorageView, EachMomentSince, Changes, Calls, StorageError, passes_none, passes_on, passes_if, passes_change, Bytes, byte_at, HeaderFields, HeaderView, header, cluster_size, entries_per_cluster, IsHeaderIn, header_written, cover, host_offset, EntryTableView, guest_value, value_under, known_byte, RefBlockView, IsRefBlockAt, L2Mapping, Uncovered, disk, disk_with, IsNewImage, new_image_consistent, cover_none, l1_entry-past, ImageError, IsUnwritten, IsStopOfCreating, StaysCreating, IsNewHeader, CountsThree, NamesOne, WritesThree}
 use Rattle.image_access.specs.declared.storage.PreallocateMode.TheVariants as Mode
-use Rattle.image_access.specs.declared.error.StorageError.{StorageError}
-use Rattle.image_access.proofs.EachMomentSince.{passes_none, passes_on, passes_if, passes_change}
-use Rattle.qcow2_metadata.specs.Bytes.{Bytes, byte_at}
-use Rattle.qcow2_metadata.specs.declared.header.HeaderFields.{HeaderFields}
-use Rattle.qcow2_metadata.specs.Header.{HeaderView, header, cluster_size, entries_per_cluster}
-use Rattle.qcow2_metadata.specs.HeaderLoad.{IsHeaderIn}
-use Rattle.qcow2_metadata.specs.HeaderWrite.{header_written}
-use Rattle.qcow2_metadata.specs.Cover.{cover}
-use Rattle.qcow2_metadata.specs.Entries.{host_offset}
-use Rattle.qcow2_metadata.specs.EntryTable.{EntryTableView}
-use Rattle.qcow2_metadata.specs.Guest.{guest_value, value_under, known_byte}
-use Rattle.qcow2_metadata.specs.RefBlock.{RefBlockView, IsRefBlockAt}
-use Rattle.qcow2_metadata.specs.declared.l2_mapping.L2Mapping.{L2Mapping}
-use Rattle.qcow2_metadata.specs.declared.l2_mapping.L2Mapping.TheVariants.{Uncovered}
-use Rattle.qcow2_disk.specs.Disk.{disk, disk_with}
-use Rattle.qcow2_laws.specs.NewImages.{IsNewImage}
-use Rattle.qcow2_laws.proofs.NewImages.{new_image_consistent}
-use Rattle.qcow2_laws.proofs.Places.{cover_none, l1_entry-past}
-use Rattle.qcow2_alloc.specs.declared.error.ImageError.{ImageError}
-use Rattle.qcow2_image.specs.Created.{IsUnwritten, IsStopOfCreating, StaysCreating, IsNewHeader, CountsThree, NamesOne, WritesThree}
 use Rattle.qcow2_image.proofs.Create.FirstImage.{IsBlank, no_image, blank_still, is_new_image}
 
 -- ---- a new image is unwritten

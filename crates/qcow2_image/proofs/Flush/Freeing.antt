@@ -1,37 +1,8 @@
 -- Listed clusters are freed, which guests don't see.
-use Rattle.qcow2_alloc.specs.ImageStorage.{is_changed_of}
-use Rattle.std.proofs.lemmas.Bool.{or_right}
-use Rattle.std.proofs.Common.{◌≡◌, ⊎_elim, inl, inr, ℕ, ◌<◌, Bool, false, List, [], Option, Some, refl, sym, ap, ◌∙◌, subst, arith}
-use Rattle.std.specs.Prelude.{Result, Ok, Err, IfOk, IfErr, IsTrue}
-use Rattle.image_access.specs.Backing.{BackingView}
-use Rattle.image_access.specs.Moments.{StorageView}
-use Rattle.qcow2_laws.specs.CrashInvariant.{Pending}
-use Rattle.qcow2_disk.specs.Calls.{AnsweredEffect, IsRefusalByFault, IsSame}
-use Rattle.qcow2_laws.specs.SafeSteps.{SafeStep}
-use Rattle.qcow2_disk.specs.AbstractImages.{stored_bytes}
-use Rattle.qcow2_laws.proofs.Formats.{format_same, format_then}
-use Rattle.qcow2_laws.proofs.SafeSteps.{safe_step_then, steps_safe_throughout}
-use Rattle.qcow2_laws.proofs.Internal.{unseen_then}
-use Rattle.qcow2_alloc.specs.declared.allocation.Allocator.{Allocator}
-use Rattle.qcow2_alloc.specs.declared.error.ImageError.{ImageError}
-use Rattle.qcow2_alloc.specs.declared.image_file.ImageFile.{ImageFile}
-use Rattle.qcow2_alloc.specs.Allocation.{Frees}
+use Rattle.qcow2_image.proofs.Common.{is_changed_of, or_right, ◌≡◌, ⊎_elim, inl, inr, ℕ, ◌<◌, Bool, false, List, [], Option, Some, refl, sym, ap, ◌∙◌, subst, arith, Result, Ok, Err, IfOk, IfErr, IsTrue, BackingView, StorageView, Pending, AnsweredEffect, IsRefusalByFault, IsSame, SafeStep, stored_bytes, format_same, format_then, safe_step_then, steps_safe_throughout, unseen_then, Allocator, ImageError, ImageFile, Frees, l2_pins, with_listed, state_in, view_in, contents_in, known_in, nothing_given, file_step_on, pending_same, freed_kept, KeepsNoFreeBelowHint, Qcow2, Prepared, EndsFreeing, RefusedCall, InternalCall, InternalStep, InternalFreeingStep, FreesListed, FlushesImage, refusal_of, number_of, is_failed, has_noted_change, leaked_by, leaked_in, ImageInvariant, pending_in, abstract_of}
 use Rattle.qcow2_alloc.specs.ImageError.{IsFault as FaultOfTables}
-use Rattle.qcow2_alloc.specs.CachePins.{l2_pins}
-use Rattle.qcow2_alloc.specs.FreeList.{with_listed}
-use Rattle.qcow2_alloc.specs.ImageFile.{state_in, view_in, contents_in, known_in, nothing_given}
 use Rattle.qcow2_alloc.specs.declared.error.ImageError.TheVariants as I
-use Rattle.qcow2_alloc.proofs.FileSteps.{file_step_on, pending_same}
-use Rattle.qcow2_alloc.proofs.KeptAllocators.{freed_kept}
-use Rattle.qcow2_alloc.specs.LowestRuns.{KeepsNoFreeBelowHint}
-use Rattle.qcow2_image.specs.declared.image.Qcow2.{Qcow2}
-use Rattle.qcow2_image.specs.declared.prepared.Prepared.{Prepared}
-use Rattle.qcow2_image.specs.CallParts.{EndsFreeing, RefusedCall, InternalCall}
-use Rattle.qcow2_image.specs.InternalSteps.{InternalStep, InternalFreeingStep, FreesListed}
-use Rattle.qcow2_image.specs.Calls.{FlushesImage, refusal_of}
-use Rattle.qcow2_image.specs.Image.{number_of, is_failed, has_noted_change, leaked_by, leaked_in}
 use Rattle.qcow2_image.proofs.Call.Marked.{MayMarkBy}
-use Rattle.qcow2_image.specs.ImageInvariant.{ImageInvariant, pending_in, abstract_of}
 use Rattle.qcow2_image.proofs.Call.Answered.{freeing_step_kept, still_seen}
 use Rattle.qcow2_image.proofs.Call.Called.{copied_then}
 use Rattle.qcow2_image.proofs.Images.Moving.{file_tidied}

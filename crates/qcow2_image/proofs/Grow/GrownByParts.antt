@@ -1,35 +1,7 @@
 -- Growing over every disk below, part by part, and what flushing leaves.
-use Rattle.std.proofs.Common.{◌≡◌, inl, inr, ℕ, ◌-◌, ◌*◌, ◌/◌, ◌<◌, ◌≤◌, List, [], ◌∷◌, ◌++◌, Option, Result, Ok, Err, Bool, true, refl, sym, ap, subst, arith}
-use Rattle.std.proofs.Math.Nat.{div-lt_iff_lt-mul}
-use Rattle.image_access.specs.Backing.{BackingView}
-use Rattle.image_access.specs.Moments.{StorageView}
-use Rattle.image_access.proofs.EachMomentSince.{passes_none}
-use Rattle.image_access.specs.declared.storage.PreallocateMode.{PreallocateMode}
+use Rattle.qcow2_image.proofs.Common.{◌≡◌, inl, inr, ℕ, ◌-◌, ◌*◌, ◌/◌, ◌<◌, ◌≤◌, List, [], ◌∷◌, ◌++◌, Option, Result, Ok, Err, Bool, true, refl, sym, ap, subst, arith, div-lt_iff_lt-mul, BackingView, StorageView, passes_none, PreallocateMode, byte_at, HeaderFields, cluster_size, entries_per_cluster, shows_old, Checkpoint, StopOkEverywhere, checkpoint_with, Pending, guests, SafeStep, places_of, with_places, Sizes, more_twice, safe_throughout_asking, safe_throughout_then, with_listed, IsFault, known_in, nothing_given, state_in, view_in, ImageError, RefusedCall, Extends, Lasts, LastsCall, LastsKnown, LastsPart, WritesBack, is_failed, with_marks, ImageInvariant, pending_in, FreesListed, InternalFreeingStep, RefusedMove, Qcow2, Prepared}
 use Rattle.image_access.specs.declared.storage.PreallocateMode.TheVariants as Mode
-use Rattle.qcow2_metadata.specs.Bytes.{byte_at}
-use Rattle.qcow2_metadata.specs.declared.header.HeaderFields.{HeaderFields}
-use Rattle.qcow2_metadata.specs.Header.{cluster_size, entries_per_cluster}
-use Rattle.qcow2_disk.specs.Calls.{shows_old}
-use Rattle.qcow2_disk.specs.Stops.{Checkpoint, StopOkEverywhere, checkpoint_with}
 use Rattle.qcow2_disk.proofs.Stops.{kept_more}
-use Rattle.qcow2_laws.specs.CrashInvariant.{Pending}
-use Rattle.qcow2_laws.specs.Guests.{guests}
-use Rattle.qcow2_laws.specs.SafeSteps.{SafeStep}
-use Rattle.qcow2_laws.specs.Tops.{places_of, with_places}
-use Rattle.qcow2_laws.proofs.Places.{Sizes}
-use Rattle.qcow2_laws.proofs.SafeSteps.{more_twice, safe_throughout_asking, safe_throughout_then}
-use Rattle.qcow2_alloc.specs.FreeList.{with_listed}
-use Rattle.qcow2_alloc.specs.ImageError.{IsFault}
-use Rattle.qcow2_alloc.specs.ImageFile.{known_in, nothing_given, state_in, view_in}
-use Rattle.qcow2_alloc.specs.declared.error.ImageError.{ImageError}
-use Rattle.qcow2_image.specs.CallParts.{RefusedCall}
-use Rattle.qcow2_image.specs.Growing.{Extends, Lasts, LastsCall, LastsKnown, LastsPart, WritesBack}
-use Rattle.qcow2_image.specs.Image.{is_failed, with_marks}
-use Rattle.qcow2_image.specs.ImageInvariant.{ImageInvariant, pending_in}
-use Rattle.qcow2_image.specs.InternalSteps.{FreesListed, InternalFreeingStep}
-use Rattle.qcow2_image.specs.LongerTables.{RefusedMove}
-use Rattle.qcow2_image.specs.declared.image.Qcow2.{Qcow2}
-use Rattle.qcow2_image.specs.declared.prepared.Prepared.{Prepared}
 use Rattle.qcow2_image.proofs.Call.Marked.{MayMarkBy}
 use Rattle.qcow2_image.proofs.Images.Moved.{format_stay}
 

@@ -1,30 +1,5 @@
 -- The number of L1 entries after the parts of a call.
-use Rattle.std.proofs.Common.{◌≡◌, inl, inr, ℕ, ◌+◌, ◌-◌, ◌*◌, ◌/◌, ◌%◌, ◌^◌, ◌<◌, ◌≤◌, List, Option, max, sym, ap, ◌∙◌, subst, arith}
-use Rattle.std.specs.Prelude.{OnOk, Result, Ok, Err}
-use Rattle.std.proofs.Math.Nat.{div-zero}
-use Rattle.std.proofs.lemmas.Bool.{cases_lt}
-use Rattle.std.proofs.lemmas.Nat.{div-add-mod', div-mul-add, mod_below, pow_pos}
-use Rattle.image_access.specs.Backing.{BackingView}
-use Rattle.image_access.specs.Moments.{StorageView}
-use Rattle.qcow2_metadata.specs.declared.header.HeaderFields.{HeaderFields}
-use Rattle.qcow2_metadata.specs.Entries.{l1_entry}
-use Rattle.qcow2_metadata.specs.EntryTable.{EntryTableView, entry_count}
-use Rattle.qcow2_metadata.specs.Header.{HeaderView, cluster_size, entries_per_cluster, rounded_up}
-use Rattle.qcow2_metadata.specs.TableBytes.{entry_at}
-use Rattle.qcow2_laws.specs.CrashInvariant.{Pending}
-use Rattle.qcow2_laws.specs.Internal.{KeepsFormat}
-use Rattle.qcow2_laws.proofs.Places.{div_mono}
-use Rattle.qcow2_alloc.specs.ImageFile.{contents_in}
-use Rattle.qcow2_alloc.specs.declared.error.ImageError.{ImageError}
-use Rattle.qcow2_image.specs.declared.image.Qcow2.{Qcow2}
-use Rattle.qcow2_image.specs.declared.prepared.Prepared.{Prepared}
-use Rattle.qcow2_image.specs.Found.{l1_index_of}
-use Rattle.qcow2_image.specs.Growing.{FitsSize}
-use Rattle.qcow2_image.specs.ImageInvariant.{ImageInvariant}
-use Rattle.qcow2_image.specs.L1Entries.{ReachesOffset, ReachingStays, HasOwnTable}
-use Rattle.qcow2_image.specs.MayFail.{KeepsL1Place}
-use Rattle.qcow2_image.specs.MovedTables.{MovesTables}
-use Rattle.qcow2_image.specs.InternalSteps.{NamesOwn}
+use Rattle.qcow2_image.proofs.Common.{◌≡◌, inl, inr, ℕ, ◌+◌, ◌-◌, ◌*◌, ◌/◌, ◌%◌, ◌^◌, ◌<◌, ◌≤◌, List, Option, max, sym, ap, ◌∙◌, subst, arith, OnOk, Result, Ok, Err, div-zero, cases_lt, div-add-mod', div-mul-add, mod_below, pow_pos, BackingView, StorageView, HeaderFields, l1_entry, EntryTableView, entry_count, HeaderView, cluster_size, entries_per_cluster, rounded_up, entry_at, Pending, KeepsFormat, div_mono, contents_in, ImageError, Qcow2, Prepared, l1_index_of, FitsSize, ImageInvariant, ReachesOffset, ReachingStays, HasOwnTable, KeepsL1Place, MovesTables, NamesOwn}
 
 -- what an answer implies
 pub on_ok : {A P Q : Type 0} (r : Result A ImageError) → (P → Q) → OnOk r P → OnOk r Q

@@ -1,52 +1,8 @@
 -- The header's pointer to a longer L1 table is written, and the image uses that table from then on.
-use Rattle.std.proofs.lemmas.Bool.{or_right}
-use Rattle.std.proofs.Common.{◌≡◌, ℕ, ◌+◌, ◌*◌, ◌/◌, ◌^◌, ◌<◌, ◌≤◌, List, [], length, Option, Some, Result, Ok, Err, inr, refl, sym, ap, ◌∙◌, subst, arith}
-use Rattle.std.specs.Prelude.{IfSome, IsTrue}
-use Rattle.std.proofs.lemmas.List.{append-nil}
-use Rattle.image_access.specs.Backing.{BackingView}
-use Rattle.image_access.specs.Moments.{StorageView, Changes, Calls}
-use Rattle.image_access.specs.declared.error.StorageError.{StorageError}
-use Rattle.qcow2_metadata.specs.Bytes.{Bytes, byte_at}
-use Rattle.qcow2_metadata.specs.declared.header.HeaderFields.{HeaderFields}
-use Rattle.qcow2_metadata.specs.Header.{HeaderView, cluster_size, with_fields, with_l1_table}
-use Rattle.qcow2_metadata.specs.HeaderWrite.{l1_table_pointer_written}
-use Rattle.qcow2_metadata.specs.Entries.{l1_entry, reftable_entry, count, count_under}
-use Rattle.qcow2_metadata.specs.EntryTable.{EntryTableView, entry_count}
-use Rattle.qcow2_metadata.specs.L2Mapping.{IsHostCluster}
-use Rattle.qcow2_metadata.specs.Named.{in_run}
-use Rattle.qcow2_laws.specs.Changes.{renamed}
-use Rattle.qcow2_laws.specs.CrashInvariant.{Pending, SameIn}
-use Rattle.qcow2_laws.specs.GuestLaws.{KeepsGuests, state_with_l1_table as with_new_l1}
-use Rattle.qcow2_laws.specs.SafeSteps.{SafeStep}
-use Rattle.qcow2_disk.specs.Stops.{SafeThroughout}
-use Rattle.qcow2_laws.specs.Tops.{WritesHeader, with_places, with_l1_at, IsNewL1}
-use Rattle.qcow2_laws.proofs.GuestLaws.{longer_l1_table_keeps_guests}
+use Rattle.qcow2_image.proofs.Common.{or_right, ◌≡◌, ℕ, ◌+◌, ◌*◌, ◌/◌, ◌^◌, ◌<◌, ◌≤◌, List, [], length, Option, Some, Result, Ok, Err, inr, refl, sym, ap, ◌∙◌, subst, arith, IfSome, IsTrue, append-nil, BackingView, StorageView, Changes, Calls, StorageError, Bytes, byte_at, HeaderFields, HeaderView, cluster_size, with_fields, with_l1_table, l1_table_pointer_written, l1_entry, reftable_entry, count, count_under, EntryTableView, entry_count, IsHostCluster, in_run, renamed, Pending, SameIn, KeepsGuests, SafeStep, SafeThroughout, WritesHeader, with_places, with_l1_at, IsNewL1, longer_l1_table_keeps_guests, step_safe_throughout, Sizes, l1-same, run_has, header_is_written, Allocator, ImageStorage, nothing_given, view_in, contents_in, known_in, state_in, of_storage, storage_of, is_changed_of, order_of, known_of, fault_of_storage, pending_same, cluster_aligned, own_cluster, file_sizes, known_there, IsAllocatorOf, allocator_kept, header_known_counts, file_invariant_of, Qcow2, Prepared, with_table, without_l1, StandsWhole, InternalMove, NamesTable, ImageInvariant, MovesTables}
+use Rattle.qcow2_laws.specs.GuestLaws.{state_with_l1_table as with_new_l1}
 use Rattle.qcow2_laws.proofs.L1Moves.{now_l1, now_reftable}
-use Rattle.qcow2_laws.proofs.SafeSteps.{step_safe_throughout}
-use Rattle.qcow2_laws.proofs.Places.{Sizes, l1-same}
-use Rattle.qcow2_laws.proofs.Shares.{run_has}
-use Rattle.qcow2_laws.proofs.Steps.{header_is_written}
-use Rattle.qcow2_alloc.specs.declared.allocation.Allocator.{Allocator}
-use Rattle.qcow2_alloc.specs.declared.image_storage.ImageStorage.{ImageStorage}
-use Rattle.qcow2_alloc.specs.ImageFile.{nothing_given, view_in, contents_in, known_in, state_in}
-use Rattle.qcow2_alloc.specs.ImageError.{of_storage}
-use Rattle.qcow2_alloc.specs.ImageStorage.{storage_of, is_changed_of}
-use Rattle.qcow2_alloc.specs.MetadataCaches.{order_of, known_of}
-use Rattle.qcow2_alloc.proofs.AllocationSteps.{fault_of_storage}
-use Rattle.qcow2_alloc.proofs.FileSteps.{pending_same}
-use Rattle.qcow2_alloc.proofs.KeptTables.Getting.{cluster_aligned}
-use Rattle.qcow2_alloc.proofs.KeptTables.Standing.{own_cluster}
 use Rattle.qcow2_alloc.proofs.Numbers.{l1_pointer_writes}
-use Rattle.qcow2_alloc.proofs.PlacedBlocks.{file_sizes, known_there}
-use Rattle.qcow2_alloc.specs.KeptAllocators.{IsAllocatorOf}
-use Rattle.qcow2_alloc.proofs.KeptAllocators.{allocator_kept}
-use Rattle.qcow2_laws.proofs.Headers.{header_known_counts}
-use Rattle.qcow2_alloc.proofs.FileInvariants.{file_invariant_of}
-use Rattle.qcow2_image.specs.declared.image.Qcow2.{Qcow2}
-use Rattle.qcow2_image.specs.declared.prepared.Prepared.{Prepared}
-use Rattle.qcow2_image.specs.LongerTables.{with_table, without_l1, StandsWhole, InternalMove, NamesTable}
-use Rattle.qcow2_image.specs.ImageInvariant.{ImageInvariant}
-use Rattle.qcow2_image.specs.MovedTables.{MovesTables}
 use Rattle.qcow2_image.proofs.Open.HeaderKept.{placed_named_blocks, placed_sound}
 use Rattle.qcow2_image.proofs.Grow.NewL1Table.{same_run, run_free}
 use Rattle.qcow2_image.proofs.Images.Moved.{ready_moved}

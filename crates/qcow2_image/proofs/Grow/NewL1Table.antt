@@ -1,46 +1,8 @@
 -- A longer L1 table is written to clusters that were allocated for it, after all refcounts.
-use Rattle.std.proofs.Common.{◌≡◌, ◌⊎◌, inl, inr, ℕ, ◌+◌, ◌-◌, ◌*◌, ◌/◌, ◌^◌, ◌<◌, ◌≤◌, List, length, Option, Some, Result, Ok, refl, sym, ap, ◌∙◌, subst, arith}
-use Rattle.std.specs.Prelude.{IfSome, nat_le, nat_lt, ◌&&◌}
-use Rattle.std.proofs.lemmas.Bool.{cases_lt}
-use Rattle.image_access.specs.Backing.{BackingView}
-use Rattle.image_access.specs.Contents.{overwritten}
-use Rattle.image_access.specs.Moments.{StorageView, Changes, Calls}
-use Rattle.image_access.specs.declared.error.StorageError.{StorageError}
-use Rattle.image_access.proofs.EachMomentSince.{whole_or_nothing}
-use Rattle.qcow2_metadata.specs.Bytes.{byte_at, one_if}
-use Rattle.qcow2_metadata.specs.declared.header.HeaderFields.{HeaderFields}
-use Rattle.qcow2_metadata.specs.Header.{cluster_size}
-use Rattle.qcow2_metadata.specs.Entries.{l1_entry}
-use Rattle.qcow2_metadata.specs.EntryTable.{EntryTableView, entry_count}
-use Rattle.qcow2_metadata.specs.Named.{in_run}
-use Rattle.qcow2_metadata.specs.TableBytes.{entry_at}
+use Rattle.qcow2_image.proofs.Common.{◌≡◌, ◌⊎◌, inl, inr, ℕ, ◌+◌, ◌-◌, ◌*◌, ◌/◌, ◌^◌, ◌<◌, ◌≤◌, List, length, Option, Some, Result, Ok, refl, sym, ap, ◌∙◌, subst, arith, IfSome, nat_le, nat_lt, ◌&&◌, cases_lt, BackingView, overwritten, StorageView, Changes, Calls, StorageError, whole_or_nothing, byte_at, one_if, HeaderFields, cluster_size, l1_entry, EntryTableView, entry_count, in_run, entry_at, AreClean, BlocksMayGo, RbDependsOnL2, Pending, SameCovers, SameIn, with_places, with_l1_at, IsUnnamed, overwritten_but, clean_counts, run_has, data_is_written, Allocator, ImageStorage, run_at, view_in, contents_in, known_in, state_in, FileInvariant, storage_of, order_of, l2_tables, refblocks, cluster_aligned, own_cluster, IsFree, covers_written, file_sizes, IsAllocatorOf, Qcow2, Prepared, with_table, clusters_of, IsLongerL1, StandsWhole, InternalStep, ImageInvariant}
 use Rattle.qcow2_metadata.proofs.WrittenTables.{IsL1TableOf-written}
-use Rattle.qcow2_laws.specs.Caches.{AreClean, BlocksMayGo}
-use Rattle.qcow2_laws.specs.Clusters.{RbDependsOnL2}
-use Rattle.qcow2_laws.specs.CrashInvariant.{Pending, SameCovers, SameIn}
-use Rattle.qcow2_laws.specs.Tops.{with_places, with_l1_at}
-use Rattle.qcow2_laws.specs.Writes.{IsUnnamed}
-use Rattle.qcow2_laws.proofs.Beside.{overwritten_but}
-use Rattle.qcow2_laws.proofs.Caches.{clean_counts}
-use Rattle.qcow2_laws.proofs.Shares.{run_has}
-use Rattle.qcow2_laws.proofs.Steps.{data_is_written}
-use Rattle.qcow2_alloc.specs.declared.allocation.Allocator.{Allocator}
-use Rattle.qcow2_alloc.specs.declared.image_storage.ImageStorage.{ImageStorage}
-use Rattle.qcow2_alloc.specs.Allocation.{run_at}
-use Rattle.qcow2_alloc.specs.ImageFile.{view_in, contents_in, known_in, state_in, FileInvariant}
-use Rattle.qcow2_alloc.specs.ImageStorage.{storage_of}
-use Rattle.qcow2_alloc.specs.MetadataCaches.{order_of, l2_tables, refblocks}
 use Rattle.qcow2_alloc.proofs.FileWrites.{file_step_written, reftable_written}
-use Rattle.qcow2_alloc.proofs.KeptTables.Getting.{cluster_aligned}
-use Rattle.qcow2_alloc.proofs.KeptTables.Standing.{own_cluster}
-use Rattle.qcow2_alloc.proofs.PlacedBlocks.{IsFree, covers_written, file_sizes}
-use Rattle.qcow2_alloc.specs.KeptAllocators.{IsAllocatorOf}
 use Rattle.qcow2_image.proofs.Open.Reftables.{allocator_moved}
-use Rattle.qcow2_image.specs.declared.image.Qcow2.{Qcow2}
-use Rattle.qcow2_image.specs.declared.prepared.Prepared.{Prepared}
-use Rattle.qcow2_image.specs.LongerTables.{with_table, clusters_of, IsLongerL1, StandsWhole}
-use Rattle.qcow2_image.specs.InternalSteps.{InternalStep}
-use Rattle.qcow2_image.specs.ImageInvariant.{ImageInvariant}
 use Rattle.qcow2_image.proofs.Images.Moving.{file_moved}
 
 -- the clusters of a table, as those that its bytes need

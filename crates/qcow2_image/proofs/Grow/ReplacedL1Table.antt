@@ -1,60 +1,16 @@
 -- A longer L1 table replaces the old one, part by part, which guests don't see.
-use Rattle.std.proofs.Common.{◌≡◌, inl, inr, ℕ, ◌+◌, ◌-◌, ◌*◌, ◌/◌, ◌%◌, ◌^◌, ◌<◌, ◌≤◌, Bool, true, false, cond, nat_le, nat_lt, ◌&&◌, List, [], ◌∷◌, ◌++◌, length, Option, Some, None, Result, Ok, Err, refl, sym, ap, ◌∙◌, subst, arith, ◌⊎◌}
-use Rattle.std.proofs.lemmas.Bool.{cases_lt}
-use Rattle.std.specs.Prelude.{OnOk, OnErr}
-use Rattle.std.proofs.lemmas.List.{append_assoc}
-use Rattle.std.proofs.lemmas.Nat.{div-mul-add}
-use Rattle.image_access.specs.Backing.{BackingView}
-use Rattle.image_access.specs.Moments.{StorageView}
-use Rattle.qcow2_metadata.specs.declared.header.HeaderFields.{HeaderFields}
-use Rattle.qcow2_metadata.specs.Header.{HeaderView, cluster_size}
-use Rattle.qcow2_metadata.specs.EntryTable.{EntryTableView, entry_count}
-use Rattle.qcow2_metadata.specs.Named.{in_run}
-use Rattle.qcow2_laws.specs.Guests.{named_by_guest}
-use Rattle.qcow2_metadata.specs.TableBytes.{entry_at}
-use Rattle.qcow2_laws.specs.Changes.{new_tables_to_old_tables}
-use Rattle.qcow2_laws.specs.CrashInvariant.{Pending}
-use Rattle.qcow2_laws.specs.Guests.{over_guests, names}
-use Rattle.qcow2_laws.specs.SafeSteps.{SafeStep}
-use Rattle.qcow2_laws.specs.Internal.{used_by_guests}
-use Rattle.qcow2_laws.proofs.Formats.{guests_format}
-use Rattle.qcow2_laws.proofs.Guests.{over_guests-same}
-use Rattle.qcow2_laws.proofs.SafeSteps.{safe_step_none, safe_step_then, steps_safe_throughout}
-use Rattle.qcow2_laws.proofs.Steps.{pending_is_changed}
-use Rattle.qcow2_laws.proofs.Internal.{unseen_disk}
-use Rattle.qcow2_alloc.specs.Allocation.{run_at, taken_as, InternalAllocatorGrowth, RefusedGrowth}
-use Rattle.qcow2_alloc.specs.CachePins.{KeepsPinsAndNotes}
-use Rattle.qcow2_alloc.specs.declared.allocation.Allocator.{Allocator}
-use Rattle.qcow2_alloc.specs.declared.clusters_to_free.ClusterKind.{ClusterKind}
+use Rattle.qcow2_image.proofs.Common.{◌≡◌, inl, inr, ℕ, ◌+◌, ◌-◌, ◌*◌, ◌/◌, ◌%◌, ◌^◌, ◌<◌, ◌≤◌, Bool, true, false, cond, nat_le, nat_lt, ◌&&◌, List, [], ◌∷◌, ◌++◌, length, Option, Some, None, Result, Ok, Err, refl, sym, ap, ◌∙◌, subst, arith, ◌⊎◌, cases_lt, OnOk, OnErr, append_assoc, div-mul-add, BackingView, StorageView, HeaderFields, HeaderView, cluster_size, EntryTableView, entry_count, in_run, named_by_guest, entry_at, new_tables_to_old_tables, Pending, over_guests, names, SafeStep, used_by_guests, guests_format, over_guests-same, safe_step_none, safe_step_then, steps_safe_throughout, pending_is_changed, unseen_disk, run_at, taken_as, InternalAllocatorGrowth, RefusedGrowth, KeepsPinsAndNotes, Allocator, ClusterKind, ClustersToFreeEntry, ImageError, ImageFile, ListsTables, nothing_given, view_in, known_in, state_in, KeepsHeader, pending_same, header_format, file_sizes, run_none, NoFreeBelowHint, BrokeOff, Qcow2, Prepared, RefusedCall, InternalCall, of_data, of_tables, to_free, pending_in, ImageInvariant, abstract_of, clusters_of, run_of_table, listed, with_table, without_l1, IsLongerL1, StandsWhole, InternalMove, InterruptedMove, RefusedMove, PlacesTable, NamesTable, NamesTaken, AllocatesTable, MakesEntry, InternalStep, FreesListed, ListGrows, pending_with_listed, leaked_by, leaked_in, stops_of}
 use Rattle.qcow2_alloc.specs.declared.clusters_to_free.ClusterKind.TheVariants as Kind
-use Rattle.qcow2_alloc.specs.declared.clusters_to_free.ClustersToFreeEntry.{ClustersToFreeEntry}
-use Rattle.qcow2_alloc.specs.declared.error.ImageError.{ImageError}
-use Rattle.qcow2_alloc.specs.declared.image_file.ImageFile.{ImageFile}
-use Rattle.qcow2_alloc.specs.FreeList.{ListsTables}
-use Rattle.qcow2_alloc.specs.ImageFile.{nothing_given, view_in, known_in, state_in, KeepsHeader}
-use Rattle.qcow2_alloc.proofs.FileSteps.{pending_same}
-use Rattle.qcow2_alloc.proofs.ListedAfter.{header_format}
-use Rattle.qcow2_alloc.proofs.PlacedBlocks.{file_sizes}
-use Rattle.qcow2_alloc.proofs.Runs.{run_none}
-use Rattle.qcow2_alloc.specs.LowestRuns.{NoFreeBelowHint, BrokeOff}
-use Rattle.qcow2_image.specs.declared.image.Qcow2.{Qcow2}
-use Rattle.qcow2_image.specs.declared.prepared.Prepared.{Prepared}
-use Rattle.qcow2_image.specs.CallParts.{RefusedCall, InternalCall}
-use Rattle.qcow2_image.specs.ImageInvariant.{of_data, of_tables, to_free, pending_in, ImageInvariant, abstract_of}
-use Rattle.qcow2_image.specs.LongerTables.{clusters_of, run_of_table, listed, with_table, without_l1, IsLongerL1, StandsWhole, InternalMove, InterruptedMove, RefusedMove, PlacesTable, NamesTable, NamesTaken, AllocatesTable, MakesEntry}
-use Rattle.qcow2_image.specs.InternalSteps.{InternalStep, FreesListed, ListGrows, pending_with_listed}
 use Rattle.qcow2_image.proofs.Call.Answered.{followed, same_setting, still_shown}
 use Rattle.qcow2_image.proofs.Call.Called.{keeps_then}
 use Rattle.qcow2_image.proofs.Call.Refused.{break_off_so, refused_then, stays_kept, stays_then}
 use Rattle.qcow2_image.proofs.Flush.Freeing.{beside, freed_refused, tidy_stays}
 use Rattle.qcow2_image.proofs.Images.Formats.{lists_grow}
 use Rattle.qcow2_image.proofs.Images.Moved.{file_step_then, format_file_step, stay_then, format_stay}
-use Rattle.qcow2_image.specs.Image.{leaked_by, leaked_in}
 use Rattle.qcow2_image.proofs.Images.Moving.{file_moved_on}
 use Rattle.qcow2_image.proofs.Prepare.UnlinkedL2Table.{as_listed_after, interrupted_on, keeps_listed, keeps_none, none_taken}
 use Rattle.qcow2_image.proofs.Prepare.FirstCluster.{listed_after_on}
 use Rattle.qcow2_image.proofs.Images.Sound.{free_more}
-use Rattle.qcow2_disk.proofs.Compose.{stops_of}
 use Rattle.qcow2_image.proofs.Images.UngivenCovers.{all_stay}
 
 -- a run has each cluster once at most

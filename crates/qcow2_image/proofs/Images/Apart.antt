@@ -1,19 +1,5 @@
 -- Prepared mappings have no guest cluster in common, since each pins an L2 table of its own.
-use Rattle.std.proofs.Common.{◌≡◌, ℕ, ◌+◌, ◌*◌, ◌/◌, ◌%◌, ◌<◌, List, Option, Some, refl, sym, ap, ◌∙◌, arith}
-use Rattle.std.specs.Prelude.{length, slice_get, ◌==◌}
-use Rattle.std.proofs.lemmas.Bool.{cond-true, eq-eqb}
-use Rattle.std.proofs.lemmas.Nat.{div-add-mod', div-mul-add, pow_pos}
-use Rattle.image_access.specs.Backing.{BackingView}
-use Rattle.image_access.specs.Moments.{StorageView}
-use Rattle.qcow2_metadata.specs.Bytes.{Bytes}
-use Rattle.qcow2_metadata.specs.declared.header.HeaderFields.{HeaderFields}
-use Rattle.qcow2_metadata.specs.Header.{cluster_size, entries_per_cluster}
-use Rattle.qcow2_laws.specs.CrashInvariant.{Pending}
-use Rattle.qcow2_laws.specs.Guests.{table_at}
-use Rattle.qcow2_alloc.specs.ImageFile.{contents_in, known_in}
-use Rattle.qcow2_image.specs.declared.image.Qcow2.{Qcow2}
-use Rattle.qcow2_image.specs.declared.prepared.Prepared.{Prepared}
-use Rattle.qcow2_image.specs.ImageInvariant.{cluster_of, pins_by, pins_of, IsPending, ImageInvariant}
+use Rattle.qcow2_image.proofs.Common.{◌≡◌, ℕ, ◌+◌, ◌*◌, ◌/◌, ◌%◌, ◌<◌, List, Option, Some, refl, sym, ap, ◌∙◌, arith, length, slice_get, ◌==◌, cond-true, eq-eqb, div-add-mod', div-mul-add, pow_pos, BackingView, StorageView, Bytes, HeaderFields, cluster_size, entries_per_cluster, Pending, table_at, contents_in, known_in, Qcow2, Prepared, cluster_of, pins_by, pins_of, IsPending, ImageInvariant}
 use Rattle.qcow2_image.proofs.Call.Slots.{over_all_two}
 
 -- all guest clusters of a mapping are under one L1 entry, each at its own entry of the L2 table

@@ -1,18 +1,6 @@
 -- Replacing the backing disk of a sound image with prepared mappings.
-use Rattle.std.proofs.Common.{◌≡◌, ◌+◌, ◌<◌, inl, inr, ℕ, zero, suc, List, [], ◌∷◌, Option, Some, None, refl, sym, subst, arith}
-use Rattle.std.specs.Prelude.{slice_get, is_some, true, IfSome, IsSome}
-use Rattle.std.specs.Option.{option_map_or}
-use Rattle.std.proofs.lemmas.Bool.{cases_lt, eq-eqb}
-use Rattle.image_access.specs.Backing.{BackingView}
-use Rattle.image_access.specs.Moments.{StorageView}
-use Rattle.qcow2_metadata.specs.Bytes.{one_if}
+use Rattle.qcow2_image.proofs.Common.{◌≡◌, ◌+◌, ◌<◌, inl, inr, ℕ, zero, suc, List, [], ◌∷◌, Option, Some, None, refl, sym, subst, arith, slice_get, is_some, true, IfSome, IsSome, option_map_or, cases_lt, eq-eqb, BackingView, StorageView, one_if, Qcow2, Prepared, table_of, pins_by, pins_of, over_all, abstract_of, HasPinnedTable, HasPinnedMapping}
 use Rattle.qcow2_alloc.specs.ImageFile.{l2_pins}
-use Rattle.qcow2_image.specs.declared.image.Qcow2.{Qcow2}
-use Rattle.qcow2_image.specs.declared.prepared.Prepared.{Prepared}
-use Rattle.qcow2_image.specs.Prepared.{table_of}
-use Rattle.qcow2_image.specs.ImageInvariant.{pins_by, pins_of, over_all, abstract_of}
-use Rattle.qcow2_image.specs.PinnedTables.{HasPinnedTable}
-use Rattle.qcow2_image.specs.Backings.{HasPinnedMapping}
 
 -- ---- pins
 

@@ -1,37 +1,5 @@
 -- The meaning of the cluster mappings of a prepared mapping: which clusters they hold, and whose bytes these have.
-use Rattle.std.proofs.Common.{◌≡◌, inl, inr, ℕ, zero, suc, ◌+◌, ◌-◌, ◌*◌, ◌/◌, ◌%◌, ◌<◌, ◌≤◌, Bool, true, false, List, [], ◌∷◌, ◌++◌, length, Option, Some, None, refl, sym, ap, ◌∙◌, subst, arith, cond}
-use Rattle.std.specs.Prelude.{IsTrue, nat_le, slice_get, slice_set}
-use Rattle.std.specs.Option.{option_map_or}
-use Rattle.std.proofs.lemmas.Bool.{cases_lt, cond-true, cond-false, le-leb, lt-leb}
-use Rattle.std.proofs.lemmas.Nat.{div-add-mod', div-mul-add, mod-mul-add, mod_below, pow_pos}
-use Rattle.std.proofs.lemmas.List.{append_assoc}
-use Rattle.image_access.specs.Backing.{BackingView}
-use Rattle.image_access.specs.Moments.{StorageView}
-use Rattle.qcow2_metadata.specs.Bytes.{Bytes}
-use Rattle.qcow2_metadata.specs.declared.header.HeaderFields.{HeaderFields}
-use Rattle.qcow2_metadata.specs.Header.{cluster_size}
-use Rattle.qcow2_metadata.specs.Cover.{cover}
-use Rattle.qcow2_metadata.specs.Named.{in_cluster, named_by_cover}
-use Rattle.qcow2_metadata.specs.declared.l2_mapping.L2Mapping.TheVariants.{Zero}
-use Rattle.qcow2_laws.specs.CrashInvariant.{Pending}
-use Rattle.qcow2_laws.specs.Guests.{over_guests, names}
-use Rattle.qcow2_laws.specs.SafeSteps.{DriverState, StateInvariant}
-use Rattle.qcow2_laws.specs.Internal.{used_by_guests}
-use Rattle.qcow2_laws.proofs.Consistency.{in_own}
-use Rattle.qcow2_laws.proofs.KeptClusters.{kept_aligned}
-use Rattle.qcow2_laws.proofs.Mixes.{tied}
-use Rattle.qcow2_laws.proofs.Places.{in_one}
-use Rattle.qcow2_laws.proofs.Internal.{named_some}
-use Rattle.qcow2_alloc.specs.ClustersToFree.{data_entry}
-use Rattle.qcow2_alloc.specs.declared.clusters_to_free.ClustersToFreeEntry.{ClustersToFreeEntry}
-use Rattle.qcow2_alloc.specs.ImageFile.{state_in, contents_in, known_in}
-use Rattle.qcow2_alloc.proofs.Runs.{run_in}
-use Rattle.qcow2_image.specs.declared.image.Qcow2.{Qcow2}
-use Rattle.qcow2_image.specs.declared.prepared.Prepared.{Prepared}
-use Rattle.qcow2_image.specs.declared.prepared.ClusterMapping.{ClusterMapping}
-use Rattle.qcow2_image.specs.declared.prepared.ClusterMapping.TheVariants.{InPlace, Kept, New}
-use Rattle.qcow2_image.specs.InternalSteps.{freed_by, HoldsAll}
-use Rattle.qcow2_image.specs.ImageInvariant.{of_data, of_tables, to_free, new_data_in, new_data_by, over_all, is_entered, cluster_of, begin_of, host_begin_of, place_of, mapping_of_cluster, IsClusterMappingAt, IsPending, IsReadyWith, is_private, ImageInvariant}
+use Rattle.qcow2_image.proofs.Common.{◌≡◌, inl, inr, ℕ, zero, suc, ◌+◌, ◌-◌, ◌*◌, ◌/◌, ◌%◌, ◌<◌, ◌≤◌, Bool, true, false, List, [], ◌∷◌, ◌++◌, length, Option, Some, None, refl, sym, ap, ◌∙◌, subst, arith, cond, IsTrue, nat_le, slice_get, slice_set, option_map_or, cases_lt, cond-true, cond-false, le-leb, lt-leb, div-add-mod', div-mul-add, mod-mul-add, mod_below, pow_pos, append_assoc, BackingView, StorageView, Bytes, HeaderFields, cluster_size, cover, in_cluster, named_by_cover, Zero, Pending, over_guests, names, DriverState, StateInvariant, used_by_guests, in_own, kept_aligned, tied, in_one, named_some, data_entry, ClustersToFreeEntry, state_in, contents_in, known_in, run_in, Qcow2, Prepared, ClusterMapping, InPlace, Kept, New, freed_by, HoldsAll, of_data, of_tables, to_free, new_data_in, new_data_by, over_all, is_entered, cluster_of, begin_of, host_begin_of, place_of, mapping_of_cluster, IsClusterMappingAt, IsPending, IsReadyWith, is_private, ImageInvariant}
 use Rattle.qcow2_image.proofs.Images.Inside.{names_inside}
 use Rattle.qcow2_image.proofs.Images.Sound.{free_more}
 

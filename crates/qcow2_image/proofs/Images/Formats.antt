@@ -1,23 +1,5 @@
 -- What stays the same in an image if its header does, except the pointer to the reftable.
-use Rattle.std.proofs.Common.{◌≡◌, ℕ, sym, ◌∙◌, subst}
-use Rattle.std.specs.Prelude.{Option, None, Some}
-use Rattle.qcow2_metadata.specs.Bytes.{Bytes}
-use Rattle.qcow2_metadata.specs.declared.header.HeaderFields.{HeaderFields}
-use Rattle.qcow2_metadata.specs.Header.{with_reftable}
-use Rattle.qcow2_metadata.specs.Entries.{l1_entry}
-use Rattle.qcow2_metadata.specs.Cover.{cover, cover_under}
-use Rattle.qcow2_metadata.specs.L2Table.{L2TableView}
-use Rattle.qcow2_laws.specs.Internal.{KeepsFormat}
-use Rattle.qcow2_laws.proofs.Formats.{l1_format}
-use Rattle.qcow2_alloc.specs.FreeList.{ListsTables}
-use Rattle.qcow2_alloc.specs.MetadataCaches.{IsEntryAt}
-use Rattle.qcow2_image.specs.declared.image.Qcow2.{Qcow2}
-use Rattle.qcow2_image.specs.declared.prepared.Prepared.{Prepared}
-use Rattle.qcow2_image.specs.declared.prepared.ClusterMapping.{ClusterMapping}
-use Rattle.qcow2_image.specs.declared.prepared.ClusterMapping.TheVariants.{InPlace, Kept, New}
-use Rattle.qcow2_image.specs.NewTables.{SaysKnown}
-use Rattle.qcow2_image.specs.InternalSteps.{ListGrows}
-use Rattle.qcow2_image.specs.ImageInvariant.{IsClusterMappingAt, IsReadyWith}
+use Rattle.qcow2_image.proofs.Common.{◌≡◌, ℕ, sym, ◌∙◌, subst, Option, None, Some, Bytes, HeaderFields, with_reftable, l1_entry, cover, cover_under, L2TableView, KeepsFormat, l1_format, ListsTables, IsEntryAt, Qcow2, Prepared, ClusterMapping, InPlace, Kept, New, SaysKnown, ListGrows, IsClusterMappingAt, IsReadyWith}
 
 -- ---- what is read with it
 module _ (h : HeaderFields) (offset clusters : ℕ) (known on_storage : Bytes) where

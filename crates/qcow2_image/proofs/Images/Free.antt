@@ -1,23 +1,5 @@
 -- Empty slots make no difference to an image, a sound image is whole, and from now on its storage has only had its present contents.
-use Rattle.std.proofs.Common.{◌≡◌, ℕ, zero, suc, ◌+◌, ◌-◌, ◌≤◌, List, [], ◌∷◌, ◌++◌, sym, ap, ◌∙◌, subst, Option, Some, None, arith, refl}
-use Rattle.std.specs.Prelude.{slice_get}
-use Rattle.std.specs.Option.{option_map_or}
-use mathlib.Core.Path.{fun_ext}
-use Rattle.image_access.specs.Backing.{BackingView}
-use Rattle.image_access.specs.Moments.{StorageView}
-use Rattle.qcow2_metadata.specs.Entries.{count}
-use Rattle.qcow2_metadata.specs.Header.{cluster_size}
-use Rattle.qcow2_metadata.specs.Named.{named}
-use Rattle.qcow2_metadata.specs.declared.header.HeaderFields.{HeaderFields}
-use Rattle.qcow2_laws.specs.CrashInvariant.{Pending}
-use Rattle.qcow2_disk.specs.AbstractImages.{HasFreePlaces, IsWhole}
-use Rattle.qcow2_laws.proofs.Steps.{sound_is_consistent}
-use Rattle.qcow2_laws.proofs.Internal.{known_header}
-use Rattle.qcow2_alloc.specs.ImageFile.{state_in, view_in, known_in, FileInvariant}
-use Rattle.qcow2_alloc.specs.ImageStorage.{storage_of}
-use Rattle.qcow2_image.specs.declared.image.Qcow2.{Qcow2}
-use Rattle.qcow2_image.specs.declared.prepared.Prepared.{Prepared}
-use Rattle.qcow2_image.specs.ImageInvariant.{over_all, new_data_by, pins_by, to_free, of_tables, of_data, pending_in, ImageInvariant, image_abstraction, abstract_of}
+use Rattle.qcow2_image.proofs.Common.{◌≡◌, ℕ, zero, suc, ◌+◌, ◌-◌, ◌≤◌, List, [], ◌∷◌, ◌++◌, sym, ap, ◌∙◌, subst, Option, Some, None, arith, refl, slice_get, option_map_or, fun_ext, BackingView, StorageView, count, cluster_size, named, HeaderFields, Pending, HasFreePlaces, IsWhole, sound_is_consistent, known_header, state_in, view_in, known_in, FileInvariant, storage_of, Qcow2, Prepared, over_all, new_data_by, pins_by, to_free, of_tables, of_data, pending_in, ImageInvariant, image_abstraction, abstract_of}
 
 over_all_free : (f : Prepared → ℕ → ℕ) (a b : List (Option Prepared)) (k : ℕ) → over_all f (a ++ None ∷ b) k ≡ over_all f (a ++ b) k
 over_all_free f [] b k = omega arith

@@ -1,22 +1,5 @@
 -- Bytes that are private to a prepared mapping are hidden from stops, unless a zero entry keeps their host cluster.
-use Rattle.std.proofs.Common.{◌≡◌, ◌⊎◌, inl, inr, ℕ, ◌+◌, ◌/◌, true, false, List, Option, Some, IsTrue, sym, ap, ◌∙◌, subst}
-use Rattle.std.specs.Prelude.{slice_get}
-use Rattle.std.specs.Option.{option_map_or}
-use Rattle.image_access.specs.Backing.{BackingView}
-use Rattle.image_access.specs.Moments.{StorageView}
-use Rattle.qcow2_metadata.specs.Cover.{cover}
-use Rattle.qcow2_metadata.specs.Header.{header, cluster_size}
-use Rattle.qcow2_metadata.specs.declared.header.HeaderFields.{HeaderFields}
-use Rattle.qcow2_metadata.specs.declared.l2_mapping.L2Mapping.TheVariants.{Zero}
-use Rattle.qcow2_disk.specs.Mappings.{IsHiddenIn}
-use Rattle.qcow2_laws.specs.SafeSteps.{DriverState}
-use Rattle.qcow2_laws.proofs.Internal.{known_header}
-use Rattle.qcow2_alloc.specs.ImageFile.{state_in, known_in}
-use Rattle.qcow2_image.specs.declared.image.Qcow2.{Qcow2}
-use Rattle.qcow2_image.specs.declared.prepared.Prepared.{Prepared}
-use Rattle.qcow2_image.specs.declared.prepared.ClusterMapping.{ClusterMapping}
-use Rattle.qcow2_image.specs.declared.prepared.ClusterMapping.TheVariants.{InPlace, Kept, New}
-use Rattle.qcow2_image.specs.ImageInvariant.{pending_in, meaning, host_begin_of, is_entered, is_new, is_private, is_hidden, mapping_of_cluster, IsClusterMappingAt, ImageInvariant}
+use Rattle.qcow2_image.proofs.Common.{◌≡◌, ◌⊎◌, inl, inr, ℕ, ◌+◌, ◌/◌, true, false, List, Option, Some, IsTrue, sym, ap, ◌∙◌, subst, slice_get, option_map_or, BackingView, StorageView, cover, header, cluster_size, HeaderFields, Zero, IsHiddenIn, DriverState, known_header, state_in, known_in, Qcow2, Prepared, ClusterMapping, InPlace, Kept, New, pending_in, meaning, host_begin_of, is_entered, is_new, is_private, is_hidden, mapping_of_cluster, IsClusterMappingAt, ImageInvariant}
 use Rattle.qcow2_image.proofs.Images.ClusterMappings.{private_shared, ready_table, mapping_here}
 
 module _ {S F : Type 0} (view : S → StorageView) (backing : F → BackingView) (image : Qcow2 S F) (out : List (Option Prepared)) (sound : ImageInvariant view backing (pending_in view backing image out) image out) where

@@ -1,25 +1,5 @@
 -- What stays the same when an image's tables move.
-use Rattle.std.proofs.Common.{◌≡◌, ℕ, ◌+◌, ◌/◌, ◌%◌, true, refl, sym, ap, ◌∙◌, subst}
-use Rattle.std.specs.Prelude.{Option, None, Some}
-use Rattle.qcow2_metadata.specs.Bytes.{Bytes}
-use Rattle.qcow2_metadata.specs.declared.header.HeaderFields.{HeaderFields}
-use Rattle.qcow2_metadata.specs.Header.{cluster_size, entries_per_cluster, with_l1_table, with_tables_of}
-use Rattle.qcow2_metadata.specs.Cover.{cover}
-use Rattle.qcow2_disk.specs.Alike.{IsDataAt}
-use Rattle.qcow2_metadata.specs.Entries.{l1_entry, host_offset, is_copied}
-use Rattle.qcow2_metadata.specs.L2Mapping.{IsInReach, named_run}
-use Rattle.qcow2_laws.specs.CrashInvariant.{SameCovers}
-use Rattle.qcow2_laws.specs.Guests.{table_at}
-use Rattle.qcow2_disk.specs.Mappings.{is_copied_data}
-use Rattle.qcow2_laws.specs.Tops.{places_of, with_places}
-use Rattle.qcow2_laws.specs.Internal.{KeepsFormat}
-use Rattle.qcow2_laws.proofs.Formats.{cover_format}
-use Rattle.qcow2_image.specs.declared.prepared.Prepared.{Prepared}
-use Rattle.qcow2_image.specs.declared.prepared.ClusterMapping.{ClusterMapping}
-use Rattle.qcow2_image.specs.declared.prepared.ClusterMapping.TheVariants.{InPlace, Kept, New}
-use Rattle.qcow2_image.specs.Growing.{SameFormat}
-use Rattle.qcow2_image.specs.ImageInvariant.{cluster_of, listed_run, IsReadyWith, IsClusterMappingAt}
-use Rattle.qcow2_image.specs.MovedTables.{MovesTables, CoversStay}
+use Rattle.qcow2_image.proofs.Common.{◌≡◌, ℕ, ◌+◌, ◌/◌, ◌%◌, true, refl, sym, ap, ◌∙◌, subst, Option, None, Some, Bytes, HeaderFields, cluster_size, entries_per_cluster, with_l1_table, with_tables_of, cover, IsDataAt, l1_entry, host_offset, is_copied, IsInReach, named_run, SameCovers, table_at, is_copied_data, places_of, with_places, KeepsFormat, cover_format, Prepared, ClusterMapping, InPlace, Kept, New, SameFormat, cluster_of, listed_run, IsReadyWith, IsClusterMappingAt, MovesTables, CoversStay}
 
 -- ---- the header
 

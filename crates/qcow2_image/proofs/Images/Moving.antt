@@ -1,26 +1,5 @@
 -- A step on an image's file that guests don't see, as a step on the image.
-use Rattle.std.proofs.Common.{◌≡◌, ℕ, ◌+◌, ◌/◌, ◌<◌, List, [], Option, Some, refl, sym, ap, ◌∙◌, subst}
-use Rattle.std.specs.Prelude.{IfSome}
-use Rattle.std.proofs.lemmas.List.{append-nil}
-use Rattle.image_access.specs.Backing.{BackingView}
-use Rattle.image_access.specs.Moments.{StorageView}
-use Rattle.qcow2_metadata.specs.declared.header.HeaderFields.{HeaderFields}
-use Rattle.qcow2_metadata.specs.Header.{cluster_size}
-use Rattle.qcow2_laws.specs.CrashInvariant.{Pending}
-use Rattle.qcow2_laws.specs.Internal.{KeepsFormat}
-use Rattle.qcow2_laws.proofs.Formats.{l1_format}
-use Rattle.qcow2_alloc.specs.Allocation.{SameLeaks}
-use Rattle.qcow2_alloc.specs.CachePins.{l2_pins}
-use Rattle.qcow2_alloc.specs.declared.allocation.Allocator.{Allocator}
-use Rattle.qcow2_alloc.specs.declared.image_file.ImageFile.{ImageFile}
-use Rattle.qcow2_alloc.specs.ImageFile.{contents_in, known_in, InternalFileStep, InternalFileGrowth}
-use Rattle.qcow2_alloc.proofs.FileSteps.{file_step_on}
-use Rattle.qcow2_alloc.specs.KeptAllocators.{IsAllocatorOf}
-use Rattle.qcow2_image.specs.declared.image.Qcow2.{Qcow2}
-use Rattle.qcow2_image.specs.declared.prepared.Prepared.{Prepared}
-use Rattle.qcow2_image.specs.Image.{leaked_by, leaked_in}
-use Rattle.qcow2_image.specs.InternalSteps.{InternalStep, ListGrows, InternalFreeingStep}
-use Rattle.qcow2_image.specs.ImageInvariant.{cluster_of, HasL1Table, IsReadyWith, ImageInvariant}
+use Rattle.qcow2_image.proofs.Common.{◌≡◌, ℕ, ◌+◌, ◌/◌, ◌<◌, List, [], Option, Some, refl, sym, ap, ◌∙◌, subst, IfSome, append-nil, BackingView, StorageView, HeaderFields, cluster_size, Pending, KeepsFormat, l1_format, SameLeaks, l2_pins, Allocator, ImageFile, contents_in, known_in, InternalFileStep, InternalFileGrowth, file_step_on, IsAllocatorOf, Qcow2, Prepared, leaked_by, leaked_in, InternalStep, ListGrows, InternalFreeingStep, cluster_of, HasL1Table, IsReadyWith, ImageInvariant}
 use Rattle.qcow2_image.proofs.Images.Formats.{l1_shared, ready_format}
 use Rattle.qcow2_image.proofs.Images.Ready.{still_ready}
 

@@ -1,18 +1,7 @@
 -- On a sound image the size that a guest sees is the header's, and no call is refused as on an unusable one.
-use Rattle.std.proofs.Common.{◌≡◌, ◌∙◌, false, None, sym, ap, List, Option}
-use Rattle.std.specs.Option.{option_or}
-use Rattle.image_access.specs.Backing.{BackingView}
-use Rattle.image_access.specs.Moments.{StorageView}
-use Rattle.qcow2_metadata.specs.Header.{has_data_file}
+use Rattle.qcow2_image.proofs.Common.{◌≡◌, ◌∙◌, false, None, sym, ap, List, Option, option_or, BackingView, StorageView, has_data_file, guest_of, state_in, Qcow2, Prepared, size_of, is_external, abstract_of, pending_in, backing_bytes, refuse_if, unusable}
 use Rattle.qcow2_laws.proofs.Shown.{shown_size}
-use Rattle.qcow2_disk.specs.AbstractImages.{guest_of}
 use Rattle.qcow2_alloc.specs.declared.error.ImageError.TheVariants as I
-use Rattle.qcow2_alloc.specs.ImageFile.{state_in}
-use Rattle.qcow2_image.specs.declared.image.Qcow2.{Qcow2}
-use Rattle.qcow2_image.specs.declared.prepared.Prepared.{Prepared}
-use Rattle.qcow2_image.specs.Image.{size_of, is_external}
-use Rattle.qcow2_image.specs.ImageInvariant.{abstract_of, pending_in, backing_bytes}
-use Rattle.qcow2_image.specs.Refusals.{refuse_if, unusable}
 
 module _ {S F : Type 0} (view : S → StorageView) (backing : F → BackingView) (image : Qcow2 S F) (out : List (Option Prepared)) (sound : (abstract_of view backing image out).is_sound) where
   pub disk_size : size_of image ≡ (guest_of (abstract_of view backing image out)).disk.size

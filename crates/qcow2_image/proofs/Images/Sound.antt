@@ -1,20 +1,5 @@
 -- A part of a call that guests don't see: the image is sound again, the guest sees what it saw, and a stop is as safe as before.
-use Rattle.std.proofs.Common.{◌≡◌, ℕ, ◌+◌, ◌-◌, List, ap, ◌∙◌, arith}
-use Rattle.std.specs.Prelude.{Option}
-use mathlib.Core.Path.{fun_ext}
-use Rattle.image_access.specs.Backing.{BackingView}
-use Rattle.image_access.specs.Moments.{StorageView}
-use Rattle.qcow2_metadata.specs.Entries.{count}
-use Rattle.qcow2_metadata.specs.Named.{named}
-use Rattle.qcow2_laws.specs.CrashInvariant.{Pending}
-use Rattle.qcow2_laws.specs.SafeSteps.{DriverState, StateInvariant}
-use Rattle.qcow2_laws.proofs.Guests.{named-is, own_data_of}
-use Rattle.qcow2_laws.proofs.Places.{Sizes-from}
-use Rattle.qcow2_laws.proofs.Tops.{for_tables-top, IsTop-top}
-use Rattle.qcow2_image.specs.declared.image.Qcow2.{Qcow2}
-use Rattle.qcow2_image.specs.declared.prepared.Prepared.{Prepared}
-use Rattle.qcow2_image.specs.ImageInvariant.{of_data, of_tables, to_free, new_data_by, over_all, pending_in}
-use Rattle.qcow2_alloc.specs.ImageFile.{state_in}
+use Rattle.qcow2_image.proofs.Common.{◌≡◌, ℕ, ◌+◌, ◌-◌, List, ap, ◌∙◌, arith, Option, fun_ext, BackingView, StorageView, count, named, Pending, DriverState, StateInvariant, named-is, own_data_of, Sizes-from, for_tables-top, IsTop-top, Qcow2, Prepared, of_data, of_tables, to_free, new_data_by, over_all, pending_in, state_in}
 pub use Rattle.qcow2_alloc.proofs.Freeing.{free_more}
 
 -- ---- what is pending

@@ -1,19 +1,6 @@
 -- The mappings of guest clusters that a call gives no byte of.
-use Rattle.std.proofs.Common.{ℕ, ◌+◌, ◌-◌, ◌*◌, ◌/◌, ◌%◌, ◌≡◌, ◌<◌, ◌≤◌, List, [], ◌∷◌, inl, inr, sym, ap, ◌∙◌, arith}
-use Rattle.std.proofs.lemmas.Bool.{cases_lt}
-use Rattle.std.proofs.lemmas.Nat.{div-add-mod', mod_below}
-use Rattle.image_access.specs.Moments.{StorageView}
-use Rattle.qcow2_metadata.specs.Cover.{cover}
-use Rattle.qcow2_metadata.specs.Header.{cluster_size, rounded_down, rounded_up}
-use Rattle.qcow2_metadata.specs.declared.header.HeaderFields.{HeaderFields}
-use Rattle.qcow2_disk.specs.Stops.{GivenBytes}
-use Rattle.qcow2_disk.specs.UngivenCovers.{IsUngiven, Touches, UngivenStay}
-use Rattle.qcow2_laws.specs.CrashInvariant.{Pending}
-use Rattle.qcow2_laws.specs.SafeSteps.{StateInvariant}
-use Rattle.qcow2_laws.proofs.Internal.{known_header}
-use Rattle.qcow2_alloc.specs.ImageFile.{known_in, state_in}
-use Rattle.qcow2_alloc.specs.declared.image_file.ImageFile.{ImageFile}
-use Rattle.qcow2_image.specs.MovedTables.{CoversStay}
+use Rattle.qcow2_image.proofs.Common.{ℕ, ◌+◌, ◌-◌, ◌*◌, ◌/◌, ◌%◌, ◌≡◌, ◌<◌, ◌≤◌, List, [], ◌∷◌, inl, inr, sym, ap, ◌∙◌, arith, cases_lt, div-add-mod', mod_below, StorageView, cover, cluster_size, rounded_down, rounded_up, HeaderFields, GivenBytes, IsUngiven, UngivenStay, Pending, StateInvariant, known_header, known_in, state_in, ImageFile, CoversStay}
+use Rattle.qcow2_disk.specs.UngivenCovers.{Touches}
 
 module _ {S : Type 0} (view : S → StorageView) (old new : ImageFile S) (p p' : Pending) (sound : StateInvariant (state_in view old p)) (sound' : StateInvariant (state_in view new p')) where
   -- by the headers in memory, and so by those that the known bytes hold

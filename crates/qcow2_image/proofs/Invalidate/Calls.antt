@@ -1,30 +1,6 @@
 -- An image whose tables were dropped and read again, from the parts of the call.
-use Rattle.std.proofs.Common.{◌≡◌, ℕ, ◌<◌, ◌≤◌, ◌*◌, List, inl, inr, Result, Ok, Err, refl, sym, ap, ◌∙◌, subst}
-use Rattle.std.specs.Prelude.{IfSome, IsErrAnd, IsSome, OnOk, Option}
-use Rattle.image_access.specs.Backing.{BackingView}
-use Rattle.image_access.specs.Moments.{StorageView}
-use Rattle.qcow2_metadata.specs.Bytes.{byte_at}
-use Rattle.qcow2_metadata.specs.Header.{HeaderView, entries_per_cluster, header, with_fields, with_tables_of}
-use Rattle.qcow2_metadata.specs.declared.header.HeaderFields.{HeaderFields}
-use Rattle.qcow2_laws.specs.CrashInvariant.{Pending}
-use Rattle.qcow2_alloc.specs.CachePins.{l2_pins, CachesHaveRoom}
-use Rattle.qcow2_alloc.specs.ImageError.{IsFault}
-use Rattle.qcow2_alloc.specs.ImageFile.{contents_in, known_in, view_in, HasReftable}
-use Rattle.qcow2_alloc.specs.MetadataCaches.{l2_at, rb_at, AreAllWritten}
-use Rattle.qcow2_alloc.specs.declared.cache.MetadataCaches.{MetadataCaches}
-use Rattle.qcow2_alloc.specs.declared.error.ImageError.{ImageError}
+use Rattle.qcow2_image.proofs.Common.{◌≡◌, ℕ, ◌<◌, ◌≤◌, ◌*◌, List, inl, inr, Result, Ok, Err, refl, sym, ap, ◌∙◌, subst, IfSome, IsErrAnd, IsSome, OnOk, Option, BackingView, StorageView, byte_at, HeaderView, entries_per_cluster, header, with_fields, with_tables_of, HeaderFields, Pending, l2_pins, CachesHaveRoom, IsFault, contents_in, known_in, view_in, HasReftable, l2_at, rb_at, AreAllWritten, MetadataCaches, ImageError, ImageFile, notes_then, is_writable, leaked_in, ImageStays, IsBegun, HasL1Table, ImageInvariant, ImageStep, ArePlacesFor, DropsCached, RespectsPrepared, HoldsNoTable, IsAsStored, IsAtRest, IsReasonAgainstPlaces, IsReasonAgainstReading, IsOfPrepared, IsReasonNotToRead, IsStillInUse, KeepsTables, ReadsAnew, ReadsPlaces, ReplacesTables, reftable_in, HasPinnedTable, IsReasonAgainstTables, ContentsStayThroughout, Qcow2, Prepared}
 use Rattle.qcow2_alloc.specs.declared.error.ImageError.TheVariants as I
-use Rattle.qcow2_alloc.specs.declared.image_file.ImageFile.{ImageFile}
-use Rattle.qcow2_alloc.proofs.KeptMarks.{notes_then}
-use Rattle.qcow2_image.specs.Image.{is_writable, leaked_in, ImageStays, IsBegun}
-use Rattle.qcow2_image.specs.ImageInvariant.{HasL1Table, ImageInvariant}
-use Rattle.qcow2_image.specs.ImageSteps.{ImageStep}
-use Rattle.qcow2_image.specs.Invalidated.{ArePlacesFor, DropsCached, RespectsPrepared, HoldsNoTable, IsAsStored, IsAtRest, IsReasonAgainstPlaces, IsReasonAgainstReading, IsOfPrepared, IsReasonNotToRead, IsStillInUse, KeepsTables, ReadsAnew, ReadsPlaces, ReplacesTables, reftable_in}
-use Rattle.qcow2_image.specs.PinnedTables.{HasPinnedTable}
-use Rattle.qcow2_image.specs.Readable.{IsReasonAgainstTables}
-use Rattle.qcow2_image.specs.Unwritten.{ContentsStayThroughout}
-use Rattle.qcow2_image.specs.declared.image.Qcow2.{Qcow2}
-use Rattle.qcow2_image.specs.declared.prepared.Prepared.{Prepared}
 use Rattle.qcow2_image.proofs.Call.BehindHeader.{behind_then}
 use Rattle.qcow2_image.proofs.Call.ImageSteps.{step_then}
 use Rattle.qcow2_image.proofs.Invalidate.Reading.{silent_none, silent_then, stays_over}

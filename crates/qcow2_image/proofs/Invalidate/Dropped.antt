@@ -1,52 +1,14 @@
 -- Tables of an image at rest are dropped, which guests don't see.
-use Rattle.std.proofs.lemmas.Bool.{cases_Bool}
-use Rattle.std.proofs.Common.{◌≡◌, ℕ, ◌<◌, ◌/◌, ◌==◌, Bool, false, inl, inr, List, [], ◌∷◌, length, map, Option, Some, None, Result, Ok, Err, refl, sym, ap, ◌∙◌, subst, arith}
-use Rattle.std.specs.Prelude.{◌≢◌, IfErr, IfSome, OnOk}
-use mathlib.Core.Path.{fun_ext}
-use Rattle.image_access.specs.Backing.{BackingView}
-use Rattle.image_access.specs.Moments.{StorageView}
-use Rattle.qcow2_metadata.specs.Bytes.{Bytes, byte_at}
-use Rattle.qcow2_metadata.specs.EntryTable.{EntryTableView, entry_count}
-use Rattle.qcow2_metadata.specs.Header.{cluster_size}
-use Rattle.qcow2_metadata.specs.L2Table.{L2TableView}
-use Rattle.qcow2_metadata.specs.declared.header.HeaderFields.{HeaderFields}
-use Rattle.qcow2_laws.specs.Caches.{AreClean}
-use Rattle.qcow2_laws.specs.Clusters.{Direction}
-use Rattle.qcow2_laws.specs.CrashInvariant.{Pending, CrashInvariant}
-use Rattle.qcow2_alloc.specs.AsyncLruCache.{is_pinned, pinned, pins_at, value_at}
-use Rattle.qcow2_alloc.specs.CachePins.{l2_pins, CachesHaveRoom, LeavesPinned}
-use Rattle.qcow2_alloc.specs.BehindHeader.{KeepBehindHeader}
-use Rattle.qcow2_alloc.specs.ImageFile.{contents_in, known_in, view_in}
+use Rattle.qcow2_image.proofs.Common.{cases_Bool, ◌≡◌, ℕ, ◌<◌, ◌/◌, ◌==◌, Bool, false, inl, inr, List, [], ◌∷◌, length, map, Option, Some, None, Result, Ok, Err, refl, sym, ap, ◌∙◌, subst, arith, ◌≢◌, IfErr, IfSome, OnOk, fun_ext, BackingView, StorageView, Bytes, byte_at, EntryTableView, entry_count, cluster_size, L2TableView, HeaderFields, AreClean, Direction, Pending, CrashInvariant, is_pinned, pinned, pins_at, value_at, l2_pins, CachesHaveRoom, LeavesPinned, KeepBehindHeader, contents_in, known_in, view_in, known_of, l2_tables, order_of, refblocks, AreAllWritten, CacheInvariant, Evict, EvictsTable, InternalCacheStep, Slot, ClustersToFreeEntry, ImageError, ImageFile, IsAllocatorOf, SearchesAnew, Allocator, MetadataCaches, safe_none, pinned_gone, pinned_kept, bytes_stay, IsBesideNumbers, KeepsTablesBehind, CountsImageFaults, SameFaults, leaked_by, leaked_in, RespectsPrepared, HoldsNoTable, HoldsPinnedAlone, IsAtRest, IsReasonAgainstReading, HasPinnedTable, HasL1Table, ImageInvariant, InternalStep, Qcow2, Prepared}
 use Rattle.qcow2_alloc.specs.KeptTables.{cached_tables}
-use Rattle.qcow2_alloc.specs.MetadataCaches.{known_of, l2_tables, order_of, refblocks, AreAllWritten, CacheInvariant, Evict, EvictsTable, InternalCacheStep}
-use Rattle.qcow2_alloc.specs.declared.async_lru_cache.slot.Slot.{Slot}
-use Rattle.qcow2_alloc.specs.declared.clusters_to_free.ClustersToFreeEntry.{ClustersToFreeEntry}
-use Rattle.qcow2_alloc.specs.declared.error.ImageError.{ImageError}
 use Rattle.qcow2_alloc.specs.declared.error.ImageError.TheVariants as I
-use Rattle.qcow2_alloc.specs.declared.image_file.ImageFile.{ImageFile}
-use Rattle.qcow2_alloc.specs.KeptAllocators.{IsAllocatorOf}
-use Rattle.qcow2_alloc.specs.LowestRuns.{SearchesAnew}
-use Rattle.qcow2_alloc.specs.declared.allocation.Allocator.{Allocator}
-use Rattle.qcow2_alloc.specs.declared.cache.MetadataCaches.{MetadataCaches}
-use Rattle.qcow2_alloc.proofs.KeptTables.Switching.{safe_none}
 use Rattle.qcow2_alloc.proofs.CachedEntries.FirstPinned.{none_pinned}
-use Rattle.qcow2_alloc.proofs.CachedEntries.Lists.{pinned_gone, pinned_kept}
 use Rattle.qcow2_alloc.proofs.CachedEntries.Pins.{pinned_twice}
-use Rattle.qcow2_alloc.proofs.HeaderClusters.{bytes_stay}
-use Rattle.qcow2_image.specs.BehindHeader.{IsBesideNumbers, KeepsTablesBehind}
-use Rattle.qcow2_image.specs.Faults.{CountsImageFaults, SameFaults}
-use Rattle.qcow2_image.specs.Image.{leaked_by, leaked_in}
-use Rattle.qcow2_image.specs.Invalidated.{RespectsPrepared, HoldsNoTable, HoldsPinnedAlone, IsAtRest, IsReasonAgainstReading}
-use Rattle.qcow2_image.specs.PinnedTables.{HasPinnedTable}
 use Rattle.qcow2_image.proofs.Call.FaultCounts.{counted_ok, fewer_of}
 use Rattle.qcow2_image.proofs.Call.Called.{keeps_then}
 use Rattle.qcow2_image.proofs.Invalidate.Pinned.{held_pinned, some_pinned}
 use Rattle.qcow2_image.proofs.Invalidate.Reading.{begins_over}
 use Rattle.qcow2_image.proofs.Map.Loading.{caches_moved}
-use Rattle.qcow2_image.specs.ImageInvariant.{HasL1Table, ImageInvariant}
-use Rattle.qcow2_image.specs.InternalSteps.{InternalStep}
-use Rattle.qcow2_image.specs.declared.image.Qcow2.{Qcow2}
-use Rattle.qcow2_image.specs.declared.prepared.Prepared.{Prepared}
 
 module _ {S : Type 0} (h : HeaderFields) (p : Pending) (v : StorageView) (caches caches' : MetadataCaches S) (sound : CacheInvariant h p caches (byte_at v.contents))
     (rest : known_of h caches (byte_at v.contents) ≡ byte_at v.contents) {U : Type 0} (off : Evict U h caches caches' (byte_at v.contents)) where

@@ -1,12 +1,5 @@
 -- Entries of a cache that are all pinned, as invalidating the cache leaves them.
-use Rattle.std.proofs.lemmas.Bool.Decides.{nat_tests}
-use Rattle.std.proofs.Common.{◌≡◌, ℕ, ◌<◌, ◌==◌, Bool, true, false, List, [], ◌∷◌, length, inl, inr, refl, sym, ap, ◌∙◌, subst, arith}
-use Rattle.std.specs.Prelude.{IsSome, Option, Some, None}
-use Rattle.std.specs.Map.{lookup}
-use Rattle.std.proofs.lemmas.Bool.{cases_Bool, eq-eqb}
-use Rattle.qcow2_alloc.specs.AsyncLruCache.{is_pinned, pinned, pins_at, value_at}
-use Rattle.qcow2_alloc.specs.declared.async_lru_cache.slot.Slot.{Slot}
-use Rattle.qcow2_alloc.proofs.CachedEntries.Lists.{length-pinned, pinned_gone, pinned_kept}
+use Rattle.qcow2_image.proofs.Common.{nat_tests, ◌≡◌, ℕ, ◌<◌, ◌==◌, Bool, true, false, List, [], ◌∷◌, length, inl, inr, refl, sym, ap, ◌∙◌, subst, arith, IsSome, Option, Some, None, lookup, cases_Bool, eq-eqb, is_pinned, pinned, pins_at, value_at, Slot, length-pinned, pinned_gone, pinned_kept}
 
 module _ {V : Type 0} where
   tail_is : {e : ℕ × Slot V} {es fs : List (ℕ × Slot V)} → e ∷ es ≡ e ∷ fs → es ≡ fs

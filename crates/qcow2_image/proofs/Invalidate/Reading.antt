@@ -1,41 +1,6 @@
 -- Reading the tables again returns what was in memory.
-use Rattle.std.proofs.Common.{◌≡◌, inl, inr, ℕ, Bool, List, Option, Some, None, Result, refl, sym, ap, ◌∙◌, subst, arith}
-use Rattle.image_access.specs.Backing.{BackingView}
-use Rattle.image_access.specs.Moments.{StorageView, ContentsStay, EachMomentSince, IsLeftBy}
-use Rattle.image_access.proofs.EachMomentSince.{passes_if, passes_none, passes_on}
-use Rattle.qcow2_metadata.specs.Bytes.{Bytes, byte_at}
-use Rattle.qcow2_metadata.specs.Entries.{l1_entry, reftable_entry}
-use Rattle.qcow2_metadata.specs.EntryTable.{EntryTableView}
-use Rattle.qcow2_metadata.specs.Header.{HeaderView, header, with_fields, with_tables_of}
-use Rattle.qcow2_metadata.specs.MetadataError.{OnlyReads}
-use Rattle.qcow2_metadata.specs.declared.error.MetadataError.{MetadataError}
-use Rattle.qcow2_metadata.specs.declared.header.HeaderFields.{HeaderFields}
-use Rattle.qcow2_laws.specs.CrashInvariant.{Pending, IsTop}
-use Rattle.qcow2_alloc.specs.ImageFile.{view_in, contents_in, HasReftable}
-use Rattle.qcow2_alloc.specs.ImageStorage.{storage_of}
-use Rattle.qcow2_alloc.specs.KeptAllocators.{IsAllocatorOf}
-use Rattle.qcow2_alloc.specs.LowestRuns.{IsPassed, SearchesAnew}
-use Rattle.qcow2_alloc.proofs.KeptAllocators.{anew_kept}
-use Rattle.qcow2_alloc.specs.declared.allocation.Allocator.{Allocator}
-use Rattle.qcow2_alloc.specs.declared.image_file.ImageFile.{ImageFile}
-use Rattle.qcow2_alloc.specs.declared.image_storage.ImageStorage.{ImageStorage}
-use Rattle.qcow2_image.specs.ImageInvariant.{HasL1Table, ImageInvariant}
-use Rattle.qcow2_image.specs.InternalSteps.{InternalStep}
-use Rattle.qcow2_image.specs.Unwritten.{ContentsStayThroughout}
-use Rattle.qcow2_image.specs.declared.image.Qcow2.{Qcow2}
-use Rattle.qcow2_image.specs.declared.prepared.Prepared.{Prepared}
+use Rattle.qcow2_image.proofs.Common.{◌≡◌, inl, inr, ℕ, Bool, List, Option, Some, None, Result, refl, sym, ap, ◌∙◌, subst, arith, BackingView, StorageView, ContentsStay, EachMomentSince, IsLeftBy, passes_if, passes_none, passes_on, Bytes, byte_at, l1_entry, reftable_entry, EntryTableView, HeaderView, header, with_fields, with_tables_of, OnlyReads, MetadataError, HeaderFields, Pending, IsTop, view_in, contents_in, HasReftable, storage_of, IsAllocatorOf, IsPassed, SearchesAnew, anew_kept, Allocator, ImageFile, ImageStorage, HasL1Table, ImageInvariant, InternalStep, ContentsStayThroughout, Qcow2, Prepared, CountsChanges, counts_none, changes_of, is_changed_of, SameNotes, KeepsNotes, StandsBehindHeader, is_some, bytes_stay, same_kept, notes_of_storage, IsBesideNumbers, IsL1TableBehind, KeepsTablesBehind, NamesTablesBehind, TablesBehindHeader, leaked_by, leaked_in, ReadsPlaces, ReadsTables, WritesNothing, MetadataCaches}
 use Rattle.qcow2_image.proofs.Map.Loading.{still_moved}
-use Rattle.qcow2_alloc.specs.CountedChanges.{CountsChanges, counts_none}
-use Rattle.qcow2_alloc.specs.ImageStorage.{changes_of, is_changed_of, SameNotes}
-use Rattle.qcow2_alloc.specs.KeptNotes.{KeepsNotes}
-use Rattle.qcow2_alloc.specs.SparedHeaders.{StandsBehindHeader}
-use Rattle.std.specs.Prelude.{is_some}
-use Rattle.qcow2_alloc.proofs.HeaderClusters.{bytes_stay, same_kept}
-use Rattle.qcow2_alloc.proofs.KeptMarks.{notes_of_storage}
-use Rattle.qcow2_image.specs.BehindHeader.{IsBesideNumbers, IsL1TableBehind, KeepsTablesBehind, NamesTablesBehind, TablesBehindHeader}
-use Rattle.qcow2_image.specs.Image.{leaked_by, leaked_in}
-use Rattle.qcow2_image.specs.Invalidated.{ReadsPlaces, ReadsTables, WritesNothing}
-use Rattle.qcow2_alloc.specs.declared.cache.MetadataCaches.{MetadataCaches}
 
 -- ---- storages whose contents stay
 

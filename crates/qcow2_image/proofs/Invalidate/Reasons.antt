@@ -1,18 +1,8 @@
 -- Reading the tables of a sound image again is refused only for a fault.
-use Rattle.std.proofs.Common.{◌≡◌, ℕ, ◌*◌, ◌<◌, Bool, inl, inr, refl, sym, subst, arith}
+use Rattle.qcow2_image.proofs.Common.{◌≡◌, ℕ, ◌*◌, ◌<◌, Bool, inl, inr, refl, sym, subst, arith, Bytes, header, entries_per_cluster, HeaderReads, HasAlignedTables, IsReasonToRefuse, MetadataError, HeaderFields, IsTop, IsFault, of_metadata, IsReasonAgainstL1Table, IsReasonAgainstReftable, ImageError, IsReasonAgainstPlaces}
 use Rattle.image_access.specs.declared.error.StorageError.TheVariants as S
-use Rattle.qcow2_metadata.specs.Bytes.{Bytes}
-use Rattle.qcow2_metadata.specs.Header.{header, entries_per_cluster, HeaderReads}
-use Rattle.qcow2_metadata.specs.HeaderLoad.{HasAlignedTables, IsReasonToRefuse}
-use Rattle.qcow2_metadata.specs.declared.error.MetadataError.{MetadataError}
 use Rattle.qcow2_metadata.specs.declared.error.MetadataError.TheVariants as M
-use Rattle.qcow2_metadata.specs.declared.header.HeaderFields.{HeaderFields}
-use Rattle.qcow2_laws.specs.CrashInvariant.{IsTop}
-use Rattle.qcow2_alloc.specs.ImageError.{IsFault, of_metadata}
-use Rattle.qcow2_alloc.specs.LoadedTables.{IsReasonAgainstL1Table, IsReasonAgainstReftable}
-use Rattle.qcow2_alloc.specs.declared.error.ImageError.{ImageError}
 use Rattle.qcow2_alloc.specs.declared.error.ImageError.TheVariants as I
-use Rattle.qcow2_image.specs.Invalidated.{IsReasonAgainstPlaces}
 
 module _ (h : HeaderFields) (b : Bytes) (top : IsTop h b) where
   pub l1_fault : (e : ImageError) → IsReasonAgainstL1Table h b e → IsFault e

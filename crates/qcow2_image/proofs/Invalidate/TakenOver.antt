@@ -1,26 +1,5 @@
 -- Tables are read with a header without names, and replace those in memory together with their pointers.
-use Rattle.std.proofs.Common.{◌≡◌, ◌∙◌, ◌<◌, ◌≤◌, Bool, false, true, ℕ, IsTrue, inl, inr, List, Option, Some, None, Result, Ok, Err, refl, sym, ap, subst}
-use Rattle.std.proofs.lemmas.Bool.{cases_lt}
-use Rattle.std.specs.Prelude.{IfSome, OnErr}
-use Rattle.image_access.specs.Backing.{BackingView}
-use Rattle.image_access.specs.Moments.{StorageView}
-use Rattle.qcow2_metadata.specs.EntryTable.{EntryTableView}
-use Rattle.qcow2_metadata.specs.Header.{HeaderView, has_data_file, with_fields, with_tables_of}
-use Rattle.qcow2_metadata.specs.declared.header.HeaderFields.{HeaderFields}
-use Rattle.qcow2_laws.specs.CrashInvariant.{Pending}
-use Rattle.qcow2_alloc.specs.ImageFile.{view_in, HasReftable}
-use Rattle.qcow2_alloc.specs.KeptAllocators.{IsAllocatorOf}
-use Rattle.qcow2_alloc.specs.declared.allocation.Allocator.{Allocator}
-use Rattle.qcow2_alloc.specs.declared.cache.MetadataCaches.{MetadataCaches}
-use Rattle.qcow2_alloc.specs.declared.error.ImageError.{ImageError}
-use Rattle.qcow2_alloc.specs.declared.image_file.ImageFile.{ImageFile}
-use Rattle.qcow2_image.specs.BehindHeader.{KeepsTablesBehind, NamesTablesBehind, TablesBehindHeader}
-use Rattle.qcow2_image.specs.Faults.{CountsImageFaults, ReportsEach}
-use Rattle.qcow2_image.specs.ImageInvariant.{HasL1Table, ImageInvariant}
-use Rattle.qcow2_image.specs.Invalidated.{KeepsTables, ReadsTables, ReplacesTables, reftable_in}
-use Rattle.qcow2_image.specs.InternalSteps.{InternalStep}
-use Rattle.qcow2_image.specs.declared.image.Qcow2.{Qcow2}
-use Rattle.qcow2_image.specs.declared.prepared.Prepared.{Prepared}
+use Rattle.qcow2_image.proofs.Common.{◌≡◌, ◌∙◌, ◌<◌, ◌≤◌, Bool, false, true, ℕ, IsTrue, inl, inr, List, Option, Some, None, Result, Ok, Err, refl, sym, ap, subst, cases_lt, IfSome, OnErr, BackingView, StorageView, EntryTableView, HeaderView, has_data_file, with_fields, with_tables_of, HeaderFields, Pending, view_in, HasReftable, IsAllocatorOf, Allocator, MetadataCaches, ImageError, ImageFile, KeepsTablesBehind, NamesTablesBehind, TablesBehindHeader, CountsImageFaults, ReportsEach, HasL1Table, ImageInvariant, KeepsTables, ReadsTables, ReplacesTables, reftable_in, InternalStep, Qcow2, Prepared}
 use Rattle.qcow2_image.proofs.Invalidate.Reading.{behind_silent, stays_over, takes_over}
 
 -- the image with this header in memory

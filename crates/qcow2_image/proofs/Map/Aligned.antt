@@ -1,20 +1,7 @@
 -- A cached table of a sound file is readable: the host clusters that its entries name are aligned.
-use Rattle.std.proofs.Common.{◌≡◌, ℕ, ◌+◌, ◌*◌, ◌/◌, ◌%◌, ◌^◌, ◌<◌, Some, None, sym, ap, ◌∙◌, subst}
-use Rattle.std.proofs.lemmas.Nat.{div-mul-add, mod-mul-add, mod_below}
-use Rattle.image_access.specs.Moments.{StorageView}
-use Rattle.qcow2_metadata.specs.Consistent.{CoverIsAligned}
-use Rattle.qcow2_metadata.specs.declared.header.HeaderFields.{HeaderFields}
-use Rattle.qcow2_metadata.specs.declared.l2_mapping.L2Mapping.{L2Mapping}
+use Rattle.qcow2_image.proofs.Common.{◌≡◌, ℕ, ◌+◌, ◌*◌, ◌/◌, ◌%◌, ◌^◌, ◌<◌, Some, None, sym, ap, ◌∙◌, subst, div-mul-add, mod-mul-add, mod_below, StorageView, CoverIsAligned, HeaderFields, L2Mapping, entries_per_cluster, HasAlignedHost, L2TableView, entries_of, Pending, Sizes-from, ImageFile, FileInvariant, contents_in, known_in, IsEntryAt, ShowsKnown, mapping_of}
 use Rattle.qcow2_metadata.specs.declared.l2_mapping.L2Mapping.TheVariants as M
-use Rattle.qcow2_metadata.specs.Header.{entries_per_cluster}
-use Rattle.qcow2_metadata.specs.L2Mapping.{HasAlignedHost}
-use Rattle.qcow2_metadata.specs.L2Table.{L2TableView, cover_at, entries_of}
-use Rattle.qcow2_laws.specs.CrashInvariant.{Pending}
-use Rattle.qcow2_laws.proofs.Places.{Sizes-from}
-use Rattle.qcow2_alloc.specs.declared.image_file.ImageFile.{ImageFile}
-use Rattle.qcow2_alloc.specs.ImageFile.{FileInvariant, contents_in, known_in}
-use Rattle.qcow2_alloc.specs.MetadataCaches.{IsEntryAt, ShowsKnown}
-use Rattle.qcow2_image.specs.Found.{mapping_of}
+use Rattle.qcow2_metadata.specs.L2Table.{cover_at}
 use Rattle.qcow2_image.proofs.Map.Looked.{cached_says}
 
 aligned_host : (h : HeaderFields) (v : L2Mapping) → CoverIsAligned h v → HasAlignedHost h.cluster_bits v

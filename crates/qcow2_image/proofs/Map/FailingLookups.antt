@@ -1,27 +1,5 @@
 -- Why a lookup in a sound image is refused: its L1 table names aligned clusters, and if the cache has no room for an L2 table, a mapping is prepared.
-use Rattle.std.proofs.Common.{◌≡◌, ◌≢◌, inl, inr, ℕ, ◌/◌, ◌%◌, false, true, List, Option, Some, Result, Ok, Err, sym, ap, ◌∙◌, subst}
-use Rattle.std.specs.Prelude.{IfErr, IsOk}
-use Rattle.std.proofs.lemmas.Nat.{mod_below}
-use Rattle.image_access.specs.Backing.{BackingView}
-use Rattle.image_access.specs.Moments.{StorageView}
-use Rattle.qcow2_metadata.specs.Entries.{host_offset}
-use Rattle.qcow2_metadata.specs.Header.{cluster_size, entries_per_cluster}
-use Rattle.qcow2_metadata.specs.declared.header.HeaderFields.{HeaderFields}
-use Rattle.qcow2_metadata.specs.TableBytes.{entry_at}
-use Rattle.qcow2_laws.specs.CrashInvariant.{Pending}
-use Rattle.qcow2_laws.specs.Guests.{table_at}
-use Rattle.qcow2_laws.proofs.Places.{Sizes-from, has_table}
-use Rattle.qcow2_alloc.specs.CachePins.{AreAllPinned, IsInUseOrFault}
-use Rattle.qcow2_alloc.specs.ImageFile.{contents_in, known_in}
-use Rattle.qcow2_alloc.specs.MetadataCaches.{IsEntryAt}
-use Rattle.qcow2_alloc.specs.declared.error.ImageError.{ImageError}
-use Rattle.qcow2_image.specs.Backings.{HasPinnedMapping}
-use Rattle.qcow2_image.specs.Found.{NamesL2Table, l1_index_of, l2_index_of}
-use Rattle.qcow2_image.specs.ImageInvariant.{ImageInvariant}
-use Rattle.qcow2_image.specs.Image.{IsBegun}
-use Rattle.qcow2_image.specs.MayFail.{IsCacheHeld, MayFailLooking}
-use Rattle.qcow2_image.specs.declared.image.Qcow2.{Qcow2}
-use Rattle.qcow2_image.specs.declared.prepared.Prepared.{Prepared}
+use Rattle.qcow2_image.proofs.Common.{◌≡◌, ◌≢◌, inl, inr, ℕ, ◌/◌, ◌%◌, false, true, List, Option, Some, Result, Ok, Err, sym, ap, ◌∙◌, subst, IfErr, IsOk, mod_below, BackingView, StorageView, host_offset, cluster_size, entries_per_cluster, HeaderFields, entry_at, Pending, table_at, Sizes-from, has_table, AreAllPinned, IsInUseOrFault, contents_in, known_in, IsEntryAt, ImageError, HasPinnedMapping, NamesL2Table, l1_index_of, l2_index_of, ImageInvariant, IsBegun, IsCacheHeld, MayFailLooking, Qcow2, Prepared}
 use Rattle.qcow2_image.proofs.Prepare.MissingL2Table.{pinned_prepared}
 
 -- what answers is refused for nothing

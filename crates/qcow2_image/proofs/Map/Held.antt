@@ -1,22 +1,6 @@
 -- What a lookup finds in the tables in memory, of an image in any state.
-use Rattle.std.proofs.Common.{◌≡◌, ⊎_elim, inl, inr, ℕ, ◌+◌, ◌-◌, ◌*◌, ◌/◌, ◌%◌, ◌^◌, ◌<◌, ◌≤◌, Bool, Some, Result, Ok, Err, is_some, min, sym, ap, ◌∙◌, subst, arith}
-use Rattle.std.proofs.lemmas.Bool.{cases_lt}
-use Rattle.qcow2_metadata.specs.EntryTable.{EntryTableView}
-use Rattle.qcow2_metadata.specs.Header.{HeaderView, cluster_size}
-use Rattle.qcow2_metadata.specs.L2Table.{L2TableView}
-use Rattle.qcow2_metadata.specs.declared.header.HeaderFields.{HeaderFields}
-use Rattle.qcow2_metadata.specs.declared.l2_mapping.L2Mapping.TheVariants.{Uncovered}
-use Rattle.qcow2_disk.specs.Found.{kind_at, rest_of_table}
-use Rattle.qcow2_alloc.specs.MetadataCaches.{l2_at}
-use Rattle.qcow2_alloc.specs.declared.cache.MetadataCaches.{MetadataCaches}
-use Rattle.qcow2_alloc.specs.declared.error.ImageError.{ImageError}
-use Rattle.qcow2_alloc.specs.declared.error.ImageError.TheVariants.{OutdatedMapping}
-use Rattle.qcow2_alloc.specs.declared.image_storage.ImageStorage.{ImageStorage}
-use Rattle.qcow2_image.specs.declared.image.Qcow2.{Qcow2}
-use Rattle.qcow2_image.specs.declared.mapping.MappingKind.{MappingKind}
+use Rattle.qcow2_image.proofs.Common.{◌≡◌, ⊎_elim, inl, inr, ℕ, ◌+◌, ◌-◌, ◌*◌, ◌/◌, ◌%◌, ◌^◌, ◌<◌, ◌≤◌, Bool, Some, Result, Ok, Err, is_some, min, sym, ap, ◌∙◌, subst, arith, cases_lt, EntryTableView, HeaderView, cluster_size, L2TableView, HeaderFields, Uncovered, kind_at, rest_of_table, l2_at, MetadataCaches, ImageError, OutdatedMapping, ImageStorage, Qcow2, MappingKind, found_kind, mapping_of, IsRunBehind, FitsTables, IsHeldAs, IsLongestSo, IsMappedBy, IsMappedSo, KeepsHeld, named_place}
 use Rattle.qcow2_image.specs.declared.mapping.MappingKind.TheVariants as M
-use Rattle.qcow2_image.specs.Found.{found_kind, mapping_of, IsRunBehind}
-use Rattle.qcow2_image.specs.HeldMappings.{FitsTables, IsHeldAs, IsLongestSo, IsMappedBy, IsMappedSo, KeepsHeld, named_place}
 use Rattle.qcow2_image.proofs.Map.Looked.{kind_within, product_le, same_kind}
 
 below_count : (k count size : ℕ) → k * size < count * size → k < count

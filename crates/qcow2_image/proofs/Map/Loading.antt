@@ -1,39 +1,7 @@
 -- Tables are loaded, written and evicted, and bytes are read, which guests don't see.
-use Rattle.std.proofs.Common.{◌≡◌, ℕ, ◌+◌, List, [], refl, sym, ap, ◌∙◌, subst, arith}
-use Rattle.std.specs.Prelude.{Option, IfSome, Result, Ok, Err, IfOk}
-use Rattle.image_access.specs.Backing.{BackingView}
-use Rattle.image_access.specs.Moments.{StorageView, IsLeftBy, QuietCalls, EachMomentSince, ContentsStay}
-use Rattle.qcow2_metadata.specs.Bytes.{Bytes, byte_at}
-use Rattle.qcow2_metadata.specs.Entries.{l1_entry, reftable_entry, count}
-use Rattle.qcow2_metadata.specs.Cover.{cover}
-use Rattle.std.proofs.lemmas.List.{append-nil}
-use Rattle.qcow2_laws.specs.CrashInvariant.{Pending}
-use Rattle.qcow2_laws.specs.SafeSteps.{DriverState, StateInvariant}
-use Rattle.qcow2_disk.specs.Stops.{StopOkEverywhere}
-use Rattle.qcow2_laws.proofs.Internal.{unseen_known}
-use Rattle.qcow2_alloc.specs.declared.cache.MetadataCaches.{MetadataCaches}
-use Rattle.qcow2_alloc.specs.declared.image_storage.ImageStorage.{ImageStorage}
-use Rattle.qcow2_alloc.specs.declared.allocation.Allocator.{Allocator}
-use Rattle.qcow2_alloc.specs.CachePins.{l2_pins, CachesHaveRoom, SameTables}
-use Rattle.qcow2_alloc.specs.ImageStorage.{storage_of}
-use Rattle.qcow2_metadata.specs.declared.header.HeaderFields.{HeaderFields}
-use Rattle.qcow2_metadata.specs.Header.{cluster_size}
-use Rattle.qcow2_metadata.specs.Tables.{CachedTable, known}
+use Rattle.qcow2_image.proofs.Common.{◌≡◌, ℕ, ◌+◌, List, [], refl, sym, ap, ◌∙◌, subst, arith, Option, IfSome, Result, Ok, Err, IfOk, BackingView, StorageView, IsLeftBy, QuietCalls, EachMomentSince, ContentsStay, Bytes, byte_at, l1_entry, reftable_entry, count, cover, append-nil, Pending, DriverState, StateInvariant, StopOkEverywhere, unseen_known, MetadataCaches, ImageStorage, Allocator, l2_pins, CachesHaveRoom, SameTables, storage_of, HeaderFields, cluster_size, CachedTable, known, AreNamedBlocks, StorageError, l2_tables, refblocks, known_of, AreAllWritten, CacheInvariant, InternalCacheStep, state_in, view_in, contents_in, known_in, IsAllocatorOf, allocator_kept, Qcow2, Prepared, cluster_of, ImageInvariant, InternalStep, cached_safe_throughout, safe_none, safe_keep, file_invariant_of}
 use Rattle.qcow2_laws.proofs.Lists.{clean_known}
-use Rattle.qcow2_laws.specs.Caches.{AreNamedBlocks}
-use Rattle.image_access.specs.declared.error.StorageError.{StorageError}
-use Rattle.qcow2_alloc.specs.MetadataCaches.{l2_tables, refblocks, known_of, AreAllWritten, CacheInvariant, InternalCacheStep}
-use Rattle.qcow2_alloc.specs.ImageFile.{state_in, view_in, contents_in, known_in}
-use Rattle.qcow2_alloc.specs.KeptAllocators.{IsAllocatorOf}
-use Rattle.qcow2_alloc.proofs.KeptAllocators.{allocator_kept}
-use Rattle.qcow2_image.specs.declared.image.Qcow2.{Qcow2}
-use Rattle.qcow2_image.specs.declared.prepared.Prepared.{Prepared}
-use Rattle.qcow2_image.specs.ImageInvariant.{cluster_of, ImageInvariant}
-use Rattle.qcow2_image.specs.InternalSteps.{InternalStep}
 use Rattle.qcow2_image.proofs.Images.Ready.{still_ready}
-use Rattle.qcow2_alloc.proofs.FileSteps.{cached_safe_throughout}
-use Rattle.qcow2_alloc.proofs.KeptTables.Switching.{safe_none, safe_keep}
-use Rattle.qcow2_alloc.proofs.FileInvariants.{file_invariant_of}
 
 -- in two sound states with the same header and the same known bytes, the tables above are the same on the storage
 module _ (s s' : DriverState) (sound : StateInvariant s) (sound' : StateInvariant s') (header : s'.header ≡ s.header) (known : s'.known ≡ s.known) where

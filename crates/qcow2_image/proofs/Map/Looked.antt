@@ -1,44 +1,7 @@
 -- What a lookup finds: the longest run of clusters that are mapped alike, within one L2 table.
-use Rattle.std.proofs.Common.{◌≡◌, ⊎_elim, ℕ, zero, suc, ◌+◌, ◌-◌, ◌*◌, ◌/◌, ◌%◌, ◌^◌, ◌<◌, ◌≤◌, ◌≢◌, refl, sym, ap, ◌∙◌, arith, subst, min, Bool, true, false, is_some, List, Option}
-use mathlib.Core.Path.{fun_ext}
-use Rattle.std.proofs.lemmas.Nat.{div-add-mod', div-mul-add, mod_below}
-use Rattle.std.specs.Prelude.{◌==◌, if◌then◌else◌}
-use Rattle.std.proofs.Math.Nat.{div-div-eq-div-mul, div-mul-le_self}
-use Rattle.std.proofs.Math.Pow.{pow_mono, shr_mono}
-use Rattle.std.proofs.lemmas.Grind.{common_steps}
-use Rattle.qcow2_metadata.specs.Bytes.{Bytes}
-use Rattle.qcow2_metadata.specs.declared.header.HeaderFields.{HeaderFields}
-use Rattle.qcow2_metadata.specs.Header.{cluster_size, entries_per_cluster, with_reftable}
-use Rattle.qcow2_metadata.specs.Entries.{l2_entry}
-use Rattle.qcow2_metadata.specs.TableBytes.{entry_at}
-use Rattle.qcow2_metadata.specs.Cover.{cover, cover_of, entry_cover}
-use Rattle.qcow2_metadata.specs.L2Table.{L2TableView}
-use Rattle.qcow2_metadata.specs.declared.l2_mapping.L2Mapping.{L2Mapping}
-use Rattle.qcow2_metadata.specs.declared.l2_mapping.L2Mapping.TheVariants.{Data, Zero, Compressed, Uncovered}
-use Rattle.qcow2_disk.specs.Alike.{AreDataAt, IsAlike, IsAlikeAt, IsAlikeRun, IsDataAt, IsLongestRun}
-use Rattle.qcow2_laws.specs.Guests.{table_at}
-use Rattle.qcow2_laws.proofs.Places.{Sizes, cover_none, cover_in, Sizes-from}
-use Rattle.qcow2_alloc.specs.TableCaches.{IsTableOf}
-use Rattle.qcow2_laws.proofs.Alike.{run_first, run_less, run_begins, clusters_on, clusters_end, run_longest}
-use Rattle.std.proofs.lemmas.Bool.{cases_lt}
-use Rattle.image_access.specs.Backing.{BackingView}
-use Rattle.image_access.specs.Moments.{StorageView}
-use Rattle.qcow2_alloc.specs.ImageFile.{contents_in, known_in, FileInvariant}
-use Rattle.qcow2_alloc.specs.declared.image_file.ImageFile.{ImageFile}
-use Rattle.qcow2_alloc.specs.MetadataCaches.{IsEntryAt, ShowsKnown}
-use Rattle.qcow2_laws.specs.CrashInvariant.{Pending, SameCovers}
-use Rattle.qcow2_laws.proofs.Formats.{cover_with}
-use Rattle.qcow2_laws.proofs.Tops.{IsTop-top}
-use Rattle.qcow2_image.specs.declared.image.Qcow2.{Qcow2}
-use Rattle.qcow2_image.specs.declared.mapping.MappingKind.{MappingKind}
+use Rattle.qcow2_image.proofs.Common.{◌≡◌, ⊎_elim, ℕ, zero, suc, ◌+◌, ◌-◌, ◌*◌, ◌/◌, ◌%◌, ◌^◌, ◌<◌, ◌≤◌, ◌≢◌, refl, sym, ap, ◌∙◌, arith, subst, min, Bool, true, false, is_some, List, Option, fun_ext, div-add-mod', div-mul-add, mod_below, ◌==◌, if◌then◌else◌, div-div-eq-div-mul, div-mul-le_self, pow_mono, shr_mono, common_steps, Bytes, HeaderFields, cluster_size, entries_per_cluster, with_reftable, l2_entry, entry_at, cover, cover_of, entry_cover, L2TableView, L2Mapping, Data, Zero, Compressed, Uncovered, AreDataAt, IsAlike, IsAlikeAt, IsAlikeRun, IsDataAt, IsLongestRun, table_at, Sizes, cover_none, cover_in, Sizes-from, IsTableOf, run_first, run_less, run_begins, clusters_on, clusters_end, run_longest, cases_lt, BackingView, StorageView, contents_in, known_in, FileInvariant, ImageFile, IsEntryAt, ShowsKnown, Pending, SameCovers, cover_with, IsTop-top, Qcow2, MappingKind, size_of, Kind, raw, indirect, zeros, special, eof, kind_at, rest_of_table, IsCompressed, Image, DataFile, Prepared, IsSpecial, InternalStep, found_kind, mapping_of, l1_index_of, AreAlikeBehind, IsAlikeTo, IsRunBehind, IsFoundInImage, IsFoundWhole, IsMappedAs}
 use Rattle.qcow2_image.specs.declared.mapping.MappingKind.TheVariants as M
-use Rattle.qcow2_image.specs.Image.{size_of}
-use Rattle.qcow2_disk.specs.Found.{Kind, raw, indirect, zeros, special, eof, kind_at, rest_of_table, IsCompressed, IsFound as IsFoundOf}
-use Rattle.qcow2_image.specs.declared.mapping.Place.TheVariants.{Image, DataFile}
-use Rattle.qcow2_image.specs.declared.prepared.Prepared.{Prepared}
-use Rattle.qcow2_image.specs.MayFail.{IsSpecial}
-use Rattle.qcow2_image.specs.InternalSteps.{InternalStep}
-use Rattle.qcow2_image.specs.Found.{found_kind, mapping_of, l1_index_of, AreAlikeBehind, IsAlikeTo, IsRunBehind, IsFoundInImage, IsFoundWhole, IsMappedAs}
+use Rattle.qcow2_disk.specs.Found.{IsFound as IsFoundOf}
 
 -- so many times a difference
 sub_times : (m n k : ℕ) → n ≤ m → (m - n) * k + n * k ≡ m * k

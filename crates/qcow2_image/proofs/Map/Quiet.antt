@@ -1,18 +1,6 @@
 -- Tables are loaded and evicted, and bytes are read, in an image without modified cached tables: nothing is written, whatever the image contains.
-use Rattle.std.proofs.Common.{◌≡◌, Bool, Result, sym, ap, subst, ◌∙◌}
-use Rattle.image_access.specs.Moments.{StorageView, ContentsStay, EachMomentSince, IsLeftBy, QuietCalls}
-use Rattle.image_access.proofs.EachMomentSince.{passes_if}
-use Rattle.image_access.specs.declared.error.StorageError.{StorageError}
-use Rattle.qcow2_alloc.specs.declared.image_file.ImageFile.{ImageFile}
-use Rattle.qcow2_alloc.specs.declared.image_storage.ImageStorage.{ImageStorage}
-use Rattle.qcow2_alloc.specs.ImageStorage.{storage_of}
-use Rattle.qcow2_alloc.specs.MetadataCaches.{AreAllWritten}
-use Rattle.qcow2_alloc.specs.Quiet.{IsQuiet, KeepAllWritten}
-use Rattle.qcow2_alloc.proofs.KeptTables.AllWritten.{written_none, written_then}
+use Rattle.qcow2_image.proofs.Common.{◌≡◌, Bool, Result, sym, ap, subst, ◌∙◌, StorageView, ContentsStay, EachMomentSince, IsLeftBy, QuietCalls, passes_if, StorageError, ImageFile, ImageStorage, storage_of, AreAllWritten, IsQuiet, KeepAllWritten, written_none, written_then, Qcow2, IsBegun, ContentsStayThroughout, ReadsQuietly}
 use Rattle.qcow2_alloc.proofs.KeptTables.Quiet.{quiet_none, quiet_read}
-use Rattle.qcow2_image.specs.declared.image.Qcow2.{Qcow2}
-use Rattle.qcow2_image.specs.Image.{IsBegun}
-use Rattle.qcow2_image.specs.Unwritten.{ContentsStayThroughout, ReadsQuietly}
 
 -- a call of the storage that leaves its contents: it had them at each moment
 pub kept_throughout : (old new : StorageView) → EachMomentSince old new (IsLeftBy new) → ContentsStay old new → old.is_honest → ContentsStayThroughout old new

@@ -1,20 +1,5 @@
 -- The bytes that a guest sees in a run of clusters that are mapped alike.
-use Rattle.std.proofs.Common.{◌≡◌, ℕ, ◌+◌, ◌/◌, ◌%◌, ◌<◌, Bool, true, false, refl, sym, ap, ◌∙◌, is_some}
-use Rattle.std.specs.Prelude.{Option, Some, None, if◌then◌else◌}
-use Rattle.image_access.specs.Backing.{BackingView}
-use Rattle.image_access.specs.Moments.{StorageView}
-use Rattle.qcow2_metadata.specs.Bytes.{Bytes}
-use Rattle.qcow2_metadata.specs.Header.{cluster_size}
-use Rattle.qcow2_metadata.specs.Guest.{known_byte}
-use Rattle.qcow2_metadata.specs.Cover.{cover}
-use Rattle.qcow2_metadata.specs.declared.l2_mapping.L2Mapping.{L2Mapping}
-use Rattle.qcow2_metadata.specs.declared.l2_mapping.L2Mapping.TheVariants.{Data, Zero, Compressed, Uncovered}
-use Rattle.qcow2_disk.specs.Disk.{disk}
-use Rattle.qcow2_laws.specs.SafeSteps.{DriverState, StateInvariant}
-use Rattle.qcow2_disk.specs.Found.{raw, indirect, zeros, kind_at}
-use Rattle.qcow2_disk.specs.Alike.{IsAlikeRun}
-use Rattle.qcow2_laws.proofs.Alike.{run_shows_data, run_shows_zero, run_shows_uncovered}
-use Rattle.qcow2_image.specs.ImageInvariant.{backing_bytes}
+use Rattle.qcow2_image.proofs.Common.{◌≡◌, ℕ, ◌+◌, ◌/◌, ◌%◌, ◌<◌, Bool, true, false, refl, sym, ap, ◌∙◌, is_some, Option, Some, None, if◌then◌else◌, BackingView, StorageView, Bytes, cluster_size, known_byte, cover, L2Mapping, Data, Zero, Compressed, Uncovered, disk, DriverState, StateInvariant, raw, indirect, zeros, kind_at, IsAlikeRun, run_shows_data, run_shows_zero, run_shows_uncovered, backing_bytes}
 
 -- without a disk below all is zero there
 pub none_below : {S F : Type 0} (view : S → StorageView) (backing : F → BackingView) (below : Option F) → is_some below ≡ false → (o : ℕ) → backing_bytes view backing below o ≡ 0

@@ -1,7 +1,5 @@
 -- Tables are loaded and evicted, and bytes are read, in an image without modified tables: the contents of its storage stay the same.
-use Rattle.std.proofs.Common.{◌≡◌}
-use Rattle.image_access.specs.Moments.{StorageView, EachMomentSince, IsLeftBy}
-use Rattle.qcow2_alloc.specs.Quiet.{IsQuiet}
+use Rattle.qcow2_image.proofs.Common.{◌≡◌, StorageView, EachMomentSince, IsLeftBy, IsQuiet}
 
 -- ---- moments of a storage whose bytes stay: each is built here
 

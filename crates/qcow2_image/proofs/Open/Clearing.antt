@@ -1,30 +1,7 @@
 -- The autoclear bits are cleared while no cached table is modified: the file is as sound as before, and has the same tables.
-use Rattle.std.proofs.Common.{◌≡◌, ◌≢◌, inl, inr, ℕ, List, [], Result, sym, ap, ◌∙◌, subst}
-use Rattle.std.proofs.lemmas.Bool.{cases_eq}
-use Rattle.image_access.specs.Backing.{BackingView}
-use Rattle.image_access.specs.declared.error.StorageError.{StorageError}
-use Rattle.image_access.specs.Moments.{StorageView, Calls, Changes}
-use Rattle.qcow2_metadata.specs.Bytes.{Bytes, byte_at}
-use Rattle.qcow2_metadata.specs.declared.header.HeaderFields.{HeaderFields}
-use Rattle.qcow2_metadata.specs.Header.{HeaderView, header, with_fields, without_autoclear}
-use Rattle.qcow2_metadata.specs.HeaderLoad.{IsHeaderIn}
-use Rattle.qcow2_metadata.specs.HeaderWrite.{autoclear_cleared}
-use Rattle.qcow2_metadata.specs.Entries.{l1_entry, reftable_entry}
-use Rattle.qcow2_laws.specs.Caches.{CacheInvariantOver, AreNamedBlocks}
-use Rattle.qcow2_laws.specs.CrashInvariant.{Pending, CrashInvariant}
-use Rattle.qcow2_disk.specs.Stops.{StopOkEverywhere}
-use Rattle.qcow2_laws.specs.Tops.{WritesHeader, resized_places}
+use Rattle.qcow2_image.proofs.Common.{◌≡◌, ◌≢◌, inl, inr, ℕ, List, [], Result, sym, ap, ◌∙◌, subst, cases_eq, BackingView, StorageError, StorageView, Calls, Changes, Bytes, byte_at, HeaderFields, HeaderView, header, with_fields, without_autoclear, IsHeaderIn, autoclear_cleared, l1_entry, reftable_entry, CacheInvariantOver, AreNamedBlocks, Pending, CrashInvariant, StopOkEverywhere, WritesHeader, resized_places, safe_throughout_none, safe_throughout_write, header_is_written, ImageFile, ImageStorage, nothing_given, view_in, contents_in, known_in, state_in, storage_of, order_of, l2_tables, refblocks, known_of, CacheInvariant, file_invariant_of, IsFresh, StaysFresh, IsKeptSince}
 use Rattle.qcow2_laws.proofs.HeaderWrites.{autoclear_beside}
-use Rattle.qcow2_laws.proofs.SafeSteps.{safe_throughout_none, safe_throughout_write}
-use Rattle.qcow2_laws.proofs.Steps.{header_is_written}
-use Rattle.qcow2_alloc.specs.declared.image_file.ImageFile.{ImageFile}
-use Rattle.qcow2_alloc.specs.declared.image_storage.ImageStorage.{ImageStorage}
-use Rattle.qcow2_alloc.specs.ImageFile.{nothing_given, view_in, contents_in, known_in, state_in}
-use Rattle.qcow2_alloc.specs.ImageStorage.{storage_of}
-use Rattle.qcow2_alloc.specs.MetadataCaches.{order_of, l2_tables, refblocks, known_of, CacheInvariant}
-use Rattle.qcow2_alloc.proofs.FileInvariants.{file_invariant_of}
 use Rattle.qcow2_image.proofs.Open.HeaderKept.{resized_l1, resized_reftable, placed_named_blocks, placed_sound}
-use Rattle.qcow2_image.specs.Opened.{IsFresh, StaysFresh, IsKeptSince}
 
 module _ {S F : Type 0} (view : S → StorageView) (backing : F → BackingView) (p : Pending) (file : ImageFile S) (new_tables : IsFresh view backing p file) where
   abbrev h : HeaderFields

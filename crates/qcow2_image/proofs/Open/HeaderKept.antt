@@ -1,19 +1,6 @@
 -- Header numbers are written while all entries of the L1 table and the reftable stay the same: the file is as sound as before, with the new header.
-use Rattle.std.proofs.Common.{◌≡◌, ◌⊎◌, inl, ℕ, refl, sym}
-use Rattle.image_access.specs.Moments.{StorageView}
-use Rattle.qcow2_metadata.specs.Bytes.{Bytes}
-use Rattle.qcow2_metadata.specs.declared.header.HeaderFields.{HeaderFields}
-use Rattle.qcow2_metadata.specs.Header.{cluster_size}
-use Rattle.qcow2_metadata.specs.Entries.{l1_entry, reftable_entry}
-use Rattle.qcow2_laws.specs.Caches.{HasBlock, AreNamedBlocks}
-use Rattle.qcow2_laws.specs.CrashInvariant.{Pending, CrashInvariant}
-use Rattle.qcow2_laws.specs.Tops.{Places, WritesHeader, with_places, resized_places}
-use Rattle.qcow2_laws.proofs.Headers.{header_l1, header_reftable}
-use Rattle.qcow2_alloc.specs.declared.image_file.ImageFile.{ImageFile}
-use Rattle.qcow2_alloc.specs.ImageFile.{contents_in, known_in, FileInvariant}
-use Rattle.qcow2_alloc.specs.MetadataCaches.{order_of, refblocks, known_of, CacheInvariant}
+use Rattle.qcow2_image.proofs.Common.{◌≡◌, ◌⊎◌, inl, ℕ, refl, sym, StorageView, Bytes, HeaderFields, cluster_size, l1_entry, reftable_entry, HasBlock, AreNamedBlocks, Pending, CrashInvariant, Places, WritesHeader, with_places, resized_places, header_l1, header_reftable, ImageFile, contents_in, known_in, FileInvariant, order_of, refblocks, known_of, CacheInvariant, AreCurrentIn}
 use Rattle.qcow2_alloc.proofs.HeaderKept.{same_block, header_named_blocks, header_sound}
-use Rattle.qcow2_alloc.proofs.KeptTables.Named.{AreCurrentIn}
 
 module _ {S : Type 0} (view : S → StorageView) (p p' : Pending) (file : ImageFile S) (sound : FileInvariant view p file) (a : Places) (on_storage' : Bytes)
     (writes : WritesHeader file.header.fields a (contents_in view file) (known_in view file) on_storage' (known_of file.header.fields file.caches on_storage'))

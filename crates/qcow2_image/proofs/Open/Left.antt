@@ -1,26 +1,6 @@
 -- What opening leaves of a storage, part by part.
-use Rattle.std.proofs.Common.{◌≡◌, ◌≢◌, ◌⊎◌, inl, inr, ℕ, ◌≤◌, Bool, true, false, List, Result, Ok, Err, refl, sym, ap, ◌∙◌, subst}
-use Rattle.std.specs.Prelude.{◌&&◌, ◌==◌, not, if◌then◌else◌, IsOk}
-use Rattle.std.proofs.lemmas.Bool.{cases_eq, ne_eqb}
-use Rattle.image_access.specs.Moments.{Calls, Changes, ContentsBecome, ContentsStay, EachMomentSince, HasCause, StorageView, IsLeftBy}
-use Rattle.image_access.specs.declared.error.StorageError.{StorageError}
+use Rattle.qcow2_image.proofs.Common.{◌≡◌, ◌≢◌, ◌⊎◌, inl, inr, ℕ, ◌≤◌, Bool, true, false, List, Result, Ok, Err, refl, sym, ap, ◌∙◌, subst, ◌&&◌, ◌==◌, not, if◌then◌else◌, IsOk, cases_eq, ne_eqb, Calls, Changes, ContentsBecome, ContentsStay, EachMomentSince, HasCause, StorageView, IsLeftBy, StorageError, passes_if, passes_on, rose_since, whole_or_nothing, byte_at, HeaderView, header, with_fields, without_autoclear, IsHeaderIn, autoclear_cleared, OnlyReads, MetadataError, autoclear_still, of_storage, view_in, storage_of, ImageError, ImageFile, ImageStorage, Qcow2, LeavesFile, LeavesStorage, OpensAtOnce, StandsOpened, StandsRefused, opened_contents}
 use Rattle.image_access.specs.declared.error.StorageError.TheVariants.{Fault, Memory}
-use Rattle.image_access.proofs.EachMomentSince.{passes_if, passes_on, rose_since, whole_or_nothing}
-use Rattle.qcow2_metadata.specs.Bytes.{byte_at}
-use Rattle.qcow2_metadata.specs.Header.{HeaderView, header, with_fields, without_autoclear}
-use Rattle.qcow2_metadata.specs.HeaderLoad.{IsHeaderIn}
-use Rattle.qcow2_metadata.specs.HeaderWrite.{autoclear_cleared}
-use Rattle.qcow2_metadata.specs.MetadataError.{OnlyReads}
-use Rattle.qcow2_metadata.specs.declared.error.MetadataError.{MetadataError}
-use Rattle.qcow2_metadata.proofs.StillHeader.{autoclear_still}
-use Rattle.qcow2_alloc.specs.ImageError.{of_storage}
-use Rattle.qcow2_alloc.specs.ImageFile.{view_in}
-use Rattle.qcow2_alloc.specs.ImageStorage.{storage_of}
-use Rattle.qcow2_alloc.specs.declared.error.ImageError.{ImageError}
-use Rattle.qcow2_alloc.specs.declared.image_file.ImageFile.{ImageFile}
-use Rattle.qcow2_alloc.specs.declared.image_storage.ImageStorage.{ImageStorage}
-use Rattle.qcow2_image.specs.declared.image.Qcow2.{Qcow2}
-use Rattle.qcow2_image.specs.Opened.{LeavesFile, LeavesStorage, OpensAtOnce, StandsOpened, StandsRefused, opened_contents}
 
 cleared_if : (n : ℕ) → n ≡ 0 → (c d : List ℕ) → (if true && not (n == 0) then c else d) ≡ d
 cleared_if n none c d = subst (λ (k : ℕ). (if true && not (k == 0) then c else d) ≡ d) (sym none) refl

@@ -1,26 +1,5 @@
 -- The pointers of a sound image lead past cluster 0, since only the header refers to cluster 0.
-use Rattle.std.proofs.Common.{◌≡◌, ◌≢◌, ◌∙◌, ◌⊎◌, inl, inr, ℕ, ◌+◌, ◌*◌, ◌/◌, ◌%◌, ◌<◌, ◌≤◌, List, [], Result, Ok, Err, zero, suc, refl, sym, ap, subst, arith}
-use Rattle.std.proofs.lemmas.Nat.{mul-le, pow_pos}
-use Rattle.std.specs.Prelude.{IfOk}
-use Rattle.image_access.specs.Backing.{BackingView}
-use Rattle.image_access.specs.Moments.{StorageView}
-use Rattle.qcow2_metadata.specs.Bytes.{Bytes, byte_at}
-use Rattle.qcow2_metadata.specs.Consistent.{IsConsistent}
-use Rattle.qcow2_metadata.specs.Entries.{block_offset, count, reftable_entry}
-use Rattle.qcow2_metadata.specs.Header.{cluster_size, counts_per_block, entries_per_cluster, reftable_entries}
-use Rattle.qcow2_metadata.specs.Named.{in_cluster, in_run, named_for_tables}
-use Rattle.qcow2_metadata.specs.declared.header.HeaderFields.{HeaderFields}
-use Rattle.qcow2_laws.specs.Clusters.{Direction}
-use Rattle.qcow2_laws.specs.CrashInvariant.{CrashInvariant, Pending}
-use Rattle.qcow2_laws.proofs.Consistency.{in_own}
-use Rattle.qcow2_laws.proofs.Places.{count_none, has_block}
-use Rattle.qcow2_laws.proofs.Shares.{run_has, shares}
-use Rattle.qcow2_alloc.specs.declared.error.ImageError.{ImageError}
-use Rattle.qcow2_disk.specs.AbstractImages.{IsOpened}
-use Rattle.qcow2_image.specs.BehindHeader.{LiesBehindHeader, NamesTablesBehind}
-use Rattle.qcow2_image.specs.ImageInvariant.{abstract_of}
-use Rattle.qcow2_image.specs.Opened.{Opens}
-use Rattle.qcow2_image.specs.declared.image.Qcow2.{Qcow2}
+use Rattle.qcow2_image.proofs.Common.{◌≡◌, ◌≢◌, ◌∙◌, ◌⊎◌, inl, inr, ℕ, ◌+◌, ◌*◌, ◌/◌, ◌%◌, ◌<◌, ◌≤◌, List, [], Result, Ok, Err, zero, suc, refl, sym, ap, subst, arith, mul-le, pow_pos, IfOk, BackingView, StorageView, Bytes, byte_at, IsConsistent, block_offset, count, reftable_entry, cluster_size, counts_per_block, entries_per_cluster, reftable_entries, in_cluster, in_run, named_for_tables, HeaderFields, Direction, CrashInvariant, Pending, in_own, count_none, has_block, run_has, shares, ImageError, IsOpened, LiesBehindHeader, NamesTablesBehind, abstract_of, Opens, Qcow2}
 
 none_or_some : (n : ℕ) → (n ≡ 0) ⊎ (0 < n)
 none_or_some zero = inl refl

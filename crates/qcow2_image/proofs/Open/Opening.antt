@@ -1,38 +1,7 @@
 -- The header and the tables are loaded from the storage, and the autoclear bits are cleared: the file is as sound as before.
-use Rattle.std.proofs.Common.{◌≡◌, ℕ, ◌*◌, ◌/◌, ◌^◌, [], List, Result, length, refl, sym, ap, ◌∙◌, subst, arith}
-use Rattle.std.specs.Prelude.{Some, None, false}
-use Rattle.image_access.specs.Backing.{BackingView}
-use Rattle.image_access.specs.Moments.{StorageView, EachMomentSince, IsLeftBy}
-use Rattle.image_access.proofs.EachMomentSince.{passes_if}
-use Rattle.qcow2_metadata.specs.Bytes.{Bytes, byte_at}
-use Rattle.qcow2_metadata.specs.Header.{HeaderView, cluster_size}
-use Rattle.qcow2_metadata.specs.declared.header.HeaderFields.{HeaderFields}
-use Rattle.qcow2_metadata.specs.Consistent.{Consistent, IsConsistent}
-use Rattle.qcow2_metadata.specs.Entries.{l1_entry, reftable_entry}
-use Rattle.qcow2_metadata.specs.EntryTable.{EntryTableView, entry_table, NamesL1Table, IsL1TableOf}
-use Rattle.qcow2_metadata.specs.HeaderLoad.{IsHeaderIn}
-use Rattle.qcow2_metadata.specs.TableBytes.{entry_at}
-use Rattle.qcow2_metadata.specs.MetadataError.{OnlyReads}
-use Rattle.qcow2_metadata.specs.declared.error.MetadataError.{MetadataError}
-use Rattle.qcow2_laws.specs.Caches.{AreNamedBlocks}
-use Rattle.qcow2_laws.specs.Clusters.{Neither}
-use Rattle.qcow2_laws.specs.CrashInvariant.{Pending, CrashInvariant}
-use Rattle.qcow2_laws.specs.Opened.{nothing_pending, surplus_of}
-use Rattle.qcow2_disk.specs.AbstractImages.{IsOpened}
+use Rattle.qcow2_image.proofs.Common.{◌≡◌, ℕ, ◌*◌, ◌/◌, ◌^◌, [], List, Result, length, refl, sym, ap, ◌∙◌, subst, arith, Some, None, false, BackingView, StorageView, EachMomentSince, IsLeftBy, passes_if, Bytes, byte_at, HeaderView, cluster_size, HeaderFields, Consistent, IsConsistent, l1_entry, reftable_entry, EntryTableView, entry_table, NamesL1Table, IsL1TableOf, IsHeaderIn, entry_at, OnlyReads, MetadataError, AreNamedBlocks, Neither, Pending, CrashInvariant, nothing_pending, surplus_of, IsOpened, l1_entry-past, keep_safe_throughout, safe_throughout_then, ImageFile, ImageStorage, view_in, contents_in, nothing_given, storage_of, refblocks, known_of, CacheInvariant, own_cluster, file_invariant_of, Qcow2, is_failed, IsFresh, StaysFresh, IsLoaded, IsKeptSince, SameNames, HasNamesIn, HasL1Table, IsHonestBacking, ImageInvariant, of_data, of_tables, to_free, pending_in, abstract_of}
 use Rattle.qcow2_laws.proofs.Opened.{opened_crash_invariant}
-use Rattle.qcow2_laws.proofs.Places.{l1_entry-past}
-use Rattle.qcow2_laws.proofs.SafeSteps.{keep_safe_throughout, safe_throughout_then}
-use Rattle.qcow2_alloc.specs.declared.image_file.ImageFile.{ImageFile}
-use Rattle.qcow2_alloc.specs.declared.image_storage.ImageStorage.{ImageStorage}
-use Rattle.qcow2_alloc.specs.ImageFile.{l2_pins, CachesHaveRoom, view_in, contents_in, nothing_given}
-use Rattle.qcow2_alloc.specs.ImageStorage.{storage_of}
-use Rattle.qcow2_alloc.specs.MetadataCaches.{refblocks, known_of, CacheInvariant}
-use Rattle.qcow2_alloc.proofs.KeptTables.Standing.{own_cluster}
-use Rattle.qcow2_alloc.proofs.FileInvariants.{file_invariant_of}
-use Rattle.qcow2_image.specs.declared.image.Qcow2.{Qcow2}
-use Rattle.qcow2_image.specs.Image.{is_failed}
-use Rattle.qcow2_image.specs.Opened.{IsFresh, StaysFresh, IsLoaded, IsKeptSince, SameNames, HasNamesIn}
-use Rattle.qcow2_image.specs.ImageInvariant.{HasL1Table, IsHonestBacking, ImageInvariant, of_data, of_tables, to_free, pending_in, abstract_of}
+use Rattle.qcow2_alloc.specs.ImageFile.{l2_pins, CachesHaveRoom}
 use Rattle.qcow2_image.proofs.Images.Sound.{pending_is}
 
 -- names that stay are still those in the contents

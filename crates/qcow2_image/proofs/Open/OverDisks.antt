@@ -1,13 +1,5 @@
 -- An image that was just opened, over another backing disk.
-use Rattle.std.proofs.Common.{Bool, [], ℕ, Option}
-use Rattle.std.specs.Prelude.{Ok}
-use Rattle.image_access.specs.Backing.{BackingView}
-use Rattle.image_access.specs.Moments.{StorageView}
-use Rattle.qcow2_image.specs.ImageInvariant.{ImageInvariant, IsHonestBacking, pending_in}
-use Rattle.qcow2_image.specs.Opened.{Opens}
-use Rattle.qcow2_image.specs.Readable.{IsNewlyOpened, OpeningStep}
-use Rattle.qcow2_image.specs.declared.image.Missing.{Missing}
-use Rattle.qcow2_image.specs.declared.image.Qcow2.{Qcow2}
+use Rattle.qcow2_image.proofs.Common.{Bool, [], ℕ, Option, Ok, BackingView, StorageView, ImageInvariant, IsHonestBacking, pending_in, Opens, IsNewlyOpened, OpeningStep, Missing, Qcow2}
 
 module _ {S F : Type 0} (view : S → StorageView) (before : StorageView) (writable : Bool) (missing : Missing) (image : Qcow2 S F) (disk : Option F) where
   pub step_over : OpeningStep view before writable missing (Ok image) → OpeningStep view before writable missing (Ok (record image { backing = disk }))

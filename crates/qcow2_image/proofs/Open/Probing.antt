@@ -1,11 +1,5 @@
 -- The first eight bytes of a storage, as two numbers.
-use Rattle.std.proofs.Common.{◌≡◌, ◌≢◌, ℕ, ◌+◌, ◌*◌, ◌<◌, Bool, List, get_or, sym, ap, ◌∙◌, arith, lit<}
-use Rattle.std.proofs.lemmas.Bool.{eq-eqb, ne_eqb}
-use Rattle.std.specs.Prelude.{◌==◌, ◌&&◌, ◌||◌}
-use Rattle.image_access.specs.Contents.{bytes_at}
-use Rattle.image_access.proofs.Bytes.{byte_at-bytes_at}
-use Rattle.qcow2_metadata.specs.Bytes.{byte_at, number_at}
-use Rattle.qcow2_image.specs.Created.{begins_image}
+use Rattle.qcow2_image.proofs.Common.{◌≡◌, ◌≢◌, ℕ, ◌+◌, ◌*◌, ◌<◌, Bool, List, get_or, sym, ap, ◌∙◌, arith, lit<, eq-eqb, ne_eqb, ◌==◌, ◌&&◌, ◌||◌, bytes_at, byte_at-bytes_at, byte_at, number_at, begins_image}
 
 module _ (contents buf : List ℕ) (read : buf ≡ bytes_at contents 0 8) where
   at : (i : ℕ) → i < 8 → get_or buf i 0 ≡ byte_at contents i

@@ -1,24 +1,8 @@
 -- An image opens if its contents are readable, and otherwise is refused for that.
-use Rattle.std.proofs.Common.{◌≡◌, ℕ, ◌^◌, ◌<◌, Bool, true, false, List, Result, subst, inl, inr, arith}
-use Rattle.image_access.specs.Moments.{StorageView}
-use Rattle.image_access.specs.declared.error.StorageError.{StorageError}
+use Rattle.qcow2_image.proofs.Common.{◌≡◌, ℕ, ◌^◌, ◌<◌, Bool, true, false, List, Result, subst, inl, inr, arith, StorageView, StorageError, Bytes, byte_at, HeaderView, header, HeaderFields, HasAlignedTables, IsHeaderIn, IsReasonToRefuse, OnlyReads, MetadataError, ImageError, of_metadata, of_storage, contents_in, view_in, ImageFile, IsReasonAgainstReftable, L1TableReads, needs_missing, HeaderSuits, IsReadable, IsReasonAgainstTables, IsJustifiedRefusal, NeededTablesRead, Missing}
 use Rattle.image_access.specs.declared.error.StorageError.TheVariants as S
-use Rattle.qcow2_metadata.specs.Bytes.{Bytes, byte_at}
-use Rattle.qcow2_metadata.specs.Header.{HeaderView, header}
-use Rattle.qcow2_metadata.specs.declared.header.HeaderFields.{HeaderFields}
-use Rattle.qcow2_metadata.specs.HeaderLoad.{HasAlignedTables, IsHeaderIn, IsReasonToRefuse}
-use Rattle.qcow2_metadata.specs.MetadataError.{OnlyReads}
-use Rattle.qcow2_metadata.specs.declared.error.MetadataError.{MetadataError}
 use Rattle.qcow2_metadata.specs.declared.error.MetadataError.TheVariants as M
-use Rattle.qcow2_alloc.specs.declared.error.ImageError.{ImageError}
 use Rattle.qcow2_alloc.specs.declared.error.ImageError.TheVariants as I
-use Rattle.qcow2_alloc.specs.ImageError.{of_metadata, of_storage}
-use Rattle.qcow2_alloc.specs.ImageFile.{contents_in, view_in}
-use Rattle.qcow2_alloc.specs.declared.image_file.ImageFile.{ImageFile}
-use Rattle.qcow2_alloc.specs.LoadedTables.{IsReasonAgainstReftable, L1TableReads}
-use Rattle.qcow2_image.specs.Opened.{needs_missing}
-use Rattle.qcow2_image.specs.Readable.{HeaderSuits, IsReadable, IsReasonAgainstTables, IsJustifiedRefusal, NeededTablesRead}
-use Rattle.qcow2_image.specs.declared.image.Missing.{Missing}
 use Rattle.qcow2_image.proofs.Open.SameHeaders.{not_needed}
 
 -- an L1 table without entries

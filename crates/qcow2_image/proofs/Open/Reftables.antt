@@ -1,17 +1,5 @@
 -- The allocator still belongs to its file if no refcount and no reftable entry changes.
-use Rattle.std.proofs.Common.{◌≡◌, ◌/◌, Option, Some, sym, ap, ◌∙◌, ℕ, arith}
-use Rattle.std.specs.Prelude.{IfSome}
-use Rattle.image_access.specs.Moments.{StorageView}
-use Rattle.qcow2_metadata.specs.Entries.{count, reftable_entry}
-use Rattle.qcow2_metadata.specs.EntryTable.{EntryTableView}
-use Rattle.qcow2_metadata.specs.Header.{cluster_size, reftable_entries}
-use Rattle.qcow2_metadata.specs.declared.header.HeaderFields.{HeaderFields}
-use Rattle.qcow2_laws.specs.CrashInvariant.{Pending}
-use Rattle.qcow2_alloc.specs.declared.allocation.Allocator.{Allocator}
-use Rattle.qcow2_alloc.specs.declared.image_file.ImageFile.{ImageFile}
-use Rattle.qcow2_alloc.specs.ImageFile.{contents_in, known_in, HasReftable, InternalFileStep}
-use Rattle.qcow2_alloc.specs.KeptAllocators.{IsAllocatorOf}
-use Rattle.qcow2_alloc.proofs.KeptAllocators.{allocator_kept}
+use Rattle.qcow2_image.proofs.Common.{◌≡◌, ◌/◌, Option, Some, sym, ap, ◌∙◌, ℕ, arith, IfSome, StorageView, count, reftable_entry, EntryTableView, cluster_size, reftable_entries, HeaderFields, Pending, Allocator, ImageFile, contents_in, known_in, HasReftable, InternalFileStep, IsAllocatorOf, allocator_kept}
 
 module _ {S : Type 0} (view : S → StorageView) (old new : ImageFile S) where
   -- the same header and the same bytes on the storage

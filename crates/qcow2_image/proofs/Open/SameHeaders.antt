@@ -1,27 +1,9 @@
 -- The bytes of an image hold only one header, and an image that needs another file is refused for that.
-use Rattle.std.proofs.Common.{◌≡◌, ◌≢◌, ◌⊎◌, Result, ◌/◌, ◌%◌, ℕ, is_some, List, true, false, Bool, refl, sym, ap, ◌∙◌, subst, inl, inr}
-use Rattle.std.specs.Prelude.{◌||◌, ◌==◌}
-use Rattle.image_access.specs.Moments.{StorageView}
-use Rattle.qcow2_metadata.specs.Bytes.{Bytes, byte_at}
-use Rattle.qcow2_metadata.specs.Consistent.{IsConsistent}
-use Rattle.qcow2_disk.specs.HeaderRest.{KeepsHeaderRest}
-use Rattle.qcow2_disk.proofs.HeaderRest.{header_rest_back}
+use Rattle.qcow2_image.proofs.Common.{◌≡◌, ◌≢◌, ◌⊎◌, Result, ◌/◌, ◌%◌, ℕ, is_some, List, true, false, Bool, refl, sym, ap, ◌∙◌, subst, inl, inr, ◌||◌, ◌==◌, StorageView, Bytes, byte_at, IsConsistent, KeepsHeaderRest, header_rest_back, header, HeaderView, HeaderReads, has_data_file, HeaderFields, IsHeaderIn, IsReasonToRefuse, OnlyReads, MetadataError, ImageError, Dependency, UnalignedTable, of_metadata, IsFault, needs_missing, needs_another, NeedsAnother, NeedsMissing, Missing, MayFail, ContentsStayThroughout}
 use Rattle.qcow2_disk.proofs.HeaderNames.{names_stay}
-use Rattle.qcow2_metadata.specs.Header.{header, HeaderView, HeaderReads, has_data_file}
-use Rattle.qcow2_metadata.specs.declared.header.HeaderFields.{HeaderFields}
-use Rattle.qcow2_metadata.specs.HeaderLoad.{IsHeaderIn, IsReasonToRefuse}
-use Rattle.qcow2_metadata.specs.MetadataError.{OnlyReads}
-use Rattle.qcow2_metadata.specs.declared.error.MetadataError.{MetadataError}
 use Rattle.qcow2_metadata.specs.declared.error.MetadataError.TheVariants as M
 use Rattle.image_access.specs.declared.error.StorageError.TheVariants as T
-use Rattle.qcow2_alloc.specs.declared.error.ImageError.{ImageError}
-use Rattle.qcow2_alloc.specs.declared.error.ImageError.TheVariants.{Dependency, UnalignedTable}
-use Rattle.qcow2_alloc.specs.ImageError.{of_metadata, IsFault}
-use Rattle.qcow2_image.specs.Opened.{needs_missing, needs_another, NeedsAnother, NeedsMissing}
-use Rattle.qcow2_image.specs.declared.image.Missing.{Missing}
 use Rattle.qcow2_image.specs.declared.image.Missing.TheVariants as N
-use Rattle.qcow2_image.specs.Refusals.{MayFail}
-use Rattle.qcow2_image.specs.Unwritten.{ContentsStayThroughout}
 
 -- what it needs is the same for both
 pub needs_so : (v w : HeaderView) (contents : List ℕ) → IsHeaderIn v contents → IsHeaderIn w contents → needs_another v ≡ needs_another w

@@ -1,18 +1,6 @@
 -- The mappings of guest clusters after parts of a range are filled.
-use Rattle.std.proofs.Common.{◌≡◌, ◌⊎◌, inl, inr, ℕ, ◌+◌, ◌-◌, ◌*◌, ◌/◌, ◌%◌, ◌<◌, ◌≤◌, true, false, Option, Some, None, refl, sym, ap, ◌∙◌, arith}
-use Rattle.std.proofs.lemmas.Bool.{and_from, and_left, and_right, cases_lt, cond-false, cond-true, le-leb, le-ltb, lt-leb, lt-ltb}
-use Rattle.std.proofs.lemmas.Nat.{div-add-mod', mod-mul-add, mod_below, pow_pos}
-use Rattle.qcow2_metadata.specs.Bytes.{Bytes}
-use Rattle.qcow2_metadata.specs.declared.header.HeaderFields.{HeaderFields}
-use Rattle.qcow2_metadata.specs.declared.l2_mapping.L2Mapping.{L2Mapping}
-use Rattle.qcow2_metadata.specs.Cover.{cover}
-use Rattle.qcow2_metadata.specs.Header.{cluster_size}
-use Rattle.qcow2_metadata.specs.L2Table.{copied_host, zero_cover}
-use Rattle.qcow2_disk.specs.Mappings.{is_copied_data}
-use Rattle.qcow2_image.specs.Clearing.{ClearsImageCovers, cover_once_cleared, is_between}
-use Rattle.qcow2_image.specs.declared.discarding.ClearMode.TheVariants.{KeptZeros}
-use Rattle.qcow2_image.specs.MovedTables.{CoversStay}
-use Rattle.qcow2_image.specs.Preallocation.{FilledCovers, Touches}
+use Rattle.qcow2_image.proofs.Common.{◌≡◌, ◌⊎◌, inl, inr, ℕ, ◌+◌, ◌-◌, ◌*◌, ◌/◌, ◌%◌, ◌<◌, ◌≤◌, true, false, Option, Some, None, refl, sym, ap, ◌∙◌, arith, and_from, and_left, and_right, cases_lt, cond-false, cond-true, le-leb, le-ltb, lt-leb, lt-ltb, div-add-mod', mod-mul-add, mod_below, pow_pos, Bytes, HeaderFields, L2Mapping, cover, cluster_size, copied_host, zero_cover, is_copied_data, ClearsImageCovers, cover_once_cleared, is_between, KeptZeros, CoversStay, FilledCovers}
+use Rattle.qcow2_image.specs.Preallocation.{Touches}
 
 -- ---- numbers
 -- the end of a cluster comes before each later boundary, or is it

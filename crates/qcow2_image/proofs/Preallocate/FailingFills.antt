@@ -1,40 +1,7 @@
 -- Why filling a range, and growing a disk, is refused on a sound image.
-use Rattle.std.proofs.Common.{◌≡◌, ◌⊎◌, inl, inr, ℕ, ◌+◌, ◌-◌, ◌*◌, ◌/◌, ◌%◌, ◌^◌, ◌<◌, ◌≤◌, Bool, true, false, List, Option, Some, None, pow_mono, sym, ap, ◌∙◌, subst, arith}
-use Rattle.std.specs.Prelude.{IfErr, IsErr, IsErrAnd, Result}
-use Rattle.std.proofs.Math.Nat.{div-lt_iff_lt-mul}
-use Rattle.std.proofs.lemmas.Bool.{cases_lt}
-use Rattle.std.proofs.lemmas.Nat.{div-add-mod', mul-le, pow_pos}
-use Rattle.image_access.specs.Backing.{BackingView}
-use Rattle.image_access.specs.Moments.{StorageView}
-use Rattle.image_access.specs.declared.storage.PreallocateMode.{PreallocateMode}
-use Rattle.qcow2_metadata.specs.Bytes.{Bytes}
-use Rattle.qcow2_metadata.specs.Cover.{cover}
-use Rattle.qcow2_metadata.specs.EntryTable.{HasRoomIfPlaced, entry_count}
-use Rattle.qcow2_metadata.specs.Header.{cluster_size, entries_per_cluster, rounded_up}
-use Rattle.qcow2_metadata.specs.L2Table.{copied_host, zero_cover}
-use Rattle.qcow2_metadata.specs.declared.header.HeaderFields.{HeaderFields}
-use Rattle.qcow2_metadata.specs.declared.l2_mapping.L2Mapping.{L2Mapping}
-use Rattle.qcow2_metadata.specs.declared.l2_mapping.L2Mapping.TheVariants.{Data, Zero, Compressed, Uncovered}
-use Rattle.qcow2_disk.specs.Found.{IsCompressed}
-use Rattle.qcow2_disk.specs.GrownCovers.{FilledCovers, Touches}
-use Rattle.qcow2_disk.specs.Mappings.{is_copied_data}
-use Rattle.qcow2_laws.specs.CrashInvariant.{Pending}
-use Rattle.qcow2_alloc.specs.ImageError.{IsFault}
-use Rattle.qcow2_alloc.specs.ImageFile.{known_in}
-use Rattle.qcow2_alloc.specs.declared.error.ImageError.{ImageError}
-use Rattle.qcow2_alloc.proofs.AllocationSteps.{handed_on}
-use Rattle.qcow2_image.specs.Backings.{HasPinnedMapping}
-use Rattle.qcow2_image.specs.CallParts.{InternalCall}
-use Rattle.qcow2_image.specs.Clearing.{IsUnderMapping}
-use Rattle.qcow2_image.specs.Found.{l1_index_of}
-use Rattle.qcow2_image.specs.ImageInvariant.{ImageInvariant}
-use Rattle.qcow2_image.specs.L1Entries.{NeedsOverflowingL1Entry, ReachesOffset, IsPlacedNear}
-use Rattle.qcow2_image.specs.MayFail.{copied_end, CopiesCompressed, HasCompressedIn, HasNearEntries, MayFailGrowing, MayFailAllocating, KeepsL1Place}
-use Rattle.qcow2_image.specs.MovedTables.{MovesTables}
-use Rattle.qcow2_image.specs.Preallocation.{FillsPart}
-use Rattle.qcow2_image.specs.Preparing.{IsTaken}
-use Rattle.qcow2_image.specs.declared.image.Qcow2.{Qcow2}
-use Rattle.qcow2_image.specs.declared.prepared.Prepared.{Prepared}
+use Rattle.qcow2_image.proofs.Common.{◌≡◌, ◌⊎◌, inl, inr, ℕ, ◌+◌, ◌-◌, ◌*◌, ◌/◌, ◌%◌, ◌^◌, ◌<◌, ◌≤◌, Bool, true, false, List, Option, Some, None, sym, ap, ◌∙◌, subst, arith, IfErr, IsErr, IsErrAnd, Result, div-lt_iff_lt-mul, cases_lt, div-add-mod', mul-le, pow_pos, BackingView, StorageView, PreallocateMode, Bytes, cover, HasRoomIfPlaced, entry_count, cluster_size, entries_per_cluster, rounded_up, copied_host, zero_cover, HeaderFields, L2Mapping, Data, Zero, Compressed, Uncovered, IsCompressed, Touches, is_copied_data, Pending, IsFault, known_in, ImageError, handed_on, HasPinnedMapping, InternalCall, IsUnderMapping, l1_index_of, ImageInvariant, NeedsOverflowingL1Entry, ReachesOffset, IsPlacedNear, copied_end, CopiesCompressed, HasCompressedIn, HasNearEntries, MayFailGrowing, MayFailAllocating, KeepsL1Place, MovesTables, FillsPart, IsTaken, Qcow2, Prepared}
+use Rattle.std.proofs.Common.{pow_mono}
+use Rattle.qcow2_disk.specs.GrownCovers.{FilledCovers}
 use Rattle.qcow2_image.proofs.Grow.L1Lengths.{index_moved, index_rising, last_cluster}
 use Rattle.qcow2_image.proofs.Preallocate.Covers.{touches_or}
 use Rattle.qcow2_image.proofs.Preallocate.FilledGrowth.{up_rising}

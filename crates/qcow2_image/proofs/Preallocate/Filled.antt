@@ -1,41 +1,13 @@
 -- Parts of preallocation, one after another.
-use Rattle.qcow2_image.specs.Limits.{GoesTo}
-use Rattle.std.proofs.Common.{◌≡◌, ◌⊎◌, ⊎_elim, inl, inr, ℕ, ◌+◌, ◌-◌, ◌%◌, ◌^◌, ◌<◌, ◌≤◌, min, true, false, List, [], ◌∷◌, refl, sym, ap, ◌∙◌, subst, arith}
-use Rattle.std.specs.Prelude.{IsTrue, Option, Result, Ok, Err}
-use Rattle.image_access.specs.Backing.{BackingView}
-use Rattle.image_access.specs.Moments.{StorageView}
-use Rattle.qcow2_metadata.specs.declared.header.HeaderFields.{HeaderFields}
-use Rattle.qcow2_metadata.specs.Header.{cluster_size, entries_per_cluster}
-use Rattle.qcow2_disk.specs.Found.{rest_of_table}
-use Rattle.std.proofs.lemmas.Bool.{cases_lt}
-use Rattle.qcow2_disk.specs.AbstractImages.{Guest, guest_of}
-use Rattle.qcow2_disk.specs.Calls.{EffectOnSound, with_disk}
-use Rattle.qcow2_disk.specs.Disk.{Disk, zeroed_between}
-use Rattle.qcow2_disk.specs.Stops.{GivenBytes}
-use Rattle.qcow2_disk.proofs.Compose.{works_less, works_then, stops_as}
+use Rattle.qcow2_image.proofs.Common.{GoesTo, ◌≡◌, ◌⊎◌, ⊎_elim, inl, inr, ℕ, ◌+◌, ◌-◌, ◌%◌, ◌^◌, ◌<◌, ◌≤◌, min, true, false, List, [], ◌∷◌, refl, sym, ap, ◌∙◌, subst, arith, IsTrue, Option, Result, Ok, Err, BackingView, StorageView, HeaderFields, cluster_size, entries_per_cluster, rest_of_table, cases_lt, Guest, guest_of, EffectOnSound, with_disk, Disk, zeroed_between, GivenBytes, works_less, works_then, stops_as, known_in, ImageError, has_noted_change, RefusedCall, InternalCall, ClearsPart, IsUnderMapping, KeptZeros, Qcow2, Prepared, ImageInvariant, abstract_of, disk_of, pending_in, l1_index_of, KeepsL1Place, MovesTables, ChangesFree, FilledCovers, FillsOrRefuses, FillsPart, FillsSome, InterruptedGiving, IsUnderMappingIn, MayBeZero, RefusedFill, given_by_zeros, MayFail, IsUnlimited, pow_pos}
 use Rattle.qcow2_alloc.specs.ImageError.{IsFault as FaultOfTables}
-use Rattle.qcow2_alloc.specs.ImageFile.{known_in}
-use Rattle.qcow2_alloc.specs.declared.error.ImageError.{ImageError}
 use Rattle.qcow2_alloc.specs.declared.error.ImageError.TheVariants as I
-use Rattle.qcow2_image.specs.Image.{has_noted_change}
-use Rattle.qcow2_image.specs.CallParts.{RefusedCall, InternalCall}
-use Rattle.qcow2_image.specs.Clearing.{ClearsPart, IsUnderMapping}
-use Rattle.qcow2_image.specs.declared.discarding.ClearMode.TheVariants.{KeptZeros}
-use Rattle.qcow2_image.specs.declared.image.Qcow2.{Qcow2}
-use Rattle.qcow2_image.specs.declared.prepared.Prepared.{Prepared}
-use Rattle.qcow2_image.specs.ImageInvariant.{ImageInvariant, abstract_of, disk_of, pending_in}
-use Rattle.qcow2_image.specs.Found.{l1_index_of}
-use Rattle.qcow2_image.specs.MayFail.{KeepsL1Place}
-use Rattle.qcow2_image.specs.MovedTables.{MovesTables}
-use Rattle.qcow2_image.specs.Preallocation.{ChangesFree, FilledCovers, FillsOrRefuses, FillsPart, FillsSome, InterruptedGiving, IsUnderMappingIn, MayBeZero, RefusedFill, given_by_zeros}
-use Rattle.qcow2_image.specs.Refusals.{MayFail, IsUnlimited}
 use Rattle.qcow2_image.proofs.Call.Called.{works_none}
 use Rattle.qcow2_image.proofs.Clear.ClearCalls.{under_before}
 use Rattle.qcow2_image.proofs.Clear.Ranges.{table_end, table_whole}
 use Rattle.qcow2_image.proofs.Grow.L1Lengths.{place_same, reaching_stays, reaching_stays_shorter, reaching_stays_then}
 use Rattle.qcow2_image.proofs.Images.Moved.{file_step_then}
 use Rattle.qcow2_image.proofs.Prepare.LimitCauses.{limited_from, limited_less, other_limit}
-use Rattle.std.proofs.lemmas.Nat.{pow_pos}
 use Rattle.qcow2_image.proofs.Preallocate.Covers.{covers_before, covers_cleared, covers_from, covers_none, covers_stay, covers_then}
 use Rattle.qcow2_image.proofs.Preallocate.Pieces.{none_of}
 use Rattle.qcow2_image.proofs.Preallocate.NoPreparedEntries.{untaken_before, untaken_none, untaken_then, untaken_zeros}

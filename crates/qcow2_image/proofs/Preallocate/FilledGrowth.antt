@@ -1,28 +1,7 @@
 -- Zeros past the end of a disk, before its size grows.
-use Rattle.std.proofs.Common.{◌≡◌, ⊎_elim, inl, inr, ℕ, ◌+◌, ◌-◌, ◌*◌, ◌/◌, ◌%◌, ◌<◌, ◌≤◌, true, false, List, [], ◌∷◌, Option, refl, sym, ap, ◌∙◌, subst, arith}
-use Rattle.std.specs.Prelude.{Result, Ok, Err, ◌||◌}
-use Rattle.std.proofs.lemmas.Bool.{cases_lt, cond-false, lt-leb}
-use Rattle.std.proofs.lemmas.Nat.{div-add-mod', mod-mul-add, mod_below}
-use Rattle.image_access.specs.Backing.{BackingView}
-use Rattle.image_access.specs.Moments.{StorageView}
-use Rattle.image_access.specs.declared.storage.PreallocateMode.{PreallocateMode}
+use Rattle.qcow2_image.proofs.Common.{◌≡◌, ⊎_elim, inl, inr, ℕ, ◌+◌, ◌-◌, ◌*◌, ◌/◌, ◌%◌, ◌<◌, ◌≤◌, true, false, List, [], ◌∷◌, Option, refl, sym, ap, ◌∙◌, subst, arith, Result, Ok, Err, ◌||◌, cases_lt, cond-false, lt-leb, div-add-mod', mod-mul-add, mod_below, BackingView, StorageView, PreallocateMode, Value, known_byte, cluster_size, rounded_up, guest_of, shows_old, with_disk, Disk, zeroed_between, given_shown, GivenBytes, IsGiven, works_less, TouchesLess, known_in, ImageError, Qcow2, Prepared, size_of, ImageInvariant, abstract_of, disk_of, pending_in, ChangesFree, FilledCovers, FillsGrown, FillsGrownInPart, FillsGrownOrRefuses, FillsOrRefuses, FillsPart, FillsSome, InterruptedGiving, IsUnderMappingIn, RefusedFill, RefusedGrown, filled_to, given_by_zeros, all_given_by_growing, MayFail, IsUnlimited}
 use Rattle.image_access.specs.declared.storage.PreallocateMode.TheVariants as Mode
-use Rattle.qcow2_metadata.specs.Guest.{Value, known_byte}
-use Rattle.qcow2_metadata.specs.Header.{cluster_size, rounded_up}
-use Rattle.qcow2_disk.specs.AbstractImages.{guest_of}
-use Rattle.qcow2_disk.specs.Calls.{shows_old, with_disk}
-use Rattle.qcow2_disk.specs.Disk.{Disk, zeroed_between}
-use Rattle.qcow2_disk.specs.Mappings.{given_shown}
-use Rattle.qcow2_disk.specs.Stops.{GivenBytes, IsGiven}
-use Rattle.qcow2_disk.proofs.Compose.{works_less, TouchesLess}
-use Rattle.qcow2_alloc.specs.ImageFile.{known_in}
-use Rattle.qcow2_alloc.specs.declared.error.ImageError.{ImageError}
-use Rattle.qcow2_image.specs.declared.image.Qcow2.{Qcow2}
-use Rattle.qcow2_image.specs.declared.prepared.Prepared.{Prepared}
-use Rattle.qcow2_image.specs.Image.{size_of}
-use Rattle.qcow2_image.specs.ImageInvariant.{ImageInvariant, abstract_of, disk_of, pending_in}
-use Rattle.qcow2_image.specs.Preallocation.{ChangesFree, FilledCovers, first_zeros, FillsGrown, FillsGrownInPart, FillsGrownOrRefuses, FillsOrRefuses, FillsPart, FillsSome, InterruptedGiving, IsUnderMappingIn, RefusedFill, RefusedGrown, filled_to, given_by_zeros, all_given_by_growing}
-use Rattle.qcow2_image.specs.Refusals.{MayFail, IsUnlimited}
+use Rattle.qcow2_image.specs.Preallocation.{first_zeros}
 use Rattle.qcow2_image.proofs.Call.Called.{works_none}
 use Rattle.qcow2_image.proofs.Preallocate.Filled.{met_taken, refused_here}
 use Rattle.qcow2_image.proofs.Preallocate.Covers.{boundary}

@@ -1,20 +1,6 @@
 -- A growth is refused, and clusters are freed after the refusal.
-use Rattle.std.proofs.Common.{◌≡◌, ◌⊎◌, ◌∙◌, inl, inr, ℕ, true, List, [], sym, subst}
-use Rattle.std.specs.Prelude.{Option, Result, Err}
-use Rattle.image_access.specs.Backing.{BackingView}
-use Rattle.image_access.specs.Moments.{StorageView}
-use Rattle.image_access.specs.declared.storage.PreallocateMode.{PreallocateMode}
-use Rattle.qcow2_disk.specs.Stops.{GivenBytes}
-use Rattle.qcow2_disk.proofs.Compose.{works_less, works_then}
-use Rattle.qcow2_alloc.specs.ImageError.{IsFault}
-use Rattle.qcow2_alloc.specs.declared.error.ImageError.{ImageError}
+use Rattle.qcow2_image.proofs.Common.{◌≡◌, ◌⊎◌, ◌∙◌, inl, inr, ℕ, true, List, [], sym, subst, Option, Result, Err, BackingView, StorageView, PreallocateMode, GivenBytes, works_less, works_then, IsFault, ImageError, RefusedCall, Qcow2, Prepared, ImageInvariant, abstract_of, pending_in, FillsGrownInPart, InterruptedGiving, all_given_by_growing, FreesRefused}
 use Rattle.qcow2_alloc.specs.declared.error.ImageError.TheVariants as I
-use Rattle.qcow2_image.specs.CallParts.{RefusedCall}
-use Rattle.qcow2_image.specs.declared.image.Qcow2.{Qcow2}
-use Rattle.qcow2_image.specs.declared.prepared.Prepared.{Prepared}
-use Rattle.qcow2_image.specs.ImageInvariant.{ImageInvariant, abstract_of, pending_in}
-use Rattle.qcow2_image.specs.Preallocation.{FillsGrownInPart, InterruptedGiving, all_given_by_growing}
-use Rattle.qcow2_image.specs.Refusals.{FreesRefused}
 
 pub same_refusal : {A : Type 0} (r : Result A ImageError) (e e' : ImageError) → r ≡ Err e → r ≡ Err e' → e ≡ e'
 same_refusal r e e' was is = let both : Err e ≡ Err e' = sym was ∙ is in cc

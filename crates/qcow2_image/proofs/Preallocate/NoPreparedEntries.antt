@@ -1,29 +1,6 @@
 -- A range is filled part by part, and no entry that has to change lies in an L2 table that a prepared mapping pins.
-use Rattle.std.proofs.Common.{◌≡◌, ◌⊎◌, inl, inr, ℕ, suc, ◌+◌, ◌-◌, ◌*◌, ◌/◌, ◌<◌, ◌≤◌, true, false, List, ◌∷◌, Option, Some, None, refl, sym, ap, ◌∙◌, subst, arith}
-use Rattle.std.specs.Prelude.{IsSome, slice_get}
-use Rattle.std.proofs.lemmas.Bool.{cases_lt}
-use Rattle.std.proofs.lemmas.Nat.{div-mul-add, pow_pos}
-use Rattle.image_access.specs.Backing.{BackingView}
-use Rattle.image_access.specs.Moments.{StorageView}
-use Rattle.image_access.specs.declared.storage.PreallocateMode.{PreallocateMode}
-use Rattle.qcow2_metadata.specs.Bytes.{Bytes}
-use Rattle.qcow2_metadata.specs.Header.{cluster_size, entries_per_cluster, rounded_up}
-use Rattle.qcow2_metadata.specs.declared.header.HeaderFields.{HeaderFields}
-use Rattle.qcow2_disk.specs.Found.{rest_of_table}
-use Rattle.qcow2_disk.specs.Mappings.{is_copied_data}
-use Rattle.qcow2_laws.specs.Guests.{table_at}
-use Rattle.qcow2_laws.proofs.Places.{Sizes}
-use Rattle.qcow2_alloc.proofs.KeptTables.Standing.{own_cluster}
-use Rattle.qcow2_alloc.specs.ImageFile.{contents_in, known_in}
-use Rattle.qcow2_image.specs.declared.image.Qcow2.{Qcow2}
-use Rattle.qcow2_image.specs.declared.prepared.Prepared.{Prepared}
-use Rattle.qcow2_image.specs.CallParts.{InternalCall}
-use Rattle.qcow2_image.specs.Clearing.{IsUnderMapping}
-use Rattle.qcow2_image.specs.Found.{l1_index_of}
-use Rattle.qcow2_image.specs.Image.{size_of}
-use Rattle.qcow2_image.specs.ImageInvariant.{ImageInvariant, IsPending, IsReadyWith, pending_in, pins_by}
-use Rattle.qcow2_image.specs.MovedTables.{CoversStay, MovesTables}
-use Rattle.qcow2_image.specs.Preallocation.{ChangesFree, FilledCovers, GrownFree, Touches, first_zeros}
+use Rattle.qcow2_image.proofs.Common.{◌≡◌, ◌⊎◌, inl, inr, ℕ, suc, ◌+◌, ◌-◌, ◌*◌, ◌/◌, ◌<◌, ◌≤◌, true, false, List, ◌∷◌, Option, Some, None, refl, sym, ap, ◌∙◌, subst, arith, IsSome, slice_get, cases_lt, div-mul-add, pow_pos, BackingView, StorageView, PreallocateMode, Bytes, cluster_size, entries_per_cluster, rounded_up, HeaderFields, rest_of_table, is_copied_data, table_at, Sizes, own_cluster, contents_in, known_in, Qcow2, Prepared, InternalCall, IsUnderMapping, l1_index_of, size_of, ImageInvariant, IsPending, IsReadyWith, pending_in, pins_by, CoversStay, MovesTables, ChangesFree, FilledCovers, GrownFree}
+use Rattle.qcow2_image.specs.Preallocation.{Touches, first_zeros}
 use Rattle.qcow2_image.proofs.Images.Apart.{pins_own}
 use Rattle.qcow2_image.proofs.Call.Slots.{over_all_two}
 use Rattle.qcow2_image.proofs.Clear.ClearCalls.{under_after}

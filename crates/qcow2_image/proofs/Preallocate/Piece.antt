@@ -1,43 +1,9 @@
 -- The first bytes of a range are filled: a mapping is prepared, zeros are written into it, and it is committed.
-use Rattle.std.proofs.Common.{◌≡◌, ◌⊎◌, ⊎_elim, inl, inr, ℕ, ◌+◌, ◌-◌, ◌*◌, ◌/◌, ◌%◌, ◌^◌, ◌<◌, ◌≤◌, min, pow_mono, true, false, Bool, true, List, [], ◌∷◌, length, refl, sym, ap, ◌∙◌, subst, arith}
-use Rattle.std.specs.Prelude.{IsNone, IsSome, replicate, Option, Some, None, Result, Ok, Err, slice_get, slice_set}
-use Rattle.std.proofs.lemmas.Bool.{cases_lt}
-use Rattle.std.proofs.lemmas.List.{length-replicate}
-use Rattle.std.proofs.lemmas.Nat.{div-add-mod', div-mul-add, mod_below, pow_pos}
-use Rattle.image_access.specs.Backing.{BackingView}
-use Rattle.image_access.specs.Contents.{overwritten}
-use Rattle.image_access.specs.Moments.{StorageView, EachMomentSince, IsLeftBy}
-use Rattle.qcow2_metadata.specs.EntryTable.{entry_count}
-use Rattle.qcow2_metadata.specs.Bytes.{Bytes}
-use Rattle.qcow2_metadata.specs.declared.header.HeaderFields.{HeaderFields}
-use Rattle.qcow2_metadata.specs.Cover.{cover}
-use Rattle.qcow2_metadata.specs.Header.{cluster_size}
-use Rattle.qcow2_disk.specs.AbstractImages.{Setting, guest_of}
-use Rattle.qcow2_disk.specs.Alike.{AreDataAt, IsDataAt}
-use Rattle.qcow2_disk.specs.Calls.{EffectOnSound, with_slot}
-use Rattle.qcow2_disk.specs.Mappings.{given_by_commit, is_copied_data}
-use Rattle.qcow2_disk.proofs.Compose.{works_then}
-use Rattle.qcow2_alloc.specs.declared.error.ImageError.{ImageError}
+use Rattle.qcow2_image.proofs.Common.{◌≡◌, ◌⊎◌, ⊎_elim, inl, inr, ℕ, ◌+◌, ◌-◌, ◌*◌, ◌/◌, ◌%◌, ◌^◌, ◌<◌, ◌≤◌, min, true, false, Bool, List, [], ◌∷◌, length, refl, sym, ap, ◌∙◌, subst, arith, IsNone, IsSome, replicate, Option, Some, None, Result, Ok, Err, slice_get, slice_set, cases_lt, length-replicate, div-add-mod', div-mul-add, mod_below, pow_pos, BackingView, overwritten, StorageView, EachMomentSince, IsLeftBy, entry_count, Bytes, HeaderFields, cover, cluster_size, Setting, guest_of, AreDataAt, IsDataAt, EffectOnSound, with_slot, given_by_commit, is_copied_data, works_then, ImageError, ImageStorage, contents_in, known_in, view_in, storage_of, Qcow2, Prepared, AreCopied, EntersAll, IsEntered, IsReadied, IsWriteOutcome, PutsPart, RefusedCall, StaysBeside, WritesBytes, Discards, ReleasesOneMapping, InPlace, ImageInvariant, IsPending, IsReadyWith, cluster_of, abstract_of, disk_of, image_abstraction, meaning, pending_in, ReachingStays, KeepsL1Place, MovesTables, ChangesFree, FilledCovers, CommitsWhole, FillsPart, FillsSome, InterruptedGiving, given_by_zeros, file_sizes, IsUnderMapping, l1_index_of, IsAnswered}
+use Rattle.std.proofs.Common.{pow_mono}
 use Rattle.qcow2_alloc.specs.declared.error.ImageError.TheVariants as I
-use Rattle.qcow2_alloc.specs.declared.image_storage.ImageStorage.{ImageStorage}
 use Rattle.qcow2_alloc.specs.ImageError.{IsFault as FaultOfTables}
-use Rattle.qcow2_alloc.specs.ImageFile.{contents_in, known_in, view_in}
-use Rattle.qcow2_alloc.specs.ImageStorage.{storage_of}
-use Rattle.qcow2_image.specs.declared.image.Qcow2.{Qcow2}
-use Rattle.qcow2_image.specs.declared.prepared.Prepared.{Prepared}
-use Rattle.qcow2_image.specs.CallParts.{AreCopied, EntersAll, IsEntered, IsReadied, IsWriteOutcome, PutsPart, RefusedCall, StaysBeside, WritesBytes}
-use Rattle.qcow2_image.specs.Calls.{Discards}
-use Rattle.qcow2_image.specs.Ranges.{ReleasesOneMapping}
-use Rattle.qcow2_image.specs.declared.prepared.ClusterMapping.TheVariants.{InPlace}
-use Rattle.qcow2_image.specs.ImageInvariant.{ImageInvariant, IsPending, IsReadyWith, cluster_of, abstract_of, disk_of, image_abstraction, meaning, pending_in}
-use Rattle.qcow2_image.specs.L1Entries.{ReachingStays}
-use Rattle.qcow2_image.specs.MayFail.{KeepsL1Place}
-use Rattle.qcow2_image.specs.MovedTables.{MovesTables}
-use Rattle.qcow2_image.specs.Preallocation.{ChangesFree, FilledCovers, Touches, CommitsWhole, FillsPart, FillsSome, InterruptedGiving, given_by_zeros}
-use Rattle.qcow2_alloc.proofs.PlacedBlocks.{file_sizes}
-use Rattle.qcow2_image.specs.Clearing.{IsUnderMapping}
-use Rattle.qcow2_image.specs.Found.{l1_index_of}
-use Rattle.qcow2_image.specs.Preparing.{IsAnswered}
+use Rattle.qcow2_image.specs.Preallocation.{Touches}
 use Rattle.qcow2_image.proofs.Clear.ClearCalls.{under_after}
 use Rattle.qcow2_image.proofs.Images.Moved.{data_moved}
 use Rattle.qcow2_image.proofs.Call.Slots.{get_set_same, set_set}

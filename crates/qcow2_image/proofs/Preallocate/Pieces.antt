@@ -1,16 +1,5 @@
 -- Zeros are put into a mapping that is prepared in a slot of its own, and the mapping is committed.
-use Rattle.std.proofs.Common.{◌≡◌, ◌⊎◌, ⊎_elim, inl, inr, ℕ, suc, eqb, ◌+◌, ◌≤◌, ◌<◌, length, List, [], ◌∷◌, Option, Some, None, true, refl, sym, ap, ◌∙◌, subst, arith}
-use Rattle.std.proofs.lemmas.List.{length-replicate}
-use Rattle.std.proofs.lemmas.Bool.{cond-false, ne_eqb}
-use mathlib.Core.Path.{fun_ext}
-use Rattle.qcow2_metadata.specs.Guest.{Value}
-use Rattle.qcow2_disk.specs.Disk.{Disk, disk, zeroed_between}
-use Rattle.qcow2_disk.specs.Mappings.{PreparedMapping, IsPrepared, committed, given_by_commit, given_by_put, put_disk, put_mapping}
-use Rattle.qcow2_disk.specs.Stops.{GivenBytes, IsGiven}
-use Rattle.qcow2_disk.specs.AbstractImages.{Abstraction, AbstractImage, Guest, HasFreePlaces, abstract_image, guest_of}
-use Rattle.qcow2_disk.specs.Calls.{EffectOnSound, with_disk, with_slot}
-use Rattle.qcow2_disk.proofs.Compose.{TouchesLess, shown_is, works_less, works_then, stops_none}
-use Rattle.qcow2_image.specs.Preallocation.{given_by_zeros}
+use Rattle.qcow2_image.proofs.Common.{◌≡◌, ◌⊎◌, ⊎_elim, inl, inr, ℕ, suc, eqb, ◌+◌, ◌≤◌, ◌<◌, length, List, [], ◌∷◌, Option, Some, None, true, refl, sym, ap, ◌∙◌, subst, arith, length-replicate, cond-false, ne_eqb, fun_ext, Value, Disk, disk, zeroed_between, PreparedMapping, IsPrepared, committed, given_by_commit, given_by_put, put_disk, put_mapping, GivenBytes, IsGiven, Abstraction, AbstractImage, Guest, HasFreePlaces, abstract_image, guest_of, EffectOnSound, with_disk, with_slot, TouchesLess, shown_is, works_less, works_then, stops_none, given_by_zeros}
 use Rattle.qcow2_image.proofs.Preallocate.Zeros.{commit_within, filled, put_within, zeros_of}
 use Rattle.qcow2_image.proofs.Images.UngivenCovers.{touches_part}
 use Rattle.qcow2_image.proofs.Images.WholeClusters.{commit_touches}

@@ -1,20 +1,6 @@
 -- Zeros on a disk, in parts, and through a mapping that is prepared, written and committed.
-use Rattle.std.proofs.Common.{◌≡◌, ◌⊎◌, ⊎_elim, inl, inr, ℕ, ◌+◌, ◌-◌, ◌<◌, ◌≤◌, List, [], ◌∷◌, length, true, false, refl, sym, ap, ◌∙◌, subst, arith, min}
-use Rattle.std.specs.Prelude.{replicate}
-use Rattle.std.proofs.lemmas.Bool.{cases_lt, cases_Bool, cond-true, cond-false}
-use Rattle.std.proofs.lemmas.List.{get_or-replicate, length-replicate}
-use mathlib.Core.Path.{fun_ext}
-use Rattle.qcow2_metadata.specs.Bytes.{byte_at, is_within}
-use Rattle.qcow2_metadata.specs.Guest.{Value, known_byte}
-use Rattle.qcow2_metadata.specs.Header.{rounded_down}
-use Rattle.qcow2_disk.specs.Disk.{Disk, with_bytes, zeroed_between}
-use Rattle.qcow2_disk.specs.Mappings.{PreparedMapping, IsPrepared, committed, given_by_commit, given_by_put, given_shown, put_disk, put_mapping}
-use Rattle.qcow2_disk.specs.Stops.{IsGiven}
-use Rattle.qcow2_disk.proofs.ForUsers.{laid_inside, laid_outside, put_given}
-use Rattle.qcow2_disk.proofs.Within.{within_is}
-use Rattle.qcow2_image.specs.Preallocation.{MayBeZero, given_by_zeros}
+use Rattle.qcow2_image.proofs.Common.{◌≡◌, ◌⊎◌, ⊎_elim, inl, inr, ℕ, ◌+◌, ◌-◌, ◌<◌, ◌≤◌, List, [], ◌∷◌, length, true, false, refl, sym, ap, ◌∙◌, subst, arith, min, replicate, cases_lt, cases_Bool, cond-true, cond-false, get_or-replicate, length-replicate, fun_ext, byte_at, is_within, Value, known_byte, rounded_down, Disk, with_bytes, zeroed_between, PreparedMapping, IsPrepared, committed, given_by_commit, given_by_put, given_shown, put_disk, put_mapping, IsGiven, laid_inside, laid_outside, put_given, within_is, MayBeZero, given_by_zeros, TouchesLess}
 use Rattle.qcow2_image.proofs.Images.UngivenCovers.{touches_less}
-use Rattle.qcow2_disk.proofs.Compose.{TouchesLess}
 
 -- where an offset lies
 pub cases_range : (from to o : ℕ) → ((from ≤ o) × (o < to)) ⊎ ((o < from) ⊎ (to ≤ o))

@@ -1,9 +1,6 @@
 -- Why a call that allocates is refused, whatever is prepared, from the refusals of its parts.
-use Rattle.std.proofs.Common.{◌≡◌, inl, inr, Result, Ok, Err}
-use Rattle.std.specs.Prelude.{IfErr}
-use Rattle.qcow2_alloc.specs.declared.error.ImageError.{ImageError}
+use Rattle.qcow2_image.proofs.Common.{◌≡◌, inl, inr, Result, Ok, Err, IfErr, ImageError, MayFailLooking, MayFailAllocating}
 use Rattle.qcow2_alloc.specs.declared.error.ImageError.TheVariants as I
-use Rattle.qcow2_image.specs.MayFail.{MayFailLooking, MayFailAllocating}
 use Rattle.qcow2_image.proofs.Prepare.FailingRanges.{alone_as}
 
 -- the causes follow from those of a part

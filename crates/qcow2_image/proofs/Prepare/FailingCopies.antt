@@ -1,40 +1,9 @@
 -- Why copying, and allocating a first cluster, are refused: for a fault, a limit, or compressed data.
-use Rattle.std.proofs.Common.{◌≡◌, ◌⊎◌, inl, inr, ℕ, ◌+◌, ◌-◌, ◌*◌, ◌/◌, ◌%◌, ◌^◌, ◌<◌, ◌≤◌, Bool, true, false, List, Option, Some, None, Result, Ok, Err, refl, sym, ap, ◌∙◌, subst, arith}
-use Rattle.std.specs.Prelude.{IfErr, IsErr, IsErrAnd, SomeIff}
-use Rattle.std.proofs.lemmas.Bool.{cases_lt}
-use Rattle.std.proofs.lemmas.Nat.{div-add-mod', div-mul-add, mod-mul-add, mul-le, pow-add, pow_pos}
-use Rattle.image_access.specs.Backing.{BackingView}
-use Rattle.image_access.specs.Moments.{StorageView}
-use Rattle.qcow2_metadata.specs.Bytes.{Bytes}
-use Rattle.qcow2_metadata.specs.Cover.{cover}
-use Rattle.qcow2_metadata.specs.Header.{cluster_size}
-use Rattle.qcow2_metadata.specs.Named.{named_for_tables}
-use Rattle.qcow2_metadata.specs.declared.header.HeaderFields.{HeaderFields}
-use Rattle.qcow2_metadata.specs.declared.l2_mapping.L2Mapping.{L2Mapping}
-use Rattle.qcow2_metadata.specs.declared.l2_mapping.L2Mapping.TheVariants.{Data, Zero, Compressed, Uncovered}
-use Rattle.qcow2_disk.specs.Found.{Kind, special, kind_at, IsCompressed}
-use Rattle.qcow2_laws.specs.CrashInvariant.{Pending}
-use Rattle.qcow2_laws.specs.GuestLaws.{Hosting, IsHostedAt}
+use Rattle.qcow2_image.proofs.Common.{◌≡◌, ◌⊎◌, inl, inr, ℕ, ◌+◌, ◌-◌, ◌*◌, ◌/◌, ◌%◌, ◌^◌, ◌<◌, ◌≤◌, Bool, true, false, List, Option, Some, None, Result, Ok, Err, refl, sym, ap, ◌∙◌, subst, arith, IfErr, IsErr, IsErrAnd, cases_lt, div-add-mod', div-mul-add, mod-mul-add, mul-le, pow-add, pow_pos, BackingView, StorageView, Bytes, cover, cluster_size, named_for_tables, HeaderFields, L2Mapping, Data, Zero, Compressed, Uncovered, Kind, special, kind_at, IsCompressed, Pending, Hosting, IsHostedAt, DriverState, StateInvariant, in_own, beside_tables, shares, IsFault, known_in, state_in, IsFaultOr, ImageError, handed_on, own_cluster, found_kind, ImageInvariant, MayFailAlone, MayFailMapped, MayFailReading, IsSpecial, IsFaultOrLimit, Qcow2, MappingKind, Prepared}
+use Rattle.std.specs.Prelude.{SomeIff}
 use Rattle.qcow2_laws.specs.GuestLaws.{Kept as HostedKept, Held as HostedHeld}
-use Rattle.qcow2_laws.specs.SafeSteps.{DriverState, StateInvariant}
-use Rattle.qcow2_laws.proofs.Consistency.{in_own}
-use Rattle.qcow2_laws.proofs.PutRuns.{beside_tables}
-use Rattle.qcow2_laws.proofs.Shares.{shares}
-use Rattle.qcow2_alloc.specs.ImageError.{IsFault}
-use Rattle.qcow2_alloc.specs.ImageFile.{known_in, state_in}
-use Rattle.qcow2_alloc.specs.Limits.{IsFaultOr}
-use Rattle.qcow2_alloc.specs.declared.error.ImageError.{ImageError}
 use Rattle.qcow2_alloc.specs.declared.error.ImageError.TheVariants as I
-use Rattle.qcow2_alloc.proofs.AllocationSteps.{handed_on}
-use Rattle.qcow2_alloc.proofs.KeptTables.Standing.{own_cluster}
-use Rattle.qcow2_image.specs.Found.{found_kind}
-use Rattle.qcow2_image.specs.ImageInvariant.{ImageInvariant}
-use Rattle.qcow2_image.specs.MayFail.{MayFailAlone, MayFailMapped, MayFailReading, IsSpecial}
-use Rattle.qcow2_image.specs.Refusals.{IsFaultOrLimit}
-use Rattle.qcow2_image.specs.declared.image.Qcow2.{Qcow2}
-use Rattle.qcow2_image.specs.declared.mapping.MappingKind.{MappingKind}
 use Rattle.qcow2_image.specs.declared.mapping.MappingKind.TheVariants as M
-use Rattle.qcow2_image.specs.declared.prepared.Prepared.{Prepared}
 use Rattle.qcow2_image.proofs.Call.BehindHeader.{behind_first}
 use Rattle.qcow2_image.proofs.Map.Looked.{kind_within}
 

@@ -1,24 +1,5 @@
 -- Why preparing a range of a sound image is refused. A mapping that can be extended stays within 64 bits, and begins at a cluster boundary. Its table is cached and readable.
-use Rattle.std.proofs.Common.{◌≡◌, inl, inr, ℕ, ◌+◌, ◌-◌, ◌*◌, ◌/◌, ◌%◌, ◌^◌, ◌<◌, ◌≤◌, Bool, true, false, List, length, [], ◌∷◌, Option, Some, refl, sym, ap, ◌∙◌, subst, arith}
-use Rattle.std.specs.Prelude.{IsSome, slice_get}
-use Rattle.std.proofs.lemmas.Bool.{cases_lt}
-use Rattle.std.proofs.lemmas.Nat.{div-add-mod', mod-mul-add, mod_below}
-use Rattle.std.proofs.Math.Nat.{mul-le-mul_right}
-use Rattle.image_access.specs.Backing.{BackingView}
-use Rattle.image_access.specs.Moments.{StorageView}
-use Rattle.qcow2_metadata.specs.Entries.{host_offset}
-use Rattle.qcow2_metadata.specs.Header.{cluster_size, entries_per_cluster, HeaderView}
-use Rattle.qcow2_metadata.specs.declared.header.HeaderFields.{HeaderFields}
-use Rattle.qcow2_laws.proofs.Places.{Sizes, Sizes-from, l1_entry-past}
-use Rattle.qcow2_alloc.specs.ImageFile.{contents_in, known_in, KeepsHeader}
-use Rattle.qcow2_alloc.specs.MetadataCaches.{IsEntryAt, l2_at}
-use Rattle.qcow2_alloc.specs.declared.error.ImageError.{ImageError}
-use Rattle.qcow2_image.specs.declared.image.Qcow2.{Qcow2}
-use Rattle.qcow2_image.specs.declared.prepared.Prepared.{Prepared}
-use Rattle.qcow2_image.specs.declared.prepared.ClusterMapping.{ClusterMapping}
-use Rattle.qcow2_image.specs.ImageInvariant.{cluster_of, pending_in, pins_by, IsPending, IsReadyWith, ImageInvariant}
-use Rattle.qcow2_image.specs.MayFail.{MayFailAlone, KeepsL1Place}
-use Rattle.qcow2_image.specs.Ranges.{MayGoOn}
+use Rattle.qcow2_image.proofs.Common.{◌≡◌, inl, inr, ℕ, ◌+◌, ◌-◌, ◌*◌, ◌/◌, ◌%◌, ◌^◌, ◌<◌, ◌≤◌, Bool, true, false, List, length, [], ◌∷◌, Option, Some, refl, sym, ap, ◌∙◌, subst, arith, IsSome, slice_get, cases_lt, div-add-mod', mod-mul-add, mod_below, mul-le-mul_right, BackingView, StorageView, host_offset, cluster_size, entries_per_cluster, HeaderView, HeaderFields, Sizes, Sizes-from, l1_entry-past, contents_in, known_in, KeepsHeader, IsEntryAt, l2_at, ImageError, Qcow2, Prepared, ClusterMapping, cluster_of, pending_in, pins_by, IsPending, IsReadyWith, ImageInvariant, MayFailAlone, KeepsL1Place, MayGoOn}
 use Rattle.qcow2_image.proofs.Images.Apart.{pins_own}
 use Rattle.qcow2_image.proofs.Commit.Entered.{HasFirst, pinned_new_data}
 use Rattle.qcow2_image.proofs.Prepare.FollowingCluster.{host_is, next_cluster, next_is, table_is}

@@ -1,34 +1,5 @@
 -- Why finding or making an L2 table, and clearing entries in one, is refused on a sound image.
-use Rattle.std.proofs.Common.{◌≡◌, inl, inr, ℕ, ◌+◌, ◌-◌, ◌*◌, ◌/◌, ◌%◌, ◌^◌, ◌<◌, ◌≤◌, List, length, Option, Some, Result, Ok, Err, false, refl, sym, ap, ◌∙◌, subst}
-use Rattle.std.specs.Prelude.{◌⊎◌, IfErr, IfSome, IsErr, IsErrAnd, IsSome}
-use Rattle.image_access.specs.Backing.{BackingView}
-use Rattle.image_access.specs.Contents.{overwritten}
-use Rattle.image_access.specs.Moments.{StorageView, Changes, Calls}
-use Rattle.image_access.specs.declared.error.StorageError.{StorageError}
-use Rattle.qcow2_metadata.specs.Header.{cluster_size, entries_per_cluster}
-use Rattle.qcow2_metadata.specs.L2Table.{L2TableView}
-use Rattle.qcow2_laws.specs.CrashInvariant.{Pending}
-use Rattle.qcow2_alloc.specs.CachePins.{IsInUseOrFault}
-use Rattle.qcow2_alloc.specs.ImageError.{IsFault}
-use Rattle.qcow2_alloc.specs.ImageFile.{FileInvariant, known_in}
-use Rattle.qcow2_alloc.specs.ImageStorage.{storage_of}
-use Rattle.qcow2_alloc.specs.MetadataCaches.{IsEntryAt, PutRefusesBy, l2_at}
-use Rattle.qcow2_alloc.specs.TableCaches.{IsTableOf}
-use Rattle.qcow2_alloc.specs.declared.error.ImageError.{ImageError}
-use Rattle.qcow2_alloc.specs.declared.image_storage.ImageStorage.{ImageStorage}
-use Rattle.qcow2_alloc.proofs.AllocationSteps.{handed_on}
-use Rattle.qcow2_image.specs.Backings.{HasPinnedMapping}
-use Rattle.qcow2_image.specs.CallParts.{RefusedCall, InternalCall}
-use Rattle.qcow2_image.specs.Clearing.{IsClearable}
-use Rattle.qcow2_image.specs.declared.discarding.ClearMode.{ClearMode}
-use Rattle.qcow2_image.specs.declared.image.Qcow2.{Qcow2}
-use Rattle.qcow2_image.specs.declared.prepared.Prepared.{Prepared}
-use Rattle.qcow2_image.specs.Found.{l1_index_of}
-use Rattle.qcow2_image.specs.ImageInvariant.{ImageInvariant, pending_in}
-use Rattle.qcow2_image.specs.L1Entries.{NeedsOverflowingL1Entry}
-use Rattle.qcow2_image.specs.MayFail.{MayFailAlone, MayFailLooking}
-use Rattle.qcow2_image.specs.NewTables.{IsStored}
-use Rattle.qcow2_image.specs.InternalSteps.{HoldsTable}
+use Rattle.qcow2_image.proofs.Common.{◌≡◌, inl, inr, ℕ, ◌+◌, ◌-◌, ◌*◌, ◌/◌, ◌%◌, ◌^◌, ◌<◌, ◌≤◌, List, length, Option, Some, Result, Ok, Err, false, refl, sym, ap, ◌∙◌, subst, ◌⊎◌, IfErr, IfSome, IsErr, IsErrAnd, IsSome, BackingView, overwritten, StorageView, Changes, Calls, StorageError, cluster_size, entries_per_cluster, L2TableView, Pending, IsInUseOrFault, IsFault, FileInvariant, known_in, storage_of, IsEntryAt, PutRefusesBy, l2_at, IsTableOf, ImageError, ImageStorage, handed_on, HasPinnedMapping, RefusedCall, InternalCall, IsClearable, ClearMode, Qcow2, Prepared, l1_index_of, ImageInvariant, pending_in, NeedsOverflowingL1Entry, MayFailAlone, MayFailLooking, IsStored, HoldsTable}
 use Rattle.qcow2_image.proofs.Clear.Between.{fits_table}
 use Rattle.qcow2_image.proofs.Prepare.MissingL2Table.{loads_looking}
 use Rattle.qcow2_image.proofs.Prepare.NewL2Table.{holds, keeps_placed, keeps_stored, stands_there}

@@ -1,44 +1,11 @@
 -- A cluster is allocated for data, and what a refusal leaves.
-use Rattle.std.proofs.Common.{◌≡◌, inl, inr, ℕ, ◌+◌, ◌-◌, ◌*◌, ◌%◌, ◌<◌, Bool, false, List, [], ◌∷◌, ◌++◌, Option, Some, refl, sym, ap, ◌∙◌, subst, arith}
-use Rattle.std.specs.Prelude.{Result, Ok, Err, IfOk, IsNone, None, ◌⊎◌}
-use Rattle.image_access.specs.Backing.{BackingView}
-use Rattle.image_access.specs.Moments.{StorageView}
-use Rattle.qcow2_metadata.specs.declared.header.HeaderFields.{HeaderFields}
-use Rattle.qcow2_metadata.specs.Header.{cluster_size}
-use Rattle.qcow2_laws.specs.Changes.{with_new_data, new_data_to_old_data}
-use Rattle.qcow2_laws.specs.CrashInvariant.{Pending}
-use Rattle.qcow2_laws.specs.SafeSteps.{SafeStep}
-use Rattle.qcow2_disk.specs.Disk.{Disk}
-use Rattle.qcow2_metadata.specs.Guest.{known_byte}
-use Rattle.qcow2_laws.specs.Internal.{KeepsFormat}
-use Rattle.qcow2_laws.proofs.SafeSteps.{pending_safe_throughout}
-use Rattle.qcow2_laws.proofs.Steps.{pending_is_changed}
-use Rattle.qcow2_alloc.specs.Limits.{IsPastLimits}
-use Rattle.qcow2_alloc.specs.Allocation.{run_at, Allocates, AllocatesAt, RefusedGrowth}
-use Rattle.qcow2_alloc.specs.CachePins.{KeepsPinsAndNotes}
-use Rattle.qcow2_alloc.specs.declared.allocation.Allocator.{Allocator}
+use Rattle.qcow2_image.proofs.Common.{◌≡◌, inl, inr, ℕ, ◌+◌, ◌-◌, ◌*◌, ◌%◌, ◌<◌, Bool, false, List, [], ◌∷◌, ◌++◌, Option, Some, refl, sym, ap, ◌∙◌, subst, arith, Result, Ok, Err, IfOk, IsNone, None, ◌⊎◌, BackingView, StorageView, HeaderFields, cluster_size, with_new_data, new_data_to_old_data, Pending, SafeStep, Disk, known_byte, KeepsFormat, pending_safe_throughout, pending_is_changed, IsPastLimits, run_at, Allocates, AllocatesAt, RefusedGrowth, KeepsPinsAndNotes, Allocator, ClustersToFreeEntry, ImageError, ImageFile, ListsTables, state_in, view_in, contents_in, known_in, nothing_given, KeepsHeader, InternalFileGrowth, pending_same, header_format, run_in, IsAllocatorOf, refused_kept, Qcow2, Prepared, IsUsed, NoFreeBelowHint, KeepsNoFreeBelowHint, BrokeOff, file_invariant_of, AllocatesDataAt, pending_with_listed, is_announced, IsFilled, InternalFillingStep, RefusedFillingStep, HoldsAll, ListGrows, AllocatesData, run_of, of_data, of_tables, to_free, new_data_by, over_all, disk_of, ImageInvariant, leaked_by, leaked_in}
 use Rattle.qcow2_alloc.specs.declared.clusters_to_free.ClusterKind.TheVariants as Kind
-use Rattle.qcow2_alloc.specs.declared.clusters_to_free.ClustersToFreeEntry.{ClustersToFreeEntry}
-use Rattle.qcow2_alloc.specs.declared.error.ImageError.{ImageError}
-use Rattle.qcow2_alloc.specs.declared.image_file.ImageFile.{ImageFile}
-use Rattle.qcow2_alloc.specs.FreeList.{ListsTables, pending_then as since_listed}
-use Rattle.qcow2_alloc.specs.ImageFile.{state_in, view_in, contents_in, known_in, nothing_given, KeepsHeader, InternalFileGrowth}
-use Rattle.qcow2_alloc.proofs.FileSteps.{pending_same}
-use Rattle.qcow2_alloc.proofs.ListedAfter.{header_format, listed_after_same as same_list}
-use Rattle.qcow2_alloc.proofs.Runs.{run_in}
-use Rattle.qcow2_alloc.specs.KeptAllocators.{IsAllocatorOf}
-use Rattle.qcow2_alloc.proofs.KeptAllocators.{refused_kept}
-use Rattle.qcow2_image.specs.declared.image.Qcow2.{Qcow2}
-use Rattle.qcow2_image.specs.declared.prepared.Prepared.{Prepared}
-use Rattle.qcow2_alloc.specs.LowestRuns.{IsUsed, NoFreeBelowHint, KeepsNoFreeBelowHint, BrokeOff}
-use Rattle.qcow2_alloc.proofs.FileInvariants.{file_invariant_of}
-use Rattle.qcow2_image.specs.Ranges.{AllocatesDataAt}
-use Rattle.qcow2_image.specs.InternalSteps.{pending_with_listed, is_announced, IsFilled, InternalFillingStep, RefusedFillingStep, HoldsAll, ListGrows, AllocatesData}
-use Rattle.qcow2_image.specs.ImageInvariant.{run_of, of_data, of_tables, to_free, new_data_by, over_all, disk_of, ImageInvariant}
+use Rattle.qcow2_alloc.specs.FreeList.{pending_then as since_listed}
+use Rattle.qcow2_alloc.proofs.ListedAfter.{listed_after_same as same_list}
 use Rattle.qcow2_image.proofs.Images.Formats.{lists_grow}
 use Rattle.qcow2_image.proofs.Prepare.InternalWrites.{image_step_kept, image_step_then}
 use Rattle.qcow2_image.proofs.Commit.Released.{run_few, sound_while}
-use Rattle.qcow2_image.specs.Image.{leaked_by, leaked_in}
 use Rattle.qcow2_image.proofs.Images.Moving.{file_moved_on}
 use Rattle.qcow2_image.proofs.Open.Reftables.{reftable_still}
 use Rattle.qcow2_image.proofs.Images.Sound.{free_more}

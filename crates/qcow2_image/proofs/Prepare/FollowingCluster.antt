@@ -1,36 +1,8 @@
 -- What can come after a prepared mapping: copied data in place, or a new cluster that was filled.
-use Rattle.std.proofs.Common.{◌≡◌, ◌⊎◌, inl, inr, ℕ, ◌+◌, ◌-◌, ◌*◌, ◌/◌, ◌%◌, ◌<◌, Bool, true, false, List, length, [], ◌∷◌, Option, Some, None, refl, sym, ap, ◌∙◌, subst, arith, min}
-use Rattle.std.specs.Prelude.{Result, Ok, Err, slice_get, ◌&&◌, ◌≢◌}
-use Rattle.std.proofs.lemmas.Nat.{div-add-mod', div-mul-add, mod-mul-add, mod_below, pow_pos}
-use Rattle.image_access.specs.Backing.{BackingView}
-use Rattle.image_access.specs.Moments.{StorageView}
-use Rattle.qcow2_metadata.specs.Bytes.{is_within}
-use Rattle.qcow2_metadata.specs.declared.header.HeaderFields.{HeaderFields}
-use Rattle.qcow2_metadata.specs.declared.l2_mapping.L2Mapping.{L2Mapping}
-use Rattle.qcow2_metadata.specs.declared.l2_mapping.L2Mapping.TheVariants.{Data, Zero}
-use Rattle.qcow2_metadata.specs.Cover.{cover}
-use Rattle.qcow2_metadata.specs.Guest.{known_byte}
+use Rattle.qcow2_image.proofs.Common.{◌≡◌, ◌⊎◌, inl, inr, ℕ, ◌+◌, ◌-◌, ◌*◌, ◌/◌, ◌%◌, ◌<◌, Bool, true, false, List, length, [], ◌∷◌, Option, Some, None, refl, sym, ap, ◌∙◌, subst, arith, min, Result, Ok, Err, slice_get, ◌&&◌, ◌≢◌, div-add-mod', div-mul-add, mod-mul-add, mod_below, pow_pos, BackingView, StorageView, is_within, HeaderFields, L2Mapping, Data, Zero, cover, known_byte, cluster_size, entries_per_cluster, IsHostCluster, IsInReach, named_run, with_new_data, is_copied_data, cover_format, size_format, IsPastLimits, ClustersToFreeEntry, ImageError, IsEntryAt, contents_in, known_in, Qcow2, Prepared, ClusterMapping, InPlace, New, run_of, of_data, of_tables, to_free, listed_run, disk_of, pending_in, cluster_of, host_begin_of, IsNewAt, IsPending, IsReadyWith, ImageInvariant, InternalCall, Ends, FindsBehind, IsSharedAt, MayGoOn, ClusterMappingsAt, StandsBehind, is_announced, pending_with_listed, IsFilled, InternalFillingStep}
 use Rattle.qcow2_metadata.specs.Entries.{count as count_of}
-use Rattle.qcow2_metadata.specs.Header.{cluster_size, entries_per_cluster}
-use Rattle.qcow2_metadata.specs.L2Mapping.{IsHostCluster, IsInReach, named_run}
-use Rattle.qcow2_laws.specs.Changes.{with_new_data}
-use Rattle.qcow2_disk.specs.Mappings.{is_copied_data}
-use Rattle.qcow2_laws.proofs.Formats.{cover_format, size_format}
-use Rattle.qcow2_alloc.specs.Limits.{IsPastLimits}
-use Rattle.qcow2_alloc.specs.declared.clusters_to_free.ClustersToFreeEntry.{ClustersToFreeEntry}
-use Rattle.qcow2_alloc.specs.declared.error.ImageError.{ImageError}
-use Rattle.qcow2_alloc.specs.MetadataCaches.{IsEntryAt}
-use Rattle.qcow2_alloc.specs.ImageFile.{contents_in, known_in}
-use Rattle.qcow2_image.specs.declared.image.Qcow2.{Qcow2}
-use Rattle.qcow2_image.specs.declared.prepared.Prepared.{Prepared}
-use Rattle.qcow2_image.specs.declared.prepared.ClusterMapping.{ClusterMapping}
-use Rattle.qcow2_image.specs.declared.prepared.ClusterMapping.TheVariants.{InPlace, New}
-use Rattle.qcow2_image.specs.ImageInvariant.{run_of, of_data, of_tables, to_free, listed_run, disk_of, pending_in, cluster_of, host_begin_of, IsNewAt, IsPending, IsReadyWith, ImageInvariant}
-use Rattle.qcow2_image.specs.CallParts.{InternalCall}
-use Rattle.qcow2_image.specs.Ranges.{Ends, FindsBehind, IsSharedAt, MayGoOn, ClusterMappingsAt, StandsBehind}
 use Rattle.qcow2_image.proofs.Call.Refused.{back_refused, image_step_stays}
 use Rattle.qcow2_image.proofs.Prepare.FirstCluster.{listed_after_same}
-use Rattle.qcow2_image.specs.InternalSteps.{is_announced, pending_with_listed, IsFilled, InternalFillingStep}
 use Rattle.qcow2_image.proofs.Prepare.NextCluster.{within_as}
 use Rattle.qcow2_image.proofs.Prepare.InternalWrites.{image_step_none}
 use Rattle.qcow2_image.proofs.Images.ClusterMappings.{place_in}

@@ -1,47 +1,8 @@
 -- Parts of a call that guests don't see: what is pending may change, and clusters may be written that no mapping has.
-use Rattle.std.proofs.Common.{◌≡◌, ◌≢◌, ◌⊎◌, ⊎_elim, inl, inr, ℕ, ◌+◌, ◌-◌, ◌/◌, ◌%◌, ◌<◌, ◌≤◌, List, length, [], ◌++◌, refl, sym, ap, ◌∙◌, subst, arith, Bool, ◌*◌}
-use Rattle.std.specs.Prelude.{Option, Some, Result, Ok, Err, IfOk, slice_get}
-use Rattle.std.proofs.lemmas.Bool.{cases_lt}
-use Rattle.std.proofs.lemmas.Nat.{mod_below, pow_pos}
-use Rattle.std.proofs.lemmas.List.{append_assoc, append-nil}
-use mathlib.Core.Path.{fun_ext}
-use Rattle.image_access.specs.Backing.{BackingView}
-use Rattle.image_access.specs.Contents.{overwritten}
-use Rattle.image_access.specs.Moments.{StorageView, EachMomentSince, IsLeftBy}
-use Rattle.image_access.proofs.Bytes.{byte_at-overwritten}
-use Rattle.qcow2_metadata.specs.Bytes.{byte_at, Bytes}
-use Rattle.qcow2_metadata.specs.declared.header.HeaderFields.{HeaderFields}
-use Rattle.qcow2_metadata.specs.Header.{cluster_size}
-use Rattle.qcow2_metadata.specs.Named.{named_for_tables}
-use Rattle.qcow2_disk.specs.Disk.{disk}
-use Rattle.qcow2_laws.specs.Guests.{over_guests, names}
-use Rattle.qcow2_laws.specs.CrashInvariant.{Pending}
-use Rattle.qcow2_laws.specs.Tops.{WritesAt}
-use Rattle.qcow2_laws.specs.Writes.{IsUnnamed}
-use Rattle.qcow2_laws.proofs.Formats.{covers_format, format_then, size_format}
-use Rattle.qcow2_laws.proofs.SafeSteps.{safe_step_none, safe_step_then, safe_throughout_none, steps_safe_throughout}
-use Rattle.qcow2_laws.proofs.KeptClusters.{kept_aligned}
-use Rattle.qcow2_laws.proofs.Mixes.{tied}
-use Rattle.qcow2_laws.proofs.Places.{in_one}
-use Rattle.qcow2_laws.proofs.PutRuns.{private_written}
+use Rattle.qcow2_image.proofs.Common.{◌≡◌, ◌≢◌, ◌⊎◌, ⊎_elim, inl, inr, ℕ, ◌+◌, ◌-◌, ◌/◌, ◌%◌, ◌<◌, ◌≤◌, List, length, [], ◌++◌, refl, sym, ap, ◌∙◌, subst, arith, Bool, ◌*◌, Option, Some, Result, Ok, Err, IfOk, slice_get, cases_lt, mod_below, pow_pos, append_assoc, append-nil, fun_ext, BackingView, overwritten, StorageView, EachMomentSince, IsLeftBy, byte_at-overwritten, byte_at, Bytes, HeaderFields, cluster_size, named_for_tables, disk, over_guests, names, Pending, WritesAt, IsUnnamed, covers_format, format_then, size_format, safe_step_none, safe_step_then, safe_throughout_none, steps_safe_throughout, kept_aligned, tied, in_one, private_written, ImageError, ImageStorage, storage_of, order_of, state_in, view_in, contents_in, known_in, nothing_given, Qcow2, Prepared, IsWriteOutcome, WritesBytes, AreThere, InternalStep, InternalFillingStep, HoldsAll, IsInHeldCluster, SameHeld, cover, L2Mapping, Data, Zero, Compressed, Uncovered, IsAlike, IsAlikeRun, unseen_disk, new_data_by, place_of, backing_bytes, disk_of, ImageInvariant}
 use Rattle.qcow2_laws.proofs.Shown.{Writes}
 use Rattle.qcow2_laws.proofs.Writes.{new_data_is_unnamed}
-use Rattle.qcow2_alloc.specs.declared.error.ImageError.{ImageError}
 use Rattle.qcow2_alloc.specs.declared.error.ImageError.TheVariants as I
-use Rattle.qcow2_alloc.specs.declared.image_storage.ImageStorage.{ImageStorage}
-use Rattle.qcow2_alloc.specs.ImageStorage.{storage_of}
-use Rattle.qcow2_alloc.specs.MetadataCaches.{order_of}
-use Rattle.qcow2_alloc.specs.ImageFile.{state_in, view_in, contents_in, known_in, nothing_given}
-use Rattle.qcow2_image.specs.declared.image.Qcow2.{Qcow2}
-use Rattle.qcow2_image.specs.declared.prepared.Prepared.{Prepared}
-use Rattle.qcow2_image.specs.CallParts.{IsWriteOutcome, WritesBytes}
-use Rattle.qcow2_image.specs.InternalSteps.{AreThere, InternalStep, InternalFillingStep, HoldsAll, IsInHeldCluster, SameHeld}
-use Rattle.qcow2_metadata.specs.Cover.{cover}
-use Rattle.qcow2_metadata.specs.declared.l2_mapping.L2Mapping.{L2Mapping}
-use Rattle.qcow2_metadata.specs.declared.l2_mapping.L2Mapping.TheVariants.{Data, Zero, Compressed, Uncovered}
-use Rattle.qcow2_disk.specs.Alike.{IsAlike, IsAlikeRun}
-use Rattle.qcow2_laws.proofs.Internal.{unseen_disk}
-use Rattle.qcow2_image.specs.ImageInvariant.{new_data_by, place_of, backing_bytes, disk_of, ImageInvariant}
 use Rattle.qcow2_image.proofs.Images.ClusterMappings.{Standing, in_new, in_kept, kept_used, over_all_at, private_stands}
 use Rattle.qcow2_image.proofs.Call.Answered.{same_guest, same_slot, freeing_step_kept, still_seen}
 use Rattle.qcow2_image.proofs.Call.Called.{copied_then}

@@ -1,45 +1,7 @@
 -- The host cluster that a zero entry keeps is filled with zeros, which guests don't see and no stop shows.
-use Rattle.std.proofs.Common.{◌≡◌, ◌≢◌, ⊎_elim, ℕ, ◌+◌, ◌-◌, ◌*◌, ◌/◌, ◌%◌, ◌<◌, ◌≤◌, Bool, true, false, List, length, [], ◌∷◌, Option, Some, None, refl, sym, ap, ◌∙◌, subst, arith}
-use Rattle.std.specs.Prelude.{Result, IfOk, IsTrue, slice_get, replicate}
-use Rattle.std.proofs.lemmas.Option.{slice_get_within}
-use Rattle.std.proofs.lemmas.List.{append-nil, length-replicate, get_or-replicate}
-use Rattle.std.proofs.lemmas.Nat.{div-add-mod', div-mul-add, mod-mul-add, mod_below, pow_pos}
-use mathlib.Core.Path.{fun_ext}
-use Rattle.image_access.specs.Backing.{BackingView}
-use Rattle.image_access.specs.Contents.{overwritten}
-use Rattle.image_access.specs.Moments.{StorageView, EachMomentSince, IsLeftBy}
-use Rattle.qcow2_metadata.specs.Bytes.{Bytes, byte_at}
-use Rattle.qcow2_metadata.specs.declared.header.HeaderFields.{HeaderFields}
-use Rattle.qcow2_metadata.specs.Header.{cluster_size, entries_per_cluster}
-use Rattle.qcow2_metadata.specs.Cover.{cover}
-use Rattle.qcow2_metadata.specs.Guest.{known_byte}
-use Rattle.qcow2_metadata.specs.Named.{in_cluster, named_by_cover, named_for_tables}
-use Rattle.qcow2_metadata.specs.declared.l2_mapping.L2Mapping.TheVariants.{Zero}
-use Rattle.qcow2_laws.specs.CrashInvariant.{Pending}
-use Rattle.qcow2_laws.specs.GuestLaws.{IsHostedAt, WritesRun}
+use Rattle.qcow2_image.proofs.Common.{◌≡◌, ◌≢◌, ⊎_elim, ℕ, ◌+◌, ◌-◌, ◌*◌, ◌/◌, ◌%◌, ◌<◌, ◌≤◌, Bool, true, false, List, length, [], ◌∷◌, Option, Some, None, refl, sym, ap, ◌∙◌, subst, arith, Result, IfOk, IsTrue, slice_get, replicate, slice_get_within, append-nil, length-replicate, get_or-replicate, div-add-mod', div-mul-add, mod-mul-add, mod_below, pow_pos, fun_ext, BackingView, overwritten, StorageView, EachMomentSince, IsLeftBy, Bytes, byte_at, HeaderFields, cluster_size, entries_per_cluster, cover, known_byte, in_cluster, named_by_cover, named_for_tables, Zero, Pending, IsHostedAt, WritesRun, names, table_at, given_of, DriverState, StateInvariant, SafeStep, WritesAt, in_own, kept_aligned, kept_unlaid, kept_written, kept_zeroed, in_one, beside_tables, ImageError, ImageStorage, storage_of, state_in, view_in, contents_in, known_in, nothing_given, CopyRange, Qcow2, Prepared, ClusterMapping, WritesBytes, HasByte, l1_index_of, backing_bytes, cluster_of, new_data_by, is_private, place_of, mapping_of_cluster, ImageInvariant, HoldsAll, IsFilled, IsKeptAlone, InternalFillingStep, is_announced}
 use Rattle.qcow2_laws.specs.GuestLaws.{Kept as HostedKept}
-use Rattle.qcow2_laws.specs.Guests.{names, table_at}
-use Rattle.qcow2_disk.specs.Mappings.{given_of}
-use Rattle.qcow2_laws.specs.SafeSteps.{DriverState, StateInvariant, SafeStep}
-use Rattle.qcow2_laws.specs.Tops.{WritesAt}
-use Rattle.qcow2_laws.proofs.Consistency.{in_own}
-use Rattle.qcow2_laws.proofs.KeptClusters.{kept_aligned, kept_unlaid, kept_written, kept_zeroed}
-use Rattle.qcow2_laws.proofs.Places.{in_one}
-use Rattle.qcow2_laws.proofs.PutRuns.{beside_tables}
 use Rattle.qcow2_laws.proofs.Shown.{shown_zero}
-use Rattle.qcow2_alloc.specs.declared.error.ImageError.{ImageError}
-use Rattle.qcow2_alloc.specs.declared.image_storage.ImageStorage.{ImageStorage}
-use Rattle.qcow2_alloc.specs.ImageStorage.{storage_of}
-use Rattle.qcow2_alloc.specs.ImageFile.{state_in, view_in, contents_in, known_in, nothing_given}
-use Rattle.qcow2_image.specs.declared.copy_range.CopyRange.{CopyRange}
-use Rattle.qcow2_image.specs.declared.image.Qcow2.{Qcow2}
-use Rattle.qcow2_image.specs.declared.prepared.Prepared.{Prepared}
-use Rattle.qcow2_image.specs.declared.prepared.ClusterMapping.{ClusterMapping}
-use Rattle.qcow2_image.specs.CallParts.{WritesBytes}
-use Rattle.qcow2_image.specs.CopyRange.{HasByte}
-use Rattle.qcow2_image.specs.Found.{l1_index_of}
-use Rattle.qcow2_image.specs.ImageInvariant.{backing_bytes, cluster_of, new_data_by, is_private, place_of, mapping_of_cluster, ImageInvariant}
-use Rattle.qcow2_image.specs.InternalSteps.{HoldsAll, IsFilled, IsKeptAlone, InternalFillingStep, is_announced}
 use Rattle.qcow2_image.proofs.Images.Apart.{same_row}
 use Rattle.qcow2_image.proofs.Call.Answered.{same_guest, same_slot}
 use Rattle.qcow2_image.proofs.Images.Inside.{names_inside}

@@ -1,35 +1,5 @@
 -- A guest cluster whose zero entry keeps a host cluster is prepared there, as the first one of a range or after others.
-use Rattle.std.proofs.Common.{◌≡◌, inl, inr, ℕ, ◌+◌, ◌-◌, ◌*◌, ◌/◌, ◌%◌, ◌≤◌, Bool, true, false, List, length, [], ◌∷◌, Option, Some, None, refl, sym, ap, ◌∙◌, subst, arith}
-use Rattle.std.specs.Prelude.{IsSome, IsTrue, min, slice_get, ◌&&◌}
-use Rattle.std.proofs.lemmas.Bool.{cases_eq, cond-true}
-use Rattle.image_access.specs.Backing.{BackingView}
-use Rattle.image_access.specs.Moments.{StorageView}
-use Rattle.qcow2_metadata.specs.Bytes.{is_within}
-use Rattle.qcow2_metadata.specs.declared.header.HeaderFields.{HeaderFields}
-use Rattle.qcow2_metadata.specs.Header.{cluster_size, entries_per_cluster}
-use Rattle.qcow2_metadata.specs.Cover.{cover}
-use Rattle.qcow2_metadata.specs.Guest.{known_byte}
-use Rattle.qcow2_metadata.specs.L2Mapping.{greatest_offset}
-use Rattle.qcow2_metadata.specs.declared.l2_mapping.L2Mapping.{L2Mapping}
-use Rattle.qcow2_metadata.specs.declared.l2_mapping.L2Mapping.TheVariants.{Data, Zero}
-use Rattle.qcow2_laws.specs.CrashInvariant.{Pending}
-use Rattle.qcow2_disk.specs.AbstractImages.{guest_of}
-use Rattle.qcow2_laws.specs.Guests.{table_at}
-use Rattle.qcow2_laws.proofs.Formats.{cover_format, size_format}
-use Rattle.qcow2_alloc.specs.declared.clusters_to_free.ClustersToFreeEntry.{ClustersToFreeEntry}
-use Rattle.qcow2_alloc.specs.declared.cache.MetadataCaches.{MetadataCaches}
-use Rattle.qcow2_alloc.specs.CachePins.{l2_pins}
-use Rattle.qcow2_alloc.specs.MetadataCaches.{l2_at}
-use Rattle.qcow2_alloc.specs.ImageFile.{contents_in, known_in}
-use Rattle.qcow2_image.specs.declared.image.Qcow2.{Qcow2}
-use Rattle.qcow2_image.specs.declared.prepared.Prepared.{Prepared}
-use Rattle.qcow2_image.specs.declared.prepared.ClusterMapping.{ClusterMapping}
-use Rattle.qcow2_image.specs.declared.prepared.ClusterMapping.TheVariants.{Kept}
-use Rattle.qcow2_image.specs.Image.{number_of}
-use Rattle.qcow2_image.specs.CallParts.{IsReadied}
-use Rattle.qcow2_image.specs.ImageInvariant.{abstract_of, cluster_of, new_data_in, host_begin_of, is_private, meaning, of_data, of_tables, pending_in, pins_by, place_of, mapping_of_cluster, to_free, IsKeptAt, IsPending, IsReadyWith, ImageInvariant}
-use Rattle.qcow2_image.specs.Ranges.{BeginsInKept, MayGoOn, StandsBehind}
-use Rattle.qcow2_image.specs.InternalSteps.{HoldsTable, IsFilled, IsKeptAlone, Pins, InternalFillingStep}
+use Rattle.qcow2_image.proofs.Common.{◌≡◌, inl, inr, ℕ, ◌+◌, ◌-◌, ◌*◌, ◌/◌, ◌%◌, ◌≤◌, Bool, true, false, List, length, [], ◌∷◌, Option, Some, None, refl, sym, ap, ◌∙◌, subst, arith, IsSome, IsTrue, min, slice_get, ◌&&◌, cases_eq, cond-true, BackingView, StorageView, is_within, HeaderFields, cluster_size, entries_per_cluster, cover, known_byte, greatest_offset, L2Mapping, Data, Zero, Pending, guest_of, table_at, cover_format, size_format, ClustersToFreeEntry, MetadataCaches, l2_pins, l2_at, contents_in, known_in, Qcow2, Prepared, ClusterMapping, Kept, number_of, IsReadied, abstract_of, cluster_of, new_data_in, host_begin_of, is_private, meaning, of_data, of_tables, pending_in, pins_by, place_of, mapping_of_cluster, to_free, IsKeptAt, IsPending, IsReadyWith, ImageInvariant, BeginsInKept, MayGoOn, StandsBehind, HoldsTable, IsFilled, IsKeptAlone, Pins, InternalFillingStep}
 use Rattle.qcow2_image.proofs.Images.Apart.{pins_own}
 use Rattle.qcow2_image.proofs.Call.Slots.{over_all_two}
 use Rattle.qcow2_image.proofs.Prepare.FollowingCluster.{filled_there, host_is, next_cluster, table_is}

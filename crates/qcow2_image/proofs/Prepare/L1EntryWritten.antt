@@ -1,67 +1,14 @@
 -- An L1 entry is written for a new L2 table that is in its cluster.
-use Rattle.std.proofs.Common.{◌≡◌, ◌≢◌, ◌⊎◌, inl, inr, ℕ, ◌+◌, ◌*◌, ◌/◌, ◌%◌, ◌^◌, ◌<◌, ◌≤◌, true, List, [], ◌∷◌, length, Option, Result, Ok, refl, sym, ap, ◌∙◌, subst, arith}
-use Rattle.std.proofs.lemmas.Bool.{cases_eq, eq-eqb, ne_eqb, cond-true, cond-false}
-use Rattle.std.proofs.lemmas.List.{append-nil}
-use Rattle.std.proofs.lemmas.Nat.{mod_below, div-add-mod'}
-use Rattle.std.specs.Prelude.{IfSome}
-use Rattle.std.specs.Int.{w64, to_be_bytes}
-use Rattle.image_access.specs.Backing.{BackingView}
-use Rattle.image_access.specs.Contents.{overwritten}
-use Rattle.image_access.specs.Moments.{StorageView, EachMomentSince, Changes, Calls, IsLeftBy}
-use Rattle.image_access.specs.declared.error.StorageError.{StorageError}
-use Rattle.qcow2_metadata.specs.Bytes.{Bytes, byte_at}
-use Rattle.qcow2_metadata.specs.declared.header.HeaderFields.{HeaderFields}
-use Rattle.qcow2_metadata.specs.Header.{cluster_size, entries_per_cluster, counts_per_block}
-use Rattle.qcow2_metadata.specs.Entries.{l1_entry, l2_entry, reftable_entry, block_offset, host_offset, is_copied, L1EntryReads, count}
-use Rattle.qcow2_metadata.specs.Cover.{cover, entry_cover}
-use Rattle.qcow2_metadata.specs.EntryTable.{EntryTableView, IsL1TableOf, entry_count}
-use Rattle.qcow2_metadata.specs.L2Table.{L2TableView, copied_entry}
-use Rattle.qcow2_metadata.specs.L2Mapping.{IsHostCluster}
-use Rattle.qcow2_metadata.specs.Named.{table_in, in_cluster, named_for_tables, named_by_l1_table, named_by_reftable}
-use Rattle.qcow2_metadata.specs.TableBytes.{entry_at, ChangesEntry}
+use Rattle.qcow2_image.proofs.Common.{◌≡◌, ◌≢◌, ◌⊎◌, inl, inr, ℕ, ◌+◌, ◌*◌, ◌/◌, ◌%◌, ◌^◌, ◌<◌, ◌≤◌, true, List, [], ◌∷◌, length, Option, Result, Ok, refl, sym, ap, ◌∙◌, subst, arith, cases_eq, eq-eqb, ne_eqb, cond-true, cond-false, append-nil, mod_below, div-add-mod', IfSome, w64, to_be_bytes, BackingView, overwritten, StorageView, EachMomentSince, Changes, Calls, IsLeftBy, StorageError, Bytes, byte_at, HeaderFields, cluster_size, entries_per_cluster, counts_per_block, l1_entry, l2_entry, reftable_entry, block_offset, host_offset, is_copied, L1EntryReads, count, cover, entry_cover, EntryTableView, IsL1TableOf, entry_count, L2TableView, copied_entry, IsHostCluster, table_in, in_cluster, named_for_tables, named_by_l1_table, named_by_reftable, entry_at, ChangesEntry, SafeThroughout, one_at, with_new_tables, renamed, Pending, SameIn, table_at, AreClean, IsFreeAt, IsFreeOf, HasL2, HasOwnL2, HasBlock, SafeStep, IsSameBut, IsSameOutside, WritesL1Entry, IsNewTable, IsInternal, overwritten_but, l1_entry_beside, table_once, clean_counts, shared_covers, Sizes, cover_none, shares, in_l1, l1_has, l1_reftable, table_has, block_has, count_stays, table_is_named, unseen_l2_table, done_safe_throughout, write_safe_throughout, CachedTable, Allocator, ImageStorage, nothing_given, view_in, contents_in, known_in, state_in, storage_of, order_of, l2_tables, refblocks, CacheInvariant, one_here, pending_same, cluster_aligned, AreCurrentIn, current_entry, loaded_named, own_cluster, IsFree, covers_written, file_sizes, known_there, IsAllocatorOf, allocator_kept, file_invariant_of, Qcow2, Prepared, SaysKnown, StandsReady, MayName, NamesCopied, replacing, NamesOwn, KeepsCopied, InternalStep, cluster_of, IsReadyWith, ImageInvariant, HasL1Table}
 use Rattle.qcow2_metadata.proofs.EntryTables.{on_sector}
 use Rattle.qcow2_metadata.proofs.TablesAt.{entry_stands}
 use Rattle.qcow2_metadata.proofs.WrittenTables.{IsL1TableOf-written_entry}
-use Rattle.qcow2_disk.specs.Stops.{SafeThroughout}
-use Rattle.qcow2_laws.specs.Changes.{one_at, with_new_tables, renamed}
-use Rattle.qcow2_laws.specs.CrashInvariant.{Pending, SameIn}
-use Rattle.qcow2_laws.specs.Guests.{table_at}
-use Rattle.qcow2_laws.specs.Caches.{AreClean, IsFreeAt, IsFreeOf, HasL2, HasOwnL2, HasBlock}
-use Rattle.qcow2_laws.specs.SafeSteps.{SafeStep}
-use Rattle.qcow2_laws.specs.Tops.{IsSameBut, IsSameOutside, WritesL1Entry, IsNewTable}
-use Rattle.qcow2_laws.specs.Internal.{IsInternal}
-use Rattle.qcow2_laws.proofs.Beside.{overwritten_but, l1_entry_beside}
-use Rattle.qcow2_laws.proofs.Blocks.{table_once}
 use Rattle.qcow2_laws.proofs.KeptSteps.{kept_beside}
 use Rattle.qcow2_laws.proofs.Lists.{unmodified_over}
 use Rattle.qcow2_laws.proofs.NewTables.{outside_eight, other_l1}
-use Rattle.qcow2_laws.proofs.Caches.{clean_counts, shared_covers}
-use Rattle.qcow2_laws.proofs.Places.{Sizes, cover_none}
-use Rattle.qcow2_laws.proofs.Shares.{shares, in_l1, l1_has, l1_reftable, table_has, block_has, count_stays}
-use Rattle.qcow2_laws.proofs.Steps.{table_is_named}
-use Rattle.qcow2_laws.proofs.Internal.{unseen_l2_table}
-use Rattle.qcow2_laws.proofs.SafeSteps.{done_safe_throughout, write_safe_throughout}
-use Rattle.qcow2_metadata.specs.Tables.{CachedTable}
-use Rattle.qcow2_alloc.specs.declared.allocation.Allocator.{Allocator}
-use Rattle.qcow2_alloc.specs.declared.image_storage.ImageStorage.{ImageStorage}
 use Rattle.qcow2_alloc.specs.KeptTables.{AreLoaded}
-use Rattle.qcow2_alloc.specs.ImageFile.{nothing_given, view_in, contents_in, known_in, state_in}
-use Rattle.qcow2_alloc.specs.ImageStorage.{storage_of}
-use Rattle.qcow2_alloc.specs.MetadataCaches.{order_of, l2_tables, refblocks, CacheInvariant}
-use Rattle.qcow2_alloc.proofs.FileSteps.{one_here, pending_same}
-use Rattle.qcow2_alloc.proofs.KeptTables.Getting.{cluster_aligned}
-use Rattle.qcow2_alloc.proofs.KeptTables.Named.{AreCurrentIn, current_entry, loaded_named}
-use Rattle.qcow2_alloc.proofs.KeptTables.Standing.{own_cluster}
 use Rattle.qcow2_alloc.proofs.NamedBlocks.{entry_write_as}
-use Rattle.qcow2_alloc.proofs.PlacedBlocks.{IsFree, covers_written, file_sizes, in_own, known_there}
-use Rattle.qcow2_alloc.specs.KeptAllocators.{IsAllocatorOf}
-use Rattle.qcow2_alloc.proofs.KeptAllocators.{allocator_kept}
-use Rattle.qcow2_alloc.proofs.FileInvariants.{file_invariant_of}
-use Rattle.qcow2_image.specs.declared.image.Qcow2.{Qcow2}
-use Rattle.qcow2_image.specs.declared.prepared.Prepared.{Prepared}
-use Rattle.qcow2_image.specs.NewTables.{SaysKnown, StandsReady, MayName, NamesCopied, replacing}
-use Rattle.qcow2_image.specs.InternalSteps.{NamesOwn, KeepsCopied, InternalStep}
-use Rattle.qcow2_image.specs.ImageInvariant.{cluster_of, IsReadyWith, ImageInvariant, HasL1Table}
+use Rattle.qcow2_alloc.proofs.PlacedBlocks.{in_own}
 use Rattle.qcow2_image.proofs.Prepare.NewL2Table.{free_here}
 use Rattle.qcow2_image.proofs.Images.Ready.{still_ready}
 

@@ -1,44 +1,12 @@
 -- Why a part of a call was refused for a limit: the cause still holds together with the parts before and after it.
-use Rattle.qcow2_image.specs.Image.{ImageStays, IsBegun}
-use Rattle.qcow2_image.specs.ImageSteps.{ImageStep}
-use Rattle.qcow2_image.specs.Ranges.{AllocatesDataAt}
-use Rattle.qcow2_image.specs.InternalSteps.{RefusedFillingStep, AllocatesData, InternalFillingStep, pending_with_listed}
-use Rattle.qcow2_image.specs.Limits.{GoesTo, IfLimit, IsLimited, IsLimitedAmong, IsLimitedIn, IsLimitedTaking, IsLimitedInternal, IsLimitedWith, LacksPlace, l1_clusters}
+use Rattle.qcow2_image.proofs.Common.{ImageStays, IsBegun, ImageStep, AllocatesDataAt, RefusedFillingStep, AllocatesData, InternalFillingStep, pending_with_listed, GoesTo, IfLimit, IsLimited, IsLimitedAmong, IsLimitedIn, IsLimitedTaking, IsLimitedInternal, IsLimitedWith, LacksPlace, l1_clusters, ◌≡◌, ◌⊎◌, inl, inr, ℕ, ◌+◌, ◌<◌, ◌≤◌, List, [], ◌∷◌, ◌++◌, Option, Some, Result, Ok, Err, refl, sym, ap, ◌∙◌, subst, arith, cases_lt, le-div, pow_pos, IfErr, IsErr, IsErrAnd, IsSome, None, OnOk, max, length, ◌-◌, ◌*◌, ◌/◌, ◌^◌, BackingView, StorageView, EntryTableView, HasRoomIfPlaced, entry_count, IsHostCluster, HeaderView, cluster_size, Pending, ClustersToFreeEntry, ImageError, IsFault, KeepsHeader, IsFaultOr, EffectOnSound, Value, GivenBytes, IsGiven, TouchesLess, works_less, works_then, RefusedCall, InternalCall, Qcow2, Prepared, ImageInvariant, abstract_of, image_abstraction, pending_in, IsLongerL1, clusters_of, l1_index_of, L1EntryOverflows, EndsBefore, HasNearEntry, IsPlacedNear, IsFaultOrLimit, IsUnlimited, handed_on}
 use Rattle.qcow2_image.proofs.Call.BehindHeader.{behind_begun, behind_then}
 use Rattle.qcow2_image.proofs.Call.ImageSteps.{step_none}
-use Rattle.std.proofs.Common.{◌≡◌, ◌⊎◌, inl, inr, ℕ, ◌+◌, ◌<◌, ◌≤◌, List, [], ◌∷◌, ◌++◌, Option, Some, Result, Ok, Err, refl, sym, ap, ◌∙◌, subst, arith}
-use Rattle.std.proofs.lemmas.Bool.{cases_lt}
-use Rattle.std.proofs.lemmas.Nat.{le-div, pow_pos}
-use Rattle.std.specs.Prelude.{IfErr, IsErr, IsErrAnd, IsSome, None, OnOk, max, length, ◌-◌, ◌*◌, ◌/◌, ◌^◌}
-use Rattle.image_access.specs.Backing.{BackingView}
-use Rattle.image_access.specs.Moments.{StorageView}
-use Rattle.qcow2_metadata.specs.EntryTable.{EntryTableView, HasRoomIfPlaced, entry_count}
-use Rattle.qcow2_metadata.specs.L2Mapping.{IsHostCluster}
-use Rattle.qcow2_metadata.specs.Header.{HeaderView, cluster_size}
-use Rattle.qcow2_laws.specs.CrashInvariant.{Pending}
-use Rattle.qcow2_alloc.specs.declared.clusters_to_free.ClustersToFreeEntry.{ClustersToFreeEntry}
-use Rattle.qcow2_alloc.specs.declared.error.ImageError.{ImageError}
 use Rattle.qcow2_alloc.specs.declared.error.ImageError.TheVariants as I
-use Rattle.qcow2_alloc.specs.ImageError.{IsFault}
-use Rattle.qcow2_alloc.specs.ImageFile.{KeepsHeader}
-use Rattle.qcow2_alloc.specs.Limits.{IsFaultOr}
-use Rattle.qcow2_disk.specs.Calls.{EffectOnSound}
-use Rattle.qcow2_metadata.specs.Guest.{Value}
-use Rattle.qcow2_disk.specs.Stops.{GivenBytes, IsGiven}
-use Rattle.qcow2_disk.proofs.Compose.{TouchesLess, works_less, works_then}
-use Rattle.qcow2_image.specs.CallParts.{RefusedCall, InternalCall}
 use Rattle.qcow2_image.proofs.Call.Refused.{image_step_stays, stays_kept}
-use Rattle.qcow2_image.specs.declared.image.Qcow2.{Qcow2}
-use Rattle.qcow2_image.specs.declared.prepared.Prepared.{Prepared}
-use Rattle.qcow2_image.specs.ImageInvariant.{ImageInvariant, abstract_of, image_abstraction, pending_in}
-use Rattle.qcow2_image.specs.LongerTables.{IsLongerL1, clusters_of}
-use Rattle.qcow2_image.specs.Found.{l1_index_of}
-use Rattle.qcow2_image.specs.L1Entries.{L1EntryOverflows, EndsBefore, HasNearEntry, IsPlacedNear}
-use Rattle.qcow2_image.specs.Refusals.{IsFaultOrLimit, IsUnlimited}
 use Rattle.qcow2_image.proofs.Call.Unlimited.{fault_unlimited}
 use Rattle.qcow2_image.proofs.Images.Free.{free_places}
 use Rattle.qcow2_image.proofs.Preallocate.Pieces.{enters, none_of}
-use Rattle.qcow2_alloc.proofs.AllocationSteps.{handed_on}
 
 -- ---- refusals
 pub limited_not : (e : ImageError) → IsUnlimited e → e ≡ I.Limit → ⊥

@@ -1,23 +1,6 @@
 -- Host clusters of a sound file that may be written in place lie past cluster 0.
-use Rattle.std.proofs.Common.{◌≡◌, ℕ, ◌+◌, ◌*◌, ◌/◌, ◌%◌, ◌<◌, ◌≤◌, Option, Some, None, refl, ap, ◌∙◌, arith}
-use Rattle.std.specs.Prelude.{IfSome}
-use Rattle.std.proofs.lemmas.Nat.{mod-mul-add, pow_pos}
-use Rattle.image_access.specs.Moments.{StorageView}
-use Rattle.qcow2_metadata.specs.Bytes.{Bytes}
-use Rattle.qcow2_metadata.specs.Cover.{cover}
-use Rattle.qcow2_metadata.specs.Header.{cluster_size}
-use Rattle.qcow2_metadata.specs.declared.header.HeaderFields.{HeaderFields}
-use Rattle.qcow2_metadata.specs.declared.l2_mapping.L2Mapping.{L2Mapping}
-use Rattle.qcow2_metadata.specs.declared.l2_mapping.L2Mapping.TheVariants.{Data, Zero, Compressed, Uncovered}
-use Rattle.qcow2_laws.specs.CrashInvariant.{Pending}
-use Rattle.qcow2_laws.specs.GuestLaws.{Hosting, IsHostedAt, InPlace, Kept}
-use Rattle.qcow2_laws.specs.SafeSteps.{DriverState}
-use Rattle.qcow2_laws.proofs.PutRuns.{beside_tables}
-use Rattle.qcow2_alloc.specs.ImageFile.{contents_in, known_in, state_in, FileInvariant}
-use Rattle.qcow2_alloc.specs.declared.image_file.ImageFile.{ImageFile}
-use Rattle.qcow2_alloc.proofs.KeptTables.Standing.{own_cluster}
-use Rattle.qcow2_image.specs.PreparedPlaces.{MarkedIsBehind}
-use Rattle.qcow2_image.specs.Preparing.{IsPlaceOf}
+use Rattle.qcow2_image.proofs.Common.{◌≡◌, ℕ, ◌+◌, ◌*◌, ◌/◌, ◌%◌, ◌<◌, ◌≤◌, Option, Some, None, refl, ap, ◌∙◌, arith, IfSome, mod-mul-add, pow_pos, StorageView, Bytes, cover, cluster_size, HeaderFields, L2Mapping, Data, Zero, Compressed, Uncovered, Pending, Hosting, IsHostedAt, DriverState, beside_tables, contents_in, known_in, state_in, FileInvariant, ImageFile, own_cluster, MarkedIsBehind, IsPlaceOf}
+use Rattle.qcow2_laws.specs.GuestLaws.{InPlace, Kept}
 use Rattle.qcow2_image.proofs.Write.Hosted.{behind_tables}
 
 module _ {S : Type 0} (view : S → StorageView) (p : Pending) (file : ImageFile S) (sound : FileInvariant view p file) (inside : file.header.fields.incompatible ≡ 0) where

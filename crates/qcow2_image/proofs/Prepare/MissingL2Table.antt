@@ -1,37 +1,5 @@
 -- If a part that needs an L2 table is refused, and not by a fault, the offset still has no L2 table of its own.
-use Rattle.std.proofs.Common.{◌≡◌, inl, inr, ℕ, suc, ◌*◌, ◌/◌, ◌%◌, ◌^◌, ◌<◌, ◌≤◌, Bool, true, false, cond, List, [], ◌∷◌, length, Option, Some, Result, Ok, Err, refl, sym, ap, ◌∙◌, subst, arith}
-use Rattle.std.specs.Prelude.{◌==◌, ◌↔◌, IfErr, IsTrue}
-use Rattle.std.specs.Map.{lookup}
-use Rattle.std.specs.Option.{option_map_or}
-use Rattle.std.proofs.lemmas.Bool.{cases_lt, eq-eqb, ltb-true}
-use Rattle.std.proofs.lemmas.Nat.{mod_below, pow_pos}
-use Rattle.image_access.specs.Backing.{BackingView}
-use Rattle.image_access.specs.Moments.{StorageView}
-use Rattle.qcow2_metadata.specs.Bytes.{Bytes}
-use Rattle.qcow2_metadata.specs.declared.header.HeaderFields.{HeaderFields}
-use Rattle.qcow2_metadata.specs.Entries.{host_offset, l1_entry}
-use Rattle.qcow2_metadata.specs.EntryTable.{entry_count}
-use Rattle.qcow2_metadata.specs.Header.{cluster_size}
-use Rattle.qcow2_metadata.specs.TableBytes.{HasPlace}
-use Rattle.qcow2_laws.specs.CrashInvariant.{Pending}
-use Rattle.qcow2_laws.specs.Guests.{table_at}
-use Rattle.qcow2_laws.specs.Internal.{KeepsFormat}
-use Rattle.qcow2_laws.proofs.Places.{has_table}
-use Rattle.qcow2_alloc.specs.AsyncLruCache.{is_pinned, pinned}
-use Rattle.qcow2_alloc.specs.CachePins.{AreAllPinned, IsInUseOrFault}
-use Rattle.qcow2_alloc.specs.declared.async_lru_cache.slot.Slot.{Slot}
-use Rattle.qcow2_alloc.specs.declared.error.ImageError.{ImageError}
-use Rattle.qcow2_alloc.specs.ImageError.{IsFault}
-use Rattle.qcow2_alloc.specs.ImageFile.{contents_in}
-use Rattle.qcow2_image.specs.Backings.{HasPinnedMapping}
-use Rattle.qcow2_image.specs.declared.image.Qcow2.{Qcow2}
-use Rattle.qcow2_image.specs.declared.prepared.Prepared.{Prepared}
-use Rattle.qcow2_image.specs.Found.{l1_index_of}
-use Rattle.qcow2_image.specs.ImageInvariant.{ImageInvariant}
-use Rattle.qcow2_image.specs.LongerTables.{RefusedMove}
-use Rattle.qcow2_image.specs.MayFail.{MayFailLooking}
-use Rattle.qcow2_image.specs.NewTables.{IsFaultOrKeepsL1Table, IsFaultOrLacksTable, LacksTable, MayName, OwnsTable}
-use Rattle.qcow2_image.specs.InternalSteps.{RefusedStep, pending_with_listed}
+use Rattle.qcow2_image.proofs.Common.{◌≡◌, inl, inr, ℕ, suc, ◌*◌, ◌/◌, ◌%◌, ◌^◌, ◌<◌, ◌≤◌, Bool, true, false, cond, List, [], ◌∷◌, length, Option, Some, Result, Ok, Err, refl, sym, ap, ◌∙◌, subst, arith, ◌==◌, ◌↔◌, IfErr, IsTrue, lookup, option_map_or, cases_lt, eq-eqb, ltb-true, mod_below, pow_pos, BackingView, StorageView, Bytes, HeaderFields, host_offset, l1_entry, entry_count, cluster_size, HasPlace, Pending, table_at, KeepsFormat, has_table, is_pinned, pinned, AreAllPinned, IsInUseOrFault, Slot, ImageError, IsFault, contents_in, HasPinnedMapping, Qcow2, Prepared, l1_index_of, ImageInvariant, RefusedMove, MayFailLooking, IsFaultOrKeepsL1Table, IsFaultOrLacksTable, LacksTable, MayName, OwnsTable, RefusedStep, pending_with_listed}
 use Rattle.qcow2_image.proofs.Images.Backings.{pinned_by}
 use Rattle.qcow2_image.proofs.Prepare.UnlinkedL2Table.{may_still}
 

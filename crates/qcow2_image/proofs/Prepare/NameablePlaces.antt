@@ -1,27 +1,7 @@
 -- A prepared mapping that isn't existing lies in clusters that an entry can hold, so within 64 bits.
-use Rattle.std.proofs.Common.{◌≡◌, ℕ, ◌+◌, ◌*◌, ◌/◌, ◌%◌, ◌^◌, ◌<◌, ◌≤◌, Bool, true, false, List, length, Option, Some, None, refl, subst, arith, pow_mono}
-use Rattle.std.specs.Prelude.{get_or, if◌then◌else◌}
-use Rattle.std.proofs.lemmas.Nat.{div-add-mod', mod_below, pow_pos}
-use Rattle.std.proofs.lemmas.Option.{slice_get-get_or}
-use Rattle.image_access.specs.Backing.{BackingView}
-use Rattle.image_access.specs.Moments.{StorageView}
-use Rattle.qcow2_metadata.specs.Bytes.{Bytes}
-use Rattle.qcow2_metadata.specs.Consistent.{CoverIsAligned}
-use Rattle.qcow2_metadata.specs.Cover.{cover, cover_of, cover_under}
-use Rattle.qcow2_metadata.specs.Entries.{host_offset}
-use Rattle.qcow2_metadata.specs.Header.{cluster_size}
-use Rattle.qcow2_metadata.specs.L2Mapping.{greatest_offset}
-use Rattle.qcow2_metadata.specs.declared.header.HeaderFields.{HeaderFields}
-use Rattle.qcow2_metadata.specs.declared.l2_mapping.L2Mapping.{L2Mapping}
+use Rattle.qcow2_image.proofs.Common.{◌≡◌, ℕ, ◌+◌, ◌*◌, ◌/◌, ◌%◌, ◌^◌, ◌<◌, ◌≤◌, Bool, true, false, List, length, Option, Some, None, refl, subst, arith, get_or, if◌then◌else◌, div-add-mod', mod_below, pow_pos, slice_get-get_or, BackingView, StorageView, Bytes, CoverIsAligned, cover, cover_of, cover_under, host_offset, cluster_size, greatest_offset, HeaderFields, L2Mapping, Pending, contents_in, known_in, Qcow2, Prepared, ClusterMapping, InPlace, Kept, New, cluster_of, host_begin_of, IsPending, IsReadyWith, IsClusterMappingAt, ImageInvariant, table_of}
+use Rattle.std.proofs.Common.{pow_mono}
 use Rattle.qcow2_metadata.specs.declared.l2_mapping.L2Mapping.TheVariants as M
-use Rattle.qcow2_laws.specs.CrashInvariant.{Pending}
-use Rattle.qcow2_alloc.specs.ImageFile.{contents_in, known_in}
-use Rattle.qcow2_image.specs.declared.image.Qcow2.{Qcow2}
-use Rattle.qcow2_image.specs.declared.prepared.Prepared.{Prepared}
-use Rattle.qcow2_image.specs.declared.prepared.ClusterMapping.{ClusterMapping}
-use Rattle.qcow2_image.specs.declared.prepared.ClusterMapping.TheVariants.{InPlace, Kept, New}
-use Rattle.qcow2_image.specs.ImageInvariant.{cluster_of, host_begin_of, IsPending, IsReadyWith, IsClusterMappingAt, ImageInvariant}
-use Rattle.qcow2_image.specs.Prepared.{table_of}
 use Rattle.qcow2_image.proofs.Commit.Entered.{HasFirst}
 use Rattle.qcow2_image.proofs.Images.ClusterMappings.{byte_place, byte_of_mapping}
 

@@ -1,39 +1,5 @@
 -- A mapping is prepared in a new cluster, or in place.
-use Rattle.std.proofs.Common.{◌≡◌, inl, inr, ℕ, ◌+◌, ◌-◌, ◌*◌, ◌/◌, ◌%◌, ◌^◌, ◌<◌, Bool, true, false, List, [], ◌∷◌, Option, Some, None, refl, sym, ap, ◌∙◌, subst, arith}
-use Rattle.qcow2_alloc.specs.declared.error.ImageError.{ImageError}
-use Rattle.qcow2_metadata.specs.declared.l2_mapping.L2Mapping.{L2Mapping}
-use Rattle.qcow2_metadata.specs.L2Mapping.{IsInReach, named_run, IsHostCluster}
-use Rattle.qcow2_disk.specs.Mappings.{is_copied_data}
-use Rattle.std.specs.Prelude.{◌↔◌, IsSome, IsTrue, min, nat_le, nat_lt, slice_get, ◌&&◌}
-use Rattle.std.proofs.lemmas.Bool.{cases_lt, cond-true, le-leb, lt-ltb, lt-leb, le-ltb}
-use Rattle.std.proofs.lemmas.Nat.{div-mul-add, div-add-mod', mod_below, pow_pos}
-use Rattle.image_access.specs.Backing.{BackingView}
-use Rattle.image_access.specs.Moments.{StorageView}
-use Rattle.qcow2_metadata.specs.Bytes.{is_within}
-use Rattle.qcow2_metadata.specs.declared.header.HeaderFields.{HeaderFields}
-use Rattle.qcow2_metadata.specs.Header.{cluster_size, entries_per_cluster}
-use Rattle.qcow2_metadata.specs.Entries.{l1_entry, host_offset, is_copied}
-use Rattle.qcow2_metadata.specs.Cover.{cover}
-use Rattle.qcow2_metadata.specs.Guest.{known_byte}
-use Rattle.qcow2_metadata.specs.declared.l2_mapping.L2Mapping.TheVariants.{Data}
-use Rattle.qcow2_laws.specs.Changes.{with_new_data}
-use Rattle.qcow2_laws.specs.CrashInvariant.{Pending}
-use Rattle.qcow2_laws.specs.Guests.{table_at}
-use Rattle.qcow2_disk.specs.AbstractImages.{guest_of}
-use Rattle.qcow2_laws.proofs.Formats.{cover_format, l1_format, size_format}
-use Rattle.qcow2_alloc.specs.CachePins.{l2_pins}
-use Rattle.qcow2_alloc.specs.MetadataCaches.{IsEntryAt, l2_at}
-use Rattle.qcow2_alloc.specs.ImageFile.{contents_in, known_in}
-use Rattle.qcow2_image.specs.declared.image.Qcow2.{Qcow2}
-use Rattle.qcow2_image.specs.declared.prepared.Prepared.{Prepared}
-use Rattle.qcow2_image.specs.declared.prepared.ClusterMapping.{ClusterMapping}
-use Rattle.qcow2_image.specs.declared.prepared.ClusterMapping.TheVariants.{InPlace, New}
-use Rattle.qcow2_alloc.specs.declared.clusters_to_free.ClustersToFreeEntry.{ClustersToFreeEntry}
-use Rattle.qcow2_image.specs.Found.{l1_index_of, l2_index_of}
-use Rattle.qcow2_image.specs.Image.{number_of}
-use Rattle.qcow2_image.specs.CallParts.{IsReadied}
-use Rattle.qcow2_image.specs.InternalSteps.{is_announced, IsFilled, InternalFillingStep, RefusedFillingStep, HoldsAll, HoldsTable, IsGained, InternalStep, Pins, SameHeld, pending_with_listed}
-use Rattle.qcow2_image.specs.ImageInvariant.{run_of, to_free, of_data, of_tables, new_data_in, listed_run, disk_of, pending_in, abstract_of, meaning, is_entered, is_private, cluster_of, host_begin_of, place_of, IsNewAt, IsClusterMappingAt, ImageInvariant}
+use Rattle.qcow2_image.proofs.Common.{◌≡◌, inl, inr, ℕ, ◌+◌, ◌-◌, ◌*◌, ◌/◌, ◌%◌, ◌^◌, ◌<◌, Bool, true, false, List, [], ◌∷◌, Option, Some, None, refl, sym, ap, ◌∙◌, subst, arith, ImageError, L2Mapping, IsInReach, named_run, IsHostCluster, is_copied_data, ◌↔◌, IsSome, IsTrue, min, nat_le, nat_lt, slice_get, ◌&&◌, cases_lt, cond-true, le-leb, lt-ltb, lt-leb, le-ltb, div-mul-add, div-add-mod', mod_below, pow_pos, BackingView, StorageView, is_within, HeaderFields, cluster_size, entries_per_cluster, l1_entry, host_offset, is_copied, cover, known_byte, Data, with_new_data, Pending, table_at, guest_of, cover_format, l1_format, size_format, l2_pins, IsEntryAt, l2_at, contents_in, known_in, Qcow2, Prepared, ClusterMapping, InPlace, New, ClustersToFreeEntry, l1_index_of, l2_index_of, number_of, IsReadied, is_announced, IsFilled, InternalFillingStep, RefusedFillingStep, HoldsAll, HoldsTable, IsGained, InternalStep, Pins, SameHeld, pending_with_listed, run_of, to_free, of_data, of_tables, new_data_in, listed_run, disk_of, pending_in, abstract_of, meaning, is_entered, is_private, cluster_of, host_begin_of, place_of, IsNewAt, IsClusterMappingAt, ImageInvariant}
 use Rattle.qcow2_image.proofs.Images.ClusterMappings.{place_in, private_shared}
 use Rattle.qcow2_image.proofs.Images.Formats.{entry_at_format, l1_shared}
 use Rattle.qcow2_image.proofs.Prepare.FirstCluster.{listed_after_same, still_holds, taken_new_data}

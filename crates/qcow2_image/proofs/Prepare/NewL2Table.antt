@@ -1,35 +1,7 @@
 -- The bytes of a new L2 table are written to its cluster, and then the table is inserted into the cache.
-use Rattle.std.proofs.Common.{◌≡◌, ℕ, ◌+◌, ◌*◌, ◌^◌, ◌<◌, List, length, Option, Result, Ok, refl, sym, ap, ◌∙◌, subst, arith}
-use Rattle.std.specs.Prelude.{Err, IfSome, OnOk, Some}
-use Rattle.qcow2_alloc.specs.declared.error.ImageError.{ImageError}
-use Rattle.image_access.specs.Backing.{BackingView}
-use Rattle.image_access.specs.Contents.{overwritten}
-use Rattle.image_access.specs.Moments.{StorageView, Changes, Calls}
-use Rattle.image_access.specs.declared.error.StorageError.{StorageError}
-use Rattle.image_access.proofs.Bytes.{byte_at-overwritten}
-use Rattle.qcow2_metadata.specs.Bytes.{Bytes, byte_at}
-use Rattle.qcow2_metadata.specs.declared.header.HeaderFields.{HeaderFields}
-use Rattle.qcow2_metadata.specs.Header.{cluster_size}
-use Rattle.qcow2_metadata.specs.L2Table.{L2TableView}
-use Rattle.qcow2_laws.specs.CrashInvariant.{Pending}
-use Rattle.qcow2_laws.proofs.Steps.{data_is_written}
-use Rattle.qcow2_alloc.specs.declared.allocation.Allocator.{Allocator}
-use Rattle.qcow2_alloc.specs.declared.image_storage.ImageStorage.{ImageStorage}
-use Rattle.qcow2_alloc.specs.ImageFile.{view_in, contents_in, state_in}
-use Rattle.qcow2_alloc.specs.ImageStorage.{storage_of}
-use Rattle.qcow2_alloc.specs.MetadataCaches.{order_of, l2_tables, refblocks, l2_at, HoldsKnown, InternalCacheStep}
-use Rattle.qcow2_alloc.specs.Allocation.{HasBytesAt}
-use Rattle.qcow2_alloc.specs.CachePins.{l2_pins, CachesHaveRoom}
-use Rattle.qcow2_alloc.specs.declared.cache.MetadataCaches.{MetadataCaches}
-use Rattle.qcow2_laws.specs.Caches.{AreClean, BlocksMayGo}
-use Rattle.qcow2_alloc.proofs.PlacedBlocks.{IsFree, covers_written, in_own, known_there, file_step_rewritten, reftable_rewritten}
-use Rattle.qcow2_alloc.specs.KeptAllocators.{IsAllocatorOf}
+use Rattle.qcow2_image.proofs.Common.{◌≡◌, ℕ, ◌+◌, ◌*◌, ◌^◌, ◌<◌, List, length, Option, Result, Ok, refl, sym, ap, ◌∙◌, subst, arith, Err, IfSome, OnOk, Some, ImageError, BackingView, overwritten, StorageView, Changes, Calls, StorageError, byte_at-overwritten, Bytes, byte_at, HeaderFields, cluster_size, L2TableView, Pending, data_is_written, Allocator, ImageStorage, view_in, contents_in, state_in, storage_of, order_of, l2_tables, refblocks, l2_at, HoldsKnown, InternalCacheStep, HasBytesAt, l2_pins, CachesHaveRoom, MetadataCaches, AreClean, BlocksMayGo, IsFree, covers_written, known_there, file_step_rewritten, reftable_rewritten, IsAllocatorOf, Qcow2, Prepared, IsStored, PlacesNewTable, StandsReady, InternalStep, ImageInvariant}
+use Rattle.qcow2_alloc.proofs.PlacedBlocks.{in_own}
 use Rattle.qcow2_image.proofs.Open.Reftables.{allocator_moved}
-use Rattle.qcow2_image.specs.declared.image.Qcow2.{Qcow2}
-use Rattle.qcow2_image.specs.declared.prepared.Prepared.{Prepared}
-use Rattle.qcow2_image.specs.NewTables.{IsStored, PlacesNewTable, StandsReady}
-use Rattle.qcow2_image.specs.InternalSteps.{InternalStep}
-use Rattle.qcow2_image.specs.ImageInvariant.{ImageInvariant}
 use Rattle.qcow2_image.proofs.Map.Loading.{caches_moved, with_caches}
 use Rattle.qcow2_image.proofs.Images.Moving.{file_moved}
 

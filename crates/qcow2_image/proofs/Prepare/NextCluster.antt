@@ -1,33 +1,11 @@
 -- A prepared mapping is extended by the next cluster.
-use Rattle.std.proofs.Common.{◌≡◌, ◌⊎◌, ⊎_elim, inl, inr, ℕ, zero, suc, ◌+◌, ◌-◌, ◌*◌, ◌/◌, ◌%◌, ◌<◌, ◌≤◌, Bool, true, false, List, length, [], ◌∷◌, ◌++◌, Option, Some, refl, sym, ap, ◌∙◌, subst, arith, min}
-use Rattle.std.specs.Prelude.{IsTrue, nat_le, nat_lt, slice_get, slice_set, ◌&&◌}
-use mathlib.Core.Path.{fun_ext}
-use Rattle.std.proofs.lemmas.Bool.{cases_lt, cond-true, le-leb, lt-ltb, le-ltb}
-use Rattle.std.proofs.lemmas.Nat.{div-add-mod', div-mul-add, mod_below, pow_pos}
-use Rattle.std.proofs.lemmas.Option.{slice_get_within}
-use Rattle.image_access.specs.Backing.{BackingView}
-use Rattle.image_access.specs.Moments.{StorageView}
-use Rattle.qcow2_metadata.specs.Bytes.{Bytes, is_within}
-use Rattle.qcow2_metadata.specs.declared.header.HeaderFields.{HeaderFields}
-use Rattle.qcow2_metadata.specs.Guest.{known_byte}
-use Rattle.qcow2_metadata.specs.Header.{cluster_size, entries_per_cluster, rounded_up}
-use Rattle.qcow2_disk.specs.AbstractImages.{Guest, guest_of, meaning_at}
-use Rattle.qcow2_disk.specs.Calls.{with_slot}
-use Rattle.qcow2_disk.specs.Mappings.{PreparedMapping, IsPrepared}
-use Rattle.qcow2_alloc.specs.ImageFile.{contents_in, known_in, nothing_given, state_in}
-use Rattle.qcow2_image.specs.declared.image.Qcow2.{Qcow2}
-use Rattle.qcow2_image.specs.declared.prepared.Prepared.{Prepared}
-use Rattle.qcow2_image.specs.declared.prepared.ClusterMapping.{ClusterMapping}
-use Rattle.qcow2_image.specs.declared.prepared.ClusterMapping.TheVariants.{InPlace, Kept, New}
-use Rattle.qcow2_image.specs.ImageInvariant.{new_data_in, new_data_by, pins_by, over_all, abstract_of, meaning, is_private, cluster_of, is_entered, IsReady, IsReadyWith, IsClusterMappingAt, IsPending, pending_in}
-use Rattle.qcow2_image.specs.Ranges.{IsExtended, MayGoOn, StandsBehind}
+use Rattle.qcow2_image.proofs.Common.{◌≡◌, ◌⊎◌, ⊎_elim, inl, inr, ℕ, zero, suc, ◌+◌, ◌-◌, ◌*◌, ◌/◌, ◌%◌, ◌<◌, ◌≤◌, Bool, true, false, List, length, [], ◌∷◌, ◌++◌, Option, Some, refl, sym, ap, ◌∙◌, subst, arith, min, IsTrue, nat_le, nat_lt, slice_get, slice_set, ◌&&◌, fun_ext, cases_lt, cond-true, le-leb, lt-ltb, le-ltb, div-add-mod', div-mul-add, mod_below, pow_pos, slice_get_within, BackingView, StorageView, Bytes, is_within, HeaderFields, known_byte, cluster_size, entries_per_cluster, rounded_up, Guest, guest_of, meaning_at, with_slot, PreparedMapping, IsPrepared, contents_in, known_in, nothing_given, state_in, Qcow2, Prepared, ClusterMapping, InPlace, Kept, New, new_data_in, new_data_by, pins_by, over_all, abstract_of, meaning, is_private, cluster_of, is_entered, IsReady, IsReadyWith, IsClusterMappingAt, IsPending, pending_in, IsExtended, MayGoOn, StandsBehind, StateInvariant}
 use Rattle.qcow2_image.proofs.Call.Answered.{same_guest}
 use Rattle.qcow2_image.proofs.Call.Slots.{get_set, over_all_set, slot_set}
 use Rattle.qcow2_image.proofs.Call.Stepped.{Steps, stepped_sound, stepped_works}
 use Rattle.qcow2_image.proofs.Images.ClusterMappings.{private_is, private_shared}
 use Rattle.qcow2_image.proofs.Images.UngivenCovers.{all_stay}
 use Rattle.qcow2_image.proofs.Images.Moved.{format_stay}
-use Rattle.qcow2_laws.specs.SafeSteps.{StateInvariant}
 
 -- ---- one more after others
 

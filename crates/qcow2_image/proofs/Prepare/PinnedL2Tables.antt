@@ -1,19 +1,5 @@
 -- Whether an L2 table of the image's own is pinned, as a call finds it.
-use Rattle.std.proofs.Common.{◌≡◌, ◌+◌, ◌*◌, ◌/◌, ◌^◌, ◌<◌, ℕ, false, true, refl, sym, ap, ◌∙◌, subst, arith, Ok, Err, Result}
-use Rattle.std.specs.Prelude.{IfErr, IsErr, IsErrAnd, IsSome, OnOk}
-use Rattle.std.proofs.lemmas.Nat.{div-mul-add, pow_pos}
-use Rattle.qcow2_alloc.specs.CachePins.{l2_pins}
-use Rattle.qcow2_alloc.specs.declared.cache.MetadataCaches.{MetadataCaches}
-use Rattle.qcow2_alloc.specs.declared.error.ImageError.{ImageError}
-use Rattle.qcow2_alloc.specs.declared.error.ImageError.TheVariants.{TablePrepared}
-use Rattle.qcow2_alloc.specs.ImageError.{IsOfTables}
-use Rattle.qcow2_alloc.proofs.AllocationSteps.{handed_on}
-use Rattle.qcow2_image.specs.declared.image.Qcow2.{Qcow2}
-use Rattle.qcow2_image.specs.declared.prepared.Prepared.{Prepared}
-use Rattle.qcow2_image.specs.Image.{IsBegun}
-use Rattle.qcow2_image.specs.L1Entries.{HasOwnTable}
-use Rattle.qcow2_image.specs.PinnedTables.{FindsOwn, RespectsPins, PreparesUnpinned, own_pins, own_table}
-use Rattle.qcow2_image.specs.Refusals.{MayFail}
+use Rattle.qcow2_image.proofs.Common.{◌≡◌, ◌+◌, ◌*◌, ◌/◌, ◌^◌, ◌<◌, ℕ, false, true, refl, sym, ap, ◌∙◌, subst, arith, Ok, Err, Result, IfErr, IsErr, IsErrAnd, IsSome, OnOk, div-mul-add, pow_pos, l2_pins, MetadataCaches, ImageError, TablePrepared, IsOfTables, handed_on, Qcow2, Prepared, IsBegun, HasOwnTable, FindsOwn, RespectsPins, PreparesUnpinned, own_pins, own_table, MayFail}
 
 pub whole_quotient : (k c o : ℕ) → c * 2 ^ k ≡ o → c ≡ o / 2 ^ k
 whole_quotient k c o is =

@@ -1,20 +1,7 @@
 -- Preparing as a call: it succeeds, or is refused and perhaps marked as failed.
-use Rattle.std.proofs.Common.{◌≡◌, ℕ, Bool, false, List, [], Option, Some, refl, sym, subst}
-use Rattle.std.specs.Prelude.{Result, Ok, Err, IfErr, IsTrue, slice_set}
-use Rattle.image_access.specs.Backing.{BackingView}
-use Rattle.image_access.specs.Moments.{StorageView}
-use Rattle.qcow2_disk.specs.Calls.{AnsweredEffect, with_slot}
-use Rattle.qcow2_disk.specs.Mappings.{IsPrepared}
-use Rattle.qcow2_disk.specs.AbstractImages.{guest_of}
-use Rattle.qcow2_alloc.specs.declared.error.ImageError.{ImageError}
+use Rattle.qcow2_image.proofs.Common.{◌≡◌, ℕ, Bool, false, List, [], Option, Some, refl, sym, subst, Result, Ok, Err, IfErr, IsTrue, slice_set, BackingView, StorageView, AnsweredEffect, with_slot, IsPrepared, guest_of, ImageError, Qcow2, Prepared, Prepares, number_of, is_failed, has_noted_change, IsExisting, IsReadied, PreparesRange, pending_in, abstract_of, meaning, ImageInvariant}
 use Rattle.qcow2_alloc.specs.declared.error.ImageError.TheVariants as I
-use Rattle.qcow2_image.specs.declared.image.Qcow2.{Qcow2}
-use Rattle.qcow2_image.specs.declared.prepared.Prepared.{Prepared}
-use Rattle.qcow2_image.specs.Calls.{Prepares}
-use Rattle.qcow2_image.specs.Image.{number_of, is_failed, has_noted_change}
-use Rattle.qcow2_image.specs.CallParts.{IsExisting, IsReadied, PreparesRange}
 use Rattle.qcow2_image.proofs.Call.Marked.{MayMarkBy}
-use Rattle.qcow2_image.specs.ImageInvariant.{pending_in, abstract_of, meaning, ImageInvariant}
 use Rattle.qcow2_image.proofs.Prepare.Preparing.{readied_existing}
 use Rattle.qcow2_image.proofs.Call.CallOutcomes.{outcome_answered}
 use Rattle.qcow2_image.proofs.Call.Refused.{refuses_left}

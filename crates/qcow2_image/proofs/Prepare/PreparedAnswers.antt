@@ -1,35 +1,5 @@
 -- What a prepare returns: the whole range in place, or a pinned mapping.
-use Rattle.std.proofs.Common.{◌≡◌, ◌⊎◌, ⊎_elim, inl, inr, List, ℕ, zero, suc, length, ◌∷◌, [], ◌+◌, ◌-◌, ◌*◌, ◌/◌, ◌%◌, ◌<◌, ◌≤◌, Bool, true, false, Option, Some, None, refl, sym, ap, ◌∙◌, subst, arith, is_some}
-use Rattle.std.proofs.lemmas.Grind.{common_steps}
-use Rattle.std.specs.Prelude.{Err, IfOk, IsTrue, Ok, Result, not, slice_get, slice_set}
-use Rattle.std.proofs.lemmas.Bool.{cases_lt}
-use Rattle.std.proofs.lemmas.Nat.{div-add-mod', div-mul-add, mod-mul-add, mod_below, pow_pos}
-use Rattle.image_access.specs.Backing.{BackingView}
-use Rattle.image_access.specs.Moments.{StorageView}
-use Rattle.qcow2_metadata.specs.Bytes.{Bytes}
-use Rattle.qcow2_metadata.specs.declared.header.HeaderFields.{HeaderFields}
-use Rattle.qcow2_metadata.specs.declared.l2_mapping.L2Mapping.TheVariants.{Data, Zero}
-use Rattle.qcow2_metadata.specs.Header.{cluster_size, entries_per_cluster, rounded_down, rounded_up, with_tables_of}
-use Rattle.qcow2_metadata.specs.Cover.{cover}
-use Rattle.qcow2_disk.specs.Alike.{IsDataAt}
-use Rattle.qcow2_disk.specs.Mappings.{PreparedMapping, is_copied_data}
-use Rattle.qcow2_laws.specs.SafeSteps.{DriverState, StateInvariant}
-use Rattle.qcow2_laws.proofs.Guests.{named-is, own_data_of}
-use Rattle.qcow2_laws.proofs.Places.{Sizes-from}
-use Rattle.qcow2_laws.proofs.Tops.{for_tables-top, IsTop-top}
-use Rattle.qcow2_disk.specs.Found.{rest_of_table}
-use Rattle.qcow2_alloc.specs.declared.error.ImageError.{ImageError}
-use Rattle.qcow2_alloc.specs.ImageFile.{contents_in, known_in, state_in}
-use Rattle.qcow2_image.specs.declared.image.Qcow2.{Qcow2}
-use Rattle.qcow2_image.specs.declared.prepared.Prepared.{Prepared}
-use Rattle.qcow2_image.specs.declared.prepared.ClusterMapping.{ClusterMapping}
-use Rattle.qcow2_image.specs.declared.prepared.ClusterMapping.TheVariants.{InPlace, Kept, New}
-use Rattle.qcow2_image.specs.CallParts.{IsExisting, PreparesRange}
-use Rattle.qcow2_image.specs.Prepared.{offset_of}
-use Rattle.qcow2_image.specs.MovedTables.{MovesTables, CoversStay}
-use Rattle.qcow2_image.specs.Preparing.{IsAnswered, IsHeldAlone, IsKeptBy, IsTaken, IsWritableAt}
-use Rattle.qcow2_image.specs.Ranges.{BeginsInKept, Reaches}
-use Rattle.qcow2_image.specs.ImageInvariant.{of_data, to_free, new_data_by, cluster_of, host_begin_of, is_entered, is_private, meaning, pending_in, IsPending, IsReadyWith, IsClusterMappingAt, ImageInvariant}
+use Rattle.qcow2_image.proofs.Common.{◌≡◌, ◌⊎◌, ⊎_elim, inl, inr, List, ℕ, zero, suc, length, ◌∷◌, [], ◌+◌, ◌-◌, ◌*◌, ◌/◌, ◌%◌, ◌<◌, ◌≤◌, Bool, true, false, Option, Some, None, refl, sym, ap, ◌∙◌, subst, arith, is_some, common_steps, Err, IfOk, IsTrue, Ok, Result, not, slice_get, slice_set, cases_lt, div-add-mod', div-mul-add, mod-mul-add, mod_below, pow_pos, BackingView, StorageView, Bytes, HeaderFields, Data, Zero, cluster_size, entries_per_cluster, rounded_down, rounded_up, with_tables_of, cover, IsDataAt, PreparedMapping, is_copied_data, DriverState, StateInvariant, named-is, own_data_of, Sizes-from, for_tables-top, IsTop-top, rest_of_table, ImageError, contents_in, known_in, state_in, Qcow2, Prepared, ClusterMapping, InPlace, Kept, New, IsExisting, PreparesRange, offset_of, MovesTables, CoversStay, IsAnswered, IsHeldAlone, IsKeptBy, IsTaken, IsWritableAt, BeginsInKept, Reaches, of_data, to_free, new_data_by, cluster_of, host_begin_of, is_entered, is_private, meaning, pending_in, IsPending, IsReadyWith, IsClusterMappingAt, ImageInvariant}
 use Rattle.qcow2_image.proofs.Call.Slots.{get_set_same}
 use Rattle.qcow2_image.proofs.Images.ClusterMappings.{byte_cluster, byte_place, byte_of_mapping, new_data_at, new_data_once, host_cluster, never_private, over_all_at, private_is as private_mapping}
 

@@ -1,19 +1,5 @@
 -- A range is prepared: first its L2 table, then the range in that table.
-use Rattle.std.proofs.Common.{◌≡◌, ⊎_elim, ℕ, Bool, true, false, List, Option, Some, None, refl, sym, ap, ◌∙◌, subst, arith}
-use Rattle.std.specs.Prelude.{IsTrue, slice_get, slice_set}
-use mathlib.Core.Path.{fun_ext}
-use Rattle.image_access.specs.Backing.{BackingView}
-use Rattle.image_access.specs.Moments.{StorageView}
-use Rattle.qcow2_disk.specs.Calls.{with_slot}
-use Rattle.qcow2_disk.specs.AbstractImages.{guest_of}
-use Rattle.qcow2_laws.proofs.SafeSteps.{safe_step_none, safe_throughout_none}
-use Rattle.qcow2_alloc.specs.ImageFile.{state_in, view_in, contents_in, known_in, nothing_given}
-use Rattle.qcow2_image.specs.declared.image.Qcow2.{Qcow2}
-use Rattle.qcow2_image.specs.declared.prepared.Prepared.{Prepared}
-use Rattle.qcow2_image.specs.declared.prepared.ClusterMapping.{ClusterMapping}
-use Rattle.qcow2_image.specs.Image.{number_of}
-use Rattle.qcow2_image.specs.CallParts.{IsExisting, IsReadied}
-use Rattle.qcow2_image.specs.ImageInvariant.{new_data_in, new_data_by, pins_by, pins_of, over_all, pending_in, abstract_of, meaning, is_private, IsReady, IsReadyWith, ImageInvariant}
+use Rattle.qcow2_image.proofs.Common.{◌≡◌, ⊎_elim, ℕ, Bool, true, false, List, Option, Some, None, refl, sym, ap, ◌∙◌, subst, arith, IsTrue, slice_get, slice_set, fun_ext, BackingView, StorageView, with_slot, guest_of, safe_step_none, safe_throughout_none, state_in, view_in, contents_in, known_in, nothing_given, Qcow2, Prepared, ClusterMapping, number_of, IsExisting, IsReadied, new_data_in, new_data_by, pins_by, pins_of, over_all, pending_in, abstract_of, meaning, is_private, IsReady, IsReadyWith, ImageInvariant}
 use Rattle.qcow2_image.proofs.Images.ClusterMappings.{never_private as no_private}
 use Rattle.qcow2_image.proofs.Call.Answered.{same_guest}
 use Rattle.qcow2_image.proofs.Call.Slots.{get_set, over_all_put, slot_set}

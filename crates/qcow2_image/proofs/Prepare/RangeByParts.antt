@@ -1,33 +1,5 @@
 -- A range is prepared part by part, and released if a part is refused.
-use Rattle.std.proofs.Common.{◌≡◌, ◌++◌, inl, inr, ℕ, suc, ◌+◌, ◌-◌, ◌*◌, ◌/◌, ◌%◌, ◌<◌, ◌≤◌, Bool, true, false, List, length, [], ◌∷◌, Option, Some, None, refl, sym, ap, ◌∙◌, subst, arith, min}
-use Rattle.std.specs.Prelude.{slice_get, slice_set, vec_capacity, ◌==◌, ◌||◌}
-use Rattle.std.proofs.lemmas.Grind.{common_steps}
-use Rattle.std.proofs.lemmas.Nat.{div-add-mod', mod-mul-add, mod_below, pow_pos}
-use mathlib.Core.Path.{fun_ext}
-use Rattle.std.proofs.lemmas.Bool.{cases_eq, cases_lt, cond-true, cond-false, eq-eqb, ne_eqb}
-use Rattle.image_access.specs.Backing.{BackingView}
-use Rattle.image_access.specs.Moments.{StorageView}
-use Rattle.qcow2_metadata.specs.declared.header.HeaderFields.{HeaderFields}
-use Rattle.qcow2_metadata.specs.Header.{cluster_size, entries_per_cluster}
-use Rattle.qcow2_disk.specs.AbstractImages.{Guest, guest_of, meaning_at}
-use Rattle.qcow2_disk.specs.Calls.{EffectOnSound, with_slot}
-use Rattle.qcow2_disk.specs.Disk.{Disk}
-use Rattle.qcow2_disk.specs.Found.{rest_of_table}
-use Rattle.qcow2_disk.specs.Mappings.{PreparedMapping, IsPrepared}
-use Rattle.qcow2_laws.specs.Internal.{KeepsFormat}
-use Rattle.qcow2_disk.proofs.Compose.{works_then, stops_as}
-use Rattle.qcow2_alloc.specs.ImageFile.{contents_in, known_in, state_in, KeepsHeader}
-use Rattle.qcow2_alloc.proofs.ListedAfter.{header_format, header_then}
-use Rattle.qcow2_alloc.specs.declared.error.ImageError.{ImageError}
-use Rattle.qcow2_image.specs.declared.image.Qcow2.{Qcow2}
-use Rattle.qcow2_image.specs.declared.prepared.Prepared.{Prepared}
-use Rattle.qcow2_image.specs.declared.prepared.ClusterMapping.{ClusterMapping}
-use Rattle.qcow2_image.specs.Image.{ImageStays}
-use Rattle.qcow2_image.specs.Calls.{Discards}
-use Rattle.qcow2_image.specs.CallParts.{IsReadied, RefusedCall, InternalCall}
-use Rattle.qcow2_image.specs.ImageInvariant.{cluster_of, pending_in, abstract_of, meaning, IsPending, IsReadyWith, ImageInvariant}
-use Rattle.qcow2_image.specs.Ranges.{BreaksOff, Ends, HasRoomForRange, IsExtended, IsLongerMapping, IsNext, EndsWithCluster, ReleasesOneMapping, MayGoOn}
-use Rattle.qcow2_image.specs.MovedTables.{MovesTables, CoversStay}
+use Rattle.qcow2_image.proofs.Common.{◌≡◌, ◌++◌, inl, inr, ℕ, suc, ◌+◌, ◌-◌, ◌*◌, ◌/◌, ◌%◌, ◌<◌, ◌≤◌, Bool, true, false, List, length, [], ◌∷◌, Option, Some, None, refl, sym, ap, ◌∙◌, subst, arith, min, slice_get, slice_set, vec_capacity, ◌==◌, ◌||◌, common_steps, div-add-mod', mod-mul-add, mod_below, pow_pos, fun_ext, cases_eq, cases_lt, cond-true, cond-false, eq-eqb, ne_eqb, BackingView, StorageView, HeaderFields, cluster_size, entries_per_cluster, Guest, guest_of, meaning_at, EffectOnSound, with_slot, Disk, rest_of_table, PreparedMapping, IsPrepared, KeepsFormat, works_then, stops_as, contents_in, known_in, state_in, KeepsHeader, header_format, header_then, ImageError, Qcow2, Prepared, ClusterMapping, ImageStays, Discards, IsReadied, RefusedCall, InternalCall, cluster_of, pending_in, abstract_of, meaning, IsPending, IsReadyWith, ImageInvariant, BreaksOff, Ends, HasRoomForRange, IsExtended, IsLongerMapping, IsNext, EndsWithCluster, ReleasesOneMapping, MayGoOn, MovesTables, CoversStay}
 use Rattle.qcow2_image.proofs.Call.Answered.{same_guest}
 use Rattle.qcow2_image.proofs.Call.Slots.{get_set_same, set_same, set_set}
 use Rattle.qcow2_image.proofs.Images.Moved.{file_step_then, format_file_step, stay_then, format_stay}

@@ -1,27 +1,5 @@
 -- Why a range is refused 9 (table prepared).
-use Rattle.std.proofs.Common.{◌≡◌, inl, inr, ℕ, suc, ◌/◌, ◌%◌, ◌<◌, Bool, true, false, List, [], ◌∷◌, Option, Some, None, refl, sym, ap, ◌∙◌, subst, arith, is_some}
-use Rattle.std.specs.Prelude.{Result, Ok, Err, IfErr, slice_get, ◌==◌}
-use Rattle.std.proofs.lemmas.Bool.{cases_eq, cases_lt, eqb-true}
-use Rattle.image_access.specs.Backing.{BackingView}
-use Rattle.image_access.specs.Moments.{StorageView}
-use Rattle.qcow2_metadata.specs.Bytes.{Bytes, one_if}
-use Rattle.qcow2_metadata.specs.declared.header.HeaderFields.{HeaderFields}
-use Rattle.qcow2_metadata.specs.Header.{cluster_size, entries_per_cluster}
-use Rattle.qcow2_metadata.specs.Entries.{host_offset}
-use Rattle.qcow2_laws.specs.Guests.{table_at}
-use Rattle.qcow2_laws.proofs.Blocks.{table_once}
-use Rattle.qcow2_laws.proofs.Shares.{shares, two_tables}
-use Rattle.qcow2_alloc.proofs.KeptTables.Standing.{own_cluster}
-use Rattle.qcow2_laws.specs.CrashInvariant.{Pending}
-use Rattle.qcow2_alloc.specs.CachePins.{l2_pins}
-use Rattle.qcow2_alloc.specs.MetadataCaches.{order_of, IsEntryAt}
-use Rattle.qcow2_alloc.specs.ImageFile.{contents_in, known_in}
-use Rattle.qcow2_image.specs.declared.image.Qcow2.{Qcow2}
-use Rattle.qcow2_image.specs.declared.prepared.Prepared.{Prepared}
-use Rattle.qcow2_image.specs.Found.{l1_index_of}
-use Rattle.qcow2_image.specs.Preparing.{IsPlaceOf, IsTaken}
-use Rattle.qcow2_image.specs.InternalSteps.{HoldsTable}
-use Rattle.qcow2_image.specs.ImageInvariant.{over_all, pins_by, pins_of, IsPending, IsReadyWith, ImageInvariant}
+use Rattle.qcow2_image.proofs.Common.{◌≡◌, inl, inr, ℕ, suc, ◌/◌, ◌%◌, ◌<◌, Bool, true, false, List, [], ◌∷◌, Option, Some, None, refl, sym, ap, ◌∙◌, subst, arith, is_some, Result, Ok, Err, IfErr, slice_get, ◌==◌, cases_eq, cases_lt, eqb-true, BackingView, StorageView, Bytes, one_if, HeaderFields, cluster_size, entries_per_cluster, host_offset, table_at, table_once, shares, two_tables, own_cluster, Pending, l2_pins, order_of, IsEntryAt, contents_in, known_in, Qcow2, Prepared, l1_index_of, IsPlaceOf, IsTaken, HoldsTable, over_all, pins_by, pins_of, IsPending, IsReadyWith, ImageInvariant}
 
 -- what follows of what is so of a refusal
 pub if_err : {A E : Type 0} {P Q : E → Type 0} (answer : Result A E) → ((e : E) → P e → Q e) → IfErr answer P → IfErr answer Q

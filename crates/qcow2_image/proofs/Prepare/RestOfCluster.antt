@@ -1,35 +1,5 @@
 -- A mapping of the rest of a cluster is prepared: its table is pinned, and the mapping is put into an empty slot.
-use Rattle.std.proofs.Common.{◌≡◌, ⊎_elim, inl, inr, ℕ, zero, suc, ◌+◌, ◌-◌, ◌*◌, ◌/◌, ◌%◌, ◌<◌, ◌≤◌, Bool, true, false, List, length, [], ◌∷◌, Option, Some, None, refl, sym, ap, ◌∙◌, subst, arith, cond}
-use Rattle.std.specs.Prelude.{IsTrue, min, slice_get, slice_set, ◌&&◌, ◌==◌}
-use mathlib.Core.Path.{fun_ext}
-use Rattle.std.proofs.lemmas.Bool.{cases_eq, cond-false, ne_eqb}
-use Rattle.std.proofs.lemmas.Nat.{div-add-mod', div-mul-add, mod_below, pow_pos}
-use Rattle.image_access.specs.Backing.{BackingView}
-use Rattle.image_access.specs.Moments.{StorageView}
-use Rattle.qcow2_metadata.specs.Bytes.{Bytes, is_within}
-use Rattle.qcow2_metadata.specs.declared.header.HeaderFields.{HeaderFields}
-use Rattle.qcow2_metadata.specs.Header.{cluster_size, rounded_up}
-use Rattle.qcow2_metadata.specs.Tables.{CachedTable}
-use Rattle.qcow2_laws.specs.Caches.{AreNamedBlocks}
-use Rattle.qcow2_disk.specs.Calls.{with_slot}
-use Rattle.qcow2_disk.specs.Disk.{disk}
-use Rattle.qcow2_laws.specs.CrashInvariant.{Pending, SameCovers}
-use Rattle.qcow2_laws.specs.SafeSteps.{SafeStep, StateInvariant}
-use Rattle.qcow2_disk.specs.Mappings.{IsPrepared}
-use Rattle.qcow2_disk.specs.AbstractImages.{Guest, guest_of}
-use Rattle.qcow2_alloc.specs.CachePins.{l2_pins, SameTables}
-use Rattle.qcow2_alloc.specs.declared.cache.MetadataCaches.{MetadataCaches}
-use Rattle.qcow2_alloc.specs.ImageFile.{state_in, contents_in, known_in, nothing_given}
-use Rattle.qcow2_metadata.specs.Entries.{count}
-use Rattle.qcow2_alloc.proofs.FileInvariants.{file_invariant_of}
-use Rattle.qcow2_image.specs.declared.image.Qcow2.{Qcow2}
-use Rattle.qcow2_image.specs.declared.mapping.Place.TheVariants.{Image}
-use Rattle.qcow2_image.specs.declared.prepared.Prepared.{Prepared}
-use Rattle.qcow2_image.specs.declared.prepared.ClusterMapping.{ClusterMapping}
-use Rattle.qcow2_image.specs.Image.{number_of}
-use Rattle.qcow2_image.specs.CallParts.{IsReadied}
-use Rattle.qcow2_image.specs.InternalSteps.{InternalFillingStep, HoldsTable}
-use Rattle.qcow2_image.specs.ImageInvariant.{to_free, of_data, of_tables, new_data_by, pins_by, pins_of, over_all, pending_in, abstract_of, meaning, is_private, backing_bytes, IsClusterMappingAt, IsPending, IsReadyWith, ImageInvariant}
+use Rattle.qcow2_image.proofs.Common.{◌≡◌, ⊎_elim, inl, inr, ℕ, zero, suc, ◌+◌, ◌-◌, ◌*◌, ◌/◌, ◌%◌, ◌<◌, ◌≤◌, Bool, true, false, List, length, [], ◌∷◌, Option, Some, None, refl, sym, ap, ◌∙◌, subst, arith, cond, IsTrue, min, slice_get, slice_set, ◌&&◌, ◌==◌, fun_ext, cases_eq, cond-false, ne_eqb, div-add-mod', div-mul-add, mod_below, pow_pos, BackingView, StorageView, Bytes, is_within, HeaderFields, cluster_size, rounded_up, CachedTable, AreNamedBlocks, with_slot, disk, Pending, SameCovers, SafeStep, StateInvariant, IsPrepared, Guest, guest_of, l2_pins, SameTables, MetadataCaches, state_in, contents_in, known_in, nothing_given, count, file_invariant_of, Qcow2, Image, Prepared, ClusterMapping, number_of, IsReadied, InternalFillingStep, HoldsTable, to_free, of_data, of_tables, new_data_by, pins_by, pins_of, over_all, pending_in, abstract_of, meaning, is_private, backing_bytes, IsClusterMappingAt, IsPending, IsReadyWith, ImageInvariant}
 use Rattle.qcow2_image.proofs.Call.Answered.{same_guest}
 use Rattle.qcow2_image.proofs.Images.Moved.{format_file_step, format_stay}
 use Rattle.qcow2_image.proofs.Images.ClusterMappings.{private_shared}

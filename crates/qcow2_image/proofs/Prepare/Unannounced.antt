@@ -1,20 +1,5 @@
 -- Bytes of a cluster that the caller did not promise to overwrite are copied into the new one. So a compressed cluster is refused only if it has such a byte.
-use Rattle.std.proofs.Common.{◌≡◌, ◌⊎◌, inl, inr, ℕ, ◌+◌, ◌-◌, ◌*◌, ◌/◌, ◌%◌, ◌<◌, ◌≤◌, Bool, true, false, Option, Some, None, refl, sym, ◌∙◌, subst, arith, min}
-use Rattle.std.specs.Prelude.{IfSome, nat_lt, ◌&&◌, ◌==◌}
-use Rattle.std.proofs.lemmas.Bool.{and_from, and_left, and_right, cases_eq, cases_lt, cond-false, cond-true, eq-eqb, le-leb, le-ltb, lt-leb, lt-ltb}
-use Rattle.std.proofs.lemmas.Nat.{div-add-mod', div-mul-add, mod_below, pow_pos}
-use Rattle.qcow2_metadata.specs.Bytes.{Bytes, is_within}
-use Rattle.qcow2_metadata.specs.Cover.{cover}
-use Rattle.qcow2_metadata.specs.Header.{cluster_size}
-use Rattle.qcow2_metadata.specs.declared.header.HeaderFields.{HeaderFields}
-use Rattle.qcow2_metadata.specs.declared.l2_mapping.L2Mapping.{L2Mapping}
-use Rattle.qcow2_disk.specs.Found.{IsCompressed}
-use Rattle.qcow2_disk.specs.GrownCovers.{Touches}
-use Rattle.qcow2_disk.proofs.Within.{within_is}
-use Rattle.qcow2_image.specs.CopyRange.{announced_range_of, copy_range_of, uncut_copy_range}
-use Rattle.qcow2_image.specs.MayFail.{CopiesCompressed, HasCompressedIn, HasUnannounced, IsCopiedCompressed}
-use Rattle.qcow2_image.specs.MovedTables.{CoversStay}
-use Rattle.qcow2_image.specs.declared.copy_range.CopyRange.{CopyRange}
+use Rattle.qcow2_image.proofs.Common.{◌≡◌, ◌⊎◌, inl, inr, ℕ, ◌+◌, ◌-◌, ◌*◌, ◌/◌, ◌%◌, ◌<◌, ◌≤◌, Bool, true, false, Option, Some, None, refl, sym, ◌∙◌, subst, arith, min, IfSome, nat_lt, ◌&&◌, ◌==◌, and_from, and_left, and_right, cases_eq, cases_lt, cond-false, cond-true, eq-eqb, le-leb, le-ltb, lt-leb, lt-ltb, div-add-mod', div-mul-add, mod_below, pow_pos, Bytes, is_within, cover, cluster_size, HeaderFields, L2Mapping, IsCompressed, Touches, within_is, announced_range_of, copy_range_of, uncut_copy_range, CopiesCompressed, HasCompressedIn, HasUnannounced, IsCopiedCompressed, CoversStay, CopyRange}
 
 -- ---- a part to copy
 

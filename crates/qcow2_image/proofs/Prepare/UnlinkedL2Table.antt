@@ -1,50 +1,13 @@
 -- An image whose new L2 table has its L1 entry, or doesn't: what is pending, and what waits to be freed.
-use Rattle.std.proofs.Common.{◌≡◌, inl, inr, ℕ, ◌+◌, false, List, [], ◌∷◌, ◌++◌, Option, Result, Ok, Err, refl, sym, ap, ◌∙◌, subst, arith, ◌⊎◌}
-use Rattle.std.specs.Prelude.{Some}
-use Rattle.std.proofs.lemmas.Bool.{cases_lt}
-use Rattle.image_access.specs.Backing.{BackingView}
-use Rattle.image_access.specs.Moments.{StorageView}
-use Rattle.image_access.proofs.EachMomentSince.{passes_none}
-use Rattle.qcow2_metadata.specs.declared.header.HeaderFields.{HeaderFields}
-use Rattle.qcow2_metadata.specs.Entries.{l1_entry, host_offset}
-use Rattle.qcow2_metadata.specs.EntryTable.{EntryTableView}
-use Rattle.qcow2_metadata.specs.L2Table.{L2TableView}
-use Rattle.qcow2_metadata.specs.Named.{table_in}
-use Rattle.qcow2_metadata.specs.TableBytes.{entry_at}
-use Rattle.qcow2_laws.specs.Changes.{one_at, with_new_tables, new_tables_to_old_tables}
-use Rattle.qcow2_laws.specs.CrashInvariant.{Pending}
-use Rattle.qcow2_laws.specs.SafeSteps.{SafeStep}
-use Rattle.qcow2_laws.specs.Internal.{KeepsFormat}
-use Rattle.qcow2_laws.proofs.SafeSteps.{pending_safe_throughout}
-use Rattle.qcow2_laws.proofs.Steps.{pending_is_changed}
-use Rattle.qcow2_laws.proofs.Internal.{unseen_known}
-use Rattle.qcow2_alloc.specs.Allocation.{run_at, taken_as, InternalAllocatorGrowth, RefusedGrowth}
-use Rattle.qcow2_alloc.specs.declared.allocation.Allocator.{Allocator}
-use Rattle.qcow2_alloc.specs.CachePins.{KeepsPinsAndNotes}
-use Rattle.qcow2_alloc.specs.declared.image_file.ImageFile.{ImageFile}
-use Rattle.qcow2_alloc.specs.declared.clusters_to_free.ClustersToFreeEntry.{ClustersToFreeEntry}
-use Rattle.qcow2_alloc.specs.declared.clusters_to_free.ClusterKind.{ClusterKind}
+use Rattle.qcow2_image.proofs.Common.{◌≡◌, inl, inr, ℕ, ◌+◌, false, List, [], ◌∷◌, ◌++◌, Option, Result, Ok, Err, refl, sym, ap, ◌∙◌, subst, arith, ◌⊎◌, Some, cases_lt, BackingView, StorageView, passes_none, HeaderFields, l1_entry, host_offset, EntryTableView, L2TableView, table_in, entry_at, one_at, with_new_tables, new_tables_to_old_tables, Pending, SafeStep, KeepsFormat, pending_safe_throughout, pending_is_changed, unseen_known, run_at, taken_as, InternalAllocatorGrowth, RefusedGrowth, Allocator, KeepsPinsAndNotes, ImageFile, ClustersToFreeEntry, ClusterKind, ImageError, ListsTables, nothing_given, view_in, contents_in, known_in, state_in, one_few, one_here, pending_same, run_before, run_after, run_last, refused_kept, NoFreeBelowHint, BrokeOff, file_invariant_of, Qcow2, Prepared, SaysKnown, MayName, replacing, NamesNew, WritesNew, EntersTable, InterruptedPart, NamesOwn, InternalStep, RefusedStep, ListGrows, pending_with_listed, of_data, of_tables, to_free, ImageInvariant, leaked_by, leaked_in}
 use Rattle.qcow2_alloc.specs.declared.clusters_to_free.ClusterKind.TheVariants as Kind
-use Rattle.qcow2_alloc.specs.declared.error.ImageError.{ImageError}
-use Rattle.qcow2_alloc.specs.FreeList.{ListsTables}
-use Rattle.qcow2_alloc.specs.ImageFile.{nothing_given, view_in, contents_in, known_in, state_in}
-use Rattle.qcow2_alloc.proofs.FileSteps.{safe_throughout_then, one_few, one_here, pending_same}
-use Rattle.qcow2_alloc.proofs.Runs.{run_before, run_after, run_last}
-use Rattle.qcow2_alloc.proofs.KeptAllocators.{refused_kept}
-use Rattle.qcow2_alloc.specs.LowestRuns.{NoFreeBelowHint, BrokeOff}
-use Rattle.qcow2_alloc.proofs.FileInvariants.{file_invariant_of}
+use Rattle.qcow2_alloc.proofs.FileSteps.{safe_throughout_then}
 use Rattle.qcow2_image.proofs.Open.Reftables.{reftable_still}
-use Rattle.qcow2_image.specs.declared.image.Qcow2.{Qcow2}
-use Rattle.qcow2_image.specs.declared.prepared.Prepared.{Prepared}
-use Rattle.qcow2_image.specs.NewTables.{SaysKnown, MayName, replacing, NamesNew, WritesNew, EntersTable}
-use Rattle.qcow2_image.specs.InternalSteps.{InterruptedPart, NamesOwn, InternalStep, RefusedStep, ListGrows, pending_with_listed}
-use Rattle.qcow2_image.specs.ImageInvariant.{of_data, of_tables, to_free, ImageInvariant}
 use Rattle.qcow2_image.proofs.Call.Called.{keeps_then}
 use Rattle.qcow2_image.proofs.Images.Formats.{lists_grow, says_format}
 use Rattle.qcow2_image.proofs.Prepare.FirstCluster.{listed_after_on, listed_after_same}
 use Rattle.qcow2_image.proofs.Commit.Released.{sound_while}
 use Rattle.qcow2_image.proofs.Map.Loading.{still_moved}
-use Rattle.qcow2_image.specs.Image.{leaked_by, leaked_in}
 use Rattle.qcow2_image.proofs.Images.Moving.{file_moved_on}
 use Rattle.qcow2_image.proofs.Images.Sound.{free_more}
 

@@ -1,16 +1,5 @@
 -- Where a range may be written in place.
-use Rattle.std.proofs.Common.{◌≡◌, ℕ, ◌+◌, ◌/◌, ◌<◌, ◌≤◌, Bool, true, false, refl, sym, ap, ◌∙◌, arith, min}
-use Rattle.qcow2_metadata.specs.Bytes.{Bytes}
-use Rattle.qcow2_metadata.specs.declared.header.HeaderFields.{HeaderFields}
-use Rattle.qcow2_metadata.specs.Header.{cluster_size}
-use Rattle.qcow2_metadata.specs.Cover.{cover}
-use Rattle.qcow2_metadata.specs.declared.l2_mapping.L2Mapping.{L2Mapping}
-use Rattle.qcow2_metadata.specs.declared.l2_mapping.L2Mapping.TheVariants.{Data, Zero, Compressed, Uncovered}
-use Rattle.qcow2_disk.specs.Alike.{IsLongestRun}
-use Rattle.qcow2_laws.proofs.Alike.{are_alike, longest_is, run_data, run_less}
-use Rattle.qcow2_disk.specs.Found.{kind_at, rest_of_table}
-use Rattle.qcow2_image.specs.Found.{writable_place}
-use Rattle.qcow2_image.specs.Preparing.{IsPlaceOf, IsWritableAt}
+use Rattle.qcow2_image.proofs.Common.{◌≡◌, ℕ, ◌+◌, ◌/◌, ◌<◌, ◌≤◌, Bool, true, false, refl, sym, ap, ◌∙◌, arith, min, Bytes, HeaderFields, cluster_size, cover, L2Mapping, Data, Zero, Compressed, Uncovered, IsLongestRun, are_alike, longest_is, run_data, run_less, kind_at, rest_of_table, writable_place, IsPlaceOf, IsWritableAt}
 
 module _ (h : HeaderFields) (known : Bytes) (offset n found : ℕ) (some : 0 < n) (longest : IsLongestRun h known offset (min n (rest_of_table h offset)) found) where
   -- what ends before the range does isn't all in place

@@ -1,40 +1,5 @@
 -- An L1 entry gets an L2 table of its own: a new one, a copy, or the one that it had.
-use Rattle.std.proofs.Common.{◌≡◌, inl, inr, ℕ, ◌*◌, ◌/◌, ◌%◌, ◌<◌, List, [], ◌∷◌, ◌++◌, Option, None, Result, Ok, Err, true, refl, sym, ap, ◌∙◌, subst, arith}
-use Rattle.std.specs.Prelude.{◌==◌, IsErr, IsSome}
-use Rattle.std.proofs.lemmas.Bool.{cond-true, eq-eqb}
-use Rattle.std.proofs.lemmas.Nat.{mod_below}
-use Rattle.image_access.specs.Backing.{BackingView}
-use Rattle.image_access.specs.Moments.{StorageView}
-use Rattle.qcow2_metadata.specs.Bytes.{Bytes}
-use Rattle.qcow2_metadata.specs.declared.header.HeaderFields.{HeaderFields}
-use Rattle.qcow2_metadata.specs.Header.{cluster_size, entries_per_cluster, has_data_file}
-use Rattle.qcow2_metadata.specs.Entries.{l2_entry, host_offset, is_copied}
-use Rattle.qcow2_metadata.specs.Cover.{entry_cover}
-use Rattle.qcow2_metadata.specs.L2Table.{L2TableView, l2_table}
-use Rattle.qcow2_metadata.specs.Named.{table_in}
-use Rattle.qcow2_metadata.specs.TableBytes.{entry_at}
-use Rattle.qcow2_metadata.proofs.MadeEntries.{cover_of-0}
-use Rattle.qcow2_laws.specs.CrashInvariant.{Pending}
-use Rattle.qcow2_laws.specs.Guests.{table_at}
-use Rattle.qcow2_laws.proofs.SafeSteps.{safe_step_none}
-use Rattle.qcow2_laws.proofs.Places.{Sizes, Sizes-from, cover_none, cover_in}
-use Rattle.qcow2_laws.proofs.Tops.{IsTop-top}
-use Rattle.qcow2_alloc.specs.declared.cache.MetadataCaches.{MetadataCaches}
-use Rattle.qcow2_alloc.specs.declared.clusters_to_free.ClustersToFreeEntry.{ClustersToFreeEntry}
-use Rattle.qcow2_alloc.specs.ClustersToFree.{metadata_entry}
-use Rattle.qcow2_alloc.specs.declared.error.ImageError.{ImageError}
-use Rattle.qcow2_alloc.specs.declared.image_storage.ImageStorage.{ImageStorage}
-use Rattle.qcow2_alloc.specs.CachePins.{l2_pins, CachesHaveRoom}
-use Rattle.qcow2_alloc.specs.ImageFile.{view_in, contents_in, known_in, state_in}
-use Rattle.qcow2_alloc.specs.ImageStorage.{storage_of}
-use Rattle.qcow2_alloc.specs.MetadataCaches.{l2_at, IsEntryAt, ShowsKnown, InternalCacheStep}
-use Rattle.qcow2_alloc.proofs.FileSteps.{pending_same}
-use Rattle.qcow2_image.specs.declared.image.Qcow2.{Qcow2}
-use Rattle.qcow2_image.specs.declared.prepared.Prepared.{Prepared}
-use Rattle.qcow2_image.specs.NewTables.{SaysKnown, MayName, NamesShared, NamesCopied, replacing, EntersTable, OwnsTable}
-use Rattle.qcow2_image.specs.InternalSteps.{NamesOwn, InternalStep, RefusedStep, pending_with_listed, HoldsTable}
-use Rattle.qcow2_image.specs.Found.{l1_index_of}
-use Rattle.qcow2_image.specs.ImageInvariant.{ImageInvariant}
+use Rattle.qcow2_image.proofs.Common.{◌≡◌, inl, inr, ℕ, ◌*◌, ◌/◌, ◌%◌, ◌<◌, List, [], ◌∷◌, ◌++◌, Option, None, Result, Ok, Err, true, refl, sym, ap, ◌∙◌, subst, arith, ◌==◌, IsErr, IsSome, cond-true, eq-eqb, mod_below, BackingView, StorageView, Bytes, HeaderFields, cluster_size, entries_per_cluster, has_data_file, l2_entry, host_offset, is_copied, entry_cover, L2TableView, l2_table, table_in, entry_at, cover_of-0, Pending, table_at, safe_step_none, Sizes, Sizes-from, cover_none, cover_in, IsTop-top, MetadataCaches, ClustersToFreeEntry, metadata_entry, ImageError, ImageStorage, l2_pins, CachesHaveRoom, view_in, contents_in, known_in, state_in, storage_of, l2_at, IsEntryAt, ShowsKnown, InternalCacheStep, pending_same, Qcow2, Prepared, SaysKnown, MayName, NamesShared, NamesCopied, replacing, EntersTable, OwnsTable, NamesOwn, InternalStep, RefusedStep, pending_with_listed, HoldsTable, l1_index_of, ImageInvariant}
 use Rattle.qcow2_image.proofs.Call.Called.{keeps_then}
 use Rattle.qcow2_image.proofs.Prepare.UnlinkedL2Table.{keeps_none, as_listed_after, interrupted_on, same_l1, keeps_listed, given_up, freed_table}
 use Rattle.qcow2_image.proofs.Map.Loading.{caches_moved, with_caches}

@@ -1,16 +1,5 @@
 -- Everything is written that must be on the storage before an L1 entry names a new table.
-use Rattle.std.proofs.Common.{List, Option, Result, Ok, Err}
-use Rattle.std.specs.Prelude.{OnOk}
-use Rattle.image_access.specs.Backing.{BackingView}
-use Rattle.image_access.specs.Moments.{StorageView}
-use Rattle.qcow2_laws.specs.Caches.{AreClean, BlocksMayGo}
-use Rattle.qcow2_laws.specs.CrashInvariant.{Pending}
-use Rattle.qcow2_alloc.specs.declared.error.ImageError.{ImageError}
-use Rattle.qcow2_alloc.specs.MetadataCaches.{order_of, l2_tables, refblocks}
-use Rattle.qcow2_image.specs.declared.image.Qcow2.{Qcow2}
-use Rattle.qcow2_image.specs.declared.prepared.Prepared.{Prepared}
-use Rattle.qcow2_image.specs.NewTables.{Stores}
-use Rattle.qcow2_image.specs.InternalSteps.{InternalStep}
+use Rattle.qcow2_image.proofs.Common.{List, Option, Result, Ok, Err, OnOk, BackingView, StorageView, AreClean, BlocksMayGo, Pending, ImageError, order_of, l2_tables, refblocks, Qcow2, Prepared, Stores, InternalStep}
 
 module _ {S F : Type 0} (view : S → StorageView) (backing : F → BackingView) (old new : Qcow2 S F) (out : List (Option Prepared)) (p : Pending) (keeps : InternalStep view backing p p old new out) where
   pub stores_counts : (r : Result (Unit {0}) ImageError) → OnOk r (AreClean (refblocks new.file.caches)) → OnOk r (BlocksMayGo (order_of new.file.caches) (l2_tables new.file.caches)) → Stores view backing p old new out r

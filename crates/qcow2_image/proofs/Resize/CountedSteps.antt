@@ -1,11 +1,5 @@
 -- Steps of a shrink that pass a cluster boundary change something, and the change is counted.
-use Rattle.std.proofs.Common.{◌≡◌, inl, inr, ℕ, ◌<◌, ap, arith}
-use Rattle.std.proofs.lemmas.Bool.{cases_lt}
-use Rattle.std.proofs.lemmas.Nat.{pow_pos}
-use Rattle.qcow2_metadata.specs.Header.{cluster_size, rounded_up}
-use Rattle.qcow2_image.specs.declared.image.Qcow2.{Qcow2}
-use Rattle.qcow2_image.specs.Noted.{ChangesRose, NoFewerChanges}
-use Rattle.qcow2_image.specs.Resizing.{boundary_in}
+use Rattle.qcow2_image.proofs.Common.{◌≡◌, inl, inr, ℕ, ◌<◌, ap, arith, cases_lt, pow_pos, cluster_size, rounded_up, Qcow2, ChangesRose, NoFewerChanges, boundary_in}
 use Rattle.qcow2_image.proofs.Call.OnceWritten.{changes_before, changes_later}
 use Rattle.qcow2_image.proofs.Resize.TailSteps.{none_between}
 

@@ -1,15 +1,7 @@
 -- The guest clusters of a tail after it is discarded: they are unmapped. Adjacent ranges are one range.
-use Rattle.std.proofs.Common.{◌≡◌, ◌⊎◌, inl, inr, ℕ, ◌-◌, ◌*◌, ◌<◌, ◌≤◌, true, false, sym, ap, ◌∙◌, arith}
-use Rattle.std.specs.Prelude.{nat_le, nat_lt}
-use Rattle.std.proofs.lemmas.Bool.{and_from, and_left, and_right, cases_lt, cond-true, cond-false, le-leb, le-ltb, lt-leb, lt-ltb}
-use Rattle.qcow2_metadata.specs.Bytes.{Bytes}
-use Rattle.qcow2_metadata.specs.Cover.{cover}
-use Rattle.qcow2_metadata.specs.declared.header.HeaderFields.{HeaderFields}
+use Rattle.qcow2_image.proofs.Common.{◌≡◌, ◌⊎◌, inl, inr, ℕ, ◌-◌, ◌*◌, ◌<◌, ◌≤◌, true, false, sym, ap, ◌∙◌, arith, nat_le, nat_lt, and_from, and_left, and_right, cases_lt, cond-true, cond-false, le-leb, le-ltb, lt-leb, lt-ltb, Bytes, cover, HeaderFields, cluster_size, ClearsImageCovers, is_between, CoversStay}
 use Rattle.qcow2_metadata.specs.declared.l2_mapping.L2Mapping.TheVariants as M
-use Rattle.qcow2_metadata.specs.Header.{cluster_size}
-use Rattle.qcow2_image.specs.Clearing.{ClearsImageCovers, is_between}
 use Rattle.qcow2_image.specs.declared.discarding.ClearMode.TheVariants.{Uncovered}
-use Rattle.qcow2_image.specs.MovedTables.{CoversStay}
 
 module _ (from to : ℕ) (h h' : HeaderFields) (known known' : Bytes) where
   -- a cluster of the range, and any other one

@@ -1,38 +1,8 @@
 -- A growth: a longer L1 table, which guests don't see, then zeros past the end as the mode asks, and then the size.
-use Rattle.std.proofs.Common.{◌≡◌, ◌⊎◌, inl, inr, ℕ, ◌-◌, ◌<◌, Bool, true, false, List, [], ◌∷◌, refl, sym, ap, ◌∙◌, subst, arith}
-use Rattle.std.specs.Prelude.{IfErr, IsTrue, Option, Result, Ok, Err}
-use Rattle.std.proofs.lemmas.Bool.{cond-false, lt-leb}
-use Rattle.image_access.specs.Backing.{BackingView}
-use Rattle.image_access.specs.Moments.{StorageView, EachMomentSince, IsLeftBy}
-use Rattle.image_access.specs.declared.storage.PreallocateMode.{PreallocateMode}
-use Rattle.image_access.proofs.EachMomentSince.{passes_if, passes_on}
-use Rattle.qcow2_metadata.specs.Bytes.{byte_at}
-use Rattle.qcow2_metadata.specs.declared.header.HeaderFields.{HeaderFields}
-use Rattle.qcow2_metadata.specs.EntryTable.{entry_count}
-use Rattle.qcow2_metadata.specs.Header.{cluster_size, header, with_size}
-use Rattle.qcow2_disk.specs.AbstractImages.{Guest, Setting, guest_of}
-use Rattle.qcow2_disk.specs.Calls.{IsRefusalByFault, IsSame, MayGrow, RefusedEffect, EffectOnSound, given_by_grow, with_disk}
-use Rattle.qcow2_disk.specs.Disk.{Disk}
-use Rattle.qcow2_disk.specs.Stops.{GivenBytes}
-use Rattle.qcow2_disk.proofs.Compose.{works_less, works_then, stops_as}
-use Rattle.qcow2_laws.proofs.GuestLaws.{size_stays_in_calls}
-use Rattle.qcow2_alloc.specs.declared.error.ImageError.{ImageError}
+use Rattle.qcow2_image.proofs.Common.{◌≡◌, ◌⊎◌, inl, inr, ℕ, ◌-◌, ◌<◌, Bool, true, false, List, [], ◌∷◌, refl, sym, ap, ◌∙◌, subst, arith, IfErr, IsTrue, Option, Result, Ok, Err, cond-false, lt-leb, BackingView, StorageView, EachMomentSince, IsLeftBy, PreallocateMode, passes_if, passes_on, byte_at, HeaderFields, entry_count, cluster_size, header, with_size, Guest, Setting, guest_of, IsRefusalByFault, IsSame, MayGrow, RefusedEffect, EffectOnSound, given_by_grow, with_disk, Disk, GivenBytes, works_less, works_then, stops_as, size_stays_in_calls, ImageError, state_in, view_in, RefusedCall, InternalCall, refusal_of, setting_of, file_sizes, Qcow2, Prepared, l1_index_of, ReachesSize, is_failed, number_of, size_of, has_noted_change, ImageInvariant, abstract_of, disk_of, pending_in, FillsGrown, RefusedGrown, filled_to, all_given_by_growing, GrowsTo, RefusesUnchanged, SetsSize, WritesSize, WritesSizeLast, all_given_by_grow}
 use Rattle.qcow2_alloc.specs.declared.error.ImageError.TheVariants as I
 use Rattle.qcow2_alloc.specs.ImageError.{IsFault as IsFaultOfTables}
-use Rattle.qcow2_alloc.specs.ImageFile.{state_in, view_in}
-use Rattle.qcow2_image.specs.CallParts.{RefusedCall, InternalCall}
-use Rattle.qcow2_image.specs.Calls.{refusal_of}
-use Rattle.qcow2_image.specs.Clearing.{setting_of}
-use Rattle.qcow2_alloc.proofs.PlacedBlocks.{file_sizes}
-use Rattle.qcow2_image.specs.declared.image.Qcow2.{Qcow2}
-use Rattle.qcow2_image.specs.declared.prepared.Prepared.{Prepared}
-use Rattle.qcow2_image.specs.Found.{l1_index_of}
-use Rattle.qcow2_image.specs.Growing.{ReachesSize}
-use Rattle.qcow2_image.specs.Image.{is_failed, number_of, size_of, has_noted_change}
-use Rattle.qcow2_image.specs.ImageInvariant.{ImageInvariant, abstract_of, disk_of, pending_in}
-use Rattle.qcow2_image.specs.Preallocation.{FillsGrown, RefusedGrown, filled_to, all_given_by_growing}
 use Rattle.qcow2_image.proofs.Call.Marked.{MayMark, MayMarkBy}
-use Rattle.qcow2_image.specs.Resizing.{GrowsTo, RefusesUnchanged, SetsSize, WritesSize, WritesSizeLast, all_given_by_grow}
 use Rattle.qcow2_image.proofs.Call.Refused.{refused_then, refuses_left}
 use Rattle.qcow2_image.proofs.Call.CallOutcomes.{is_fault, outcome}
 use Rattle.qcow2_image.proofs.Grow.GrownByParts.{reaches_so}

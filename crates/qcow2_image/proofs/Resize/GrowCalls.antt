@@ -1,24 +1,6 @@
 -- A growth as a call: it is refused, or has nothing to do, before any work.
-use Rattle.std.proofs.Common.{◌≡◌, inl, inr, ◌≤◌, ℕ, true, false, [], ◌∷◌, refl, sym, ap, ◌∙◌, arith}
-use Rattle.std.specs.Prelude.{Some, Result, Ok, Err, not}
-use Rattle.std.proofs.lemmas.Bool.{cond-true, le-leb}
-use Rattle.image_access.specs.Backing.{BackingView}
-use Rattle.image_access.specs.Moments.{StorageView}
-use Rattle.image_access.specs.declared.storage.PreallocateMode.{PreallocateMode}
-use Rattle.image_access.proofs.EachMomentSince.{passes_none}
-use Rattle.qcow2_disk.specs.AbstractImages.{guest_of}
-use Rattle.qcow2_disk.specs.Calls.{shows_old, storage, with_disk}
-use Rattle.qcow2_disk.specs.Disk.{grown}
-use Rattle.qcow2_disk.proofs.Compose.{works_less}
-use Rattle.qcow2_alloc.specs.declared.error.ImageError.{ImageError}
-use Rattle.qcow2_alloc.specs.ImageFile.{view_in}
+use Rattle.qcow2_image.proofs.Common.{◌≡◌, inl, inr, ◌≤◌, ℕ, true, false, [], ◌∷◌, refl, sym, ap, ◌∙◌, arith, Some, Result, Ok, Err, not, cond-true, le-leb, BackingView, StorageView, PreallocateMode, passes_none, guest_of, shows_old, storage, with_disk, grown, works_less, ImageError, view_in, refusal_of, setting_of, Qcow2, is_external, is_failed, is_writable, size_of, abstract_of, disk_of, GrowsLast, GrowsTo, all_given_by_grow, refuses_to_resize}
 use Rattle.qcow2_alloc.specs.declared.error.ImageError.TheVariants as I
-use Rattle.qcow2_image.specs.Calls.{refusal_of}
-use Rattle.qcow2_image.specs.Clearing.{setting_of}
-use Rattle.qcow2_image.specs.declared.image.Qcow2.{Qcow2}
-use Rattle.qcow2_image.specs.Image.{is_external, is_failed, is_writable, size_of}
-use Rattle.qcow2_image.specs.ImageInvariant.{abstract_of, disk_of}
-use Rattle.qcow2_image.specs.Resizing.{GrowsLast, GrowsTo, all_given_by_grow, refuses_to_resize}
 use Rattle.qcow2_image.proofs.Call.Called.{refuses_early, works_none}
 use Rattle.qcow2_image.proofs.Grow.GrownByParts.{call_none}
 use Rattle.qcow2_image.proofs.Images.Sizes.{disk_size}

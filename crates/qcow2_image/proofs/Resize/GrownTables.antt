@@ -1,42 +1,10 @@
 -- The tables after a growth: the L1 table covers the last byte, and a pinned L2 table refuses the growth only past the old end.
-use Rattle.std.proofs.Common.{◌≡◌, ℕ, ◌+◌, ◌*◌, ◌-◌, ◌/◌, ◌%◌, ◌<◌, ◌≤◌, Bool, true, false, List, Option, refl, sym, ap, ◌∙◌, subst, arith, inl, inr}
-use Rattle.std.specs.Prelude.{IfErr, OnOk, Result, Ok, Err, None, Some}
-use Rattle.std.proofs.lemmas.Bool.{cases_lt}
-use Rattle.std.proofs.lemmas.Nat.{div-add-mod', mod_below, pow_pos}
-use Rattle.image_access.specs.Backing.{BackingView}
-use Rattle.image_access.specs.Moments.{StorageView}
-use Rattle.image_access.specs.declared.storage.PreallocateMode.{PreallocateMode}
+use Rattle.qcow2_image.proofs.Common.{◌≡◌, ℕ, ◌+◌, ◌*◌, ◌-◌, ◌/◌, ◌%◌, ◌<◌, ◌≤◌, Bool, true, false, List, Option, refl, sym, ap, ◌∙◌, subst, arith, inl, inr, IfErr, OnOk, Result, Ok, Err, None, Some, cases_lt, div-add-mod', mod_below, pow_pos, BackingView, StorageView, PreallocateMode, Bytes, cover, copied_host, zero_cover, HeaderFields, L2Mapping, Uncovered, HeaderView, cluster_size, rounded_up, with_fields, with_size, with_tables_of, shows_old, GrownCovers, first_zeros, is_copied_data, guests, places_of, with_places, past_guests, Sizes, ImageError, known_in, file_sizes, InternalCall, Qcow2, Prepared, ReachesSize, SameFormat, HasNothingToFree, is_failed, number_of, size_of, ImageInvariant, disk_of, pending_in, ReachesOffset, CoversStay, MovesTables, FillsGrown, GrownFree, IsUnderMappingIn, RefusedGrown, GrowsTables, LacksZeros, RefusesUnchanged, WritesSize, boundary_in}
 use Rattle.image_access.specs.declared.storage.PreallocateMode.TheVariants as Mode
-use Rattle.qcow2_metadata.specs.Bytes.{Bytes}
-use Rattle.qcow2_metadata.specs.Cover.{cover}
-use Rattle.qcow2_metadata.specs.L2Table.{copied_host, zero_cover}
-use Rattle.qcow2_metadata.specs.declared.header.HeaderFields.{HeaderFields}
-use Rattle.qcow2_metadata.specs.declared.l2_mapping.L2Mapping.{L2Mapping}
-use Rattle.qcow2_metadata.specs.declared.l2_mapping.L2Mapping.TheVariants.{Uncovered}
-use Rattle.qcow2_metadata.specs.Header.{HeaderView, cluster_size, rounded_up, with_fields, with_size, with_tables_of}
-use Rattle.qcow2_disk.specs.Calls.{shows_old}
-use Rattle.qcow2_disk.specs.GrownCovers.{FilledCovers, GrownCovers, first_zeros}
-use Rattle.qcow2_disk.specs.Mappings.{is_copied_data}
-use Rattle.qcow2_laws.specs.Guests.{guests}
-use Rattle.qcow2_laws.specs.Tops.{places_of, with_places}
-use Rattle.qcow2_laws.proofs.Guests.{past_guests}
-use Rattle.qcow2_laws.proofs.Places.{Sizes}
-use Rattle.qcow2_alloc.specs.declared.error.ImageError.{ImageError}
+use Rattle.qcow2_disk.specs.GrownCovers.{FilledCovers}
 use Rattle.qcow2_alloc.specs.declared.error.ImageError.TheVariants as I
 use Rattle.qcow2_alloc.specs.ImageError.{IsFault as IsFaultOfTables}
-use Rattle.qcow2_alloc.specs.ImageFile.{known_in}
-use Rattle.qcow2_alloc.proofs.PlacedBlocks.{file_sizes}
-use Rattle.qcow2_image.specs.CallParts.{InternalCall}
-use Rattle.qcow2_image.specs.declared.image.Qcow2.{Qcow2}
-use Rattle.qcow2_image.specs.declared.prepared.Prepared.{Prepared}
-use Rattle.qcow2_image.specs.Growing.{ReachesSize, SameFormat}
-use Rattle.qcow2_image.specs.Image.{HasNothingToFree, is_failed, number_of, size_of}
-use Rattle.qcow2_image.specs.ImageInvariant.{ImageInvariant, disk_of, pending_in}
-use Rattle.qcow2_image.specs.L1Entries.{ReachesOffset}
-use Rattle.qcow2_image.specs.MovedTables.{CoversStay, MovesTables}
-use Rattle.qcow2_image.specs.Preallocation.{FillsGrown, GrownFree, IsUnderMappingIn, RefusedGrown}
 use Rattle.qcow2_image.proofs.Call.Marked.{MayMark}
-use Rattle.qcow2_image.specs.Resizing.{GrowsTables, LacksZeros, RefusesUnchanged, WritesSize, boundary_in}
 use Rattle.qcow2_image.proofs.Call.Refused.{refuses_left}
 use Rattle.qcow2_image.proofs.Preallocate.Covers.{covers_stay, stay_covers}
 use Rattle.qcow2_image.proofs.Preallocate.Filled.{taken_wider}

@@ -1,23 +1,5 @@
 -- Guests don't see which changes are recorded: a call does the same to the image with other marks.
-use Rattle.std.proofs.Common.{◌≡◌, Bool, Option, Some, None, List, ℕ, inl, inr, refl, sym, subst}
-use Rattle.std.specs.Prelude.{IfSome, Result, Ok, Err}
-use Rattle.image_access.specs.Backing.{BackingView}
-use Rattle.image_access.specs.Moments.{StorageView}
-use Rattle.image_access.specs.declared.storage.PreallocateMode.{PreallocateMode}
-use Rattle.qcow2_disk.specs.AbstractImages.{AbstractImage}
-use Rattle.qcow2_disk.specs.Calls.{CallEffect, AnsweredEffect, Refusal, RefusedEffect, EffectOnSound}
-use Rattle.qcow2_disk.specs.Stops.{GivenBytes}
-use Rattle.qcow2_alloc.specs.declared.allocation.Allocator.{Allocator}
-use Rattle.qcow2_alloc.specs.declared.error.ImageError.{ImageError}
-use Rattle.qcow2_alloc.specs.KeptAllocators.{IsAllocatorOf}
-use Rattle.qcow2_alloc.specs.ImageStorage.{is_changed_of}
-use Rattle.qcow2_alloc.proofs.FileInvariants.{file_invariant_of}
-use Rattle.qcow2_image.specs.declared.image.Qcow2.{Qcow2}
-use Rattle.qcow2_image.specs.declared.prepared.Prepared.{Prepared}
-use Rattle.qcow2_image.specs.Faults.{CountsImageFaults, SameFaults}
-use Rattle.qcow2_image.specs.Image.{is_failed, with_marks}
-use Rattle.qcow2_image.specs.ImageInvariant.{ImageInvariant, abstract_of, pending_in}
-use Rattle.qcow2_image.specs.Resizing.{GrowsTables, GrowsTo, RefusesUnchanged, Shrinks}
+use Rattle.qcow2_image.proofs.Common.{◌≡◌, Bool, Option, Some, None, List, ℕ, inl, inr, refl, sym, subst, IfSome, Result, Ok, Err, BackingView, StorageView, PreallocateMode, AbstractImage, CallEffect, AnsweredEffect, Refusal, RefusedEffect, EffectOnSound, GivenBytes, Allocator, ImageError, IsAllocatorOf, is_changed_of, file_invariant_of, Qcow2, Prepared, CountsImageFaults, SameFaults, is_failed, with_marks, ImageInvariant, abstract_of, pending_in, GrowsTables, GrowsTo, RefusesUnchanged, Shrinks}
 use Rattle.qcow2_image.proofs.Call.FaultCounts.{counted_since, counted_still}
 
 module _ {S F : Type 0} (view : S → StorageView) (backing : F → BackingView) where

@@ -1,23 +1,7 @@
 -- A refused step of a shrink, after which clusters are freed.
-use Rattle.std.proofs.Common.{◌≡◌, ◌⊎◌, ◌<◌, ℕ, arith, inl, inr, Bool, true, false, List, [], refl, sym, ap, ◌∙◌, subst}
-use Rattle.std.specs.Prelude.{IsTrue, Option, Err}
-use Rattle.image_access.specs.Backing.{BackingView}
-use Rattle.image_access.specs.Moments.{StorageView}
-use Rattle.qcow2_metadata.specs.Header.{cluster_size, rounded_up}
-use Rattle.qcow2_disk.specs.AbstractImages.{AbstractImage, Setting}
-use Rattle.qcow2_disk.specs.Calls.{EffectOnSound, IsRefusalByFault, IsSame, RefusedEffect}
-use Rattle.qcow2_disk.proofs.Compose.{works_then}
-use Rattle.qcow2_alloc.specs.declared.error.ImageError.{ImageError}
+use Rattle.qcow2_image.proofs.Common.{◌≡◌, ◌⊎◌, ◌<◌, ℕ, arith, inl, inr, Bool, true, false, List, [], refl, sym, ap, ◌∙◌, subst, IsTrue, Option, Err, BackingView, StorageView, cluster_size, rounded_up, AbstractImage, Setting, EffectOnSound, IsRefusalByFault, IsSame, RefusedEffect, works_then, ImageError, InternalCall, refusal_of, Qcow2, Prepared, HasNothingToFree, is_failed, number_of, size_of, ImageInvariant, abstract_of, pending_in, MarksRefused, failed_after, DiscardsNext, boundary_in}
 use Rattle.qcow2_alloc.specs.declared.error.ImageError.TheVariants as I
 use Rattle.qcow2_alloc.specs.ImageError.{IsFault as IsFaultOfTables}
-use Rattle.qcow2_image.specs.CallParts.{InternalCall}
-use Rattle.qcow2_image.specs.Calls.{refusal_of}
-use Rattle.qcow2_image.specs.declared.image.Qcow2.{Qcow2}
-use Rattle.qcow2_image.specs.declared.prepared.Prepared.{Prepared}
-use Rattle.qcow2_image.specs.Image.{HasNothingToFree, is_failed, number_of, size_of}
-use Rattle.qcow2_image.specs.ImageInvariant.{ImageInvariant, abstract_of, pending_in}
-use Rattle.qcow2_image.specs.Refusals.{MarksRefused, failed_after}
-use Rattle.qcow2_image.specs.Resizing.{DiscardsNext, boundary_in}
 use Rattle.qcow2_image.proofs.Call.CallOutcomes.{is_fault, outcome}
 use Rattle.qcow2_image.proofs.Call.Marked.{may_mark_refused}
 use Rattle.qcow2_image.proofs.Resize.Shrinking.{IsDiscardedSoFar, fault_of, marks_nothing}

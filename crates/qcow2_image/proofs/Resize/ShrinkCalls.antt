@@ -1,21 +1,7 @@
 -- A shrink as a call: it is refused, or has nothing to do, before any work.
-use Rattle.std.proofs.Common.{◌≡◌, inl, inr, Result, subst, ℕ, ◌<◌, ◌≤◌, Bool, true, false, [], ◌∷◌, refl, sym, ap, ◌∙◌, arith}
-use Rattle.std.specs.Prelude.{Some, None, Ok, Err, IfErr, IsTrue, not}
-use Rattle.std.specs.Option.{option_or}
-use Rattle.image_access.specs.Backing.{BackingView}
-use Rattle.image_access.specs.Moments.{StorageView}
-use Rattle.qcow2_disk.specs.Calls.{another, storage}
-use Rattle.qcow2_disk.proofs.Compose.{works_less}
-use Rattle.qcow2_alloc.specs.declared.error.ImageError.{ImageError}
+use Rattle.qcow2_image.proofs.Common.{◌≡◌, inl, inr, Result, subst, ℕ, ◌<◌, ◌≤◌, Bool, true, false, [], ◌∷◌, refl, sym, ap, ◌∙◌, arith, Some, None, Ok, Err, IfErr, IsTrue, not, option_or, BackingView, StorageView, another, storage, works_less, ImageError, IsFault, refusal_of, Qcow2, is_external, is_failed, is_writable, size_of, abstract_of, disk_of, refuse_if, MayFailShrinking, Shrinks, all_given_by_shrink, all_given_by_shrunk, refuses_to_resize}
 use Rattle.qcow2_alloc.specs.declared.error.ImageError.TheVariants as I
-use Rattle.qcow2_alloc.specs.ImageError.{IsFault}
 use Rattle.qcow2_alloc.specs.ImageFile.{l2_pins}
-use Rattle.qcow2_image.specs.Calls.{refusal_of}
-use Rattle.qcow2_image.specs.declared.image.Qcow2.{Qcow2}
-use Rattle.qcow2_image.specs.Image.{is_external, is_failed, is_writable, size_of}
-use Rattle.qcow2_image.specs.ImageInvariant.{abstract_of, disk_of}
-use Rattle.qcow2_image.specs.Refusals.{refuse_if}
-use Rattle.qcow2_image.specs.Resizing.{MayFailShrinking, Shrinks, all_given_by_shrink, all_given_by_shrunk, refuses_to_resize}
 use Rattle.qcow2_image.proofs.Images.Backings.{some_prepared}
 use Rattle.qcow2_image.proofs.Call.Called.{refuses_early, works_none}
 use Rattle.qcow2_image.proofs.Clear.ClearCalls.{works_if}

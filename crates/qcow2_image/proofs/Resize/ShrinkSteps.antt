@@ -1,35 +1,7 @@
 -- One step unmaps whole clusters up to the end of an L2 table, or is refused.
-use Rattle.std.proofs.Common.{◌≡◌, ◌⊎◌, inl, inr, refl, Bool, true, false, None, ℕ, ◌+◌, ◌-◌, ◌^◌, ◌<◌, ◌≤◌, List, [], sym, ap, ◌∙◌, subst, arith, min}
-use Rattle.std.specs.Prelude.{◌||◌, ◌&&◌, ◌==◌, IfSome, Option, Some, Result, Ok, Err, nat_le, nat_lt, not}
-use Rattle.std.specs.Option.{option_or}
-use Rattle.std.proofs.lemmas.Bool.{cases_lt, le-ltb, leb-true}
-use Rattle.std.proofs.lemmas.Nat.{pow_pos}
-use Rattle.image_access.specs.Backing.{BackingView}
-use Rattle.image_access.specs.Moments.{StorageView}
-use Rattle.qcow2_metadata.specs.Guest.{Value}
-use Rattle.qcow2_metadata.specs.declared.header.HeaderFields.{HeaderFields}
-use Rattle.qcow2_metadata.specs.Header.{cluster_size, entries_per_cluster, rounded_up}
-use Rattle.qcow2_disk.specs.AbstractImages.{AbstractImage, Setting, guest_of}
-use Rattle.qcow2_disk.specs.Calls.{Refusal, RefusedEffect, EffectOnSound, with_disk}
-use Rattle.qcow2_disk.specs.Disk.{Disk}
-use Rattle.qcow2_disk.specs.Rules.{answered, touched_from, touched_to}
-use Rattle.qcow2_disk.specs.Stops.{GivenBytes, IsGiven}
-use Rattle.qcow2_disk.proofs.Compose.{works_less, TouchesLess}
-use Rattle.qcow2_laws.proofs.Places.{Sizes-from}
-use Rattle.qcow2_alloc.specs.declared.error.ImageError.{ImageError}
+use Rattle.qcow2_image.proofs.Common.{◌≡◌, ◌⊎◌, inl, inr, refl, Bool, true, false, None, ℕ, ◌+◌, ◌-◌, ◌^◌, ◌<◌, ◌≤◌, List, [], sym, ap, ◌∙◌, subst, arith, min, ◌||◌, ◌&&◌, ◌==◌, IfSome, Option, Some, Result, Ok, Err, nat_le, nat_lt, not, option_or, cases_lt, le-ltb, leb-true, pow_pos, BackingView, StorageView, Value, HeaderFields, cluster_size, entries_per_cluster, rounded_up, AbstractImage, Setting, guest_of, Refusal, RefusedEffect, EffectOnSound, with_disk, Disk, answered, touched_from, touched_to, GivenBytes, IsGiven, works_less, TouchesLess, Sizes-from, ImageError, contents_in, known_in, HasPinnedMapping, refusal_of, Clears, ClearsImageCovers, RefusesClearing, RefusesUngiven, rounds_past, setting_of, Qcow2, Prepared, HasNothingToFree, is_external, is_failed, is_writable, size_of, ImageInvariant, abstract_of, disk_of, pending_in, LacksTable, passes, refuse_if, IsFaultOrCantDiscard, IsTurnEnd, DiscardsNext, DiscardsPart, boundary_in, refuses_to_resize}
 use Rattle.qcow2_alloc.specs.declared.error.ImageError.TheVariants as I
-use Rattle.qcow2_alloc.specs.ImageFile.{contents_in, known_in}
-use Rattle.qcow2_image.specs.Backings.{HasPinnedMapping}
-use Rattle.qcow2_image.specs.Calls.{refusal_of}
-use Rattle.qcow2_image.specs.Clearing.{Clears, ClearsImageCovers, RefusesClearing, RefusesUngiven, rounds_past, setting_of}
 use Rattle.qcow2_image.specs.declared.discarding.ClearMode.TheVariants.{Uncovered}
-use Rattle.qcow2_image.specs.declared.image.Qcow2.{Qcow2}
-use Rattle.qcow2_image.specs.declared.prepared.Prepared.{Prepared}
-use Rattle.qcow2_image.specs.Image.{HasNothingToFree, is_external, is_failed, is_writable, size_of}
-use Rattle.qcow2_image.specs.ImageInvariant.{ImageInvariant, abstract_of, disk_of, pending_in}
-use Rattle.qcow2_image.specs.NewTables.{LacksTable}
-use Rattle.qcow2_image.specs.Refusals.{passes, refuse_if}
-use Rattle.qcow2_image.specs.Resizing.{IsFaultOrCantDiscard, IsTurnEnd, DiscardsNext, DiscardsPart, boundary_in, refuses_to_resize}
 use Rattle.qcow2_image.proofs.Images.Sizes.{disk_size}
 use Rattle.qcow2_image.proofs.Resize.TailSteps.{given_as, given_below, given_is, mono_up, shown_below, to_at_most, touches_before, turn_numbers}
 use Rattle.qcow2_image.proofs.Resize.DiscardedTails.{uncovers_as_many}

@@ -1,38 +1,8 @@
 -- A shrink: steps one after another, and then the size.
-use Rattle.std.proofs.Common.{◌≡◌, ◌⊎◌, inl, inr, ℕ, ◌-◌, ◌^◌, ◌<◌, ◌≤◌, Bool, true, false, List, [], ◌∷◌, refl, sym, ap, ◌∙◌, subst, arith, cond}
-use Rattle.std.specs.Prelude.{◌==◌, IfSome, IsTrue, Option, Some, None, Ok, Err, nat_lt, not}
-use Rattle.std.specs.Option.{option_or}
-use Rattle.std.proofs.lemmas.Bool.{cases_lt, cond-true, cond-false, eq-eqb, ne_eqb, lt-ltb}
-use Rattle.std.proofs.lemmas.Nat.{pow_pos}
-use Rattle.image_access.specs.Backing.{BackingView}
-use Rattle.image_access.specs.Moments.{IsLeftBy, StorageView, EachMomentSince}
-use Rattle.image_access.proofs.EachMomentSince.{passes_if, passes_on}
-use Rattle.qcow2_metadata.specs.Bytes.{byte_at}
-use Rattle.qcow2_metadata.specs.Guest.{Value, known_byte}
-use Rattle.qcow2_metadata.specs.Header.{HeaderView, header, cluster_size, rounded_up, with_fields, with_size}
-use Rattle.qcow2_disk.specs.AbstractImages.{AbstractImage, Guest, Setting, guest_of}
-use Rattle.qcow2_disk.specs.Calls.{IsRefusalByFault, IsSame, IsShrinkEnd, IsShrunk, EffectOnSound, with_disk}
-use Rattle.qcow2_disk.specs.Disk.{Disk, shrunk}
-use Rattle.qcow2_disk.specs.Stops.{GivenBytes, IsGiven}
-use Rattle.qcow2_disk.proofs.Compose.{works_less, works_then, stops_as}
-use Rattle.qcow2_laws.proofs.GuestLaws.{size_stays_in_calls}
-use Rattle.qcow2_alloc.specs.declared.error.ImageError.{ImageError}
+use Rattle.qcow2_image.proofs.Common.{◌≡◌, ◌⊎◌, inl, inr, ℕ, ◌-◌, ◌^◌, ◌<◌, ◌≤◌, Bool, true, false, List, [], ◌∷◌, refl, sym, ap, ◌∙◌, subst, arith, cond, ◌==◌, IfSome, IsTrue, Option, Some, None, Ok, Err, nat_lt, not, option_or, cases_lt, cond-true, cond-false, eq-eqb, ne_eqb, lt-ltb, pow_pos, BackingView, IsLeftBy, StorageView, EachMomentSince, passes_if, passes_on, byte_at, Value, known_byte, HeaderView, header, cluster_size, rounded_up, with_fields, with_size, AbstractImage, Guest, Setting, guest_of, IsRefusalByFault, IsSame, IsShrinkEnd, IsShrunk, EffectOnSound, with_disk, Disk, shrunk, GivenBytes, IsGiven, works_less, works_then, stops_as, size_stays_in_calls, ImageError, state_in, view_in, HasPinnedMapping, InternalCall, refusal_of, setting_of, Qcow2, Prepared, l1_index_of, IsSameImage, is_external, is_failed, is_writable, number_of, size_of, ImageInvariant, abstract_of, disk_of, pending_in, MayName, refuse_if, CantDiscard, IsFaultOrCantDiscard, IsTurnEnd, SetsSize, ShowsBelow, Shrinks, DiscardsNext, DiscardsPart, DiscardsTail, WritesSize, WritesSizeLast, boundary_in, all_given_by_shrink, all_given_by_shrunk, refuses_to_resize}
 use Rattle.qcow2_alloc.specs.declared.error.ImageError.TheVariants as I
 use Rattle.qcow2_alloc.specs.ImageError.{IsFault as IsFaultOfTables}
-use Rattle.qcow2_alloc.specs.ImageFile.{state_in, view_in}
-use Rattle.qcow2_image.specs.Backings.{HasPinnedMapping}
-use Rattle.qcow2_image.specs.CallParts.{InternalCall}
-use Rattle.qcow2_image.specs.Calls.{refusal_of}
-use Rattle.qcow2_image.specs.Clearing.{setting_of}
-use Rattle.qcow2_image.specs.declared.image.Qcow2.{Qcow2}
-use Rattle.qcow2_image.specs.declared.prepared.Prepared.{Prepared}
-use Rattle.qcow2_image.specs.Found.{l1_index_of}
-use Rattle.qcow2_image.specs.Image.{IsSameImage, is_external, is_failed, is_writable, number_of, size_of}
-use Rattle.qcow2_image.specs.ImageInvariant.{ImageInvariant, abstract_of, disk_of, pending_in}
-use Rattle.qcow2_image.specs.NewTables.{MayName}
-use Rattle.qcow2_image.specs.Refusals.{refuse_if}
 use Rattle.qcow2_image.proofs.Call.Marked.{MayMark}
-use Rattle.qcow2_image.specs.Resizing.{CantDiscard, IsFaultOrCantDiscard, IsTurnEnd, SetsSize, ShowsBelow, Shrinks, DiscardsNext, DiscardsPart, DiscardsTail, WritesSize, WritesSizeLast, boundary_in, all_given_by_shrink, all_given_by_shrunk, refuses_to_resize}
 use Rattle.qcow2_image.proofs.Call.Called.{Quietly, listed}
 use Rattle.qcow2_image.proofs.Call.Refused.{stays_kept}
 use Rattle.qcow2_image.proofs.Call.CallOutcomes.{is_fault, outcome}

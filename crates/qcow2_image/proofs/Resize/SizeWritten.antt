@@ -1,54 +1,9 @@
 -- The size of the disk is written: the image is as sound as before, whatever mappings are prepared, and shows the same bytes.
-use Rattle.std.proofs.Common.{◌≡◌, inl, inr, ℕ, ◌+◌, ◌/◌, ◌^◌, ◌<◌, ◌≢◌, Bool, true, false, List, [], ◌∷◌, Option, Some, None, Result, Ok, Err, refl, sym, ap, ◌∙◌, subst, arith}
-use Rattle.std.specs.Prelude.{IfSome, IsTrue, slice_get}
-use Rattle.std.proofs.lemmas.Bool.{cond-true, cond-false}
-use mathlib.Core.Path.{fun_ext}
-use Rattle.image_access.specs.Backing.{BackingView}
-use Rattle.image_access.specs.Moments.{StorageView, Calls, Changes, EachMomentSince, IsLeftBy}
-use Rattle.image_access.specs.declared.error.StorageError.{StorageError}
+use Rattle.qcow2_image.proofs.Common.{◌≡◌, inl, inr, ℕ, ◌+◌, ◌/◌, ◌^◌, ◌<◌, ◌≢◌, Bool, true, false, List, [], ◌∷◌, Option, Some, None, Result, Ok, Err, refl, sym, ap, ◌∙◌, subst, arith, IfSome, IsTrue, slice_get, cond-true, cond-false, fun_ext, BackingView, StorageView, Calls, Changes, EachMomentSince, IsLeftBy, StorageError, Bytes, byte_at, cover, cover_under, HeaderFields, l1_entry, count, count_under, reftable_entry, guest_value, known_byte, cluster_size, with_fields, with_size, size_written, guest_of, meaning_at, with_disk, disk, disk_with, SafeThroughout, Pending, SafeStep, WritesHeader, resized_places, SameUsedBytes, used_by_guests, own_data_of, header_elsewhere, header_fixed, header_l1, header_known_l1, header_known_covers, header_known_counts, tied, step_safe_throughout, header_is_written, known_header, named_some, table_bytes, Allocator, ImageStorage, of_storage, nothing_given, view_in, contents_in, known_in, state_in, storage_of, known_of, order_of, IsAllocatorOf, allocator_kept, InternalCall, Qcow2, Prepared, ClusterMapping, InPlace, Kept, New, LastsKnown, ImageInvariant, IsReadyWith, IsClusterMappingAt, abstract_of, backing_bytes, cluster_of, disk_of, is_private, meaning, pending_in, place_of, CoversStay, MayStand, SetsSize, WritesSize, HoldsAll, stops_of, file_invariant_of}
 use Rattle.image_access.specs.declared.error.StorageError.TheVariants as SE
-use Rattle.qcow2_metadata.specs.Bytes.{Bytes, byte_at}
-use Rattle.qcow2_metadata.specs.Cover.{cover, cover_under}
-use Rattle.qcow2_metadata.specs.declared.header.HeaderFields.{HeaderFields}
-use Rattle.qcow2_metadata.specs.Entries.{l1_entry, count, count_under, reftable_entry}
-use Rattle.qcow2_metadata.specs.Guest.{guest_value, known_byte}
-use Rattle.qcow2_metadata.specs.Header.{cluster_size, with_fields, with_size}
-use Rattle.qcow2_metadata.specs.HeaderWrite.{size_written}
-use Rattle.qcow2_disk.specs.AbstractImages.{guest_of, meaning_at}
-use Rattle.qcow2_disk.specs.Calls.{with_disk}
-use Rattle.qcow2_disk.specs.Disk.{disk, disk_with}
-use Rattle.qcow2_disk.specs.Stops.{SafeThroughout}
-use Rattle.qcow2_laws.specs.CrashInvariant.{Pending}
-use Rattle.qcow2_laws.specs.SafeSteps.{SafeStep}
-use Rattle.qcow2_laws.specs.Tops.{WritesHeader, resized_places}
-use Rattle.qcow2_laws.specs.Internal.{SameUsedBytes, used_by_guests}
-use Rattle.qcow2_laws.proofs.Guests.{own_data_of}
-use Rattle.qcow2_laws.proofs.Headers.{header_elsewhere, header_fixed, header_l1, header_known_l1, header_known_covers, header_known_counts}
-use Rattle.qcow2_laws.proofs.Mixes.{tied}
-use Rattle.qcow2_laws.proofs.SafeSteps.{step_safe_throughout}
-use Rattle.qcow2_laws.proofs.Steps.{header_is_written}
-use Rattle.qcow2_laws.proofs.Internal.{known_header, named_some, table_bytes}
 use Rattle.qcow2_laws.proofs.Values.{guest_value-same, size_is, value_is}
-use Rattle.qcow2_alloc.specs.declared.allocation.Allocator.{Allocator}
 use Rattle.qcow2_alloc.specs.declared.error.ImageError.TheVariants as I
-use Rattle.qcow2_alloc.specs.declared.image_storage.ImageStorage.{ImageStorage}
-use Rattle.qcow2_alloc.specs.ImageError.{of_storage}
-use Rattle.qcow2_alloc.specs.ImageFile.{nothing_given, view_in, contents_in, known_in, state_in}
-use Rattle.qcow2_alloc.specs.ImageStorage.{storage_of}
-use Rattle.qcow2_alloc.specs.MetadataCaches.{known_of, order_of}
 use Rattle.qcow2_alloc.proofs.Numbers.{size_writes}
-use Rattle.qcow2_alloc.specs.KeptAllocators.{IsAllocatorOf}
-use Rattle.qcow2_alloc.proofs.KeptAllocators.{allocator_kept}
-use Rattle.qcow2_image.specs.CallParts.{InternalCall}
-use Rattle.qcow2_image.specs.declared.image.Qcow2.{Qcow2}
-use Rattle.qcow2_image.specs.declared.prepared.Prepared.{Prepared}
-use Rattle.qcow2_image.specs.declared.prepared.ClusterMapping.{ClusterMapping}
-use Rattle.qcow2_image.specs.declared.prepared.ClusterMapping.TheVariants.{InPlace, Kept, New}
-use Rattle.qcow2_image.specs.Growing.{LastsKnown}
-use Rattle.qcow2_image.specs.ImageInvariant.{ImageInvariant, IsReadyWith, IsClusterMappingAt, abstract_of, backing_bytes, cluster_of, disk_of, is_private, meaning, pending_in, place_of}
-use Rattle.qcow2_image.specs.MovedTables.{CoversStay}
-use Rattle.qcow2_image.specs.Resizing.{MayStand, SetsSize, WritesSize}
-use Rattle.qcow2_image.specs.InternalSteps.{HoldsAll}
 use Rattle.qcow2_image.proofs.Call.Answered.{same_guest, same_mapping}
 use Rattle.qcow2_image.proofs.Call.Called.{listed}
 use Rattle.qcow2_image.proofs.Call.Refused.{stays_kept}
@@ -57,8 +12,6 @@ use Rattle.qcow2_image.proofs.Open.HeaderKept.{resized_l1, resized_reftable, pla
 use Rattle.qcow2_image.proofs.Images.Ready.{still_ready}
 use Rattle.qcow2_image.proofs.Images.ClusterMappings.{private_used}
 use Rattle.qcow2_image.proofs.Images.Sound.{pending_is}
-use Rattle.qcow2_disk.proofs.Compose.{stops_of}
-use Rattle.qcow2_alloc.proofs.FileInvariants.{file_invariant_of}
 use Rattle.qcow2_image.proofs.Images.UngivenCovers.{all_stay}
 
 -- ---- what is read with a header of another size

@@ -1,12 +1,5 @@
 -- A step of a shrink is a call that clears a range, whatever the image contains.
-use Rattle.std.proofs.Common.{◌≡◌, ℕ, Some, None, Result, Ok, Err, IsErr, IsErrAnd}
-use Rattle.image_access.specs.Backing.{BackingView}
-use Rattle.image_access.specs.Moments.{StorageView}
-use Rattle.qcow2_alloc.proofs.AllocationSteps.{handed_on}
-use Rattle.qcow2_alloc.specs.declared.error.ImageError.{ImageError}
-use Rattle.qcow2_image.specs.ClearingCalls.{ClearsStep}
-use Rattle.qcow2_image.specs.Resizing.{TurnStep}
-use Rattle.qcow2_image.specs.declared.image.Qcow2.{Qcow2}
+use Rattle.qcow2_image.proofs.Common.{◌≡◌, ℕ, Some, None, Result, Ok, Err, IsErr, IsErrAnd, BackingView, StorageView, handed_on, ImageError, ClearsStep, TurnStep, Qcow2}
 use Rattle.qcow2_image.proofs.Call.FaultCounts.{counted_of, counted_ok}
 
 -- a refusal is there, or none

@@ -1,32 +1,7 @@
 -- The tail of a disk is unmapped step by step: where the steps end, and one part after another.
-use Rattle.std.proofs.Common.{◌≡◌, ◌⊎◌, inl, inr, ℕ, ◌+◌, ◌-◌, ◌*◌, ◌/◌, ◌%◌, ◌^◌, ◌<◌, ◌≤◌, List, [], ◌∷◌, refl, sym, ap, ◌∙◌, subst, arith, cond, min}
-use Rattle.std.specs.Prelude.{◌==◌, Option, nat_lt, if◌then◌else◌}
-use Rattle.std.proofs.lemmas.Bool.{cases_lt, cond-true, cond-false, eq-eqb, lt-ltb, le-ltb}
-use Rattle.std.proofs.lemmas.Nat.{div-add-mod', mod-mul-add, mod_below}
-use mathlib.Core.Path.{fun_ext}
-use Rattle.image_access.specs.Backing.{BackingView}
-use Rattle.image_access.specs.Moments.{StorageView}
-use Rattle.qcow2_metadata.specs.Bytes.{Bytes}
-use Rattle.qcow2_metadata.specs.Guest.{Value, known_byte}
-use Rattle.qcow2_metadata.specs.declared.header.HeaderFields.{HeaderFields}
-use Rattle.qcow2_metadata.specs.Header.{cluster_size, entries_per_cluster, rounded_up, rounded_down}
-use Rattle.qcow2_disk.specs.AbstractImages.{AbstractImage, Guest, Setting, guest_of}
-use Rattle.qcow2_disk.specs.Calls.{IsShrinkEnd, EffectOnSound, with_disk}
-use Rattle.qcow2_disk.specs.Disk.{Disk, with_values}
-use Rattle.qcow2_disk.specs.Rules.{answered, touched_to}
-use Rattle.qcow2_disk.specs.Stops.{Checkpoint, GivenBytes, IsGiven, StopOkEverywhere, checkpoint_with}
-use Rattle.qcow2_disk.proofs.Compose.{works_less, works_then, stops_less}
-use Rattle.qcow2_disk.proofs.ForUsers.{laid_inside, laid_outside}
+use Rattle.qcow2_image.proofs.Common.{◌≡◌, ◌⊎◌, inl, inr, ℕ, ◌+◌, ◌-◌, ◌*◌, ◌/◌, ◌%◌, ◌^◌, ◌<◌, ◌≤◌, List, [], ◌∷◌, refl, sym, ap, ◌∙◌, subst, arith, cond, min, ◌==◌, Option, nat_lt, if◌then◌else◌, cases_lt, cond-true, cond-false, eq-eqb, lt-ltb, le-ltb, div-add-mod', mod-mul-add, mod_below, fun_ext, BackingView, StorageView, Bytes, Value, known_byte, HeaderFields, cluster_size, entries_per_cluster, rounded_up, rounded_down, AbstractImage, Guest, Setting, guest_of, IsShrinkEnd, EffectOnSound, with_disk, Disk, with_values, answered, touched_to, Checkpoint, GivenBytes, IsGiven, StopOkEverywhere, checkpoint_with, works_less, works_then, stops_less, laid_inside, laid_outside, div_mono, known_in, InternalCall, Qcow2, Prepared, ClearsImageCovers, setting_of, ImageInvariant, abstract_of, disk_of, pending_in, IsTurnEnd, DiscardsPart, boundary_in}
 use Rattle.qcow2_disk.proofs.Stops.{asked_more}
-use Rattle.qcow2_laws.proofs.Places.{div_mono}
-use Rattle.qcow2_alloc.specs.ImageFile.{known_in}
-use Rattle.qcow2_image.specs.CallParts.{InternalCall}
-use Rattle.qcow2_image.specs.declared.image.Qcow2.{Qcow2}
-use Rattle.qcow2_image.specs.declared.prepared.Prepared.{Prepared}
-use Rattle.qcow2_image.specs.Clearing.{ClearsImageCovers, setting_of}
 use Rattle.qcow2_image.specs.declared.discarding.ClearMode.TheVariants.{Uncovered}
-use Rattle.qcow2_image.specs.ImageInvariant.{ImageInvariant, abstract_of, disk_of, pending_in}
-use Rattle.qcow2_image.specs.Resizing.{IsTurnEnd, DiscardsPart, boundary_in}
 use Rattle.qcow2_image.proofs.Clear.ClearCalls.{covers_after}
 use Rattle.qcow2_image.proofs.Clear.Ranges.{to_whole}
 use Rattle.qcow2_image.proofs.Clear.Touched.{on_boundary, rounded_from}

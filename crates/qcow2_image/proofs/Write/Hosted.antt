@@ -1,32 +1,6 @@
 -- Where the bytes of a prepared mapping lie: each has an offset of its own in the file, outside of cluster 0.
-use Rattle.std.proofs.Common.{◌≡◌, inl, inr, ℕ, ◌+◌, ◌/◌, ◌%◌, ◌<◌, ◌≤◌, true, List, refl, sym, ap, ◌∙◌, subst, arith}
-use Rattle.std.specs.Prelude.{Option, Some, None, slice_get, get_or}
-use Rattle.std.proofs.Math.Nat.{div-eq_of_lt}
-use Rattle.std.proofs.lemmas.Bool.{cases_lt}
-use Rattle.std.proofs.lemmas.Nat.{pow_pos}
-use Rattle.std.proofs.lemmas.Option.{slice_get-get_or}
-use Rattle.image_access.specs.Backing.{BackingView}
-use Rattle.image_access.specs.Moments.{StorageView}
-use Rattle.qcow2_metadata.specs.Bytes.{Bytes}
-use Rattle.qcow2_metadata.specs.declared.header.HeaderFields.{HeaderFields}
-use Rattle.qcow2_metadata.specs.Header.{cluster_size}
-use Rattle.qcow2_metadata.specs.Cover.{cover}
-use Rattle.qcow2_metadata.specs.Named.{in_cluster, named_for_tables}
-use Rattle.qcow2_disk.specs.Alike.{AreDataAt}
-use Rattle.qcow2_laws.specs.CrashInvariant.{Pending}
-use Rattle.qcow2_laws.specs.GuestLaws.{Hosting, IsHostedAt, IsHeld}
+use Rattle.qcow2_image.proofs.Common.{◌≡◌, inl, inr, ℕ, ◌+◌, ◌/◌, ◌%◌, ◌<◌, ◌≤◌, true, List, refl, sym, ap, ◌∙◌, subst, arith, Option, Some, None, slice_get, get_or, div-eq_of_lt, cases_lt, pow_pos, slice_get-get_or, BackingView, StorageView, Bytes, HeaderFields, cluster_size, cover, in_cluster, named_for_tables, AreDataAt, Pending, Hosting, IsHostedAt, IsHeld, DriverState, in_own, beside_tables, shares, ClustersToFreeEntry, state_in, contents_in, known_in, Qcow2, Prepared, ClusterMapping, InPlace, Kept, New, to_free, of_data, new_data_by, pending_in, cluster_of, mapping_of_cluster, host_begin_of, IsNewAt, IsClusterMappingAt, IsPending, IsReadyWith, ImageInvariant}
 use Rattle.qcow2_laws.specs.GuestLaws.{InPlace as HostedInPlace, Kept as HostedKept, Held as HostedHeld}
-use Rattle.qcow2_laws.specs.SafeSteps.{DriverState}
-use Rattle.qcow2_laws.proofs.Consistency.{in_own}
-use Rattle.qcow2_laws.proofs.PutRuns.{beside_tables}
-use Rattle.qcow2_laws.proofs.Shares.{shares}
-use Rattle.qcow2_alloc.specs.declared.clusters_to_free.ClustersToFreeEntry.{ClustersToFreeEntry}
-use Rattle.qcow2_alloc.specs.ImageFile.{state_in, contents_in, known_in}
-use Rattle.qcow2_image.specs.declared.image.Qcow2.{Qcow2}
-use Rattle.qcow2_image.specs.declared.prepared.Prepared.{Prepared}
-use Rattle.qcow2_image.specs.declared.prepared.ClusterMapping.{ClusterMapping}
-use Rattle.qcow2_image.specs.declared.prepared.ClusterMapping.TheVariants.{InPlace, Kept, New}
-use Rattle.qcow2_image.specs.ImageInvariant.{to_free, of_data, new_data_by, pending_in, cluster_of, mapping_of_cluster, host_begin_of, IsNewAt, IsClusterMappingAt, IsPending, IsReadyWith, ImageInvariant}
 use Rattle.qcow2_image.proofs.Images.ClusterMappings.{byte_cluster, byte_place, byte_of_mapping, new_data_at, new_data_once, host_cluster, no_cluster_mapping, over_all_at, mapping_here}
 
 -- each byte of a guest cluster has a place of its own, by its cluster mapping

@@ -1,46 +1,6 @@
 -- Bytes are put into a prepared mapping by one write, over bytes in place and private ones.
-use Rattle.std.proofs.Common.{◌≡◌, ◌≢◌, inl, inr, ℕ, ◌+◌, ◌-◌, ◌*◌, ◌/◌, ◌%◌, ◌<◌, ◌≤◌, Bool, true, false, List, length, [], ◌∷◌, refl, sym, ap, ◌∙◌, subst, arith, cond, eqb}
-use Rattle.std.specs.Prelude.{Option, Some, None, IsTrue, slice_get, if◌then◌else◌}
-use Rattle.std.specs.Option.{option_map_or}
-use Rattle.std.proofs.lemmas.Bool.{cases_lt, cases_eq, cond-true, cond-false, eq-eqb, ne_eqb}
-use Rattle.std.proofs.lemmas.Nat.{div-add-mod', mod_below, pow_pos}
-use Rattle.std.proofs.lemmas.Option.{slice_get_within}
-use mathlib.Core.Path.{fun_ext}
-use Rattle.image_access.specs.Backing.{BackingView}
-use Rattle.image_access.specs.Contents.{overwritten}
-use Rattle.image_access.specs.Moments.{StorageView, EachMomentSince, IsLeftBy}
-use Rattle.qcow2_metadata.specs.Bytes.{byte_at, is_within, laid_over}
-use Rattle.qcow2_metadata.specs.declared.header.HeaderFields.{HeaderFields}
-use Rattle.qcow2_metadata.specs.Header.{cluster_size}
-use Rattle.qcow2_metadata.specs.Cover.{cover}
-use Rattle.qcow2_metadata.specs.Guest.{known_byte}
-use Rattle.qcow2_metadata.specs.Named.{in_cluster, named_by_cover, named_for_tables}
-use Rattle.qcow2_metadata.specs.declared.l2_mapping.L2Mapping.TheVariants.{Data, Zero}
-use Rattle.qcow2_disk.specs.Alike.{AreDataAt}
-use Rattle.qcow2_disk.specs.Calls.{EffectOnSound}
-use Rattle.qcow2_disk.specs.Disk.{Disk, disk, with_bytes}
-use Rattle.qcow2_laws.specs.CrashInvariant.{Pending}
-use Rattle.qcow2_laws.specs.Guests.{names}
-use Rattle.qcow2_laws.specs.GuestLaws.{Hosting, IsHostedAt, IsHeld, IsGivenAt, WritesRun}
+use Rattle.qcow2_image.proofs.Common.{◌≡◌, ◌≢◌, inl, inr, ℕ, ◌+◌, ◌-◌, ◌*◌, ◌/◌, ◌%◌, ◌<◌, ◌≤◌, Bool, true, false, List, length, [], ◌∷◌, refl, sym, ap, ◌∙◌, subst, arith, cond, eqb, Option, Some, None, IsTrue, slice_get, if◌then◌else◌, option_map_or, cases_lt, cases_eq, cond-true, cond-false, eq-eqb, ne_eqb, div-add-mod', mod_below, pow_pos, slice_get_within, fun_ext, BackingView, overwritten, StorageView, EachMomentSince, IsLeftBy, byte_at, is_within, laid_over, HeaderFields, cluster_size, cover, known_byte, in_cluster, named_by_cover, named_for_tables, Data, Zero, AreDataAt, EffectOnSound, Disk, disk, with_bytes, Pending, names, Hosting, IsHostedAt, IsHeld, IsGivenAt, WritesRun, PreparedMapping, given_by_put, put_mapping, put_disk, guest_of, meaning_at, DriverState, GivenBytes, IsGiven, in_own, laid_inside, laid_outside, kept_aligned, kept_unlaid, in_one, run_written, ImageStorage, storage_of, state_in, view_in, contents_in, known_in, Qcow2, Prepared, ClusterMapping, InPlace, Kept, New, put_guest, new_data_by, pending_in, abstract_of, meaning, is_entered, is_new, is_private, cluster_of, place_of, mapping_of_cluster, backing_bytes, IsReadyWith, ImageInvariant}
 use Rattle.qcow2_laws.specs.GuestLaws.{is_private_hosting as is_hosted_privately}
-use Rattle.qcow2_disk.specs.Mappings.{PreparedMapping, given_by_put, put_mapping, put_disk}
-use Rattle.qcow2_disk.specs.AbstractImages.{guest_of, meaning_at}
-use Rattle.qcow2_laws.specs.SafeSteps.{DriverState}
-use Rattle.qcow2_disk.specs.Stops.{GivenBytes, IsGiven}
-use Rattle.qcow2_laws.proofs.Consistency.{in_own}
-use Rattle.qcow2_disk.proofs.ForUsers.{laid_inside, laid_outside}
-use Rattle.qcow2_laws.proofs.KeptClusters.{kept_aligned, kept_unlaid}
-use Rattle.qcow2_laws.proofs.Places.{in_one}
-use Rattle.qcow2_laws.proofs.PutRuns.{run_written}
-use Rattle.qcow2_alloc.specs.declared.image_storage.ImageStorage.{ImageStorage}
-use Rattle.qcow2_alloc.specs.ImageStorage.{storage_of}
-use Rattle.qcow2_alloc.specs.ImageFile.{state_in, view_in, contents_in, known_in}
-use Rattle.qcow2_image.specs.declared.image.Qcow2.{Qcow2}
-use Rattle.qcow2_image.specs.declared.prepared.Prepared.{Prepared}
-use Rattle.qcow2_image.specs.declared.prepared.ClusterMapping.{ClusterMapping}
-use Rattle.qcow2_image.specs.declared.prepared.ClusterMapping.TheVariants.{InPlace, Kept, New}
-use Rattle.qcow2_image.specs.CallParts.{put_guest}
-use Rattle.qcow2_image.specs.ImageInvariant.{new_data_by, pending_in, abstract_of, meaning, is_entered, is_new, is_private, cluster_of, place_of, mapping_of_cluster, backing_bytes, IsReadyWith, ImageInvariant}
 use Rattle.qcow2_image.proofs.Images.Inside.{names_inside}
 use Rattle.qcow2_image.proofs.Images.Apart.{apart_guests}
 use Rattle.qcow2_image.proofs.Call.Answered.{same_guest, same_mapping, same_meaning}

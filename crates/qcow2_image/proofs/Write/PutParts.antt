@@ -1,48 +1,13 @@
 -- What a write into a prepared mapping does, from its parts.
-use Rattle.std.proofs.Common.{◌≡◌, ⊎_elim, inl, inr, ℕ, ◌+◌, ◌/◌, ◌%◌, ◌≤◌, Bool, true, false, List, length, [], ◌∷◌, refl, sym, ap, ◌∙◌, subst, arith, is_some, cond}
-use Rattle.std.specs.Prelude.{Option, Some, None, Result, Ok, Err, slice_get}
-use Rattle.image_access.specs.Backing.{BackingView}
-use Rattle.image_access.specs.Contents.{overwritten}
-use Rattle.image_access.specs.Moments.{StorageView, EachMomentSince, IsLeftBy}
-use Rattle.qcow2_metadata.specs.Bytes.{Bytes, byte_at, laid_over}
-use Rattle.qcow2_metadata.specs.declared.header.HeaderFields.{HeaderFields}
-use Rattle.qcow2_metadata.specs.Header.{cluster_size}
-use Rattle.qcow2_metadata.specs.Cover.{cover}
-use Rattle.qcow2_metadata.specs.declared.l2_mapping.L2Mapping.{L2Mapping}
-use Rattle.qcow2_metadata.specs.declared.l2_mapping.L2Mapping.TheVariants.{Data, Zero, Compressed, Uncovered}
-use Rattle.qcow2_disk.specs.Alike.{AreDataAt}
-use Rattle.qcow2_disk.specs.Calls.{EffectOnSound, AnsweredEffect, storage}
-use Rattle.qcow2_disk.specs.Mappings.{given_by_put, PreparedMapping, put_mapping, put_disk}
-use Rattle.qcow2_disk.specs.Stops.{GivenBytes}
-use Rattle.qcow2_disk.specs.AbstractImages.{Guest, guest_of, meaning_at}
-use Rattle.qcow2_laws.proofs.Alike.{run_data}
-use Rattle.qcow2_disk.proofs.Compose.{works_less, works_then}
-use Rattle.qcow2_alloc.specs.declared.error.ImageError.{ImageError}
+use Rattle.qcow2_image.proofs.Common.{◌≡◌, ⊎_elim, inl, inr, ℕ, ◌+◌, ◌/◌, ◌%◌, ◌≤◌, Bool, true, false, List, length, [], ◌∷◌, refl, sym, ap, ◌∙◌, subst, arith, is_some, cond, Option, Some, None, Result, Ok, Err, slice_get, BackingView, overwritten, StorageView, EachMomentSince, IsLeftBy, Bytes, byte_at, laid_over, HeaderFields, cluster_size, cover, L2Mapping, Data, Zero, Compressed, Uncovered, AreDataAt, EffectOnSound, AnsweredEffect, storage, given_by_put, PreparedMapping, put_mapping, put_disk, GivenBytes, Guest, guest_of, meaning_at, run_data, works_less, works_then, ImageError, ImageStorage, storage_of, view_in, known_in, Qcow2, Image, Prepared, raw, kind_at, IsMappedAs, put_guest, IsPut, IsWriteOutcome, PutsPart, ImageInvariant, pending_in, abstract_of, meaning, Puts, all_given_by_put, refusal_of, number_of, is_failed, cases_lt, cases_eq, cond-true, cond-false, eq-eqb, ne_eqb, known_byte, with_bytes, laid_outside, fun_ext}
 use Rattle.qcow2_alloc.specs.declared.error.ImageError.TheVariants as I
-use Rattle.qcow2_alloc.specs.declared.image_storage.ImageStorage.{ImageStorage}
-use Rattle.qcow2_alloc.specs.ImageStorage.{storage_of}
-use Rattle.qcow2_alloc.specs.ImageFile.{view_in, known_in}
-use Rattle.qcow2_image.specs.declared.image.Qcow2.{Qcow2}
 use Rattle.qcow2_image.specs.declared.mapping.MappingKind.TheVariants as Kind
-use Rattle.qcow2_image.specs.declared.mapping.Place.TheVariants.{Image}
-use Rattle.qcow2_image.specs.declared.prepared.Prepared.{Prepared}
-use Rattle.qcow2_disk.specs.Found.{raw, kind_at}
-use Rattle.qcow2_image.specs.Found.{IsMappedAs}
-use Rattle.qcow2_image.specs.CallParts.{put_guest, IsPut, IsWriteOutcome, PutsPart}
-use Rattle.qcow2_image.specs.ImageInvariant.{ImageInvariant, pending_in, abstract_of, meaning}
 use Rattle.qcow2_image.proofs.Call.Called.{Quietly, quiet_works, quiet_sound, quiet_same, works_none}
 use Rattle.qcow2_image.proofs.Call.CallOutcomes.{outcome_answered, outcome_refused}
 use Rattle.qcow2_image.proofs.Call.Answered.{same_guest}
 use Rattle.qcow2_disk.proofs.RunSteps.{acts_none}
-use Rattle.qcow2_image.specs.Calls.{Puts, all_given_by_put, refusal_of}
-use Rattle.qcow2_image.specs.Image.{number_of, is_failed}
 use Rattle.qcow2_image.proofs.Call.Marked.{MayMarkBy}
 use Rattle.qcow2_image.proofs.Map.Loading.{still_moved}
-use Rattle.std.proofs.lemmas.Bool.{cases_lt, cases_eq, cond-true, cond-false, eq-eqb, ne_eqb}
-use Rattle.qcow2_metadata.specs.Guest.{known_byte}
-use Rattle.qcow2_disk.specs.Disk.{with_bytes}
-use Rattle.qcow2_disk.proofs.ForUsers.{laid_outside}
-use mathlib.Core.Path.{fun_ext}
 use Rattle.qcow2_image.proofs.Write.Put.{put_covers, put_works, put_sound, put_seen}
 
 -- what is mapped in place is contiguous

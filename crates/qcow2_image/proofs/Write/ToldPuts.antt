@@ -1,22 +1,6 @@
 -- The single write of a put, and what the put leaves before it.
-use Rattle.std.proofs.Common.{◌≡◌, ℕ, ◌+◌, Bool, List, [], Option, IsSome, Result, Ok, Err, inl, refl, sym, ap, ◌∙◌, subst}
-use Rattle.image_access.specs.Backing.{BackingView}
-use Rattle.image_access.specs.Contents.{overwritten}
-use Rattle.image_access.specs.Moments.{StorageView}
-use Rattle.image_access.proofs.EachMomentSince.{passes_none}
-use Rattle.qcow2_alloc.specs.declared.error.ImageError.{ImageError}
+use Rattle.qcow2_image.proofs.Common.{◌≡◌, ℕ, ◌+◌, Bool, List, [], Option, IsSome, Result, Ok, Err, inl, refl, sym, ap, ◌∙◌, subst, BackingView, overwritten, StorageView, passes_none, ImageError, view_in, changes_of, Qcow2, Prepared, IsWriteOutcome, InternalCall, IsBegun, storage_of_image, ImageInvariant, abstract_of, pending_in, PutsOnce, offset_of, table_of, InternalFillingStep, InternalStep, Pending}
 use Rattle.qcow2_alloc.specs.declared.error.ImageError.TheVariants as I
-use Rattle.qcow2_alloc.specs.ImageFile.{view_in}
-use Rattle.qcow2_alloc.specs.ImageStorage.{changes_of}
-use Rattle.qcow2_image.specs.declared.image.Qcow2.{Qcow2}
-use Rattle.qcow2_image.specs.declared.prepared.Prepared.{Prepared}
-use Rattle.qcow2_image.specs.CallParts.{IsWriteOutcome, InternalCall}
-use Rattle.qcow2_image.specs.Image.{IsBegun, storage_of_image}
-use Rattle.qcow2_image.specs.ImageInvariant.{ImageInvariant, abstract_of, pending_in}
-use Rattle.qcow2_image.specs.Noted.{PutsOnce}
-use Rattle.qcow2_image.specs.Prepared.{offset_of, table_of}
-use Rattle.qcow2_image.specs.InternalSteps.{InternalFillingStep, InternalStep}
-use Rattle.qcow2_laws.specs.CrashInvariant.{Pending}
 use Rattle.qcow2_image.proofs.Call.Called.{Quietly, listed}
 use Rattle.qcow2_image.proofs.Call.Refused.{image_step_stays, stays_kept, stays_then}
 use Rattle.qcow2_image.proofs.Prepare.InternalWrites.{image_step_none}

@@ -1,37 +1,8 @@
 -- Bytes are written where no table lies: in place over data, or to the private cluster of a prepared mapping.
-use Rattle.std.proofs.Common.{◌≡◌, ◌⊎◌, inl, inr, ℕ, ◌+◌, ◌-◌, ◌/◌, ◌<◌, List, length, [], refl, sym, ap, ◌∙◌, subst, arith}
-use Rattle.std.specs.Prelude.{Option, IfSome}
-use Rattle.std.proofs.lemmas.Bool.{cases_lt}
-use Rattle.image_access.specs.Backing.{BackingView}
-use Rattle.image_access.specs.Contents.{overwritten}
-use Rattle.image_access.specs.Moments.{StorageView, EachMomentSince, IsLeftBy}
-use Rattle.image_access.proofs.Bytes.{byte_at-overwritten}
-use Rattle.qcow2_metadata.specs.Bytes.{Bytes, byte_at}
-use Rattle.qcow2_metadata.specs.declared.header.HeaderFields.{HeaderFields}
-use Rattle.qcow2_metadata.specs.Header.{cluster_size}
-use Rattle.qcow2_metadata.specs.Named.{named_for_tables}
-use Rattle.qcow2_laws.specs.CrashInvariant.{Pending, SameIn, SameCovers}
-use Rattle.qcow2_laws.specs.SafeSteps.{SafeStep}
-use Rattle.qcow2_disk.specs.Stops.{SafeThroughout, GivenBytes}
-use Rattle.qcow2_metadata.specs.Entries.{l1_entry}
-use Rattle.qcow2_laws.specs.Tops.{IsSameBut, WritesAt}
-use Rattle.qcow2_laws.proofs.Beside.{overwritten_but}
-use Rattle.qcow2_laws.proofs.Caches.{unnamed_free_l2, unnamed_free_rb}
+use Rattle.qcow2_image.proofs.Common.{◌≡◌, ◌⊎◌, inl, inr, ℕ, ◌+◌, ◌-◌, ◌/◌, ◌<◌, List, length, [], refl, sym, ap, ◌∙◌, subst, arith, Option, IfSome, cases_lt, BackingView, overwritten, StorageView, EachMomentSince, IsLeftBy, byte_at-overwritten, Bytes, byte_at, HeaderFields, cluster_size, named_for_tables, Pending, SameIn, SameCovers, SafeStep, SafeThroughout, GivenBytes, l1_entry, IsSameBut, WritesAt, overwritten_but, unnamed_free_l2, unnamed_free_rb, data_safe_throughout, Allocator, ImageStorage, storage_of, order_of, l2_tables, refblocks, state_in, view_in, contents_in, known_in, IsAllocatorOf, allocator_kept, file_invariant_of, Qcow2, Prepared, cluster_of, pending_in, ImageInvariant, backing_bytes}
 use Rattle.qcow2_laws.proofs.KeptSteps.{known_beside, still_agree}
-use Rattle.qcow2_laws.proofs.SafeSteps.{data_safe_throughout}
-use Rattle.qcow2_alloc.specs.declared.allocation.Allocator.{Allocator}
-use Rattle.qcow2_alloc.specs.declared.image_storage.ImageStorage.{ImageStorage}
-use Rattle.qcow2_alloc.specs.ImageStorage.{storage_of}
-use Rattle.qcow2_alloc.specs.MetadataCaches.{order_of, l2_tables, refblocks}
-use Rattle.qcow2_alloc.specs.ImageFile.{state_in, view_in, contents_in, known_in}
 use Rattle.qcow2_alloc.proofs.KeptTables.Beside.{top_beside, named_blocks_beside_write, sound_beside}
-use Rattle.qcow2_alloc.specs.KeptAllocators.{IsAllocatorOf}
-use Rattle.qcow2_alloc.proofs.KeptAllocators.{allocator_kept}
 use Rattle.qcow2_alloc.proofs.CountsStay.{counts_follow, fixed_more}
-use Rattle.qcow2_alloc.proofs.FileInvariants.{file_invariant_of}
-use Rattle.qcow2_image.specs.declared.image.Qcow2.{Qcow2}
-use Rattle.qcow2_image.specs.declared.prepared.Prepared.{Prepared}
-use Rattle.qcow2_image.specs.ImageInvariant.{cluster_of, pending_in, ImageInvariant, backing_bytes}
 use Rattle.qcow2_image.proofs.Images.Ready.{still_ready}
 use Rattle.qcow2_image.proofs.Call.Stepped.{Steps}
 use Rattle.qcow2_image.proofs.Images.UngivenCovers.{all_stay}

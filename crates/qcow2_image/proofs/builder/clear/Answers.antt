@@ -1,8 +1,4 @@
-use Rattle.std.proofs.Common.{sym, subst}
-use Rattle.image_access.specs.Contents.{resized}
-use Rattle.image_access.specs.Moments.{Calls, Changes}
-use Rattle.qcow2_alloc.specs.ImageStorage.{storage_of}
-use Rattle.qcow2_alloc.specs.ImageError.{of_storage}
+use Rattle.qcow2_image.proofs.Common.{sym, subst, resized, Calls, Changes, storage_of, of_storage}
 use Rattle.qcow2_image.proofs.Call.Unlimited.{storage_fault}
 use Rattle.qcow2_image.proofs.Prepare.LimitCauses.{hands_fault}
 use Rattle.qcow2_image.proofs.Create.Cleared.{asked_first, cut_to_none}

@@ -1,5 +1,4 @@
-use Rattle.std.proofs.Common.{arith}
-use Rattle.qcow2_alloc.specs.ImageError.{of_metadata}
+use Rattle.qcow2_image.proofs.Common.{arith, of_metadata}
 use Rattle.qcow2_image.proofs.Call.Unlimited.{short_fault}
 use Rattle.qcow2_image.proofs.Prepare.LimitCauses.{hands_fault}
 use Rattle.qcow2_image.proofs.builder.first_reftable.Goals as goal

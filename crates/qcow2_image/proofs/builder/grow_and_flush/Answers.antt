@@ -1,10 +1,5 @@
-use Rattle.std.proofs.Common.{[], ◌<◌, refl, inl, inr, Err, Ok}
-use Rattle.std.proofs.lemmas.Bool.{cases_lt}
+use Rattle.qcow2_image.proofs.Common.{[], ◌<◌, refl, inl, inr, Err, Ok, cases_lt, size_of, view_in, handed_on, Enlarges}
 use Rattle.qcow2_image.proofs.Call.FaultCounts.{counted_on, counted_since, untouched}
-use Rattle.qcow2_image.specs.Image.{size_of}
-use Rattle.qcow2_alloc.specs.ImageFile.{view_in}
-use Rattle.qcow2_alloc.proofs.AllocationSteps.{handed_on}
-use Rattle.qcow2_image.specs.Created.{Enlarges}
 use Rattle.qcow2_image.proofs.Create.Causes.{usable_opened}
 use Rattle.qcow2_image.proofs.Create.Faults.{grown_fault}
 use Rattle.qcow2_image.proofs.Create.Leaks.{left_taking, no_leaks_flushed, surplus_taken}

@@ -1,10 +1,4 @@
-use Rattle.std.proofs.Common.{◌≡◌, ◌∙◌, ℕ, ap, subst, sym, true}
-use Rattle.std.specs.Prelude.{OnOk}
-use Rattle.qcow2_metadata.specs.Bytes.{byte_at}
-use Rattle.qcow2_metadata.specs.Header.{header}
-use Rattle.qcow2_alloc.specs.ImageFile.{view_in}
-use Rattle.qcow2_alloc.specs.ImageStorage.{storage_of}
-use Rattle.qcow2_laws.specs.Opened.{HasNoLeaks}
+use Rattle.qcow2_image.proofs.Common.{◌≡◌, ◌∙◌, ℕ, ap, subst, sym, true, OnOk, byte_at, header, view_in, storage_of, HasNoLeaks}
 use Rattle.qcow2_image.proofs.Create.Causes.{opening_unlimited, told_closed, told_opening, usable_opened}
 use Rattle.qcow2_image.proofs.Create.Faults.{opening_fault, unmapped_opened}
 use Rattle.qcow2_image.proofs.Create.Creating.{opening_stops, opens_unwritten, enlarged_so, unwritten_mid}

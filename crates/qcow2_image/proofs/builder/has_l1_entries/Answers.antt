@@ -1,6 +1,5 @@
-use Rattle.std.proofs.Common.{◌≡◌, ℕ, ◌-◌, ◌*◌, ◌/◌, ◌^◌, ◌<◌, ◌≤◌, ◌↔◌, nat_lt, true, mul-pos, pow_mono, ◌∙◌, ap, sym, subst, arith}
-use Rattle.std.proofs.lemmas.Bool.Decides.{nat_tests}
-use Rattle.std.proofs.Math.Nat.{div-lt_iff_lt-mul}
+use Rattle.qcow2_image.proofs.Common.{◌≡◌, ℕ, ◌-◌, ◌*◌, ◌/◌, ◌^◌, ◌<◌, ◌≤◌, ◌↔◌, nat_lt, true, mul-pos, ◌∙◌, ap, sym, subst, arith, nat_tests, div-lt_iff_lt-mul}
+use Rattle.std.proofs.Common.{pow_mono}
 use Rattle.qcow2_image.proofs.builder.has_l1_entries.Goals as goal
 
 -- the last byte before a size lies in a cluster that so many entries cover

@@ -1,9 +1,4 @@
-use Rattle.std.proofs.Common.{◌≡◌, [], Err, Ok, inl, inr, subst, sym}
-use Rattle.std.specs.Option.{option_flatten}
-use Rattle.qcow2_image.specs.ImageInvariant.{IsHonestBacking}
-use Rattle.qcow2_image.specs.Opened.{Opens}
-use Rattle.qcow2_image.specs.Readable.{IsNewlyOpened, OpeningStep, files_missing}
-use Rattle.qcow2_image.specs.declared.opening.Qcow2OpenBuilder.{Qcow2OpenBuilder}
+use Rattle.qcow2_image.proofs.Common.{◌≡◌, [], Err, Ok, inl, inr, subst, sym, option_flatten, IsHonestBacking, Opens, IsNewlyOpened, OpeningStep, files_missing, Qcow2OpenBuilder}
 use Rattle.qcow2_image.proofs.builder.open_grown.Goals as goal
 
 pub returns-in-Ok-resize_grow-clause-opens : goal.returns-in-Ok-resize_grow-clause-opens

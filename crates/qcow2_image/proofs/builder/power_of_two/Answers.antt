@@ -1,6 +1,4 @@
-use Rattle.std.proofs.Common.{arith}
-use Rattle.std.specs.Int.{trailing_zeros, w64}
-use Rattle.std.proofs.lemmas.Nat.{one_shl}
+use Rattle.qcow2_image.proofs.Common.{arith, trailing_zeros, w64, one_shl}
 use Rattle.qcow2_image.proofs.Create.Causes.{no_power}
 use Rattle.qcow2_image.proofs.builder.power_of_two.Goals.{else-bits-lt64-via-then-bits-lt64+else-bits-number, else-bits-lt64-via-else-bits-lt64}
 use Rattle.qcow2_image.proofs.builder.power_of_two.Goals as goal

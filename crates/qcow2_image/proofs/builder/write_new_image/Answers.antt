@@ -1,6 +1,4 @@
-use Rattle.qcow2_alloc.specs.ImageStorage.{storage_of}
-use Rattle.qcow2_alloc.proofs.AllocationSteps.{handed_on}
-use Rattle.qcow2_image.specs.Created.{WritesThree}
+use Rattle.qcow2_image.proofs.Common.{storage_of, handed_on, WritesThree}
 use Rattle.qcow2_image.proofs.Create.ThreeWrites.{stops_cleared, writes_then}
 use Rattle.qcow2_image.proofs.Prepare.LimitCauses.{hands_fault}
 use Rattle.qcow2_image.proofs.builder.write_new_image.Goals as goal

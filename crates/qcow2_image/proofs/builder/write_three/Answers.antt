@@ -1,12 +1,6 @@
-use Rattle.std.proofs.Common.{subst, sym, ◌≡◌, List, ℕ}
-use Rattle.qcow2_metadata.specs.HeaderLoad.{IsHeaderIn}
-use Rattle.qcow2_metadata.specs.HeaderWrite.{header_written}
-use Rattle.qcow2_alloc.specs.ImageError.{of_storage}
-use Rattle.qcow2_alloc.specs.ImageStorage.{storage_of}
-use Rattle.qcow2_alloc.proofs.AllocationSteps.{handed_on}
+use Rattle.qcow2_image.proofs.Common.{subst, sym, ◌≡◌, List, ℕ, IsHeaderIn, header_written, of_storage, storage_of, handed_on, WritesThree}
 use Rattle.qcow2_image.proofs.Call.Unlimited.{storage_fault}
 use Rattle.qcow2_image.proofs.Prepare.LimitCauses.{hands_fault}
-use Rattle.qcow2_image.specs.Created.{WritesThree}
 use Rattle.qcow2_image.proofs.Create.ThreeWrites.{stops_first, stops_second, stops_third, new_stands}
 use Rattle.qcow2_image.proofs.builder.write_three.Goals as goal
 

@@ -1,5 +1,4 @@
-use Rattle.std.proofs.Common.{arith, ◌+◌, ◌-◌}
-use Rattle.std.proofs.Math.Nat.{div-mul-le_self}
+use Rattle.qcow2_image.proofs.Common.{arith, ◌+◌, ◌-◌, div-mul-le_self}
 use Rattle.qcow2_image.proofs.copy_range.copy_range.Goals as goal
 
 pub overflow_mul-end : goal.overflow_mul-end

@@ -1,4 +1,4 @@
-use Rattle.std.proofs.Common.{sym}
+use Rattle.qcow2_image.proofs.Common.{sym}
 use Rattle.qcow2_image.proofs.Clear.Touched.{none_rounded, on_boundary, some_rounded}
 use Rattle.qcow2_image.proofs.discarding.rounded_up.Goals as goal
 

@@ -1,5 +1,4 @@
-use Rattle.std.proofs.Common.{◌≡◌, [], length, replicate, sym, ◌∙◌, arith}
-use Rattle.image_access.proofs.Bytes.{bytes_at_past}
+use Rattle.qcow2_image.proofs.Common.{◌≡◌, [], length, replicate, sym, ◌∙◌, arith, bytes_at_past}
 use Rattle.qcow2_image.proofs.builder.NoBackingBackingDisk.read.Goals as goal
 
 pub returns-clause-read : goal.returns-clause-read

@@ -1,7 +1,4 @@
-use Rattle.std.proofs.Common.{◌≡◌, ◌∙◌, None, ap, arith, false, rules, sym, true}
-use Rattle.std.specs.Prelude.{IsTrue, ◌↔◌}
-use Rattle.qcow2_metadata.specs.HeaderWrite.{CanBeNew}
-use Rattle.qcow2_image.specs.Created.{backing_format_in, backing_name_in, longest_disk}
+use Rattle.qcow2_image.proofs.Common.{◌≡◌, ◌∙◌, None, ap, arith, false, rules, sym, true, IsTrue, ◌↔◌, CanBeNew, backing_format_in, backing_name_in, longest_disk}
 use Rattle.qcow2_image.proofs.Create.Causes.{is_allowed, no_such_header, too_long}
 use Rattle.qcow2_image.proofs.builder.Qcow2CreateBuilder.check.Goals as goal
 

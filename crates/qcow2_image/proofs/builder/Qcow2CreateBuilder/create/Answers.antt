@@ -1,10 +1,5 @@
-use Rattle.std.proofs.Common.{◌≡◌, ◌∙◌, Err, Ok, Result, ap, refl, subst, sym}
-use Rattle.std.specs.Prelude.{IfErr, IfOk}
-use Rattle.qcow2_alloc.specs.Faults.{FaultsReported}
-use Rattle.qcow2_alloc.specs.ImageStorage.{storage_of}
-use Rattle.qcow2_alloc.specs.declared.error.ImageError.{ImageError}
+use Rattle.qcow2_image.proofs.Common.{◌≡◌, ◌∙◌, Err, Ok, Result, ap, refl, subst, sym, IfErr, IfOk, FaultsReported, storage_of, ImageError, IsMade, IsReasonNotToCreate, StopsCreating}
 use Rattle.image_access.specs.declared.storage.PreallocateMode.TheVariants as Mode
-use Rattle.qcow2_image.specs.Created.{IsMade, IsReasonNotToCreate, StopsCreating}
 use Rattle.qcow2_image.proofs.Create.Causes.{reasons_made, reasons_of}
 use Rattle.qcow2_image.proofs.Create.Creating.{created_then, creating_stops, stops_at_none}
 use Rattle.qcow2_image.proofs.Prepare.LimitCauses.{limits_as}

@@ -1,11 +1,5 @@
-use Rattle.std.proofs.Common.{◌≡◌, Err, Ok, Result, inl, inr, ap, refl, subst, sym}
-use Rattle.std.specs.Prelude.{IfOk}
-use Rattle.image_access.proofs.EachMomentSince.{passes_none}
+use Rattle.qcow2_image.proofs.Common.{◌≡◌, Err, Ok, Result, inl, inr, ap, refl, subst, sym, IfOk, passes_none, FaultsReported, storage_of, ImageError, IsMade, StopsCreating, backing_format_in, backing_name_in}
 use Rattle.image_access.specs.declared.storage.PreallocateMode.TheVariants as Mode
-use Rattle.qcow2_alloc.specs.Faults.{FaultsReported}
-use Rattle.qcow2_alloc.specs.ImageStorage.{storage_of}
-use Rattle.qcow2_alloc.specs.declared.error.ImageError.{ImageError}
-use Rattle.qcow2_image.specs.Created.{IsMade, StopsCreating, backing_format_in, backing_name_in}
 use Rattle.qcow2_image.proofs.Create.Causes.{is_allowed}
 use Rattle.qcow2_image.proofs.Create.Creating.{made_by, new_header_is, three_stops}
 use Rattle.qcow2_image.proofs.Prepare.RefusedAsPrepared.{if_err}

@@ -1,8 +1,4 @@
-use Rattle.std.proofs.Common.{◌≡◌, ⊎_elim, ℕ, ◌+◌, ◌*◌, ◌<◌, ◌≤◌, ap, ◌∙◌, subst, arith, false, true}
-use Rattle.std.proofs.lemmas.Bool.{cases_lt}
-use Rattle.qcow2_metadata.specs.L2Table.{L2TableView}
-use Rattle.qcow2_disk.specs.Alike.{IsAlike}
-use Rattle.qcow2_image.specs.Found.{mapping_of, IsAlikeTo, AreAlikeBehind}
+use Rattle.qcow2_image.proofs.Common.{◌≡◌, ⊎_elim, ℕ, ◌+◌, ◌*◌, ◌<◌, ◌≤◌, ap, ◌∙◌, subst, arith, false, true, cases_lt, L2TableView, IsAlike, mapping_of, IsAlikeTo, AreAlikeBehind}
 use Rattle.qcow2_image.proofs.image.Qcow2.alike_behind.Goals as goal
 
 one_more : (n size : ℕ) → (n + 1) * size ≡ n * size + size

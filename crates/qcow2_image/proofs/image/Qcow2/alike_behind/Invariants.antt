@@ -1,6 +1,4 @@
-use Rattle.std.proofs.Common.{ℕ, ◌-◌, ◌+◌, ◌*◌, ◌<◌}
-use Rattle.qcow2_metadata.specs.L2Table.{L2TableView}
-use Rattle.qcow2_image.specs.Found.{AreAlikeBehind}
+use Rattle.qcow2_image.proofs.Common.{ℕ, ◌-◌, ◌+◌, ◌*◌, ◌<◌, L2TableView, AreAlikeBehind}
 use Rattle.qcow2_image.proofs.image.Qcow2.alike_behind.Given as goal
 
 -- so many clusters after are alike

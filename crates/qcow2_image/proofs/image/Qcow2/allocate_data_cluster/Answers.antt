@@ -1,20 +1,11 @@
 use Rattle.qcow2_image.proofs.Prepare.LimitCauses.{limits_left, left_taken}
-use Rattle.qcow2_image.specs.InternalSteps.{InternalFillingStep, pending_with_listed}
-use Rattle.std.proofs.Common.{◌≡◌, subst, refl, rules, arith, inl}
-use Rattle.std.specs.Prelude.{IfSome, Some, IfErr}
-use Rattle.qcow2_alloc.specs.Allocation.{Allocates}
-use Rattle.qcow2_alloc.specs.FreeList.{pending_then}
-use Rattle.qcow2_alloc.specs.KeptAllocators.{IsAllocatorOf}
+use Rattle.qcow2_image.proofs.Common.{InternalFillingStep, pending_with_listed, ◌≡◌, subst, refl, rules, arith, inl, IfSome, Some, IfErr, Allocates, pending_then, IsAllocatorOf, notes_of_both, IsUsed, HasNoPlace, IsFaultOr, IsFaultOrLimit}
 use Rattle.qcow2_alloc.specs.declared.clusters_to_free.ClusterKind.TheVariants as Kind
-use Rattle.qcow2_alloc.proofs.KeptMarks.{notes_of_both}
 use Rattle.qcow2_image.proofs.Images.Formats.{lists_grow}
 use Rattle.qcow2_image.proofs.Images.Moving.{leaked_still}
 use Rattle.qcow2_image.proofs.Prepare.FirstCluster.{takes_data}
 use Rattle.qcow2_image.proofs.Call.BehindHeader.{behind_allocated}
-use Rattle.qcow2_alloc.specs.LowestRuns.{IsUsed}
-use Rattle.qcow2_alloc.specs.Limits.{HasNoPlace, IsFaultOr}
 use Rattle.qcow2_image.proofs.Prepare.FailingCopies.{limit_alone, met_as}
-use Rattle.qcow2_image.specs.Refusals.{IsFaultOrLimit}
 use Rattle.qcow2_image.proofs.image.Qcow2.allocate_data_cluster.Goals as goal
 
 pub returns-clause-step : goal.returns-clause-step

@@ -1,18 +1,10 @@
 use Rattle.qcow2_image.proofs.Prepare.LimitCauses.{limits_left, left_taken_at, cause_within}
-use Rattle.qcow2_image.specs.InternalSteps.{InternalFillingStep, pending_with_listed}
-use Rattle.qcow2_metadata.specs.Header.{counts_per_block, HeaderView}
-use Rattle.std.proofs.Common.{ap, sym, subst, refl, rules, ◌/◌, ◌<◌, inr}
-use Rattle.std.specs.Prelude.{IfSome, Some, ◌^◌}
-use Rattle.qcow2_alloc.specs.KeptAllocators.{IsAllocatorOf}
-use Rattle.qcow2_alloc.proofs.KeptMarks.{notes_of_both}
+use Rattle.qcow2_image.proofs.Common.{InternalFillingStep, pending_with_listed, counts_per_block, HeaderView, ap, sym, subst, refl, rules, ◌/◌, ◌<◌, inr, IfSome, Some, ◌^◌, IsAllocatorOf, notes_of_both, CantCount, IsFaultOr, IsUsed, IsFaultOrLimit}
 use Rattle.qcow2_alloc.proofs.MadeClusters.{none_used}
 use Rattle.qcow2_image.proofs.Images.Formats.{lists_grow}
 use Rattle.qcow2_image.proofs.Images.Moving.{leaked_still}
 use Rattle.qcow2_image.proofs.Prepare.FirstCluster.{takes_data_at}
 use Rattle.qcow2_image.proofs.Call.BehindHeader.{behind_allocated}
-use Rattle.qcow2_alloc.specs.Limits.{CantCount, IsFaultOr}
-use Rattle.qcow2_alloc.specs.LowestRuns.{IsUsed}
-use Rattle.qcow2_image.specs.Refusals.{IsFaultOrLimit}
 use Rattle.qcow2_image.proofs.Prepare.FailingCopies.{limit_alone, met_as}
 use Rattle.qcow2_image.proofs.image.Qcow2.allocate_data_cluster_at.Goals as goal
 

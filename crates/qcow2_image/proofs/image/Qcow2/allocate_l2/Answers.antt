@@ -1,26 +1,11 @@
 use Rattle.qcow2_image.proofs.Call.Unlimited.{looking_unlimited}
-use Rattle.qcow2_alloc.proofs.Steps.{told_of}
+use Rattle.qcow2_image.proofs.Common.{told_of, refl, sym, ◌∙◌, subst, ◌<◌, inl, inr, ap, arith, rules, Err, IfSome, Some, false, run_at, taken_as, InternalAllocatorGrowth, pending_then, IsAllocatorOf, handed_on, EntersTable, notes_then, notes_of_marks, HeaderView, IsHostCluster, HasNoPlace, IsFaultOr, IsUsed, one_at, with_new_tables, HasPinnedMapping, MayFailAllocating}
 use Rattle.qcow2_image.proofs.image.Qcow2.allocate_l2.Goals as goal
-use Rattle.std.proofs.Common.{refl, sym, ◌∙◌, subst, ◌<◌, inl, inr, ap, arith, rules}
-use Rattle.std.specs.Prelude.{Err, IfSome, Some, false}
-use Rattle.qcow2_alloc.specs.Allocation.{run_at, taken_as, InternalAllocatorGrowth}
-use Rattle.qcow2_alloc.specs.FreeList.{pending_then}
-use Rattle.qcow2_alloc.specs.KeptAllocators.{IsAllocatorOf}
-use Rattle.qcow2_alloc.proofs.AllocationSteps.{handed_on}
-use Rattle.qcow2_image.specs.NewTables.{EntersTable}
 use Rattle.qcow2_image.proofs.Images.Moving.{leaked_still}
 use Rattle.qcow2_image.proofs.Prepare.UnlinkedL2Table.{none_taken, table_entered, table_refused, keeps_taken, says_still}
-use Rattle.qcow2_alloc.proofs.KeptMarks.{notes_then, notes_of_marks}
 use Rattle.qcow2_image.proofs.Call.BehindHeader.{behind_allocated, behind_then}
 use Rattle.qcow2_image.proofs.Prepare.LimitCauses.{hands_limit, other_limit, goes_step, limited_left}
-use Rattle.qcow2_metadata.specs.Header.{HeaderView}
-use Rattle.qcow2_metadata.specs.L2Mapping.{IsHostCluster}
-use Rattle.qcow2_alloc.specs.Limits.{HasNoPlace, IsFaultOr}
-use Rattle.qcow2_alloc.specs.LowestRuns.{IsUsed}
-use Rattle.qcow2_laws.specs.Changes.{one_at, with_new_tables}
 use Rattle.qcow2_image.proofs.Call.FaultCounts.{counted_as, counted_still, same_told, untouched}
-use Rattle.qcow2_image.specs.Backings.{HasPinnedMapping}
-use Rattle.qcow2_image.specs.MayFail.{MayFailAllocating}
 use Rattle.qcow2_image.proofs.Prepare.FailingCopies.{hands_met}
 use Rattle.qcow2_image.proofs.Prepare.FailingAllocations.{looking_taking}
 

@@ -1,6 +1,4 @@
-use Rattle.std.proofs.Common.{ap, refl}
-use Rattle.qcow2_alloc.specs.CachePins.{l2_pins}
-use Rattle.qcow2_alloc.specs.ImageFile.{view_in}
+use Rattle.qcow2_image.proofs.Common.{ap, refl, l2_pins, view_in}
 use Rattle.qcow2_image.proofs.Map.Loading.{caches_moved, stays}
 use Rattle.qcow2_image.proofs.image.Qcow2.begin_call.Goals as goal
 

@@ -1,16 +1,7 @@
 use Rattle.qcow2_image.proofs.Call.WriteSteps.{filling_none, keeping_of_filling, keeping_of_read}
-use Rattle.std.proofs.Common.{◌≡◌, ◌∙◌, inr, None, true, sym, subst, arith, ◌+◌, rules}
-use Rattle.qcow2_image.specs.declared.mapping.MappingKind.TheVariants.{Raw}
-use Rattle.qcow2_image.specs.declared.mapping.Place.TheVariants.{Image}
-use Rattle.qcow2_image.specs.Found.{IsFoundWhole, IsMappedAs}
+use Rattle.qcow2_image.proofs.Common.{◌≡◌, ◌∙◌, inr, None, true, sym, subst, arith, ◌+◌, rules, Raw, Image, IsFoundWhole, IsMappedAs, Result, handed_on, none_of, FitsTables, IsCacheHeld, MayFailLookingAgain, table_of}
 use Rattle.qcow2_image.proofs.Grow.L1Lengths.{on_ok}
 use Rattle.qcow2_image.proofs.Map.Loading.{if_ok}
-use Rattle.std.specs.Prelude.{Result}
-use Rattle.qcow2_alloc.proofs.AllocationSteps.{handed_on}
-use Rattle.qcow2_alloc.proofs.CachedEntries.Lists.{none_of}
-use Rattle.qcow2_image.specs.HeldMappings.{FitsTables}
-use Rattle.qcow2_image.specs.MayFail.{IsCacheHeld, MayFailLookingAgain}
-use Rattle.qcow2_image.specs.Prepared.{table_of}
 use Rattle.qcow2_image.proofs.Prepare.FailingCopies.{hands_met, met_as}
 use Rattle.qcow2_image.proofs.image.Qcow2.check_in_place.Goals as goal
 

@@ -1,16 +1,8 @@
-use Rattle.std.proofs.Common.{◌≡◌, ◌≤◌, IsTrue, true, false, sym, subst, arith, ◌<◌, ⊎_elim, inl, inr, refl, rules}
-use Rattle.qcow2_image.specs.Found.{IsFoundInImage, IsFoundWhole, IsMappedAs}
+use Rattle.qcow2_image.proofs.Common.{◌≡◌, ◌≤◌, IsTrue, true, false, sym, subst, arith, ◌<◌, ⊎_elim, inl, inr, refl, rules, IsFoundInImage, IsFoundWhole, IsMappedAs, handed_on, IsCacheHeld, MayFailLookingAgain, Result, is_some, cases_lt, IsOfTables, FitsTables, IsHeldAs, size_of}
 use Rattle.qcow2_image.proofs.Map.Looked.{found_after, found_before, found_whole, mapped_as}
 use Rattle.qcow2_image.proofs.image.Qcow2.check_mapped.Goals.{else-found-length-via-then-found-length+else-is, else-found-length-via-else-found-length}
-use Rattle.qcow2_alloc.proofs.AllocationSteps.{handed_on}
-use Rattle.qcow2_image.specs.MayFail.{IsCacheHeld, MayFailLookingAgain}
 use Rattle.qcow2_image.proofs.Prepare.FailingCopies.{hands_met}
-use Rattle.std.specs.Prelude.{Result, is_some}
 use Rattle.qcow2_image.proofs.Map.Held.{held_whole, heeds_else, same_found}
-use Rattle.std.proofs.lemmas.Bool.{cases_lt}
-use Rattle.qcow2_alloc.specs.ImageError.{IsOfTables}
-use Rattle.qcow2_image.specs.HeldMappings.{FitsTables, IsHeldAs}
-use Rattle.qcow2_image.specs.Image.{size_of}
 use Rattle.qcow2_image.proofs.image.Qcow2.check_mapped.Goals as goal
 
 pub returns-then-is-clause-sound : goal.returns-then-is-clause-sound

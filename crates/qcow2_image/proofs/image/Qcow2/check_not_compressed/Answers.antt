@@ -1,11 +1,7 @@
-use Rattle.std.proofs.Common.{◌≡◌, ◌⊎◌, inl, sym, ◌∙◌, subst, is_some, rules}
-use Rattle.qcow2_disk.specs.Found.{IsCompressedAt, IsFoundIn, IsFound as IsFoundOf}
-use Rattle.qcow2_laws.proofs.Internal.{known_header}
-use Rattle.qcow2_alloc.specs.ImageFile.{known_in, state_in}
-use Rattle.qcow2_image.specs.Found.{found_kind}
+use Rattle.qcow2_image.proofs.Common.{◌≡◌, ◌⊎◌, inl, sym, ◌∙◌, subst, is_some, rules, IsCompressedAt, IsFoundIn, known_header, known_in, state_in, found_kind, IsCacheHeld, MayFailLooking}
+use Rattle.qcow2_disk.specs.Found.{IsFound as IsFoundOf}
 use Rattle.qcow2_image.proofs.Map.Special.{found_special, found_plain}
 use Rattle.qcow2_alloc.specs.declared.error.ImageError.TheVariants.{Compressed}
-use Rattle.qcow2_image.specs.MayFail.{IsCacheHeld, MayFailLooking}
 use Rattle.qcow2_image.proofs.Prepare.FailingCopies.{hands_met}
 use Rattle.qcow2_image.proofs.image.Qcow2.check_not_compressed.Goals as goal
 

@@ -1,16 +1,11 @@
 use Rattle.qcow2_image.proofs.image.Qcow2.clear_between.Goals as goal
-use Rattle.std.proofs.Common.{subst, sym, inl}
-use Rattle.std.specs.Prelude.{IsTrue}
+use Rattle.qcow2_image.proofs.Common.{subst, sym, inl, IsTrue, NeedsOverflowingL1Entry, HasPinnedMapping, MayFailAllocating, IsUnderMapping}
 use Rattle.qcow2_image.proofs.Call.Fails.{fails_freed}
 use Rattle.qcow2_image.proofs.Call.FreedBehind.{lacking_freed, refused_freed}
 use Rattle.qcow2_image.proofs.Call.ImageSteps.{step_then}
 use Rattle.qcow2_image.proofs.Call.Refused.{back_then_freed}
 use Rattle.qcow2_image.proofs.Prepare.LimitCauses.{limited_frees}
 use Rattle.qcow2_image.proofs.Prepare.FailingTables.{met_freed}
-use Rattle.qcow2_image.specs.L1Entries.{NeedsOverflowingL1Entry}
-use Rattle.qcow2_image.specs.Backings.{HasPinnedMapping}
-use Rattle.qcow2_image.specs.MayFail.{MayFailAllocating}
-use Rattle.qcow2_image.specs.Clearing.{IsUnderMapping}
 
 pub returns-in-Ok-clause-step : goal.returns-in-Ok-clause-step
 returns-in-Ok-clause-step g c = c.in-Ok.ensures.step

@@ -1,4 +1,4 @@
-use Rattle.qcow2_image.specs.Clearing.{ClearsTable}
+use Rattle.qcow2_image.proofs.Common.{ClearsTable}
 use Rattle.qcow2_image.proofs.image.Qcow2.clear_entries.Given as goal
 
 -- the first entries are cleared

@@ -1,7 +1,5 @@
-use Rattle.std.proofs.Common.{refl, sym, subst}
-use Rattle.qcow2_metadata.specs.L2Table.{L2TableView, copied_host, cover_at, zero_entry}
-use Rattle.std.specs.Prelude.{None}
-use Rattle.qcow2_image.specs.Clearing.{ClearsEntry}
+use Rattle.qcow2_image.proofs.Common.{refl, sym, subst, L2TableView, copied_host, zero_entry, None, ClearsEntry}
+use Rattle.qcow2_metadata.specs.L2Table.{cover_at}
 use Rattle.qcow2_image.proofs.Clear.Held.{still_new_data}
 use Rattle.qcow2_image.proofs.image.Qcow2.clear_entry.Goals as goal
 

@@ -1,17 +1,7 @@
 use Rattle.qcow2_image.proofs.image.Qcow2.clear_in_table.Goals as goal
-use Rattle.std.proofs.Common.{◌≡◌, ◌<◌, inl, ◌-◌, ◌/◌, ◌%◌, ◌^◌, ◌++◌, ap, ◌∙◌, subst, arith, ◌+◌, sym, inr, refl}
-use Rattle.qcow2_alloc.proofs.AllocationSteps.{handed_on}
-use Rattle.qcow2_metadata.specs.Header.{cluster_size}
-use Rattle.qcow2_alloc.specs.CachePins.{l2_pins}
-use Rattle.qcow2_image.specs.declared.image.Qcow2.{Qcow2}
-use Rattle.qcow2_image.specs.Clearing.{ClearsTable, ReadsAll}
-use Rattle.qcow2_image.specs.ClearingCalls.{ClearsInTable}
-use Rattle.qcow2_image.specs.Found.{l2_index_of}
-use Rattle.qcow2_image.specs.ImageSteps.{ImageFails}
-use Rattle.qcow2_image.specs.Refusals.{MayFailPreparing}
+use Rattle.qcow2_image.proofs.Common.{◌≡◌, ◌<◌, inl, ◌-◌, ◌/◌, ◌%◌, ◌^◌, ◌++◌, ap, ◌∙◌, subst, arith, ◌+◌, sym, inr, refl, handed_on, cluster_size, l2_pins, Qcow2, ClearsTable, ReadsAll, ClearsInTable, l2_index_of, ImageFails, MayFailPreparing, notes_then, TablePrepared}
 use Rattle.qcow2_image.proofs.Clear.Between.{clears_between, no_pins, pinned_under, under_pinned}
 use Rattle.qcow2_image.proofs.Images.Backings.{some_prepared}
-use Rattle.qcow2_alloc.proofs.KeptMarks.{notes_then}
 use Rattle.qcow2_image.proofs.Call.Notes.{table_kept}
 use Rattle.qcow2_image.proofs.Call.BehindHeader.{behind_by, behind_tables, behind_then}
 use Rattle.qcow2_image.proofs.Prepare.PinnedL2Tables.{found_pins, heeds_refused, met_untaken}
@@ -22,7 +12,6 @@ use Rattle.qcow2_image.proofs.Prepare.FailingAllocations.{taking_as}
 use Rattle.qcow2_image.proofs.Call.FaultCounts.{counted_ok, faults_then, untouched}
 use Rattle.qcow2_image.proofs.Call.Fails.{fails_on}
 use Rattle.qcow2_image.proofs.Clear.ClearedCalls.{counted_other}
-use Rattle.qcow2_alloc.specs.declared.error.ImageError.TheVariants.{TablePrepared}
 
 pub returns-in_err-table-clause-step : goal.returns-in_err-table-clause-step
 returns-in_err-table-clause-step g c = c.writable_l2_table.ensures.step

@@ -1,43 +1,21 @@
-use Rattle.qcow2_image.specs.Limits.{IfLimit, IsLimited}
+use Rattle.qcow2_image.proofs.Common.{IfLimit, IsLimited, is_changed_of, or_right, ◌≡◌, ◌<◌, ◌+◌, ◌-◌, [], ℕ, min, sym, ap, ◌∙◌, subst, arith, inl, refl, Ok, Err, IfErr, IfOk, IsTrue, Result, Memory, TablePrepared, HasPinnedMapping, IsFaultOrLacksTable, RefusedCall, EndsFreeing, InternalCall, Clears, ClearsOrRefuses, IsUnderMapping, RefusesClearing, from_in, to_in, Qcow2, is_failed, has_noted_change, ImageInvariant, pending_in, NeedsOverflowingL1Entry, HasOwnTable, MayFailPreparing, MarksFailed, FreesRefused, notes_then, handed_on, err_as, RespectsPins, ImageError, MayFailAllocating, ClearsSoundly, ClearsStep, FailsToClear, IsFault}
 use Rattle.qcow2_image.proofs.image.Qcow2.clear_range.Goals as goal
-use Rattle.qcow2_alloc.specs.ImageStorage.{is_changed_of}
-use Rattle.std.proofs.lemmas.Bool.{or_right}
 use Rattle.qcow2_image.proofs.Call.OnceWritten.{answered_counts, counts_begun, fails_marked, fails_once, kept_noted, notes_begun, notes_part, notes_since}
-use Rattle.std.proofs.Common.{◌≡◌, ◌<◌, ◌+◌, ◌-◌, [], ℕ, min, sym, ap, ◌∙◌, subst, arith, inl, refl}
-use Rattle.std.specs.Prelude.{Ok, Err, IfErr, IfOk, IsTrue, Result}
-use Rattle.qcow2_alloc.specs.declared.error.ImageError.TheVariants.{Memory, TablePrepared}
-use Rattle.qcow2_image.specs.Backings.{HasPinnedMapping}
-use Rattle.qcow2_image.specs.NewTables.{IsFaultOrLacksTable}
-use Rattle.qcow2_image.specs.CallParts.{RefusedCall, EndsFreeing, InternalCall}
-use Rattle.qcow2_image.specs.Clearing.{Clears, ClearsOrRefuses, IsUnderMapping, RefusesClearing, from_in, to_in}
-use Rattle.qcow2_image.specs.declared.image.Qcow2.{Qcow2}
-use Rattle.qcow2_image.specs.Image.{is_failed, has_noted_change}
-use Rattle.qcow2_image.specs.ImageInvariant.{ImageInvariant, pending_in}
-use Rattle.qcow2_image.specs.L1Entries.{NeedsOverflowingL1Entry, HasOwnTable}
-use Rattle.qcow2_image.specs.Refusals.{MayFailPreparing, MarksFailed, FreesRefused}
 use Rattle.qcow2_image.proofs.Call.Marked.{refused_since, MayMarkBy, marks_memory, may_mark, may_mark_refused}
 use Rattle.qcow2_image.proofs.Call.CallOutcomes.{is_fault, outcome}
 use Rattle.qcow2_image.proofs.Resize.Shrinking.{fault_of}
 use Rattle.qcow2_image.proofs.Clear.ClearCalls.{clear_interruption, clear_covers, clear_done, clear_refused, fault_interruption, under_after, under_before, ungiven_interruption, ungiven_refused}
 use Rattle.qcow2_image.proofs.Call.FaultCounts.{counted_as, same_of, counted_marked, counted_ok, faults_then, untouched}
-use Rattle.qcow2_alloc.proofs.KeptMarks.{notes_then}
 use Rattle.qcow2_image.proofs.Call.Notes.{same_kept}
-use Rattle.qcow2_alloc.proofs.AllocationSteps.{handed_on}
-use Rattle.qcow2_alloc.proofs.Outcomes.{err_as}
 use Rattle.qcow2_image.proofs.Clear.Touched.{some_answered}
 use Rattle.qcow2_image.proofs.Call.BehindHeader.{behind_call, behind_then}
 use Rattle.qcow2_image.proofs.Prepare.PinnedL2Tables.{begun_own, heeds_begun, of_tables_untaken}
-use Rattle.qcow2_image.specs.PinnedTables.{RespectsPins}
-use Rattle.qcow2_alloc.specs.declared.error.ImageError.{ImageError}
 use Rattle.qcow2_image.proofs.Prepare.LimitCauses.{other_limit, goes_begun, limited_since}
 use Rattle.qcow2_image.proofs.Call.Unlimited.{fault_unlimited}
-use Rattle.qcow2_image.specs.MayFail.{MayFailAllocating}
 use Rattle.qcow2_image.proofs.Prepare.FailingTables.{far_before}
 use Rattle.qcow2_image.proofs.Prepare.FailingAllocations.{taking_as}
 use Rattle.qcow2_image.proofs.Clear.ClearedCalls.{begins_clearing, early_fails, early_sound, early_step, idle_fails, idle_sound, idle_step, not_early, parts_cleared, same_image_then}
-use Rattle.qcow2_image.specs.ClearingCalls.{ClearsSoundly, ClearsStep, FailsToClear}
 use Rattle.qcow2_image.proofs.Call.FailingErrors.{tables_met}
-use Rattle.qcow2_alloc.specs.ImageError.{IsFault}
 
 pub returns-in_err-from-clause-step : goal.returns-in_err-from-clause-step
 returns-in_err-from-clause-step g c = early_step g.S.Storage.view g.F.BackingDisk.backing c.args.self.now c.args.how c.args.offset c.args.length c.check_clear.result c.check_clear.ensures.refusal c.in_err-from.field-0.0 c.in_err-from.was c.from_residual.result c.from_residual.ensures c.in_err-from.ensures.faults

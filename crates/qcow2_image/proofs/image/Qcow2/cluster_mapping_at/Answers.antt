@@ -1,21 +1,9 @@
 use Rattle.qcow2_image.proofs.Call.WriteSteps.{taking_none}
 use Rattle.qcow2_image.proofs.Call.Unlimited.{fault_unlimited}
-use Rattle.std.proofs.Common.{rules, ◌≡◌, ◌⊎◌, ◌≢◌, ◌*◌, ◌/◌, ◌^◌, ◌++◌, [], ◌∷◌, sym, ap, ◌∙◌, subst, is_some, inl, ◌%◌}
-use Rattle.std.specs.Prelude.{Ok}
-use Rattle.qcow2_metadata.specs.Entries.{count}
-use Rattle.qcow2_metadata.specs.Header.{cluster_size}
-use Rattle.qcow2_metadata.specs.L2Mapping.{IsHostCluster}
-use Rattle.qcow2_alloc.specs.Limits.{IsPastLimits}
-use Rattle.qcow2_alloc.specs.ImageFile.{known_in}
-use Rattle.qcow2_alloc.specs.declared.error.ImageError.TheVariants.{UnalignedTable}
-use Rattle.qcow2_alloc.proofs.AllocationSteps.{handed_on}
-use Rattle.qcow2_alloc.proofs.KeptTables.Standing.{own_cluster}
-use Rattle.qcow2_image.specs.declared.prepared.ClusterMapping.TheVariants.{New}
-use Rattle.qcow2_image.specs.Ranges.{GainsAt, ClusterMappingsAt}
+use Rattle.qcow2_image.proofs.Common.{rules, ◌≡◌, ◌⊎◌, ◌≢◌, ◌*◌, ◌/◌, ◌^◌, ◌++◌, [], ◌∷◌, sym, ap, ◌∙◌, subst, is_some, inl, ◌%◌, Ok, count, cluster_size, IsHostCluster, IsPastLimits, known_in, UnalignedTable, handed_on, own_cluster, New, GainsAt, ClusterMappingsAt, IsCopiedCompressed}
 use Rattle.qcow2_image.proofs.Prepare.WritableL2Table.{refused as any_refusal}
 use Rattle.qcow2_image.proofs.Prepare.NewCluster.{back_none}
 use Rattle.qcow2_image.proofs.Prepare.LimitCauses.{hands_limit, other_limit}
-use Rattle.qcow2_image.specs.MayFail.{IsCopiedCompressed}
 use Rattle.qcow2_image.proofs.Prepare.FailingTables.{hands_alone}
 use Rattle.qcow2_image.proofs.image.Qcow2.cluster_mapping_at.Goals as goal
 

@@ -1,22 +1,10 @@
 use Rattle.qcow2_image.proofs.Call.WriteSteps.{filling_written, taking_none, taking_of_filling}
-use Rattle.std.proofs.Common.{◌≡◌, ◌+◌, ◌-◌, ◌/◌, ◌^◌, Some, true, false, arith, inl, refl, sym, ap, ◌∙◌, subst, ◌%◌, rules}
-use Rattle.qcow2_metadata.specs.Header.{cluster_size}
-use Rattle.qcow2_metadata.specs.declared.l2_mapping.L2Mapping.TheVariants.{Data, Zero}
-use Rattle.qcow2_image.specs.ImageInvariant.{pending_in}
-use Rattle.qcow2_image.specs.Found.{l1_index_of}
-use Rattle.qcow2_metadata.specs.Cover.{cover}
-use Rattle.qcow2_alloc.proofs.AllocationSteps.{handed_on}
-use Rattle.qcow2_alloc.specs.ImageFile.{known_in}
-use Rattle.qcow2_image.specs.declared.image.Qcow2.{Qcow2}
-use Rattle.qcow2_image.specs.Ranges.{FindsBehind, ClusterMappingsAt}
-use Rattle.qcow2_image.specs.InternalSteps.{IsFilled, IsKeptAlone, InternalFillingStep}
+use Rattle.qcow2_image.proofs.Common.{◌≡◌, ◌+◌, ◌-◌, ◌/◌, ◌^◌, Some, true, false, arith, inl, refl, sym, ap, ◌∙◌, subst, ◌%◌, rules, cluster_size, Data, Zero, pending_in, l1_index_of, cover, handed_on, known_in, Qcow2, FindsBehind, ClusterMappingsAt, IsFilled, IsKeptAlone, InternalFillingStep, IsCompressed, HasUnannounced, IsCopiedCompressed}
 use Rattle.qcow2_image.proofs.Call.Refused.{back_refused}
 use Rattle.qcow2_image.proofs.Prepare.FirstCluster.{listed_after_same}
 use Rattle.qcow2_image.proofs.Prepare.KeptMappings.{behind_alone, behind_kept}
 use Rattle.qcow2_image.proofs.Prepare.FollowingCluster.{behind_in_place, ends_elsewhere, finds_shared, next_cluster, next_says}
 use Rattle.qcow2_image.proofs.Prepare.LimitCauses.{hands_limit, limited_taking, limits_as, other_limit}
-use Rattle.qcow2_disk.specs.Found.{IsCompressed}
-use Rattle.qcow2_image.specs.MayFail.{HasUnannounced, IsCopiedCompressed}
 use Rattle.qcow2_image.proofs.Prepare.RefusedAsPrepared.{if_err}
 use Rattle.qcow2_image.proofs.Prepare.FailingCopies.{kept_behind}
 use Rattle.qcow2_image.proofs.Prepare.FailingTables.{hands_alone}

@@ -1,28 +1,14 @@
 use Rattle.qcow2_image.proofs.image.Qcow2.commit_data_mapping.Goals as goal
-use Rattle.std.proofs.Common.{◌≡◌, ℕ, inl, inr, ◌++◌, [], None, Err, refl, sym, ap, ◌∙◌, subst, rules, Option, false, true}
-use Rattle.std.specs.Prelude.{IsTrue, IsSome}
-use Rattle.qcow2_disk.specs.Calls.{storage}
-use Rattle.qcow2_alloc.specs.ImageStorage.{storage_of}
-use Rattle.qcow2_image.specs.declared.image.Qcow2.{Qcow2}
-use Rattle.qcow2_image.specs.declared.prepared.CommitRefused.{CommitRefused}
+use Rattle.qcow2_image.proofs.Common.{◌≡◌, ℕ, inl, inr, ◌++◌, [], None, Err, refl, sym, ap, ◌∙◌, subst, rules, Option, false, true, IsTrue, IsSome, storage, storage_of, Qcow2, CommitRefused, Commits, refusal_of, is_failed, append-nil, contents_in, known_in, freed_by, IsReadyWith, abstract_of, pending_in, CountsImageFaults, notes_then, rests_none}
 use Rattle.qcow2_image.specs.declared.prepared.CommitRefused.TheVariants.{Kept}
-use Rattle.qcow2_image.specs.Calls.{Commits, refusal_of}
-use Rattle.qcow2_image.specs.Image.{is_failed}
-use Rattle.std.proofs.lemmas.List.{append-nil}
-use Rattle.qcow2_alloc.specs.ImageFile.{contents_in, known_in}
-use Rattle.qcow2_image.specs.InternalSteps.{freed_by}
-use Rattle.qcow2_image.specs.ImageInvariant.{IsReadyWith, abstract_of, pending_in}
 use Rattle.qcow2_image.proofs.Call.Marked.{may_mark_refused}
 use Rattle.qcow2_image.proofs.Call.CallOutcomes.{is_fault, outcome}
 use Rattle.qcow2_image.proofs.Commit.CommitCalls.{commit_interruption, commit_break_off, commit_done, commit_existing, commit_kept, refuses_unsound, true_or_false}
 use Rattle.qcow2_image.proofs.Call.FaultCounts.{fewer_of, counted_as, faults_then}
-use Rattle.qcow2_image.specs.Faults.{CountsImageFaults}
-use Rattle.qcow2_alloc.proofs.KeptMarks.{notes_then}
 use Rattle.qcow2_image.proofs.Call.OnceWritten.{once_marked, commit_fails_none, counts_begun, counts_on, counts_released}
 use Rattle.qcow2_image.proofs.Call.BehindHeader.{behind_begun, behind_then}
 use Rattle.qcow2_image.proofs.Commit.Copied.{stands_copied}
 use Rattle.qcow2_image.proofs.image.Qcow2.commit_data_mapping.Goals.{then-entered, else-entered}
-use Rattle.qcow2_disk.proofs.Compose.{rests_none}
 
 pub returns-in-Ok-clause-step : goal.returns-in-Ok-clause-step
 returns-in-Ok-clause-step g c =

@@ -1,6 +1,4 @@
-use Rattle.std.proofs.Common.{◌≡◌, None, ap, ◌∙◌, rules}
-use Rattle.std.specs.Prelude.{IsSome}
-use Rattle.qcow2_image.specs.declared.image.Qcow2.{Qcow2}
+use Rattle.qcow2_image.proofs.Common.{◌≡◌, None, ap, ◌∙◌, rules, IsSome, Qcow2}
 use Rattle.qcow2_image.proofs.Preallocate.Piece.{commits_entered, commits_existing}
 use Rattle.qcow2_image.proofs.Call.ImageSteps.{step_then}
 use Rattle.qcow2_image.proofs.image.Qcow2.commit_filled.Goals as goal

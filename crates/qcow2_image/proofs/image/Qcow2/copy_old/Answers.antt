@@ -1,19 +1,9 @@
-use Rattle.std.proofs.Common.{◌≡◌, ℕ, ◌+◌, ◌/◌, List, length, replicate, refl, sym, ap, ◌∙◌, subst, arith, rules, is_some, inl, ◌≤◌}
-use Rattle.std.proofs.lemmas.List.{length-replicate, get_or-replicate}
-use Rattle.qcow2_metadata.specs.Cover.{cover}
-use Rattle.qcow2_metadata.specs.Guest.{known_byte}
-use Rattle.qcow2_metadata.specs.Header.{cluster_size, HeaderView}
-use Rattle.qcow2_disk.specs.Disk.{Disk}
-use Rattle.qcow2_alloc.specs.ImageFile.{known_in, state_in}
-use Rattle.qcow2_image.specs.Found.{found_kind, IsMappedAs}
-use Rattle.qcow2_image.specs.ImageInvariant.{backing_bytes}
+use Rattle.qcow2_image.proofs.Common.{◌≡◌, ℕ, ◌+◌, ◌/◌, List, length, replicate, refl, sym, ap, ◌∙◌, subst, arith, rules, is_some, inl, ◌≤◌, length-replicate, get_or-replicate, cover, known_byte, cluster_size, HeaderView, Disk, known_in, state_in, found_kind, IsMappedAs, backing_bytes, MayFailReading, IsFault}
 use Rattle.qcow2_image.proofs.Map.Loading.{if_ok}
 use Rattle.qcow2_image.proofs.Map.Reading.{none_below, zero_shown}
 use Rattle.qcow2_image.proofs.Prepare.InternalWrites.{disk_kept, image_step_data, image_step_kept, image_step_then, own_of, there_written}
 use Rattle.qcow2_image.proofs.Prepare.LimitCauses.{hands_unlimited}
 use Rattle.qcow2_image.proofs.Prepare.FailingCopies.{hands_met, met_as}
-use Rattle.qcow2_image.specs.MayFail.{MayFailReading}
-use Rattle.qcow2_alloc.specs.ImageError.{IsFault}
 use Rattle.qcow2_image.proofs.Call.WriteSteps.{filling_of_read, filling_then, filling_written}
 use Rattle.qcow2_image.proofs.image.Qcow2.copy_old.Goals as goal
 

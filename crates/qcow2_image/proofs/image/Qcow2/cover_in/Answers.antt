@@ -1,10 +1,4 @@
-use Rattle.std.proofs.Common.{◌≡◌, ℕ, Bool, sym, ◌∙◌, subst, false, true}
-use Rattle.std.specs.Prelude.{IsTrue}
-use Rattle.qcow2_metadata.specs.Cover.{cover}
-use Rattle.qcow2_metadata.specs.Header.{cluster_size}
-use Rattle.qcow2_metadata.specs.declared.l2_mapping.L2Mapping.{L2Mapping}
-use Rattle.qcow2_alloc.specs.ImageFile.{known_in}
-use Rattle.qcow2_image.specs.PreparedPlaces.{MarkedIsBehind}
+use Rattle.qcow2_image.proofs.Common.{◌≡◌, ℕ, Bool, sym, ◌∙◌, subst, false, true, IsTrue, cover, cluster_size, L2Mapping, known_in, MarkedIsBehind}
 use Rattle.qcow2_image.proofs.Prepare.MarkedPlaces.{marked_behind}
 use Rattle.qcow2_image.proofs.Map.Looked.{cached_says}
 use Rattle.qcow2_image.proofs.Map.Aligned.{cached_aligned}

@@ -1,11 +1,5 @@
 use Rattle.qcow2_image.proofs.Call.OnceWritten.{notes_part, parts_then}
-use Rattle.std.proofs.Common.{◌∙◌, ◌⊎◌, inl, inr, sym, subst}
-use Rattle.std.specs.Prelude.{Err, IfErr, IsTrue, Result}
-use Rattle.qcow2_alloc.proofs.AllocationSteps.{handed_on}
-use Rattle.qcow2_alloc.proofs.Outcomes.{not_both}
-use Rattle.qcow2_alloc.specs.ImageError.{IsFault}
-use Rattle.qcow2_image.specs.Image.{HasNothingToFree, has_noted_change, is_failed, size_of}
-use Rattle.qcow2_image.specs.Resizing.{TurnStep, DiscardsStep}
+use Rattle.qcow2_image.proofs.Common.{◌∙◌, ◌⊎◌, inl, inr, sym, subst, Err, IfErr, IsTrue, Result, handed_on, not_both, IsFault, HasNothingToFree, has_noted_change, is_failed, size_of, TurnStep, DiscardsStep}
 use Rattle.qcow2_image.proofs.Call.FaultCounts.{counted_as, counted_still}
 use Rattle.qcow2_image.proofs.Call.Marked.{refused_since}
 use Rattle.qcow2_image.proofs.Clear.ClearedCalls.{same_image_then}

@@ -1,10 +1,6 @@
-use Rattle.std.proofs.Common.{◌-◌, ◌<◌, ◌≤◌, inl, inr, refl, sym, subst, arith}
-use Rattle.std.specs.Prelude.{Result}
-use Rattle.qcow2_alloc.proofs.AllocationSteps.{handed_on}
-use Rattle.qcow2_image.specs.Resizing.{DiscardsStep}
+use Rattle.qcow2_image.proofs.Common.{◌-◌, ◌<◌, ◌≤◌, inl, inr, refl, sym, subst, arith, Result, handed_on, DiscardsStep, refuses_to_clear}
 use Rattle.qcow2_image.proofs.Resize.StepCalls.{step_answered, step_refused}
 use Rattle.qcow2_image.proofs.Resize.ShrinkSteps.{none_early, turn_answered, turn_frees, turn_refused, turn_stops, turn_touches}
-use Rattle.qcow2_image.specs.Clearing.{refuses_to_clear}
 use Rattle.qcow2_image.specs.declared.discarding.ClearMode.TheVariants.{Uncovered}
 use Rattle.qcow2_image.proofs.image.Qcow2.discard_next.Goals as goal
 use Rattle.qcow2_image.proofs.image.Qcow2.discard_next.Goals.{else-at-next-via-then-at-next+else-next-end, else-at-next-via-else-at-next}

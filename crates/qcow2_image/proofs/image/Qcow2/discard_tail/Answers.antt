@@ -1,20 +1,13 @@
 use Rattle.qcow2_image.proofs.Call.OnceWritten.{call_then, changes_later, notes_begun, part_none}
-use Rattle.std.proofs.Common.{◌∙◌, ◌-◌, arith, inl, inr, refl, sym, subst, Some, None, Err}
-use Rattle.std.specs.Prelude.{IsTrue}
-use Rattle.qcow2_alloc.proofs.Outcomes.{not_both}
-use Rattle.qcow2_alloc.specs.ImageError.{IsFault}
-use Rattle.qcow2_image.specs.ImageInvariant.{pending_in}
+use Rattle.qcow2_image.proofs.Common.{◌∙◌, ◌-◌, arith, inl, inr, refl, sym, subst, Some, None, Err, IsTrue, not_both, IsFault, pending_in, CountsImageFaults, pow_pos, cluster_size}
 use Rattle.qcow2_image.proofs.Resize.RefusedSteps.{frees_next, not_marked}
 use Rattle.qcow2_image.proofs.Resize.Shrinking.{next_so_far, none_so_far, same_size, tail_refused, tail_stops}
 use Rattle.qcow2_image.proofs.Call.FaultCounts.{fewer_of, counted_as, faults_then}
-use Rattle.qcow2_image.specs.Faults.{CountsImageFaults}
 use Rattle.qcow2_image.proofs.Call.Marked.{refused_since}
 use Rattle.qcow2_image.proofs.Clear.ClearedCalls.{same_image_then}
 use Rattle.qcow2_image.proofs.Resize.StepCalls.{some_none}
 use Rattle.qcow2_image.proofs.Resize.CountedSteps.{turns_counted}
 use Rattle.qcow2_image.proofs.Clear.Touched.{rounded_from}
-use Rattle.std.proofs.lemmas.Nat.{pow_pos}
-use Rattle.qcow2_metadata.specs.Header.{cluster_size}
 use Rattle.qcow2_image.proofs.Call.BehindHeader.{behind_begun, behind_then}
 use Rattle.qcow2_image.proofs.image.Qcow2.discard_tail.Goals as goal
 

@@ -1,12 +1,4 @@
-use Rattle.std.proofs.Common.{◌-◌, ◌<◌, ◌≡◌, ◌⊎◌, List, Option}
-use Rattle.std.specs.Prelude.{IsTrue}
-use Rattle.qcow2_image.specs.BehindHeader.{PreservesHeaderCluster}
-use Rattle.qcow2_image.specs.declared.prepared.Prepared.{Prepared}
-use Rattle.qcow2_image.specs.Image.{HasNothingToFree, is_writable}
-use Rattle.qcow2_image.specs.ImageInvariant.{ImageInvariant, pending_in}
-use Rattle.qcow2_image.specs.Resizing.{boundary_in}
-use Rattle.qcow2_image.specs.Noted.{ChangesRose, RecordsChanges}
-use Rattle.qcow2_image.specs.Faults.{SameFaults}
+use Rattle.qcow2_image.proofs.Common.{◌-◌, ◌<◌, ◌≡◌, ◌⊎◌, List, Option, IsTrue, PreservesHeaderCluster, Prepared, HasNothingToFree, is_writable, ImageInvariant, pending_in, boundary_in, ChangesRose, RecordsChanges, SameFaults}
 use Rattle.qcow2_image.proofs.Resize.Shrinking.{IsDiscardedSoFar}
 use Rattle.qcow2_image.proofs.image.Qcow2.discard_tail.Given as goal
 

@@ -1,16 +1,4 @@
-use Rattle.std.proofs.Common.{Bool, ◌≡◌, ◌∙◌, List, ℕ, Result, refl, sym, ap, subst}
-use Rattle.std.specs.Prelude.{IfErr}
-use Rattle.std.proofs.lemmas.Result.{IfErr-weaker}
-use Rattle.qcow2_metadata.specs.Bytes.{byte_at}
-use Rattle.qcow2_metadata.specs.Header.{header, with_tables_of}
-use Rattle.qcow2_metadata.specs.declared.header.HeaderFields.{HeaderFields}
-use Rattle.qcow2_alloc.specs.ImageFile.{contents_in}
-use Rattle.qcow2_alloc.specs.declared.error.ImageError.{ImageError}
-use Rattle.qcow2_alloc.proofs.AllocationSteps.{handed_on}
-use Rattle.qcow2_image.specs.Image.{is_writable}
-use Rattle.qcow2_image.specs.Invalidated.{IsReasonAgainstPlaces, IsReasonAgainstReading}
-use Rattle.qcow2_image.specs.Readable.{IsReasonAgainstTables}
-use Rattle.qcow2_image.specs.declared.image.Qcow2.{Qcow2}
+use Rattle.qcow2_image.proofs.Common.{Bool, ◌≡◌, ◌∙◌, List, ℕ, Result, refl, sym, ap, subst, IfErr, IfErr-weaker, byte_at, header, with_tables_of, HeaderFields, contents_in, ImageError, handed_on, is_writable, IsReasonAgainstPlaces, IsReasonAgainstReading, IsReasonAgainstTables, Qcow2}
 use Rattle.qcow2_image.proofs.Call.Called.{keeps_then}
 use Rattle.qcow2_image.proofs.Call.FaultCounts.{counted_since, faults_then}
 use Rattle.qcow2_image.proofs.Invalidate.Calls.{anew_then, as_stored, honest_places, anew_dropped, anew_places, kept_dropped, kept_places, none_held_then, on_any, on_both, places_for, places_reason, silent_places, tables_reason}

@@ -1,18 +1,4 @@
-use Rattle.std.proofs.Common.{◌≡◌, ◌∙◌, List, Option, Result, Some, refl, sym, ap, subst, rules}
-use Rattle.std.specs.Prelude.{IfErr, option_map}
-use Rattle.qcow2_alloc.specs.CachePins.{LeavesPinned}
-use Rattle.qcow2_alloc.specs.KeptNotes.{kept_same}
-use Rattle.qcow2_metadata.specs.EntryTable.{EntryTableView}
-use Rattle.qcow2_alloc.specs.declared.allocation.Allocator.{Allocator}
-use Rattle.qcow2_alloc.specs.declared.clusters_to_free.ClustersToFreeEntry.{ClustersToFreeEntry}
-use Rattle.qcow2_alloc.specs.declared.error.ImageError.{ImageError}
-use Rattle.qcow2_alloc.specs.declared.image_file.ImageFile.{ImageFile}
-use Rattle.qcow2_alloc.proofs.AllocationSteps.{handed_on}
-use Rattle.qcow2_alloc.proofs.KeptMarks.{notes_of_marks, notes_then}
-use Rattle.qcow2_image.specs.Image.{leaked_by}
-use Rattle.qcow2_image.specs.Invalidated.{IsReasonAgainstReading}
-use Rattle.qcow2_image.specs.InternalSteps.{InternalStep}
-use Rattle.qcow2_image.specs.declared.image.Qcow2.{Qcow2}
+use Rattle.qcow2_image.proofs.Common.{◌≡◌, ◌∙◌, List, Option, Result, Some, refl, sym, ap, subst, rules, IfErr, option_map, LeavesPinned, kept_same, EntryTableView, Allocator, ClustersToFreeEntry, ImageError, ImageFile, handed_on, notes_of_marks, notes_then, leaked_by, IsReasonAgainstReading, InternalStep, Qcow2}
 use Rattle.qcow2_image.proofs.Call.BehindHeader.{behind_by, behind_tables, behind_then}
 use Rattle.qcow2_image.proofs.Call.Called.{keeps_then}
 use Rattle.qcow2_image.proofs.Invalidate.Dropped.{anew_moved, behind_dropped, dropped_moved, holds_none, left_none, no_entries, rests_there, unmodified_l2, unmodified_rb, why_blocks, why_left}

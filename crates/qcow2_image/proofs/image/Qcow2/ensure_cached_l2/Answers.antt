@@ -1,23 +1,11 @@
 use Rattle.qcow2_image.proofs.Prepare.LimitCauses.{other_limit, hands_limit}
 use Rattle.qcow2_image.proofs.image.Qcow2.ensure_cached_l2.Goals as goal
-use Rattle.std.proofs.Common.{ap, inl, ◌∙◌, sym, rules}
-use Rattle.qcow2_alloc.proofs.AllocationSteps.{handed_on}
-use Rattle.qcow2_image.specs.declared.image.Qcow2.{Qcow2}
-use Rattle.qcow2_image.specs.InternalSteps.{Ensures, pending_with_listed}
+use Rattle.qcow2_image.proofs.Common.{ap, inl, ◌∙◌, sym, rules, handed_on, Qcow2, Ensures, pending_with_listed, IfErr, IsFaultOrLacksTable, contents_in, l1_index_of, notes_then, notes_of_both, l2_pins, FindsOwn, HasPinnedMapping, MayFailAllocating}
 use Rattle.qcow2_image.proofs.Map.Loading.{with_caches}
 use Rattle.qcow2_image.proofs.Prepare.WritableL2Table.{refused, keeps_loaded, holds_table}
-use Rattle.std.specs.Prelude.{IfErr}
-use Rattle.qcow2_image.specs.NewTables.{IsFaultOrLacksTable}
-use Rattle.qcow2_alloc.specs.ImageFile.{contents_in}
-use Rattle.qcow2_image.specs.Found.{l1_index_of}
 use Rattle.qcow2_image.proofs.Prepare.MissingL2Table.{fault_alone, named_place, loads_looking}
-use Rattle.qcow2_alloc.proofs.KeptMarks.{notes_then, notes_of_both}
 use Rattle.qcow2_image.proofs.Call.BehindHeader.{behind_caches, behind_then}
-use Rattle.qcow2_alloc.specs.CachePins.{l2_pins}
-use Rattle.qcow2_image.specs.PinnedTables.{FindsOwn}
 use Rattle.qcow2_image.proofs.Call.Unlimited.{in_use_unlimited}
-use Rattle.qcow2_image.specs.Backings.{HasPinnedMapping}
-use Rattle.qcow2_image.specs.MayFail.{MayFailAllocating}
 use Rattle.qcow2_image.proofs.Prepare.FailingCopies.{hands_met}
 use Rattle.qcow2_image.proofs.Prepare.FailingAllocations.{looking_taking}
 

@@ -1,18 +1,8 @@
-use Rattle.qcow2_image.specs.L1Entries.{IsPlacedNear}
+use Rattle.qcow2_image.proofs.Common.{IsPlacedNear, ◌≡◌, ◌+◌, ◌/◌, ◌^◌, max, sym, ap, ◌∙◌, subst, ◌≤◌, arith, rules, entry_count, Pending, handed_on, always_ok, l1_index_of, ImageInvariant, pending_in, MakesEntry, IfErr, IsFaultOrLacksTable}
 use Rattle.qcow2_image.proofs.Call.ImageSteps.{step_none, step_then}
 use Rattle.qcow2_image.proofs.image.Qcow2.ensure_l1_entry.Goals as goal
-use Rattle.std.proofs.Common.{◌≡◌, ◌+◌, ◌/◌, ◌^◌, max, sym, ap, ◌∙◌, subst, ◌≤◌, arith, rules}
-use Rattle.qcow2_metadata.specs.EntryTable.{entry_count}
-use Rattle.qcow2_laws.specs.CrashInvariant.{Pending}
-use Rattle.qcow2_alloc.proofs.AllocationSteps.{handed_on}
-use Rattle.qcow2_alloc.proofs.KeptTables.Switching.{always_ok}
-use Rattle.qcow2_image.specs.Found.{l1_index_of}
-use Rattle.qcow2_image.specs.ImageInvariant.{ImageInvariant, pending_in}
-use Rattle.qcow2_image.specs.LongerTables.{MakesEntry}
 use Rattle.qcow2_image.proofs.Flush.Freeing.{all_listed, beside}
 use Rattle.qcow2_image.proofs.Grow.ReplacedL1Table.{freed_then, makes_none, refused_moved, stays_moved}
-use Rattle.std.specs.Prelude.{IfErr}
-use Rattle.qcow2_image.specs.NewTables.{IsFaultOrLacksTable}
 use Rattle.qcow2_image.proofs.Prepare.MissingL2Table.{fault_or_lacking, not_within, short_lacking}
 use Rattle.qcow2_image.proofs.Prepare.LimitCauses.{faults_unlimited, hands_limit, limited_more, limited_unseen, unlimited_all, faults_or_limit, hands_either}
 

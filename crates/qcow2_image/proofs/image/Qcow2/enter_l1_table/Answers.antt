@@ -1,22 +1,9 @@
-use Rattle.qcow2_metadata.specs.declared.header.HeaderFields.{HeaderFields}
-use Rattle.qcow2_alloc.proofs.ListedAfter.{header_format}
-use Rattle.qcow2_image.specs.Found.{l1_index_of}
-use Rattle.qcow2_image.specs.Limits.{entries_reaching, l1_clusters}
-use Rattle.qcow2_alloc.proofs.Steps.{told_of}
+use Rattle.qcow2_image.proofs.Common.{HeaderFields, header_format, l1_index_of, entries_reaching, l1_clusters, told_of, never, on_no_ok, on_ok, refl, ◌∙◌, subst, ◌≡◌, ap, inl, inr, ◌+◌, sym, arith, rules, IfSome, IsTrue, Some, is_some, max, pending_then, IsAllocatorOf, handed_on, AllocatesTable, notes_then, notes_of_marks, entry_count}
 use Rattle.qcow2_image.proofs.image.Qcow2.enter_l1_table.Goals as goal
-use Rattle.qcow2_alloc.proofs.Outcomes.{never, on_no_ok, on_ok}
-use Rattle.std.proofs.Common.{refl, ◌∙◌, subst, ◌≡◌, ap, inl, inr, ◌+◌, sym, arith, rules}
-use Rattle.std.specs.Prelude.{IfSome, IsTrue, Some, is_some, max}
-use Rattle.qcow2_alloc.specs.FreeList.{pending_then}
-use Rattle.qcow2_alloc.specs.KeptAllocators.{IsAllocatorOf}
-use Rattle.qcow2_alloc.proofs.AllocationSteps.{handed_on}
-use Rattle.qcow2_image.specs.LongerTables.{AllocatesTable}
 use Rattle.qcow2_image.proofs.Images.Moving.{leaked_still}
 use Rattle.qcow2_image.proofs.Grow.ReplacedL1Table.{none_taken_for_table, refused_none, table_named_blocks, keeps_taken, longer_taken}
-use Rattle.qcow2_alloc.proofs.KeptMarks.{notes_then, notes_of_marks}
 use Rattle.qcow2_image.proofs.Call.BehindHeader.{behind_allocated, behind_then}
 use Rattle.qcow2_image.proofs.Prepare.LimitCauses.{faults_or_limit, faults_unlimited, hands_either, hands_limit, placed_near, table_clusters, unlimited_all, limited_left}
-use Rattle.qcow2_metadata.specs.EntryTable.{entry_count}
 use Rattle.qcow2_image.proofs.Call.FaultCounts.{counted_since, same_told}
 use Rattle.qcow2_image.proofs.Call.ImageSteps.{step_none, step_where}
 use Rattle.qcow2_image.proofs.Invalidate.Calls.{on_map}

@@ -1,10 +1,4 @@
-use Rattle.std.proofs.Common.{◌≡◌, ◌+◌, ◌-◌, ◌/◌, ◌%◌, ◌^◌, Some, get_or, length, min, refl, sym, ap, ◌∙◌, subst, rules}
-use Rattle.std.specs.Prelude.{slice_get}
-use Rattle.std.proofs.lemmas.Option.{slice_get_read}
-use Rattle.qcow2_metadata.specs.Header.{cluster_size}
-use Rattle.qcow2_image.specs.Found.{l2_index_of}
-use Rattle.qcow2_image.specs.ImageInvariant.{is_entered}
-use Rattle.qcow2_image.specs.InternalSteps.{EntersCluster}
+use Rattle.qcow2_image.proofs.Common.{◌≡◌, ◌+◌, ◌-◌, ◌/◌, ◌%◌, ◌^◌, Some, get_or, length, min, refl, sym, ap, ◌∙◌, subst, rules, slice_get, slice_get_read, cluster_size, l2_index_of, is_entered, EntersCluster}
 use Rattle.qcow2_image.proofs.image.Qcow2.enter_mapping.Goals as goal
 
 pub returns-clause-enters : goal.returns-clause-enters

@@ -1,10 +1,4 @@
-use Rattle.std.proofs.Common.{◌≡◌, ◌≤◌, sym, ap, ◌∙◌, subst, arith, min, is_some, false, true}
-use Rattle.std.specs.Prelude.{IfSome}
-use Rattle.qcow2_disk.specs.Alike.{IsLongestRun}
-use Rattle.qcow2_alloc.specs.ImageFile.{known_in}
-use Rattle.qcow2_disk.specs.Found.{rest_of_table}
-use Rattle.qcow2_image.specs.Found.{writable_place}
-use Rattle.qcow2_image.specs.Preparing.{IsPlaceOf}
+use Rattle.qcow2_image.proofs.Common.{◌≡◌, ◌≤◌, sym, ap, ◌∙◌, subst, arith, min, is_some, false, true, IfSome, IsLongestRun, known_in, rest_of_table, writable_place, IsPlaceOf}
 use Rattle.qcow2_image.proofs.Prepare.WritableInPlace.{place_found, short_of}
 use Rattle.qcow2_image.proofs.Prepare.LimitCauses.{hands_unlimited}
 use Rattle.qcow2_image.proofs.Prepare.MarkedPlaces.{place_behind}

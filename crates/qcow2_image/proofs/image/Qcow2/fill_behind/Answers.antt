@@ -1,19 +1,11 @@
 use Rattle.qcow2_image.proofs.Call.Unlimited.{fault_unlimited}
-use Rattle.std.proofs.Common.{◌<◌, inl, inr, ap, refl, subst, sym, arith}
-use Rattle.qcow2_disk.specs.Calls.{shows_old}
-use Rattle.qcow2_alloc.proofs.AllocationSteps.{handed_on}
-use Rattle.qcow2_metadata.specs.Header.{cluster_size, rounded_up}
-use Rattle.qcow2_image.specs.Preallocation.{first_zeros, FillsGrownOrRefuses}
+use Rattle.qcow2_image.proofs.Common.{◌<◌, inl, inr, ap, refl, subst, sym, arith, shows_old, handed_on, cluster_size, rounded_up, FillsGrownOrRefuses, IfErr, Result, cases_lt, known_in, MayFailGrowing, PreallocateMode}
+use Rattle.qcow2_image.specs.Preallocation.{first_zeros}
 use Rattle.qcow2_image.proofs.Preallocate.FilledGrowth.{early_refused, grown_none, grown_or_refused}
-use Rattle.std.specs.Prelude.{IfErr, Result}
-use Rattle.std.proofs.lemmas.Bool.{cases_lt}
-use Rattle.qcow2_alloc.specs.ImageFile.{known_in}
 use Rattle.qcow2_image.proofs.Preallocate.FailingFills.{hands_met}
 use Rattle.qcow2_image.proofs.Prepare.RefusedAsPrepared.{if_err}
-use Rattle.qcow2_image.specs.MayFail.{MayFailGrowing}
 use Rattle.qcow2_image.proofs.Call.ImageSteps.{step_none}
 use Rattle.qcow2_image.proofs.image.Qcow2.fill_behind.Goals as goal
-use Rattle.image_access.specs.declared.storage.PreallocateMode.{PreallocateMode}
 
 pub returns-in-None-clause-step : goal.returns-in-None-clause-step
 returns-in-None-clause-step g c = step_none

@@ -1,19 +1,9 @@
-use Rattle.std.proofs.Common.{◌≡◌, ◌+◌, ◌-◌, ◌*◌, ◌/◌, ◌%◌, ◌^◌, ◌<◌, ℕ, sym, ap, ◌∙◌, arith, is_some, ◌⊎◌, ◌≤◌, inl, inr, rules}
-use Rattle.std.proofs.lemmas.Nat.{div-mul-add, div-add-mod'}
-use Rattle.qcow2_metadata.specs.Header.{cluster_size}
-use Rattle.qcow2_alloc.specs.ImageFile.{contents_in, known_in}
-use Rattle.qcow2_image.specs.Found.{IsMappedAs}
-use Rattle.qcow2_image.specs.ImageInvariant.{disk_of}
-use Rattle.qcow2_metadata.specs.Cover.{cover}
-use Rattle.qcow2_metadata.specs.Guest.{known_byte}
-use Rattle.qcow2_disk.specs.Found.{kind_at}
+use Rattle.qcow2_image.proofs.Common.{◌≡◌, ◌+◌, ◌-◌, ◌*◌, ◌/◌, ◌%◌, ◌^◌, ◌<◌, ℕ, sym, ap, ◌∙◌, arith, is_some, ◌⊎◌, ◌≤◌, inl, inr, rules, div-mul-add, div-add-mod', cluster_size, contents_in, known_in, IsMappedAs, disk_of, cover, known_byte, kind_at, IsFault, IsCopiedCompressed, MayFailReading}
 use Rattle.qcow2_image.proofs.Prepare.CopiedBytes.{none_has, some_has}
 use Rattle.qcow2_image.proofs.Prepare.InternalWrites.{alike_within, image_step_none}
 use Rattle.qcow2_image.proofs.Map.Loading.{if_ok}
 use Rattle.qcow2_image.proofs.Prepare.FailingCopies.{behind_start, met_as, reading_met, told_sum, within_cluster}
-use Rattle.qcow2_alloc.specs.ImageError.{IsFault}
 use Rattle.qcow2_alloc.specs.declared.error.ImageError.TheVariants as I
-use Rattle.qcow2_image.specs.MayFail.{IsCopiedCompressed, MayFailReading}
 use Rattle.qcow2_image.proofs.Call.WriteSteps.{filling_none}
 use Rattle.qcow2_image.proofs.image.Qcow2.fill_cluster.Goals as goal
 

@@ -1,27 +1,16 @@
 use Rattle.qcow2_image.proofs.Call.ImageSteps.{step_then, step_none}
 use Rattle.qcow2_image.proofs.image.Qcow2.fill_first.Goals as goal
-use Rattle.std.specs.Prelude.{Err, IsTrue}
-use Rattle.std.proofs.Common.{◌≡◌, ◌∙◌, ◌+◌, ◌^◌, ◌≤◌, ◌<◌, ◌∷◌, [], None, true, inl, min, refl, sym, ap, subst, arith, rules, inr}
-use Rattle.qcow2_laws.specs.CrashInvariant.{Pending}
-use Rattle.qcow2_alloc.proofs.AllocationSteps.{handed_on}
-use Rattle.qcow2_image.specs.ImageInvariant.{ImageInvariant, abstract_of, pending_in}
-use Rattle.qcow2_image.specs.Preallocation.{FillsFirst, FillsPart, given_by_zeros}
+use Rattle.qcow2_image.proofs.Common.{Err, IsTrue, ◌≡◌, ◌∙◌, ◌+◌, ◌^◌, ◌≤◌, ◌<◌, ◌∷◌, [], None, true, inl, min, refl, sym, ap, subst, arith, rules, inr, Pending, handed_on, ImageInvariant, abstract_of, pending_in, FillsFirst, FillsPart, given_by_zeros, CountsImageFaults, IsFault, known_in, ImageError, HasCompressedIn, MayFailAllocating, HasPinnedMapping}
 use Rattle.qcow2_image.proofs.Call.Called.{works_none}
 use Rattle.qcow2_image.proofs.Flush.Freeing.{all_listed, beside, freed_refused, tidy_stays}
 use Rattle.qcow2_image.proofs.Images.Free.{free_places}
 use Rattle.qcow2_image.proofs.Preallocate.Filled.{fill_unseen, fills_none, fills_refused, fills_stays, met_taken, refused_after, taken_here}
 use Rattle.qcow2_image.proofs.Preallocate.Piece.{all_behind, all_filled, all_fits, all_next, all_put, all_within, piece_gone, sound_now}
 use Rattle.qcow2_image.proofs.Call.FaultCounts.{counted_as, counted_of, counted_still}
-use Rattle.qcow2_image.specs.Faults.{CountsImageFaults}
 use Rattle.qcow2_image.proofs.Call.FailingErrors.{tables_met}
 use Rattle.qcow2_image.proofs.Call.Unlimited.{fault_unlimited}
 use Rattle.qcow2_image.proofs.Prepare.LimitCauses.{goes_step, limited_giving, limited_upto, other_limit}
-use Rattle.qcow2_alloc.specs.ImageError.{IsFault}
-use Rattle.qcow2_alloc.specs.ImageFile.{known_in}
-use Rattle.qcow2_alloc.specs.declared.error.ImageError.{ImageError}
-use Rattle.qcow2_image.specs.MayFail.{HasCompressedIn, MayFailAllocating}
 use Rattle.qcow2_image.proofs.Preallocate.FailingFills.{hands_met, met_piece}
-use Rattle.qcow2_image.specs.Backings.{HasPinnedMapping}
 
 pub returns-clause-emptied : goal.returns-clause-emptied
 returns-clause-emptied g c = λ none.

@@ -2,14 +2,9 @@ use Rattle.qcow2_image.proofs.Prepare.LimitCauses.{other_limit}
 use Rattle.qcow2_image.proofs.Call.Unlimited.{fault_unlimited}
 use Rattle.qcow2_image.proofs.Call.ImageSteps.{step_then}
 use Rattle.qcow2_image.proofs.image.Qcow2.fill_grown.Goals as goal
-use Rattle.std.proofs.Common.{◌≡◌, ◌∙◌, ap, subst, sym, refl, Ok, Err, inl, inr}
-use Rattle.std.specs.Prelude.{IsTrue}
-use Rattle.qcow2_alloc.specs.declared.error.ImageError.TheVariants.{Version}
-use Rattle.qcow2_metadata.specs.Header.{cluster_size, rounded_up}
-use Rattle.qcow2_image.specs.declared.image.Qcow2.{Qcow2}
+use Rattle.qcow2_image.proofs.Common.{◌≡◌, ◌∙◌, ap, subst, sym, refl, Ok, Err, inl, inr, IsTrue, Version, cluster_size, rounded_up, Qcow2, known_in}
 use Rattle.qcow2_image.proofs.Call.Fails.{fails_freed}
 use Rattle.qcow2_image.proofs.Preallocate.FreedBehind.{grown_freed, grown_left, grown_told, same_refusal}
-use Rattle.qcow2_alloc.specs.ImageFile.{known_in}
 use Rattle.qcow2_image.proofs.Preallocate.FailingFills.{met_filling_freed}
 
 pub returns-in-Err-clause-emptied : goal.returns-in-Err-clause-emptied

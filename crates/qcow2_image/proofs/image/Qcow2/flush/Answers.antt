@@ -1,18 +1,10 @@
-use Rattle.std.proofs.Common.{◌≡◌, true, false, [], sym, ◌∙◌, subst, ap, rules}
-use Rattle.std.specs.Prelude.{Result, IfErr}
-use Rattle.qcow2_laws.specs.CrashInvariant.{Pending}
-use Rattle.qcow2_alloc.specs.FreeList.{with_listed}
-use Rattle.qcow2_image.specs.Calls.{FlushesImage}
-use Rattle.qcow2_image.specs.declared.image.Qcow2.{Qcow2}
-use Rattle.qcow2_image.specs.Image.{is_failed}
-use Rattle.qcow2_image.specs.ImageInvariant.{ImageInvariant, pending_in}
+use Rattle.qcow2_image.proofs.Common.{◌≡◌, true, false, [], sym, ◌∙◌, subst, ap, rules, Result, IfErr, Pending, with_listed, FlushesImage, Qcow2, is_failed, ImageInvariant, pending_in, IsFault, IsOfTables}
 use Rattle.qcow2_image.proofs.Grow.GrownByParts.{written_back}
 use Rattle.qcow2_image.proofs.Flush.Freeing.{all_listed, beside, flushes_with_outcome, frees_on}
 use Rattle.qcow2_image.proofs.Call.FaultCounts.{counted_marked}
 use Rattle.qcow2_image.proofs.Call.Marked.{marks_memory, may_mark}
 use Rattle.qcow2_image.proofs.Call.OnceWritten.{fails_none, fails_once}
 use Rattle.qcow2_image.proofs.Call.BehindHeader.{behind_call}
-use Rattle.qcow2_alloc.specs.ImageError.{IsFault, IsOfTables}
 use Rattle.qcow2_image.proofs.Call.Called.{quiet_sound}
 use Rattle.qcow2_image.proofs.Map.Quiet.{reads_call}
 use Rattle.qcow2_image.proofs.image.Qcow2.flush.Goals as goal

@@ -1,32 +1,15 @@
-use Rattle.std.proofs.Common.{◌≡◌, [], sym, ap, ◌∙◌, subst, IfOk, is_some, rules, ◌<◌}
-use Rattle.qcow2_disk.specs.Calls.{AnsweredEffect, RefusedEffect, IsSame}
-use Rattle.qcow2_disk.specs.AbstractImages.{guest_of}
-use Rattle.qcow2_image.specs.declared.image.Qcow2.{Qcow2}
-use Rattle.qcow2_disk.specs.Found.{IsFoundIn, IsFound as IsFoundOf}
-use Rattle.qcow2_laws.proofs.Internal.{known_header}
-use Rattle.qcow2_alloc.specs.ImageFile.{known_in, state_in}
-use Rattle.qcow2_image.specs.Found.{IsFoundInImage, found_kind}
-use Rattle.qcow2_image.specs.Image.{is_failed, size_of}
+use Rattle.qcow2_image.proofs.Common.{◌≡◌, [], sym, ap, ◌∙◌, subst, IfOk, is_some, rules, ◌<◌, AnsweredEffect, RefusedEffect, IsSame, guest_of, Qcow2, IsFoundIn, known_header, known_in, state_in, IsFoundInImage, found_kind, is_failed, size_of, abstract_of, pending_in, refusal_of, FailsOnceWritten, handed_on, err_as, Memory, Err, IfErr, None, Some, IsCacheHeld, MayFailLooking, unusable, IsHeldRun}
+use Rattle.qcow2_disk.specs.Found.{IsFound as IsFoundOf}
 use Rattle.qcow2_image.proofs.Call.Marked.{MayMarkBy, may_mark}
-use Rattle.qcow2_image.specs.ImageInvariant.{abstract_of, pending_in}
-use Rattle.qcow2_image.specs.Calls.{refusal_of}
 use Rattle.qcow2_image.proofs.Call.Answers.{answers_err, usable_works}
 use Rattle.qcow2_image.proofs.Call.Called.{quietly_then, quiet_does, quiet_refuses}
 use Rattle.qcow2_image.proofs.Call.OnceWritten.{answered_once, fails_none, fails_once}
-use Rattle.qcow2_image.specs.Noted.{FailsOnceWritten}
-use Rattle.qcow2_alloc.proofs.AllocationSteps.{handed_on}
-use Rattle.qcow2_alloc.proofs.Outcomes.{err_as}
-use Rattle.qcow2_alloc.specs.declared.error.ImageError.TheVariants.{Memory}
 use Rattle.qcow2_image.proofs.Call.BehindHeader.{behind_call}
-use Rattle.std.specs.Prelude.{Err, IfErr, None, Some}
 use Rattle.qcow2_image.proofs.Map.FailingLookups.{held_since}
-use Rattle.qcow2_image.specs.MayFail.{IsCacheHeld, MayFailLooking}
 use Rattle.qcow2_image.proofs.Prepare.FailingCopies.{hands_met}
 use Rattle.qcow2_image.proofs.Images.Sizes.{sound_is_usable}
 use Rattle.qcow2_image.proofs.Clear.ClearCalls.{refused_for}
-use Rattle.qcow2_image.specs.Refusals.{unusable}
 use Rattle.qcow2_image.proofs.Map.Quiet.{reads_call}
-use Rattle.qcow2_image.specs.HeldMappings.{IsHeldRun}
 use Rattle.qcow2_image.proofs.image.Qcow2.get_mapping.Goals as goal
 
 pub returns-clause-sound : goal.returns-clause-sound

@@ -1,32 +1,9 @@
-use Rattle.qcow2_image.specs.Limits.{GoesTo, IfLimit, IsLimited}
+use Rattle.qcow2_image.proofs.Common.{GoesTo, IfLimit, IsLimited, or_right, ImageFile, has_noted, known_in, notes_then, [], ◌∷◌, inl, inr, ◌≡◌, ◌∙◌, ◌+◌, ◌-◌, ◌<◌, max, sym, ap, subst, arith, refl, rules, Err, IfErr, IsTrue, Ok, OnOk, Result, HeaderFields, entry_count, with_size, cluster_size, rounded_up, Memory, Version, IsFault, is_changed_of, InternalCall, Qcow2, l1_index_of, Lasts, LastsCall, ReachesSize, HasNothingToFree, is_failed, size_of, with_marks, has_noted_change, ImageInvariant, pending_in, MakesEntry, ReachesOffset, IsPlacedNear, FillsGrown, FillsGrownOrRefuses, FreesRefused, IsFaultOrLimit, MayFail, IsUnlimited, GrowsTables, GrowsTo, LacksZeros, RefusesUnchanged, WritesSizeLast, all_given_by_grow, handed_on, err_as, FailsOnceWritten, pow_pos, MayFailGrowing}
 use Rattle.qcow2_image.proofs.image.Qcow2.grow_disk.Goals as goal
-use Rattle.std.proofs.lemmas.Bool.{or_right}
-use Rattle.qcow2_alloc.specs.declared.image_file.ImageFile.{ImageFile}
-use Rattle.qcow2_alloc.specs.ImageFile.{has_noted, known_in}
 use Rattle.qcow2_image.proofs.Call.Notes.{same_kept}
-use Rattle.qcow2_alloc.proofs.KeptMarks.{notes_then}
-use Rattle.std.proofs.Common.{[], ◌∷◌, inl, inr, ◌≡◌, ◌∙◌, ◌+◌, ◌-◌, ◌<◌, max, sym, ap, subst, arith, refl, rules}
-use Rattle.std.specs.Prelude.{Err, IfErr, IsTrue, Ok, OnOk, Result}
-use Rattle.qcow2_metadata.specs.declared.header.HeaderFields.{HeaderFields}
-use Rattle.qcow2_metadata.specs.EntryTable.{entry_count}
-use Rattle.qcow2_metadata.specs.Header.{with_size, cluster_size, rounded_up}
-use Rattle.qcow2_alloc.specs.declared.error.ImageError.TheVariants.{Memory, Version}
-use Rattle.qcow2_alloc.specs.ImageError.{IsFault}
-use Rattle.qcow2_alloc.specs.ImageStorage.{is_changed_of}
-use Rattle.qcow2_image.specs.CallParts.{InternalCall}
-use Rattle.qcow2_image.specs.declared.image.Qcow2.{Qcow2}
-use Rattle.qcow2_image.specs.Found.{l1_index_of}
-use Rattle.qcow2_image.specs.Growing.{Lasts, LastsCall, ReachesSize}
 use Rattle.qcow2_image.proofs.Grow.GrownByParts.{call_marked, call_then, known_then, lasts_asking, lasts_step, lasts_then, shown_none}
-use Rattle.qcow2_image.specs.Image.{HasNothingToFree, is_failed, size_of, with_marks, has_noted_change}
-use Rattle.qcow2_image.specs.ImageInvariant.{ImageInvariant, pending_in}
-use Rattle.qcow2_image.specs.LongerTables.{MakesEntry}
-use Rattle.qcow2_image.specs.L1Entries.{ReachesOffset, IsPlacedNear}
-use Rattle.qcow2_image.specs.Preallocation.{FillsGrown, FillsGrownOrRefuses}
-use Rattle.qcow2_image.specs.Refusals.{FreesRefused, IsFaultOrLimit, MayFail, IsUnlimited}
 use Rattle.qcow2_image.proofs.Prepare.RefusedAsPrepared.{if_err}
 use Rattle.qcow2_image.proofs.Call.Marked.{MayMarkBy, marks_memory, may_mark}
-use Rattle.qcow2_image.specs.Resizing.{GrowsTables, GrowsTo, LacksZeros, RefusesUnchanged, WritesSizeLast, all_given_by_grow}
 use Rattle.image_access.specs.declared.storage.PreallocateMode.TheVariants.{Zero}
 use Rattle.qcow2_image.proofs.Call.Refused.{stays_then}
 use Rattle.qcow2_image.proofs.Clear.ClearCalls.{err_is}
@@ -40,17 +17,12 @@ use Rattle.qcow2_image.proofs.Resize.GrownTables.{leaves_sized, reaches_filled, 
 use Rattle.qcow2_image.proofs.Resize.RecordedChanges.{counted_noted, grows_noted, tables_noted, unchanged_noted}
 use Rattle.qcow2_image.proofs.Resize.Shrinking.{begun_call}
 use Rattle.qcow2_image.proofs.Call.FaultCounts.{same_of, counted_marked, counted_on, untouched}
-use Rattle.qcow2_alloc.proofs.AllocationSteps.{handed_on}
-use Rattle.qcow2_alloc.proofs.Outcomes.{err_as}
-use Rattle.qcow2_image.specs.Noted.{FailsOnceWritten}
 use Rattle.qcow2_image.proofs.Call.OnceWritten.{kept_noted, fails_marked, fails_once}
 use Rattle.qcow2_image.proofs.Call.BehindHeader.{behind_by, behind_call, behind_none, behind_then}
 use Rattle.qcow2_image.proofs.Prepare.LimitCauses.{faults_unlimited, goes_begun, goes_step, goes_then, hands_limit, limited_giving, limited_since, unlimited_all}
 use Rattle.qcow2_image.proofs.Preallocate.FilledGrowth.{up_least}
 use Rattle.qcow2_image.proofs.Preallocate.FillSteps.{same_size}
-use Rattle.std.proofs.lemmas.Nat.{pow_pos}
 use Rattle.qcow2_image.proofs.Preallocate.FailingFills.{hands_met, met_behind, near_longer_ends}
-use Rattle.qcow2_image.specs.MayFail.{MayFailGrowing}
 
 pub returns-in_err-mark_failure-clause-sees : goal.returns-in_err-mark_failure-clause-sees
 returns-in_err-mark_failure-clause-sees g c =

@@ -1,16 +1,4 @@
-use Rattle.std.proofs.Common.{◌≡◌, ◌∙◌, true, false, [], Result, sym, ap, subst}
-use Rattle.std.specs.Prelude.{IfErr, IsErrAnd, OnErr}
-use Rattle.std.proofs.lemmas.Result.{IfErr-weaker}
-use Rattle.qcow2_disk.specs.Calls.{IsSame}
-use Rattle.qcow2_alloc.specs.ImageError.{IsFault}
-use Rattle.qcow2_alloc.specs.declared.error.ImageError.{ImageError}
-use Rattle.qcow2_image.specs.Calls.{AnswersCall}
-use Rattle.qcow2_image.specs.Image.{is_failed}
-use Rattle.qcow2_image.specs.ImageInvariant.{pending_in}
-use Rattle.qcow2_image.specs.Invalidated.{RespectsPrepared, IsOfPrepared, IsReasonAgainstReading, IsStillInUse, KeepsTables, reftable_in}
-use Rattle.qcow2_image.specs.Refusals.{MayFail}
-use Rattle.qcow2_image.specs.declared.image.Qcow2.{Qcow2}
-use Rattle.qcow2_image.specs.Backings.{HasPinnedMapping}
+use Rattle.qcow2_image.proofs.Common.{◌≡◌, ◌∙◌, true, false, [], Result, sym, ap, subst, IfErr, IsErrAnd, OnErr, IfErr-weaker, IsSame, IsFault, ImageError, AnswersCall, is_failed, pending_in, RespectsPrepared, IsOfPrepared, IsReasonAgainstReading, IsStillInUse, KeepsTables, reftable_in, MayFail, Qcow2, HasPinnedMapping}
 use Rattle.qcow2_image.proofs.Images.Backings.{some_prepared, table_prepared}
 use Rattle.qcow2_image.proofs.Call.Called.{keeps_then, told_answers, tells_quietly}
 use Rattle.qcow2_image.proofs.Call.Marked.{may_mark}

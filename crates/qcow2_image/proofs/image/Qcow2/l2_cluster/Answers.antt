@@ -1,7 +1,4 @@
-use Rattle.std.proofs.Common.{◌≡◌, ◌*◌, ◌/◌, ◌%◌, ◌^◌, sym, ap, ◌∙◌, arith}
-use Rattle.qcow2_metadata.specs.Entries.{host_offset}
-use Rattle.qcow2_metadata.specs.TableBytes.{entry_at}
-use Rattle.qcow2_image.specs.Found.{l1_index_of}
+use Rattle.qcow2_image.proofs.Common.{◌≡◌, ◌*◌, ◌/◌, ◌%◌, ◌^◌, sym, ap, ◌∙◌, arith, host_offset, entry_at, l1_index_of}
 use Rattle.qcow2_image.proofs.Map.FailingLookups.{named_aligned}
 use Rattle.qcow2_image.proofs.Prepare.PinnedL2Tables.{whole_quotient}
 use Rattle.qcow2_image.proofs.image.Qcow2.l2_cluster.Goals as goal

@@ -1,21 +1,9 @@
-use Rattle.qcow2_image.specs.L1Entries.{IsPlacedNear}
-use Rattle.std.proofs.Common.{◌≡◌, ◌+◌, ◌/◌, ◌^◌, max, ap, ◌∙◌, sym, subst}
-use Rattle.std.specs.Prelude.{IsTrue}
-use Rattle.qcow2_metadata.specs.EntryTable.{entry_count}
-use Rattle.qcow2_laws.specs.CrashInvariant.{Pending}
-use Rattle.qcow2_alloc.proofs.AllocationSteps.{handed_on}
-use Rattle.qcow2_alloc.proofs.KeptTables.Switching.{always_ok}
-use Rattle.qcow2_image.specs.Found.{l1_index_of}
-use Rattle.qcow2_image.specs.ImageInvariant.{ImageInvariant, pending_in}
-use Rattle.qcow2_image.specs.LongerTables.{MakesEntry}
+use Rattle.qcow2_image.proofs.Common.{IsPlacedNear, ◌≡◌, ◌+◌, ◌/◌, ◌^◌, max, ap, ◌∙◌, sym, subst, IsTrue, entry_count, Pending, handed_on, always_ok, l1_index_of, ImageInvariant, pending_in, MakesEntry, on_no_ok, on_ok, pending_with_listed, LastsPart}
 use Rattle.qcow2_image.proofs.Flush.Freeing.{all_listed, beside}
 use Rattle.qcow2_image.proofs.Grow.ReplacedL1Table.{freed_then, refused_moved, stays_moved}
-use Rattle.qcow2_alloc.proofs.Outcomes.{on_no_ok, on_ok}
 use Rattle.qcow2_image.proofs.Prepare.LimitCauses.{faults_or_limit, faults_unlimited, hands_either, hands_limit, limited_more, limited_unseen, unlimited_all}
 use Rattle.qcow2_image.proofs.Call.ImageSteps.{step_then}
 use Rattle.qcow2_image.proofs.image.Qcow2.lengthen_l1_table.Goals as goal
-use Rattle.qcow2_image.specs.InternalSteps.{pending_with_listed}
-use Rattle.qcow2_image.specs.Growing.{LastsPart}
 use Rattle.qcow2_image.proofs.Grow.GrownByParts.{freed_part, lasts_step, moved_part}
 
 pub returns-clause-length : goal.returns-clause-length

@@ -1,13 +1,6 @@
 use Rattle.qcow2_image.proofs.image.Qcow2.link_l2.Goals as goal
-use Rattle.std.proofs.lemmas.Bool.{or_right}
-use Rattle.qcow2_alloc.specs.ImageError.{of_storage}
-use Rattle.qcow2_alloc.specs.ImageStorage.{storage_of, is_changed_of}
-use Rattle.qcow2_alloc.proofs.AllocationSteps.{handed_on, fault_of_storage}
-use Rattle.qcow2_image.specs.NewTables.{NamesNew}
+use Rattle.qcow2_image.proofs.Common.{or_right, of_storage, storage_of, is_changed_of, handed_on, fault_of_storage, NamesNew, placed_kept, notes_of_storage, refl, subst, sym, IsSome, ap, ◌+◌, ◌*◌, ◌^◌, rules, EntryTableView}
 use Rattle.qcow2_image.proofs.Prepare.L1EntryWritten.{safe_throughout_named, named_so}
-use Rattle.qcow2_alloc.proofs.KeptMarks.{placed_kept, notes_of_storage}
-use Rattle.std.proofs.Common.{refl, subst, sym, IsSome, ap, ◌+◌, ◌*◌, ◌^◌, rules}
-use Rattle.qcow2_metadata.specs.EntryTable.{EntryTableView}
 use Rattle.qcow2_image.proofs.Call.BehindHeader.{behind_l1, behind_placed, behind_then, entry_behind, l1_entered}
 
 pub returns-in_err-write_l1_entry-clause-names : goal.returns-in_err-write_l1_entry-clause-names

@@ -1,7 +1,4 @@
-use Rattle.std.proofs.Common.{[], ◌∷◌, ◌++◌, sym, ap, ◌∙◌}
-use Rattle.std.proofs.lemmas.List.{append_assoc}
-use Rattle.qcow2_image.specs.declared.image.Qcow2.{Qcow2}
-use Rattle.qcow2_image.specs.InternalSteps.{freed_by}
+use Rattle.qcow2_image.proofs.Common.{[], ◌∷◌, ◌++◌, sym, ap, ◌∙◌, append_assoc, Qcow2, freed_by}
 use Rattle.qcow2_image.proofs.Images.ClusterMappings.{freed_behind}
 use Rattle.qcow2_image.proofs.image.Qcow2.list_new_clusters.Goals as goal
 

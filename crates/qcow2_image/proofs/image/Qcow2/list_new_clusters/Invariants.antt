@@ -1,4 +1,4 @@
-use Rattle.qcow2_image.specs.InternalSteps.{FreesLater, freed_by}
+use Rattle.qcow2_image.proofs.Common.{FreesLater, freed_by}
 use Rattle.qcow2_image.proofs.image.Qcow2.list_new_clusters.Given as goal
 
 -- the new clusters of the cluster mappings so far are listed

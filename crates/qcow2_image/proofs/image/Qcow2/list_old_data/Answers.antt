@@ -1,10 +1,4 @@
-use Rattle.std.proofs.Common.{◌≡◌, ◌++◌, sym, ap, ◌∙◌, subst}
-use Rattle.qcow2_metadata.specs.Cover.{cover}
-use Rattle.qcow2_metadata.specs.L2Mapping.{IsInReach, old_data_run}
-use Rattle.qcow2_metadata.specs.declared.l2_mapping.L2Mapping.{L2Mapping}
-use Rattle.qcow2_alloc.specs.ImageFile.{known_in}
-use Rattle.qcow2_image.specs.Clearing.{cover_once_cleared}
-use Rattle.qcow2_image.specs.ImageInvariant.{listed_run}
+use Rattle.qcow2_image.proofs.Common.{◌≡◌, ◌++◌, sym, ap, ◌∙◌, subst, cover, IsInReach, old_data_run, L2Mapping, known_in, cover_once_cleared, listed_run}
 use Rattle.qcow2_image.proofs.Clear.Between.{on_ok}
 use Rattle.qcow2_image.proofs.image.Qcow2.list_old_data.Goals as goal
 

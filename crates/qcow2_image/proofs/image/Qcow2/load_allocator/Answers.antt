@@ -1,20 +1,9 @@
-use Rattle.std.proofs.Common.{Result, true, sym, ap, subst, arith, ◌≡◌, ◌∙◌, ◌<◌, refl}
-use Rattle.std.specs.Prelude.{MatchResult}
-use Rattle.qcow2_alloc.specs.declared.error.ImageError.{ImageError}
-use Rattle.qcow2_alloc.specs.ImageError.{of_storage}
-use Rattle.qcow2_alloc.specs.ImageFile.{contents_in}
-use Rattle.qcow2_alloc.specs.LoadedTables.{IsReasonAgainstReftable, ReftableReads}
-use Rattle.qcow2_alloc.proofs.AllocationSteps.{handed_on}
-use Rattle.qcow2_alloc.proofs.Outcomes.{if_no_ok}
+use Rattle.qcow2_image.proofs.Common.{Result, true, sym, ap, subst, arith, ◌≡◌, ◌∙◌, ◌<◌, refl, MatchResult, ImageError, of_storage, contents_in, IsReasonAgainstReftable, ReftableReads, handed_on, if_no_ok, LeavesFile, autoclear_still, HeaderView, without_autoclear, ImageFile}
 use Rattle.qcow2_image.proofs.Open.Reading.{against_storage}
 use Rattle.qcow2_image.proofs.Open.Left.{file_cleared, file_not_cleared, file_refused, file_then, file_then_refused}
-use Rattle.qcow2_image.specs.Opened.{LeavesFile}
 use Rattle.qcow2_image.proofs.Open.Opening.{new_tables_read, new_tables_then, kept_read, stays_then, told_new_tables, kept_then}
 use Rattle.qcow2_image.proofs.Open.Clearing.{stays_after, kept_after}
-use Rattle.qcow2_metadata.proofs.StillHeader.{autoclear_still}
 use Rattle.qcow2_metadata.proofs.WrittenHeader.{autoclear_after}
-use Rattle.qcow2_metadata.specs.Header.{HeaderView, without_autoclear}
-use Rattle.qcow2_alloc.specs.declared.image_file.ImageFile.{ImageFile}
 use Rattle.qcow2_image.proofs.Call.BehindHeader.{named_before, stands_still}
 use Rattle.qcow2_image.proofs.image.Qcow2.load_allocator.Goals as goal
 

@@ -1,17 +1,6 @@
-use Rattle.std.proofs.Common.{◌≡◌, ℕ, ◌*◌, ◌<◌, ◌^◌, Result, refl, sym, ap, ◌∙◌, subst, arith, inl, inr}
-use Rattle.std.specs.Prelude.{MatchResult}
-use Rattle.image_access.specs.Contents.{bytes_at}
-use Rattle.qcow2_metadata.specs.Bytes.{byte_at}
-use Rattle.qcow2_metadata.specs.EntryTable.{SomeUnread}
-use Rattle.qcow2_metadata.specs.TableBytes.{entry_at}
-use Rattle.qcow2_metadata.specs.Entries.{l1_entry, L1EntryReads}
-use Rattle.qcow2_metadata.specs.Header.{cluster_size}
+use Rattle.qcow2_image.proofs.Common.{◌≡◌, ℕ, ◌*◌, ◌<◌, ◌^◌, Result, refl, sym, ap, ◌∙◌, subst, arith, inl, inr, MatchResult, bytes_at, byte_at, SomeUnread, entry_at, l1_entry, L1EntryReads, cluster_size, ImageError, of_metadata, contents_in, view_in, HasUnreadEntry, IsReasonAgainstL1Table, L1TableReads, handed_on}
 use Rattle.qcow2_metadata.proofs.EntryTables.{l1_entries-loaded}
-use Rattle.qcow2_alloc.specs.declared.error.ImageError.{ImageError}
-use Rattle.qcow2_alloc.specs.ImageError.{of_metadata}
-use Rattle.qcow2_alloc.specs.ImageFile.{contents_in, view_in}
-use Rattle.qcow2_alloc.specs.LoadedTables.{HasUnreadEntry, IsReasonAgainst, IsReasonAgainstL1Table, L1TableReads}
-use Rattle.qcow2_alloc.proofs.AllocationSteps.{handed_on}
+use Rattle.qcow2_alloc.specs.LoadedTables.{IsReasonAgainst}
 use Rattle.qcow2_alloc.proofs.LoadedTables.{entries_read, not_loaded}
 use Rattle.qcow2_image.proofs.Open.Reading.{none_reads}
 use Rattle.qcow2_image.proofs.Open.Opening.{l1_cleared, l1_loaded}

@@ -1,5 +1,4 @@
-use Rattle.std.proofs.Common.{rules}
-use Rattle.qcow2_alloc.proofs.KeptMarks.{notes_of_both}
+use Rattle.qcow2_image.proofs.Common.{rules, notes_of_both}
 use Rattle.qcow2_image.proofs.Prepare.InternalWrites.{same_new_data}
 use Rattle.qcow2_image.proofs.Map.Loading.{caches_moved}
 use Rattle.qcow2_image.proofs.Call.BehindHeader.{behind_caches}

@@ -1,23 +1,8 @@
-use Rattle.std.proofs.Common.{◌≡◌, ◌∙◌, Bool, Result, Ok, Err, true, false, inl, inr, subst, sym, refl, None, ap}
-use Rattle.std.specs.Prelude.{MatchResult}
-use Rattle.qcow2_alloc.specs.declared.allocation.Allocator.{Allocator}
-use Rattle.qcow2_alloc.specs.declared.error.ImageError.{ImageError}
-use Rattle.qcow2_alloc.specs.ImageFile.{contents_in}
-use Rattle.qcow2_alloc.specs.LoadedTables.{IsReasonAgainstReftable, ReftableReads}
-use Rattle.qcow2_alloc.specs.SparedHeaders.{StandsBehindHeader}
-use Rattle.qcow2_alloc.proofs.AllocationSteps.{handed_on}
-use Rattle.qcow2_alloc.proofs.Outcomes.{if_no_ok}
-use Rattle.qcow2_alloc.proofs.KeptAllocators.{spared_kept}
-use Rattle.qcow2_image.specs.Readable.{IsReasonAgainstTables, NeededTablesRead}
+use Rattle.qcow2_image.proofs.Common.{◌≡◌, ◌∙◌, Bool, Result, Ok, Err, true, false, inl, inr, subst, sym, refl, None, ap, MatchResult, Allocator, ImageError, contents_in, IsReasonAgainstReftable, ReftableReads, StandsBehindHeader, handed_on, if_no_ok, spared_kept, IsReasonAgainstTables, NeededTablesRead, LeavesFile, ImageFile, LeaveHeaderCluster, TablesBehindHeader, IsL1TableBehind, NamesTablesBehind, HeaderFields}
 use Rattle.qcow2_image.proofs.Open.Left.{file_read, file_refused, file_then, file_then_refused}
-use Rattle.qcow2_image.specs.Opened.{LeavesFile}
 use Rattle.qcow2_image.proofs.Open.Reading.{so_before}
 use Rattle.qcow2_image.proofs.Open.Opening.{new_tables_then, kept_read, kept_then}
-use Rattle.qcow2_alloc.specs.declared.image_file.ImageFile.{ImageFile}
-use Rattle.qcow2_alloc.specs.BehindHeader.{LeaveHeaderCluster}
-use Rattle.qcow2_image.specs.BehindHeader.{TablesBehindHeader, IsL1TableBehind, NamesTablesBehind}
 use Rattle.qcow2_image.proofs.Call.BehindHeader.{behind_loaded}
-use Rattle.qcow2_metadata.specs.declared.header.HeaderFields.{HeaderFields}
 use Rattle.qcow2_image.proofs.image.Qcow2.load_tables.Goals as goal
 
 pub returns-in_err-l1_table-clause-why : goal.returns-in_err-l1_table-clause-why

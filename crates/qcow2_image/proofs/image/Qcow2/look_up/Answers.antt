@@ -1,26 +1,13 @@
-use Rattle.std.proofs.Common.{◌≡◌, ◌-◌, ◌/◌, sym, ap, ◌∙◌, subst, arith, min, is_some, Some, None, false, true, ◌<◌, rules, refl}
-use Rattle.qcow2_metadata.specs.Header.{cluster_size}
-use Rattle.qcow2_metadata.specs.Entries.{host_offset}
-use Rattle.qcow2_disk.specs.Alike.{IsLongestRun}
-use Rattle.qcow2_laws.specs.Guests.{table_at}
-use Rattle.qcow2_laws.proofs.Places.{Sizes-from, cover_none}
-use Rattle.qcow2_laws.proofs.Tops.{IsTop-top}
-use Rattle.qcow2_alloc.specs.ImageFile.{contents_in, known_in}
-use Rattle.qcow2_disk.specs.Found.{kind_at, rest_of_table}
-use Rattle.qcow2_image.specs.Found.{l1_index_of, l2_index_of, NamesL2Table, IsRunFrom}
+use Rattle.qcow2_image.proofs.Common.{◌≡◌, ◌-◌, ◌/◌, sym, ap, ◌∙◌, subst, arith, min, is_some, Some, None, false, true, ◌<◌, rules, refl, cluster_size, host_offset, IsLongestRun, table_at, Sizes-from, cover_none, IsTop-top, contents_in, known_in, kind_at, rest_of_table, l1_index_of, l2_index_of, NamesL2Table, IsRunFrom, IfSome, MatchOption, IsEntryAt, IsCacheHeld, MayFailLooking, own_table}
 use Rattle.qcow2_image.proofs.Map.Loading.{caches_moved, with_caches, if_ok}
 use Rattle.qcow2_image.proofs.Map.Looked.{none_found}
 use Rattle.qcow2_image.proofs.Call.BehindHeader.{behind_caches}
-use Rattle.std.specs.Prelude.{IfSome, MatchOption}
-use Rattle.qcow2_alloc.specs.MetadataCaches.{IsEntryAt}
-use Rattle.qcow2_image.specs.MayFail.{IsCacheHeld, MayFailLooking}
 use Rattle.qcow2_image.proofs.Map.FailingLookups.{answers_met, cache_looking, named_entry}
 use Rattle.qcow2_image.proofs.Prepare.FailingCopies.{hands_met}
 use Rattle.qcow2_image.proofs.Prepare.MissingL2Table.{named_place}
 use Rattle.qcow2_image.proofs.Map.Quiet.{reads_none}
 use Rattle.qcow2_image.proofs.Map.Held.{uncovered_held}
 use Rattle.qcow2_image.specs.HeldMappings.{named_place as place_named}
-use Rattle.qcow2_image.specs.PinnedTables.{own_table}
 use Rattle.qcow2_image.proofs.image.Qcow2.look_up.Goals as goal
 
 pub returns-in_err-l2_get_or_insert-in-Some-clause-sound : goal.returns-in_err-l2_get_or_insert-in-Some-clause-sound

@@ -1,10 +1,4 @@
-use Rattle.std.proofs.Common.{sym, ap, ◌∙◌, subst}
-use Rattle.std.specs.Prelude.{IsTrue}
-use Rattle.qcow2_alloc.specs.ImageFile.{has_noted}
-use Rattle.qcow2_alloc.specs.ImageStorage.{is_changed_of}
-use Rattle.qcow2_alloc.specs.declared.image_file.ImageFile.{ImageFile}
-use Rattle.qcow2_image.specs.declared.image.Qcow2.{Qcow2}
-use Rattle.qcow2_image.specs.Image.{is_failed, with_marks}
+use Rattle.qcow2_image.proofs.Common.{sym, ap, ◌∙◌, subst, IsTrue, has_noted, is_changed_of, ImageFile, Qcow2, is_failed, with_marks}
 use Rattle.qcow2_image.proofs.Call.Marked.{noted_fails, same_done}
 use Rattle.qcow2_image.proofs.image.Qcow2.mark_fault.Goals as goal
 

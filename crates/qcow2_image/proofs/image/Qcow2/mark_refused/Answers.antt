@@ -1,12 +1,4 @@
-use Rattle.std.proofs.Common.{inl, inr, sym, ap, ◌∙◌, subst}
-use Rattle.std.specs.Prelude.{IsTrue}
-use Rattle.std.proofs.lemmas.Bool.{or_cases, or_left, or_right}
-use Rattle.qcow2_alloc.specs.ImageFile.{has_noted}
-use Rattle.qcow2_alloc.specs.ImageStorage.{is_changed_of}
-use Rattle.qcow2_alloc.specs.declared.cache.MetadataCaches.{MetadataCaches}
-use Rattle.qcow2_alloc.specs.declared.image_file.ImageFile.{ImageFile}
-use Rattle.qcow2_image.specs.declared.image.Qcow2.{Qcow2}
-use Rattle.qcow2_image.specs.Image.{is_failed, with_marks}
+use Rattle.qcow2_image.proofs.Common.{inl, inr, sym, ap, ◌∙◌, subst, IsTrue, or_cases, or_left, or_right, has_noted, is_changed_of, MetadataCaches, ImageFile, Qcow2, is_failed, with_marks}
 use Rattle.qcow2_image.proofs.image.Qcow2.mark_refused.Goals as goal
 
 pub returns-clause-rest : goal.returns-clause-rest

@@ -1,14 +1,7 @@
 use Rattle.qcow2_image.proofs.image.Qcow2.name_l1_table.Goals as goal
-use Rattle.std.proofs.Common.{◌*◌, ◌^◌, ◌≤◌, ap, ◌∙◌, arith, rules}
-use Rattle.qcow2_metadata.specs.EntryTable.{entry_count}
-use Rattle.qcow2_alloc.specs.ImageError.{of_storage}
-use Rattle.qcow2_alloc.specs.ImageStorage.{storage_of}
-use Rattle.qcow2_alloc.proofs.AllocationSteps.{handed_on}
-use Rattle.qcow2_image.specs.LongerTables.{NamesTable}
+use Rattle.qcow2_image.proofs.Common.{◌*◌, ◌^◌, ◌≤◌, ap, ◌∙◌, arith, rules, entry_count, of_storage, storage_of, handed_on, NamesTable, notes_none, notes_of_storage, told_kept, HeaderView}
 use Rattle.qcow2_image.proofs.Grow.NamedL1Table.{named_interruption, named_so}
-use Rattle.qcow2_alloc.proofs.KeptMarks.{notes_none, notes_of_storage, told_kept}
 use Rattle.qcow2_image.proofs.Call.BehindHeader.{behind_bits, behind_l1, behind_pointer, behind_then}
-use Rattle.qcow2_metadata.specs.Header.{HeaderView}
 use Rattle.qcow2_image.proofs.Prepare.LimitCauses.{hands_fault}
 use Rattle.qcow2_image.proofs.Call.Unlimited.{storage_fault}
 

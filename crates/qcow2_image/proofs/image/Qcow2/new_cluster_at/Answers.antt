@@ -1,20 +1,7 @@
-use Rattle.qcow2_alloc.proofs.AllocationSteps.{handed_on}
-use Rattle.std.proofs.Common.{◌≡◌, ◌/◌, ◌<◌, inl, sym, ap, ◌∙◌, subst, rules}
-use Rattle.std.specs.Prelude.{Ok}
-use Rattle.qcow2_metadata.specs.Cover.{cover}
-use Rattle.qcow2_metadata.specs.Header.{cluster_size}
-use Rattle.qcow2_disk.specs.AbstractImages.{Guest}
-use Rattle.qcow2_laws.specs.Changes.{with_new_data}
-use Rattle.qcow2_laws.proofs.Formats.{cover_format, size_format}
-use Rattle.qcow2_alloc.specs.ImageFile.{known_in}
-use Rattle.qcow2_image.specs.declared.image.Qcow2.{Qcow2}
-use Rattle.qcow2_image.specs.Ranges.{AllocatesDataAt, GainsAt}
-use Rattle.qcow2_image.specs.InternalSteps.{InternalFillingStep, RefusedFillingStep, IsGained, pending_with_listed}
-use Rattle.qcow2_image.specs.ImageInvariant.{run_of, new_data_by, over_all}
+use Rattle.qcow2_image.proofs.Common.{handed_on, ◌≡◌, ◌/◌, ◌<◌, inl, sym, ap, ◌∙◌, subst, rules, Ok, cover, cluster_size, Guest, with_new_data, cover_format, size_format, known_in, Qcow2, AllocatesDataAt, GainsAt, InternalFillingStep, RefusedFillingStep, IsGained, pending_with_listed, run_of, new_data_by, over_all, IsCopiedCompressed}
 use Rattle.qcow2_image.proofs.Prepare.FirstCluster.{listed_after_on, image_step_left, taken_new_data, taken_unused, still_holds, filled_as}
 use Rattle.qcow2_image.proofs.Prepare.InternalWrites.{image_step_then}
 use Rattle.qcow2_image.proofs.Prepare.LimitCauses.{hands_limit, other_limit}
-use Rattle.qcow2_image.specs.MayFail.{IsCopiedCompressed}
 use Rattle.qcow2_image.proofs.Prepare.Unannounced.{copied_as}
 use Rattle.qcow2_image.proofs.Prepare.FailingCopies.{filling_met, new_behind}
 use Rattle.qcow2_image.proofs.Prepare.FailingTables.{hands_alone}

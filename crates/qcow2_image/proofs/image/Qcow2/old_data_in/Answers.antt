@@ -1,12 +1,5 @@
-use Rattle.std.proofs.Common.{◌≡◌, ◌+◌, suc, ap, ◌∙◌, subst, arith, ◌/◌, ◌%◌, sym}
-use Rattle.qcow2_image.specs.Clearing.{ReadsAll, ReadsDropped}
+use Rattle.qcow2_image.proofs.Common.{◌≡◌, ◌+◌, suc, ap, ◌∙◌, subst, arith, ◌/◌, ◌%◌, sym, ReadsAll, ReadsDropped, IfErr, entries_per_cluster, IsFault, known_in, IsEntryAt, handed_on}
 use Rattle.qcow2_image.proofs.Clear.Between.{reads_next, entry_behind}
-use Rattle.std.specs.Prelude.{IfErr}
-use Rattle.qcow2_metadata.specs.Header.{entries_per_cluster}
-use Rattle.qcow2_alloc.specs.ImageError.{IsFault}
-use Rattle.qcow2_alloc.specs.ImageFile.{known_in}
-use Rattle.qcow2_alloc.specs.MetadataCaches.{IsEntryAt}
-use Rattle.qcow2_alloc.proofs.AllocationSteps.{handed_on}
 use Rattle.qcow2_image.proofs.image.Qcow2.old_data_in.Goals as goal
 
 pub loop-i-preserved : goal.loop-i-preserved

@@ -1,4 +1,4 @@
-use Rattle.qcow2_image.specs.Clearing.{ReadsAll}
+use Rattle.qcow2_image.proofs.Common.{ReadsAll}
 use Rattle.qcow2_image.proofs.image.Qcow2.old_data_in.Given as goal
 
 -- the first entries are read

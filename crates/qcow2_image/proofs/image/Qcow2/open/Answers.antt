@@ -1,24 +1,10 @@
-use Rattle.std.proofs.Common.{◌≡◌, ◌⊎◌, sym, refl, arith, subst, ap, inl, inr, ◌∙◌, rules}
-use Rattle.std.specs.Prelude.{None, false}
-use Rattle.qcow2_metadata.specs.Bytes.{byte_at}
-use Rattle.qcow2_laws.specs.Opened.{nothing_pending, surplus_of}
-use Rattle.qcow2_alloc.specs.declared.image_file.ImageFile.{ImageFile}
-use Rattle.qcow2_image.specs.declared.image.Qcow2.{Qcow2}
-use Rattle.qcow2_image.specs.Opened.{IsKeptSince}
+use Rattle.qcow2_image.proofs.Common.{◌≡◌, ◌⊎◌, sym, refl, arith, subst, ap, inl, inr, ◌∙◌, rules, None, false, byte_at, nothing_pending, surplus_of, ImageFile, Qcow2, IsKeptSince, HeaderReads, header, HeaderFields, SameFormat, ImageError, Dependency, UnalignedTable, of_metadata, IsFault, IsJustifiedRefusal, AreAllWritten}
 use Rattle.qcow2_image.proofs.Open.Left.{left_loaded, left_opened, left_refused}
 use Rattle.qcow2_image.proofs.Open.Opening.{new_tables_new, opened, kept_loaded, kept_opened, named_still}
-use Rattle.qcow2_metadata.specs.Header.{HeaderReads, header}
-use Rattle.qcow2_metadata.specs.declared.header.HeaderFields.{HeaderFields}
-use Rattle.qcow2_image.specs.Growing.{SameFormat}
-use Rattle.qcow2_alloc.specs.declared.error.ImageError.{ImageError}
-use Rattle.qcow2_alloc.specs.declared.error.ImageError.TheVariants.{Dependency, UnalignedTable}
 use Rattle.qcow2_alloc.specs.declared.error.ImageError.TheVariants as I
-use Rattle.qcow2_alloc.specs.ImageError.{of_metadata, IsFault}
 use Rattle.qcow2_image.proofs.Call.FailingErrors.{metadata_met}
-use Rattle.qcow2_image.specs.Readable.{IsJustifiedRefusal}
 use Rattle.qcow2_image.proofs.Open.Reading.{header_refused, needs_so, opened_rightly, refused_rightly}
 use Rattle.qcow2_image.proofs.Open.SameHeaders.{not_missing, not_needed, refused_before, some_missing, stays_so}
-use Rattle.qcow2_alloc.specs.MetadataCaches.{AreAllWritten}
 use Rattle.qcow2_alloc.specs.ImageFile.{l2_pins}
 use Rattle.qcow2_image.proofs.image.Qcow2.open.Goals as goal
 

@@ -1,7 +1,4 @@
-use Rattle.std.proofs.Common.{subst}
-use Rattle.std.specs.Prelude.{IfOk}
-use Rattle.qcow2_image.specs.Opened.{Opens}
-use Rattle.qcow2_image.specs.Readable.{IsNewlyOpened, OpeningStep}
+use Rattle.qcow2_image.proofs.Common.{subst, IfOk, Opens, IsNewlyOpened, OpeningStep}
 use Rattle.qcow2_image.proofs.image.Qcow2.open_image.Goals as goal
 
 pub returns-clause-step : goal.returns-clause-step

@@ -1,7 +1,4 @@
-use Rattle.std.proofs.Common.{◌≡◌, ◌%◌, ◌^◌, ap, ◌∙◌}
-use Rattle.std.proofs.lemmas.Nat.{mod_below, pow_pos}
-use Rattle.qcow2_metadata.specs.Header.{cluster_size}
-use Rattle.qcow2_image.specs.CopyRange.{announced_range_of, copy_range_of}
+use Rattle.qcow2_image.proofs.Common.{◌≡◌, ◌%◌, ◌^◌, ap, ◌∙◌, mod_below, pow_pos, cluster_size, announced_range_of, copy_range_of}
 use Rattle.qcow2_image.proofs.Prepare.CopiedBytes.{has_copied}
 use Rattle.qcow2_image.proofs.Prepare.Unannounced.{part_left}
 use Rattle.qcow2_image.proofs.image.Qcow2.part_to_fill.Goals as goal

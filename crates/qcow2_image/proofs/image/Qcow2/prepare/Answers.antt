@@ -1,17 +1,10 @@
 use Rattle.qcow2_image.proofs.Call.ImageSteps.{step_then}
 use Rattle.qcow2_image.proofs.image.Qcow2.prepare.Goals as goal
-use Rattle.std.proofs.Common.{⊎_elim, inl, refl, sym, subst, rules}
-use Rattle.std.specs.Prelude.{IsTrue}
-use Rattle.qcow2_alloc.specs.ImageError.{IsFault}
+use Rattle.qcow2_image.proofs.Common.{⊎_elim, inl, refl, sym, subst, rules, IsTrue, IsFault, known_in, NeedsOverflowingL1Entry, CopiesCompressed, MayFailAllocating, HasPinnedMapping, IsTaken}
 use Rattle.qcow2_image.proofs.Call.Refused.{back_then_freed}
 use Rattle.qcow2_image.proofs.Call.FaultCounts.{counted_as, counted_of, untouched}
 use Rattle.qcow2_image.proofs.Prepare.LimitCauses.{limited_frees}
-use Rattle.qcow2_alloc.specs.ImageFile.{known_in}
-use Rattle.qcow2_image.specs.L1Entries.{NeedsOverflowingL1Entry}
-use Rattle.qcow2_image.specs.MayFail.{CopiesCompressed, MayFailAllocating}
 use Rattle.qcow2_image.proofs.Prepare.FailingTables.{met_freed}
-use Rattle.qcow2_image.specs.Backings.{HasPinnedMapping}
-use Rattle.qcow2_image.specs.Preparing.{IsTaken}
 
 pub returns-in-Err-clause-freed : goal.returns-in-Err-clause-freed
 returns-in-Err-clause-freed g c = λ some out sound. ⊎_elim

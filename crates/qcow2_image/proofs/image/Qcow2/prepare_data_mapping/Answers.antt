@@ -1,22 +1,10 @@
 use Rattle.qcow2_image.proofs.Call.MarkedCalls.{call_marked}
 use Rattle.qcow2_image.proofs.Prepare.LimitCauses.{goes_begun, limited_since, limits_as}
-use Rattle.qcow2_image.specs.Limits.{IfLimit, IsLimited}
+use Rattle.qcow2_image.proofs.Common.{IfLimit, IsLimited, ◌≡◌, ◌⊎◌, ◌<◌, [], sym, ◌∙◌, subst, arith, ap, refl, ⊎_elim, inl, inr, ◌≤◌, rules, ◌+◌, IfErr, IfOk, None, Result, Some, IsNone, TablePrepared, known_in, IsAnswered, IsTaken, Qcow2, Prepares, is_failed, ListsNoMore, IsExisting, meaning, pending_in, refuses_to_prepare, FreesRefused, PreparesUnpinned, cluster_size, HeaderFields, NeedsOverflowingL1Entry, CopiesCompressed, MayFailAllocating, length_of, offset_of, table_of, HasPinnedMapping}
 use Rattle.qcow2_image.proofs.image.Qcow2.prepare_data_mapping.Goals as goal
-use Rattle.std.proofs.Common.{◌≡◌, ◌⊎◌, ◌<◌, [], sym, ◌∙◌, subst, arith, ap, refl, ⊎_elim, inl, inr, ◌≤◌, rules, ◌+◌}
-use Rattle.std.specs.Prelude.{IfErr, IfOk, None, Result, Some, IsNone}
-use Rattle.qcow2_alloc.specs.declared.error.ImageError.TheVariants.{TablePrepared}
-use Rattle.qcow2_alloc.specs.ImageFile.{known_in}
-use Rattle.qcow2_image.specs.Preparing.{IsAnswered, IsTaken}
 use Rattle.qcow2_image.proofs.Map.Loading.{if_ok}
 use Rattle.qcow2_image.proofs.Prepare.PreparedAnswers.{answered_before, taken_before}
 use Rattle.qcow2_image.proofs.Prepare.RefusedAsPrepared.{if_err}
-use Rattle.qcow2_image.specs.declared.image.Qcow2.{Qcow2}
-use Rattle.qcow2_image.specs.Calls.{Prepares}
-use Rattle.qcow2_image.specs.Image.{is_failed}
-use Rattle.qcow2_image.specs.ListedClusters.{ListsNoMore}
-use Rattle.qcow2_image.specs.CallParts.{IsExisting}
-use Rattle.qcow2_image.specs.ImageInvariant.{meaning, pending_in}
-use Rattle.qcow2_image.specs.Refusals.{refuses_to_prepare, FreesRefused}
 use Rattle.qcow2_image.proofs.Call.Called.{listed}
 use Rattle.qcow2_image.proofs.Clear.ClearCalls.{refused_for}
 use Rattle.qcow2_image.proofs.Call.Answers.{prepare_usable}
@@ -26,15 +14,8 @@ use Rattle.qcow2_image.proofs.Call.Marked.{marks_memory, may_mark}
 use Rattle.qcow2_image.proofs.Call.OnceWritten.{fails_none}
 use Rattle.qcow2_image.proofs.Call.BehindHeader.{behind_none}
 use Rattle.qcow2_image.proofs.Prepare.PinnedL2Tables.{begun_own, unpinned_begun}
-use Rattle.qcow2_image.specs.PinnedTables.{PreparesUnpinned}
-use Rattle.qcow2_metadata.specs.Header.{cluster_size}
-use Rattle.qcow2_metadata.specs.declared.header.HeaderFields.{HeaderFields}
-use Rattle.qcow2_image.specs.L1Entries.{NeedsOverflowingL1Entry}
-use Rattle.qcow2_image.specs.MayFail.{CopiesCompressed, MayFailAllocating}
 use Rattle.qcow2_image.proofs.Prepare.Unannounced.{compressed_as}
 use Rattle.qcow2_image.proofs.Prepare.FailingTables.{far_before}
-use Rattle.qcow2_image.specs.Prepared.{length_of, offset_of, table_of}
-use Rattle.qcow2_image.specs.Backings.{HasPinnedMapping}
 use Rattle.qcow2_image.proofs.Prepare.FailingAllocations.{taking_as}
 
 pub returns-clause-answer : goal.returns-clause-answer

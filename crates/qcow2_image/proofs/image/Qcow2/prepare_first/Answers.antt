@@ -1,27 +1,11 @@
 use Rattle.qcow2_image.proofs.Call.WriteSteps.{filling_pinned, taking_none, taking_of_filling, taking_where}
-use Rattle.qcow2_image.specs.WriteSteps.{BeginsSoundly}
+use Rattle.qcow2_image.proofs.Common.{BeginsSoundly, rules, refl, ◌/◌, sym, ap, ◌∙◌, subst, List, length, ◌≡◌, ◌≤◌, true, false, inr, arith, MarkedIsBehind, cover, vec_capacity, ClusterMapping, cluster_size, L2Mapping, known_in, handed_on, Prepared, l1_index_of, IsReadied, Readies, pending_in, IsFirst, always_ok, l2_pins}
 use Rattle.qcow2_image.proofs.image.Qcow2.prepare_first.Goals as goal
-use Rattle.std.proofs.Common.{rules, refl, ◌/◌, sym, ap, ◌∙◌, subst, List, length, ◌≡◌, ◌≤◌, true, false, inr, arith}
-use Rattle.qcow2_image.specs.PreparedPlaces.{MarkedIsBehind}
-use Rattle.qcow2_metadata.specs.Cover.{cover}
-use Rattle.std.specs.Prelude.{vec_capacity}
-use Rattle.qcow2_image.specs.declared.prepared.ClusterMapping.{ClusterMapping}
-use Rattle.qcow2_metadata.specs.Header.{cluster_size}
-use Rattle.qcow2_metadata.specs.declared.l2_mapping.L2Mapping.{L2Mapping}
-use Rattle.qcow2_alloc.specs.ImageFile.{known_in}
-use Rattle.qcow2_alloc.proofs.AllocationSteps.{handed_on}
-use Rattle.qcow2_image.specs.declared.prepared.Prepared.{Prepared}
-use Rattle.qcow2_image.specs.Found.{l1_index_of}
-use Rattle.qcow2_image.specs.CallParts.{IsReadied, Readies}
-use Rattle.qcow2_image.specs.ImageInvariant.{pending_in}
-use Rattle.qcow2_image.specs.Ranges.{IsFirst}
 use Rattle.qcow2_image.proofs.Map.Loading.{if_ok}
 use Rattle.qcow2_image.proofs.Prepare.KeptMappings.{data_keep_none}
 use Rattle.qcow2_image.proofs.Prepare.RangeByParts.{room_as}
 use Rattle.qcow2_image.proofs.Prepare.WritableL2Table.{refused as any_refusal}
 use Rattle.qcow2_image.proofs.Prepare.NewCluster.{back_none, first_stands, not_pinned, readied_in_place, first_entry}
-use Rattle.qcow2_alloc.proofs.KeptTables.Switching.{always_ok}
-use Rattle.qcow2_alloc.specs.CachePins.{l2_pins}
 use Rattle.qcow2_image.proofs.Clear.Between.{no_pins}
 use Rattle.qcow2_image.proofs.Prepare.LimitCauses.{hands_limit, other_limit}
 use Rattle.qcow2_image.proofs.Prepare.FailingAllocations.{taking_as}

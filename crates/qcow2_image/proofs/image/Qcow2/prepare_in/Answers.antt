@@ -1,29 +1,16 @@
 use Rattle.qcow2_image.proofs.Call.WriteSteps.{taking_where, taking_with, where_then}
 use Rattle.qcow2_image.proofs.image.Qcow2.prepare_in.Goals as goal
-use Rattle.std.proofs.Common.{◌≡◌, ◌+◌, ◌-◌, ◌/◌, ◌%◌, [], ◌∷◌, refl, sym, ap, ◌∙◌, subst, arith, inl, ◌<◌, rules}
-use Rattle.std.specs.Prelude.{None, Err}
-use Rattle.qcow2_metadata.specs.Cover.{cover}
-use Rattle.qcow2_metadata.specs.Header.{cluster_size}
-use Rattle.qcow2_metadata.specs.declared.header.HeaderFields.{HeaderFields}
-use Rattle.qcow2_alloc.specs.ImageFile.{known_in}
-use Rattle.qcow2_alloc.proofs.AllocationSteps.{handed_on}
-use Rattle.qcow2_alloc.proofs.ListedAfter.{header_format, header_then}
-use Rattle.qcow2_image.specs.CallParts.{IsReadied, PreparesRange}
-use Rattle.qcow2_image.specs.Limits.{GoesTo}
+use Rattle.qcow2_image.proofs.Common.{◌≡◌, ◌+◌, ◌-◌, ◌/◌, ◌%◌, [], ◌∷◌, refl, sym, ap, ◌∙◌, subst, arith, inl, ◌<◌, rules, None, Err, cover, cluster_size, HeaderFields, known_in, handed_on, header_format, header_then, IsReadied, PreparesRange, GoesTo, pow_pos, mod_below, CopiesCompressed, MayFailAllocating, HasPinnedMapping, l2_pins}
 use Rattle.qcow2_image.proofs.Call.Refused.{back_refused}
 use Rattle.qcow2_image.proofs.Images.Free.{free_places}
 use Rattle.qcow2_image.proofs.Prepare.RangeByParts.{release_prepared_broken, refused_free}
 use Rattle.qcow2_image.proofs.Call.FaultCounts.{counted_as, counted_still}
 use Rattle.qcow2_image.proofs.Call.ImageSteps.{step_none}
 use Rattle.qcow2_image.proofs.Prepare.LimitCauses.{goes_step, hands_limit, limited_from, places_enter}
-use Rattle.std.proofs.lemmas.Nat.{pow_pos, mod_below}
-use Rattle.qcow2_image.specs.MayFail.{CopiesCompressed, MayFailAllocating}
 use Rattle.qcow2_image.proofs.Prepare.FailingRanges.{alone_as}
 use Rattle.qcow2_image.proofs.Prepare.Unannounced.{compressed_as, compressed_at}
-use Rattle.qcow2_image.specs.Backings.{HasPinnedMapping}
 use Rattle.qcow2_image.proofs.Prepare.FailingCopies.{hands_met}
 use Rattle.qcow2_image.proofs.Prepare.FailingAllocations.{taking_as}
-use Rattle.qcow2_alloc.specs.CachePins.{l2_pins}
 
 pub returns-in-Ok-clause-reaches : goal.returns-in-Ok-clause-reaches
 returns-in-Ok-clause-reaches g c = λ out k free sound holds.

@@ -1,17 +1,5 @@
 use Rattle.qcow2_image.proofs.Call.WriteSteps.{filling_pinned, filling_then, filling_written}
-use Rattle.qcow2_image.specs.Backings.{HasPinnedMapping}
-use Rattle.qcow2_image.specs.MayFail.{IsCopiedCompressed, MayFailAllocating}
-use Rattle.qcow2_image.specs.WriteSteps.{keeping}
-use Rattle.std.proofs.Common.{◌≤◌, ◌+◌, ◌-◌, ◌%◌, ◌∙◌, List, length, inl, refl, sym, ap, subst, arith, ◌/◌, rules}
-use Rattle.qcow2_metadata.specs.Header.{cluster_size}
-use Rattle.qcow2_alloc.proofs.AllocationSteps.{handed_on}
-use Rattle.qcow2_image.specs.declared.image.Qcow2.{Qcow2}
-use Rattle.qcow2_image.specs.declared.prepared.Prepared.{Prepared}
-use Rattle.qcow2_image.specs.declared.prepared.ClusterMapping.{ClusterMapping}
-use Rattle.qcow2_image.specs.CallParts.{IsReadied, Readies}
-use Rattle.qcow2_image.specs.ImageInvariant.{pending_in}
-use Rattle.qcow2_image.specs.Ranges.{IsFirst}
-use Rattle.qcow2_image.specs.InternalSteps.{InternalFillingStep}
+use Rattle.qcow2_image.proofs.Common.{HasPinnedMapping, IsCopiedCompressed, MayFailAllocating, keeping, ◌≤◌, ◌+◌, ◌-◌, ◌%◌, ◌∙◌, List, length, inl, refl, sym, ap, subst, arith, ◌/◌, rules, cluster_size, handed_on, Qcow2, Prepared, ClusterMapping, IsReadied, Readies, pending_in, IsFirst, InternalFillingStep}
 use Rattle.qcow2_image.proofs.Prepare.FirstCluster.{listed_after_same}
 use Rattle.qcow2_image.proofs.Prepare.KeptMappings.{first_alone, readied_kept}
 use Rattle.qcow2_image.proofs.Prepare.LimitCauses.{hands_limit, hands_unlimited, other_limit}

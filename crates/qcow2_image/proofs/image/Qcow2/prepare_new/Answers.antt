@@ -1,33 +1,15 @@
 use Rattle.qcow2_image.proofs.Call.WriteSteps.{filling_pinned, taking_listed, taking_none, taking_of_filling, taking_where, where_then, where_with}
 use Rattle.qcow2_image.proofs.Call.Unlimited.{looking_unlimited, fault_unlimited}
 use Rattle.qcow2_image.proofs.image.Qcow2.prepare_new.Goals as goal
-use Rattle.std.proofs.Common.{rules, ◌≡◌, ◌≤◌, ◌-◌, ◌*◌, ◌%◌, ◌^◌, ◌++◌, [], ◌∷◌, inl, refl, sym, ap, ◌∙◌, subst, arith, List, length, ◌+◌}
-use Rattle.qcow2_metadata.specs.declared.header.HeaderFields.{HeaderFields}
-use Rattle.qcow2_metadata.specs.Header.{cluster_size, HeaderView}
-use Rattle.qcow2_laws.specs.Internal.{KeepsFormat}
-use Rattle.qcow2_alloc.proofs.ListedAfter.{header_format}
-use Rattle.qcow2_laws.specs.Changes.{with_new_data}
-use Rattle.qcow2_alloc.proofs.AllocationSteps.{handed_on}
-use Rattle.qcow2_image.specs.declared.image.Qcow2.{Qcow2}
-use Rattle.qcow2_image.specs.declared.prepared.Prepared.{Prepared}
-use Rattle.qcow2_image.specs.CallParts.{Readies, IsReadied}
-use Rattle.qcow2_image.specs.declared.prepared.ClusterMapping.{ClusterMapping}
-use Rattle.qcow2_image.specs.Ranges.{IsFirst}
-use Rattle.qcow2_image.specs.InternalSteps.{RefusedFillingStep, InternalFillingStep, HoldsAll, pending_with_listed}
-use Rattle.qcow2_image.specs.ImageInvariant.{run_of, pending_in}
+use Rattle.qcow2_image.proofs.Common.{rules, ◌≡◌, ◌≤◌, ◌-◌, ◌*◌, ◌%◌, ◌^◌, ◌++◌, [], ◌∷◌, inl, refl, sym, ap, ◌∙◌, subst, arith, List, length, ◌+◌, HeaderFields, cluster_size, HeaderView, KeepsFormat, header_format, with_new_data, handed_on, Qcow2, Prepared, Readies, IsReadied, ClusterMapping, IsFirst, RefusedFillingStep, InternalFillingStep, HoldsAll, pending_with_listed, run_of, pending_in, HasPlace, known_in, l1_index_of, IsCopiedCompressed, MayFailAllocating, HasPinnedMapping}
 use Rattle.qcow2_image.proofs.Prepare.FirstCluster.{listed_after_on, image_step_left, still_holds}
 use Rattle.qcow2_image.proofs.Prepare.InternalWrites.{image_step_kept, image_step_then}
 use Rattle.qcow2_image.proofs.Prepare.WritableL2Table.{refused as any_refusal}
 use Rattle.qcow2_image.proofs.Prepare.NewCluster.{back_none, readied_new}
 use Rattle.qcow2_image.proofs.Call.BehindHeader.{behind_zero}
 use Rattle.qcow2_image.proofs.Prepare.LimitCauses.{hands_limit, limited_more, limited_taking, other_limit}
-use Rattle.qcow2_metadata.specs.TableBytes.{HasPlace}
 use Rattle.qcow2_image.proofs.Prepare.MissingL2Table.{named_place}
-use Rattle.qcow2_alloc.specs.ImageFile.{known_in}
-use Rattle.qcow2_image.specs.Found.{l1_index_of}
 use Rattle.qcow2_image.proofs.Prepare.FailingCopies.{hands_met}
-use Rattle.qcow2_image.specs.MayFail.{IsCopiedCompressed, MayFailAllocating}
-use Rattle.qcow2_image.specs.Backings.{HasPinnedMapping}
 use Rattle.qcow2_image.proofs.Prepare.FailingAllocations.{looking_taking}
 
 pub returns-in-Ok-clause-begins : goal.returns-in-Ok-clause-begins

@@ -1,16 +1,7 @@
-use Rattle.std.proofs.Common.{◌≡◌, ◌+◌, ◌-◌, min, sym, ap, ◌∙◌, subst, arith, ◌/◌, rules}
-use Rattle.std.specs.Prelude.{Ok}
-use Rattle.qcow2_metadata.specs.Header.{cluster_size}
-use Rattle.qcow2_metadata.specs.declared.header.HeaderFields.{HeaderFields}
-use Rattle.qcow2_alloc.proofs.ListedAfter.{header_format}
-use Rattle.qcow2_image.specs.declared.prepared.Prepared.{Prepared}
-use Rattle.qcow2_image.specs.Ranges.{FindsBehind, IsExtended}
+use Rattle.qcow2_image.proofs.Common.{◌≡◌, ◌+◌, ◌-◌, min, sym, ap, ◌∙◌, subst, arith, ◌/◌, rules, Ok, cluster_size, HeaderFields, header_format, Prepared, FindsBehind, IsExtended, cover, IsCopiedCompressed, known_in}
 use Rattle.qcow2_image.proofs.Prepare.NextCluster.{extended}
 use Rattle.qcow2_image.proofs.Prepare.LimitCauses.{hands_limit}
-use Rattle.qcow2_metadata.specs.Cover.{cover}
-use Rattle.qcow2_image.specs.MayFail.{IsCopiedCompressed}
 use Rattle.qcow2_image.proofs.Prepare.FailingTables.{hands_alone}
-use Rattle.qcow2_alloc.specs.ImageFile.{known_in}
 use Rattle.qcow2_image.proofs.image.Qcow2.prepare_next.Goals as goal
 
 pub returns-in_default-clause-step : goal.returns-in_default-clause-step

@@ -1,10 +1,6 @@
 use Rattle.qcow2_image.proofs.Call.WriteSteps.{taking_of_filling, taking_where}
-use Rattle.qcow2_metadata.specs.declared.l2_mapping.L2Mapping.{L2Mapping}
-use Rattle.qcow2_image.specs.WriteSteps.{BeginsSoundly}
+use Rattle.qcow2_image.proofs.Common.{L2Mapping, BeginsSoundly, refl, ◌∙◌, subst, sym, cluster_size, MarkedIsBehind}
 use Rattle.qcow2_image.proofs.image.Qcow2.prepare_private.Goals as goal
-use Rattle.std.proofs.Common.{refl, ◌∙◌, subst, sym}
-use Rattle.qcow2_metadata.specs.Header.{cluster_size}
-use Rattle.qcow2_image.specs.PreparedPlaces.{MarkedIsBehind}
 use Rattle.qcow2_image.proofs.Map.Loading.{if_ok, if_ok_any}
 use Rattle.qcow2_image.proofs.Prepare.KeptMappings.{begins_kept}
 

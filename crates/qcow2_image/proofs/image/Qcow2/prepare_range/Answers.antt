@@ -1,29 +1,16 @@
 use Rattle.qcow2_image.proofs.image.Qcow2.prepare_range.Goals as goal
-use Rattle.std.proofs.Common.{◌≡◌, true, false, inl, refl, sym, subst, None, Option, [], ◌∷◌, ap, ◌<◌, ◌≤◌, ℕ, rules, arith}
-use Rattle.qcow2_alloc.specs.ImageFile.{known_in}
-use Rattle.qcow2_alloc.proofs.AllocationSteps.{handed_on}
-use Rattle.qcow2_image.specs.CallParts.{PreparesRange}
-use Rattle.qcow2_image.specs.Preparing.{IsPlaceOf, IsWritableAt, IsTaken}
-use Rattle.qcow2_image.specs.ImageInvariant.{meaning, pending_in}
+use Rattle.qcow2_image.proofs.Common.{◌≡◌, true, false, inl, refl, sym, subst, None, Option, [], ◌∷◌, ap, ◌<◌, ◌≤◌, ℕ, rules, arith, known_in, handed_on, PreparesRange, IsPlaceOf, IsWritableAt, IsTaken, meaning, pending_in, on_ok, IsSome, IfSome, notes_then, cluster_size, HeaderFields, NeedsOverflowingL1Entry, CopiesCompressed, MayFailAllocating, HasPinnedMapping}
 use Rattle.qcow2_image.proofs.Prepare.PreparedAnswers.{answered_before, answered_existing, answered_range, nowhere_before, taken_before}
 use Rattle.qcow2_image.proofs.Map.Loading.{if_ok}
 use Rattle.qcow2_image.proofs.Images.Free.{free_places}
-use Rattle.qcow2_alloc.proofs.Outcomes.{on_ok}
 use Rattle.qcow2_image.proofs.Prepare.Preparing.{readied_existing}
 use Rattle.qcow2_image.proofs.Call.Refused.{prepares_after, readied_after}
 use Rattle.qcow2_image.proofs.Prepare.RefusedAsPrepared.{if_err, taken_by}
-use Rattle.std.specs.Prelude.{IsSome, IfSome}
-use Rattle.qcow2_alloc.proofs.KeptMarks.{notes_then}
 use Rattle.qcow2_image.proofs.Call.BehindHeader.{behind_then}
 use Rattle.qcow2_image.proofs.Prepare.PinnedL2Tables.{found_pins, met_untaken, prepared_unpinned, unpinned_refused}
 use Rattle.qcow2_image.proofs.Prepare.LimitCauses.{hands_limit, other_limit, goes_step, limited_since, limits_as}
-use Rattle.qcow2_metadata.specs.Header.{cluster_size}
-use Rattle.qcow2_metadata.specs.declared.header.HeaderFields.{HeaderFields}
-use Rattle.qcow2_image.specs.L1Entries.{NeedsOverflowingL1Entry}
-use Rattle.qcow2_image.specs.MayFail.{CopiesCompressed, MayFailAllocating}
 use Rattle.qcow2_image.proofs.Prepare.FailingRanges.{place_kept, place_then}
 use Rattle.qcow2_image.proofs.Prepare.Unannounced.{compressed_as}
-use Rattle.qcow2_image.specs.Backings.{HasPinnedMapping}
 use Rattle.qcow2_image.proofs.Prepare.FailingCopies.{hands_met}
 use Rattle.qcow2_image.proofs.Prepare.FailingAllocations.{if_err_both, taking_as, taking_kept}
 

@@ -1,20 +1,9 @@
 use Rattle.qcow2_image.proofs.Call.WriteSteps.{taking_none, taking_then}
-use Rattle.std.proofs.Common.{◌≡◌, ◌-◌, ◌*◌, ◌%◌, ◌<◌, ◌≤◌, length, true, false, inr, refl, sym, ap, ◌∙◌, subst, arith, min, ◌+◌, rules}
-use Rattle.std.specs.Prelude.{Ok, Err, Some, None, slice_set, vec_capacity}
-use Rattle.qcow2_metadata.specs.Header.{cluster_size}
-use Rattle.qcow2_alloc.proofs.AllocationSteps.{handed_on}
-use Rattle.qcow2_alloc.proofs.ListedAfter.{header_same, header_format}
-use Rattle.qcow2_image.specs.declared.prepared.Prepared.{Prepared}
-use Rattle.qcow2_image.specs.CallParts.{IsReadied}
-use Rattle.qcow2_image.specs.Limits.{GoesTo}
-use Rattle.qcow2_image.specs.Ranges.{BreaksOff, Ends, GoesNext, GoesOn}
+use Rattle.qcow2_image.proofs.Common.{◌≡◌, ◌-◌, ◌*◌, ◌%◌, ◌<◌, ◌≤◌, length, true, false, inr, refl, sym, ap, ◌∙◌, subst, arith, min, ◌+◌, rules, Ok, Err, Some, None, slice_set, vec_capacity, cluster_size, handed_on, header_same, header_format, Prepared, IsReadied, GoesTo, BreaksOff, Ends, GoesNext, GoesOn, HeaderFields, known_in, CopiesCompressed}
 use Rattle.qcow2_image.proofs.Call.Slots.{get_set_same, length_set}
 use Rattle.qcow2_image.proofs.Prepare.RangeByParts.{may_go_on, so_far_all, so_far_ends, so_far_next}
 use Rattle.qcow2_image.proofs.Call.FaultCounts.{counted_ok, counted_on, faults_then}
 use Rattle.qcow2_image.proofs.Prepare.LimitCauses.{goes_then, hands_limit, limited_from}
-use Rattle.qcow2_metadata.specs.declared.header.HeaderFields.{HeaderFields}
-use Rattle.qcow2_alloc.specs.ImageFile.{known_in}
-use Rattle.qcow2_image.specs.MayFail.{CopiesCompressed}
 use Rattle.qcow2_image.proofs.Prepare.FailingTables.{hands_alone}
 use Rattle.qcow2_image.proofs.Prepare.FollowingCluster.{next_begins}
 use Rattle.qcow2_image.proofs.Prepare.FailingRanges.{alone_as}

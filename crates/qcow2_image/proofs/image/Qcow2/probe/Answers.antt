@@ -1,4 +1,4 @@
-use Rattle.std.proofs.Common.{◌∙◌, sym}
+use Rattle.qcow2_image.proofs.Common.{◌∙◌, sym}
 use Rattle.qcow2_image.proofs.Open.Probing.{magic_at, version_at, begins_as, either_version, other_version, no_magic}
 use Rattle.qcow2_image.proofs.image.Qcow2.probe.Goals.{then-magic-eq-MAGIC+then-version-eq2, then-magic-eq-MAGIC+else-version-eq2, else-magic-eq-MAGIC}
 use Rattle.qcow2_image.proofs.image.Qcow2.probe.Goals as goal

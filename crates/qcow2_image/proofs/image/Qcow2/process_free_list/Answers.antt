@@ -1,12 +1,8 @@
-use Rattle.std.proofs.Common.{subst, rules, Some}
-use Rattle.std.specs.Prelude.{IfSome}
-use Rattle.qcow2_alloc.specs.FreeList.{with_listed}
-use Rattle.qcow2_alloc.specs.KeptAllocators.{IsAllocatorOf}
+use Rattle.qcow2_image.proofs.Common.{subst, rules, Some, IfSome, with_listed, IsAllocatorOf, notes_of_both}
 use Rattle.qcow2_image.proofs.Call.Answered.{freeing_step_kept}
 use Rattle.qcow2_image.proofs.Flush.Freeing.{frees_listed, frees_fault}
 use Rattle.qcow2_image.proofs.Images.Moving.{leaked_still}
 use Rattle.qcow2_image.proofs.Prepare.UnlinkedL2Table.{keeps_none}
-use Rattle.qcow2_alloc.proofs.KeptMarks.{notes_of_both}
 use Rattle.qcow2_image.proofs.Call.BehindHeader.{behind_freed}
 use Rattle.qcow2_image.proofs.Call.ImageSteps.{step_none}
 use Rattle.qcow2_image.proofs.image.Qcow2.process_free_list.Goals as goal

@@ -1,7 +1,4 @@
-use Rattle.qcow2_alloc.proofs.Outcomes.{not_both}
-use Rattle.std.proofs.Common.{◌≡◌, inl, inr, refl, sym, ◌∙◌, subst, Ok, Err, rules, []}
-use Rattle.qcow2_laws.specs.CrashInvariant.{Pending}
-use Rattle.qcow2_image.specs.ImageInvariant.{ImageInvariant}
+use Rattle.qcow2_image.proofs.Common.{not_both, ◌≡◌, inl, inr, refl, sym, ◌∙◌, subst, Ok, Err, rules, [], Pending, ImageInvariant}
 use Rattle.qcow2_image.proofs.Flush.Freeing.{all_listed, beside, freed_refused, tidy_stays}
 use Rattle.qcow2_image.proofs.Call.FaultCounts.{counted_as, counted_still}
 use Rattle.qcow2_image.proofs.Call.ImageSteps.{step_none}

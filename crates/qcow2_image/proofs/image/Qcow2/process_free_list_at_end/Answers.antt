@@ -1,15 +1,7 @@
-use Rattle.std.proofs.Common.{refl, sym, ap, ◌∙◌, subst, rules}
-use Rattle.std.specs.Prelude.{Result}
-use Rattle.qcow2_laws.specs.CrashInvariant.{Pending}
-use Rattle.qcow2_image.specs.declared.image.Qcow2.{Qcow2}
-use Rattle.qcow2_image.specs.Image.{is_failed}
-use Rattle.qcow2_image.specs.CallParts.{EndsFreeing}
-use Rattle.qcow2_image.specs.ImageInvariant.{ImageInvariant}
-use Rattle.qcow2_image.specs.Refusals.{MarksFailed}
+use Rattle.qcow2_image.proofs.Common.{refl, sym, ap, ◌∙◌, subst, rules, Result, Pending, Qcow2, is_failed, EndsFreeing, ImageInvariant, MarksFailed, notes_then}
 use Rattle.qcow2_image.proofs.Flush.Freeing.{all_listed, beside, ends_freeing}
 use Rattle.qcow2_image.proofs.Call.FaultCounts.{counted_marked, untouched}
 use Rattle.qcow2_image.proofs.Call.Marked.{marks_memory, may_mark}
-use Rattle.qcow2_alloc.proofs.KeptMarks.{notes_then}
 use Rattle.qcow2_image.proofs.Call.Notes.{same_kept}
 use Rattle.qcow2_image.proofs.Call.BehindHeader.{behind_by, behind_none, behind_then}
 use Rattle.qcow2_image.proofs.image.Qcow2.process_free_list_at_end.Goals as goal

@@ -1,7 +1,5 @@
-use Rattle.std.proofs.Common.{ap, replicate, rules}
-use Rattle.qcow2_alloc.proofs.KeptMarks.{notes_of_storage, told_kept}
+use Rattle.qcow2_image.proofs.Common.{ap, replicate, rules, notes_of_storage, told_kept, of_storage}
 use Rattle.qcow2_image.proofs.Call.BehindHeader.{behind_guard, behind_wrote}
-use Rattle.qcow2_alloc.specs.ImageError.{of_storage}
 use Rattle.qcow2_image.proofs.Call.Unlimited.{storage_fault, storage_unlimited}
 use Rattle.qcow2_image.proofs.Prepare.LimitCauses.{hands_fault, hands_unlimited}
 use Rattle.qcow2_image.proofs.Call.ImageSteps.{step_none}

@@ -1,26 +1,10 @@
-use Rattle.std.proofs.Common.{◌≡◌, ℕ, ◌+◌, ◌/◌, ◌<◌, List, length, replicate, refl, sym, ap, ◌∙◌, subst, rules, is_some, inl, inr}
-use Rattle.std.proofs.lemmas.List.{length-replicate, get_or-replicate}
-use Rattle.image_access.specs.Contents.{bytes_at}
-use Rattle.image_access.proofs.Bytes.{byte_at-bytes_at, length-bytes_at}
-use Rattle.qcow2_metadata.specs.Bytes.{byte_at}
-use Rattle.qcow2_metadata.specs.Guest.{known_byte}
-use Rattle.qcow2_metadata.specs.Header.{cluster_size}
-use Rattle.qcow2_metadata.specs.Cover.{cover}
-use Rattle.qcow2_disk.specs.Disk.{disk}
-use Rattle.qcow2_alloc.specs.MetadataCaches.{known_of}
-use Rattle.qcow2_alloc.specs.ImageFile.{known_in, state_in, view_in}
-use Rattle.qcow2_image.specs.Found.{found_kind, is_data_file}
-use Rattle.qcow2_image.specs.ImageInvariant.{backing_bytes, disk_of}
-use Rattle.qcow2_alloc.proofs.KeptMarks.{notes_of_storage}
+use Rattle.qcow2_image.proofs.Common.{◌≡◌, ℕ, ◌+◌, ◌/◌, ◌<◌, List, length, replicate, refl, sym, ap, ◌∙◌, subst, rules, is_some, inl, inr, length-replicate, get_or-replicate, bytes_at, byte_at-bytes_at, length-bytes_at, byte_at, known_byte, cluster_size, cover, disk, known_of, known_in, state_in, view_in, found_kind, is_data_file, backing_bytes, disk_of, notes_of_storage, read_kept, MayFailReading, IsSpecial, IsFault, of_storage}
 use Rattle.qcow2_image.proofs.Map.Loading.{read_moved, if_ok}
 use Rattle.qcow2_image.proofs.Map.Reading.{raw_shown, zero_shown, indirect_shown, none_below}
-use Rattle.qcow2_alloc.proofs.KeptNotes.{read_kept}
 use Rattle.qcow2_image.proofs.Call.BehindHeader.{behind_read}
 use Rattle.qcow2_image.proofs.Map.Quiet.{reads_bytes, reads_same}
 use Rattle.qcow2_image.proofs.Prepare.FailingCopies.{hands_met, met_as}
-use Rattle.qcow2_image.specs.MayFail.{MayFailReading, IsSpecial}
 use Rattle.qcow2_image.proofs.Call.Unlimited.{storage_fault}
-use Rattle.qcow2_alloc.specs.ImageError.{IsFault, of_storage}
 use Rattle.qcow2_image.proofs.image.Qcow2.read_as.Goals as goal
 
 pub returns-in_err-read-in-Raw-clause-keeps : goal.returns-in_err-read-in-Raw-clause-keeps

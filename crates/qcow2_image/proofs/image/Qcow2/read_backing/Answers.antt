@@ -1,8 +1,4 @@
-use Rattle.std.proofs.Common.{◌≡◌, ℕ, ◌+◌, ◌<◌, List, length, sym, ap, ◌∙◌, subst}
-use Rattle.image_access.specs.Contents.{bytes_at}
-use Rattle.image_access.proofs.Bytes.{byte_at-bytes_at, length-bytes_at}
-use Rattle.qcow2_metadata.specs.Bytes.{byte_at}
-use Rattle.qcow2_image.specs.ImageInvariant.{IsHonestBacking, backing_bytes}
+use Rattle.qcow2_image.proofs.Common.{◌≡◌, ℕ, ◌+◌, ◌<◌, List, length, sym, ap, ◌∙◌, subst, bytes_at, byte_at-bytes_at, length-bytes_at, byte_at, IsHonestBacking, backing_bytes}
 use Rattle.qcow2_image.proofs.image.Qcow2.read_backing.Goals as goal
 
 pub returns-clause-reads : goal.returns-clause-reads

@@ -1,14 +1,6 @@
 use Rattle.qcow2_image.proofs.Call.MarkedCalls.{reading_marked}
-use Rattle.std.proofs.Common.{◌≡◌, ◌+◌, ◌<◌, [], sym, ◌∙◌, subst, rules, arith, length}
-use Rattle.std.specs.Prelude.{OnOk, Result, IfErr}
-use Rattle.qcow2_disk.specs.Calls.{Shows, IsSame}
-use Rattle.qcow2_disk.specs.AbstractImages.{guest_of}
-use Rattle.qcow2_image.specs.Calls.{AnswersCall}
-use Rattle.qcow2_image.specs.declared.image.Qcow2.{Qcow2}
-use Rattle.qcow2_image.specs.Found.{IsFoundWhole, further_by}
-use Rattle.qcow2_image.specs.Image.{is_failed}
+use Rattle.qcow2_image.proofs.Common.{◌≡◌, ◌+◌, ◌<◌, [], sym, ◌∙◌, subst, rules, arith, length, OnOk, Result, IfErr, Shows, IsSame, guest_of, AnswersCall, Qcow2, IsFoundWhole, further_by, is_failed, pending_in, IsCacheHeld, MayFailMapped, FitsTables}
 use Rattle.qcow2_image.proofs.Call.Marked.{may_mark}
-use Rattle.qcow2_image.specs.ImageInvariant.{pending_in}
 use Rattle.qcow2_image.proofs.Call.Answers.{usable_works}
 use Rattle.qcow2_image.proofs.Call.Called.{told_answers, tells_quietly, quietly_then}
 use Rattle.qcow2_image.proofs.Grow.L1Lengths.{on_ok}
@@ -17,9 +9,7 @@ use Rattle.qcow2_image.proofs.Map.Looked.{found_after, found_before}
 use Rattle.qcow2_image.proofs.Call.OnceWritten.{fails_none}
 use Rattle.qcow2_image.proofs.Map.FailingLookups.{held_since}
 use Rattle.qcow2_image.proofs.Prepare.FailingCopies.{mapped_met_at, met_as}
-use Rattle.qcow2_image.specs.MayFail.{IsCacheHeld, MayFailMapped}
 use Rattle.qcow2_image.proofs.Map.Held.{heeds_on, keeps_marked}
-use Rattle.qcow2_image.specs.HeldMappings.{FitsTables}
 use Rattle.qcow2_image.proofs.image.Qcow2.read_mapped.Goals as goal
 
 pub returns-clause-sound : goal.returns-clause-sound

@@ -1,17 +1,4 @@
-use Rattle.std.proofs.Common.{◌≡◌, ◌∙◌, ◌*◌, ◌<◌, ◌≤◌, List, ℕ, Result, inr, refl, sym, ap, subst}
-use Rattle.std.specs.Prelude.{IfErr}
-use Rattle.qcow2_metadata.specs.Bytes.{byte_at}
-use Rattle.qcow2_metadata.specs.Header.{HeaderView, header, entries_per_cluster, with_tables_of}
-use Rattle.qcow2_metadata.specs.HeaderLoad.{IsReasonToRefuse}
-use Rattle.qcow2_metadata.specs.declared.error.MetadataError.{MetadataError}
-use Rattle.qcow2_metadata.specs.declared.header.HeaderFields.{HeaderFields}
-use Rattle.qcow2_alloc.specs.ImageError.{of_metadata}
-use Rattle.qcow2_alloc.specs.ImageFile.{contents_in, view_in}
-use Rattle.qcow2_alloc.specs.declared.error.ImageError.{ImageError}
-use Rattle.qcow2_alloc.proofs.AllocationSteps.{handed_on}
-use Rattle.qcow2_image.specs.Image.{is_writable}
-use Rattle.qcow2_image.specs.Invalidated.{IsReasonAgainstPlaces}
-use Rattle.qcow2_image.specs.Unwritten.{ContentsStayThroughout}
+use Rattle.qcow2_image.proofs.Common.{◌≡◌, ◌∙◌, ◌*◌, ◌<◌, ◌≤◌, List, ℕ, Result, inr, refl, sym, ap, subst, IfErr, byte_at, HeaderView, header, entries_per_cluster, with_tables_of, IsReasonToRefuse, MetadataError, HeaderFields, of_metadata, contents_in, view_in, ImageError, handed_on, is_writable, IsReasonAgainstPlaces, ContentsStayThroughout}
 use Rattle.qcow2_image.proofs.Map.Loading.{read_moved}
 use Rattle.qcow2_image.proofs.Map.Quiet.{kept_throughout}
 use Rattle.qcow2_image.proofs.Invalidate.Reading.{notes_through, places_read, same_notes, silent_moved, silent_read, silent_then}

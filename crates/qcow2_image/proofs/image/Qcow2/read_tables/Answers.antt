@@ -1,22 +1,4 @@
-use Rattle.std.proofs.Common.{◌≡◌, ◌∙◌, Some, refl, sym, ap, subst}
-use Rattle.std.specs.Prelude.{Option, IfSome, is_some}
-use Rattle.qcow2_alloc.specs.BehindHeader.{LeaveHeaderCluster}
-use Rattle.qcow2_alloc.specs.ImageFile.{contents_in, view_in, AllocatorInvariant, HasReftable}
-use Rattle.qcow2_alloc.specs.KeptAllocators.{IsAllocatorOf}
-use Rattle.qcow2_alloc.specs.LowestRuns.{NoFreeBelowHint}
-use Rattle.qcow2_alloc.proofs.KeptAllocators.{spared_kept}
-use Rattle.qcow2_laws.specs.CrashInvariant.{Pending}
-use Rattle.qcow2_metadata.specs.EntryTable.{IsL1TableOf}
-use Rattle.qcow2_alloc.specs.declared.allocation.Allocator.{Allocator}
-use Rattle.qcow2_alloc.specs.declared.image_file.ImageFile.{ImageFile}
-use Rattle.qcow2_alloc.specs.SparedHeaders.{NamesReftableBehind, StandsBehindHeader}
-use Rattle.qcow2_image.specs.BehindHeader.{TablesBehindHeader}
-use Rattle.qcow2_image.specs.Image.{leaked_by}
-use Rattle.qcow2_image.specs.ImageInvariant.{HasL1Table}
-use Rattle.qcow2_image.specs.Invalidated.{ReadsTables}
-use Rattle.qcow2_image.specs.InternalSteps.{InternalStep}
-use Rattle.qcow2_image.specs.Unwritten.{ContentsStayThroughout}
-use Rattle.qcow2_image.specs.declared.image.Qcow2.{Qcow2}
+use Rattle.qcow2_image.proofs.Common.{◌≡◌, ◌∙◌, Some, refl, sym, ap, subst, Option, IfSome, is_some, LeaveHeaderCluster, contents_in, view_in, AllocatorInvariant, HasReftable, IsAllocatorOf, NoFreeBelowHint, spared_kept, Pending, IsL1TableOf, Allocator, ImageFile, NamesReftableBehind, StandsBehindHeader, TablesBehindHeader, leaked_by, HasL1Table, ReadsTables, InternalStep, ContentsStayThroughout, Qcow2}
 use Rattle.qcow2_image.proofs.Map.Quiet.{kept_throughout}
 use Rattle.qcow2_image.proofs.Invalidate.Dropped.{with_tables}
 use Rattle.qcow2_image.proofs.Invalidate.Reading.{begins_of, both_behind, l1_behind, l1_still, notes_through, silent_moved, silent_then, tables_read}

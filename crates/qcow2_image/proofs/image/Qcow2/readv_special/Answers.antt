@@ -1,17 +1,9 @@
-use Rattle.std.proofs.Common.{◌≡◌, ◌∙◌, ◌⊎◌, inl, inr, [], IfErr, length, subst, arith, rules}
-use Rattle.std.proofs.lemmas.Bool.{cases_lt}
-use Rattle.qcow2_disk.specs.Calls.{not_compressed, storage}
-use Rattle.qcow2_alloc.specs.ImageFile.{known_in}
-use Rattle.qcow2_alloc.proofs.AllocationSteps.{handed_on}
-use Rattle.qcow2_alloc.specs.declared.error.ImageError.TheVariants.{Compressed, NotCompressed, Memory}
-use Rattle.qcow2_image.specs.Refusals.{MayFail}
+use Rattle.qcow2_image.proofs.Common.{◌≡◌, ◌∙◌, ◌⊎◌, inl, inr, [], IfErr, length, subst, arith, rules, cases_lt, not_compressed, storage, known_in, handed_on, NotCompressed, Memory, MayFail, FailsOnceWritten, err_as, IsCacheHeld, MayFailLooking}
+use Rattle.qcow2_alloc.specs.declared.error.ImageError.TheVariants.{Compressed}
 use Rattle.qcow2_image.specs.SpecialReads.{ReportsCompressed}
 use Rattle.qcow2_image.proofs.Call.Answers.{answers_err}
 use Rattle.qcow2_image.proofs.Map.Special.{refuses_after}
 use Rattle.qcow2_image.proofs.Images.Sizes.{sound_is_usable}
-use Rattle.qcow2_image.specs.Noted.{FailsOnceWritten}
-use Rattle.qcow2_alloc.proofs.Outcomes.{err_as}
-use Rattle.qcow2_image.specs.MayFail.{IsCacheHeld, MayFailLooking}
 use Rattle.qcow2_image.proofs.Prepare.FailingCopies.{hands_met}
 use Rattle.qcow2_image.proofs.image.Qcow2.readv_special.Goals as goal
 

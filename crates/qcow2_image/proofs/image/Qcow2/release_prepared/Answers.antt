@@ -1,15 +1,8 @@
 use Rattle.qcow2_image.proofs.Call.Notes.{pins_kept}
-use Rattle.std.proofs.Common.{◌≡◌, ℕ, ◌-◌, refl, sym, ap, ◌∙◌, subst, rules}
-use Rattle.qcow2_alloc.specs.CachePins.{SameTables, l2_pins}
-use Rattle.qcow2_image.specs.declared.image.Qcow2.{Qcow2}
-use Rattle.qcow2_alloc.specs.ImageFile.{contents_in}
-use Rattle.qcow2_image.specs.Ranges.{ReleasesOneMapping}
-use Rattle.qcow2_image.specs.Calls.{Discards}
-use Rattle.qcow2_image.specs.ImageInvariant.{pins_of}
+use Rattle.qcow2_image.proofs.Common.{◌≡◌, ℕ, ◌-◌, refl, sym, ap, ◌∙◌, subst, rules, SameTables, l2_pins, Qcow2, contents_in, ReleasesOneMapping, Discards, pins_of, AreClean}
 use Rattle.qcow2_image.proofs.Commit.Released.{discards}
 use Rattle.qcow2_image.proofs.Call.FaultCounts.{untouched}
 use Rattle.qcow2_image.proofs.Call.BehindHeader.{behind_by, behind_none, behind_tables, behind_then}
-use Rattle.qcow2_laws.specs.Caches.{AreClean}
 use Rattle.qcow2_image.proofs.image.Qcow2.release_prepared.Goals as goal
 
 pub returns-clause-sees : goal.returns-clause-sees

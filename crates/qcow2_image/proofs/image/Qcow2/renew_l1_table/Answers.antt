@@ -1,5 +1,4 @@
-use Rattle.std.proofs.Common.{subst, sym}
-use Rattle.std.specs.Prelude.{IsTrue}
+use Rattle.qcow2_image.proofs.Common.{subst, sym, IsTrue}
 use Rattle.qcow2_image.proofs.Call.Fails.{fails_freed}
 use Rattle.qcow2_image.proofs.Call.FreedBehind.{met_freed, refused_freed}
 use Rattle.qcow2_image.proofs.Call.Refused.{back_then_freed}

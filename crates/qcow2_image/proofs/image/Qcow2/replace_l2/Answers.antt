@@ -1,19 +1,12 @@
 use Rattle.qcow2_image.proofs.Call.Unlimited.{looking_unlimited}
-use Rattle.qcow2_laws.specs.Guests.{table_at}
+use Rattle.qcow2_image.proofs.Common.{table_at, inl, refl, rules, ◌≡◌, sym, arith, GoesTo, OwnsTable, notes_then, notes_of_both, contents_in, HasPinnedMapping, MayFailAllocating}
 use Rattle.qcow2_image.proofs.image.Qcow2.replace_l2.Goals as goal
-use Rattle.std.proofs.Common.{inl, refl, rules, ◌≡◌, sym, arith}
-use Rattle.qcow2_image.specs.Limits.{GoesTo}
-use Rattle.qcow2_image.specs.NewTables.{OwnsTable}
 use Rattle.qcow2_image.proofs.Prepare.UnlinkedL2Table.{as_listed_after}
 use Rattle.qcow2_image.proofs.Map.Loading.{caches_moved, with_caches}
 use Rattle.qcow2_image.proofs.Prepare.WritableL2Table.{followed, refused, says_copy, shared_still, owned_then}
-use Rattle.qcow2_alloc.proofs.KeptMarks.{notes_then, notes_of_both}
 use Rattle.qcow2_image.proofs.Call.BehindHeader.{behind_caches, behind_then, behind_first, above_zero}
 use Rattle.qcow2_image.proofs.Prepare.LimitCauses.{hands_limit, limited_in_since, limits_as, other_limit}
-use Rattle.qcow2_alloc.specs.ImageFile.{contents_in}
 use Rattle.qcow2_image.proofs.Prepare.MissingL2Table.{named_place, loads_looking}
-use Rattle.qcow2_image.specs.Backings.{HasPinnedMapping}
-use Rattle.qcow2_image.specs.MayFail.{MayFailAllocating}
 use Rattle.qcow2_image.proofs.Prepare.FailingCopies.{hands_met}
 use Rattle.qcow2_image.proofs.Prepare.FailingAllocations.{looking_taking}
 

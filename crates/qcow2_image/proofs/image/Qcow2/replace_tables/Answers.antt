@@ -1,14 +1,4 @@
-use Rattle.std.proofs.Common.{◌≡◌, ◌∙◌, ◌*◌, ◌≤◌, Result, refl, sym, ap, subst}
-use Rattle.std.specs.Prelude.{IfErr}
-use Rattle.qcow2_metadata.specs.Header.{HeaderView, entries_per_cluster, with_fields, with_tables_of}
-use Rattle.qcow2_alloc.specs.ImageFile.{contents_in}
-use Rattle.qcow2_alloc.specs.declared.error.ImageError.{ImageError}
-use Rattle.qcow2_alloc.proofs.AllocationSteps.{handed_on}
-use Rattle.qcow2_image.specs.Image.{is_writable}
-use Rattle.qcow2_image.specs.ImageSteps.{ImageFails}
-use Rattle.qcow2_image.specs.Invalidated.{KeepsTables, ReplacesTables}
-use Rattle.qcow2_image.specs.Readable.{IsReasonAgainstTables}
-use Rattle.qcow2_image.specs.Refusals.{MayFail}
+use Rattle.qcow2_image.proofs.Common.{◌≡◌, ◌∙◌, ◌*◌, ◌≤◌, Result, refl, sym, ap, subst, IfErr, HeaderView, entries_per_cluster, with_fields, with_tables_of, contents_in, ImageError, handed_on, is_writable, ImageFails, KeepsTables, ReplacesTables, IsReasonAgainstTables, MayFail}
 use Rattle.qcow2_image.proofs.Invalidate.TakenOver.{all_taken, counts_named, header_stays, none_taken, on_refused, places_taken, sound_named, step_over, tables_kept, tables_named, with_header}
 use Rattle.qcow2_image.proofs.image.Qcow2.replace_tables.Goals as goal
 

@@ -1,13 +1,7 @@
 use Rattle.qcow2_image.proofs.image.Qcow2.resize_grow.Goals as goal
 use Rattle.qcow2_image.proofs.Call.OnceWritten.{fails_none}
-use Rattle.std.proofs.Common.{◌≡◌, ◌≤◌, ◌∙◌, inl, inr, sym, subst, refl, arith, rules}
-use Rattle.std.specs.Prelude.{IsTrue, Result}
-use Rattle.image_access.proofs.EachMomentSince.{passes_none}
-use Rattle.image_access.specs.declared.storage.PreallocateMode.{PreallocateMode}
-use Rattle.qcow2_alloc.proofs.Outcomes.{never}
-use Rattle.qcow2_alloc.specs.ImageFile.{view_in}
+use Rattle.qcow2_image.proofs.Common.{◌≡◌, ◌≤◌, ◌∙◌, inl, inr, sym, subst, refl, arith, rules, IsTrue, Result, passes_none, PreallocateMode, never, view_in, GrowsTo, refuses_to_resize, takes_over}
 use Rattle.qcow2_image.proofs.Resize.StepCalls.{some_none}
-use Rattle.qcow2_image.specs.Resizing.{GrowsTo, refuses_to_resize, takes_over}
 use Rattle.qcow2_image.proofs.Clear.ClearCalls.{err_is, not_refused, refused_for}
 use Rattle.qcow2_image.proofs.Resize.GrowCalls.{grows_early, grows_nothing, grows_over, last_none}
 use Rattle.qcow2_image.proofs.Resize.ShrinkCalls.{resize_works}

@@ -1,13 +1,6 @@
 use Rattle.qcow2_image.proofs.Call.OnceWritten.{fails_none}
-use Rattle.std.proofs.Common.{◌≡◌, ◌-◌, ◌≤◌, ◌∙◌, refl, sym, subst, arith, rules}
-use Rattle.std.specs.Prelude.{None, Ok, Result, Some}
-use Rattle.image_access.proofs.EachMomentSince.{passes_none}
-use Rattle.qcow2_alloc.proofs.AllocationSteps.{handed_on}
-use Rattle.qcow2_alloc.specs.ImageFile.{known_in, l2_pins, view_in}
-use Rattle.qcow2_image.specs.Image.{size_of}
-use Rattle.qcow2_image.specs.Resizing.{Shrinks, ShrinksSoundly, DiscardsClusters, boundary_in, refuses_to_resize}
-use Rattle.std.proofs.lemmas.Nat.{pow_pos}
-use Rattle.qcow2_metadata.specs.Header.{cluster_size}
+use Rattle.qcow2_image.proofs.Common.{◌≡◌, ◌-◌, ◌≤◌, ◌∙◌, refl, sym, subst, arith, rules, None, Ok, Result, Some, passes_none, handed_on, known_in, view_in, size_of, Shrinks, ShrinksSoundly, DiscardsClusters, boundary_in, refuses_to_resize, pow_pos, cluster_size}
+use Rattle.qcow2_alloc.specs.ImageFile.{l2_pins}
 use Rattle.qcow2_image.proofs.Images.Backings.{found_pinned, none_prepared}
 use Rattle.qcow2_image.proofs.Clear.Touched.{rounded_from}
 use Rattle.qcow2_image.proofs.Clear.ClearCalls.{err_is, not_refused, refused_for}

@@ -1,16 +1,6 @@
-use Rattle.std.proofs.Common.{◌≡◌, ℕ, ◌+◌, ◌-◌, ◌/◌, ◌%◌, ◌^◌, ◌<◌, sym, ap, ◌∙◌, subst, arith, min, refl, is_some, Some, false, true}
-use Rattle.qcow2_metadata.specs.Header.{cluster_size, entries_per_cluster}
-use Rattle.qcow2_metadata.specs.Cover.{cover}
-use Rattle.qcow2_disk.specs.Alike.{IsLongestRun}
-use Rattle.qcow2_laws.proofs.Places.{Sizes-from}
-use Rattle.qcow2_laws.proofs.Tops.{IsTop-top}
-use Rattle.qcow2_alloc.specs.ImageFile.{contents_in, known_in}
-use Rattle.qcow2_disk.specs.Found.{kind_at}
-use Rattle.qcow2_image.specs.Found.{mapping_of, l1_index_of, IsRunBehind}
+use Rattle.qcow2_image.proofs.Common.{◌≡◌, ℕ, ◌+◌, ◌-◌, ◌/◌, ◌%◌, ◌^◌, ◌<◌, sym, ap, ◌∙◌, subst, arith, min, refl, is_some, Some, false, true, cluster_size, entries_per_cluster, cover, IsLongestRun, Sizes-from, IsTop-top, contents_in, known_in, kind_at, mapping_of, l1_index_of, IsRunBehind, l2_at, IsLongestSo, named_place}
 use Rattle.qcow2_image.proofs.Map.Looked.{cluster_near, says_known, run_found}
 use Rattle.qcow2_image.proofs.Map.Held.{run_held}
-use Rattle.qcow2_alloc.specs.MetadataCaches.{l2_at}
-use Rattle.qcow2_image.specs.HeldMappings.{IsLongestSo, named_place}
 use Rattle.qcow2_image.proofs.Map.Aligned.{entries_aligned}
 use Rattle.qcow2_image.proofs.image.Qcow2.run_in_table.Goals as goal
 

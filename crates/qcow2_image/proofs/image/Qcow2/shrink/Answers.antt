@@ -1,16 +1,4 @@
-use Rattle.std.proofs.Common.{◌≡◌, ◌∙◌, ◌-◌, inl, inr, sym, ap, subst, rules}
-use Rattle.std.specs.Prelude.{Err, IfSome, MatchOption}
-use Rattle.image_access.proofs.EachMomentSince.{passes_none}
-use Rattle.qcow2_metadata.specs.Header.{cluster_size, rounded_up}
-use Rattle.qcow2_alloc.specs.KeptMarks.{HaveRisen}
-use Rattle.std.proofs.lemmas.Bool.{ltb-true}
-use Rattle.qcow2_alloc.specs.ImageError.{IsFault}
-use Rattle.qcow2_alloc.specs.ImageFile.{view_in}
-use Rattle.qcow2_alloc.specs.ImageStorage.{is_changed_of}
-use Rattle.qcow2_image.specs.declared.image.Qcow2.{Qcow2}
-use Rattle.qcow2_image.specs.Image.{is_failed, size_of}
-use Rattle.qcow2_image.specs.Refusals.{MarksRefused}
-use Rattle.qcow2_image.specs.Resizing.{Shrinks, DiscardsTail, WritesSizeLast, boundary_in}
+use Rattle.qcow2_image.proofs.Common.{◌≡◌, ◌∙◌, ◌-◌, inl, inr, sym, ap, subst, rules, Err, IfSome, MatchOption, passes_none, cluster_size, rounded_up, HaveRisen, ltb-true, IsFault, view_in, is_changed_of, Qcow2, is_failed, size_of, MarksRefused, Shrinks, DiscardsTail, WritesSizeLast, boundary_in, ReportsEachIn, ReportsFault}
 use Rattle.qcow2_image.specs.declared.discarding.ClearMode.TheVariants.{Uncovered}
 use Rattle.qcow2_image.proofs.Clear.ClearCalls.{covers_after}
 use Rattle.qcow2_image.proofs.Resize.RecordedChanges.{same_noted, shrinks_noted}
@@ -18,7 +6,6 @@ use Rattle.qcow2_image.proofs.Resize.Shrinking.{shrinks_done, shrinks_stopped, s
 use Rattle.qcow2_image.proofs.Resize.ShrinkCalls.{resize_writable}
 use Rattle.qcow2_image.proofs.Call.Marked.{may_mark_refused, noted_marks, refused_on, refused_since}
 use Rattle.qcow2_image.proofs.Call.FaultCounts.{counted_as, counted_still}
-use Rattle.qcow2_image.specs.Faults.{ReportsEachIn, ReportsFault}
 use Rattle.qcow2_image.proofs.Call.OnceWritten.{call_then, changes_later, failed_part, kept_fewer, notes_part, refused_once, answered_counts, counts_noted}
 use Rattle.qcow2_image.proofs.Call.BehindHeader.{behind_by, behind_none, behind_then}
 use Rattle.qcow2_image.proofs.image.Qcow2.shrink.Goals as goal

@@ -1,4 +1,4 @@
-use Rattle.std.proofs.Common.{◌∙◌}
+use Rattle.qcow2_image.proofs.Common.{◌∙◌}
 use Rattle.qcow2_image.proofs.Images.Sizes.{disk_size}
 use Rattle.qcow2_image.proofs.image.Qcow2.size.Goals as goal
 

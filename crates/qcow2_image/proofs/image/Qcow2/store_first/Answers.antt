@@ -1,10 +1,7 @@
-use Rattle.std.proofs.Common.{rules}
-use Rattle.qcow2_alloc.proofs.KeptMarks.{notes_of_both}
+use Rattle.qcow2_image.proofs.Common.{rules, notes_of_both, contents_in, named_have_places}
 use Rattle.qcow2_image.proofs.Map.Loading.{caches_moved, with_caches}
 use Rattle.qcow2_image.proofs.Prepare.WrittenBeforeNaming.{stores_counts}
 use Rattle.qcow2_image.proofs.Call.BehindHeader.{behind_caches}
-use Rattle.qcow2_alloc.specs.ImageFile.{contents_in}
-use Rattle.qcow2_alloc.proofs.KeptTables.Places.{named_have_places}
 use Rattle.qcow2_image.proofs.image.Qcow2.store_first.Goals as goal
 
 pub returns-clause-stores : goal.returns-clause-stores

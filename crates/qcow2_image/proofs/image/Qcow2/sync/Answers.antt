@@ -1,12 +1,4 @@
-use Rattle.std.proofs.Common.{◌≡◌, [], sym, ◌∙◌, subst, rules}
-use Rattle.std.specs.Prelude.{Result, IfErr}
-use Rattle.qcow2_disk.specs.Calls.{IsSame}
-use Rattle.qcow2_alloc.specs.ImageError.{IsFault}
-use Rattle.qcow2_alloc.specs.ImageFile.{view_in}
-use Rattle.qcow2_image.specs.Calls.{AnswersCall}
-use Rattle.qcow2_image.specs.declared.image.Qcow2.{Qcow2}
-use Rattle.qcow2_image.specs.Image.{is_failed}
-use Rattle.qcow2_image.specs.Unwritten.{ContentsStayThroughout}
+use Rattle.qcow2_image.proofs.Common.{◌≡◌, [], sym, ◌∙◌, subst, rules, Result, IfErr, IsSame, IsFault, view_in, AnswersCall, Qcow2, is_failed, ContentsStayThroughout}
 use Rattle.qcow2_image.proofs.Call.BehindHeader.{behind_call}
 use Rattle.qcow2_image.proofs.Call.Called.{told_answers, tells_quietly, quietly_then}
 use Rattle.qcow2_image.proofs.Call.FaultCounts.{counted_marked}

@@ -1,6 +1,4 @@
-use Rattle.std.proofs.Common.{rules, refl}
-use Rattle.qcow2_alloc.proofs.KeptMarks.{notes_of_storage}
-use Rattle.qcow2_alloc.proofs.KeptNotes.{read_kept}
+use Rattle.qcow2_image.proofs.Common.{rules, refl, notes_of_storage, read_kept}
 use Rattle.qcow2_image.proofs.Call.BehindHeader.{behind_read}
 use Rattle.qcow2_image.proofs.Map.Loading.{read_moved}
 use Rattle.qcow2_image.proofs.Map.Quiet.{kept_throughout, reads_bytes}

@@ -1,17 +1,10 @@
-use Rattle.qcow2_image.specs.L1Entries.{HasNearEntry, HasOwnTable}
+use Rattle.qcow2_image.proofs.Common.{HasNearEntry, HasOwnTable, ◌≡◌, ◌⊎◌, ◌*◌, ◌/◌, ◌^◌, Ok, arith, sym, ap, ◌∙◌, subst, ◌≤◌, inr, inl, rules, host_offset, is_copied, l1_index_of, OwnsTable, MayName, entry_count, entry_at, NamesOwn}
 use Rattle.qcow2_image.proofs.Call.ImageSteps.{step_none}
 use Rattle.qcow2_image.proofs.image.Qcow2.writable_l2_cluster.Goals as goal
-use Rattle.std.proofs.Common.{◌≡◌, ◌⊎◌, ◌*◌, ◌/◌, ◌^◌, Ok, arith, sym, ap, ◌∙◌, subst, ◌≤◌, inr, inl, rules}
-use Rattle.qcow2_metadata.specs.Entries.{host_offset, is_copied}
-use Rattle.qcow2_image.specs.Found.{l1_index_of}
-use Rattle.qcow2_image.specs.NewTables.{OwnsTable, MayName}
 use Rattle.qcow2_image.proofs.Prepare.WritableL2Table.{refused, left_alone, may_none, says_none, entered_owns, owns_already}
-use Rattle.qcow2_metadata.specs.EntryTable.{entry_count}
-use Rattle.qcow2_metadata.specs.TableBytes.{entry_at}
 use Rattle.qcow2_image.proofs.Prepare.MissingL2Table.{lacks_past, not_within, owns_or_lacks}
 use Rattle.qcow2_image.proofs.Call.BehindHeader.{behind_first}
 use Rattle.qcow2_image.proofs.Prepare.PinnedL2Tables.{whole_quotient}
-use Rattle.qcow2_image.specs.InternalSteps.{NamesOwn}
 
 pub returns-in_default-clause-quiet : goal.returns-in_default-clause-quiet
 returns-in_default-clause-quiet g c = λ own.

@@ -1,30 +1,14 @@
 use Rattle.qcow2_alloc.specs.declared.error.ImageError.TheVariants as I
 use Rattle.qcow2_image.proofs.Call.ImageSteps.{step_none, step_then}
-use Rattle.qcow2_image.specs.ListedClusters.{ListsNoMore}
+use Rattle.qcow2_image.proofs.Common.{ListsNoMore, ◌≡◌, true, false, Err, ◌∙◌, refl, ap, sym, subst, inl, inr, rules, arith, HeaderView, Pending, handed_on, FindsTable, ImageInvariant, pending_in, IfErr, IsTrue, OnOk, always_ok, l1_index_of, NamesOwn, pending_with_listed, IsFaultOrLacksTable, not_both, HeaderFields, NeedsOverflowingL1Entry, HasNearEntry, HasPinnedMapping, MayFailAllocating}
 use Rattle.qcow2_image.proofs.image.Qcow2.writable_l2_table.Goals as goal
-use Rattle.std.proofs.Common.{◌≡◌, true, false, Err, ◌∙◌, refl, ap, sym, subst, inl, inr, rules, arith}
-use Rattle.qcow2_metadata.specs.Header.{HeaderView}
-use Rattle.qcow2_laws.specs.CrashInvariant.{Pending}
-use Rattle.qcow2_alloc.proofs.AllocationSteps.{handed_on}
-use Rattle.qcow2_image.specs.CallParts.{FindsTable}
-use Rattle.qcow2_image.specs.ImageInvariant.{ImageInvariant, pending_in}
 use Rattle.qcow2_image.proofs.Call.Refused.{finds, finds_after, left_refused, stays_kept, stays_then}
 use Rattle.qcow2_image.proofs.Flush.Freeing.{all_listed, beside, freed_refused, tidy_stays}
-use Rattle.std.specs.Prelude.{IfErr, IsTrue, OnOk}
-use Rattle.qcow2_alloc.proofs.KeptTables.Switching.{always_ok}
-use Rattle.qcow2_image.specs.Found.{l1_index_of}
-use Rattle.qcow2_image.specs.InternalSteps.{NamesOwn, pending_with_listed}
 use Rattle.qcow2_image.proofs.Prepare.WritableL2Table.{left_alone}
 use Rattle.qcow2_image.proofs.Grow.L1Lengths.{own_after}
-use Rattle.qcow2_image.specs.NewTables.{IsFaultOrLacksTable}
 use Rattle.qcow2_image.proofs.Call.FaultCounts.{counted_on, counted_since, faults_then, same_of}
 use Rattle.qcow2_image.proofs.Prepare.LimitCauses.{hands_limit, near_reached, other_limit, goes_step, limited_more, limited_since, limited_unseen, limited_upto, limits_as}
-use Rattle.qcow2_alloc.proofs.Outcomes.{not_both}
-use Rattle.qcow2_metadata.specs.declared.header.HeaderFields.{HeaderFields}
 use Rattle.qcow2_image.proofs.Call.Unlimited.{fault_unlimited}
-use Rattle.qcow2_image.specs.L1Entries.{NeedsOverflowingL1Entry, HasNearEntry}
-use Rattle.qcow2_image.specs.Backings.{HasPinnedMapping}
-use Rattle.qcow2_image.specs.MayFail.{MayFailAllocating}
 use Rattle.qcow2_image.proofs.Prepare.FailingCopies.{hands_met, met_as}
 use Rattle.qcow2_image.proofs.Prepare.FailingAllocations.{taking_as}
 

@@ -1,9 +1,5 @@
 use Rattle.qcow2_image.proofs.image.Qcow2.write_allocated_l1_table.Goals as goal
-use Rattle.std.proofs.Common.{refl, sym, subst, ◌<◌, ◌≡◌}
-use Rattle.qcow2_image.specs.ImageInvariant.{ImageInvariant}
-use Rattle.qcow2_image.specs.LongerTables.{with_table, NamesTable}
-use Rattle.std.specs.Prelude.{IfErr, OnOk, Result, Some}
-use Rattle.qcow2_alloc.specs.ImageError.{IsFault}
+use Rattle.qcow2_image.proofs.Common.{refl, sym, subst, ◌<◌, ◌≡◌, ImageInvariant, with_table, NamesTable, IfErr, OnOk, Result, Some, IsFault}
 
 pub returns-clause-names : goal.returns-clause-names
 returns-clause-names g c = λ p out sound recorded longer.

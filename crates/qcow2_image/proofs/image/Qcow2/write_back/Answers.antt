@@ -1,22 +1,10 @@
-use Rattle.std.proofs.Common.{refl, ap, rules}
-use Rattle.qcow2_laws.specs.CrashInvariant.{Pending}
-use Rattle.qcow2_alloc.specs.FreeList.{with_listed}
-use Rattle.qcow2_alloc.specs.ImageFile.{contents_in}
-use Rattle.qcow2_alloc.proofs.AllocationSteps.{handed_on}
-use Rattle.qcow2_image.specs.InternalSteps.{FreesListed}
+use Rattle.qcow2_image.proofs.Common.{refl, ap, rules, Pending, with_listed, contents_in, handed_on, FreesListed, Qcow2, notes_then, notes_of_both, notes_of_storage, read_kept, IfErr, Result, IsFault, of_storage, written_then, ReadsQuietly}
 use Rattle.qcow2_image.proofs.Call.Called.{keeps_then}
 use Rattle.qcow2_image.proofs.Map.Loading.{with_caches, caches_moved, read_moved, all_known}
 use Rattle.qcow2_image.proofs.Flush.Freeing.{frees_any, freeing_step_on}
-use Rattle.qcow2_image.specs.declared.image.Qcow2.{Qcow2}
-use Rattle.qcow2_alloc.proofs.KeptMarks.{notes_then, notes_of_both, notes_of_storage}
-use Rattle.qcow2_alloc.proofs.KeptNotes.{read_kept}
 use Rattle.qcow2_image.proofs.Call.BehindHeader.{behind_caches, behind_then, behind_read}
-use Rattle.std.specs.Prelude.{IfErr, Result}
-use Rattle.qcow2_alloc.specs.ImageError.{IsFault, of_storage}
 use Rattle.qcow2_image.proofs.Call.Unlimited.{storage_fault}
 use Rattle.qcow2_image.proofs.Map.Quiet.{reads_bytes, reads_same}
-use Rattle.qcow2_alloc.proofs.KeptTables.AllWritten.{written_then}
-use Rattle.qcow2_image.specs.Unwritten.{ReadsQuietly}
 use Rattle.qcow2_image.proofs.image.Qcow2.write_back.Goals as goal
 
 pub returns-in_err-process_free_list-clause-frees : goal.returns-in_err-process_free_list-clause-frees

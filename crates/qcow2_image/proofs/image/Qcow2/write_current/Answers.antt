@@ -1,31 +1,12 @@
 use Rattle.qcow2_image.proofs.Call.WriteSteps.{filling_none, filling_written, keeping_of_filling, keeping_then}
 use Rattle.qcow2_image.proofs.image.Qcow2.write_current.Goals as goal
-use Rattle.std.proofs.Common.{◌≡◌, ◌+◌, ◌^◌, ◌≤◌, inl, inr, None, Err, length, refl, sym, ap, subst, true, arith, rules}
-use Rattle.image_access.specs.Contents.{overwritten}
-use Rattle.qcow2_alloc.specs.ImageFile.{view_in}
-use Rattle.qcow2_alloc.specs.declared.error.ImageError.TheVariants.{OutdatedMapping, Overflow}
-use Rattle.qcow2_alloc.proofs.AllocationSteps.{handed_on}
-use Rattle.qcow2_alloc.proofs.KeptTables.Switching.{always_ok}
-use Rattle.qcow2_image.specs.declared.image.Qcow2.{Qcow2}
-use Rattle.qcow2_image.specs.declared.mapping.MappingKind.TheVariants.{Raw}
-use Rattle.qcow2_image.specs.declared.mapping.Place.TheVariants.{Image}
-use Rattle.qcow2_image.specs.Found.{IsFoundWhole, IsMappedAs}
-use Rattle.qcow2_image.specs.CallParts.{PutsPart, IsWriteOutcome}
-use Rattle.qcow2_image.specs.ImageInvariant.{pending_in}
+use Rattle.qcow2_image.proofs.Common.{◌≡◌, ◌+◌, ◌^◌, ◌≤◌, inl, inr, None, Err, length, refl, sym, ap, subst, true, arith, rules, overwritten, view_in, OutdatedMapping, Overflow, handed_on, always_ok, Qcow2, Raw, Image, IsFoundWhole, IsMappedAs, PutsPart, IsWriteOutcome, pending_in, FitsTables, IsHeldAs, Result, cases_lt, IsFault, IsCacheHeld, MayFailPutting, changes_of, storage_of_image, PutsOnce}
 use Rattle.qcow2_image.proofs.Write.PutParts.{mapped_in_place, puts_nothing, puts_refused, puts_then, puts_written}
 use Rattle.qcow2_image.proofs.Call.Called.{Quietly, quiet_sound}
 use Rattle.qcow2_image.proofs.Map.Held.{heeds_then, held_as, keeps_storage}
-use Rattle.qcow2_image.specs.HeldMappings.{FitsTables, IsHeldAs}
-use Rattle.std.specs.Prelude.{Result}
-use Rattle.std.proofs.lemmas.Bool.{cases_lt}
-use Rattle.qcow2_alloc.specs.ImageError.{IsFault}
-use Rattle.qcow2_image.specs.MayFail.{IsCacheHeld, MayFailPutting}
 use Rattle.qcow2_image.proofs.Prepare.FailingCopies.{hands_met, met_as, told_sum}
 use Rattle.qcow2_image.proofs.Prepare.NameablePlaces.{past_existing}
 use Rattle.qcow2_image.proofs.Write.Hosted.{hosts_behind_header}
-use Rattle.qcow2_alloc.specs.ImageStorage.{changes_of}
-use Rattle.qcow2_image.specs.Image.{storage_of_image}
-use Rattle.qcow2_image.specs.Noted.{PutsOnce}
 use Rattle.qcow2_image.proofs.Write.ToldPuts.{checked_unseen, put_refused, put_unwritten}
 
 pub returns-in_err-check_in_place-clause-in_place : goal.returns-in_err-check_in_place-clause-in_place

@@ -1,9 +1,7 @@
-use Rattle.qcow2_alloc.proofs.KeptMarks.{told_kept, notes_of_storage}
+use Rattle.qcow2_image.proofs.Common.{told_kept, notes_of_storage, ap, rules, of_storage}
 use Rattle.qcow2_image.proofs.Call.BehindHeader.{behind_guard, behind_wrote}
-use Rattle.std.proofs.Common.{ap, rules}
 use Rattle.qcow2_image.proofs.Prepare.LimitCauses.{hands_unlimited, hands_fault}
 use Rattle.qcow2_image.proofs.Call.Unlimited.{storage_unlimited, storage_fault}
-use Rattle.qcow2_alloc.specs.ImageError.{of_storage}
 use Rattle.qcow2_image.proofs.Call.ImageSteps.{step_none}
 use Rattle.qcow2_image.proofs.image.Qcow2.write_data.Goals as goal
 

@@ -1,16 +1,9 @@
 use Rattle.qcow2_image.proofs.image.Qcow2.write_l1_table.Goals as goal
-use Rattle.std.proofs.Common.{◌∙◌, ◌≡◌, inl, ap, subst, sym, rules}
-use Rattle.std.specs.Prelude.{OnOk}
-use Rattle.qcow2_metadata.specs.EntryTable.{EntryTableView}
-use Rattle.qcow2_alloc.proofs.AllocationSteps.{handed_on}
-use Rattle.qcow2_image.specs.LongerTables.{NamesTable}
+use Rattle.qcow2_image.proofs.Common.{◌∙◌, ◌≡◌, inl, ap, subst, sym, rules, OnOk, EntryTableView, handed_on, NamesTable, notes_then, Qcow2, IsHostCluster}
 use Rattle.qcow2_image.proofs.Grow.ReplacedL1Table.{named_then}
-use Rattle.qcow2_alloc.proofs.KeptMarks.{notes_then}
 use Rattle.qcow2_image.proofs.Call.BehindHeader.{behind_then, l1_placed}
 use Rattle.qcow2_image.proofs.Call.FaultCounts.{counted_since, same_of}
-use Rattle.qcow2_image.specs.declared.image.Qcow2.{Qcow2}
 use Rattle.qcow2_image.proofs.Prepare.LimitCauses.{hands_fault}
-use Rattle.qcow2_metadata.specs.L2Mapping.{IsHostCluster}
 
 pub returns-in_err-place_l1_table-clause-names : goal.returns-in_err-place_l1_table-clause-names
 returns-in_err-place_l1_table-clause-names g c = λ p out sound recorded longer.

@@ -1,21 +1,9 @@
-use Rattle.qcow2_image.specs.WriteSteps.{CanEnter}
+use Rattle.qcow2_image.proofs.Common.{CanEnter, inl, ap, ◌∙◌, arith, subst, sym, rules, one_at, with_new_tables, handed_on, one_here, Qcow2, WritesNew, notes_none, notes_then, not_both, IsHostCluster, HasPinnedMapping, MayFailLooking, IsFault}
 use Rattle.qcow2_image.proofs.image.Qcow2.write_l2.Goals as goal
-use Rattle.std.proofs.Common.{inl, ap, ◌∙◌, arith, subst, sym, rules}
-use Rattle.qcow2_laws.specs.Changes.{one_at, with_new_tables}
-use Rattle.qcow2_alloc.proofs.AllocationSteps.{handed_on}
-use Rattle.qcow2_alloc.proofs.FileSteps.{one_here}
-use Rattle.qcow2_image.specs.declared.image.Qcow2.{Qcow2}
-use Rattle.qcow2_image.specs.NewTables.{WritesNew}
 use Rattle.qcow2_image.proofs.Call.Called.{keeps_then}
 use Rattle.qcow2_image.proofs.Prepare.UnlinkedL2Table.{may_still, says_still, written_so}
-use Rattle.qcow2_alloc.proofs.KeptMarks.{notes_none, notes_then}
 use Rattle.qcow2_image.proofs.Call.BehindHeader.{behind_none, behind_then}
 use Rattle.qcow2_image.proofs.Prepare.LimitCauses.{near_placed}
-use Rattle.qcow2_alloc.proofs.Outcomes.{not_both}
-use Rattle.qcow2_metadata.specs.L2Mapping.{IsHostCluster}
-use Rattle.qcow2_image.specs.Backings.{HasPinnedMapping}
-use Rattle.qcow2_image.specs.MayFail.{MayFailLooking}
-use Rattle.qcow2_alloc.specs.ImageError.{IsFault}
 use Rattle.qcow2_image.proofs.Prepare.FailingCopies.{hands_met, met_as}
 
 pub returns-in_err-store_first-clause-writes : goal.returns-in_err-store_first-clause-writes

@@ -1,17 +1,7 @@
 use Rattle.qcow2_image.proofs.Call.MarkedCalls.{putting_marked}
 use Rattle.qcow2_image.proofs.image.Qcow2.write_mapped.Goals as goal
-use Rattle.std.proofs.Common.{◌≡◌, ◌+◌, ◌<◌, [], true, length, sym, ◌∙◌, subst, rules, arith, refl}
-use Rattle.std.specs.Prelude.{OnOk, Result, IfErr}
-use Rattle.std.proofs.lemmas.List.{nil_from_length}
-use Rattle.qcow2_image.specs.declared.image.Qcow2.{Qcow2}
-use Rattle.qcow2_image.specs.Calls.{Puts}
-use Rattle.qcow2_alloc.specs.declared.error.ImageError.TheVariants.{ForeignState, ReadOnly}
-use Rattle.qcow2_image.specs.declared.mapping.MappingKind.TheVariants.{Raw}
-use Rattle.qcow2_image.specs.declared.mapping.Place.TheVariants.{Image}
-use Rattle.qcow2_image.specs.Found.{IsFoundWhole}
-use Rattle.qcow2_image.specs.Image.{is_failed}
+use Rattle.qcow2_image.proofs.Common.{◌≡◌, ◌+◌, ◌<◌, [], true, length, sym, ◌∙◌, subst, rules, arith, refl, OnOk, Result, IfErr, nil_from_length, Qcow2, Puts, ForeignState, ReadOnly, Raw, Image, IsFoundWhole, is_failed, pending_in, FitsTables, IsCacheHeld, MayFailPutting, handed_on, PutsOnce}
 use Rattle.qcow2_image.proofs.Call.Marked.{may_mark}
-use Rattle.qcow2_image.specs.ImageInvariant.{pending_in}
 use Rattle.qcow2_image.proofs.Call.Answers.{usable_works}
 use Rattle.qcow2_image.proofs.Call.Called.{Quietly, quiet_sound}
 use Rattle.qcow2_image.proofs.Grow.L1Lengths.{on_ok}
@@ -20,11 +10,7 @@ use Rattle.qcow2_image.proofs.Write.PutParts.{puts_early, puts_none, puts_then, 
 use Rattle.qcow2_image.proofs.Call.OnceWritten.{fails_none}
 use Rattle.qcow2_image.proofs.Call.BehindHeader.{behind_none}
 use Rattle.qcow2_image.proofs.Map.Held.{heeds_on, keeps_marked}
-use Rattle.qcow2_image.specs.HeldMappings.{FitsTables}
 use Rattle.qcow2_image.proofs.Map.FailingLookups.{held_since}
-use Rattle.qcow2_image.specs.MayFail.{IsCacheHeld, MayFailPutting}
-use Rattle.qcow2_alloc.proofs.AllocationSteps.{handed_on}
-use Rattle.qcow2_image.specs.Noted.{PutsOnce}
 use Rattle.qcow2_image.proofs.Write.ToldPuts.{checked_unseen, put_in_call, put_nothing, put_refused}
 
 pub returns-clause-sound : goal.returns-clause-sound

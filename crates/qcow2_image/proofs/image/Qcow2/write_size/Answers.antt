@@ -1,14 +1,6 @@
 use Rattle.qcow2_image.proofs.image.Qcow2.write_size.Goals as goal
-use Rattle.std.proofs.Common.{◌≡◌, ◌∙◌, refl, sym, ap, subst}
-use Rattle.std.specs.Prelude.{Err}
-use Rattle.qcow2_metadata.specs.Header.{HeaderView, with_fields, with_size}
-use Rattle.qcow2_metadata.specs.HeaderWrite.{size_written}
-use Rattle.image_access.specs.Moments.{Changes}
-use Rattle.qcow2_alloc.specs.ImageStorage.{storage_of}
-use Rattle.qcow2_image.specs.declared.image.Qcow2.{Qcow2}
-use Rattle.qcow2_image.specs.Resizing.{WritesSize}
+use Rattle.qcow2_image.proofs.Common.{◌≡◌, ◌∙◌, refl, sym, ap, subst, Err, HeaderView, with_fields, with_size, size_written, Changes, storage_of, Qcow2, WritesSize, told_kept, notes_of_storage}
 use Rattle.qcow2_image.proofs.Resize.SizeWritten.{lasts_resized, lasts_sized, size_is_refused, size_is_set}
-use Rattle.qcow2_alloc.proofs.KeptMarks.{told_kept, notes_of_storage}
 use Rattle.qcow2_image.proofs.Call.BehindHeader.{behind_bits, behind_size, behind_then}
 
 pub returns-in-Ok-clause-writes : goal.returns-in-Ok-clause-writes

@@ -1,18 +1,12 @@
 use Rattle.qcow2_image.proofs.Call.ImageSteps.{step_then, step_none}
 use Rattle.qcow2_image.proofs.Prepare.LimitCauses.{goes_step}
 use Rattle.qcow2_image.proofs.image.Qcow2.zero_between.Goals as goal
-use Rattle.std.proofs.Common.{◌≤◌, subst, sym, arith}
-use Rattle.qcow2_alloc.proofs.AllocationSteps.{handed_on}
-use Rattle.qcow2_image.specs.ImageInvariant.{abstract_of}
-use Rattle.qcow2_image.specs.Preallocation.{FillsOrRefuses}
+use Rattle.qcow2_image.proofs.Common.{◌≤◌, subst, sym, arith, handed_on, abstract_of, FillsOrRefuses, known_in, HasCompressedIn, MayFailAllocating, HasPinnedMapping}
 use Rattle.qcow2_image.proofs.Call.Called.{works_none}
 use Rattle.qcow2_image.proofs.Preallocate.Filled.{fills_before, fills_none, fills_or_refuses, refused_after, zeros_from}
 use Rattle.qcow2_image.proofs.Preallocate.FillSteps.{same_version, still_at}
-use Rattle.qcow2_alloc.specs.ImageFile.{known_in}
-use Rattle.qcow2_image.specs.MayFail.{HasCompressedIn, MayFailAllocating}
 use Rattle.qcow2_image.proofs.Preallocate.FailingFills.{hands_met, met_before, near_behind}
 use Rattle.qcow2_image.proofs.Prepare.RefusedAsPrepared.{if_err}
-use Rattle.qcow2_image.specs.Backings.{HasPinnedMapping}
 use Rattle.qcow2_image.proofs.Prepare.FailingAllocations.{taking_as}
 
 pub returns-clause-emptied : goal.returns-clause-emptied

@@ -1,15 +1,4 @@
-use Rattle.std.proofs.Common.{◌≡◌, ◌∙◌, ◌+◌, ◌-◌, ◌^◌, ◌<◌, [], ◌∷◌, inl, min, ap, subst, sym, arith, rules}
-use Rattle.std.specs.Prelude.{IsTrue}
-use Rattle.qcow2_disk.specs.Found.{rest_of_table}
-use Rattle.qcow2_metadata.specs.EntryTable.{entry_count}
-use Rattle.qcow2_laws.specs.CrashInvariant.{Pending}
-use Rattle.qcow2_laws.proofs.Places.{Sizes-from}
-use Rattle.qcow2_alloc.proofs.AllocationSteps.{handed_on}
-use Rattle.qcow2_alloc.specs.ImageFile.{contents_in, known_in}
-use Rattle.qcow2_image.specs.Clearing.{IsClearable}
-use Rattle.qcow2_image.specs.declared.discarding.ClearMode.TheVariants.{KeptZeros}
-use Rattle.qcow2_image.specs.ImageInvariant.{ImageInvariant, abstract_of, pending_in}
-use Rattle.qcow2_image.specs.Preallocation.{FillsFirst, given_by_zeros}
+use Rattle.qcow2_image.proofs.Common.{◌≡◌, ◌∙◌, ◌+◌, ◌-◌, ◌^◌, ◌<◌, [], ◌∷◌, inl, min, ap, subst, sym, arith, rules, IsTrue, rest_of_table, entry_count, Pending, Sizes-from, handed_on, contents_in, known_in, IsClearable, KeptZeros, ImageInvariant, abstract_of, pending_in, FillsFirst, given_by_zeros, HasPinnedMapping, MayFailAllocating}
 use Rattle.qcow2_image.proofs.Call.Called.{works_none}
 use Rattle.qcow2_image.proofs.Flush.Freeing.{all_listed, beside, freed_refused, tidy_stays}
 use Rattle.qcow2_image.proofs.Preallocate.Filled.{cleared_fills, fill_unseen, fills_none, fills_refused, fills_stays, next_whole, next_within, taken_here}
@@ -18,8 +7,6 @@ use Rattle.qcow2_image.proofs.Call.FailingErrors.{tables_met}
 use Rattle.qcow2_image.proofs.Call.Unlimited.{fault_unlimited}
 use Rattle.qcow2_image.proofs.Prepare.LimitCauses.{limited_giving, limited_upto}
 use Rattle.qcow2_image.proofs.Preallocate.FailingFills.{under_prepared, never_far}
-use Rattle.qcow2_image.specs.Backings.{HasPinnedMapping}
-use Rattle.qcow2_image.specs.MayFail.{MayFailAllocating}
 use Rattle.qcow2_image.proofs.Prepare.FailingCopies.{hands_met}
 use Rattle.qcow2_image.proofs.Prepare.FailingAllocations.{taking_as}
 use Rattle.qcow2_image.proofs.Call.ImageSteps.{step_none, step_then}

@@ -1,16 +1,7 @@
-use Rattle.std.proofs.Common.{◌≡◌, ◌≤◌, ◌%◌, ◌∙◌, ap, refl, subst, sym, arith}
-use Rattle.std.proofs.lemmas.Nat.{pow_pos}
-use Rattle.qcow2_metadata.specs.Header.{cluster_size, rounded_up}
-use Rattle.qcow2_alloc.specs.declared.error.ImageError.TheVariants.{Overflow, Version}
-use Rattle.qcow2_image.specs.Preallocation.{FillsOrRefuses}
+use Rattle.qcow2_image.proofs.Common.{◌≡◌, ◌≤◌, ◌%◌, ◌∙◌, ap, refl, subst, sym, arith, pow_pos, cluster_size, rounded_up, Overflow, Version, FillsOrRefuses, IfErr, known_in, pending_in, HasCompressedIn, HasNearEntries, MayFailAllocating, HasPinnedMapping}
 use Rattle.qcow2_image.proofs.Preallocate.Filled.{refused_here}
 use Rattle.qcow2_image.proofs.Preallocate.FilledGrowth.{up_least, up_rising, up_whole}
-use Rattle.std.specs.Prelude.{IfErr}
-use Rattle.qcow2_alloc.specs.ImageFile.{known_in}
-use Rattle.qcow2_image.specs.ImageInvariant.{pending_in}
-use Rattle.qcow2_image.specs.MayFail.{HasCompressedIn, HasNearEntries, MayFailAllocating}
 use Rattle.qcow2_image.proofs.Preallocate.FailingFills.{never_past}
-use Rattle.qcow2_image.specs.Backings.{HasPinnedMapping}
 use Rattle.qcow2_image.proofs.Call.ImageSteps.{step_none}
 use Rattle.qcow2_image.proofs.image.Qcow2.zero_grown.Goals as goal
 

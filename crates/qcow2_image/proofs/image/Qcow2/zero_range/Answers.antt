@@ -1,13 +1,8 @@
-use Rattle.qcow2_alloc.proofs.KeptMarks.{notes_none, notes_then}
-use Rattle.std.proofs.Common.{◌≡◌, ◌≤◌, refl, subst, sym, arith, rules}
-use Rattle.qcow2_alloc.proofs.AllocationSteps.{handed_on}
-use Rattle.qcow2_image.specs.Preallocation.{FillsOrRefuses, FillsPart}
+use Rattle.qcow2_image.proofs.Common.{notes_none, notes_then, ◌≡◌, ◌≤◌, refl, subst, sym, arith, rules, handed_on, FillsOrRefuses, FillsPart, HasPinnedMapping, MayFailAllocating}
 use Rattle.qcow2_image.proofs.Preallocate.FillSteps.{same_version, still_at, zeroed_first, zeroed_next, zeroed_refused}
 use Rattle.qcow2_image.proofs.Call.FaultCounts.{counted_ok, counted_on, faults_then, untouched}
 use Rattle.qcow2_image.proofs.Call.BehindHeader.{behind_none, behind_then}
 use Rattle.qcow2_image.proofs.Preallocate.FailingFills.{near_behind}
-use Rattle.qcow2_image.specs.Backings.{HasPinnedMapping}
-use Rattle.qcow2_image.specs.MayFail.{MayFailAllocating}
 use Rattle.qcow2_image.proofs.Prepare.FailingCopies.{hands_met}
 use Rattle.qcow2_image.proofs.image.Qcow2.zero_range.Goals as goal
 

@@ -1,8 +1,4 @@
-use Rattle.qcow2_alloc.specs.KeptMarks.{KeepsFileNotes}
-use Rattle.std.proofs.Common.{◌-◌}
-use Rattle.qcow2_image.specs.BehindHeader.{PreservesHeaderCluster}
-use Rattle.qcow2_image.specs.Faults.{SameFaults}
-use Rattle.qcow2_image.specs.Image.{HasNothingToFree}
+use Rattle.qcow2_image.proofs.Common.{KeepsFileNotes, ◌-◌, PreservesHeaderCluster, SameFaults, HasNothingToFree}
 use Rattle.qcow2_image.proofs.Preallocate.FillSteps.{ZeroedTo}
 use Rattle.qcow2_image.proofs.image.Qcow2.zero_range.Given as goal
 

@@ -1,10 +1,5 @@
-use Rattle.std.proofs.Common.{subst, sym}
-use Rattle.qcow2_image.specs.ImageInvariant.{IsHonestBacking}
-use Rattle.qcow2_image.specs.Opened.{Opens}
-use Rattle.qcow2_image.specs.Readable.{IsNewlyOpened, OpeningStep}
-use Rattle.qcow2_image.specs.declared.image.Missing.{Missing}
+use Rattle.qcow2_image.proofs.Common.{subst, sym, IsHonestBacking, Opens, IsNewlyOpened, OpeningStep, Missing, Err, Ok}
 use Rattle.qcow2_image.proofs.Open.OverDisks.{image_over, opens_over, step_over}
-use Rattle.std.specs.Prelude.{Err, Ok}
 use Rattle.qcow2_image.proofs.opening.Qcow2OpenBuilder.open.Goals as goal
 
 pub returns-in-Err-clause-step : goal.returns-in-Err-clause-step

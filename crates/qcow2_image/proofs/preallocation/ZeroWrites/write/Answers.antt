@@ -1,10 +1,5 @@
-use Rattle.std.proofs.Common.{ℕ, List, ◌≡◌, ◌≤◌, ◌∙◌, ap, length, replicate, subst, take}
-use Rattle.std.proofs.lemmas.List.{take-replicate}
-use Rattle.image_access.specs.Contents.{overwritten}
-use Rattle.image_access.specs.Moments.{ContentsBecome}
-use Rattle.qcow2_alloc.specs.ImageStorage.{storage_of}
+use Rattle.qcow2_image.proofs.Common.{ℕ, List, ◌≡◌, ◌≤◌, ◌∙◌, ap, length, replicate, subst, take, take-replicate, overwritten, ContentsBecome, storage_of, AreZeros, most_of}
 use Rattle.qcow2_image.specs.declared.preallocation.ZeroWrites.{ZeroWrites}
-use Rattle.qcow2_image.specs.Preallocation.{AreZeros, most_of}
 use Rattle.qcow2_image.proofs.preallocation.ZeroWrites.write.Goals as goal
 
 first_zeros : (n : ℕ) (zeros : List ℕ) → n ≤ length zeros → zeros ≡ replicate (length zeros) 0 → take n zeros ≡ replicate n 0
