@@ -1,26 +1,6 @@
 -- Which replies a command may get: a failed image refuses before everything else, and what is done lies within the size.
-use Rattle.std.proofs.Common.{◌≡◌, ◌+◌, ◌≤◌, ◌<◌, inl, inr, ℕ, Bool, true, IsTrue, ap, ◌∙◌, subst, arith, List, length, Option, Some, None}
-use Rattle.std.specs.Prelude.{IfSome, Result, Ok, Err}
-use Rattle.std.specs.Option.{option_or}
-use Rattle.std.proofs.lemmas.Bool.{cases_lt, cases_Bool, cond-true, cond-false}
-use Rattle.std.proofs.lemmas.Grind.{common_steps}
-use Rattle.image_access.specs.Backing.{BackingView}
-use Rattle.image_access.specs.Moments.{StorageView}
-use Rattle.qcow2_alloc.specs.declared.error.ImageError.{ImageError}
+use Rattle.qcow2_session.proofs.Common.{◌≡◌, ◌+◌, ◌≤◌, ◌<◌, inl, inr, ℕ, Bool, true, IsTrue, ap, ◌∙◌, subst, arith, List, length, Option, Some, None, IfSome, Result, Ok, Err, option_or, cases_lt, cases_Bool, cond-true, cond-false, common_steps, BackingView, StorageView, ImageError, AbstractImage, another, read, write, get_mapping, prepare, done, bytes_are, prepared_is, refused, write_refused, IsAnswer, Qcow2, Prepared, CommitRefused, Kept, Spent, refusal_of, is_failed, is_external, is_writable, size_of, HasNothingToFree, abstract_of, to_free, of_tables, of_data, refuse_if, passes, unusable, refuses_to_read, refuses_to_prepare, refuses_mapping, disk_size, sound_is_usable}
 use Rattle.qcow2_alloc.specs.declared.error.ImageError.TheVariants as I
-use Rattle.qcow2_disk.specs.AbstractImages.{AbstractImage}
-use Rattle.qcow2_disk.specs.Calls.{another}
-use Rattle.qcow2_disk.specs.Runs.{read, write, get_mapping, prepare, done, bytes_are, prepared_is, refused, write_refused}
-use Rattle.qcow2_disk.proofs.RunSteps.{IsAnswer}
-use Rattle.qcow2_image.specs.declared.image.Qcow2.{Qcow2}
-use Rattle.qcow2_image.specs.declared.prepared.Prepared.{Prepared}
-use Rattle.qcow2_image.specs.declared.prepared.CommitRefused.{CommitRefused}
-use Rattle.qcow2_image.specs.declared.prepared.CommitRefused.TheVariants.{Kept, Spent}
-use Rattle.qcow2_image.specs.Calls.{refusal_of}
-use Rattle.qcow2_image.specs.Image.{is_failed, is_external, is_writable, size_of, HasNothingToFree}
-use Rattle.qcow2_image.specs.ImageInvariant.{abstract_of, to_free, of_tables, of_data}
-use Rattle.qcow2_image.specs.Refusals.{refuse_if, passes, unusable, refuses_to_read, refuses_to_prepare, refuses_mapping}
-use Rattle.qcow2_image.proofs.Images.Sizes.{disk_size, sound_is_usable}
 
 -- ---- a failed image
 

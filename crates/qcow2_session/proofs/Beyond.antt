@@ -1,11 +1,5 @@
 -- When a range is refused as beyond the size.
-use Rattle.std.proofs.Common.{◌≡◌, ◌+◌, ◌≤◌, ℕ, IsTrue, subst, arith}
-use Rattle.std.proofs.lemmas.Grind.{common_steps}
-use Rattle.qcow2_alloc.specs.declared.error.ImageError.{ImageError}
-use Rattle.qcow2_image.specs.declared.image.Qcow2.{Qcow2}
-use Rattle.qcow2_image.specs.Image.{size_of}
-use Rattle.qcow2_image.specs.Refusals.{passes}
-use Rattle.qcow2_session.specs.Sessions.{IsRightlyBeyond}
+use Rattle.qcow2_session.proofs.Common.{◌≡◌, ◌+◌, ◌≤◌, ℕ, IsTrue, subst, arith, common_steps, ImageError, Qcow2, size_of, passes, IsRightlyBeyond}
 
 -- a part passes the size only where the whole does
 pub part_passes : (size offset n at m : ℕ) → offset ≤ at → at + m ≤ offset + n → IsTrue (passes size at m) → IsTrue (passes size offset n)

@@ -1,16 +1,6 @@
 -- Bytes at an offset of a disk, in parts.
-use Rattle.std.proofs.Common.{◌≡◌, ◌⊎◌, inl, inr, ⊎_elim, ℕ, ◌+◌, ◌-◌, ◌<◌, ◌≤◌, leb, ltb, min, List, [], ◌∷◌, ◌++◌, take, drop, length, true, false, refl, sym, ap, ◌∙◌, subst, arith}
-use Rattle.std.proofs.lemmas.Bool.{cond-true, cond-false, cases_Bool, leb-true, ltb-true, leb-false, ltb-false}
+use Rattle.qcow2_session.proofs.Common.{◌≡◌, ◌⊎◌, inl, inr, ⊎_elim, ℕ, ◌+◌, ◌-◌, ◌<◌, ◌≤◌, leb, ltb, min, List, [], ◌∷◌, ◌++◌, take, drop, length, true, false, refl, sym, ap, ◌∙◌, subst, arith, cond-true, cond-false, cases_Bool, leb-true, ltb-true, leb-false, ltb-false, take-append-le, length-take-le, common_steps, fun_ext, byte_at, laid_over, is_within, Value, known_byte, Disk, with_bytes, IsGiven, given_of, Shows}
 use Rattle.std.proofs.Math.Seq.{take-append-add}
-use Rattle.std.proofs.lemmas.List.{take-append-le, length-take-le}
-use Rattle.std.proofs.lemmas.Grind.{common_steps}
-use mathlib.Core.Path.{fun_ext}
-use Rattle.qcow2_metadata.specs.Bytes.{byte_at, laid_over, is_within}
-use Rattle.qcow2_metadata.specs.Guest.{Value, known_byte}
-use Rattle.qcow2_disk.specs.Disk.{Disk, with_bytes}
-use Rattle.qcow2_disk.specs.Stops.{IsGiven}
-use Rattle.qcow2_disk.specs.Mappings.{given_of}
-use Rattle.qcow2_disk.specs.Calls.{Shows}
 use Rattle.qcow2_disk.proofs.ForUsers.{laid_inside, laid_outside}
 
 -- where an offset lies

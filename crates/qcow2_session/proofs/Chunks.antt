@@ -1,23 +1,10 @@
 -- A part of a write: prepared, put and committed. If one of these is refused, the mapping is released.
-use Rattle.std.proofs.Common.{◌≡◌, ◌⊎◌, ⊎_elim, inl, inr, ℕ, suc, eqb, ◌+◌, ◌-◌, ◌%◌, ◌<◌, ◌≤◌, min, List, [], ◌∷◌, take, length, true, false, Option, Some, None, refl, sym, ap, ◌∙◌, subst, arith}
-use Rattle.std.proofs.lemmas.Bool.{cond-true, cond-false, cases_Bool, ne_eqb}
-use Rattle.std.proofs.lemmas.Grind.{common_steps}
-use mathlib.Core.Path.{fun_ext}
-use Rattle.qcow2_metadata.specs.Bytes.{byte_at, laid_over, is_within}
-use Rattle.qcow2_metadata.specs.Header.{rounded_down}
-use Rattle.qcow2_metadata.specs.Guest.{Value, known_byte}
-use Rattle.qcow2_disk.specs.Disk.{Disk, with_bytes}
-use Rattle.qcow2_disk.specs.Stops.{GivenBytes, IsGiven}
-use Rattle.qcow2_disk.specs.Mappings.{PreparedMapping, IsPrepared, put_disk, put_mapping, committed, given_of, given_by_put, given_by_commit}
-use Rattle.qcow2_disk.specs.AbstractImages.{Setting, Abstraction, HasFreePlaces, Guest, abstract_image, guest_of}
-use Rattle.qcow2_disk.specs.Calls.{Refusal, memory, storage, not_compressed, another, IsRefusalByFault, AnsweredEffect, RefusedEffect, IsSame, MayWrite, WritesSome, with_disk, with_slot}
+use Rattle.qcow2_session.proofs.Common.{◌≡◌, ◌⊎◌, ⊎_elim, inl, inr, ℕ, suc, eqb, ◌+◌, ◌-◌, ◌%◌, ◌<◌, ◌≤◌, min, List, [], ◌∷◌, take, length, true, false, Option, Some, None, refl, sym, ap, ◌∙◌, subst, arith, cond-true, cond-false, cases_Bool, ne_eqb, common_steps, fun_ext, byte_at, laid_over, is_within, rounded_down, Value, known_byte, Disk, with_bytes, GivenBytes, IsGiven, PreparedMapping, IsPrepared, put_disk, put_mapping, committed, given_of, given_by_put, given_by_commit, Setting, Abstraction, HasFreePlaces, Guest, abstract_image, guest_of, Refusal, memory, storage, not_compressed, another, IsRefusalByFault, AnsweredEffect, RefusedEffect, IsSame, MayWrite, WritesSome, with_disk, with_slot, shown_is, touches_part}
 use Rattle.qcow2_disk.proofs.ForUsers.{put_given}
 use Rattle.qcow2_disk.proofs.Within.{within_is}
 use Rattle.qcow2_session.proofs.Bytes.{byte_in, laid_in, laid_out, no_bytes, same_values, part_within}
 use Rattle.qcow2_session.proofs.Places.{enters, leaves}
-use Rattle.qcow2_disk.proofs.Compose.{shown_is}
 use Rattle.qcow2_session.proofs.Turns.{none_within, does_if, refuses_if, refuses_fault, refuses_why, does_less, does_then, refuses_then, refused_then, IsWithin}
-use Rattle.qcow2_image.proofs.Images.UngivenCovers.{touches_part}
 use Rattle.qcow2_image.proofs.Images.WholeClusters.{commit_touches}
 
 some_is : {X : Type 0} {a b : X} → Some a ≡ Some b → a ≡ b

@@ -1,36 +1,8 @@
 -- Clearing a range is one step of a run.
-use Rattle.std.proofs.Common.{◌≡◌, ◌∷◌, [], inl, inr, refl, sym, ap, ◌∙◌, subst, ℕ, ◌+◌, ◌<◌, ◌≤◌, Bool, true, false, IsTrue, List, Option, Some, None, arith}
-use Rattle.std.specs.Prelude.{Result, Ok, Err, IfOk, IfSome, OnOk, ◌&&◌, nat_lt, not}
-use Rattle.std.specs.Option.{option_or}
-use Rattle.std.proofs.lemmas.Bool.{cases_lt, lt-ltb}
-use Rattle.std.proofs.lemmas.Grind.{common_steps}
-use Rattle.image_access.specs.Backing.{BackingView}
-use Rattle.image_access.specs.Moments.{StorageView}
-use Rattle.qcow2_metadata.specs.declared.header.HeaderFields.{HeaderFields}
-use Rattle.qcow2_metadata.specs.Header.{header, cluster_size}
-use Rattle.qcow2_disk.specs.AbstractImages.{Setting}
-use Rattle.qcow2_disk.specs.Calls.{Clearing, cleared_at, given_by_clear, with_disk}
+use Rattle.qcow2_session.proofs.Common.{◌≡◌, ◌∷◌, [], inl, inr, refl, sym, ap, ◌∙◌, subst, ℕ, ◌+◌, ◌<◌, ◌≤◌, Bool, true, false, IsTrue, List, Option, Some, None, arith, Result, Ok, Err, IfOk, IfSome, OnOk, ◌&&◌, nat_lt, not, option_or, cases_lt, lt-ltb, common_steps, BackingView, StorageView, HeaderFields, header, cluster_size, Setting, Clearing, cleared_at, given_by_clear, with_disk, State, RefinesState, RefinesCommand, clear, done_as, refused_as, ImageError, known_in, AnswersCall, from_in, refuses_clearing, setting_of, to_in, Qcow2, Prepared, CountsImageFaults, is_writable, size_of, ImageInvariant, abstract_of, disk_of, pending_in, passes, refuse_if, unusable, header_is, disk_size, reply_of, reply_of_clearing, CommandCounts, ReportsRange, Reply}
 use Rattle.qcow2_disk.specs.ClearedCovers.{ClearsCovers, IsRightlyCleared, needs_zeros, rounds_past}
 use Rattle.qcow2_disk.specs.Rules.{answered, touched_from, touched_to}
-use Rattle.qcow2_disk.specs.Runs.{State, RefinesState, RefinesCommand, clear}
-use Rattle.qcow2_disk.proofs.RunSteps.{done_as, refused_as}
-use Rattle.qcow2_alloc.specs.declared.error.ImageError.{ImageError}
 use Rattle.qcow2_alloc.specs.declared.error.ImageError.TheVariants as I
-use Rattle.qcow2_alloc.specs.ImageFile.{known_in}
-use Rattle.qcow2_image.specs.Calls.{AnswersCall}
-use Rattle.qcow2_image.specs.Clearing.{from_in, refuses_clearing, setting_of, to_in}
-use Rattle.qcow2_image.specs.declared.image.Qcow2.{Qcow2}
-use Rattle.qcow2_image.specs.declared.prepared.Prepared.{Prepared}
-use Rattle.qcow2_image.specs.Faults.{CountsImageFaults}
-use Rattle.qcow2_image.specs.Image.{is_writable, size_of}
-use Rattle.qcow2_image.specs.ImageInvariant.{ImageInvariant, abstract_of, disk_of, pending_in}
-use Rattle.qcow2_image.specs.Refusals.{passes, refuse_if, unusable}
-use Rattle.qcow2_image.proofs.Images.HiddenBytes.{header_is}
-use Rattle.qcow2_image.proofs.Images.Sizes.{disk_size}
-use Rattle.qcow2_session.specs.Commands.{reply_of, reply_of_clearing}
-use Rattle.qcow2_session.specs.CountedFaults.{CommandCounts}
-use Rattle.qcow2_session.specs.Told.{ReportsRange}
-use Rattle.qcow2_session.specs.declared.session.Reply.{Reply}
 use Rattle.qcow2_session.proofs.Answering.{error_is, first_of_all, not_both}
 use Rattle.qcow2_session.proofs.Turns.{does_if}
 

@@ -1,35 +1,9 @@
 -- The disk of an image is made equal to a raw disk, range by range.
-use Rattle.std.proofs.Common.{◌≡◌, ◌⊎◌, ⊎_elim, inl, inr, ℕ, ◌+◌, ◌-◌, ◌*◌, ◌/◌, ◌%◌, ◌<◌, ◌≤◌, List, [], ◌∷◌, ◌++◌, replicate, take, drop, length, refl, sym, ap, ◌∙◌, subst, arith}
-use Rattle.std.proofs.Math.Nat.{div-add-mod, mod-eq_of_lt, zero-mod, mul-add-mod_self_left}
-use Rattle.std.proofs.lemmas.Bool.{cases_lt}
-use Rattle.std.proofs.lemmas.Grind.{common_steps}
-use Rattle.std.proofs.lemmas.List.{length-replicate}
-use Rattle.std.specs.Prelude.{Option, Result, Ok, Err}
-use Rattle.image_access.specs.Contents.{bytes_at}
-use Rattle.image_access.proofs.Bytes.{same_contents, length-bytes_at, byte_at-bytes_at}
-use Rattle.qcow2_metadata.specs.Bytes.{byte_at}
-use Rattle.qcow2_metadata.specs.Guest.{known_byte}
-use Rattle.qcow2_disk.specs.Disk.{Disk, with_bytes}
-use Rattle.qcow2_disk.specs.Stops.{GivenBytes, IsGiven}
-use Rattle.qcow2_disk.specs.Mappings.{given_of}
-use Rattle.qcow2_disk.specs.AbstractImages.{Setting, AbstractImage, Guest, guest_of}
-use Rattle.qcow2_disk.specs.Calls.{Refusal, memory, storage, not_compressed, another, AnsweredEffect, RefusedEffect, Shows, MayWrite, WritesSome, IsSame, with_disk}
-use Rattle.image_access.specs.Backing.{BackingView}
-use Rattle.image_access.specs.Moments.{StorageView}
-use Rattle.qcow2_alloc.specs.declared.error.ImageError.{ImageError}
-use Rattle.qcow2_image.specs.Calls.{refusal_of, FlushesImage}
-use Rattle.qcow2_image.specs.declared.image.Qcow2.{Qcow2}
-use Rattle.qcow2_image.specs.declared.prepared.Prepared.{Prepared}
-use Rattle.qcow2_image.specs.Image.{size_of}
-use Rattle.qcow2_image.specs.ImageInvariant.{abstract_of}
-use Rattle.qcow2_session.specs.Sessions.{HasWritten, ReadsInto, Writes, EndsCluster, cluster_size_of}
-use Rattle.qcow2_session.specs.Conversions.{RefusedConversion, HasSome, IsRawOf, Imports, ImportsAll, ImportsAt, ImportsAny, ImportsAnyAt, ImportsAnyOf}
+use Rattle.qcow2_session.proofs.Common.{◌≡◌, ◌⊎◌, ⊎_elim, inl, inr, ℕ, ◌+◌, ◌-◌, ◌*◌, ◌/◌, ◌%◌, ◌<◌, ◌≤◌, List, [], ◌∷◌, ◌++◌, replicate, take, drop, length, refl, sym, ap, ◌∙◌, subst, arith, div-add-mod, mod-eq_of_lt, zero-mod, mul-add-mod_self_left, cases_lt, common_steps, length-replicate, Option, Result, Ok, Err, bytes_at, same_contents, length-bytes_at, byte_at-bytes_at, byte_at, known_byte, Disk, with_bytes, GivenBytes, IsGiven, given_of, Setting, AbstractImage, Guest, guest_of, Refusal, memory, storage, not_compressed, another, AnsweredEffect, RefusedEffect, Shows, MayWrite, WritesSome, IsSame, with_disk, BackingView, StorageView, ImageError, refusal_of, FlushesImage, Qcow2, Prepared, size_of, abstract_of, HasWritten, ReadsInto, Writes, EndsCluster, cluster_size_of, RefusedConversion, HasSome, IsRawOf, Imports, ImportsAll, ImportsAt, ImportsAny, ImportsAnyAt, ImportsAnyOf, stops_none, rests_none, touches_part}
 use Rattle.qcow2_session.proofs.Bytes.{cut_short, cut_part, byte_in, byte_out, cases_place, no_bytes, same_values, part_within, rest_long, rest_part}
 use Rattle.qcow2_session.proofs.Chunks.{may_write_none}
 use Rattle.qcow2_session.proofs.Turns.{IsWithin, all_within, none_within, does_if, does_why, does_less, does_then, acts_less, acts_then}
 use Rattle.qcow2_session.proofs.Writing.{writes_more, may_write_more}
-use Rattle.qcow2_disk.proofs.Compose.{stops_none, rests_none}
-use Rattle.qcow2_image.proofs.Images.UngivenCovers.{touches_part}
 
 -- no call at all
 pub does_nothing : (v : AbstractImage) → AnsweredEffect v v [] [] (guest_of v ≡ guest_of v)

@@ -1,48 +1,14 @@
 -- What a write leaves: copied data, in the image's own file.
-use Rattle.std.proofs.Common.{◌≡◌, ⊎_elim, inl, inr, ℕ, ◌+◌, ◌-◌, ◌*◌, ◌/◌, ◌%◌, ◌^◌, ◌<◌, ◌≤◌, Bool, true, false, Option, Some, None, List, [], ◌∷◌, drop, length, take, is_some, refl, sym, ap, ◌∙◌, subst, arith}
-use Rattle.std.specs.Prelude.{IsSome, Ok, not}
-use Rattle.std.proofs.lemmas.Grind.{common_steps}
-use Rattle.std.proofs.Math.Nat.{div-div-eq-div-mul}
-use Rattle.std.proofs.lemmas.Bool.{cases_lt, cond-false, le-ltb}
-use Rattle.std.proofs.lemmas.Nat.{div-add-mod', div-mul-add, mod_below, pow_pos}
+use Rattle.qcow2_session.proofs.Common.{◌≡◌, ⊎_elim, inl, inr, ℕ, ◌+◌, ◌-◌, ◌*◌, ◌/◌, ◌%◌, ◌^◌, ◌<◌, ◌≤◌, Bool, true, false, Option, Some, None, List, [], ◌∷◌, drop, length, take, is_some, refl, sym, ap, ◌∙◌, subst, arith, IsSome, Ok, not, common_steps, div-div-eq-div-mul, cases_lt, cond-false, le-ltb, div-add-mod', div-mul-add, mod_below, pow_pos, BackingView, StorageView, Bytes, cover, cluster_size, entries_per_cluster, HeaderFields, L2Mapping, Data, Zero, Compressed, Uncovered, Setting, AreDataAt, IsAlike, IsDataAt, EffectOnSound, kind_at, raw, rest_of_table, given_of, is_copied_data, IsRightlyWritten, GivenBytes, IsUngiven, Touches, contents_in, known_in, IsEntryAt, ShowsKnown, header_is, l1_index_of, mapping_of, abstract_of, meaning, pending_in, ImageInvariant, guest_offset_of, length_of, offset_of, IsAnswered, Prepares, StandsByPart, LeavesCopied, Writes, ReleasesOneMapping, Qcow2, Image, Prepared}
 use Rattle.std.proofs.Math.Pow.{shr_mono}
-use Rattle.image_access.specs.Backing.{BackingView}
-use Rattle.image_access.specs.Moments.{StorageView}
-use Rattle.qcow2_metadata.specs.Bytes.{Bytes}
-use Rattle.qcow2_metadata.specs.Cover.{cover}
 use Rattle.qcow2_metadata.specs.Entries.{host_offset, l1_entry}
-use Rattle.qcow2_metadata.specs.Header.{cluster_size, entries_per_cluster}
-use Rattle.qcow2_metadata.specs.declared.header.HeaderFields.{HeaderFields}
-use Rattle.qcow2_metadata.specs.declared.l2_mapping.L2Mapping.{L2Mapping}
-use Rattle.qcow2_metadata.specs.declared.l2_mapping.L2Mapping.TheVariants.{Data, Zero, Compressed, Uncovered}
-use Rattle.qcow2_disk.specs.AbstractImages.{Setting}
-use Rattle.qcow2_disk.specs.Alike.{AreDataAt, IsAlike, IsDataAt}
-use Rattle.qcow2_disk.specs.Calls.{EffectOnSound}
-use Rattle.qcow2_disk.specs.Found.{kind_at, raw, rest_of_table}
-use Rattle.qcow2_disk.specs.Mappings.{given_of, is_copied_data}
-use Rattle.qcow2_disk.specs.Runs.{IsRightlyWritten}
-use Rattle.qcow2_disk.specs.Stops.{GivenBytes}
-use Rattle.qcow2_disk.specs.UngivenCovers.{IsUngiven, Touches}
 use Rattle.qcow2_alloc.proofs.KeptTables.Mapping.{shown_if}
-use Rattle.qcow2_alloc.specs.ImageFile.{contents_in, known_in}
-use Rattle.qcow2_alloc.specs.MetadataCaches.{IsEntryAt, ShowsKnown}
-use Rattle.qcow2_image.proofs.Images.HiddenBytes.{header_is}
 use Rattle.qcow2_image.proofs.Map.Looked.{cached_says}
 use Rattle.qcow2_image.specs.CallParts.{AreCopied}
-use Rattle.qcow2_image.specs.Found.{l1_index_of, mapping_of}
 use Rattle.qcow2_image.specs.HeldMappings.{IsHeldAs, IsMappedByNamed, named_place}
-use Rattle.qcow2_image.specs.ImageInvariant.{abstract_of, meaning, pending_in, ImageInvariant}
-use Rattle.qcow2_image.specs.Prepared.{guest_offset_of, length_of, offset_of}
-use Rattle.qcow2_image.specs.Preparing.{IsAnswered}
 use Rattle.qcow2_image.proofs.Preallocate.FilledGrowth.{up_least}
-use Rattle.qcow2_image.specs.Calls.{Prepares}
-use Rattle.qcow2_session.specs.Sessions.{StandsByPart, LeavesCopied, Writes}
 use Rattle.qcow2_session.proofs.WrittenParts.{writes_none, writes_on}
-use Rattle.qcow2_image.specs.Ranges.{ReleasesOneMapping}
-use Rattle.qcow2_image.specs.declared.image.Qcow2.{Qcow2}
 use Rattle.qcow2_image.specs.declared.mapping.MappingKind.TheVariants.{Raw}
-use Rattle.qcow2_image.specs.declared.mapping.Place.TheVariants.{Image}
-use Rattle.qcow2_image.specs.declared.prepared.Prepared.{Prepared}
 
 -- what is reported as writable is copied data there
 record IsCopiedFrom (h : HeaderFields) (offset place : ℕ) (m : L2Mapping) : Type 0 where

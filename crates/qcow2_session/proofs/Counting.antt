@@ -1,24 +1,8 @@
 -- The failures that a run counts command by command, and a conversion call by call.
-use Rattle.std.proofs.Common.{◌≡◌, ◌≢◌, ℕ, inl, inr, List, [], ◌∷◌, ◌++◌, None, Some, Result, Ok, Err, refl, sym, ap, ◌∙◌, subst, arith}
-use Rattle.image_access.specs.Backing.{BackingView}
-use Rattle.image_access.specs.Moments.{StorageView, HasCause, Rose}
-use Rattle.image_access.specs.declared.error.StorageError.{StorageError}
+use Rattle.qcow2_session.proofs.Common.{◌≡◌, ◌≢◌, ℕ, inl, inr, List, [], ◌∷◌, ◌++◌, None, Some, Result, Ok, Err, refl, sym, ap, ◌∙◌, subst, arith, BackingView, StorageView, HasCause, Rose, StorageError, of_storage, ImageError, Qcow2, CommitRefused, reason_of, is_failed, CountsImageChanges, CountsImageFaults, IsNotOfStorage, NoFewerFaults, SameFaults, ReportsFault, counted_since, each_since, faults_then, fewer_of, rose_after, tells_since, untouched, changes_before, counts_on, counts_still, FailsBy, MarksConversion, MarksInParts, CommandCounts, ConversionCounts, RunCounts, ReportsConversion, refusal_in, Reply}
 use Rattle.image_access.specs.declared.error.StorageError.TheVariants as S
-use Rattle.qcow2_alloc.specs.ImageError.{of_storage}
-use Rattle.qcow2_alloc.specs.declared.error.ImageError.{ImageError}
 use Rattle.qcow2_alloc.specs.declared.error.ImageError.TheVariants as I
-use Rattle.qcow2_image.specs.declared.image.Qcow2.{Qcow2}
-use Rattle.qcow2_image.specs.declared.prepared.CommitRefused.{CommitRefused}
-use Rattle.qcow2_image.specs.Calls.{reason_of}
-use Rattle.qcow2_image.specs.Image.{is_failed}
-use Rattle.qcow2_image.specs.Noted.{CountsImageChanges}
-use Rattle.qcow2_image.specs.Faults.{CountsImageFaults, IsNotOfStorage, NoFewerFaults, SameFaults, ReportsFault}
-use Rattle.qcow2_image.proofs.Call.FaultCounts.{counted_since, each_since, faults_then, fewer_of, rose_after, tells_since, untouched}
-use Rattle.qcow2_image.proofs.Call.OnceWritten.{changes_before, counts_on, counts_still}
-use Rattle.qcow2_session.specs.Marks.{FailsBy, MarksConversion, MarksInParts}
 use Rattle.qcow2_session.proofs.Marking.{fails_no_more, parts_behind, stays_failed}
-use Rattle.qcow2_session.specs.CountedFaults.{CommandCounts, ConversionCounts, RunCounts, ReportsConversion, refusal_in}
-use Rattle.qcow2_session.specs.declared.session.Reply.{Reply}
 
 -- a storage that is refused as failed counts that
 raw_fault : {A : Type 0} (x : StorageError) (before now : ℕ) → HasCause {T = A} before now (Err x) → of_storage x ≡ I.Storage → Rose before now

@@ -1,28 +1,7 @@
 -- Bytes that the disk already has are never refused as ones that may not be written.
-use Rattle.std.proofs.Common.{◌≡◌, inl, inr, ℕ, ◌+◌, ◌<◌, ◌≤◌, Bool, true, false, List, [], ◌∷◌, take, length, refl, sym, ap, ◌∙◌, subst, arith}
-use Rattle.std.specs.Prelude.{IfErr, MatchOption, Option, Result, Ok, Err}
-use Rattle.std.specs.Option.{option_or}
-use Rattle.image_access.specs.Backing.{BackingView}
-use Rattle.image_access.specs.Contents.{bytes_at}
-use Rattle.image_access.specs.Moments.{HasCause, StorageView}
-use Rattle.image_access.specs.declared.error.StorageError.{StorageError}
+use Rattle.qcow2_session.proofs.Common.{◌≡◌, inl, inr, ℕ, ◌+◌, ◌<◌, ◌≤◌, Bool, true, false, List, [], ◌∷◌, take, length, refl, sym, ap, ◌∙◌, subst, arith, IfErr, MatchOption, Option, Result, Ok, Err, option_or, BackingView, bytes_at, HasCause, StorageView, StorageError, same_contents, length-bytes_at, byte_at-bytes_at, known_byte, Disk, with_bytes, given_of, Guest, guest_of, AnsweredEffect, Shows, with_disk, of_storage, ImageError, is_external, is_failed, size_of, MayFail, passes, refuse_if, refuses_to_read, Qcow2, Prepared, abstract_of, IsOfReading, ReadsInto, DiffersWhereKept, IsKeptFromWriting, IsRefusedUnequal}
 use Rattle.image_access.specs.declared.error.StorageError.TheVariants as S
-use Rattle.image_access.proofs.Bytes.{same_contents, length-bytes_at, byte_at-bytes_at}
-use Rattle.qcow2_metadata.specs.Guest.{known_byte}
-use Rattle.qcow2_disk.specs.Disk.{Disk, with_bytes}
-use Rattle.qcow2_disk.specs.Mappings.{given_of}
-use Rattle.qcow2_disk.specs.AbstractImages.{Guest, guest_of}
-use Rattle.qcow2_disk.specs.Calls.{AnsweredEffect, Shows, with_disk}
-use Rattle.qcow2_alloc.specs.ImageError.{of_storage}
-use Rattle.qcow2_alloc.specs.declared.error.ImageError.{ImageError}
 use Rattle.qcow2_alloc.specs.declared.error.ImageError.TheVariants as I
-use Rattle.qcow2_image.specs.Image.{is_external, is_failed, size_of}
-use Rattle.qcow2_image.specs.Refusals.{MayFail, passes, refuse_if, refuses_to_read}
-use Rattle.qcow2_image.specs.declared.image.Qcow2.{Qcow2}
-use Rattle.qcow2_image.specs.declared.prepared.Prepared.{Prepared}
-use Rattle.qcow2_image.specs.ImageInvariant.{abstract_of}
-use Rattle.qcow2_session.specs.Sessions.{IsOfReading, ReadsInto}
-use Rattle.qcow2_session.specs.Conversions.{DiffersWhereKept, IsKeptFromWriting, IsRefusedUnequal}
 use Rattle.qcow2_session.proofs.Bytes.{cut_part, cut_short, shows_as}
 use Rattle.qcow2_session.proofs.Converting.{shown_same}
 

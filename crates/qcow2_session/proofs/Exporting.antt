@@ -1,36 +1,9 @@
 -- A raw disk is made equal to the disk of an image, range by range.
-use Rattle.std.proofs.Common.{◌≡◌, false, inl, inr, ℕ, ◌+◌, ◌-◌, ◌/◌, ◌<◌, ◌≤◌, Bool, List, [], is_some, length, refl, replicate, sym, ap, ◌∙◌, subst, arith}
-use Rattle.std.proofs.lemmas.Bool.{cases_lt}
-use Rattle.std.proofs.lemmas.Grind.{common_steps}
-use Rattle.std.proofs.lemmas.List.{length-replicate, get_or-replicate}
-use Rattle.std.specs.Prelude.{None, Option, Result, Err}
-use Rattle.std.specs.Option.{option_or}
-use Rattle.image_access.specs.Backing.{BackingView}
-use Rattle.image_access.specs.Contents.{overwritten, resized}
-use Rattle.image_access.specs.Moments.{StorageView}
-use Rattle.image_access.proofs.Bytes.{length-resized, byte_at-resized, byte_at-resized_past, length-overwritten_within, byte_at-overwritten, byte_at-overwritten_below, byte_at-overwritten_behind}
-use Rattle.qcow2_metadata.specs.Bytes.{byte_at}
-use Rattle.qcow2_metadata.specs.Cover.{cover}
-use Rattle.qcow2_metadata.specs.Guest.{known_byte}
-use Rattle.qcow2_metadata.specs.Header.{cluster_size}
-use Rattle.qcow2_metadata.specs.declared.header.HeaderFields.{HeaderFields}
-use Rattle.qcow2_disk.specs.Disk.{Disk}
-use Rattle.qcow2_disk.specs.AbstractImages.{Guest, guest_of}
-use Rattle.qcow2_disk.specs.Calls.{AnsweredEffect, Shows, IsSame}
-use Rattle.qcow2_disk.specs.Found.{Kind, IsFoundIn, IsFound as IsFoundOf}
+use Rattle.qcow2_session.proofs.Common.{◌≡◌, false, inl, inr, ℕ, ◌+◌, ◌-◌, ◌/◌, ◌<◌, ◌≤◌, Bool, List, [], is_some, length, refl, replicate, sym, ap, ◌∙◌, subst, arith, cases_lt, common_steps, length-replicate, get_or-replicate, None, Option, Result, Err, option_or, BackingView, overwritten, resized, StorageView, length-resized, byte_at-resized, byte_at-resized_past, length-overwritten_within, byte_at-overwritten, byte_at-overwritten_below, byte_at-overwritten_behind, byte_at, cover, known_byte, cluster_size, HeaderFields, Disk, Guest, guest_of, AnsweredEffect, Shows, IsSame, Kind, IsFoundIn, known_in, state_in, ImageError, refusal_of, IsSameImage, is_failed, size_of, passes, refuse_if, refuses_to_read, unusable, Qcow2, Prepared, ImageInvariant, abstract_of, backing_bytes, disk_of, pending_in, header_is, RefusedConversion, IsRawOf, IsUnchanged, IsFilledUpTo, Fills}
+use Rattle.qcow2_disk.specs.Found.{IsFound as IsFoundOf}
 use Rattle.qcow2_disk.specs.Found as K
-use Rattle.qcow2_alloc.specs.ImageFile.{known_in, state_in}
-use Rattle.qcow2_alloc.specs.declared.error.ImageError.{ImageError}
 use Rattle.qcow2_alloc.specs.declared.error.ImageError.TheVariants as I
-use Rattle.qcow2_image.specs.Calls.{refusal_of}
-use Rattle.qcow2_image.specs.Image.{IsSameImage, is_failed, size_of}
-use Rattle.qcow2_image.specs.Refusals.{passes, refuse_if, refuses_to_read, unusable}
-use Rattle.qcow2_image.specs.declared.image.Qcow2.{Qcow2}
-use Rattle.qcow2_image.specs.declared.prepared.Prepared.{Prepared}
-use Rattle.qcow2_image.specs.ImageInvariant.{ImageInvariant, abstract_of, backing_bytes, disk_of, pending_in}
-use Rattle.qcow2_image.proofs.Images.HiddenBytes.{header_is}
 use Rattle.qcow2_image.proofs.Map.Reading.{none_below, zero_shown}
-use Rattle.qcow2_session.specs.Conversions.{RefusedConversion, IsRawOf, IsUnchanged, IsFilledUpTo, Fills}
 use Rattle.qcow2_session.proofs.Causing.{then_none}
 use Rattle.qcow2_session.proofs.Parts.{not_failed_yet, part_reads}
 

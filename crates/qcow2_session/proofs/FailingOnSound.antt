@@ -1,42 +1,12 @@
 -- Why reads, lookups and writes of a sound image are refused.
 use Rattle.qcow2_alloc.specs.declared.error.ImageError.TheVariants as I
 use Rattle.qcow2_image.specs.declared.mapping.MappingKind.TheVariants as M
-use Rattle.std.proofs.Common.{◌≡◌, inl, inr, ℕ, zero, suc, ◌+◌, ◌-◌, ◌*◌, ◌/◌, ◌%◌, ◌^◌, ◌<◌, ◌≤◌, ◌∷◌, Bool, true, false, List, [], Option, Some, None, refl, sym, ap, ◌∙◌, subst, arith, pow_mono, ⊎_elim}
-use Rattle.std.specs.Prelude.{IsNone, IsSome, is_some, slice_get, ◌&&◌}
-use Rattle.std.proofs.lemmas.Bool.{cases_lt}
-use Rattle.std.proofs.lemmas.Grind.{common_steps}
-use Rattle.std.proofs.lemmas.Nat.{div-add-mod', mod_below, pow_pos}
-use Rattle.image_access.specs.Backing.{BackingView}
-use Rattle.image_access.specs.Moments.{StorageView}
-use Rattle.qcow2_metadata.specs.Bytes.{Bytes, is_within}
-use Rattle.qcow2_metadata.specs.Cover.{cover}
-use Rattle.qcow2_metadata.specs.Header.{cluster_size, header}
-use Rattle.qcow2_metadata.specs.declared.header.HeaderFields.{HeaderFields}
-use Rattle.qcow2_metadata.specs.declared.l2_mapping.L2Mapping.{L2Mapping}
-use Rattle.qcow2_metadata.specs.declared.l2_mapping.L2Mapping.TheVariants.{Compressed, Data, Uncovered, Zero}
-use Rattle.qcow2_disk.specs.Alike.{AreDataAt}
-use Rattle.qcow2_disk.specs.Calls.{EffectOnSound}
-use Rattle.qcow2_disk.specs.Found.{Kind, IsCompressed, IsFoundIn, eof, indirect, kind_at, raw, rest_of_table, special, zeros, IsFound as IsFoundOf}
-use Rattle.qcow2_disk.specs.UngivenCovers.{Touches}
-use Rattle.qcow2_alloc.specs.ImageFile.{contents_in, known_in}
-use Rattle.qcow2_alloc.specs.declared.error.ImageError.{ImageError}
-use Rattle.qcow2_image.proofs.Images.HiddenBytes.{header_is}
+use Rattle.qcow2_session.proofs.Common.{◌≡◌, inl, inr, ℕ, zero, suc, ◌+◌, ◌-◌, ◌*◌, ◌/◌, ◌%◌, ◌^◌, ◌<◌, ◌≤◌, ◌∷◌, Bool, true, false, List, [], Option, Some, None, refl, sym, ap, ◌∙◌, subst, arith, pow_mono, ⊎_elim, IsNone, IsSome, is_some, slice_get, ◌&&◌, cases_lt, common_steps, div-add-mod', mod_below, pow_pos, BackingView, StorageView, Bytes, is_within, cover, cluster_size, header, HeaderFields, L2Mapping, Compressed, Data, Uncovered, Zero, AreDataAt, EffectOnSound, Kind, IsCompressed, IsFoundIn, eof, indirect, kind_at, raw, rest_of_table, special, zeros, Touches, contents_in, known_in, ImageError, header_is, HasPinnedMapping, IsFoundWhole, found_kind, further_by, size_of, ImageInvariant, IsReadyWith, abstract_of, meaning, pending_in, IsUnlimited, fault_unlimited, CopiesCompressed, HasCompressedIn, IsCacheHeld, MayFailLooking, MayFailMapped, MayFailPutting, MayFailReadingRange, IsSpecial, MayFailLookingAgain, guest_offset_of, length_of, offset_of, table_of, IsAnswered, Qcow2, Image, Prepared}
+use Rattle.qcow2_disk.specs.Found.{IsFound as IsFoundOf}
 use Rattle.qcow2_image.proofs.Map.Looked.{compressed_there, data_found, found_upto, product_le}
 use Rattle.qcow2_image.proofs.Prepare.NameablePlaces.{IsNearData, cover_near}
 use Rattle.qcow2_image.proofs.Images.ClusterMappings.{never_private}
-use Rattle.qcow2_image.specs.Backings.{HasPinnedMapping}
-use Rattle.qcow2_image.specs.Found.{IsFoundWhole, found_kind, further_by}
-use Rattle.qcow2_image.specs.Image.{size_of}
-use Rattle.qcow2_image.specs.ImageInvariant.{ImageInvariant, IsReadyWith, abstract_of, meaning, pending_in}
-use Rattle.qcow2_image.specs.Refusals.{IsUnlimited}
-use Rattle.qcow2_image.proofs.Call.Unlimited.{fault_unlimited}
-use Rattle.qcow2_image.specs.MayFail.{CopiesCompressed, HasCompressedIn, IsCacheHeld, MayFailLooking, MayFailMapped, MayFailPutting, MayFailReadingRange, IsSpecial, MayFailLookingAgain}
-use Rattle.qcow2_image.specs.Prepared.{guest_offset_of, length_of, offset_of, table_of}
-use Rattle.qcow2_image.specs.Preparing.{IsAnswered}
-use Rattle.qcow2_image.specs.declared.image.Qcow2.{Qcow2}
 use Rattle.qcow2_image.specs.declared.mapping.MappingKind.{MappingKind}
-use Rattle.qcow2_image.specs.declared.mapping.Place.TheVariants.{Image}
-use Rattle.qcow2_image.specs.declared.prepared.Prepared.{Prepared}
 use Rattle.qcow2_session.proofs.Copied.{kept_cover, same_size}
 
 -- where the cache is full of tables that are held, a mapping is prepared

@@ -1,21 +1,9 @@
 -- The contents after the first writes of a storage that records its changes are contents that the storage had at a moment since.
-use Rattle.std.proofs.Common.{◌≡◌, ⊎_elim, inl, inr, ℕ, List, [], map, length, Option, Result, Ok, Err, sym, ap, subst}
-use Rattle.std.specs.Prelude.{Vec}
-use Rattle.std.specs.Global.{Global}
-use Rattle.image_access.specs.Backing.{BackingView}
+use Rattle.qcow2_session.proofs.Common.{◌≡◌, ⊎_elim, inl, inr, ℕ, List, [], map, length, Option, Result, Ok, Err, sym, ap, subst, Vec, Global, BackingView, IsHeadline, ImageError, Qcow2, storage_of_image, image_abstraction, command_of, reply_of, EachMomentOpensAgain, HadNoRoom, Headline, bytes_below, Command, Reply}
 use Rattle.image_access.specs.Changes.{HadSince}
 use Rattle.image_access.specs.TraceStorage.{Trace, view_of_trace}
 use Rattle.image_access.proofs.Replays.{had_up_to_write}
-use Rattle.qcow2_disk.specs.Headline.{IsHeadline}
-use Rattle.qcow2_alloc.specs.declared.error.ImageError.{ImageError}
-use Rattle.qcow2_image.specs.declared.image.Qcow2.{Qcow2}
-use Rattle.qcow2_image.specs.Image.{storage_of_image}
-use Rattle.qcow2_image.specs.ImageInvariant.{image_abstraction}
-use Rattle.qcow2_session.specs.Commands.{command_of, reply_of}
-use Rattle.qcow2_session.specs.Opening.{EachMomentOpensAgain, HadNoRoom, Headline, bytes_below}
 use Rattle.qcow2_session.specs.Recorded.{FirstWritesAreStops, contents_after}
-use Rattle.qcow2_session.specs.declared.session.Command.{Command}
-use Rattle.qcow2_session.specs.declared.session.Reply.{Reply}
 
 had_after : (k : ℕ) (before now : Trace) → before.changes ≡ [] → (view_of_trace now).had_since (view_of_trace before).moment (contents_after k now)
 had_after k before now none = let n : length before.changes ≡ 0 = ap length none in subst (λ (t : ℕ). HadSince now.start now.changes t (contents_after k now)) (sym n) (had_up_to_write now.start k now.changes)

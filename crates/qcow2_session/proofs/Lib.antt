@@ -1,3 +1,4 @@
+pub mod Common
 pub mod Turns
 mod Opening
 mod FirstWrites

@@ -1,16 +1,6 @@
 -- The lookups at the start of a run of an image that was just opened.
-use Rattle.std.proofs.Common.{◌≡◌, inl, inr, List, [], ◌∷◌, Bool, false, sym, ap, ◌∙◌, subst, ℕ, map}
-use Rattle.image_access.specs.Backing.{BackingView}
-use Rattle.image_access.specs.Moments.{StorageView}
-use Rattle.qcow2_metadata.specs.Bytes.{Bytes}
-use Rattle.qcow2_disk.specs.Found.{Kind, IsFoundIn}
-use Rattle.qcow2_disk.specs.AbstractImages.{Setting}
-use Rattle.qcow2_disk.specs.Runs.{Command, State, CommandStep, get_mapping, mapping_is}
-use Rattle.qcow2_alloc.specs.ImageFile.{known_in}
-use Rattle.qcow2_image.specs.Found.{found_kind}
-use Rattle.qcow2_session.specs.Commands.{command_of, reply_of}
-use Rattle.qcow2_session.specs.Sessions.{LooksUp}
-use Rattle.qcow2_session.specs.Told.{RunPoint, StepsAlong}
+use Rattle.qcow2_session.proofs.Common.{◌≡◌, inl, inr, List, [], ◌∷◌, Bool, false, sym, ap, ◌∙◌, subst, ℕ, map, BackingView, StorageView, Bytes, Kind, IsFoundIn, Setting, State, CommandStep, get_mapping, mapping_is, known_in, found_kind, command_of, reply_of, LooksUp, RunPoint, StepsAlong}
+use Rattle.qcow2_disk.specs.Runs.{Command}
 use Rattle.qcow2_session.specs.declared.session.Command.{Command as SessionCommand}
 use Rattle.qcow2_session.specs.declared.session.Command.TheVariants as C
 use Rattle.qcow2_session.specs.declared.session.Reply.{Reply as SessionReply}

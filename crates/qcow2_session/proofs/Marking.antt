@@ -1,22 +1,6 @@
 -- When commands fail an image, one call after another.
-use Rattle.std.proofs.Common.{◌≡◌, ◌≢◌, ◌∙◌, inl, inr, ℕ, Bool, true, false, IsTrue, Option, Some, None, refl, sym, ap, subst}
-use Rattle.std.specs.Option.{option_or}
-use Rattle.std.specs.Prelude.{◌||◌, MatchOption, OnOk, Result, Ok, Err}
-use Rattle.image_access.specs.Moments.{StorageView}
-use Rattle.qcow2_alloc.specs.declared.error.ImageError.{ImageError}
+use Rattle.qcow2_session.proofs.Common.{◌≡◌, ◌≢◌, ◌∙◌, inl, inr, ℕ, Bool, true, false, IsTrue, Option, Some, None, refl, sym, ap, subst, option_or, ◌||◌, MatchOption, OnOk, Result, Ok, Err, StorageView, ImageError, IsNotOfStorage, reason_of, is_failed, CommitFailsOnceWritten, CountsImageChanges, FailsOnceWritten, MarksFailed, MarksRefused, failed_after, Qcow2, CommitRefused, changes_before, changes_later, counts_on, counts_still, once_none, reply_of_clearing, refusal_in, FailsBy, MarksAtOnce, MarksInParts, reason_in, Reply}
 use Rattle.qcow2_alloc.specs.declared.error.ImageError.TheVariants as I
-use Rattle.qcow2_image.specs.Faults.{IsNotOfStorage}
-use Rattle.qcow2_image.specs.Calls.{reason_of}
-use Rattle.qcow2_image.specs.Image.{is_failed}
-use Rattle.qcow2_image.specs.Noted.{CommitFailsOnceWritten, CountsImageChanges, FailsOnceWritten}
-use Rattle.qcow2_image.specs.Refusals.{MarksFailed, MarksRefused, failed_after}
-use Rattle.qcow2_image.specs.declared.image.Qcow2.{Qcow2}
-use Rattle.qcow2_image.specs.declared.prepared.CommitRefused.{CommitRefused}
-use Rattle.qcow2_image.proofs.Call.OnceWritten.{changes_before, changes_later, counts_on, counts_still, once_none}
-use Rattle.qcow2_session.specs.Commands.{reply_of_clearing}
-use Rattle.qcow2_session.specs.CountedFaults.{refusal_in}
-use Rattle.qcow2_session.specs.Marks.{FailsBy, MarksAtOnce, MarksInParts, reason_in}
-use Rattle.qcow2_session.specs.declared.session.Reply.{Reply}
 
 stays_marked : (before recorded now : Bool) → now ≡ (before || recorded) → IsTrue before → IsTrue now
 stays_marked true recorded now is failed = is

@@ -1,21 +1,7 @@
 -- What calls on prepared mappings do, as commands of a run.
-use Rattle.std.proofs.Common.{◌≡◌, inl, inr, ℕ, zero, suc, ◌+◌, ◌-◌, ◌<◌, ◌≤◌, ◌≢◌, min, eqb, get_or, List, [], ◌∷◌, Bool, true, false, refl, sym, ap, ◌∙◌, subst, Option, Some, None, length, Bor, arith}
-use Rattle.std.specs.Prelude.{slice_get, slice_set, MatchOption, is_some, ◌==◌, if◌then◌else◌}
-use Rattle.std.proofs.lemmas.Bool.{cond-true, cond-false, cases_Bool, cases_eq, cases_lt, eq-eqb, ne_eqb}
-use Rattle.std.proofs.lemmas.Option.{slice_get-get_or, slice_get_read}
-use mathlib.Core.Path.{fun_ext}
-use Rattle.qcow2_metadata.specs.Bytes.{Bytes}
-use Rattle.qcow2_metadata.specs.declared.header.HeaderFields.{HeaderFields}
-use Rattle.qcow2_disk.specs.Found.{IsFound, Kind}
-use Rattle.qcow2_disk.specs.Stops.{GivenBytes}
-use Rattle.qcow2_disk.specs.Mappings.{PreparedMapping, IsPrepared, put_mapping, put_disk, committed, given_by_put, given_by_commit}
-use Rattle.qcow2_disk.specs.AbstractImages.{Setting, HostRange, Abstraction, AbstractImage, abstract_image, guest_of, meaning_at}
-use Rattle.qcow2_disk.specs.Calls.{Refusal, CallEffect, AnsweredEffect, RefusedEffect, IsSame, with_disk, with_slot}
-use Rattle.qcow2_disk.specs.Runs.{Found, Command, Reply, State, RefinesState, CommandMeaning, CommandStep, found_after, given_at, given_by, put, commit, discard, prepare, done, prepared_is}
-use Rattle.qcow2_image.specs.declared.mapping.Mapping.{Mapping}
+use Rattle.qcow2_session.proofs.Common.{◌≡◌, inl, inr, ℕ, zero, suc, ◌+◌, ◌-◌, ◌<◌, ◌≤◌, ◌≢◌, min, eqb, get_or, List, [], ◌∷◌, Bool, true, false, refl, sym, ap, ◌∙◌, subst, Option, Some, None, length, Bor, arith, slice_get, slice_set, MatchOption, is_some, ◌==◌, if◌then◌else◌, cond-true, cond-false, cases_Bool, cases_eq, cases_lt, eq-eqb, ne_eqb, slice_get-get_or, slice_get_read, fun_ext, Bytes, HeaderFields, IsFound, Kind, GivenBytes, PreparedMapping, IsPrepared, put_mapping, put_disk, committed, given_by_put, given_by_commit, Setting, HostRange, Abstraction, AbstractImage, abstract_image, guest_of, meaning_at, Refusal, CallEffect, AnsweredEffect, RefusedEffect, IsSame, with_disk, with_slot, Found, State, RefinesState, CommandMeaning, CommandStep, found_after, given_at, given_by, put, commit, discard, prepare, done, prepared_is, Mapping, command_of, reply_of, looked_up_after, mapping_at, mappings_in, range_of}
+use Rattle.qcow2_disk.specs.Runs.{Command, Reply}
 use Rattle.qcow2_session.proofs.Places.{get_set_same}
-use Rattle.qcow2_session.specs.Commands.{command_of, reply_of}
-use Rattle.qcow2_session.specs.Sessions.{looked_up_after, mapping_at, mappings_in, range_of}
 use Rattle.qcow2_session.specs.declared.session.Command.{Command as SessionCommand}
 use Rattle.qcow2_session.specs.declared.session.Command.TheVariants as C
 use Rattle.qcow2_session.specs.declared.session.Reply.{Reply as SessionReply}

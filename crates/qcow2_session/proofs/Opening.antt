@@ -1,20 +1,10 @@
 -- Why a consistent image isn't opened: breaches that a consistent image doesn't have are no reason. What a stop leaves is consistent, so it opens again.
-use Rattle.std.proofs.Common.{◌≡◌, ⊎_elim, ℕ, true, List, [], None, inl, inr, sym, subst, arith}
-use Rattle.image_access.specs.Moments.{StorageView}
+use Rattle.qcow2_session.proofs.Common.{◌≡◌, ⊎_elim, ℕ, true, List, [], None, inl, inr, sym, subst, arith, StorageView, Bytes, byte_at, disk, shown_below, Checkpoint, checkpoint_at, IsSafeAfter, StopOkEverywhere, ImageError, Missing, nothing_given, IsKeptSince, MayRefuseToOpen, OpensAgain}
 use Rattle.image_access.proofs.EachMomentSince.{since_start}
-use Rattle.qcow2_metadata.specs.Bytes.{Bytes, byte_at}
 use Rattle.qcow2_metadata.specs.Consistent.{IsConsistent}
-use Rattle.qcow2_disk.specs.Disk.{disk}
-use Rattle.qcow2_disk.specs.Headline.{shown_below}
-use Rattle.qcow2_disk.specs.Stops.{Checkpoint, checkpoint_at, IsSafeAfter, StopOkEverywhere}
 use Rattle.qcow2_disk.proofs.Headline.{at_once}
-use Rattle.qcow2_alloc.specs.declared.error.ImageError.{ImageError}
 use Rattle.qcow2_alloc.specs.declared.error.ImageError.TheVariants as I
-use Rattle.qcow2_image.specs.declared.image.Missing.{Missing}
-use Rattle.qcow2_alloc.specs.ImageFile.{nothing_given}
-use Rattle.qcow2_image.specs.Opened.{IsKeptSince}
 use Rattle.qcow2_image.specs.Readable.{IsJustifiedRefusal}
-use Rattle.qcow2_session.specs.Opening.{MayRefuseToOpen, OpensAgain}
 
 pub refused_consistent : (contents : List ℕ) (missing : Missing) (e : ImageError) → IsConsistent (byte_at contents) → IsJustifiedRefusal contents true missing e → MayRefuseToOpen contents missing e
 refused_consistent contents missing I.Metadata is why = elim why [

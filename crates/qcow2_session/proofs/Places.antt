@@ -1,13 +1,6 @@
 -- Slots of prepared mappings.
-use Rattle.std.proofs.Common.{◌≡◌, ℕ, zero, suc, List, [], ◌∷◌, ◌++◌, refl, sym, ap, ◌∙◌, subst, Option, Some, None, length}
-use Rattle.std.specs.Prelude.{slice_get, slice_set, replicate}
-use Rattle.std.proofs.lemmas.List.{append-nil}
-use mathlib.Core.Path.{fun_ext}
-use Rattle.qcow2_disk.specs.Mappings.{PreparedMapping}
-use Rattle.qcow2_disk.specs.AbstractImages.{Abstraction, HasFreePlaces, Guest, abstract_image, guest_of}
-use Rattle.qcow2_disk.specs.Calls.{AnsweredEffect, with_slot}
+use Rattle.qcow2_session.proofs.Common.{◌≡◌, ℕ, zero, suc, List, [], ◌∷◌, ◌++◌, refl, sym, ap, ◌∙◌, subst, Option, Some, None, length, slice_get, slice_set, replicate, append-nil, fun_ext, PreparedMapping, Abstraction, HasFreePlaces, Guest, abstract_image, guest_of, AnsweredEffect, with_slot, stops_none, rests_none}
 use Rattle.qcow2_session.proofs.Turns.{none_within, does_if, does_then}
-use Rattle.qcow2_disk.proofs.Compose.{stops_none, rests_none}
 
 pub set_found : {X : Type 0} (xs : List X) (k : ℕ) (v : X) → slice_get xs k ≡ Some v → slice_set xs k v ≡ xs
 set_found [] k v e = refl

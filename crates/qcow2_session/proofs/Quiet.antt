@@ -1,21 +1,7 @@
 -- An image that was opened for reading, and whose cached tables are unmodified, is never written, whatever it contains.
-use Rattle.std.proofs.Common.{◌≡◌, inl, inr, List, [], ◌∷◌, false, IsTrue, sym, ap, ◌∙◌, subst, Option}
-use Rattle.std.proofs.lemmas.Bool.{cases_Bool}
-use Rattle.image_access.specs.Backing.{BackingView}
-use Rattle.image_access.specs.Moments.{StorageView}
-use Rattle.qcow2_alloc.specs.ImageFile.{view_in}
+use Rattle.qcow2_session.proofs.Common.{◌≡◌, inl, inr, List, [], ◌∷◌, false, IsTrue, sym, ap, ◌∙◌, subst, Option, cases_Bool, BackingView, StorageView, view_in, Qcow2, Prepared, is_failed, is_writable, ReleasesOneMapping, ContentsStayThroughout, HoldsNothingModified, ReadsQuietly, reads_none, reads_same, reads_aside, written_then, AreExisting, IsLeftQuietly, IsNeverWritten, AreReportedAlong, RunPoint, StaysQuiet, Command, Reply}
 use Rattle.qcow2_alloc.specs.ImageStorage.{storage_of}
-use Rattle.qcow2_image.specs.declared.image.Qcow2.{Qcow2}
-use Rattle.qcow2_image.specs.declared.prepared.Prepared.{Prepared}
-use Rattle.qcow2_image.specs.Image.{is_failed, is_writable}
-use Rattle.qcow2_image.specs.Ranges.{ReleasesOneMapping}
-use Rattle.qcow2_image.specs.Unwritten.{ContentsStayThroughout, HoldsNothingModified, ReadsQuietly}
 use Rattle.qcow2_image.proofs.Map.Unmodified.{quiet_still}
-use Rattle.qcow2_image.proofs.Map.Quiet.{reads_none, reads_same, reads_aside}
-use Rattle.qcow2_alloc.proofs.KeptTables.AllWritten.{written_then}
-use Rattle.qcow2_session.specs.Told.{AreExisting, IsLeftQuietly, IsNeverWritten, AreReportedAlong, RunPoint, StaysQuiet}
-use Rattle.qcow2_session.specs.declared.session.Command.{Command}
-use Rattle.qcow2_session.specs.declared.session.Reply.{Reply}
 
 module _ {S F : Type 0} (view : S → StorageView) where
   -- the image is the same one

@@ -1,15 +1,5 @@
 -- A read into a buffer, and the bytes that it returns.
-use Rattle.std.proofs.Common.{◌≡◌, ℕ, List, [], sym, subst}
-use Rattle.std.specs.Prelude.{Option, Result, Err}
-use Rattle.image_access.specs.Backing.{BackingView}
-use Rattle.image_access.specs.Moments.{StorageView}
-use Rattle.qcow2_alloc.specs.declared.error.ImageError.{ImageError}
-use Rattle.qcow2_disk.specs.Calls.{RefusedEffect, IsSame}
-use Rattle.qcow2_image.specs.Calls.{refusal_of}
-use Rattle.qcow2_image.specs.declared.image.Qcow2.{Qcow2}
-use Rattle.qcow2_image.specs.declared.prepared.Prepared.{Prepared}
-use Rattle.qcow2_image.specs.ImageInvariant.{abstract_of}
-use Rattle.qcow2_session.specs.Sessions.{ReadsInto}
+use Rattle.qcow2_session.proofs.Common.{◌≡◌, ℕ, List, [], sym, subst, Option, Result, Err, BackingView, StorageView, ImageError, RefusedEffect, IsSame, refusal_of, Qcow2, Prepared, abstract_of, ReadsInto}
 
 module _ {S F : Type 0} (view : S → StorageView) (backing : F → BackingView) (old new : Qcow2 S F) where
   -- a refusal that was passed on

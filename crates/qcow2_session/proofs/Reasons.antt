@@ -1,27 +1,6 @@
 -- Why a range of an image that may be read is not written.
 use Rattle.qcow2_alloc.specs.declared.error.ImageError.TheVariants as I
-use Rattle.std.proofs.Common.{◌≡◌, ◌⊎◌, ⊎_elim, inl, inr, ℕ, ◌+◌, ◌<◌, ◌≤◌, Bool, true, false, not, List, [], Option, Some, None, refl, sym, ap, ◌∙◌, subst, arith}
-use Rattle.std.specs.Prelude.{◌&&◌, nat_lt, IfSome, IsTrue, Result, Err}
-use Rattle.std.specs.Option.{option_or}
-use Rattle.std.proofs.lemmas.Bool.{cases_Bool}
-use Rattle.image_access.specs.Backing.{BackingView}
-use Rattle.image_access.specs.Moments.{StorageView}
-use Rattle.qcow2_disk.specs.Calls.{IsRefusalByFault, RefusedEffect}
-use Rattle.qcow2_alloc.specs.ImageFile.{known_in}
-use Rattle.qcow2_alloc.specs.declared.error.ImageError.{ImageError}
-use Rattle.qcow2_image.specs.Backings.{HasPinnedMapping}
-use Rattle.qcow2_image.specs.Calls.{refusal_of}
-use Rattle.qcow2_image.specs.Image.{IsSameImage, is_failed, is_writable, size_of}
-use Rattle.qcow2_image.specs.ImageInvariant.{abstract_of}
-use Rattle.qcow2_image.specs.MayFail.{CopiesCompressed, MayFailReadingRange, MayFailAllocating}
-use Rattle.qcow2_image.specs.Preallocation.{IsUnderMappingIn}
-use Rattle.qcow2_image.specs.Refusals.{MayFail, MayFailPreparing, passes, refuse_if, refuses_to_prepare, refuses_to_read, unusable}
-use Rattle.qcow2_image.specs.declared.image.Qcow2.{Qcow2}
-use Rattle.qcow2_image.specs.declared.prepared.Prepared.{Prepared}
-use Rattle.qcow2_session.specs.Conversions.{MayFailImporting, IsReasonNotToWrite}
-use Rattle.qcow2_disk.specs.Stops.{GivenBytes}
-use Rattle.qcow2_image.specs.Limits.{IsLimited}
-use Rattle.qcow2_session.specs.Sessions.{cluster_size_of}
+use Rattle.qcow2_session.proofs.Common.{◌≡◌, ◌⊎◌, ⊎_elim, inl, inr, ℕ, ◌+◌, ◌<◌, ◌≤◌, Bool, true, false, not, List, [], Option, Some, None, refl, sym, ap, ◌∙◌, subst, arith, ◌&&◌, nat_lt, IfSome, IsTrue, Result, Err, option_or, cases_Bool, BackingView, StorageView, IsRefusalByFault, RefusedEffect, known_in, ImageError, HasPinnedMapping, refusal_of, IsSameImage, is_failed, is_writable, size_of, abstract_of, CopiesCompressed, MayFailReadingRange, MayFailAllocating, IsUnderMappingIn, MayFail, MayFailPreparing, passes, refuse_if, refuses_to_prepare, refuses_to_read, unusable, Qcow2, Prepared, MayFailImporting, IsReasonNotToWrite, GivenBytes, IsLimited, cluster_size_of}
 use Rattle.qcow2_session.proofs.Causing.{same_error, then_none}
 use Rattle.qcow2_session.proofs.Copied.{kept_cover, same_size}
 use Rattle.qcow2_session.proofs.FailingOnSound.{compressed_within}

@@ -1,40 +1,11 @@
 -- A resize is one step of a run.
-use Rattle.std.proofs.Common.{◌≡◌, ◌⊎◌, ◌∷◌, [], inl, inr, refl, sym, ap, subst, ℕ, ◌-◌, ◌<◌, ◌≤◌, cond, Bool, true, false, List, Option, Some, None, arith}
-use Rattle.std.specs.Prelude.{Result, Ok, Err, IfSome, ◌==◌, not}
-use Rattle.std.specs.Option.{option_or}
-use Rattle.std.proofs.lemmas.Bool.{cases_lt, cases_eq, cond-true, cond-false, eq-eqb, ne_eqb}
-use Rattle.std.proofs.lemmas.Nat.{pow_pos}
-use Rattle.image_access.specs.Backing.{BackingView}
-use Rattle.image_access.specs.Moments.{StorageView, EachMomentSince}
+use Rattle.qcow2_session.proofs.Common.{◌≡◌, ◌⊎◌, ◌∷◌, [], inl, inr, refl, sym, ap, subst, ℕ, ◌-◌, ◌<◌, ◌≤◌, cond, Bool, true, false, List, Option, Some, None, arith, Result, Ok, Err, IfSome, ◌==◌, not, option_or, cases_lt, cases_eq, cond-true, cond-false, eq-eqb, ne_eqb, pow_pos, BackingView, StorageView, EachMomentSince, byte_at, HeaderFields, Value, header, cluster_size, rounded_up, AbstractImage, Setting, guest_of, IsRefusalByFault, IsShrinkEnd, IsShrunk, given_by_shrink, given_by_shrunk, Disk, State, RefinesState, RefinesCommand, done, grow, number_is, refused, shrink, IsGiven, done_as, gave_less, refused_as, ImageError, known_in, refusal_of, Qcow2, Prepared, is_external, is_failed, is_writable, size_of, ImageInvariant, abstract_of, pending_in, refuse_if, GrowsTo, Shrinks, WritesSizeLast, refuses_to_resize, header_is, disk_size, TouchesLess, touches_less}
 use Rattle.image_access.specs.declared.storage.PreallocateMode.{PreallocateMode}
-use Rattle.qcow2_metadata.specs.Bytes.{byte_at}
-use Rattle.qcow2_metadata.specs.declared.header.HeaderFields.{HeaderFields}
-use Rattle.qcow2_metadata.specs.Guest.{Value}
-use Rattle.qcow2_metadata.specs.Header.{header, cluster_size, rounded_up}
-use Rattle.qcow2_disk.specs.AbstractImages.{AbstractImage, Setting, guest_of}
-use Rattle.qcow2_disk.specs.Calls.{IsRefusalByFault, IsShrinkEnd, IsShrunk, given_by_shrink, given_by_shrunk}
-use Rattle.qcow2_disk.specs.Disk.{Disk}
 use Rattle.qcow2_disk.specs.GrownCovers.{GrownCovers, IsRightlyGrown}
-use Rattle.qcow2_disk.specs.Runs.{State, RefinesState, RefinesCommand, done, grow, number_is, refused, shrink}
-use Rattle.qcow2_disk.specs.Stops.{IsGiven}
-use Rattle.qcow2_disk.proofs.RunSteps.{done_as, gave_less, refused_as}
-use Rattle.qcow2_alloc.specs.declared.error.ImageError.{ImageError}
 use Rattle.qcow2_alloc.specs.declared.error.ImageError.TheVariants as I
-use Rattle.qcow2_alloc.specs.ImageFile.{known_in}
-use Rattle.qcow2_image.specs.Calls.{refusal_of}
-use Rattle.qcow2_image.specs.declared.image.Qcow2.{Qcow2}
-use Rattle.qcow2_image.specs.declared.prepared.Prepared.{Prepared}
-use Rattle.qcow2_image.specs.Image.{is_external, is_failed, is_writable, size_of}
-use Rattle.qcow2_image.specs.ImageInvariant.{ImageInvariant, abstract_of, pending_in}
-use Rattle.qcow2_image.specs.Refusals.{refuse_if}
-use Rattle.qcow2_image.specs.Resizing.{GrowsTo, Shrinks, WritesSizeLast, refuses_to_resize}
 use Rattle.qcow2_image.proofs.Clear.Touched.{rounded_from}
-use Rattle.qcow2_image.proofs.Images.HiddenBytes.{header_is}
-use Rattle.qcow2_image.proofs.Images.Sizes.{disk_size}
 use Rattle.qcow2_image.proofs.Resize.TailSteps.{given_as, given_is}
 use Rattle.qcow2_session.proofs.Answering.{error_is, first_of_all, not_both}
-use Rattle.qcow2_disk.proofs.Compose.{TouchesLess}
-use Rattle.qcow2_image.proofs.Images.UngivenCovers.{touches_less}
 
 -- ---- what a successful shrink unmapped is a part of what it might unmap
 

@@ -1,18 +1,5 @@
 -- The parts of a write respect the prepared mappings: no byte is written under an L2 table that another mapping pins, unless it is written in place.
-use Rattle.std.proofs.Common.{◌≡◌, ◌∙◌, inl, inr, ℕ, ◌+◌, ◌-◌, ◌*◌, ◌/◌, ◌%◌, ◌<◌, ◌≤◌, List, Option, take, drop, length, refl, sym, ap, subst, arith}
-use Rattle.std.specs.Prelude.{Ok}
-use Rattle.std.proofs.lemmas.Bool.{cases_lt}
-use Rattle.std.proofs.lemmas.Grind.{common_steps}
-use Rattle.image_access.specs.Backing.{BackingView}
-use Rattle.image_access.specs.Moments.{StorageView}
-use Rattle.qcow2_metadata.specs.Header.{cluster_size}
-use Rattle.qcow2_disk.specs.Found.{rest_of_table}
-use Rattle.qcow2_alloc.specs.ImageFile.{known_in}
-use Rattle.qcow2_image.specs.Found.{l1_index_of}
-use Rattle.qcow2_image.specs.Preparing.{IsTaken}
-use Rattle.qcow2_image.specs.declared.image.Qcow2.{Qcow2}
-use Rattle.qcow2_image.specs.declared.prepared.Prepared.{Prepared}
-use Rattle.qcow2_session.specs.Sessions.{RespectsFirst, IsRespectedAt, Writes}
+use Rattle.qcow2_session.proofs.Common.{◌≡◌, ◌∙◌, inl, inr, ℕ, ◌+◌, ◌-◌, ◌*◌, ◌/◌, ◌%◌, ◌<◌, ◌≤◌, List, Option, take, drop, length, refl, sym, ap, subst, arith, Ok, cases_lt, common_steps, BackingView, StorageView, cluster_size, rest_of_table, known_in, l1_index_of, IsTaken, Qcow2, Prepared, RespectsFirst, IsRespectedAt, Writes}
 use Rattle.qcow2_session.proofs.Copied.{same_index}
 use Rattle.qcow2_session.proofs.WrittenParts.{writes_none}
 

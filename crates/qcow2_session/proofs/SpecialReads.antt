@@ -1,16 +1,7 @@
 -- What special reads mean.
-use Rattle.std.proofs.Common.{◌≡◌, ◌⊎◌, ◌<◌, false, true, inl, inr, refl, sym, ◌∙◌, subst, ℕ, zero, suc, arith, Option, Some, None}
-use Rattle.std.specs.Prelude.{IsErr, IfErr, IfOk, MatchOption, Result, Ok, Err}
-use Rattle.qcow2_metadata.specs.Bytes.{Bytes}
-use Rattle.qcow2_disk.specs.Calls.{not_compressed}
-use Rattle.qcow2_disk.specs.Found.{IsCompressedAt}
-use Rattle.qcow2_disk.specs.Runs.{IsRightlySpecial}
-use Rattle.qcow2_alloc.specs.declared.error.ImageError.{ImageError}
+use Rattle.qcow2_session.proofs.Common.{◌≡◌, ◌⊎◌, ◌<◌, false, true, inl, inr, refl, sym, ◌∙◌, subst, ℕ, zero, suc, arith, Option, Some, None, IsErr, IfErr, IfOk, MatchOption, Result, Ok, Err, Bytes, not_compressed, IsCompressedAt, IsRightlySpecial, ImageError, refusal_of, MayFail, ReportsPlain, ReportsSpecial}
 use Rattle.qcow2_alloc.specs.declared.error.ImageError.TheVariants as I
-use Rattle.qcow2_image.specs.Calls.{refusal_of}
-use Rattle.qcow2_image.specs.Refusals.{MayFail}
 use Rattle.qcow2_image.specs.SpecialReads.{ReportsCompressed, ReportsWhether}
-use Rattle.qcow2_session.specs.Commands.{ReportsPlain, ReportsSpecial}
 
 -- What a refused special read reports: nothing, unless it is refused as compressed or as not compressed.
 pub refused_specially : (known : Bytes) (offset n : ℕ) (e : ImageError) → (e ≡ I.Compressed → (0 < n) × IsCompressedAt known offset) → ((at : ℕ) → e ≡ I.NotCompressed at → IsRightlySpecial known offset n (not_compressed at)) → IsRightlySpecial known offset n (refusal_of e)

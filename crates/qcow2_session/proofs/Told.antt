@@ -1,22 +1,5 @@
 -- What a run reports about its image, one command after another.
-use Rattle.std.proofs.Common.{◌≡◌, ℕ, map, List, [], ◌∷◌, ◌++◌, false, refl, sym, ap, ◌∙◌, subst, Option, Some, None}
-use mathlib.Core.Path.{fun_ext}
-use Rattle.std.specs.Prelude.{replicate, IfSome, Ok, Err}
-use Rattle.image_access.specs.Backing.{BackingView}
-use Rattle.image_access.specs.Moments.{StorageView}
-use Rattle.qcow2_disk.specs.AbstractImages.{Setting}
-use Rattle.qcow2_disk.specs.Runs.{Found, State, RefinesState, RefinesCommand, HasNoInvalidation, KeepsUnflushed, begun}
-use Rattle.qcow2_image.specs.declared.image.Qcow2.{Qcow2}
-use Rattle.qcow2_image.specs.declared.mapping.Mapping.{Mapping}
-use Rattle.qcow2_image.specs.declared.prepared.Prepared.{Prepared}
-use Rattle.qcow2_image.specs.Image.{IsSameImage, is_external, is_writable, number_of}
-use Rattle.qcow2_image.specs.ImageInvariant.{abstract_of, image_abstraction}
-use Rattle.qcow2_image.proofs.Images.Free.{free_places}
-use Rattle.qcow2_session.specs.Commands.{command_of, reply_of}
-use Rattle.qcow2_session.specs.Sessions.{mappings_in, range_of}
-use Rattle.qcow2_session.specs.Told.{AreReportedAlong, IsReportedStep, KeepsItself, RunPoint, StepsAlong, abstract_at, first_point, free_slots}
-use Rattle.qcow2_session.specs.declared.session.Command.{Command}
-use Rattle.qcow2_session.specs.declared.session.Reply.{Reply}
+use Rattle.qcow2_session.proofs.Common.{◌≡◌, ℕ, map, List, [], ◌∷◌, ◌++◌, false, refl, sym, ap, ◌∙◌, subst, Option, Some, None, fun_ext, replicate, IfSome, Ok, Err, BackingView, StorageView, Setting, Found, State, RefinesState, RefinesCommand, HasNoInvalidation, KeepsUnflushed, begun, Qcow2, Mapping, Prepared, IsSameImage, is_external, is_writable, number_of, abstract_of, image_abstraction, free_places, command_of, reply_of, mappings_in, range_of, AreReportedAlong, IsReportedStep, KeepsItself, RunPoint, StepsAlong, abstract_at, first_point, free_slots, Command, Reply}
 use Rattle.qcow2_session.proofs.Meanings.{step_found, found_same, ranges_after}
 use Rattle.qcow2_session.proofs.Runs.{free_stands, none_found, none_mapped}
 

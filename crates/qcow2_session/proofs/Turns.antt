@@ -1,12 +1,5 @@
 -- Calls one after another, whatever they return.
-use Rattle.std.proofs.Common.{◌≡◌, ◌⊎◌, ⊎_elim, inl, inr, ℕ, zero, suc, ◌<◌, List, [], true, false, IsTrue, refl, sym, ap, ◌∙◌, arith}
-use Rattle.std.specs.Prelude.{Option, Some, None, IfErr, IfSome, Result, Ok, Err, IsErr, IsErrAnd}
-use Rattle.qcow2_metadata.specs.Guest.{Value}
-use Rattle.qcow2_disk.specs.Stops.{GivenBytes, IsGiven}
-use Rattle.qcow2_disk.specs.Disk.{disk}
-use Rattle.qcow2_disk.specs.AbstractImages.{AbstractImage}
-use Rattle.qcow2_disk.specs.Calls.{Refusal, memory, storage, not_compressed, another, IsRefusalByFault, EffectOnSound, CallEffect, AnsweredEffect, RefusedEffect}
-use Rattle.qcow2_disk.proofs.Compose.{works_less, works_then, rests_then, stops_resting, TouchesLess}
+use Rattle.qcow2_session.proofs.Common.{◌≡◌, ◌⊎◌, ⊎_elim, inl, inr, ℕ, zero, suc, ◌<◌, List, [], true, false, IsTrue, refl, sym, ap, ◌∙◌, arith, Option, Some, None, IfErr, IfSome, Result, Ok, Err, IsErr, IsErrAnd, Value, GivenBytes, IsGiven, disk, AbstractImage, Refusal, memory, storage, not_compressed, another, IsRefusalByFault, EffectOnSound, CallEffect, AnsweredEffect, RefusedEffect, works_less, works_then, rests_then, stops_resting, TouchesLess}
 
 -- a refusal that was passed on
 pub refused_is : {A E : Type 0} (r : Result A E) (e : E) → IsErr r × IsErrAnd r (λ x. x ≡ e) → r ≡ Err e

@@ -1,21 +1,5 @@
 -- A prepared range lies in no L2 table that another mapping pins, unless it is existing.
-use Rattle.std.proofs.Common.{◌≡◌, ◌+◌, ◌*◌, ◌/◌, ◌%◌, ◌<◌, ◌∙◌, ◌∷◌, inl, inr, ℕ, suc, false, true, List, Option, Some, None, refl, sym, ap, subst, arith}
-use Rattle.std.specs.Prelude.{IsNone, IsSome, slice_get, slice_set}
-use Rattle.std.proofs.lemmas.Bool.{cases_lt}
-use Rattle.std.proofs.lemmas.Nat.{div-mul-add, pow_pos}
-use Rattle.image_access.specs.Backing.{BackingView}
-use Rattle.image_access.specs.Moments.{StorageView}
-use Rattle.qcow2_metadata.specs.Bytes.{Bytes}
-use Rattle.qcow2_metadata.specs.Header.{cluster_size, entries_per_cluster}
-use Rattle.qcow2_metadata.specs.declared.header.HeaderFields.{HeaderFields}
-use Rattle.qcow2_disk.specs.Mappings.{PreparedMapping}
-use Rattle.qcow2_alloc.specs.ImageFile.{contents_in, known_in}
-use Rattle.qcow2_alloc.specs.MetadataCaches.{IsEntryAt}
-use Rattle.qcow2_image.specs.Found.{l1_index_of}
-use Rattle.qcow2_image.specs.ImageInvariant.{IsPending, IsReadyWith, abstract_of, cluster_of, pins_by}
-use Rattle.qcow2_image.specs.Preparing.{IsAnswered, IsTaken}
-use Rattle.qcow2_image.specs.declared.image.Qcow2.{Qcow2}
-use Rattle.qcow2_image.specs.declared.prepared.Prepared.{Prepared}
+use Rattle.qcow2_session.proofs.Common.{◌≡◌, ◌+◌, ◌*◌, ◌/◌, ◌%◌, ◌<◌, ◌∙◌, ◌∷◌, inl, inr, ℕ, suc, false, true, List, Option, Some, None, refl, sym, ap, subst, arith, IsNone, IsSome, slice_get, slice_set, cases_lt, div-mul-add, pow_pos, BackingView, StorageView, Bytes, cluster_size, entries_per_cluster, HeaderFields, PreparedMapping, contents_in, known_in, IsEntryAt, l1_index_of, IsPending, IsReadyWith, abstract_of, cluster_of, pins_by, IsAnswered, IsTaken, Qcow2, Prepared}
 use Rattle.qcow2_image.proofs.Images.Apart.{pins_own}
 use Rattle.qcow2_image.proofs.Call.Slots.{get_set_other, get_set_same, over_all_two}
 

@@ -1,18 +1,6 @@
 -- An image that was opened for reading is never written: calls that write are refused before any work, and all others leave the contents of its storage the same.
-use Rattle.std.proofs.Common.{◌≡◌, ◌⊎◌, ⊎_elim, inl, inr, ℕ, zero, suc, ◌<◌, ◌≤◌, List, [], ◌∷◌, Bool, true, false, not, IsTrue, refl, sym, ap, ◌∙◌, subst, arith, Option, Some, None, Ok, Err}
-use Rattle.std.specs.Prelude.{IfSome, IsNone, IsSome, nat_lt, replicate, slice_get, slice_set, ◌&&◌}
-use Rattle.std.specs.Option.{option_or}
-use Rattle.std.proofs.lemmas.Bool.{cases_lt, lt-ltb}
-use Rattle.qcow2_alloc.specs.declared.error.ImageError.{ImageError}
+use Rattle.qcow2_session.proofs.Common.{◌≡◌, ◌⊎◌, ⊎_elim, inl, inr, ℕ, zero, suc, ◌<◌, ◌≤◌, List, [], ◌∷◌, Bool, true, false, not, IsTrue, refl, sym, ap, ◌∙◌, subst, arith, Option, Some, None, Ok, Err, IfSome, IsNone, IsSome, nat_lt, replicate, slice_get, slice_set, ◌&&◌, option_or, cases_lt, lt-ltb, ImageError, Qcow2, Prepared, is_failed, is_writable, size_of, table_of, IsOfNothing, passes, refuse_if, refuses_to_prepare, unusable, IsResized, refuses_to_resize, AreExisting, KeepsItself, free_slots}
 use Rattle.qcow2_alloc.specs.declared.error.ImageError.TheVariants as I
-use Rattle.qcow2_image.specs.declared.image.Qcow2.{Qcow2}
-use Rattle.qcow2_image.specs.declared.prepared.Prepared.{Prepared}
-use Rattle.qcow2_image.specs.Image.{is_failed, is_writable, size_of}
-use Rattle.qcow2_image.specs.Prepared.{table_of}
-use Rattle.qcow2_image.specs.Preparing.{IsOfNothing}
-use Rattle.qcow2_image.specs.Refusals.{passes, refuse_if, refuses_to_prepare, unusable}
-use Rattle.qcow2_image.specs.Resizing.{IsResized, refuses_to_resize}
-use Rattle.qcow2_session.specs.Told.{AreExisting, KeepsItself, free_slots}
 use Rattle.qcow2_session.proofs.Told.{none_refused, same_itself}
 
 -- ---- calls that are refused before any work

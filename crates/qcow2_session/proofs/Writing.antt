@@ -1,17 +1,8 @@
 -- A write continues by one part, or is refused.
-use Rattle.std.proofs.Common.{◌≡◌, ⊎_elim, inl, inr, ℕ, ◌+◌, ◌%◌, ◌<◌, ◌≤◌, min, subst, List, [], ◌∷◌, take, drop, length, sym, ap, ◌∙◌, arith}
+use Rattle.qcow2_session.proofs.Common.{◌≡◌, ⊎_elim, inl, inr, ℕ, ◌+◌, ◌%◌, ◌<◌, ◌≤◌, min, subst, List, [], ◌∷◌, take, drop, length, sym, ap, ◌∙◌, arith, common_steps, take-append-drop, Disk, with_bytes, given_of, AbstractImage, Guest, guest_of, Refusal, memory, storage, not_compressed, another, AnsweredEffect, RefusedEffect, MayWrite, WritesSome, with_disk, Qcow2, cluster_size_of, EndsCluster, touches_part}
 use Rattle.std.proofs.Math.Seq.{take-add}
-use Rattle.std.proofs.lemmas.Grind.{common_steps}
-use Rattle.std.proofs.lemmas.List.{take-append-drop}
-use Rattle.qcow2_disk.specs.Disk.{Disk, with_bytes}
-use Rattle.qcow2_disk.specs.Mappings.{given_of}
-use Rattle.qcow2_disk.specs.AbstractImages.{AbstractImage, Guest, guest_of}
-use Rattle.qcow2_disk.specs.Calls.{Refusal, memory, storage, not_compressed, another, AnsweredEffect, RefusedEffect, MayWrite, WritesSome, with_disk}
-use Rattle.qcow2_image.specs.declared.image.Qcow2.{Qcow2}
-use Rattle.qcow2_session.specs.Sessions.{cluster_size_of, EndsCluster}
 use Rattle.qcow2_session.proofs.Bytes.{no_bytes, with_both, part_within, rest_long, rest_part}
 use Rattle.qcow2_session.proofs.Turns.{IsWithin, does_if, refuses_if, does_then, refuses_then}
-use Rattle.qcow2_image.proofs.Images.UngivenCovers.{touches_part}
 
 -- a cluster ends where it ends of the image as it was
 pub ends_on : {S F : Type 0} (old mid : Qcow2 S F) → cluster_size_of mid ≡ cluster_size_of old → (offset done count at : ℕ) → at ≡ offset + done → EndsCluster mid (at + count) → EndsCluster old (offset + (done + count))

@@ -1,19 +1,5 @@
 -- What a session's write has done up to some part: the bytes of the parts that succeeded are written, and no others were given.
-use Rattle.std.proofs.Common.{◌≡◌, ⊎_elim, inl, inr, ℕ, ◌+◌, ◌-◌, ◌<◌, ◌≤◌, List, [], ◌∷◌, take, drop, length, refl, sym, ap, ◌∙◌, subst, arith}
-use Rattle.std.specs.Prelude.{Ok}
-use Rattle.std.proofs.lemmas.Grind.{common_steps}
-use Rattle.std.proofs.lemmas.List.{take-take}
-use Rattle.image_access.specs.Backing.{BackingView}
-use Rattle.image_access.specs.Moments.{StorageView}
-use Rattle.qcow2_metadata.specs.Bytes.{byte_at}
-use Rattle.qcow2_disk.specs.Disk.{Disk, with_bytes}
-use Rattle.qcow2_disk.specs.Mappings.{given_of}
-use Rattle.qcow2_disk.specs.AbstractImages.{AbstractImage, Guest, guest_of}
-use Rattle.qcow2_disk.specs.Calls.{AnsweredEffect, with_disk}
-use Rattle.qcow2_image.specs.ListedClusters.{ListsNoMore}
-use Rattle.qcow2_image.specs.declared.image.Qcow2.{Qcow2}
-use Rattle.qcow2_image.proofs.Images.UngivenCovers.{touches_part}
-use Rattle.qcow2_session.specs.Sessions.{StopsFor, Writes}
+use Rattle.qcow2_session.proofs.Common.{◌≡◌, ⊎_elim, inl, inr, ℕ, ◌+◌, ◌-◌, ◌<◌, ◌≤◌, List, [], ◌∷◌, take, drop, length, refl, sym, ap, ◌∙◌, subst, arith, Ok, common_steps, take-take, BackingView, StorageView, byte_at, Disk, with_bytes, given_of, AbstractImage, Guest, guest_of, AnsweredEffect, with_disk, ListsNoMore, Qcow2, touches_part, StopsFor, Writes}
 use Rattle.qcow2_session.proofs.Bytes.{cut_part, cut_short, no_bytes, part_within, rest_part}
 use Rattle.qcow2_session.proofs.Converting.{does_nothing}
 use Rattle.qcow2_session.proofs.Turns.{IsWithin, none_within, does_if, does_less, does_then}

@@ -1,9 +1,8 @@
 use Rattle.qcow2_session.proofs.Marking.{cleared_at_once}
-use Rattle.qcow2_disk.specs.Calls.{to_kept_zero}
+use Rattle.qcow2_session.proofs.Common.{to_kept_zero, refl, rules}
 use Rattle.qcow2_session.proofs.Cleared.{clears_command_step, clearing_counted, range_told}
 use Rattle.qcow2_session.proofs.Unwritten.{clear_same}
 use Rattle.qcow2_session.proofs.Quiet.{quiet_left}
-use Rattle.std.proofs.Common.{refl, rules}
 use Rattle.qcow2_session.specs.declared.session.Command.TheVariants as C
 use Rattle.qcow2_session.proofs.Causing.{clears_rightly, if_err_to}
 use Rattle.qcow2_session.proofs.clearing.ensure_zero.Goals as goal

@@ -1,13 +1,4 @@
-use Rattle.std.proofs.Common.{◌≡◌, ◌-◌, ◌≤◌, [], List}
-use Rattle.std.specs.Prelude.{Option}
-use Rattle.qcow2_disk.specs.Calls.{AnsweredEffect}
-use Rattle.qcow2_disk.specs.AbstractImages.{guest_of}
-use Rattle.qcow2_image.specs.BehindHeader.{PreservesHeaderCluster}
-use Rattle.qcow2_image.specs.Image.{IsSameImage}
-use Rattle.qcow2_image.specs.ImageInvariant.{abstract_of}
-use Rattle.qcow2_image.specs.declared.prepared.Prepared.{Prepared}
-use Rattle.qcow2_session.specs.Conversions.{Fills}
-use Rattle.qcow2_image.specs.Unwritten.{ReadsQuietly}
+use Rattle.qcow2_session.proofs.Common.{◌≡◌, ◌-◌, ◌≤◌, [], List, Option, AnsweredEffect, guest_of, PreservesHeaderCluster, IsSameImage, abstract_of, Prepared, Fills, ReadsQuietly}
 use Rattle.qcow2_session.proofs.Counting.{IsSoFar}
 use Rattle.qcow2_session.proofs.convert.export_all.Given as goal
 

@@ -1,15 +1,4 @@
-use Rattle.std.proofs.Common.{◌≡◌, ◌+◌, ◌∙◌, inl, length, sym, subst, arith, refl, rules}
-use Rattle.std.proofs.lemmas.Grind.{common_steps}
-use Rattle.image_access.specs.Contents.{overwritten}
-use Rattle.qcow2_alloc.specs.ImageError.{of_storage}
-use Rattle.qcow2_disk.specs.AbstractImages.{guest_of}
-use Rattle.qcow2_image.specs.Calls.{refusal_of}
-use Rattle.qcow2_image.specs.ImageInvariant.{abstract_of}
-use Rattle.std.specs.Prelude.{IfErr}
-use Rattle.qcow2_alloc.proofs.AllocationSteps.{fault_of_storage}
-use Rattle.qcow2_alloc.specs.ImageFile.{known_in}
-use Rattle.qcow2_image.specs.MayFail.{MayFailReadingRange}
-use Rattle.qcow2_session.specs.Conversions.{IsFilledUpTo}
+use Rattle.qcow2_session.proofs.Common.{◌≡◌, ◌+◌, ◌∙◌, inl, length, sym, subst, arith, refl, rules, common_steps, overwritten, of_storage, guest_of, refusal_of, abstract_of, IfErr, fault_of_storage, known_in, MayFailReadingRange, IsFilledUpTo}
 use Rattle.qcow2_session.proofs.Converting.{interrupted, interrupted_here}
 use Rattle.qcow2_session.proofs.Counting.{converted, converting_image, converting_raw, so_far_call, so_far_none}
 use Rattle.qcow2_session.proofs.Exporting.{filled_same, filled_more, unchanged_refused}

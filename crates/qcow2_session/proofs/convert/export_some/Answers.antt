@@ -1,12 +1,4 @@
-use Rattle.std.proofs.Common.{◌≡◌, ◌+◌, ◌≤◌, ◌∙◌, [], length, take, replicate, refl, sym, subst, arith, rules}
-use Rattle.std.proofs.lemmas.Grind.{common_steps}
-use Rattle.std.specs.Prelude.{IfErr}
-use Rattle.qcow2_alloc.specs.ImageFile.{known_in}
-use Rattle.qcow2_alloc.proofs.KeptTables.AllWritten.{written_then}
-use Rattle.qcow2_disk.specs.AbstractImages.{guest_of}
-use Rattle.qcow2_image.specs.ImageInvariant.{abstract_of}
-use Rattle.qcow2_image.specs.MayFail.{MayFailReadingRange}
-use Rattle.qcow2_image.proofs.Call.BehindHeader.{behind_then}
+use Rattle.qcow2_session.proofs.Common.{◌≡◌, ◌+◌, ◌≤◌, ◌∙◌, [], length, take, replicate, refl, sym, subst, arith, rules, common_steps, IfErr, known_in, written_then, guest_of, abstract_of, MayFailReadingRange, behind_then}
 use Rattle.qcow2_session.proofs.Converting.{interrupted, interrupted_if, interrupted_then}
 use Rattle.qcow2_session.proofs.Counting.{converted, converting_image, converting_part, so_far_call, so_far_none, so_far_part, so_far_then}
 use Rattle.qcow2_session.proofs.Exporting.{fills_more, filled_same, unchanged_refused}

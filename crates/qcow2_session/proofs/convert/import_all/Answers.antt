@@ -1,15 +1,5 @@
-use Rattle.qcow2_image.proofs.Prepare.LimitCauses.{limited_joined}
+use Rattle.qcow2_session.proofs.Common.{limited_joined, sym, ◌≡◌, ◌+◌, ◌-◌, ◌%◌, ◌<◌, ◌≤◌, ◌++◌, drop, length, take, refl, ap, ◌∙◌, subst, arith, min, ℕ, rules, zero-mod, add-mod_right, common_steps, bytes_at, with_disk, with_bytes, guest_of, Setting, abstract_of, IfErr, Ok, ImportsAnyOf, MayFailImporting, IsReasonNotToWrite, behind_none, behind_then, written_then}
 use Rattle.qcow2_session.proofs.convert.import_all.Goals as goal
-use Rattle.std.proofs.Common.{sym, ◌≡◌, ◌+◌, ◌-◌, ◌%◌, ◌<◌, ◌≤◌, ◌++◌, drop, length, take, refl, ap, ◌∙◌, subst, arith, min, ℕ, rules}
-use Rattle.std.proofs.Math.Nat.{zero-mod, add-mod_right}
-use Rattle.std.proofs.lemmas.Grind.{common_steps}
-use Rattle.image_access.specs.Contents.{bytes_at}
-use Rattle.qcow2_disk.specs.Calls.{with_disk}
-use Rattle.qcow2_disk.specs.Disk.{with_bytes}
-use Rattle.qcow2_disk.specs.AbstractImages.{guest_of, Setting}
-use Rattle.qcow2_image.specs.ImageInvariant.{abstract_of}
-use Rattle.std.specs.Prelude.{IfErr, Ok}
-use Rattle.qcow2_session.specs.Conversions.{ImportsAnyOf, MayFailImporting, IsReasonNotToWrite}
 use Rattle.qcow2_session.proofs.Counting.{converted, converting_part, so_far_none, so_far_part, so_far_then}
 use Rattle.qcow2_session.proofs.Differing.{part_kept}
 use Rattle.qcow2_session.proofs.Exporting.{part_of_disk}
@@ -17,8 +7,6 @@ use Rattle.qcow2_session.proofs.Reasons.{importing_within, reason_within}
 use Rattle.qcow2_session.proofs.Converting.{any_more, any_none, any_refused, imports_none, all_more, all_refused, same_range}
 use Rattle.qcow2_session.proofs.Told.{same_then}
 use Rattle.qcow2_session.proofs.Turns.{refused_is, does_if}
-use Rattle.qcow2_image.proofs.Call.BehindHeader.{behind_none, behind_then}
-use Rattle.qcow2_alloc.proofs.KeptTables.AllWritten.{written_then}
 use Rattle.qcow2_session.proofs.Quiet.{quiet_image}
 
 pub loop-at-init : goal.loop-at-init

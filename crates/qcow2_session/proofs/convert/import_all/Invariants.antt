@@ -1,15 +1,4 @@
-use Rattle.std.proofs.Common.{◌≡◌, ◌-◌, ◌%◌, ◌<◌, ◌≤◌, length, [], ◌∷◌, take, List}
-use Rattle.std.specs.Prelude.{Ok, Option}
-use Rattle.qcow2_disk.specs.Calls.{AnsweredEffect, with_disk}
-use Rattle.qcow2_disk.specs.Disk.{with_bytes}
-use Rattle.qcow2_disk.specs.Mappings.{given_of}
-use Rattle.qcow2_disk.specs.AbstractImages.{guest_of}
-use Rattle.qcow2_image.specs.BehindHeader.{PreservesHeaderCluster}
-use Rattle.qcow2_image.specs.Image.{IsSameImage}
-use Rattle.qcow2_image.specs.ImageInvariant.{abstract_of}
-use Rattle.qcow2_image.specs.declared.prepared.Prepared.{Prepared}
-use Rattle.qcow2_session.specs.Conversions.{ImportsAnyOf, IsLeft}
-use Rattle.qcow2_session.specs.Told.{StaysQuiet}
+use Rattle.qcow2_session.proofs.Common.{◌≡◌, ◌-◌, ◌%◌, ◌<◌, ◌≤◌, length, [], ◌∷◌, take, List, Ok, Option, AnsweredEffect, with_disk, with_bytes, given_of, guest_of, PreservesHeaderCluster, IsSameImage, abstract_of, Prepared, ImportsAnyOf, IsLeft, StaysQuiet}
 use Rattle.qcow2_session.proofs.Counting.{IsSoFar}
 use Rattle.qcow2_session.proofs.convert.import_all.Given as goal
 

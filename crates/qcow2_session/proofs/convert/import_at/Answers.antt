@@ -1,30 +1,12 @@
 use Rattle.qcow2_session.proofs.convert.import_at.Goals as goal
-use Rattle.std.proofs.Common.{◌≡◌, ◌+◌, ◌-◌, ◌∙◌, inl, length, [], ◌∷◌, None, true, false, refl, sym, ap, subst, arith, rules}
-use Rattle.std.specs.Prelude.{IfErr}
-use Rattle.image_access.specs.Contents.{bytes_at}
-use Rattle.qcow2_disk.specs.AbstractImages.{Setting}
-use Rattle.qcow2_image.specs.Refusals.{refuses_to_read}
-use Rattle.qcow2_image.proofs.Call.FaultCounts.{faults_then}
-use Rattle.qcow2_image.proofs.Call.FailingErrors.{storage_met}
-use Rattle.qcow2_image.proofs.Call.Unlimited.{storage_unlimited}
-use Rattle.qcow2_image.proofs.Prepare.LimitCauses.{limited_from, other_limit}
+use Rattle.qcow2_session.proofs.Common.{◌≡◌, ◌+◌, ◌-◌, ◌∙◌, inl, length, [], ◌∷◌, None, true, false, refl, sym, ap, subst, arith, rules, IfErr, bytes_at, Setting, refuses_to_read, faults_then, storage_met, storage_unlimited, limited_from, other_limit, fault_of_storage, known_in, MayFailReadingRange, MayFailImporting, IsReasonNotToWrite, common_steps, of_storage, given_of, abstract_of, behind_none, behind_then, written_then}
 use Rattle.qcow2_session.proofs.ImportLimits.{reading_unlimited}
-use Rattle.qcow2_alloc.proofs.AllocationSteps.{fault_of_storage}
-use Rattle.qcow2_alloc.specs.ImageFile.{known_in}
-use Rattle.qcow2_image.specs.MayFail.{MayFailReadingRange}
-use Rattle.qcow2_session.specs.Conversions.{MayFailImporting, IsReasonNotToWrite}
 use Rattle.qcow2_session.proofs.Reasons.{read_importing, write_importing, write_reason}
-use Rattle.std.proofs.lemmas.Grind.{common_steps}
-use Rattle.qcow2_alloc.specs.ImageError.{of_storage}
-use Rattle.qcow2_disk.specs.Mappings.{given_of}
-use Rattle.qcow2_image.specs.ImageInvariant.{abstract_of}
 use Rattle.qcow2_image.proofs.Preallocate.Pieces.{none_of}
 use Rattle.qcow2_session.proofs.Counting.{converted, converting_image, converting_raw, fewer_since, image_tells, image_marks, so_far_call, so_far_none, so_far_then}
 use Rattle.qcow2_session.proofs.Differing.{other_bytes, reading_differs}
 use Rattle.qcow2_session.proofs.Converting.{does_nothing, interrupted, interrupted_here, at_refused, at_shown, at_written, at_unwritten}
 use Rattle.qcow2_session.proofs.Turns.{refused_is}
-use Rattle.qcow2_image.proofs.Call.BehindHeader.{behind_none, behind_then}
-use Rattle.qcow2_alloc.proofs.KeptTables.AllWritten.{written_then}
 use Rattle.qcow2_session.proofs.Quiet.{quiet_image}
 
 pub returns-in_err-read-clause-sees : goal.returns-in_err-read-clause-sees

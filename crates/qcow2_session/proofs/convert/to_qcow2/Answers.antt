@@ -1,24 +1,10 @@
 use Rattle.qcow2_session.proofs.convert.to_qcow2.Goals as goal
-use Rattle.std.specs.Prelude.{IfErr}
-use Rattle.image_access.specs.Moments.{HasCause}
-use Rattle.qcow2_image.specs.Image.{size_of}
-use Rattle.qcow2_image.specs.Refusals.{refuses_to_read}
-use Rattle.qcow2_image.proofs.Call.FailingErrors.{storage_met, tables_met}
-use Rattle.qcow2_image.proofs.Call.Unlimited.{fault_unlimited, storage_unlimited}
-use Rattle.qcow2_image.proofs.Prepare.LimitCauses.{other_limit}
-use Rattle.std.proofs.Common.{◌≡◌, ◌⊎◌, ◌-◌, inl, inr, refl, sym, ap, ◌∙◌, subst, length, Ok, Err, rules}
-use Rattle.qcow2_alloc.proofs.AllocationSteps.{fault_of_storage}
-use Rattle.qcow2_alloc.specs.ImageError.{of_storage}
-use Rattle.qcow2_alloc.specs.declared.error.ImageError.TheVariants.{InvalidOption, Memory}
-use Rattle.qcow2_session.specs.Conversions.{DiffersWhereKept, Imports, ImportsAll, MayFailImporting, IsReasonNotToWrite, IsRefusedUnequal}
-use Rattle.qcow2_session.specs.Sessions.{IsOfReading}
+use Rattle.qcow2_session.proofs.Common.{IfErr, HasCause, size_of, refuses_to_read, storage_met, tables_met, fault_unlimited, storage_unlimited, other_limit, ◌≡◌, ◌⊎◌, ◌-◌, inl, inr, refl, sym, ap, ◌∙◌, subst, length, Ok, Err, rules, fault_of_storage, of_storage, InvalidOption, Memory, DiffersWhereKept, Imports, ImportsAll, MayFailImporting, IsReasonNotToWrite, IsRefusedUnequal, IsOfReading, behind_none, behind_then, written_then}
 use Rattle.qcow2_session.proofs.Counting.{converted, converting_else, converting_image, converting_part, converting_raw, so_far_call, so_far_none, so_far_part, so_far_then}
 use Rattle.qcow2_session.proofs.Differing.{early_reading, option_other, reading_differs, reading_other, size_untold}
 use Rattle.qcow2_session.proofs.Converting.{any_nothing, imports_nothing, imports_unflushed, imports_flushed}
 use Rattle.qcow2_session.proofs.Marking.{refused_none, answered_at_once, in_parts, refused_at_once}
 use Rattle.qcow2_session.proofs.Turns.{refused_is}
-use Rattle.qcow2_image.proofs.Call.BehindHeader.{behind_none, behind_then}
-use Rattle.qcow2_alloc.proofs.KeptTables.AllWritten.{written_then}
 use Rattle.qcow2_session.proofs.Quiet.{quiet_image}
 
 pub returns-in_err-size-clause-sees : goal.returns-in_err-size-clause-sees

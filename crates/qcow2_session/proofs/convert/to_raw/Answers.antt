@@ -1,21 +1,9 @@
-use Rattle.std.proofs.Common.{inl, arith, sym, subst, refl, ◌∙◌, rules}
-use Rattle.qcow2_alloc.specs.ImageError.{of_storage}
-use Rattle.qcow2_alloc.specs.declared.error.ImageError.TheVariants.{Memory}
-use Rattle.qcow2_disk.specs.AbstractImages.{guest_of}
-use Rattle.qcow2_image.specs.ImageInvariant.{abstract_of}
-use Rattle.std.specs.Prelude.{IfErr}
-use Rattle.qcow2_alloc.proofs.AllocationSteps.{fault_of_storage}
-use Rattle.qcow2_alloc.specs.ImageFile.{known_in}
-use Rattle.qcow2_image.specs.Image.{size_of}
-use Rattle.qcow2_image.specs.MayFail.{MayFailReadingRange}
-use Rattle.qcow2_image.specs.Refusals.{refuses_to_read}
+use Rattle.qcow2_session.proofs.Common.{inl, arith, sym, subst, refl, ◌∙◌, rules, of_storage, Memory, guest_of, abstract_of, IfErr, fault_of_storage, known_in, size_of, MayFailReadingRange, refuses_to_read, behind_none, reads_none}
 use Rattle.qcow2_session.proofs.Marking.{refused_none}
 use Rattle.qcow2_session.proofs.FailingOnSound.{memory_looking}
 use Rattle.qcow2_session.proofs.Counting.{converted, converting_else, converting_part, converting_raw, so_far_none, so_far_part}
 use Rattle.qcow2_session.proofs.Exporting.{unchanged_refused, filled_first, filled_all}
 use Rattle.qcow2_session.proofs.Turns.{refused_is}
-use Rattle.qcow2_image.proofs.Call.BehindHeader.{behind_none}
-use Rattle.qcow2_image.proofs.Map.Quiet.{reads_none}
 use Rattle.qcow2_session.proofs.convert.to_raw.Goals as goal
 
 pub returns-clause-sees : goal.returns-clause-sees

@@ -1,15 +1,4 @@
-use Rattle.std.proofs.Common.{◌≡◌, ◌+◌, [], ap, inl, is_some, replicate, rules, sym, subst, arith}
-use Rattle.std.specs.Prelude.{IfErr}
-use Rattle.qcow2_alloc.specs.ImageFile.{known_in}
-use Rattle.qcow2_disk.specs.AbstractImages.{Guest}
-use Rattle.qcow2_disk.specs.Calls.{Shows}
-use Rattle.qcow2_disk.specs.Disk.{Disk}
-use Rattle.qcow2_disk.specs.Found.{Kind, IsFoundIn}
-use Rattle.qcow2_image.specs.Calls.{AnswersCall}
-use Rattle.qcow2_image.specs.Found.{found_kind}
-use Rattle.qcow2_image.specs.MayFail.{MayFailReadingRange}
-use Rattle.qcow2_image.proofs.Call.FailingErrors.{tables_met}
-use Rattle.qcow2_session.specs.Sessions.{IsOfReading}
+use Rattle.qcow2_session.proofs.Common.{◌≡◌, ◌+◌, [], ap, inl, is_some, replicate, rules, sym, subst, arith, IfErr, known_in, Guest, Shows, Disk, Kind, IsFoundIn, AnswersCall, found_kind, MayFailReadingRange, tables_met, IsOfReading}
 use Rattle.qcow2_session.proofs.Causing.{mapping_reading}
 use Rattle.qcow2_session.proofs.Exporting.{zeros_there}
 use Rattle.qcow2_session.proofs.Marking.{in_parts, parts_answered, parts_handed, refused_at_once}

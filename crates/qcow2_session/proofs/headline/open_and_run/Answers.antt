@@ -1,19 +1,5 @@
-use Rattle.std.proofs.Common.{◌≡◌, ◌∙◌, ⊎_elim, inl, inr, refl, sym, ap, subst, Option, Some, None, is_some, map, []}
-use Rattle.image_access.specs.Backing.{BackingView}
-use Rattle.image_access.specs.Moments.{StorageView}
-use Rattle.qcow2_metadata.specs.Bytes.{Bytes, byte_at}
-use Rattle.qcow2_metadata.specs.Header.{cluster_size}
-use Rattle.qcow2_disk.specs.Headline.{setting_in, shown_below, IsHeadline}
-use Rattle.qcow2_disk.specs.Runs.{RefinesDisk, started}
-use Rattle.qcow2_disk.proofs.RunSteps.{begins}
+use Rattle.qcow2_session.proofs.Common.{◌≡◌, ◌∙◌, ⊎_elim, inl, inr, refl, sym, ap, subst, Option, Some, None, is_some, map, [], BackingView, StorageView, Bytes, byte_at, cluster_size, setting_in, shown_below, IsHeadline, RefinesDisk, started, begins, abstract_of, backing_bytes, image_abstraction, whole, IsKeptSince, storage_of_image, command_of, reply_of, bytes_below, missing_beside, IsUntouched}
 use Rattle.qcow2_disk.proofs.Headline.{from_bytes, stop_consistent}
-use Rattle.qcow2_image.specs.ImageInvariant.{abstract_of, backing_bytes, image_abstraction}
-use Rattle.qcow2_image.proofs.Images.Free.{whole}
-use Rattle.qcow2_image.specs.Opened.{IsKeptSince}
-use Rattle.qcow2_image.specs.Image.{storage_of_image}
-use Rattle.qcow2_session.specs.Commands.{command_of, reply_of}
-use Rattle.qcow2_session.specs.Opening.{bytes_below, missing_beside}
-use Rattle.qcow2_session.specs.Sessions.{IsUntouched}
 use Rattle.qcow2_session.proofs.Opening.{refused_consistent, kept_opens_again, opens_again}
 use Rattle.qcow2_session.proofs.headline.open_and_run.Goals as goal
 

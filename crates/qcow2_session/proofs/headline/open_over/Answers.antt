@@ -1,17 +1,7 @@
-use Rattle.std.proofs.Common.{◌≡◌, ◌∙◌, ap, refl, subst, ℕ, None, Option, Some, true}
-use Rattle.std.specs.Prelude.{Err, IfOk, Ok, Result, false, option_map}
-use Rattle.std.specs.Option.{option_flatten}
-use Rattle.image_access.specs.Backing.{BackingView}
-use Rattle.image_access.specs.Moments.{StorageView}
-use Rattle.qcow2_alloc.specs.declared.error.ImageError.{ImageError}
-use Rattle.qcow2_image.specs.declared.image.Missing.{Missing}
-use Rattle.qcow2_image.specs.declared.image.Qcow2.{Qcow2}
+use Rattle.qcow2_session.proofs.Common.{◌≡◌, ◌∙◌, ap, refl, subst, ℕ, None, Option, Some, true, Err, IfOk, Ok, Result, false, option_map, option_flatten, BackingView, StorageView, ImageError, Missing, Qcow2, IsHonestBacking, Opens, missing_beside}
 use Rattle.qcow2_image.specs.declared.opening.Qcow2OpenBuilder.{Qcow2OpenBuilder}
-use Rattle.qcow2_image.specs.ImageInvariant.{IsHonestBacking}
-use Rattle.qcow2_image.specs.Opened.{Opens}
 use Rattle.qcow2_image.specs.Readable.{IsNewlyOpened, OpeningStep, files_missing}
 use Rattle.qcow2_image.proofs.Map.Loading.{if_ok}
-use Rattle.qcow2_session.specs.Opening.{missing_beside}
 use Rattle.qcow2_session.proofs.headline.open_over.Goals as goal
 
 -- the builder that opens a storage for writing, over this disk where there is one

@@ -1,26 +1,12 @@
-use Rattle.qcow2_session.specs.Marks.{MarksAtOnce}
+use Rattle.qcow2_session.proofs.Common.{MarksAtOnce, ◌≡◌, inl, inr, refl, sym, ap, subst, ◌∙◌, List, Option, Some, None, Err, rules, slice_get, slice_set, IsNone, RefinesCommand, commit, done, misuse, refused, done_as, refused_as, none_as, image_abstraction, abstract_image, refusal_of, Commits, reason_of, fault_of, AreExisting, is_failed, table_of, IsOfTables, behind_none, reads_none}
 use Rattle.qcow2_session.proofs.Marking.{at_rest, commit_at_once}
-use Rattle.std.proofs.Common.{◌≡◌, inl, inr, refl, sym, ap, subst, ◌∙◌, List, Option, Some, None, Err, rules}
-use Rattle.std.specs.Prelude.{slice_get, slice_set, IsNone}
-use Rattle.qcow2_disk.specs.Runs.{RefinesCommand, commit, done, misuse, refused}
-use Rattle.qcow2_disk.proofs.RunSteps.{done_as, refused_as, none_as}
-use Rattle.qcow2_image.specs.ImageInvariant.{image_abstraction}
 use Rattle.qcow2_session.proofs.Places.{set_found, set_twice, get_set_same, set_again}
 use Rattle.qcow2_session.proofs.Meanings.{found_at, none_at, does_commit, refuses_commit}
 use Rattle.qcow2_session.proofs.Answering.{not_both, not_old_tables, kept_is}
-use Rattle.qcow2_disk.specs.AbstractImages.{abstract_image}
-use Rattle.qcow2_image.specs.Calls.{refusal_of, Commits, reason_of}
-use Rattle.qcow2_image.proofs.Resize.Shrinking.{fault_of}
 use Rattle.qcow2_session.proofs.Unwritten.{existing_set}
-use Rattle.qcow2_session.specs.Told.{AreExisting}
 use Rattle.qcow2_session.specs.declared.session.Command.TheVariants as C
 use Rattle.qcow2_session.specs.declared.session.Reply.TheVariants as R
-use Rattle.qcow2_image.specs.Image.{is_failed}
-use Rattle.qcow2_image.specs.Prepared.{table_of}
-use Rattle.qcow2_alloc.specs.ImageError.{IsOfTables}
 use Rattle.qcow2_session.proofs.Causing.{is_done, is_misused, is_refused, kept_error, kept_same, not_failed, not_free, same_mapping, where_failed, where_works}
-use Rattle.qcow2_image.proofs.Call.BehindHeader.{behind_none}
-use Rattle.qcow2_image.proofs.Map.Quiet.{reads_none}
 use Rattle.qcow2_session.proofs.Quiet.{quiet_commit}
 use Rattle.qcow2_session.proofs.session.commit.Goals as goal
 

@@ -1,19 +1,11 @@
-use Rattle.qcow2_image.proofs.Call.OnceWritten.{counts_released}
+use Rattle.qcow2_session.proofs.Common.{counts_released, refl, sym, subst, ◌∙◌, List, Option, None, rules, RefinesCommand, discard, done, misuse, done_as, none_as, abstract_of, image_abstraction, abstract_image, AreExisting, behind_none, reads_none}
 use Rattle.qcow2_session.proofs.Marking.{at_rest}
-use Rattle.std.proofs.Common.{refl, sym, subst, ◌∙◌, List, Option, None, rules}
-use Rattle.qcow2_disk.specs.Runs.{RefinesCommand, discard, done, misuse}
-use Rattle.qcow2_disk.proofs.RunSteps.{done_as, none_as}
-use Rattle.qcow2_image.specs.ImageInvariant.{abstract_of, image_abstraction}
-use Rattle.qcow2_disk.specs.AbstractImages.{abstract_image}
 use Rattle.qcow2_session.proofs.Places.{set_found}
 use Rattle.qcow2_session.proofs.Meanings.{found_at, none_at, does_discard}
 use Rattle.qcow2_session.proofs.Unwritten.{existing_set}
-use Rattle.qcow2_session.specs.Told.{AreExisting}
 use Rattle.qcow2_session.specs.declared.session.Command.TheVariants as C
 use Rattle.qcow2_session.specs.declared.session.Reply.TheVariants as R
 use Rattle.qcow2_session.proofs.Causing.{is_done, is_misused, not_free}
-use Rattle.qcow2_image.proofs.Call.BehindHeader.{behind_none}
-use Rattle.qcow2_image.proofs.Map.Quiet.{reads_none}
 use Rattle.qcow2_session.proofs.Quiet.{quiet_release}
 use Rattle.qcow2_session.proofs.session.discard.Goals as goal
 

@@ -1,15 +1,9 @@
-use Rattle.std.proofs.Common.{◌≡◌, ◌∙◌, refl, rules, sym, subst, [], ◌∷◌, ◌++◌, Some}
-use Rattle.std.specs.Prelude.{slice_get}
-use Rattle.qcow2_image.specs.ImageInvariant.{abstract_of}
-use Rattle.qcow2_session.specs.Sessions.{ReleasesMappings}
+use Rattle.qcow2_session.proofs.Common.{◌≡◌, ◌∙◌, refl, rules, sym, subst, [], ◌∷◌, ◌++◌, Some, slice_get, abstract_of, ReleasesMappings, faults_then, behind_none, behind_then, written_none, written_then}
 use Rattle.qcow2_session.proofs.Places.{get_front}
 use Rattle.qcow2_session.proofs.Told.{same_then}
 use Rattle.qcow2_session.proofs.Turns.{none_within, does_if, does_then}
-use Rattle.qcow2_image.proofs.Call.FaultCounts.{faults_then}
-use Rattle.qcow2_image.proofs.Call.BehindHeader.{behind_none, behind_then}
 use Rattle.qcow2_session.proofs.Counting.{none_counted}
 use Rattle.qcow2_session.proofs.Converting.{does_nothing}
-use Rattle.qcow2_alloc.proofs.KeptTables.AllWritten.{written_none, written_then}
 use Rattle.qcow2_session.proofs.session.discard_all.Goals as goal
 
 pub loop-slot-preserved : goal.loop-slot-preserved

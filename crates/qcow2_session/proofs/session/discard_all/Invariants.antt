@@ -1,12 +1,4 @@
-use Rattle.std.proofs.Common.{◌≡◌, ℕ, vec_len}
-use Rattle.std.specs.Prelude.{Some, slice_get}
-use Rattle.qcow2_image.specs.BehindHeader.{PreservesHeaderCluster}
-use Rattle.qcow2_image.specs.Faults.{SameFaults}
-use Rattle.qcow2_image.specs.Image.{IsSameImage, is_failed, number_of}
-use Rattle.qcow2_image.specs.Prepared.{image_of}
-use Rattle.qcow2_image.specs.declared.prepared.Prepared.{Prepared}
-use Rattle.qcow2_session.specs.Sessions.{ReleasesMappings}
-use Rattle.qcow2_image.specs.Unwritten.{ReadsQuietly}
+use Rattle.qcow2_session.proofs.Common.{◌≡◌, ℕ, vec_len, Some, slice_get, PreservesHeaderCluster, SameFaults, IsSameImage, is_failed, number_of, image_of, Prepared, ReleasesMappings, ReadsQuietly}
 use Rattle.qcow2_session.proofs.session.discard_all.Given as goal
 
 abbrev pub invariant-loop-slot : goal.invariant-loop-slot

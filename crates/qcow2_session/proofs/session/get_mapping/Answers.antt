@@ -1,19 +1,11 @@
 use Rattle.qcow2_session.proofs.Marking.{answered_at_once, refused_at_once}
-use Rattle.std.proofs.Common.{◌≡◌, refl, sym, ap, subst, ◌∙◌, Some, is_some, arith, rules, ⊎_elim}
-use Rattle.std.specs.Prelude.{slice_set}
-use Rattle.qcow2_disk.specs.Found.{IsFoundIn}
-use Rattle.qcow2_disk.proofs.RunSteps.{done_as, refused_as}
-use Rattle.qcow2_alloc.specs.ImageFile.{known_in}
-use Rattle.qcow2_image.specs.Found.{found_kind}
-use Rattle.qcow2_session.specs.Sessions.{mappings_in}
+use Rattle.qcow2_session.proofs.Common.{◌≡◌, refl, sym, ap, subst, ◌∙◌, Some, is_some, arith, rules, ⊎_elim, slice_set, IsFoundIn, done_as, refused_as, known_in, found_kind, mappings_in, unusable, Mapping}
 use Rattle.qcow2_session.proofs.Turns.{does_if}
 use Rattle.qcow2_session.proofs.Meanings.{found_set}
 use Rattle.qcow2_session.proofs.Answering.{unusable_first, error_is, not_both, lookup_answer}
 use Rattle.qcow2_session.specs.declared.session.Command.TheVariants as C
 use Rattle.qcow2_session.specs.declared.session.Reply.TheVariants as R
-use Rattle.qcow2_image.specs.Refusals.{unusable}
 use Rattle.qcow2_session.proofs.Causing.{begun_with, is_answered, is_refused, some_error}
-use Rattle.qcow2_image.specs.declared.mapping.Mapping.{Mapping}
 use Rattle.qcow2_image.proofs.Call.Slots.{length_set}
 use Rattle.qcow2_session.proofs.Told.{none_refused}
 use Rattle.qcow2_session.proofs.Unwritten.{set_or_was}

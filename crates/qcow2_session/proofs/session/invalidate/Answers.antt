@@ -1,5 +1,4 @@
-use Rattle.std.proofs.Common.{refl, rules, ◌∙◌}
-use Rattle.qcow2_image.specs.Image.{is_failed}
+use Rattle.qcow2_session.proofs.Common.{refl, rules, ◌∙◌, is_failed}
 use Rattle.qcow2_session.specs.declared.session.Command.TheVariants as C
 use Rattle.qcow2_session.specs.declared.session.Reply.TheVariants as R
 use Rattle.qcow2_session.proofs.Causing.{is_answered, is_refused, not_failed, same_error, where_failed}

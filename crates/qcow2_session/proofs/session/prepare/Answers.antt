@@ -1,30 +1,14 @@
 use Rattle.qcow2_session.proofs.Marking.{answered_at_once, at_rest, refused_at_once}
-use Rattle.std.proofs.Common.{◌≡◌, inl, inr, refl, sym, ap, subst, ◌∙◌, List, Option, arith, rules}
-use Rattle.std.proofs.lemmas.Bool.{cases_lt}
-use Rattle.qcow2_disk.specs.Runs.{RefinesCommand, prepare, prepared_is, misuse}
-use Rattle.qcow2_disk.proofs.RunSteps.{done_as, refused_as, none_as}
-use Rattle.qcow2_image.specs.ImageInvariant.{image_abstraction, meaning}
-use Rattle.qcow2_disk.specs.AbstractImages.{abstract_image, Setting}
-use Rattle.std.specs.Prelude.{slice_get, slice_set, Some, None}
-use Rattle.qcow2_metadata.specs.Header.{header}
-use Rattle.qcow2_metadata.specs.declared.header.HeaderFields.{HeaderFields}
-use Rattle.qcow2_disk.specs.Mappings.{IsPrivateIn, IsHiddenIn}
-use Rattle.qcow2_alloc.specs.ImageFile.{known_in}
-use Rattle.qcow2_image.proofs.Images.HiddenBytes.{header_is, hidden_in}
+use Rattle.qcow2_session.proofs.Common.{◌≡◌, inl, inr, refl, sym, ap, subst, ◌∙◌, List, Option, arith, rules, cases_lt, RefinesCommand, prepare, prepared_is, misuse, done_as, refused_as, none_as, image_abstraction, meaning, abstract_image, Setting, slice_get, slice_set, Some, None, header, HeaderFields, IsPrivateIn, IsHiddenIn, known_in, header_is, hidden_in, refuses_to_prepare, is_writable, AreExisting, behind_none, reads_none}
 use Rattle.qcow2_session.proofs.Meanings.{taken, untaken, none_at, found_at, so_in_slot, host_at, prepared_at, does_prepare}
 use Rattle.qcow2_session.proofs.Places.{get_set_same}
 use Rattle.qcow2_session.proofs.Answering.{preparing_first, prepares_answer, error_is, not_both}
-use Rattle.qcow2_image.specs.Refusals.{refuses_to_prepare}
 use Rattle.qcow2_session.proofs.Told.{none_refused}
 use Rattle.qcow2_session.proofs.Unwritten.{existing_set, nothing_prepared, prepare_same}
-use Rattle.qcow2_image.specs.Image.{is_writable}
-use Rattle.qcow2_session.specs.Told.{AreExisting}
 use Rattle.qcow2_session.specs.declared.session.Command.TheVariants as C
 use Rattle.qcow2_session.specs.declared.session.Reply.TheVariants as R
 use Rattle.qcow2_session.proofs.Untaken.{prepared_untaken}
 use Rattle.qcow2_session.proofs.Causing.{begun_with, holds, is_answered, is_misused, is_refused, not_free, some_error}
-use Rattle.qcow2_image.proofs.Call.BehindHeader.{behind_none}
-use Rattle.qcow2_image.proofs.Map.Quiet.{reads_none}
 use Rattle.qcow2_session.proofs.Quiet.{quiet_image, quiet_left}
 use Rattle.qcow2_session.proofs.session.prepare.Goals as goal
 

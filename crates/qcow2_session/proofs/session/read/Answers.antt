@@ -1,17 +1,6 @@
-use Rattle.qcow2_alloc.specs.declared.error.ImageError.TheVariants.{Memory}
-use Rattle.std.proofs.Common.{Some, arith, drop, length, refl, subst, sym, take, ◌++◌, ◌<◌, ◌≡◌, rules, inl, ◌+◌}
-use Rattle.std.proofs.lemmas.Grind.{common_steps}
-use Rattle.qcow2_disk.specs.Calls.{Shows}
-use Rattle.qcow2_disk.specs.AbstractImages.{guest_of}
-use Rattle.qcow2_image.specs.ImageInvariant.{abstract_of}
-use Rattle.qcow2_session.specs.Sessions.{Reads}
+use Rattle.qcow2_session.proofs.Common.{Memory, Some, arith, drop, length, refl, subst, sym, take, ◌++◌, ◌<◌, ◌≡◌, rules, inl, ◌+◌, common_steps, Shows, guest_of, abstract_of, Reads, IfErr, MayFail, refuses_to_read, behind_none, MayFailReadingRange, known_in}
 use Rattle.qcow2_session.proofs.Turns.{refused_is, does_if}
-use Rattle.std.specs.Prelude.{IfErr}
-use Rattle.qcow2_image.specs.Refusals.{MayFail, refuses_to_read}
 use Rattle.qcow2_session.proofs.Marking.{at_rest, in_parts, memory_marks, parts_handed, unmarked, refused_none}
-use Rattle.qcow2_image.proofs.Call.BehindHeader.{behind_none}
-use Rattle.qcow2_image.specs.MayFail.{MayFailReadingRange}
-use Rattle.qcow2_alloc.specs.ImageFile.{known_in}
 use Rattle.qcow2_session.proofs.FailingOnSound.{memory_looking}
 use Rattle.qcow2_session.proofs.session.read.Goals as goal
 

@@ -1,25 +1,13 @@
-use Rattle.qcow2_image.proofs.Call.OnceWritten.{counts_on, counts_still}
-use Rattle.std.proofs.Common.{◌≡◌, ◌<◌, ◌∙◌, ◌+◌, ◌-◌, refl, length, IfErr, sym, subst, ap, [], take, drop, arith, rules, Some, ◌≤◌}
-use Rattle.std.proofs.lemmas.Grind.{common_steps}
-use Rattle.qcow2_disk.specs.Calls.{another, Shows}
-use Rattle.qcow2_disk.specs.AbstractImages.{Guest, guest_of}
-use Rattle.qcow2_image.specs.ImageInvariant.{abstract_of}
-use Rattle.qcow2_session.specs.Sessions.{IsRightlyBeyond}
+use Rattle.qcow2_session.proofs.Common.{counts_on, counts_still, ◌≡◌, ◌<◌, ◌∙◌, ◌+◌, ◌-◌, refl, length, IfErr, sym, subst, ap, [], take, drop, arith, rules, Some, ◌≤◌, common_steps, another, Shows, Guest, guest_of, abstract_of, IsRightlyBeyond, behind_none, behind_then, counted_on, faults_then, MayFail, refuses_to_read, written_none, written_then, MayFailReadingRange, known_in}
 use Rattle.qcow2_session.proofs.Bytes.{shows_as, shows_both, first_two}
 use Rattle.qcow2_session.proofs.Beyond.{part_refused}
 use Rattle.qcow2_session.proofs.Reading.{reads_refused}
 use Rattle.qcow2_session.proofs.Turns.{refused_is, refuses_here, none_within, does_if, refuses_if, does_then, refuses_then}
 use Rattle.qcow2_session.proofs.Told.{same_then}
-use Rattle.qcow2_image.proofs.Call.BehindHeader.{behind_none, behind_then}
-use Rattle.qcow2_image.proofs.Call.FaultCounts.{counted_on, faults_then}
-use Rattle.qcow2_image.specs.Refusals.{MayFail, refuses_to_read}
 use Rattle.qcow2_session.proofs.Parts.{part_reads}
 use Rattle.qcow2_session.proofs.Marking.{at_rest, in_parts, parts_answered, parts_behind, parts_beyond, parts_handed, unmarked, refused_none}
 use Rattle.qcow2_session.proofs.Counting.{none_counted}
 use Rattle.qcow2_session.proofs.Converting.{does_nothing}
-use Rattle.qcow2_alloc.proofs.KeptTables.AllWritten.{written_none, written_then}
-use Rattle.qcow2_image.specs.MayFail.{MayFailReadingRange}
-use Rattle.qcow2_alloc.specs.ImageFile.{known_in}
 use Rattle.qcow2_session.proofs.FailingOnSound.{reads_part}
 use Rattle.qcow2_session.proofs.session.read_into.Goals as goal
 

@@ -1,14 +1,4 @@
-use Rattle.std.proofs.Common.{◌≡◌, ◌-◌, ◌≤◌, length, ◌+◌, ◌^◌, ◌<◌, [], take, List}
-use Rattle.qcow2_disk.specs.Calls.{AnsweredEffect, Shows}
-use Rattle.qcow2_disk.specs.AbstractImages.{guest_of}
-use Rattle.std.specs.Prelude.{Option}
-use Rattle.qcow2_image.specs.BehindHeader.{PreservesHeaderCluster}
-use Rattle.qcow2_image.specs.Image.{IsSameImage, is_failed}
-use Rattle.qcow2_image.specs.ImageInvariant.{abstract_of}
-use Rattle.qcow2_image.specs.Noted.{CountsImageChanges}
-use Rattle.qcow2_image.specs.declared.prepared.Prepared.{Prepared}
-use Rattle.qcow2_image.specs.Unwritten.{ReadsQuietly}
-use Rattle.qcow2_image.specs.Faults.{SameFaults}
+use Rattle.qcow2_session.proofs.Common.{◌≡◌, ◌-◌, ◌≤◌, length, ◌+◌, ◌^◌, ◌<◌, [], take, List, AnsweredEffect, Shows, guest_of, Option, PreservesHeaderCluster, IsSameImage, is_failed, abstract_of, CountsImageChanges, Prepared, ReadsQuietly, SameFaults}
 use Rattle.qcow2_session.proofs.session.read_into.Given as goal
 
 abbrev pub invariant-loop-done : goal.invariant-loop-done

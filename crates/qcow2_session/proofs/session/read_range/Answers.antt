@@ -1,20 +1,8 @@
-use Rattle.std.proofs.Common.{refl, ap, ◌≡◌, ◌∙◌, ◌<◌, Err, ◌+◌, ◌++◌, take, drop, length, sym, subst, arith, Some, rules, inl}
-use Rattle.std.proofs.lemmas.Grind.{common_steps}
-use Rattle.qcow2_disk.specs.Calls.{Shows}
-use Rattle.qcow2_disk.specs.AbstractImages.{guest_of}
-use Rattle.qcow2_image.specs.ImageInvariant.{abstract_of}
-use Rattle.qcow2_session.specs.Sessions.{Reads}
+use Rattle.qcow2_session.proofs.Common.{refl, ap, ◌≡◌, ◌∙◌, ◌<◌, Err, ◌+◌, ◌++◌, take, drop, length, sym, subst, arith, Some, rules, inl, common_steps, Shows, guest_of, abstract_of, Reads, IfErr, MayFail, unusable, IsFoundWhole, further_by, Memory, OutdatedMapping, sound_is_usable, behind_none, IsCacheHeld, MayFailMapped}
 use Rattle.qcow2_session.proofs.Turns.{refused_is, refused_some, does_if}
-use Rattle.std.specs.Prelude.{IfErr}
-use Rattle.qcow2_image.specs.Refusals.{MayFail, unusable}
-use Rattle.qcow2_image.specs.Found.{IsFoundWhole, further_by}
 use Rattle.qcow2_session.proofs.Marking.{answered_at_once, at_rest, memory_marks, none_answered, once_handed, refused_at_once, unchecked, unmarked}
-use Rattle.qcow2_alloc.specs.declared.error.ImageError.TheVariants.{Memory, OutdatedMapping}
-use Rattle.qcow2_image.proofs.Images.Sizes.{sound_is_usable}
 use Rattle.qcow2_session.proofs.Causing.{same_error}
-use Rattle.qcow2_image.proofs.Call.BehindHeader.{behind_none}
 use Rattle.qcow2_session.proofs.FailingOnSound.{memory_looking}
-use Rattle.qcow2_image.specs.MayFail.{IsCacheHeld, MayFailMapped}
 use Rattle.qcow2_session.proofs.session.read_range.Goals as goal
 
 pub returns-in_err-read_mapped-clause-sees : goal.returns-in_err-read_mapped-clause-sees

@@ -1,26 +1,9 @@
-use Rattle.qcow2_image.proofs.Call.OnceWritten.{counts_on}
+use Rattle.qcow2_session.proofs.Common.{counts_on, ◌≡◌, ◌∙◌, ◌+◌, ◌++◌, Some, sym, subst, ap, [], take, drop, arith, rules, inl, ◌<◌, Err, common_steps, another, Guest, abstract_of, IsOfReading, ReadsFirst, IfErr, length, size_of, MayFail, unusable, passes, BeyondSize, tables_met, behind_then, written_then, counted_on, IsFoundWhole, further_by, MayFailReadingRange, known_in}
 use Rattle.qcow2_session.proofs.Marking.{in_parts, parts_answered, parts_behind, parts_beyond, parts_handed, refused_at_once}
-use Rattle.std.proofs.Common.{◌≡◌, ◌∙◌, ◌+◌, ◌++◌, Some, sym, subst, ap, [], take, drop, arith, rules, inl, ◌<◌, Err}
-use Rattle.std.proofs.lemmas.Grind.{common_steps}
-use Rattle.qcow2_disk.specs.Calls.{another}
-use Rattle.qcow2_disk.specs.AbstractImages.{Guest}
-use Rattle.qcow2_image.specs.ImageInvariant.{abstract_of}
-use Rattle.qcow2_session.specs.Sessions.{IsOfReading, ReadsFirst}
 use Rattle.qcow2_session.proofs.Bytes.{shows_as}
 use Rattle.qcow2_session.proofs.Turns.{refused_is, refuses_here, none_within, does_if, refuses_if, does_then, refuses_then}
-use Rattle.std.specs.Prelude.{IfErr, length}
-use Rattle.qcow2_image.specs.Image.{size_of}
-use Rattle.qcow2_image.specs.Refusals.{MayFail, unusable, passes}
-use Rattle.qcow2_alloc.specs.declared.error.ImageError.TheVariants.{BeyondSize}
 use Rattle.qcow2_session.proofs.Causing.{mapping_reading, fits_below, then_none}
 use Rattle.qcow2_session.proofs.Parts.{mapping_usable}
-use Rattle.qcow2_image.proofs.Call.FailingErrors.{tables_met}
-use Rattle.qcow2_image.proofs.Call.BehindHeader.{behind_then}
-use Rattle.qcow2_alloc.proofs.KeptTables.AllWritten.{written_then}
-use Rattle.qcow2_image.proofs.Call.FaultCounts.{counted_on}
-use Rattle.qcow2_image.specs.Found.{IsFoundWhole, further_by}
-use Rattle.qcow2_image.specs.MayFail.{MayFailReadingRange}
-use Rattle.qcow2_alloc.specs.ImageFile.{known_in}
 use Rattle.qcow2_session.proofs.FailingOnSound.{found_there, looking_prepared, reads_found}
 use Rattle.qcow2_session.proofs.session.read_some.Goals as goal
 

@@ -1,25 +1,11 @@
-use Rattle.std.proofs.Common.{rules, ◌≡◌, ◌+◌, ◌∙◌, refl, sym, ap, inl, inr, ⊎_elim, subst, arith, [], ◌∷◌, ◌++◌, None, take, map, is_some}
-use Rattle.std.specs.Prelude.{replicate}
-use Rattle.std.proofs.lemmas.Grind.{common_steps}
-use Rattle.std.proofs.lemmas.List.{take_more, take_all, map-append}
-use Rattle.qcow2_image.specs.ImageInvariant.{abstract_of, image_abstraction}
-use Rattle.qcow2_disk.specs.Runs.{HasNoInvalidation, RefinesWholeRun, begun, started}
-use Rattle.qcow2_disk.proofs.RunSteps.{begins, completes, refines_the_disk}
-use Rattle.qcow2_session.specs.Commands.{command_of, reply_of}
-use Rattle.qcow2_image.proofs.Images.Free.{free_places, nothing_since, whole}
-use Rattle.qcow2_alloc.specs.ImageFile.{contents_in}
+use Rattle.qcow2_session.proofs.Common.{rules, ◌≡◌, ◌+◌, ◌∙◌, refl, sym, ap, inl, inr, ⊎_elim, subst, arith, [], ◌∷◌, ◌++◌, None, take, map, is_some, replicate, common_steps, take_more, take_all, map-append, abstract_of, image_abstraction, HasNoInvalidation, RefinesWholeRun, begun, started, begins, completes, refines_the_disk, command_of, reply_of, free_places, nothing_since, whole, contents_in, IsReportedRun, RunPoint, first_point, mappings_in, range_of, IsUntouched, RunCounts, behind_none, behind_then, written_then}
 use Rattle.qcow2_session.proofs.LookingUp.{looked_up, none_said}
 use Rattle.qcow2_session.proofs.Meanings.{ranges_after}
 use Rattle.qcow2_session.proofs.Places.{surplus_none}
 use Rattle.qcow2_session.proofs.Runs.{GoesOn, first_of_all, command_step_on, map_more}
-use Rattle.qcow2_session.specs.Told.{IsReportedRun, RunPoint, first_point}
 use Rattle.qcow2_session.proofs.Told.{IsToldSoFar, first_told, image_itself, itself_then, none_before, same_itself, told_more}
-use Rattle.qcow2_session.specs.Sessions.{mappings_in, range_of, IsUntouched}
 use Rattle.qcow2_session.proofs.Unwritten.{existing_none}
-use Rattle.qcow2_session.specs.CountedFaults.{RunCounts}
 use Rattle.qcow2_session.proofs.Counting.{none_counted, run_counts_more, run_counts_still}
-use Rattle.qcow2_image.proofs.Call.BehindHeader.{behind_none, behind_then}
-use Rattle.qcow2_alloc.proofs.KeptTables.AllWritten.{written_then}
 use Rattle.qcow2_session.proofs.Quiet.{along_quietly}
 use Rattle.qcow2_session.proofs.session.run.Goals as goal
 

@@ -1,16 +1,6 @@
-use Rattle.std.proofs.Common.{◌≡◌, vec_len, take, map, []}
-use Rattle.std.specs.Prelude.{None, replicate}
-use Rattle.qcow2_disk.specs.Runs.{State, RefinesState, HasNoInvalidation, begun}
-use Rattle.qcow2_disk.specs.AbstractImages.{Setting}
-use Rattle.qcow2_image.specs.BehindHeader.{PreservesHeaderCluster}
-use Rattle.qcow2_image.specs.Image.{number_of}
-use Rattle.qcow2_image.specs.ImageInvariant.{abstract_of, image_abstraction}
-use Rattle.qcow2_session.specs.CountedFaults.{RunCounts}
-use Rattle.qcow2_session.specs.Commands.{command_of, reply_of}
+use Rattle.qcow2_session.proofs.Common.{◌≡◌, vec_len, take, map, [], None, replicate, State, RefinesState, HasNoInvalidation, begun, Setting, PreservesHeaderCluster, number_of, abstract_of, image_abstraction, RunCounts, command_of, reply_of, mappings_in, KeepsItself}
 use Rattle.qcow2_session.proofs.Runs.{GoesOn}
 use Rattle.qcow2_session.proofs.Told.{IsToldSoFar}
-use Rattle.qcow2_session.specs.Sessions.{mappings_in}
-use Rattle.qcow2_session.specs.Told.{KeepsItself}
 use Rattle.qcow2_session.proofs.session.run.Given as goal
 
 abbrev pub invariant-loop-command : goal.invariant-loop-command

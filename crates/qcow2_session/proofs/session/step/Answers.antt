@@ -1,17 +1,9 @@
 use Rattle.qcow2_session.proofs.Marking.{at_rest}
-use Rattle.qcow2_session.specs.Marks.{MarksBy}
-use Rattle.std.proofs.Common.{rules, refl, ap, sym, subst, ◌∙◌, None, Some}
-use Rattle.qcow2_disk.proofs.RunSteps.{done_as, refused_as, none_as}
-use Rattle.qcow2_session.specs.Commands.{command_of}
-use Rattle.qcow2_session.specs.Sessions.{mappings_in}
+use Rattle.qcow2_session.proofs.Common.{MarksBy, rules, refl, ap, sym, subst, ◌∙◌, None, Some, done_as, refused_as, none_as, command_of, mappings_in, SlotsAfter, ReplyMatchesImage, RefusalJustified, behind_none, reads_none}
 use Rattle.qcow2_session.proofs.Answering.{reading_first, error_is, write_error_is, not_both, reads_answer, writes_answer, write_refused_answer}
 use Rattle.qcow2_session.specs.CallSteps.{AnswersCommand}
-use Rattle.qcow2_session.specs.Told.{SlotsAfter, ReplyMatchesImage}
 use Rattle.qcow2_session.specs.declared.session.Reply.TheVariants.{Bytes, Done, Leaked, Refused, Size, WriteRefused}
-use Rattle.qcow2_session.specs.Causes.{RefusalJustified}
 use Rattle.qcow2_session.proofs.Causing.{read_answered, leaks_answered, read_refused, size_answered, write_answered, write_refused_for}
-use Rattle.qcow2_image.proofs.Call.BehindHeader.{behind_none}
-use Rattle.qcow2_image.proofs.Map.Quiet.{reads_none}
 use Rattle.qcow2_session.proofs.Copied.{rightly_written}
 use Rattle.qcow2_session.proofs.session.step.Goals as goal
 

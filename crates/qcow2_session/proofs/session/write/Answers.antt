@@ -1,37 +1,15 @@
-use Rattle.qcow2_image.proofs.Call.OnceWritten.{counts_on}
+use Rattle.qcow2_session.proofs.Common.{counts_on, rules, ◌≡◌, ℕ, ◌∙◌, subst, take, drop, length, [], ◌∷◌, ◌<◌, ap, arith, ◌+◌, ◌≤◌, refl, ◌%◌, ◌-◌, IfSome, Option, Some, None, Result, Err, Ok, common_steps, take_rest, another, Setting, given_of, works_less, abstract_of, refusal_of, LeavesCopied, Writes, cluster_size_of, NeedsOverflowingL1Entry, limited_from, limited_giving, IsTaken, IsUnderMappingIn, TablePrepared, refuses_to_prepare, faults_then, behind_then, written_then, known_in, taking_kept}
 use Rattle.qcow2_session.proofs.Marking.{parts_answered, parts_behind, parts_beyond}
 use Rattle.qcow2_session.proofs.session.write.Goals as goal
-use Rattle.std.proofs.Common.{rules, ◌≡◌, ℕ, ◌∙◌, subst, take, drop, length, [], ◌∷◌, ◌<◌, ap, arith, ◌+◌, ◌≤◌, refl, ◌%◌, ◌-◌}
-use Rattle.std.specs.Prelude.{IfSome, Option, Some, None, Result, Err, Ok}
-use Rattle.std.proofs.lemmas.Grind.{common_steps}
-use Rattle.std.proofs.lemmas.List.{take_rest}
-use Rattle.qcow2_disk.specs.Calls.{another}
-use Rattle.qcow2_disk.specs.AbstractImages.{Setting}
-use Rattle.qcow2_disk.specs.Mappings.{given_of}
-use Rattle.qcow2_disk.proofs.Compose.{works_less}
-use Rattle.qcow2_image.specs.ImageInvariant.{abstract_of}
-use Rattle.qcow2_image.specs.Calls.{refusal_of}
 use Rattle.qcow2_session.proofs.Writing.{ends_on, write_refused}
 use Rattle.qcow2_session.proofs.Respecting.{heeded_first, heeded_more}
 use Rattle.qcow2_session.proofs.WrittenParts.{first_given, never_first, no_more_then, stops_behind, stops_first, writes_on}
-use Rattle.qcow2_session.specs.Sessions.{LeavesCopied, Writes, cluster_size_of}
-use Rattle.qcow2_image.specs.L1Entries.{NeedsOverflowingL1Entry}
-use Rattle.qcow2_image.proofs.Prepare.LimitCauses.{limited_from, limited_giving}
-use Rattle.qcow2_image.specs.Preparing.{IsTaken}
-use Rattle.qcow2_image.specs.Preallocation.{IsUnderMappingIn}
-use Rattle.qcow2_alloc.specs.declared.error.ImageError.TheVariants.{TablePrepared}
 use Rattle.qcow2_session.proofs.Beyond.{part_refused}
 use Rattle.qcow2_session.proofs.Turns.{does_less, refuses_here, refuses_if, nothing_refused}
-use Rattle.qcow2_image.specs.Refusals.{refuses_to_prepare}
 use Rattle.qcow2_session.proofs.Told.{same_then}
-use Rattle.qcow2_image.proofs.Call.FaultCounts.{faults_then}
 use Rattle.qcow2_session.proofs.Parts.{not_failed_yet, part_prepares, part_under, prepares_usable, under_taken}
-use Rattle.qcow2_image.proofs.Call.BehindHeader.{behind_then}
-use Rattle.qcow2_alloc.proofs.KeptTables.AllWritten.{written_then}
 use Rattle.qcow2_session.proofs.Copied.{copied_on}
-use Rattle.qcow2_alloc.specs.ImageFile.{known_in}
 use Rattle.qcow2_session.proofs.FailingOnSound.{compressed_in_part}
-use Rattle.qcow2_image.proofs.Prepare.FailingAllocations.{taking_kept}
 
 pub returns-in_default-clause-sees : goal.returns-in_default-clause-sees
 returns-in_default-clause-sees g c = λ out. refuses_if (λ same. (c.loop-done.invariant.within, same)) (refuses_here (another 2) (λ is. absurd cc) (does_less (first_given _ c.args.offset c.loop-done.done c.args.bytes.now) (c.loop-done.invariant.written out)))

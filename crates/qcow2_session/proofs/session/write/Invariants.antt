@@ -1,20 +1,5 @@
 use Rattle.qcow2_session.proofs.session.write.Given as goal
-use Rattle.std.proofs.Common.{◌≡◌, ◌+◌, ◌-◌, ◌^◌, ◌<◌, ◌≤◌, length, [], ◌∷◌, take, List, ℕ}
-use Rattle.std.specs.Prelude.{Option, None}
-use Rattle.qcow2_disk.specs.Calls.{AnsweredEffect, with_disk}
-use Rattle.qcow2_disk.specs.Disk.{with_bytes}
-use Rattle.qcow2_disk.specs.Mappings.{given_of}
-use Rattle.qcow2_disk.specs.AbstractImages.{guest_of}
-use Rattle.qcow2_image.specs.BehindHeader.{PreservesHeaderCluster}
-use Rattle.qcow2_image.specs.Image.{IsSameImage, is_failed}
-use Rattle.qcow2_image.specs.ImageInvariant.{abstract_of}
-use Rattle.qcow2_image.specs.ListedClusters.{ListsNoMore}
-use Rattle.qcow2_image.specs.Refusals.{refuses_to_prepare}
-use Rattle.qcow2_image.specs.Noted.{CountsImageChanges}
-use Rattle.qcow2_image.specs.declared.prepared.Prepared.{Prepared}
-use Rattle.qcow2_session.specs.Sessions.{EndsCluster, LeavesCopied, IsRespectedAt}
-use Rattle.qcow2_session.specs.Told.{StaysQuiet}
-use Rattle.qcow2_image.specs.Faults.{SameFaults}
+use Rattle.qcow2_session.proofs.Common.{◌≡◌, ◌+◌, ◌-◌, ◌^◌, ◌<◌, ◌≤◌, length, [], ◌∷◌, take, List, ℕ, Option, None, AnsweredEffect, with_disk, with_bytes, given_of, guest_of, PreservesHeaderCluster, IsSameImage, is_failed, abstract_of, ListsNoMore, refuses_to_prepare, CountsImageChanges, Prepared, EndsCluster, LeavesCopied, IsRespectedAt, StaysQuiet, SameFaults}
 
 abbrev pub invariant-loop-done : goal.invariant-loop-done
 invariant-loop-done g l = record {

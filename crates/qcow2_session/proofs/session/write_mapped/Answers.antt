@@ -1,25 +1,12 @@
 use Rattle.qcow2_session.proofs.Marking.{answered_at_once, at_rest, refused_at_once}
 use Rattle.qcow2_session.proofs.Quiet.{quiet_left}
-use Rattle.qcow2_image.proofs.Map.Quiet.{reads_none}
-use Rattle.std.proofs.Common.{refl, length, arith, rules, ◌≡◌, ◌⊎◌, ◌+◌, ◌<◌, ◌≤◌, ◌∙◌, inl, inr, ℕ, ap, subst, List, Option, Some, None, Err}
-use Rattle.qcow2_disk.proofs.RunSteps.{done_as, refused_as, none_as}
-use Rattle.qcow2_image.specs.ImageInvariant.{image_abstraction}
+use Rattle.qcow2_session.proofs.Common.{reads_none, refl, length, arith, rules, ◌≡◌, ◌⊎◌, ◌+◌, ◌<◌, ◌≤◌, ◌∙◌, inl, inr, ℕ, ap, subst, List, Option, Some, None, Err, done_as, refused_as, none_as, image_abstraction, misuse, image_of, length_of, table_of, refuses_mapping, unusable, ◌&&◌, not, nat_lt, slice_get, IfSome, Result, Ok, cases_lt, ImageError, ReadOnly, is_writable, Prepared, behind_none}
 use Rattle.qcow2_session.proofs.Meanings.{found_at, none_at, does_put, refuses_put, is_past}
 use Rattle.qcow2_session.proofs.Answering.{mapping_first, error_is, not_both}
-use Rattle.qcow2_disk.specs.Runs.{misuse}
 use Rattle.qcow2_session.proofs.Unwritten.{put_same}
-use Rattle.qcow2_image.specs.Prepared.{image_of, length_of, table_of}
-use Rattle.qcow2_image.specs.Refusals.{refuses_mapping, unusable}
 use Rattle.qcow2_session.specs.declared.session.Command.TheVariants as C
 use Rattle.qcow2_session.specs.declared.session.Reply.TheVariants as R
-use Rattle.std.specs.Prelude.{◌&&◌, not, nat_lt, slice_get, IfSome, Result, Ok}
-use Rattle.std.proofs.lemmas.Bool.{cases_lt}
-use Rattle.qcow2_alloc.specs.declared.error.ImageError.{ImageError}
-use Rattle.qcow2_alloc.specs.declared.error.ImageError.TheVariants.{ReadOnly}
-use Rattle.qcow2_image.specs.Image.{is_writable}
-use Rattle.qcow2_image.specs.declared.prepared.Prepared.{Prepared}
 use Rattle.qcow2_session.proofs.Causing.{begun_with, is_answered, is_misused, is_refused, none_of, not_free, own_mapping, put_reads, put_writes, same_error, same_mapping, some_error, then_early, then_none}
-use Rattle.qcow2_image.proofs.Call.BehindHeader.{behind_none}
 use Rattle.qcow2_session.proofs.session.write_mapped.Goals as goal
 use Rattle.qcow2_session.proofs.session.write_mapped.Goals.{then-at-length-via-then-at-length, then-at-length-via-else-at-length+then-len-length}
 

@@ -1,56 +1,19 @@
-use Rattle.qcow2_session.specs.Marks.{MarksAtOnce}
-use Rattle.qcow2_image.proofs.Call.OnceWritten.{counts_on, counts_released}
+use Rattle.qcow2_session.proofs.Common.{MarksAtOnce, counts_on, counts_released, IsUnderMapping, ◌≡◌, sym, subst, ap, ◌∙◌, Err, [], ◌∷◌, Some, None, min, length, refl, arith, ℕ, ◌+◌, ◌<◌, ◌≤◌, ⊎_elim, List, inl, inr, take, true, false, rules, IfSome, IfOk, IsOk, Ok, Option, Result, IfErr, is_some, given_of, Setting, guest_of, refusal_of, Commits, reason_of, CountsImageFaults, is_writable, number_of, size_of, IsHandedBackBy, image_of, length_of, guest_offset_of, offset_of, table_of, refuses_mapping, refuses_to_prepare, MayFail, MayFailPreparing, Kept, abstract_of, image_abstraction, meaning, AreDataAt, cluster_size_of, LeavesCopied, WritesFirst, RespectsFirst, free_places, Qcow2, cases_Bool, cases_lt, pow_pos, IsOfNothing, Prepared, common_steps, ImageError, counted_still, faults_then, IsOfTables, tables_met, behind_then, written_then, known_in, fault_unlimited, limited_upto, other_limit, fault_of, NeedsOverflowingL1Entry, IfLimit, IsLimited, CopiesCompressed, IsCacheHeld, MayFailAllocating, HasPinnedMapping, taking_as}
 use Rattle.qcow2_session.proofs.Marking.{commit_at_once, in_parts, parts_answered, parts_before, parts_behind, parts_handed, refused_at_once}
-use Rattle.qcow2_image.specs.Clearing.{IsUnderMapping}
 use Rattle.qcow2_session.proofs.session.write_some.Goals as goal
-use Rattle.std.proofs.Common.{◌≡◌, sym, subst, ap, ◌∙◌, Err, [], ◌∷◌, Some, None, min, length, refl, arith, ℕ, ◌+◌, ◌<◌, ◌≤◌, ⊎_elim, List, inl, inr, take, true, false, rules}
-use Rattle.std.specs.Prelude.{IfSome, IfOk, IsOk, Ok, Option, Result, IfErr, is_some}
-use Rattle.qcow2_disk.specs.Mappings.{given_of}
-use Rattle.qcow2_disk.specs.AbstractImages.{Setting, guest_of}
-use Rattle.qcow2_image.specs.Calls.{refusal_of, Commits, reason_of}
-use Rattle.qcow2_image.specs.Faults.{CountsImageFaults}
-use Rattle.qcow2_image.specs.Image.{is_writable, number_of, size_of}
-use Rattle.qcow2_image.specs.Prepared.{IsHandedBackBy, image_of, length_of, guest_offset_of, offset_of, table_of}
-use Rattle.qcow2_image.specs.Refusals.{refuses_mapping, refuses_to_prepare, MayFail, MayFailPreparing}
-use Rattle.qcow2_image.specs.declared.prepared.CommitRefused.TheVariants.{Kept}
-use Rattle.qcow2_image.specs.ImageInvariant.{abstract_of, image_abstraction, meaning}
-use Rattle.qcow2_disk.specs.Alike.{AreDataAt}
-use Rattle.qcow2_session.specs.Sessions.{cluster_size_of, LeavesCopied, WritesFirst, RespectsFirst}
 use Rattle.qcow2_session.proofs.Bytes.{cut_long, cut_part, cut_short}
 use Rattle.qcow2_session.proofs.Chunks.{may_write_none, put_refused, written, commit_old_tables, commit_kept}
 use Rattle.qcow2_session.proofs.Writing.{chunk_ends}
 use Rattle.qcow2_session.proofs.WrittenParts.{no_more_then}
-use Rattle.qcow2_image.proofs.Images.Free.{free_places}
 use Rattle.qcow2_session.proofs.Told.{none_refused}
 use Rattle.qcow2_session.proofs.Turns.{refused_is, none_within, refuses_if, refuses_less, nothing_refused}
 use Rattle.qcow2_session.proofs.Unwritten.{nothing_prepared, prepare_same, put_same}
-use Rattle.qcow2_image.specs.declared.image.Qcow2.{Qcow2}
-use Rattle.std.proofs.lemmas.Bool.{cases_Bool, cases_lt}
-use Rattle.std.proofs.lemmas.Nat.{pow_pos}
-use Rattle.qcow2_image.specs.Preparing.{IsOfNothing}
-use Rattle.qcow2_image.specs.declared.prepared.Prepared.{Prepared}
-use Rattle.std.proofs.lemmas.Grind.{common_steps}
-use Rattle.qcow2_alloc.specs.declared.error.ImageError.{ImageError}
-use Rattle.qcow2_image.proofs.Call.FaultCounts.{counted_still, faults_then}
 use Rattle.qcow2_session.proofs.Counting.{commit_since}
 use Rattle.qcow2_session.proofs.Parts.{mapping_usable, not_failed_yet, prepares_usable, prepares_within, prepares_writable, put_met, under_taken}
-use Rattle.qcow2_alloc.specs.ImageError.{IsOfTables}
-use Rattle.qcow2_image.proofs.Call.FailingErrors.{tables_met}
-use Rattle.qcow2_image.proofs.Call.BehindHeader.{behind_then}
-use Rattle.qcow2_alloc.proofs.KeptTables.AllWritten.{written_then}
 use Rattle.qcow2_session.proofs.Untaken.{untaken_beside}
 use Rattle.qcow2_session.proofs.Quiet.{quiet_commit, quiet_image, quiet_release}
 use Rattle.qcow2_session.proofs.Copied.{existing_or_not, kept_data, part_copied}
-use Rattle.qcow2_alloc.specs.ImageFile.{known_in}
-use Rattle.qcow2_image.proofs.Call.Unlimited.{fault_unlimited}
-use Rattle.qcow2_image.proofs.Prepare.LimitCauses.{limited_upto, other_limit}
-use Rattle.qcow2_image.proofs.Resize.Shrinking.{fault_of}
-use Rattle.qcow2_image.specs.L1Entries.{NeedsOverflowingL1Entry}
-use Rattle.qcow2_image.specs.Limits.{IfLimit, IsLimited}
-use Rattle.qcow2_image.specs.MayFail.{CopiesCompressed, IsCacheHeld, MayFailAllocating}
 use Rattle.qcow2_session.proofs.FailingOnSound.{existing_found, existing_long, existing_near, put_unlimited, compressed_behind, put_looking}
-use Rattle.qcow2_image.specs.Backings.{HasPinnedMapping}
-use Rattle.qcow2_image.proofs.Prepare.FailingAllocations.{taking_as}
 
 -- what refused a call that begins another one before any work refused that one
 one_cause : {A E : Type 0} (r : Result A E) (e x : E) → r ≡ Err e → r ≡ Err x → e ≡ x

@@ -1,15 +1,10 @@
 use Rattle.qcow2_session.proofs.Marking.{answered_at_once, refused_at_once}
 use Rattle.qcow2_session.proofs.Quiet.{quiet_left}
-use Rattle.std.proofs.Common.{inl, inr, ap, arith, refl, rules}
-use Rattle.std.proofs.lemmas.Bool.{cases_lt}
+use Rattle.qcow2_session.proofs.Common.{inl, inr, ap, arith, refl, rules, cases_lt, size_of, refuses_to_resize, takes_over, ◌&&◌, nat_lt, Preallocation}
 use Rattle.qcow2_session.proofs.Resized.{none_early, grow_done, grow_refused}
 use Rattle.qcow2_session.proofs.Unwritten.{resizes_failed, resized_itself, resizes_reading, same_early}
-use Rattle.qcow2_image.specs.Image.{size_of}
-use Rattle.qcow2_image.specs.Resizing.{refuses_to_resize, takes_over}
 use Rattle.qcow2_session.specs.declared.session.Command.TheVariants as C
 use Rattle.qcow2_session.specs.declared.session.Reply.TheVariants as R
-use Rattle.std.specs.Prelude.{◌&&◌, nat_lt}
-use Rattle.qcow2_alloc.specs.declared.error.ImageError.TheVariants.{Preallocation}
 use Rattle.qcow2_session.proofs.Causing.{begun_with, grow_meets, is_answered, is_refused, same_error, some_error, takes_larger, then_early, then_none}
 use Rattle.qcow2_session.proofs.sizing.grow.Goals as goal
 

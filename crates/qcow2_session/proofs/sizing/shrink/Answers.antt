@@ -1,10 +1,8 @@
 use Rattle.qcow2_session.proofs.Marking.{answered_at_once, refused_at_once}
 use Rattle.qcow2_session.proofs.Quiet.{quiet_left}
-use Rattle.std.proofs.Common.{ap, refl, rules}
+use Rattle.qcow2_session.proofs.Common.{ap, refl, rules, size_of, refuses_to_resize}
 use Rattle.qcow2_session.proofs.Resized.{shrink_done, shrink_refused}
 use Rattle.qcow2_session.proofs.Unwritten.{resizes_failed, resized_itself, resizes_reading, same_early}
-use Rattle.qcow2_image.specs.Image.{size_of}
-use Rattle.qcow2_image.specs.Resizing.{refuses_to_resize}
 use Rattle.qcow2_session.specs.declared.session.Command.TheVariants as C
 use Rattle.qcow2_session.specs.declared.session.Reply.TheVariants as R
 use Rattle.qcow2_session.proofs.Causing.{begun_with, is_answered, is_refused, some_error}

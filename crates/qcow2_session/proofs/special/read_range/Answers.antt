@@ -1,16 +1,8 @@
-use Rattle.std.proofs.Common.{Some, arith, length, refl, subst, sym, ◌<◌, ◌∙◌, ◌≡◌, ◌⊎◌, rules, inl}
-use Rattle.std.proofs.lemmas.Grind.{common_steps}
-use Rattle.qcow2_alloc.specs.ImageFile.{known_in}
-use Rattle.qcow2_image.proofs.Images.Sizes.{sound_is_usable}
-use Rattle.qcow2_alloc.specs.declared.error.ImageError.TheVariants.{NotCompressed}
-use Rattle.qcow2_image.specs.Refusals.{MayFail, unusable}
+use Rattle.qcow2_session.proofs.Common.{Some, arith, length, refl, subst, sym, ◌<◌, ◌∙◌, ◌≡◌, ◌⊎◌, rules, inl, common_steps, known_in, sound_is_usable, NotCompressed, MayFail, unusable, behind_none, IfErr, IsCacheHeld, MayFailSpecial}
 use Rattle.qcow2_session.proofs.Turns.{refused_is, refused_some}
 use Rattle.qcow2_session.proofs.SpecialReads.{told_specially}
 use Rattle.qcow2_session.proofs.Marking.{at_rest, call_at_once, memory_marks, once_handed, unchecked, unmarked}
-use Rattle.qcow2_image.proofs.Call.BehindHeader.{behind_none}
 use Rattle.qcow2_session.proofs.FailingOnSound.{memory_looking}
-use Rattle.std.specs.Prelude.{IfErr}
-use Rattle.qcow2_image.specs.MayFail.{IsCacheHeld, MayFailSpecial}
 use Rattle.qcow2_session.proofs.special.read_range.Goals as goal
 
 pub returns-clause-reports : goal.returns-clause-reports

@@ -1,5 +1,4 @@
-use Rattle.std.proofs.Common.{◌≡◌, vec_capacity}
-use Rattle.std.specs.Prelude.{None, replicate}
+use Rattle.qcow2_session.proofs.Common.{◌≡◌, vec_capacity, None, replicate}
 use Rattle.qcow2_session.proofs.slots.Slots.new.Given as goal
 
 abbrev pub invariant-loop : goal.invariant-loop
