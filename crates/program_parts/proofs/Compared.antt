@@ -1,22 +1,9 @@
 -- Two disks that are read and compared.
-use Rattle.std.proofs.Common.{◌≡◌, inl, inr, ℕ, ◌+◌, ◌-◌, ◌<◌, ◌≤◌, List, [], length, refl, sym, ap, ◌∙◌, subst, arith}
-use Rattle.std.proofs.lemmas.Bool.{cases_lt}
-use Rattle.std.specs.Prelude.{Option, Some, None, Result, Ok, Err, IfOk, OnOk}
-use Rattle.image_access.specs.Backing.{BackingView}
-use Rattle.image_access.specs.Moments.{StorageView}
+use Rattle.program_parts.proofs.Common.{◌≡◌, inl, inr, ℕ, ◌+◌, ◌-◌, ◌<◌, ◌≤◌, List, [], length, refl, sym, ap, ◌∙◌, subst, arith, cases_lt, Option, Some, None, Result, Ok, Err, IfOk, OnOk, BackingView, StorageView, byte_at, IsConsistent, Value, known_byte, Shows, Disk, ImageError, disk_alone, IsCompared, IsFirstOther, IsFoundBetween, IsWhereOther, AreSameBelow, AreSameDisks, IsComparisonIn, IsComparisonOf, IsFirstDifference, IsOpenedAs, IsSeenAs, SeenDisk, seen_image}
 use Rattle.image_access.specs.declared.storage.Format.{Format}
 use Rattle.image_access.specs.declared.storage.Format.TheVariants.{Qcow2}
-use Rattle.qcow2_metadata.specs.Bytes.{byte_at}
-use Rattle.qcow2_metadata.specs.Consistent.{IsConsistent}
-use Rattle.qcow2_metadata.specs.Guest.{Value, known_byte}
-use Rattle.qcow2_disk.specs.Calls.{Shows}
-use Rattle.qcow2_disk.specs.Disk.{Disk}
-use Rattle.qcow2_alloc.specs.declared.error.ImageError.{ImageError}
 use Rattle.qcow2_image.specs.declared.image.Qcow2.{Qcow2 as Image}
 use Rattle.qcow2_session.specs.Sessions.{ReadsInto}
-use Rattle.program_parts.specs.Conversions.{disk_alone}
-use Rattle.program_parts.specs.Comparing.{IsCompared, IsFirstOther, IsFoundBetween, IsWhereOther}
-use Rattle.program_parts.specs.Disks.{AreSameBelow, AreSameDisks, IsComparisonIn, IsComparisonOf, IsFirstDifference, IsOpenedAs, IsSeenAs, SeenDisk, seen_image}
 use Rattle.program_parts.specs.declared.comparing.Comparison.{Comparison}
 
 -- ---- what is so of an answer

@@ -1,10 +1,6 @@
 -- A raw disk that is copied piece by piece.
-use Rattle.std.proofs.Common.{◌≡◌, inl, inr, ℕ, ◌+◌, ◌-◌, ◌<◌, ◌≤◌, max, List, [], length, ap, subst, sym, refl, ◌∙◌, arith}
-use Rattle.std.proofs.lemmas.Bool.{cases_lt}
+use Rattle.program_parts.proofs.Common.{◌≡◌, inl, inr, ℕ, ◌+◌, ◌-◌, ◌<◌, ◌≤◌, max, List, [], length, ap, subst, sym, refl, ◌∙◌, arith, cases_lt, byte_at-bytes_at, byte_at-overwritten, byte_at-overwritten_below, length-bytes_at, length-overwritten, length-resized, same_contents, StorageView, CopiesFrom, IsCopiedUpTo, KeepsBoth}
 use Rattle.image_access.specs.Contents.{bytes_at, overwritten, resized, stored_byte}
-use Rattle.image_access.proofs.Bytes.{byte_at-bytes_at, byte_at-overwritten, byte_at-overwritten_below, length-bytes_at, length-overwritten, length-resized, same_contents}
-use Rattle.image_access.specs.Moments.{StorageView}
-use Rattle.program_parts.specs.Copies.{CopiesFrom, IsCopiedUpTo, KeepsBoth}
 
 -- one piece more
 pub copied_more : (raw copy : List ℕ) (at n : ℕ) → 0 < n → IsCopiedUpTo at raw copy → IsCopiedUpTo (at + n) raw (overwritten copy at (bytes_at raw at n))

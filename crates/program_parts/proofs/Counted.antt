@@ -1,19 +1,8 @@
 -- The failures that a conversion of a whole file counts: of the image's storage, where the image is opened without a backing disk, and of the raw disk.
-use Rattle.std.proofs.Common.{◌≡◌, ℕ, inl, inr, Option, Some, None, Result, Ok, Err, IsErr, IsErrAnd, refl, sym, ap, ◌∙◌, subst, arith}
-use Rattle.image_access.specs.Backing.{BackingView}
-use Rattle.image_access.specs.Moments.{StorageView, HasCause, Rose}
-use Rattle.image_access.specs.declared.error.StorageError.{StorageError}
+use Rattle.program_parts.proofs.Common.{◌≡◌, ℕ, inl, inr, Option, Some, None, Result, Ok, Err, IsErr, IsErrAnd, refl, sym, ap, ◌∙◌, subst, arith, BackingView, StorageView, HasCause, Rose, StorageError, FaultsReported, of_storage, ImageError, handed_on, storage_of_image, faults_below, Qcow2, CountsBoth}
 use Rattle.image_access.specs.declared.error.StorageError.TheVariants as S
-use Rattle.qcow2_alloc.specs.Faults.{FaultsReported}
-use Rattle.qcow2_alloc.specs.ImageError.{of_storage}
-use Rattle.qcow2_alloc.specs.declared.error.ImageError.{ImageError}
 use Rattle.qcow2_alloc.specs.declared.error.ImageError.TheVariants as I
-use Rattle.qcow2_alloc.proofs.AllocationSteps.{handed_on}
-use Rattle.qcow2_image.specs.Image.{storage_of_image}
-use Rattle.qcow2_image.specs.ImageInvariant.{faults_below}
-use Rattle.qcow2_image.specs.declared.image.Qcow2.{Qcow2}
 use Rattle.qcow2_session.specs.CountedFaults.{ConversionCounts}
-use Rattle.program_parts.specs.Conversions.{CountsBoth}
 
 -- the raw disk alone was asked, and it refused
 pub raw_refused : {A T : Type 0} (n before now : ℕ) (answer : Result A StorageError) (x : StorageError) → HasCause before now answer → answer ≡ Err x → CountsBoth {T = T} n n before now (Err (of_storage x))

@@ -1,27 +1,7 @@
 -- A raw disk that was made from an image.
-use Rattle.std.proofs.Common.{◌≡◌, ⊎_elim, inl, ℕ, List, [], refl, sym, ap, ◌∙◌, subst, Result, Ok, Err, IfOk, false}
-use Rattle.std.specs.Option.{is_some}
-use Rattle.image_access.specs.Backing.{BackingView}
-use Rattle.image_access.specs.Moments.{StorageView, IsLeftBy}
-use Rattle.image_access.proofs.EachMomentSince.{passes_if}
-use Rattle.qcow2_metadata.specs.Bytes.{byte_at}
-use Rattle.qcow2_metadata.specs.Consistent.{IsConsistent}
-use Rattle.qcow2_disk.specs.AbstractImages.{IsOpened, guest_of}
-use Rattle.qcow2_disk.specs.Calls.{CallEffect}
-use Rattle.qcow2_disk.specs.Disk.{disk}
-use Rattle.qcow2_disk.specs.HeaderRest.{KeepsHeaderRest}
-use Rattle.qcow2_disk.specs.Stops.{StopOkEverywhere, checkpoint_at, LeavesKept}
-use Rattle.qcow2_alloc.specs.Quiet.{IsQuiet}
-use Rattle.qcow2_alloc.specs.declared.error.ImageError.{ImageError}
-use Rattle.qcow2_image.specs.declared.image.Qcow2.{Qcow2}
-use Rattle.qcow2_image.specs.Image.{storage_of_image}
-use Rattle.qcow2_image.specs.ImageInvariant.{abstract_of}
+use Rattle.program_parts.proofs.Common.{◌≡◌, ⊎_elim, inl, ℕ, List, [], refl, sym, ap, ◌∙◌, subst, Result, Ok, Err, IfOk, false, is_some, BackingView, StorageView, IsLeftBy, passes_if, byte_at, IsConsistent, IsOpened, guest_of, CallEffect, disk, KeepsHeaderRest, StopOkEverywhere, checkpoint_at, LeavesKept, IsQuiet, ImageError, Qcow2, storage_of_image, abstract_of, header_rest_same, whole, IsRawOf, Exports, IsUnchanged, IsExport, KeepsDisk, disk_alone, zeros_below}
 use Rattle.qcow2_image.specs.Opened.{OpensAtOnce}
-use Rattle.qcow2_disk.proofs.HeaderRest.{header_rest_same}
-use Rattle.qcow2_image.proofs.Images.Free.{whole}
 use Rattle.qcow2_image.proofs.Map.Unmodified.{quiet_still}
-use Rattle.qcow2_session.specs.Conversions.{IsRawOf, Exports, IsUnchanged}
-use Rattle.program_parts.specs.Conversions.{IsExport, KeepsDisk, disk_alone, zeros_below}
 use Rattle.program_parts.proofs.Imported.{none_below, of_ok}
 
 -- contents that are consistent keep their disk

@@ -1,27 +1,10 @@
 -- An image that was made from a raw disk.
-use Rattle.std.proofs.Common.{◌≡◌, ℕ, List, [], refl, sym, ap, ◌∙◌, subst, Option, None, Some, false, Result, Ok, Err, IfOk}
-use Rattle.std.specs.Prelude.{IsTrue}
-use Rattle.std.specs.Option.{is_some}
-use Rattle.image_access.specs.Backing.{BackingView}
-use Rattle.image_access.specs.Moments.{StorageView}
-use Rattle.qcow2_metadata.specs.Bytes.{byte_at}
-use Rattle.qcow2_metadata.specs.Consistent.{IsConsistent}
-use Rattle.qcow2_metadata.specs.Header.{header, cluster_size, count_width}
-use Rattle.qcow2_metadata.specs.declared.header.HeaderFields.{HeaderFields}
-use Rattle.qcow2_disk.specs.AbstractImages.{Setting, IsOpened}
-use Rattle.qcow2_disk.specs.Disk.{disk}
+use Rattle.program_parts.proofs.Common.{◌≡◌, ℕ, List, [], refl, sym, ap, ◌∙◌, subst, Option, None, Some, false, Result, Ok, Err, IfOk, IsTrue, is_some, BackingView, StorageView, byte_at, IsConsistent, header, cluster_size, count_width, HeaderFields, Setting, IsOpened, disk, contents_in, known_in, Qcow2, HasNothingToFree, IsSameImage, is_writable, storage_of_image, abstract_of, backing_bytes, whole, IsRawOf, Imports, IsImageMade, IsImageOf, IsImageOfSize, zeros_below}
 use Rattle.qcow2_disk.proofs.Compose.{rests_none, stops_none}
 use Rattle.qcow2_laws.specs.Opened.{HasNoLeaks}
-use Rattle.qcow2_alloc.specs.ImageFile.{contents_in, known_in}
-use Rattle.qcow2_image.specs.declared.image.Qcow2.{Qcow2}
 use Rattle.qcow2_image.specs.Calls.{FlushesImage}
 use Rattle.qcow2_image.specs.Growing.{KeepsSurplus, SameFormat}
-use Rattle.qcow2_image.specs.Image.{HasNothingToFree, IsSameImage, is_writable, storage_of_image}
-use Rattle.qcow2_image.specs.ImageInvariant.{abstract_of, backing_bytes}
 use Rattle.qcow2_image.proofs.Create.Leaks.{no_leaks_flushed}
-use Rattle.qcow2_image.proofs.Images.Free.{whole}
-use Rattle.qcow2_session.specs.Conversions.{IsRawOf, Imports}
-use Rattle.program_parts.specs.Conversions.{IsImageMade, IsImageOf, IsImageOfSize, zeros_below}
 
 -- an image without a disk below has zeros there
 pub none_below : {S F : Type 0} (view : S → StorageView) (backing : F → BackingView) (below : Option F) → is_some below ≡ false → backing_bytes view backing below ≡ zeros_below

@@ -1,30 +1,10 @@
 -- What a stop may leave while an image is made from a raw disk.
-use Rattle.std.proofs.Common.{◌≡◌, ◌⊎◌, ◌^◌, inl, inr, ⊎_elim, ℕ, List, [], ◌∷◌, refl, sym, ap, ◌∙◌, subst, Result, Ok, Err}
-use Rattle.image_access.specs.Backing.{BackingView}
-use Rattle.image_access.specs.Moments.{StorageView, EachMomentSince}
+use Rattle.program_parts.proofs.Common.{◌≡◌, ◌⊎◌, ◌^◌, inl, inr, ⊎_elim, ℕ, List, [], ◌∷◌, refl, sym, ap, ◌∙◌, subst, Result, Ok, Err, BackingView, StorageView, EachMomentSince, passes_if, passes_on, Bytes, byte_at, IsConsistent, header, count_width, AbstractImage, IsOpened, stored_bytes, CallEffect, disk, disk_with, GivenBytes, StopOkEverywhere, checkpoint_at, checkpoint_with, LeavesKept, KeepsHeaderRest, header_rest_same, ImageError, Qcow2, storage_of_image, abstract_of, Imports, ImportsAny, IsNewDisk, IsStopOfCreating, new_disk_consistent, IsImageOfSize, IsStopOfMaking}
 use Rattle.image_access.specs.declared.storage.PreallocateMode.{PreallocateMode}
 use Rattle.image_access.specs.declared.storage.PreallocateMode.TheVariants as Mode
-use Rattle.image_access.proofs.EachMomentSince.{passes_if, passes_on}
-use Rattle.qcow2_metadata.specs.Bytes.{Bytes, byte_at}
-use Rattle.qcow2_metadata.specs.Consistent.{IsConsistent}
-use Rattle.qcow2_metadata.specs.Header.{header, count_width}
-use Rattle.qcow2_disk.specs.AbstractImages.{AbstractImage, IsOpened, stored_bytes}
-use Rattle.qcow2_disk.specs.Calls.{CallEffect}
-use Rattle.qcow2_disk.specs.Disk.{disk, disk_with}
-use Rattle.qcow2_disk.specs.Stops.{GivenBytes, StopOkEverywhere, checkpoint_at, checkpoint_with, LeavesKept}
 use Rattle.qcow2_disk.specs.Mappings.{given_of}
-use Rattle.qcow2_disk.specs.HeaderRest.{KeepsHeaderRest}
 use Rattle.qcow2_disk.proofs.HeaderNames.{order_stays}
-use Rattle.qcow2_disk.proofs.HeaderRest.{header_rest_same}
-use Rattle.qcow2_alloc.specs.declared.error.ImageError.{ImageError}
-use Rattle.qcow2_image.specs.declared.image.Qcow2.{Qcow2}
-use Rattle.qcow2_image.specs.Image.{storage_of_image}
-use Rattle.qcow2_image.specs.ImageInvariant.{abstract_of}
-use Rattle.qcow2_session.specs.Conversions.{Imports, ImportsAny}
-use Rattle.qcow2_image.specs.Created.{IsNewDisk, IsStopOfCreating}
 use Rattle.qcow2_image.specs.Opened.{IsKeptSince}
-use Rattle.qcow2_image.proofs.Create.NewDisks.{new_disk_consistent}
-use Rattle.program_parts.specs.Conversions.{IsImageOfSize, IsStopOfMaking}
 
 -- ---- creating
 new_disk_size : (mode : PreallocateMode) (n : ℕ) (b : Bytes) → IsNewDisk mode n b → (header b).size ≡ n

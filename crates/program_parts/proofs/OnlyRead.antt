@@ -1,12 +1,5 @@
 -- Disks that are only read.
-use Rattle.std.proofs.Common.{◌≡◌, ◌∙◌, subst, sym}
-use Rattle.std.specs.Prelude.{Result}
-use Rattle.image_access.specs.Moments.{ContentsStay, QuietCalls, StorageView}
-use Rattle.image_access.specs.declared.error.StorageError.{StorageError}
-use Rattle.qcow2_alloc.specs.Quiet.{IsQuiet}
-use Rattle.qcow2_alloc.proofs.KeptTables.Quiet.{quiet_none, quiet_read, quiet_then}
-use Rattle.qcow2_session.specs.Conversions.{IsLeft}
-use Rattle.program_parts.specs.Disks.{IsKeptQuietly, IsOnlyRead, LiesOn, SeenDisk, seen_open, seen_raw, storage_under}
+use Rattle.program_parts.proofs.Common.{◌≡◌, ◌∙◌, subst, sym, Result, ContentsStay, QuietCalls, StorageView, StorageError, IsQuiet, quiet_none, quiet_read, quiet_then, IsLeft, IsKeptQuietly, IsOnlyRead, LiesOn, SeenDisk, seen_open, seen_raw, storage_under}
 use Rattle.program_parts.specs.declared.disks.OpenDisk.{OpenDisk}
 use Rattle.program_parts.specs.declared.disks.OpenDisk.TheVariants as D
 

@@ -1,14 +1,6 @@
 -- A file that gets its name.
-use Rattle.std.proofs.Common.{◌≡◌, ◌⊎◌, ⊎_elim, ℕ, List, [], ◌∷◌, ap, ◌∙◌, refl, subst, sym}
-use Rattle.std.specs.Prelude.{All, IfOk, Option, Some, None, Result, Ok, Err}
+use Rattle.program_parts.proofs.Common.{◌≡◌, ◌⊎◌, ⊎_elim, ℕ, List, [], ◌∷◌, ap, ◌∙◌, refl, subst, sym, All, IfOk, Option, Some, None, Result, Ok, Err, StorageView, IsQuiet, byte_at, IsConsistent, IsExport, IsImageMade, CopiesFrom, IsKeptQuietly}
 use Rattle.std.proofs.lemmas.List.Elements.{All-cons, All-nil}
-use Rattle.image_access.specs.Moments.{StorageView}
-use Rattle.qcow2_alloc.specs.Quiet.{IsQuiet}
-use Rattle.qcow2_metadata.specs.Bytes.{byte_at}
-use Rattle.qcow2_metadata.specs.Consistent.{IsConsistent}
-use Rattle.program_parts.specs.Conversions.{IsExport, IsImageMade}
-use Rattle.program_parts.specs.Copies.{CopiesFrom}
-use Rattle.program_parts.specs.Disks.{IsKeptQuietly}
 use Rattle.program_parts.specs.Places.{EachHeldSince, GetsName, HoldsWhole, IsMade, IsWhole, NameView, Renames, Replaces, StaysNamed}
 use Rattle.program_parts.specs.declared.placing.Conversion.{Conversion}
 use Rattle.program_parts.specs.declared.placing.Conversion.TheVariants as C

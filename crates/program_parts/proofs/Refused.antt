@@ -1,40 +1,19 @@
 -- Why an image is not made from a raw disk, and why a raw disk is not made from an image.
-use Rattle.std.proofs.Common.{◌≡◌, ◌≢◌, ◌⊎◌, inl, inr, ⊎_elim, ℕ, ◌+◌, ◌≤◌, ◌^◌, List, [], None, Result, Ok, Err, refl, sym, ap, ◌∙◌, subst, true, false, arith}
-use Rattle.std.specs.Prelude.{IfErr, IsErrAnd, IsTrue, Option, length, option_map, unwrap_or}
+use Rattle.program_parts.proofs.Common.{◌≡◌, ◌≢◌, ◌⊎◌, inl, inr, ⊎_elim, ℕ, ◌+◌, ◌≤◌, ◌^◌, List, [], None, Result, Ok, Err, refl, sym, ap, ◌∙◌, subst, true, false, arith, IfErr, IsErrAnd, IsTrue, Option, length, option_map, unwrap_or, is_some, option_or, BackingView, StorageView, Bytes, byte_at, IsConsistent, header, HeaderFields, IsOpened, IsFault, known_in, state_in, ImageError, IsAllowed, IsCreated, IsReasonNotToCreateOpen, allocates_over, backing_format_in, backing_name_in, IsSameImage, is_writable, size_of, storage_of_image, abstract_of, pending_in, NoBacking, Qcow2CreateBuilder, Qcow2, faults_met, opening_reasons, MayFailImporting, IsImageOfSize, IsLayout, MayFailExporting, MayFailOnceCreated, MayFailReadingDisk, IsRefusedUntouched, IsUnopened, OpensToExport, asked_for}
 use Rattle.std.specs.String.{string_bytes}
 use Rattle.std.proofs.Math.Pow.{pow_mono}
 use Rattle.qcow2_metadata.specs.HeaderWrite.{name_place}
-use Rattle.std.specs.Option.{is_some, option_or}
-use Rattle.image_access.specs.Backing.{BackingView}
-use Rattle.image_access.specs.Moments.{StorageView}
 use Rattle.image_access.specs.declared.storage.PreallocateMode.TheVariants as Mode
-use Rattle.qcow2_metadata.specs.Bytes.{Bytes, byte_at}
-use Rattle.qcow2_metadata.specs.Consistent.{IsConsistent}
-use Rattle.qcow2_metadata.specs.Header.{header}
-use Rattle.qcow2_metadata.specs.declared.header.HeaderFields.{HeaderFields}
-use Rattle.qcow2_disk.specs.AbstractImages.{IsOpened}
 use Rattle.qcow2_laws.proofs.Internal.{known_header}
-use Rattle.qcow2_alloc.specs.ImageError.{IsFault}
-use Rattle.qcow2_alloc.specs.ImageFile.{known_in, state_in}
-use Rattle.qcow2_alloc.specs.declared.error.ImageError.{ImageError}
 use Rattle.qcow2_alloc.specs.declared.error.ImageError.TheVariants as I
-use Rattle.qcow2_image.specs.Created.{IsAllowed, IsCreated, IsReasonNotToCreateOpen, allocates_over, backing_format_in, backing_name_in}
-use Rattle.qcow2_image.specs.Image.{IsSameImage, is_writable, size_of, storage_of_image}
-use Rattle.qcow2_image.specs.ImageInvariant.{abstract_of, pending_in}
 use Rattle.qcow2_image.specs.MayFail.{HasCompressedIn, MayFailReadingRange}
 use Rattle.qcow2_image.specs.Opened.{NeedsAnother}
 use Rattle.qcow2_image.specs.Readable.{HeaderSuits, IsJustifiedRefusal, OpensRightly}
 use Rattle.qcow2_image.specs.Refusals.{passes, refuse_if, refuses_to_read}
-use Rattle.qcow2_image.specs.declared.builder.NoBacking.{NoBacking}
-use Rattle.qcow2_image.specs.declared.builder.Qcow2CreateBuilder.{Qcow2CreateBuilder}
 use Rattle.qcow2_image.specs.declared.image.Missing.TheVariants as M
-use Rattle.qcow2_image.specs.declared.image.Qcow2.{Qcow2}
-use Rattle.qcow2_image.proofs.Create.Causes.{faults_met, opening_reasons}
 use Rattle.qcow2_image.proofs.Create.Faults.{none_prepared}
 use Rattle.qcow2_image.proofs.Images.Sizes.{sound_is_usable}
-use Rattle.qcow2_session.specs.Conversions.{MayFailImporting}
 use Rattle.qcow2_session.specs.Sessions.{IsOfReading}
-use Rattle.program_parts.specs.Conversions.{IsImageOfSize, IsLayout, MayFailExporting, MayFailOnceCreated, MayFailReadingDisk, IsRefusedUntouched, IsUnopened, OpensToExport, asked_for}
 
 -- what is so where a call was refused
 pub of_err : {A E : Type 0} (P : E → Type 0) (r : Result A E) (e : E) → r ≡ Err e → IfErr r P → P e

@@ -1,12 +1,5 @@
 -- When an untrusted image may be accepted.
-use Rattle.std.proofs.Common.{◌≡◌, ◌↔◌, ◌≤◌, ℕ, zero, suc, Bool, true, false, not, ◌&&◌, ◌==◌, nat_eq, nat_lt, List, [], ◌∷◌, length, refl, sym, subst, ◌∙◌, ap, arith}
-use Rattle.std.specs.Prelude.{IsTrue, Option, Some, None, if◌then◌else◌}
-use Rattle.std.proofs.lemmas.Bool.{ltb-false, le-ltb}
-use Rattle.qcow2_metadata.specs.Bytes.{Bytes}
-use Rattle.qcow2_metadata.specs.Consistent.{IsConsistent}
-use Rattle.qcow2_metadata.specs.Header.{header, backing_name}
-use Rattle.qcow2_metadata.specs.declared.header.HeaderFields.{HeaderFields}
-use Rattle.qcow2_check.specs.declared.report.Breach.{Breach}
+use Rattle.program_parts.proofs.Common.{◌≡◌, ◌↔◌, ◌≤◌, ℕ, zero, suc, Bool, true, false, not, ◌&&◌, ◌==◌, nat_eq, nat_lt, List, [], ◌∷◌, length, refl, sym, subst, ◌∙◌, ap, arith, IsTrue, Option, Some, None, if◌then◌else◌, ltb-false, le-ltb, Bytes, IsConsistent, header, backing_name, HeaderFields, Breach}
 use Rattle.program_parts.specs.Vetting.{MayBeTakenIn}
 
 unnamed : (h : HeaderFields) (image : Bytes) → h.backing_offset ≡ 0 → backing_name h image ≡ None

@@ -1,13 +1,6 @@
 -- Printing the lines of a list, one after another.
-use Rattle.std.proofs.Common.{◌≡◌, ℕ, List, [], Option, subst}
-use Rattle.std.specs.Io.KnownBytes.{Appends}
-use Rattle.qcow2_metadata.specs.Bytes.{Bytes}
-use Rattle.qcow2_metadata.specs.Consistent.{IsConsistent}
-use Rattle.qcow2_metadata.specs.Header.{header}
-use Rattle.qcow2_check.specs.Report.{leak_lines}
-use Rattle.qcow2_check.specs.declared.report.Breach.{Breach}
+use Rattle.program_parts.proofs.Common.{◌≡◌, ℕ, List, [], Option, subst, Appends, Bytes, IsConsistent, header, leak_lines, Breach, text_of_report, IsFoundConsistent}
 use Rattle.qcow2_check.specs.declared.report.Leak.{Leak}
-use Rattle.program_parts.specs.Reports.{text_of_report, IsFoundConsistent}
 
 -- a report without a breach was told
 pub found_consistent : (image : Bytes) (breaches : List Breach) (leaks : List Leak) (old new : Option (List ℕ)) → ((breaches ≡ []) → IsConsistent image) → leaks ≡ leak_lines (header image) image

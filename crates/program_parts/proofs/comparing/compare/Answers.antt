@@ -1,5 +1,4 @@
-use Rattle.std.proofs.Common.{◌≡◌, ◌∙◌, ap, sym}
-use Rattle.program_parts.specs.Disks.{IsSeenAs}
+use Rattle.program_parts.proofs.Common.{◌≡◌, ◌∙◌, ap, sym, IsSeenAs}
 use Rattle.program_parts.proofs.Compared.{all_compared_as, if_ok, on_ok}
 use Rattle.program_parts.proofs.OnlyRead.{reads_more}
 use Rattle.program_parts.proofs.comparing.compare.Goals as goal

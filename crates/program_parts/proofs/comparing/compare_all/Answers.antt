@@ -1,6 +1,4 @@
-use Rattle.std.proofs.Common.{◌≡◌, ◌+◌, ◌≤◌, arith, length, subst, take}
-use Rattle.std.proofs.lemmas.Grind.{common_steps}
-use Rattle.program_parts.specs.Disks.{AreSameBelow}
+use Rattle.program_parts.proofs.Common.{◌≡◌, ◌+◌, ◌≤◌, arith, length, subst, take, common_steps, AreSameBelow}
 use Rattle.program_parts.proofs.Compared.{then_none, then_one, then_other, then_some}
 use Rattle.program_parts.proofs.OnlyRead.{reads_more}
 use Rattle.program_parts.proofs.comparing.compare_all.Goals as goal

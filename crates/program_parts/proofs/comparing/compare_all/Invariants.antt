@@ -1,5 +1,4 @@
-use Rattle.std.proofs.Common.{◌≡◌, ◌-◌, ◌≤◌}
-use Rattle.program_parts.specs.Disks.{AreSameBelow, IsOnlyRead, IsSeenAs}
+use Rattle.program_parts.proofs.Common.{◌≡◌, ◌-◌, ◌≤◌, AreSameBelow, IsOnlyRead, IsSeenAs}
 use Rattle.program_parts.proofs.comparing.compare_all.Given as goal
 
 abbrev pub invariant-loop-at : goal.invariant-loop-at

@@ -1,9 +1,4 @@
-use Rattle.std.proofs.Common.{◌≡◌, ◌+◌, arith, length, subst}
-use Rattle.std.proofs.lemmas.Grind.{common_steps}
-use Rattle.std.specs.Prelude.{None, Some}
-use Rattle.qcow2_disk.specs.Calls.{Shows}
-use Rattle.program_parts.specs.Comparing.{IsFoundBetween}
-use Rattle.program_parts.specs.Disks.{IsSeenAs}
+use Rattle.program_parts.proofs.Common.{◌≡◌, ◌+◌, arith, length, subst, common_steps, None, Some, Shows, IsFoundBetween, IsSeenAs}
 use Rattle.program_parts.proofs.Compared.{found_none, found_some, on_ok}
 use Rattle.program_parts.proofs.comparing.compare_at.Goals as goal
 

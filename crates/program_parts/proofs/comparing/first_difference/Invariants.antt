@@ -1,5 +1,4 @@
-use Rattle.std.proofs.Common.{◌≡◌, ◌<◌, ℕ}
-use Rattle.std.specs.Prelude.{slice_index}
+use Rattle.program_parts.proofs.Common.{◌≡◌, ◌<◌, ℕ, slice_index}
 use Rattle.program_parts.proofs.comparing.first_difference.Given as goal
 
 abbrev pub invariant-loop-i : goal.invariant-loop-i

@@ -1,10 +1,4 @@
-use Rattle.std.proofs.Common.{[], ap, inl, length, refl, sym, ◌∙◌}
-use Rattle.qcow2_alloc.specs.ImageError.{of_storage}
-use Rattle.qcow2_alloc.proofs.AllocationSteps.{fault_of_storage}
-use Rattle.qcow2_alloc.proofs.KeptTables.Causes.{given_err}
-use Rattle.qcow2_image.specs.Image.{size_of}
-use Rattle.qcow2_session.specs.Conversions.{MayFailImporting}
-use Rattle.qcow2_alloc.specs.declared.error.ImageError.TheVariants.{InvalidOption}
+use Rattle.program_parts.proofs.Common.{[], ap, inl, length, refl, sym, ◌∙◌, of_storage, fault_of_storage, given_err, size_of, MayFailImporting, InvalidOption}
 use Rattle.qcow2_session.proofs.Counting.{converted, converting_else, converting_part, converting_raw, so_far_none, so_far_part}
 use Rattle.qcow2_session.proofs.Turns.{refused_is}
 use Rattle.program_parts.proofs.Making.{once_imported, while_imported}

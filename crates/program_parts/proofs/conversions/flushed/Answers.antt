@@ -1,7 +1,4 @@
-use Rattle.std.proofs.Common.{◌≡◌, ◌⊎◌, Err, inl, inr}
-use Rattle.qcow2_alloc.specs.ImageError.{IsFault, of_storage}
-use Rattle.qcow2_alloc.proofs.AllocationSteps.{fault_of_storage}
-use Rattle.qcow2_alloc.proofs.KeptTables.Causes.{given_err}
+use Rattle.program_parts.proofs.Common.{◌≡◌, ◌⊎◌, Err, inl, inr, IsFault, of_storage, fault_of_storage, given_err}
 use Rattle.program_parts.proofs.Counted.{both_as, both_then_ok, both_then_raw}
 use Rattle.program_parts.proofs.conversions.flushed.Goals as goal
 

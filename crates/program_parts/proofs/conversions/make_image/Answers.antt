@@ -1,23 +1,7 @@
-use Rattle.std.proofs.Common.{◌≡◌, ℕ, Result, Ok, Err, refl, sym, ap, ◌∙◌, subst, length, ◌<◌, inl, inr}
-use Rattle.std.specs.Prelude.{IfOk}
-use Rattle.qcow2_alloc.specs.Faults.{FaultsReported}
-use Rattle.qcow2_alloc.specs.declared.error.ImageError.{ImageError}
-use Rattle.qcow2_image.proofs.Create.Causes.{told_opening, fault_reason}
+use Rattle.program_parts.proofs.Common.{◌≡◌, ℕ, Result, Ok, Err, refl, sym, ap, ◌∙◌, subst, length, ◌<◌, inl, inr, IfOk, FaultsReported, ImageError, told_opening, fault_reason, byte_at, header, Qcow2CreateBuilder, storage_of_image, new_disk_consistent, CountsBoth, IsImageMade, IsImageOf, IsImageOfSize, IsStopOfMaking, MayFailOnceCreated, asked_for, HeaderFields, EachMomentSince, fault_of_storage, IsFault, InvalidOption, Limit, IsReasonNotToCreate, IsReasonNotToCreateOpen, longest_disk}
 use Rattle.program_parts.proofs.Counted.{both_of, both_retold, both_since, image_refused, raw_refused}
-use Rattle.qcow2_metadata.specs.Bytes.{byte_at}
-use Rattle.qcow2_metadata.specs.Header.{header}
-use Rattle.qcow2_image.specs.declared.builder.Qcow2CreateBuilder.{Qcow2CreateBuilder}
-use Rattle.qcow2_image.specs.Image.{storage_of_image}
-use Rattle.qcow2_image.proofs.Create.NewDisks.{new_disk_consistent}
-use Rattle.program_parts.specs.Conversions.{CountsBoth, IsImageMade, IsImageOf, IsImageOfSize, IsStopOfMaking, MayFailOnceCreated, asked_for}
-use Rattle.qcow2_metadata.specs.declared.header.HeaderFields.{HeaderFields}
-use Rattle.image_access.specs.Moments.{EachMomentSince}
 use Rattle.program_parts.proofs.Imported.{of_ok, ok_both, ok_then, has_image, made_of}
 use Rattle.program_parts.proofs.Making.{counts_imported, counts_opened, new_image, once_opened, then_opened, while_created, while_opened}
-use Rattle.qcow2_alloc.proofs.AllocationSteps.{fault_of_storage}
-use Rattle.qcow2_alloc.specs.ImageError.{IsFault}
-use Rattle.qcow2_alloc.specs.declared.error.ImageError.TheVariants.{InvalidOption, Limit}
-use Rattle.qcow2_image.specs.Created.{IsReasonNotToCreate, IsReasonNotToCreateOpen, longest_disk}
 use Rattle.program_parts.proofs.Refused.{allocates_alone, asked_so, err_then, header_is, met_once_created, no_layout, not_refused, of_err, of_layout, opening_refused, unnamed, untouched}
 use Rattle.program_parts.proofs.conversions.make_image.Goals as goal
 

@@ -1,12 +1,7 @@
-use Rattle.std.proofs.Common.{[], inl, inr, refl, sym, subst}
-use Rattle.qcow2_image.proofs.Create.Causes.{told_opening}
+use Rattle.program_parts.proofs.Common.{[], inl, inr, refl, sym, subst, told_opening, IsExport, KeepsDisk, storage_of_image, IsQuiet, quiet_then}
 use Rattle.program_parts.proofs.Counted.{both_of, both_since, image_refused}
-use Rattle.program_parts.specs.Conversions.{IsExport, KeepsDisk}
 use Rattle.program_parts.proofs.Imported.{ok_then}
-use Rattle.qcow2_image.specs.Image.{storage_of_image}
 use Rattle.program_parts.proofs.Exported.{keeps_itself, opened_quietly, once_flushed, has_export, keeps_disk}
-use Rattle.qcow2_alloc.specs.Quiet.{IsQuiet}
-use Rattle.qcow2_alloc.proofs.KeptTables.Quiet.{quiet_then}
 use Rattle.program_parts.proofs.Refused.{may_be_read, met_disks, met_exporting}
 use Rattle.program_parts.proofs.conversions.make_raw_disk.Goals as goal
 

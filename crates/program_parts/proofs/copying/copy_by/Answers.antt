@@ -1,6 +1,4 @@
-use Rattle.qcow2_alloc.specs.ImageError.{IsFault, of_storage}
-use Rattle.qcow2_alloc.proofs.AllocationSteps.{fault_of_storage}
-use Rattle.qcow2_alloc.proofs.KeptTables.Causes.{given_err}
+use Rattle.program_parts.proofs.Common.{IsFault, of_storage, fault_of_storage, given_err}
 use Rattle.program_parts.proofs.Copied.{copied_from, keeps_raw, keeps_resized, keeps_then}
 use Rattle.program_parts.proofs.copying.copy_by.Goals as goal
 

@@ -1,5 +1,4 @@
-use Rattle.std.proofs.Common.{inl, inr}
-use Rattle.qcow2_image.specs.Image.{storage_of_image}
+use Rattle.program_parts.proofs.Common.{inl, inr, storage_of_image}
 use Rattle.program_parts.proofs.Compared.{opened_image}
 use Rattle.program_parts.proofs.Exported.{disk_is, opened_quietly}
 use Rattle.program_parts.proofs.disks.open_disk.Goals as goal

@@ -1,6 +1,4 @@
-use Rattle.std.proofs.Common.{take}
-use Rattle.std.specs.Io.KnownBytes.{Appends}
-use Rattle.program_parts.specs.Reports.{breach_line, text_of_lines}
+use Rattle.program_parts.proofs.Common.{take, Appends, breach_line, text_of_lines}
 use Rattle.program_parts.proofs.report.print_breaches.Given as goal
 
 abbrev pub invariant-loop-breach : goal.invariant-loop-breach

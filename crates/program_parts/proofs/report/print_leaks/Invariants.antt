@@ -1,6 +1,4 @@
-use Rattle.std.proofs.Common.{◌≡◌, ◌≤◌, ◌^◌, ◌++◌, length}
-use Rattle.std.specs.Io.KnownBytes.{Appends}
-use Rattle.program_parts.specs.Reports.{leak_line, text_of_lines}
+use Rattle.program_parts.proofs.Common.{◌≡◌, ◌≤◌, ◌^◌, ◌++◌, length, Appends, leak_line, text_of_lines}
 use Rattle.program_parts.proofs.report.print_leaks.Given as goal
 
 abbrev pub invariant-loop-leak : goal.invariant-loop-leak

@@ -1,8 +1,4 @@
-use Rattle.std.proofs.Common.{◌≡◌, ◌↔◌, [], ap, subst}
-use Rattle.qcow2_metadata.specs.Bytes.{byte_at}
-use Rattle.qcow2_metadata.specs.Consistent.{IsConsistent}
-use Rattle.qcow2_metadata.specs.Header.{header}
-use Rattle.qcow2_check.specs.Report.{breach_lines, leak_lines}
+use Rattle.program_parts.proofs.Common.{◌≡◌, ◌↔◌, [], ap, subst, byte_at, IsConsistent, header, breach_lines, leak_lines}
 use Rattle.program_parts.proofs.TakenIn.{vetted}
 use Rattle.program_parts.proofs.vetting.vet.Goals as goal
 

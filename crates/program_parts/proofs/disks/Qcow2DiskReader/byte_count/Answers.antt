@@ -1,4 +1,4 @@
-use Rattle.program_parts.specs.Disks.{seen_image}
+use Rattle.program_parts.proofs.Common.{seen_image}
 use Rattle.program_parts.proofs.OnlyRead.{reads_none}
 use Rattle.program_parts.proofs.disks.Qcow2DiskReader.byte_count.Goals as goal
 

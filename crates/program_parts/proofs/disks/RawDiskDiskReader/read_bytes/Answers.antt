@@ -1,7 +1,4 @@
-use Rattle.std.proofs.Common.{◌∙◌, ap, arith, length, sym}
-use Rattle.image_access.proofs.Bytes.{byte_at-bytes_at, length-bytes_at}
-use Rattle.qcow2_metadata.specs.Bytes.{byte_at}
-use Rattle.qcow2_metadata.specs.Guest.{known_byte}
+use Rattle.program_parts.proofs.Common.{◌∙◌, ap, arith, length, sym, byte_at-bytes_at, length-bytes_at, byte_at, known_byte}
 use Rattle.program_parts.proofs.disks.RawDiskDiskReader.read_bytes.Goals as goal
 
 pub returns-clause-read : goal.returns-clause-read
