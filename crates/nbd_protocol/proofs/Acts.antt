@@ -1,9 +1,5 @@
 -- What several calls do, one after another, whatever they return.
-use Rattle.std.proofs.Common.{◌⊎◌, inl, inr, Result, Ok, Err}
-use Rattle.std.specs.Result.{IsErrAnd}
-use Rattle.std.specs.Prelude.{IsTrue}
-use Rattle.nbd_protocol.specs.declared.device.Errno.{Errno}
-use Rattle.nbd_protocol.specs.Devices.{Acts, DeviceView}
+use Rattle.nbd_protocol.proofs.Common.{◌⊎◌, inl, inr, Result, Ok, Err, IsErrAnd, IsTrue, Errno, Acts, DeviceView}
 
 -- a refusal that is passed on
 pub acts_refused : {T : Type 0} (old new : DeviceView) (done : T → Type 0) (still : Type 0) (r : Result T Errno) (Q : Errno → Type 0) → IsErrAnd r Q

@@ -1,9 +1,5 @@
 -- Appending one run of the disk to a list of runs.
-use Rattle.std.proofs.Common.{◌≡◌, ◌+◌, ◌<◌, ◌++◌, ◌∷◌, ℕ, [], List, subst, sym, arith}
-use Rattle.std.specs.Prelude.{IsTrue}
-use Rattle.nbd_protocol.specs.declared.replies.Extent.{Extent}
-use Rattle.nbd_protocol.specs.Commands.{AreExtents, total}
-use Rattle.nbd_protocol.specs.Devices.{DeviceView, ShowsZeros, is_zeros}
+use Rattle.nbd_protocol.proofs.Common.{◌≡◌, ◌+◌, ◌<◌, ◌++◌, ◌∷◌, ℕ, [], List, subst, sym, arith, IsTrue, Extent, AreExtents, total, DeviceView, ShowsZeros, is_zeros}
 
 total_push : (es : List Extent) (e : Extent) → total (es ++ e ∷ []) ≡ total es + e.length
 total_push [] e = omega arith

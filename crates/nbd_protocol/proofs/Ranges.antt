@@ -1,10 +1,6 @@
 -- Ranges of a device that are zeroed, written and discarded one after another.
-use Rattle.std.proofs.Common.{◌≡◌, ◌⊎◌, inl, inr, ℕ, ◌+◌, ◌-◌, ◌<◌, ◌≤◌, List, length, refl, sym, ap, subst, ◌∙◌, take, arith}
-use Rattle.std.specs.Prelude.{All, Some, slice_index}
-use Rattle.std.proofs.lemmas.Bool.{cases_lt}
-use Rattle.std.proofs.lemmas.List.{length-take-le}
+use Rattle.nbd_protocol.proofs.Common.{◌≡◌, ◌⊎◌, inl, inr, ℕ, ◌+◌, ◌-◌, ◌<◌, ◌≤◌, List, length, refl, sym, ap, subst, ◌∙◌, take, arith, All, Some, slice_index, cases_lt, length-take-le, Clears, DeviceView, MayWrite, MayZero, Stays, StaysBeside, Writes, Zeroes}
 use Rattle.std.proofs.lemmas.List.Elements.{All-take}
-use Rattle.nbd_protocol.specs.Devices.{Clears, DeviceView, MayWrite, MayZero, Stays, StaysBeside, Writes, Zeroes}
 
 pub stays_beside : (from to : ℕ) (a b : DeviceView) → Stays a b → StaysBeside from to a b
 stays_beside from to a b s = record { size = s.size; unit = s.unit; values = λ o lt out. s.values o lt (inr (omega arith)) }

@@ -1,15 +1,8 @@
 -- Why several calls one after another, and the requests that make them, are refused.
-use Rattle.std.proofs.Common.{◌≡◌, ◌∙◌, ap, ℕ, ◌≤◌, Bool, true, false, Some, None, Result, Ok, Err, refl, subst, sym, arith}
-use Rattle.std.specs.Prelude.{◌&&◌, ◌||◌, not, IfErr, IfSome, IsErrOf, IsTrue, OnOk, nat_lt, if◌then◌else◌}
-use Rattle.std.specs.Result.{IsErrAnd}
+use Rattle.nbd_protocol.proofs.Common.{◌≡◌, ◌∙◌, ap, ℕ, ◌≤◌, Bool, true, false, Some, None, Result, Ok, Err, refl, subst, sym, arith, ◌&&◌, ◌||◌, not, IfErr, IfSome, IsErrOf, IsTrue, OnOk, nat_lt, if◌then◌else◌, IsErrAnd, Errno, Command, Request, IsChecked, IsFailure, IsLate, Refused, asks_always, asks_device, changes, end_of, is_done, past_end, persists, refuses, ChangeFails, DeviceView, Fails, IsFault, IsSameDevice, RefusesToChange, RefusesToRead}
 use Rattle.std.proofs.lemmas.Bool.Decides.{nat_tests}
-use Rattle.nbd_protocol.specs.declared.device.Errno.{Errno}
 use Rattle.nbd_protocol.specs.declared.device.Errno.TheVariants as E
-use Rattle.nbd_protocol.specs.declared.request.Command.{Command}
 use Rattle.nbd_protocol.specs.declared.request.Command.TheVariants as C
-use Rattle.nbd_protocol.specs.declared.request.Request.{Request}
-use Rattle.nbd_protocol.specs.Commands.{IsChecked, IsFailure, IsLate, Refused, asks_always, asks_device, changes, end_of, is_done, past_end, persists, refuses}
-use Rattle.nbd_protocol.specs.Devices.{ChangeFails, DeviceView, Fails, IsFault, IsSameDevice, RefusesToChange, RefusesToRead}
 
 pub same_start : (a : DeviceView) → IsSameDevice a a
 same_start a = record { read_only = refl; failed = λ f. f }

@@ -1,15 +1,7 @@
 -- A conversation continues by one request.
-use Rattle.std.proofs.Common.{◌≡◌, inl, inr, ℕ, ◌++◌, Bool, true, false, List, [], ◌∷◌, Option, Some, Ok, Err, length, refl, sym, ap, subst, ◌∙◌, append_assoc, append-nil}
-use Rattle.std.specs.Io.KnownBytes.{Appends, Consumes}
-use Rattle.std.proofs.KnownBytes.{Appends-nil, Appends-trans, Consumes-nil, Consumes-trans}
-use Rattle.nbd_protocol.specs.declared.request.Command.{Command}
+use Rattle.nbd_protocol.proofs.Common.{◌≡◌, inl, inr, ℕ, ◌++◌, Bool, true, false, List, [], ◌∷◌, Option, Some, Ok, Err, length, refl, sym, ap, subst, ◌∙◌, append_assoc, append-nil, Appends, Consumes, Appends-nil, Appends-trans, Consumes-nil, Consumes-trans, Command, Request, Way, AnswersLookup, AnswersStatus, Conversation, Converses, Deals, Exchange, Exchanges, Talked, payload_count, payload_length, sent, told, way_of, Does, MayDo, DeviceView}
 use Rattle.nbd_protocol.specs.declared.request.Command.TheVariants as C
-use Rattle.nbd_protocol.specs.declared.request.Request.{Request}
-use Rattle.nbd_protocol.specs.declared.way.Way.{Way}
 use Rattle.nbd_protocol.specs.declared.way.Way.TheVariants as W
-use Rattle.nbd_protocol.specs.Conversations.{AnswersLookup, AnswersStatus, Conversation, Converses, Deals, Exchange, Exchanges, Talked, payload_count, payload_length, sent, told, way_of}
-use Rattle.nbd_protocol.specs.Commands.{Does, MayDo}
-use Rattle.nbd_protocol.specs.Devices.{DeviceView}
 use Rattle.nbd_protocol.specs.Requests.{request_in}
 use Rattle.nbd_protocol.proofs.Acts.{acts_then}
 

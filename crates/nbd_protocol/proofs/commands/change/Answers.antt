@@ -1,7 +1,4 @@
-use Rattle.std.proofs.Common.{◌≡◌, ◌+◌, ◌∙◌, ap, inl, length, ℕ, List, sym, subst}
-use Rattle.nbd_protocol.specs.declared.request.Command.{Command}
-use Rattle.nbd_protocol.specs.Commands.{Does, MayDo, end_of}
-use Rattle.nbd_protocol.specs.Devices.{Acts, Fails, MayWrite, RefusesToChange, Writes}
+use Rattle.nbd_protocol.proofs.Common.{◌≡◌, ◌+◌, ◌∙◌, ap, inl, length, ℕ, List, sym, subst, Command, Does, MayDo, end_of, Acts, Fails, MayWrite, RefusesToChange, Writes}
 use Rattle.nbd_protocol.proofs.Does.{may_do_nothing}
 use Rattle.nbd_protocol.proofs.Refusals.{change_of_call}
 use Rattle.nbd_protocol.proofs.Ranges.{stays_start}

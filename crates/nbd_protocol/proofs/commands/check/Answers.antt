@@ -1,4 +1,4 @@
-use Rattle.std.proofs.Common.{◌∙◌, arith, sym}
+use Rattle.nbd_protocol.proofs.Common.{◌∙◌, arith, sym}
 use Rattle.nbd_protocol.proofs.Refusals.{refuses_none}
 use Rattle.nbd_protocol.proofs.commands.check.Goals as goal
 

@@ -1,7 +1,4 @@
-use Rattle.std.proofs.Common.{◌≡◌, ◌≤◌, [], length}
-use Rattle.std.specs.Prelude.{IsTrue}
-use Rattle.nbd_protocol.specs.Commands.{AreExtents, total}
-use Rattle.nbd_protocol.specs.Devices.{IsSameDevice, Stays}
+use Rattle.nbd_protocol.proofs.Common.{◌≡◌, ◌≤◌, [], length, IsTrue, AreExtents, total, IsSameDevice, Stays}
 use Rattle.nbd_protocol.proofs.commands.extents.Given as goal
 
 abbrev pub invariant-loop : goal.invariant-loop

@@ -1,7 +1,4 @@
-use Rattle.std.proofs.Common.{◌∙◌, Bool, inl, Ok, Err, subst, sym}
-use Rattle.std.specs.Prelude.{not}
-use Rattle.nbd_protocol.specs.Commands.{Does, IsChecked, MayDo, is_done}
-use Rattle.nbd_protocol.specs.Devices.{Stays}
+use Rattle.nbd_protocol.proofs.Common.{◌∙◌, Bool, inl, Ok, Err, subst, sym, not, Does, IsChecked, MayDo, is_done, Stays}
 use Rattle.nbd_protocol.proofs.Acts.{acts_refused, acts_then}
 use Rattle.nbd_protocol.proofs.Does.{does_stays, may_do_nothing, may_of_does}
 use Rattle.nbd_protocol.proofs.Refusals.{changed_late, persisted_late, refused_early, same_then, unpersisted}

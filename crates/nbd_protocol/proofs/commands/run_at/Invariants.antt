@@ -1,6 +1,4 @@
-use Rattle.std.proofs.Common.{◌≤◌}
-use Rattle.std.specs.Prelude.{IsTrue}
-use Rattle.nbd_protocol.specs.Devices.{IsSameDevice, Stays, Tells}
+use Rattle.nbd_protocol.proofs.Common.{◌≤◌, IsTrue, IsSameDevice, Stays, Tells}
 use Rattle.nbd_protocol.proofs.commands.run_at.Given as goal
 
 abbrev pub invariant-loop : goal.invariant-loop

@@ -1,5 +1,4 @@
-use Rattle.std.proofs.Common.{◌≡◌, ◌+◌, ◌≤◌}
-use Rattle.nbd_protocol.specs.Devices.{IsSameDevice, Zeroes}
+use Rattle.nbd_protocol.proofs.Common.{◌≡◌, ◌+◌, ◌≤◌, IsSameDevice, Zeroes}
 use Rattle.nbd_protocol.proofs.commands.write_zeros.Given as goal
 
 abbrev pub invariant-loop-rest : goal.invariant-loop-rest

@@ -1,5 +1,4 @@
-use Rattle.std.proofs.Common.{◌≡◌, ◌+◌, ◌≤◌}
-use Rattle.nbd_protocol.specs.Devices.{IsSameDevice, Zeroes}
+use Rattle.nbd_protocol.proofs.Common.{◌≡◌, ◌+◌, ◌≤◌, IsSameDevice, Zeroes}
 use Rattle.nbd_protocol.proofs.commands.zero_units.Given as goal
 
 abbrev pub invariant-loop : goal.invariant-loop

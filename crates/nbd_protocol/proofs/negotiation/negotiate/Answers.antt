@@ -1,4 +1,4 @@
-use Rattle.std.proofs.KnownBytes.{Appends-trans, Consumes-trans}
+use Rattle.nbd_protocol.proofs.Common.{Appends-trans, Consumes-trans}
 use Rattle.nbd_protocol.proofs.negotiation.negotiate.Goals as goal
 
 pub loop-preserved : goal.loop-preserved

@@ -1,5 +1,4 @@
-use Rattle.std.proofs.Common.{ℕ, List}
-use Rattle.std.specs.Io.KnownBytes.{Appends, Consumes}
+use Rattle.nbd_protocol.proofs.Common.{ℕ, List, Appends, Consumes}
 use Rattle.nbd_protocol.proofs.negotiation.negotiate.Given as goal
 
 abbrev pub invariant-loop : goal.invariant-loop

@@ -1,4 +1,4 @@
-use Rattle.std.proofs.KnownBytes.{Consumes-trans}
+use Rattle.nbd_protocol.proofs.Common.{Consumes-trans}
 use Rattle.nbd_protocol.proofs.negotiation.next_option.Goals as goal
 
 pub returns-clause-heard : goal.returns-clause-heard

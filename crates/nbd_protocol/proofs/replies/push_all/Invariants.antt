@@ -1,6 +1,5 @@
-use Rattle.std.proofs.Common.{◌≡◌, ◌++◌, take}
+use Rattle.nbd_protocol.proofs.Common.{◌≡◌, ◌++◌, take, extent_bytes}
 use Rattle.std.specs.List.{flat_map}
-use Rattle.nbd_protocol.specs.Replies.{extent_bytes}
 use Rattle.nbd_protocol.proofs.replies.push_all.Given as goal
 
 abbrev pub invariant-loop-extent : goal.invariant-loop-extent

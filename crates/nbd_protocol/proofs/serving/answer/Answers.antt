@@ -1,5 +1,4 @@
-use Rattle.std.proofs.Common.{refl}
-use Rattle.nbd_protocol.specs.Replies.{status_reply}
+use Rattle.nbd_protocol.proofs.Common.{refl, status_reply}
 use Rattle.nbd_protocol.proofs.serving.answer.Goals as goal
 
 pub returns : goal.returns

@@ -1,4 +1,4 @@
-use Rattle.std.proofs.Common.{inl, refl}
+use Rattle.nbd_protocol.proofs.Common.{inl, refl}
 use Rattle.nbd_protocol.proofs.Talks.{dealt, talked_start, undealt}
 use Rattle.nbd_protocol.proofs.serving.answer_all.Goals as goal
 

@@ -1,4 +1,4 @@
-use Rattle.nbd_protocol.specs.Conversations.{Talked}
+use Rattle.nbd_protocol.proofs.Common.{Talked}
 use Rattle.nbd_protocol.proofs.serving.answer_all.Given as goal
 
 abbrev pub invariant-loop : goal.invariant-loop

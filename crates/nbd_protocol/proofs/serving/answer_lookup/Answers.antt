@@ -1,9 +1,4 @@
-use Rattle.std.proofs.Common.{◌≤◌, ap, Bool, true, false, List, ℕ, Ok, Err, length, refl, subst, arith}
-use Rattle.std.specs.Prelude.{OnOk, if◌then◌else◌}
-use Rattle.std.specs.Io.KnownBytes.{Appends}
-use Rattle.nbd_protocol.specs.declared.replies.Extent.{Extent}
-use Rattle.nbd_protocol.specs.Conversations.{lookup_reply}
-use Rattle.nbd_protocol.specs.Replies.{extents_reply}
+use Rattle.nbd_protocol.proofs.Common.{◌≤◌, ap, Bool, true, false, List, ℕ, Ok, Err, length, refl, subst, arith, OnOk, if◌then◌else◌, Appends, Extent, lookup_reply, extents_reply}
 use Rattle.nbd_protocol.proofs.serving.answer_lookup.Goals as goal
 
 few : (b : Bool) (n : ℕ) → n ≤ (if b then 1 else 1024) → n ≤ 1024

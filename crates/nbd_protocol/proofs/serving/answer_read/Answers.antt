@@ -1,7 +1,4 @@
-use Rattle.std.proofs.Common.{[], List, ℕ, Ok, Err, refl, subst}
-use Rattle.std.specs.Prelude.{OnOk}
-use Rattle.std.specs.Io.KnownBytes.{Appends}
-use Rattle.nbd_protocol.specs.Replies.{read_reply}
+use Rattle.nbd_protocol.proofs.Common.{[], List, ℕ, Ok, Err, refl, subst, OnOk, Appends, read_reply}
 use Rattle.nbd_protocol.proofs.serving.answer_read.Goals as goal
 
 pub returns-in-Ok : goal.returns-in-Ok

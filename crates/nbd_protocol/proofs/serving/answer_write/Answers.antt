@@ -1,6 +1,5 @@
-use Rattle.std.proofs.Common.{◌∙◌, Err, inl, inr, refl, rules}
+use Rattle.nbd_protocol.proofs.Common.{◌∙◌, Err, inl, inr, refl, rules, status_reply}
 use Rattle.nbd_protocol.specs.declared.device.Errno.TheVariants as E
-use Rattle.nbd_protocol.specs.Replies.{status_reply}
 use Rattle.nbd_protocol.proofs.Talks.{length_written}
 use Rattle.nbd_protocol.proofs.serving.answer_write.Goals as goal
 

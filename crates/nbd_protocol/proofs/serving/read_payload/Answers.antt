@@ -1,4 +1,4 @@
-use Rattle.std.proofs.Common.{rules}
+use Rattle.nbd_protocol.proofs.Common.{rules}
 use Rattle.nbd_protocol.proofs.serving.read_payload.Goals as goal
 
 pub returns-clause-skipped : goal.returns-clause-skipped

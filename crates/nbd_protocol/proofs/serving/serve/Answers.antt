@@ -1,4 +1,4 @@
-use Rattle.std.proofs.Common.{rules}
+use Rattle.nbd_protocol.proofs.Common.{rules}
 use Rattle.nbd_protocol.proofs.serving.serve.Goals as goal
 
 pub returns-in_err-ended-in-Ok-clause-talked : goal.returns-in_err-ended-in-Ok-clause-talked

@@ -1,5 +1,4 @@
-use Rattle.std.proofs.Common.{◌≡◌, ◌+◌, ℕ, List, length}
-use Rattle.std.specs.Io.KnownBytes.{Consumes}
+use Rattle.nbd_protocol.proofs.Common.{◌≡◌, ◌+◌, ℕ, List, length, Consumes}
 use Rattle.nbd_protocol.proofs.serving.skip.Given as goal
 
 abbrev pub invariant-loop-rest : goal.invariant-loop-rest

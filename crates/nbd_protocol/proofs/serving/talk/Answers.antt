@@ -1,4 +1,4 @@
-use Rattle.std.proofs.Common.{inl, inr, refl}
+use Rattle.nbd_protocol.proofs.Common.{inl, inr, refl}
 use Rattle.nbd_protocol.proofs.serving.talk.Goals as goal
 
 pub returns-in_err-agreed : goal.returns-in_err-agreed
