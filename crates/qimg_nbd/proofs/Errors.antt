@@ -1,32 +1,19 @@
 -- What a client is sent for a refused call of an image.
-use Rattle.std.proofs.Common.{[], List, ◌≡◌, ◌⊎◌, inl, inr, ℕ, ◌+◌, ◌<◌, Bool, true, false, Option, Some, None, Result, Ok, Err, refl, sym, ap, subst, ◌∙◌, arith}
-use Rattle.std.specs.Prelude.{◌&&◌, IfSome, IsTrue, nat_lt, not}
+use Rattle.qimg_nbd.proofs.Common.{[], List, ◌≡◌, ◌⊎◌, inl, inr, ℕ, ◌+◌, ◌<◌, Bool, true, false, Option, Some, None, Result, Ok, Err, refl, sym, ap, subst, ◌∙◌, arith, ◌&&◌, IfSome, IsTrue, nat_lt, not, BackingView, StorageView, cluster_size, HeaderFields, known_in, Clearing, IsSameImage, is_external, is_failed, is_writable, size_of, abstract_of, Qcow2, header_is, DeviceView, Fails, IsFault, IsSameDevice, RefusesToChange, RefusesToRead, device_of, error_of}
 use Rattle.std.specs.Option.{option_or}
 use Rattle.std.proofs.lemmas.Grind.{common_steps}
-use Rattle.image_access.specs.Backing.{BackingView}
-use Rattle.image_access.specs.Moments.{StorageView}
-use Rattle.qcow2_metadata.specs.Header.{cluster_size}
-use Rattle.qcow2_metadata.specs.declared.header.HeaderFields.{HeaderFields}
 use Rattle.qcow2_disk.specs.Disk.{disk_with}
 use Rattle.qcow2_alloc.specs.ImageError.{IsFault as IsImageFault}
-use Rattle.qcow2_alloc.specs.ImageFile.{known_in}
 use Rattle.qcow2_alloc.specs.declared.error.ImageError.{ImageError}
 use Rattle.qcow2_alloc.specs.declared.error.ImageError.TheVariants as I
 use Rattle.qcow2_disk.specs.ClearedCovers.{rounds_past, needs_zeros as zeros_for}
-use Rattle.qcow2_disk.specs.Calls.{Clearing}
 use Rattle.qcow2_image.specs.Clearing.{refuses_clearing}
-use Rattle.qcow2_image.specs.Image.{IsSameImage, is_external, is_failed, is_writable, size_of}
-use Rattle.qcow2_image.specs.ImageInvariant.{abstract_of}
 use Rattle.qcow2_image.specs.MayFail.{MayFailLooking, MayFailReadingRange}
 use Rattle.qcow2_image.specs.Refusals.{MayFailPreparing, passes, refuse_if, refuses_to_prepare, refuses_to_read, unusable}
-use Rattle.qcow2_image.specs.declared.image.Qcow2.{Qcow2}
 use Rattle.qcow2_image.specs.declared.prepared.Prepared.{Prepared}
-use Rattle.qcow2_image.proofs.Images.HiddenBytes.{header_is}
 use Rattle.qcow2_session.specs.Sessions.{IsOfReading}
 use Rattle.nbd_protocol.specs.declared.device.Errno.{Errno}
 use Rattle.nbd_protocol.specs.declared.device.Errno.TheVariants as E
-use Rattle.nbd_protocol.specs.Devices.{DeviceView, Fails, IsFault, IsSameDevice, RefusesToChange, RefusesToRead}
-use Rattle.qimg_nbd.specs.Images.{device_of, error_of}
 
 -- ---- what comes first
 

@@ -1,25 +1,13 @@
 -- What the calls of an image do to it as a block device.
-use Rattle.std.proofs.Common.{◌≡◌, ◌⊎◌, inl, inr, ℕ, ◌+◌, ◌-◌, ◌<◌, ◌≤◌, List, [], length, take, sym, ap, subst, ◌∙◌, arith, min}
-use Rattle.std.specs.Prelude.{IsTrue, Some}
-use Rattle.std.proofs.lemmas.Bool.{cases_lt}
+use Rattle.qimg_nbd.proofs.Common.{◌≡◌, ◌⊎◌, inl, inr, ℕ, ◌+◌, ◌-◌, ◌<◌, ◌≤◌, List, [], length, take, sym, ap, subst, ◌∙◌, arith, min, IsTrue, Some, cases_lt, BackingView, StorageView, known_byte, cluster_size, AbstractImage, Guest, Setting, guest_of, AnsweredEffect, CallEffect, IsSame, Refusal, RefusedEffect, WritesSome, another, memory, not_compressed, storage, with_disk, answered, touched_from, touched_to, Qcow2, abstract_of, AreUnits, Clears, DeviceView, MayWrite, Shows, Stays, Writes, byte_of, device_of}
 use Rattle.std.proofs.lemmas.List.{get_or-take, length-take-le}
 use Rattle.std.proofs.lemmas.Nat.{pow_pos}
-use Rattle.image_access.specs.Backing.{BackingView}
-use Rattle.image_access.specs.Moments.{StorageView}
 use Rattle.qcow2_metadata.specs.Bytes.{byte_at, laid_over}
-use Rattle.qcow2_metadata.specs.Guest.{known_byte}
-use Rattle.qcow2_metadata.specs.Header.{cluster_size}
-use Rattle.qcow2_disk.specs.AbstractImages.{AbstractImage, Guest, Setting, guest_of}
-use Rattle.qcow2_disk.specs.Calls.{AnsweredEffect, CallEffect, MayWrite as MayWriteTo, IsSame, Refusal, RefusedEffect, Shows as ShowsBytes, WritesSome, another, memory, not_compressed, storage, with_disk}
+use Rattle.qcow2_disk.specs.Calls.{MayWrite as MayWriteTo, Shows as ShowsBytes}
 use Rattle.qcow2_disk.specs.Disk.{Disk, with_bytes, zeroed_between}
-use Rattle.qcow2_disk.specs.Rules.{answered, touched_from, touched_to}
 use Rattle.qcow2_disk.specs.Stops.{GivenBytes}
 use Rattle.qcow2_disk.proofs.ForUsers.{laid_inside, laid_outside}
-use Rattle.qcow2_image.specs.declared.image.Qcow2.{Qcow2}
-use Rattle.qcow2_image.specs.ImageInvariant.{abstract_of}
 use Rattle.qcow2_image.proofs.Clear.Touched.{rounded_from}
-use Rattle.nbd_protocol.specs.Devices.{AreUnits, Clears, DeviceView, MayWrite, Shows, Stays, Writes}
-use Rattle.qimg_nbd.specs.Images.{byte_of, device_of}
 use Rattle.qimg_nbd.proofs.Parts.{answered_length, part_units, touched_within}
 
 -- ---- disks

@@ -1,29 +1,13 @@
 -- What a lookup of an image reports about its disk.
-use Rattle.std.proofs.Common.{◌≡◌, inl, inr, ℕ, ◌+◌, ◌-◌, ◌/◌, ◌<◌, ◌≤◌, Bool, true, false, [], is_some, refl, sym, ap, ◌∙◌, subst, arith}
-use Rattle.std.specs.Prelude.{IsTrue}
-use Rattle.std.proofs.lemmas.Bool.{cases_lt}
-use Rattle.image_access.specs.Backing.{BackingView}
-use Rattle.image_access.specs.Moments.{StorageView}
+use Rattle.qimg_nbd.proofs.Common.{◌≡◌, inl, inr, ℕ, ◌+◌, ◌-◌, ◌/◌, ◌<◌, ◌≤◌, Bool, true, false, [], is_some, refl, sym, ap, ◌∙◌, subst, arith, IsTrue, cases_lt, BackingView, StorageView, known_byte, cluster_size, HeaderFields, Guest, guest_of, AnsweredEffect, known_in, state_in, size_of, ImageInvariant, abstract_of, backing_bytes, disk_of, pending_in, Qcow2, header_is, Stays, Tells, is_zeros, byte_of, device_of, told_state}
 use Rattle.qcow2_metadata.specs.Cover.{cover}
-use Rattle.qcow2_metadata.specs.Guest.{known_byte}
-use Rattle.qcow2_metadata.specs.Header.{cluster_size}
-use Rattle.qcow2_metadata.specs.declared.header.HeaderFields.{HeaderFields}
-use Rattle.qcow2_disk.specs.AbstractImages.{Guest, guest_of}
-use Rattle.qcow2_disk.specs.Calls.{AnsweredEffect}
 use Rattle.qcow2_disk.specs.Found.{IsFoundIn, Kind, IsFound as IsFoundOf}
 use Rattle.qcow2_disk.specs.Found as K
-use Rattle.qcow2_alloc.specs.ImageFile.{known_in, state_in}
 use Rattle.qcow2_image.specs.Found.{found_kind}
-use Rattle.qcow2_image.specs.Image.{size_of}
-use Rattle.qcow2_image.specs.ImageInvariant.{ImageInvariant, abstract_of, backing_bytes, disk_of, pending_in}
-use Rattle.qcow2_image.specs.declared.image.Qcow2.{Qcow2}
 use Rattle.qcow2_image.specs.declared.mapping.MappingKind.{MappingKind}
 use Rattle.qcow2_image.specs.declared.mapping.MappingKind.TheVariants as M
-use Rattle.qcow2_image.proofs.Images.HiddenBytes.{header_is}
 use Rattle.qcow2_image.proofs.Map.Reading.{none_below, zero_shown}
 use Rattle.nbd_protocol.specs.declared.device.State.{State}
-use Rattle.nbd_protocol.specs.Devices.{Stays, Tells, is_zeros}
-use Rattle.qimg_nbd.specs.Images.{byte_of, device_of, told_state}
 use Rattle.qimg_nbd.proofs.Errors.{size_is}
 use Rattle.qimg_nbd.proofs.Images.{answered_same}
 

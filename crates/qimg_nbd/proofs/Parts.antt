@@ -1,12 +1,7 @@
 -- The part of a range that a clearing call returns, as numbers.
-use Rattle.std.proofs.Common.{◌≡◌, ◌⊎◌, ◌∙◌, inl, inr, ℕ, ◌+◌, ◌-◌, ◌*◌, ◌/◌, ◌%◌, ◌<◌, ◌≤◌, sym, ap, add-mul, mul_assoc, arith, min}
+use Rattle.qimg_nbd.proofs.Common.{◌≡◌, ◌⊎◌, ◌∙◌, inl, inr, ℕ, ◌+◌, ◌-◌, ◌*◌, ◌/◌, ◌%◌, ◌<◌, ◌≤◌, sym, ap, add-mul, mul_assoc, arith, min, nat_eq, nat_lt, if◌then◌else◌, cases_eq, cases_lt, cond-false, cond-true, eq-eqb, le-ltb, lt-ltb, ne_eqb, rounded_down, rounded_up, answered, touched_from, touched_to, AreUnits}
 use native.Mathlib.Nat.{mul-mod_left}
-use Rattle.std.specs.Prelude.{nat_eq, nat_lt, if◌then◌else◌}
-use Rattle.std.proofs.lemmas.Bool.{cases_eq, cases_lt, cond-false, cond-true, eq-eqb, le-ltb, lt-ltb, ne_eqb}
 use Rattle.std.proofs.lemmas.Nat.{div-add-mod'}
-use Rattle.qcow2_metadata.specs.Header.{rounded_down, rounded_up}
-use Rattle.qcow2_disk.specs.Rules.{answered, touched_from, touched_to}
-use Rattle.nbd_protocol.specs.Devices.{AreUnits}
 
 -- how much of what is touched lies in front of the range's end
 pub answered_length : (from to end : ℕ) → ((from < to) × ((if nat_lt from to then min to end - from else 0) ≡ min to end - from)) ⊎ ((to ≤ from) × ((if nat_lt from to then min to end - from else 0) ≡ 0))

@@ -1,5 +1,4 @@
-use Rattle.std.proofs.Common.{[]}
-use Rattle.qcow2_image.specs.Image.{is_failed}
+use Rattle.qimg_nbd.proofs.Common.{[], is_failed}
 use Rattle.qimg_nbd.proofs.Errors.{fails_answered, fails_refused, fault_told, same_device, usable}
 use Rattle.qimg_nbd.proofs.Images.{answered_flush, refused_same}
 use Rattle.qimg_nbd.proofs.image_device.ImageDeviceDevice.flush.Goals as goal

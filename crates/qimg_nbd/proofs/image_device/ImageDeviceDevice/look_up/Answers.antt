@@ -1,4 +1,4 @@
-use Rattle.std.proofs.Common.{[]}
+use Rattle.qimg_nbd.proofs.Common.{[]}
 use Rattle.qimg_nbd.proofs.Errors.{failed_looking, fails_answered, fails_refused, looking_told, same_device}
 use Rattle.qimg_nbd.proofs.Images.{refused_same}
 use Rattle.qimg_nbd.proofs.Lookups.{found_run}

@@ -1,4 +1,4 @@
-use Rattle.std.proofs.Common.{[]}
+use Rattle.qimg_nbd.proofs.Common.{[]}
 use Rattle.qimg_nbd.proofs.Errors.{failed_reading, fails_answered, fails_refused, reading_cause, same_device}
 use Rattle.qimg_nbd.proofs.Images.{read_bytes, refused_same}
 use Rattle.qimg_nbd.proofs.image_device.ImageDeviceDevice.read.Goals as goal

@@ -1,4 +1,4 @@
-use Rattle.std.proofs.Common.{[]}
+use Rattle.qimg_nbd.proofs.Common.{[]}
 use Rattle.qimg_nbd.proofs.image_device.ImageDeviceDevice.size.Goals as goal
 
 pub returns : goal.returns

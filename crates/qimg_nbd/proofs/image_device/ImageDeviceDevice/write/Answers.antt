@@ -1,4 +1,4 @@
-use Rattle.std.proofs.Common.{[], length}
+use Rattle.qimg_nbd.proofs.Common.{[], length}
 use Rattle.qimg_nbd.proofs.Errors.{failed_writing, same_device, write_answered, write_refused, writing_cause}
 use Rattle.qimg_nbd.proofs.Images.{refused_write, wrote_bytes}
 use Rattle.qimg_nbd.proofs.image_device.ImageDeviceDevice.write.Goals as goal

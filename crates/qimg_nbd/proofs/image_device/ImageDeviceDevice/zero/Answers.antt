@@ -1,5 +1,4 @@
-use Rattle.std.proofs.Common.{[]}
-use Rattle.qcow2_disk.specs.Calls.{to_kept_zero}
+use Rattle.qimg_nbd.proofs.Common.{[], to_kept_zero}
 use Rattle.qimg_nbd.proofs.Errors.{clearing_cause, failed_clearing, fails_answered, fails_refused, same_device}
 use Rattle.qimg_nbd.proofs.Images.{cleared, refused_same}
 use Rattle.qimg_nbd.proofs.image_device.ImageDeviceDevice.zero.Goals as goal
