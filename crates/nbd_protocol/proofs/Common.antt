@@ -9,7 +9,8 @@ pub use Rattle.std.specs.Result.{IsErrAnd}
 pub use Rattle.nbd_protocol.specs.Commands.{Does, MayDo, AreExtents, total, IsChecked, end_of, is_done, IsFailure, IsLate, Refused, asks_always, asks_device, changes, past_end, persists, refuses}
 pub use Rattle.nbd_protocol.specs.Conversations.{Deals, Talked, way_of, AnswersLookup, AnswersStatus, Conversation, Converses, Exchange, Exchanges, payload_count, payload_length, sent, told, lookup_reply}
 pub use Rattle.nbd_protocol.specs.Devices.{Acts, DeviceView, MayWrite, Stays, StaysBeside, Writes, Zeroes, Clears, MayZero, Fails, IsSameDevice, RefusesToChange, Trims, ShowsZeros, is_zeros, ChangeFails, IsFault, RefusesToRead, AreUnits, IsInWhole, Tells}
-pub use Rattle.nbd_protocol.specs.Replies.{status_reply, extent_bytes, extents_reply, read_reply}
+unfoldable pub use Rattle.nbd_protocol.specs.Replies.{extent_bytes}
+pub use Rattle.nbd_protocol.specs.Replies.{status_reply, extents_reply, read_reply}
 pub use Rattle.nbd_protocol.specs.declared.device.Errno.{Errno}
 pub use Rattle.nbd_protocol.specs.declared.replies.Extent.{Extent}
 pub use Rattle.nbd_protocol.specs.declared.request.Command.{Command}

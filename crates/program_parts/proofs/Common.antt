@@ -25,12 +25,13 @@ pub use Rattle.qcow2_alloc.specs.ImageFile.{known_in, contents_in, state_in}
 pub use Rattle.qcow2_alloc.specs.Quiet.{IsQuiet}
 pub use Rattle.qcow2_alloc.specs.declared.error.ImageError.{ImageError}
 pub use Rattle.qcow2_alloc.specs.declared.error.ImageError.TheVariants.{InvalidOption, Limit}
-pub use Rattle.qcow2_check.specs.Report.{leak_lines, breach_lines}
+unfoldable pub use Rattle.qcow2_check.specs.Report.{leak_lines, breach_lines}
 pub use Rattle.qcow2_check.specs.declared.report.Breach.{Breach}
 pub use Rattle.qcow2_disk.proofs.HeaderRest.{header_rest_same}
 pub use Rattle.qcow2_disk.specs.AbstractImages.{IsOpened, guest_of, Setting, AbstractImage, stored_bytes}
 pub use Rattle.qcow2_disk.specs.Calls.{Shows, CallEffect}
-pub use Rattle.qcow2_disk.specs.Disk.{disk, Disk, disk_with}
+unfoldable pub use Rattle.qcow2_disk.specs.Disk.{disk_with}
+pub use Rattle.qcow2_disk.specs.Disk.{disk, Disk}
 pub use Rattle.qcow2_disk.specs.HeaderRest.{KeepsHeaderRest}
 pub use Rattle.qcow2_disk.specs.Stops.{StopOkEverywhere, checkpoint_at, LeavesKept, GivenBytes, checkpoint_with}
 pub use Rattle.qcow2_image.proofs.Create.Causes.{told_opening, faults_met, opening_reasons, fault_reason}
@@ -45,6 +46,7 @@ pub use Rattle.qcow2_image.specs.declared.image.Qcow2.{Qcow2}
 pub use Rattle.qcow2_metadata.specs.Bytes.{byte_at, Bytes}
 pub use Rattle.qcow2_metadata.specs.Consistent.{IsConsistent}
 pub use Rattle.qcow2_metadata.specs.Guest.{known_byte, Value}
-pub use Rattle.qcow2_metadata.specs.Header.{header, count_width, cluster_size, backing_name}
+unfoldable pub use Rattle.qcow2_metadata.specs.Header.{header, backing_name}
+pub use Rattle.qcow2_metadata.specs.Header.{count_width, cluster_size}
 pub use Rattle.qcow2_metadata.specs.declared.header.HeaderFields.{HeaderFields}
 pub use Rattle.qcow2_session.specs.Conversions.{IsRawOf, Imports, MayFailImporting, Exports, IsUnchanged, ImportsAny, IsLeft}

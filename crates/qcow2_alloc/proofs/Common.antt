@@ -17,7 +17,7 @@ pub use Rattle.std.specs.Prelude.{IsErrOf, IfOk, MatchOption, MatchResult}
 pub use Rattle.std.specs.Result.{result_err, OnErr}
 pub use Rattle.image_access.proofs.Bytes.{byte_at-overwritten, byte_at-overwritten_below, byte_at-bytes_at, byte_at-overwritten_outside, length-bytes_at}
 pub use Rattle.image_access.proofs.EachMomentSince.{passes_on, passes_none, passes_if, whole_or_nothing, rose_since, rose_still}
-pub use Rattle.image_access.specs.Contents.{overwritten, bytes_at}
+unfoldable pub use Rattle.image_access.specs.Contents.{overwritten, bytes_at}
 pub use Rattle.image_access.specs.Moments.{StorageView, Rose, HasCause, EachMomentSince, IsLeftBy, Calls, QuietCalls, Changes, ContentsStay, UnlessErr}
 pub use Rattle.image_access.specs.declared.error.StorageError.{StorageError}
 pub use Rattle.image_access.specs.declared.error.StorageError.TheVariants.{Fault}
@@ -100,7 +100,8 @@ pub use Rattle.qcow2_laws.specs.Caches.{AreClean, BlocksMayGo, TablesMayGo, AreN
 pub use Rattle.qcow2_laws.specs.Changes.{one_at, with_new_data, with_new_tables, without_old_tables, without_old_data, new_data_to_old_tables, new_tables_to_old_tables, named_now}
 pub use Rattle.qcow2_laws.specs.Clusters.{Direction, Neither, L2DependsOnRb, RbDependsOnL2}
 pub use Rattle.qcow2_laws.specs.CrashInvariant.{Pending, MayTurn, CrashInvariant, SameCovers, SameIn, IsPartly, SameTop, IsMixed, SameCounts, IsInOrder, IsTop}
-pub use Rattle.qcow2_laws.specs.Guests.{named_by_guest, names, table_at, named_in_either, over_guests}
+unfoldable pub use Rattle.qcow2_laws.specs.Guests.{over_guests}
+pub use Rattle.qcow2_laws.specs.Guests.{named_by_guest, names, table_at, named_in_either}
 pub use Rattle.qcow2_laws.specs.Internal.{IsInternal, KeepsFormat, SameL1Table}
 pub use Rattle.qcow2_laws.specs.SafeSteps.{SafeStep, DriverState}
 pub use Rattle.qcow2_laws.specs.Steps.{CountRises, CountFalls, block_of}
@@ -109,20 +110,26 @@ pub use Rattle.qcow2_laws.specs.Writes.{IsUnnamed, IsWritten}
 pub use Rattle.qcow2_metadata.proofs.EntryTables.{entry_at_past, on_sector, reftable_entries-loaded}
 pub use Rattle.qcow2_metadata.proofs.TableEntries.{number_at-moved}
 pub use Rattle.qcow2_metadata.proofs.TablesAt.{ref_block_at}
-pub use Rattle.qcow2_metadata.specs.Bytes.{byte_at, Bytes, one_if, sum_below, is_within}
+unfoldable pub use Rattle.qcow2_metadata.specs.Bytes.{sum_below}
+pub use Rattle.qcow2_metadata.specs.Bytes.{byte_at, Bytes, one_if, is_within}
 pub use Rattle.qcow2_metadata.specs.Consistent.{IsAligned}
-pub use Rattle.qcow2_metadata.specs.Entries.{block_offset, reftable_entry, count, is_copied, l1_entry, l2_entry, block_count, ReftableEntryReads, host_offset}
+unfoldable pub use Rattle.qcow2_metadata.specs.Entries.{reftable_entry, count, l1_entry, l2_entry, block_count}
+pub use Rattle.qcow2_metadata.specs.Entries.{block_offset, is_copied, ReftableEntryReads, host_offset}
 pub use Rattle.qcow2_metadata.specs.EntryTable.{EntryTableView, NamesRefTable, IsRefTableOf, entry_count, IsRefTable, SomeUnread, entry_table, HasRoomIfPlaced, EachReads, IsReasonNotToLoad, PassesLimit, IsL1TableOf}
 pub use Rattle.qcow2_metadata.specs.FirstZero.{IsFirstZero}
-pub use Rattle.qcow2_metadata.specs.Header.{cluster_size, counts_per_block, reftable_entries, HeaderView, HeaderReads, count_width, entries_per_cluster, with_reftable, with_fields, has_data_file, header, backing_name, first_of_kind, backing_format_kind, data_file_kind, with_size, with_l1_table}
-pub use Rattle.qcow2_metadata.specs.HeaderWrite.{reftable_pointer_written, size_written, l1_table_pointer_written, bytes_of_numbers}
+unfoldable pub use Rattle.qcow2_metadata.specs.Header.{header, backing_name}
+pub use Rattle.qcow2_metadata.specs.Header.{cluster_size, counts_per_block, reftable_entries, HeaderView, HeaderReads, count_width, entries_per_cluster, with_reftable, with_fields, has_data_file, first_of_kind, backing_format_kind, data_file_kind, with_size, with_l1_table}
+unfoldable pub use Rattle.qcow2_metadata.specs.HeaderWrite.{bytes_of_numbers}
+pub use Rattle.qcow2_metadata.specs.HeaderWrite.{reftable_pointer_written, size_written, l1_table_pointer_written}
 pub use Rattle.qcow2_metadata.specs.L2Mapping.{old_data_run, IsHostCluster, greatest_offset}
 pub use Rattle.qcow2_metadata.specs.L2Table.{L2TableView, cover_at, entries_of, copied_entry, copied_host, zero_entry}
 pub use Rattle.qcow2_metadata.specs.MetadataError.{storage_result}
-pub use Rattle.qcow2_metadata.specs.Named.{in_cluster, table_in, named_by_reftable, named_for_tables, named_by_l1_table, in_run}
+unfoldable pub use Rattle.qcow2_metadata.specs.Named.{named_by_reftable, named_for_tables, named_by_l1_table}
+pub use Rattle.qcow2_metadata.specs.Named.{in_cluster, table_in, in_run}
 pub use Rattle.qcow2_metadata.specs.RefBlock.{RefBlockView, ChangesCount, count_at, counts_of, IsRefBlock, count_limit, count_in}
 pub use Rattle.qcow2_metadata.specs.TableBytes.{entry_at, HasPlace, ChangesEntry, IsOfStorageOrMemory}
-pub use Rattle.qcow2_metadata.specs.Tables.{CachedTable, known, overlays}
+unfoldable pub use Rattle.qcow2_metadata.specs.Tables.{known}
+pub use Rattle.qcow2_metadata.specs.Tables.{CachedTable, overlays}
 pub use Rattle.qcow2_metadata.specs.declared.error.MetadataError.{MetadataError}
 pub use Rattle.qcow2_metadata.specs.declared.header.HeaderFields.{HeaderFields}
 pub use Rattle.qcow2_metadata.specs.declared.l2_mapping.L2Mapping.{L2Mapping}

@@ -5,13 +5,16 @@ pub use Rattle.image_access.proofs.EachMomentSince.{passes_none, passes_if, pass
 pub use Rattle.image_access.specs.Moments.{StorageView, EachMomentSince, IsLeftBy}
 pub use Rattle.qcow2_disk.specs.AbstractImages.{Setting, AbstractImage, stored_bytes, guest_of, Guest, Abstraction, abstract_image, surplus_of, IsWhole}
 pub use Rattle.qcow2_disk.specs.Calls.{Stops, EffectOnSound, EffectOnFailed, StartsAt, Refusal, memory, storage, not_compressed, another, CallEffect, AnsweredEffect, RefusedEffect, IsRefusalByFault}
-pub use Rattle.qcow2_disk.specs.Disk.{disk, disk_with, Disk, with_bytes}
+unfoldable pub use Rattle.qcow2_disk.specs.Disk.{disk_with}
+pub use Rattle.qcow2_disk.specs.Disk.{disk, Disk, with_bytes}
 pub use Rattle.qcow2_disk.specs.HeaderRest.{IsOfHeaderRest, KeepsHeaderRest}
 pub use Rattle.qcow2_disk.specs.Mappings.{PreparedMapping, given_by_put, put_disk, put_mapping, committed}
 pub use Rattle.qcow2_disk.specs.Runs.{Command, Reply, State, Run, RefinesDisk, IsStopIn, started, checkpoint_during, given_by, asked_by, given_at, Found, CommandMeaning, IsFaultReply, IsStorageReply, MayAnswer, IsAnswerOfFailed, ReplyMatches, ResizesLast, CommandStep, IsSafeWhile, RefinesGuest, RefinesAlong, RefinesState, RefinesCommand, RefinesRun, RefinesWholeRun, IsOwnInterval, checkpoint_after, stepped, flush, shrink, done, number_is}
 pub use Rattle.qcow2_disk.specs.Stops.{GivenBytes, IsGiven, Checkpoint, checkpoint_with, StopOkEverywhere, SafeThroughout, LeavesKept, checkpoint_at, StopOk, LeavesOk, IsAsked}
-pub use Rattle.qcow2_metadata.specs.Bytes.{Bytes, byte_at, is_within, laid_over, number_at, bytes_from}
+unfoldable pub use Rattle.qcow2_metadata.specs.Bytes.{laid_over, number_at}
+pub use Rattle.qcow2_metadata.specs.Bytes.{Bytes, byte_at, is_within, bytes_from}
 pub use Rattle.qcow2_metadata.specs.Consistent.{IsConsistent}
 pub use Rattle.qcow2_metadata.specs.Guest.{Value, known_byte}
-pub use Rattle.qcow2_metadata.specs.Header.{header, cluster_size, backing_name, AreExtensions, HeaderReads}
+unfoldable pub use Rattle.qcow2_metadata.specs.Header.{header, backing_name}
+pub use Rattle.qcow2_metadata.specs.Header.{cluster_size, AreExtensions, HeaderReads}
 pub use mathlib.Core.Path.{fun_ext}

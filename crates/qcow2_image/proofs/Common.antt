@@ -16,7 +16,7 @@ pub use Rattle.std.specs.Prelude.{slice_get, not, MatchOption, IfSome, ◌||◌,
 pub use Rattle.image_access.proofs.Bytes.{byte_at-bytes_at, byte_at-overwritten, length-bytes_at, byte_at-overwritten_outside, length-resized, byte_at-overwritten_below, byte_at-overwritten_behind, bytes_at_past}
 pub use Rattle.image_access.proofs.EachMomentSince.{whole_or_nothing, passes_if, passes_on, rose_since, passes_none, passes_change}
 pub use Rattle.image_access.specs.Backing.{BackingView}
-pub use Rattle.image_access.specs.Contents.{overwritten, resized, bytes_at}
+unfoldable pub use Rattle.image_access.specs.Contents.{overwritten, resized, bytes_at}
 pub use Rattle.image_access.specs.Moments.{StorageView, Calls, Changes, ContentsStay, QuietCalls, Rose, EachMomentSince, IsLeftBy, ContentsBecome, UnlessErr, HasCause}
 pub use Rattle.image_access.specs.declared.error.StorageError.{StorageError}
 pub use Rattle.image_access.specs.declared.storage.PreallocateMode.{PreallocateMode}
@@ -76,7 +76,8 @@ pub use Rattle.qcow2_disk.proofs.Within.{within_is}
 pub use Rattle.qcow2_disk.specs.AbstractImages.{Setting, Guest, guest_of, meaning_at, AbstractImage, IsOpened, HasFreePlaces, stored_bytes, IsWhole, Abstraction, abstract_image}
 pub use Rattle.qcow2_disk.specs.Alike.{AreDataAt, IsDataAt, IsAlike, IsAlikeRun, IsLongestRun, IsAlikeAt}
 pub use Rattle.qcow2_disk.specs.Calls.{EffectOnSound, RefusedEffect, IsSame, storage, IsRefusalByFault, AnsweredEffect, Refusal, with_slot, cleared, with_disk, to_kept_zero, another, shows_old, given_by_grow, IsShrinkEnd, Shows, Clearing, to_zero, to_backing, EffectOnFailed, Stops, MayGrow, CallEffect, IsShrunk, not_compressed}
-pub use Rattle.qcow2_disk.specs.Disk.{disk, Disk, zeroed_between, disk_with, with_bytes, uncovered, grown, shrunk, with_values}
+unfoldable pub use Rattle.qcow2_disk.specs.Disk.{disk_with}
+pub use Rattle.qcow2_disk.specs.Disk.{disk, Disk, zeroed_between, with_bytes, uncovered, grown, shrunk, with_values}
 pub use Rattle.qcow2_disk.specs.Found.{rest_of_table, IsCompressed, kind_at, Kind, raw, indirect, zeros, special, eof, IsCompressedAt, IsFoundIn}
 pub use Rattle.qcow2_disk.specs.GrownCovers.{first_zeros, Touches, GrownCovers}
 pub use Rattle.qcow2_disk.specs.HeaderRest.{KeepsHeaderRest}
@@ -161,7 +162,8 @@ pub use Rattle.qcow2_laws.specs.Changes.{new_data_to_old_data, renamed, new_tabl
 pub use Rattle.qcow2_laws.specs.Clusters.{Direction, RbDependsOnL2, Neither}
 pub use Rattle.qcow2_laws.specs.CrashInvariant.{Pending, SameCovers, CrashInvariant, SameIn, IsTop}
 pub use Rattle.qcow2_laws.specs.GuestLaws.{MapsEntry, Hosting, IsHostedAt, WritesRun, IsHeld, ClearsRange, MapsInTurn, IsZeros, KeepsGuests, IsGivenAt}
-pub use Rattle.qcow2_laws.specs.Guests.{table_at, names, named_by_guest, guests, over_guests, marks, marked_by_guest}
+unfoldable pub use Rattle.qcow2_laws.specs.Guests.{over_guests}
+pub use Rattle.qcow2_laws.specs.Guests.{table_at, names, named_by_guest, guests, marks, marked_by_guest}
 pub use Rattle.qcow2_laws.specs.Internal.{SameUsedBytes, used_by_guests, KeepsFormat, SameOtherCovers, IsInternal}
 pub use Rattle.qcow2_laws.specs.NewImages.{IsNewImage}
 pub use Rattle.qcow2_laws.specs.Opened.{HasNoLeaks, surplus_of, nothing_pending}
@@ -172,22 +174,30 @@ pub use Rattle.qcow2_laws.specs.Writes.{IsUnnamed}
 pub use Rattle.qcow2_metadata.proofs.MadeEntries.{cover_of-0, copied_host_is, cover_of-zero_entry, cover_of-copied_entry, cluster_is_host}
 pub use Rattle.qcow2_metadata.proofs.NamedRuns.{named_by_cover-run}
 pub use Rattle.qcow2_metadata.proofs.StillHeader.{autoclear_still}
-pub use Rattle.qcow2_metadata.specs.Bytes.{Bytes, byte_at, laid_over, one_if, number_at, is_within}
+unfoldable pub use Rattle.qcow2_metadata.specs.Bytes.{laid_over, number_at}
+pub use Rattle.qcow2_metadata.specs.Bytes.{Bytes, byte_at, one_if, is_within}
 pub use Rattle.qcow2_metadata.specs.Consistent.{CoverIsAligned, IsConsistent, Consistent}
-pub use Rattle.qcow2_metadata.specs.Cover.{cover, cover_of, entry_cover, cover_under}
-pub use Rattle.qcow2_metadata.specs.Entries.{l1_entry, is_copied, l2_entry, host_offset, count, reftable_entry, count_under, block_offset, L1EntryReads, block_count}
+unfoldable pub use Rattle.qcow2_metadata.specs.Cover.{cover, cover_of, cover_under}
+pub use Rattle.qcow2_metadata.specs.Cover.{entry_cover}
+unfoldable pub use Rattle.qcow2_metadata.specs.Entries.{l1_entry, l2_entry, count, reftable_entry, count_under, block_count}
+pub use Rattle.qcow2_metadata.specs.Entries.{is_copied, host_offset, block_offset, L1EntryReads}
 pub use Rattle.qcow2_metadata.specs.EntryTable.{EntryTableView, entry_count, entry_table, IsL1TableOf, HasRoomIfPlaced, IsOfLengthOrMemory, NamesL1Table, SomeUnread}
-pub use Rattle.qcow2_metadata.specs.Guest.{known_byte, Value, guest_value, value_under}
-pub use Rattle.qcow2_metadata.specs.Header.{cluster_size, without_autoclear, HeaderView, entries_per_cluster, has_data_file, rounded_up, rounded_down, header, HeaderReads, counts_per_block, reftable_entries, with_fields, with_l1_table, with_reftable, with_tables_of, with_size, backing_format_kind, data_file_kind, count_width}
+unfoldable pub use Rattle.qcow2_metadata.specs.Guest.{guest_value}
+pub use Rattle.qcow2_metadata.specs.Guest.{known_byte, Value, value_under}
+unfoldable pub use Rattle.qcow2_metadata.specs.Header.{header}
+pub use Rattle.qcow2_metadata.specs.Header.{cluster_size, without_autoclear, HeaderView, entries_per_cluster, has_data_file, rounded_up, rounded_down, HeaderReads, counts_per_block, reftable_entries, with_fields, with_l1_table, with_reftable, with_tables_of, with_size, backing_format_kind, data_file_kind, count_width}
 pub use Rattle.qcow2_metadata.specs.HeaderLoad.{IsHeaderIn, HasAlignedTables, IsReasonToRefuse}
-pub use Rattle.qcow2_metadata.specs.HeaderWrite.{bytes_of_numbers, l1_table_pointer_written, size_written, CanBeNew, new_fields, header_written, autoclear_cleared, new_header, HasNewNames, numbers_of, extension_size, header_bytes, name_extension, name_place}
+unfoldable pub use Rattle.qcow2_metadata.specs.HeaderWrite.{bytes_of_numbers, numbers_of, header_bytes}
+pub use Rattle.qcow2_metadata.specs.HeaderWrite.{l1_table_pointer_written, size_written, CanBeNew, new_fields, header_written, autoclear_cleared, new_header, HasNewNames, extension_size, name_extension, name_place}
 pub use Rattle.qcow2_metadata.specs.L2Mapping.{IsInReach, old_data_run, named_run, IsHostCluster, greatest_offset, is_same_run, HasAlignedHost}
 pub use Rattle.qcow2_metadata.specs.L2Table.{L2TableView, copied_host, zero_cover, entries_of, copied_entry, copied_kept, IsEntryHost, l2_table, zero_entry}
 pub use Rattle.qcow2_metadata.specs.MetadataError.{OnlyReads}
-pub use Rattle.qcow2_metadata.specs.Named.{named_by_cover, in_cluster, named_for_tables, named, in_run, table_in, named_by_l1_table, named_by_reftable}
+unfoldable pub use Rattle.qcow2_metadata.specs.Named.{named_for_tables, named, named_by_l1_table, named_by_reftable}
+pub use Rattle.qcow2_metadata.specs.Named.{named_by_cover, in_cluster, in_run, table_in}
 pub use Rattle.qcow2_metadata.specs.RefBlock.{RefBlockView, count_at, counts_of, IsRefBlockAt, IsRefBlock, ChangesCount, count_limit}
 pub use Rattle.qcow2_metadata.specs.TableBytes.{entry_at, HasPlace, ChangesEntry}
-pub use Rattle.qcow2_metadata.specs.Tables.{CachedTable, known}
+unfoldable pub use Rattle.qcow2_metadata.specs.Tables.{known}
+pub use Rattle.qcow2_metadata.specs.Tables.{CachedTable}
 pub use Rattle.qcow2_metadata.specs.declared.error.MetadataError.{MetadataError}
 pub use Rattle.qcow2_metadata.specs.declared.header.HeaderFields.{HeaderFields}
 pub use Rattle.qcow2_metadata.specs.declared.l2_mapping.L2Mapping.{L2Mapping}

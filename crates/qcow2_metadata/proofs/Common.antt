@@ -11,16 +11,21 @@ pub use Rattle.std.proofs.lemmas.Result.{err_from_is_err_and, IfOk-weaker, IfErr
 pub use Rattle.std.specs.Int.{w32, w64, from_be_bytes, to_be_bytes, bit_at, w16}
 pub use Rattle.std.specs.Prelude.{bit_and, IsUtf8, ◌&&◌, bit_or, ◌||◌, IsTrue}
 pub use Rattle.image_access.proofs.Bytes.{length-bytes_at, put_mid-overwritten, byte_at-overwritten, byte_at-overwritten_outside, length-overwritten_within, byte_at-bytes_at, byte_at-overwritten_behind, byte_at_past, byte_at-overwritten_below, whole}
-pub use Rattle.image_access.specs.Contents.{bytes_at, overwritten}
+unfoldable pub use Rattle.image_access.specs.Contents.{bytes_at, overwritten}
 pub use Rattle.image_access.specs.Moments.{ContentsBecome, StorageView, Changes}
 pub use Rattle.image_access.specs.declared.error.StorageError.{StorageError}
-pub use Rattle.qcow2_metadata.specs.Bytes.{Bytes, byte_at, number_at, bytes_from, has_bit, SameFrom, bits_of, one_if}
-pub use Rattle.qcow2_metadata.specs.Cover.{cover_of, has_host}
-pub use Rattle.qcow2_metadata.specs.Entries.{l1_entry, l2_entry, reftable_entry, L1EntryReads, ReftableEntryReads, block_count, host_offset, is_copied}
+unfoldable pub use Rattle.qcow2_metadata.specs.Bytes.{number_at}
+pub use Rattle.qcow2_metadata.specs.Bytes.{Bytes, byte_at, bytes_from, has_bit, SameFrom, bits_of, one_if}
+unfoldable pub use Rattle.qcow2_metadata.specs.Cover.{cover_of}
+pub use Rattle.qcow2_metadata.specs.Cover.{has_host}
+unfoldable pub use Rattle.qcow2_metadata.specs.Entries.{l1_entry, l2_entry, reftable_entry, block_count}
+pub use Rattle.qcow2_metadata.specs.Entries.{L1EntryReads, ReftableEntryReads, host_offset, is_copied}
 pub use Rattle.qcow2_metadata.specs.EntryTable.{EntryTableView, IsClear, IsL1TableOf, IsRefTableOf, NamesL1Table, NamesRefTable, PassesLimit, entry_count, IsL1TableBut, IsRefTableBut, EachReads, HasRoomIfPlaced, IsReasonNotToLoad, SomeUnread}
-pub use Rattle.qcow2_metadata.specs.Header.{HeaderFields, reftable_entries, IsExtension, AreExtensions, behind_extension, first_of_kind, backing_format_kind, data_file_kind, IsKept, IsShort, HeaderView, header, cluster_size, backing_name, IsInRange, IsWithinLimits, BackingNameReads, IsWellFormed, with_size, with_l1_table, with_reftable, without_autoclear, ExtensionsRead, IsNameKind, rounded_up, HeaderReads, with_fields}
+unfoldable pub use Rattle.qcow2_metadata.specs.Header.{header, backing_name}
+pub use Rattle.qcow2_metadata.specs.Header.{HeaderFields, reftable_entries, IsExtension, AreExtensions, behind_extension, first_of_kind, backing_format_kind, data_file_kind, IsKept, IsShort, HeaderView, cluster_size, IsInRange, IsWithinLimits, BackingNameReads, IsWellFormed, with_size, with_l1_table, with_reftable, without_autoclear, ExtensionsRead, IsNameKind, rounded_up, HeaderReads, with_fields}
 pub use Rattle.qcow2_metadata.specs.HeaderLoad.{AreNamed, IsHeaderOf, IsHeaderIn, first_so_far, IsReasonToRefuse, IsReasonNotToRead}
-pub use Rattle.qcow2_metadata.specs.HeaderWrite.{extension_size, new_fields, bytes_of_numbers, CanBeNew, numbers_of, AllFit, extension_bytes, name_extension, header_bytes, header_written, name_place, HasNewNames, IsText, size_written, l1_table_pointer_written, reftable_pointer_written, autoclear_cleared}
+unfoldable pub use Rattle.qcow2_metadata.specs.HeaderWrite.{bytes_of_numbers, numbers_of, extension_bytes, header_bytes}
+pub use Rattle.qcow2_metadata.specs.HeaderWrite.{extension_size, new_fields, CanBeNew, AllFit, name_extension, header_written, name_place, HasNewNames, IsText, size_written, l1_table_pointer_written, reftable_pointer_written, autoclear_cleared}
 pub use Rattle.qcow2_metadata.specs.L2Table.{L2TableView, copied_entry, zero_entry, zero_cover, IsL2Table, IsL2TableAt, cover_at, IsEntryHost, copied_host}
 pub use Rattle.qcow2_metadata.specs.RefBlock.{RefBlockView, count_in, counts_of, IsRefBlock, IsRefBlockAt, ChangesCount, count_limit}
 pub use Rattle.qcow2_metadata.specs.TableBytes.{entry_at, ChangesEntry}

@@ -11,7 +11,7 @@ pub use Rattle.std.specs.Option.{option_or, option_flatten}
 pub use Rattle.std.specs.Prelude.{IfSome, Vec, ◌&&◌, ◌==◌, nat_lt, IfOk, IsSome, MatchOption, slice_get, OnOk, IsNone, slice_set, IsErr, ◌||◌, if◌then◌else◌, IsErrAnd, option_map, IsOk}
 pub use Rattle.image_access.proofs.Bytes.{same_contents, length-bytes_at, byte_at-bytes_at, length-resized, byte_at-resized, byte_at-resized_past, length-overwritten_within, byte_at-overwritten, byte_at-overwritten_below, byte_at-overwritten_behind}
 pub use Rattle.image_access.specs.Backing.{BackingView}
-pub use Rattle.image_access.specs.Contents.{bytes_at, overwritten, resized}
+unfoldable pub use Rattle.image_access.specs.Contents.{bytes_at, overwritten, resized}
 pub use Rattle.image_access.specs.Moments.{StorageView, HasCause, Rose, EachMomentSince}
 pub use Rattle.image_access.specs.declared.error.StorageError.{StorageError}
 pub use Rattle.qcow2_alloc.proofs.AllocationSteps.{fault_of_storage}
@@ -74,10 +74,12 @@ pub use Rattle.qcow2_image.specs.declared.mapping.Place.TheVariants.{Image}
 pub use Rattle.qcow2_image.specs.declared.prepared.CommitRefused.{CommitRefused}
 pub use Rattle.qcow2_image.specs.declared.prepared.CommitRefused.TheVariants.{Kept, Spent}
 pub use Rattle.qcow2_image.specs.declared.prepared.Prepared.{Prepared}
-pub use Rattle.qcow2_metadata.specs.Bytes.{byte_at, laid_over, is_within, Bytes}
-pub use Rattle.qcow2_metadata.specs.Cover.{cover}
+unfoldable pub use Rattle.qcow2_metadata.specs.Bytes.{laid_over}
+pub use Rattle.qcow2_metadata.specs.Bytes.{byte_at, is_within, Bytes}
+unfoldable pub use Rattle.qcow2_metadata.specs.Cover.{cover}
 pub use Rattle.qcow2_metadata.specs.Guest.{Value, known_byte}
-pub use Rattle.qcow2_metadata.specs.Header.{header, cluster_size, entries_per_cluster, rounded_down, rounded_up}
+unfoldable pub use Rattle.qcow2_metadata.specs.Header.{header}
+pub use Rattle.qcow2_metadata.specs.Header.{cluster_size, entries_per_cluster, rounded_down, rounded_up}
 pub use Rattle.qcow2_metadata.specs.declared.header.HeaderFields.{HeaderFields}
 pub use Rattle.qcow2_metadata.specs.declared.l2_mapping.L2Mapping.{L2Mapping}
 pub use Rattle.qcow2_metadata.specs.declared.l2_mapping.L2Mapping.TheVariants.{Data, Zero, Compressed, Uncovered}
