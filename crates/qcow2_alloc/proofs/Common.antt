@@ -10,7 +10,8 @@ pub use Rattle.std.proofs.lemmas.Nat.{mod_below, pow_pos, div-add-mod', div-mul-
 pub use Rattle.std.proofs.lemmas.Option.{none-some, same_Some}
 pub use Rattle.std.specs.Cmp.{nat_eq_equiv, IsEquivalence}
 pub use Rattle.std.specs.Int.{w64, to_be_bytes, from_bool}
-pub use Rattle.std.specs.List.{IsDistinct, AllByRecursion}
+unfoldable pub use Rattle.std.specs.List.{IsDistinct}
+pub use Rattle.std.specs.List.{AllByRecursion}
 pub use Rattle.std.specs.Map.{lookup, set_value, keys_of, lookup_entry, remove_entry}
 pub use Rattle.std.specs.Option.{option_or, option_map, option_map_or, IsNone, option_copied, unwrap_or}
 pub use Rattle.std.specs.Prelude.{IsErrOf, IfOk, MatchOption, MatchResult}
