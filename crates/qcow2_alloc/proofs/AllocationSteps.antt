@@ -1,5 +1,5 @@
 -- Loading refblocks, and allocating and freeing one cluster.
-use Rattle.qcow2_alloc.proofs.Common.{◌≡◌, ◌≢◌, inl, inr, refl, ℕ, ◌+◌, ◌*◌, ◌/◌, ◌%◌, ◌^◌, ◌<◌, ◌≤◌, Bool, true, false, List, length, Option, Some, None, Result, Ok, Err, IsErr, IsErrAnd, IsSome, IsTrue, sym, ap, ◌∙◌, subst, mul-pos, arith, is_some, cases_eq, mul-le-mul_right, mod_below, pow_pos, div-add-mod', StorageView, byte_at, HeaderFields, EntryTableView, entry_table, NamesRefTable, IsRefTableOf, entry_at, HasPlace, ChangesEntry, cluster_size, counts_per_block, reftable_entries, reftable_entry, block_offset, count, one_at, Pending, count_none, Allocator, MetadataCaches, ImageError, ImageFile, ClusterKind, Data, Metadata, ClustersToFreeEntry, run_at, is_data, taken_as, Owed, Taken, Listed, owed_as, MayAllocate, MayDecrement, HasNone, NamesBlock, NamesBehindHeader, KeepsRefblocks, NamesLacking, KeepsEntries, KeepsNamed, RefblockAt, InternalAllocatorStep, InternalAllocatorGrowth, PlacesBlock, GetsBlock, RefusedGrowth, AllocatesGiven, AllocatesCluster, Allocates, KeepsPinsAndNotes, view_in, contents_in, known_in, FileInvariant, AllocatorInvariant, HasReftable, RefusedFileStep, StorageError, Fault, of_storage, IsFault, order_of, rb_at, IsCountedAt, IncrementsCount, DecrementsCount, InternalCacheStep, ImageStorage, storage_of}
+use Rattle.qcow2_alloc.proofs.Common.{◌≡◌, ◌≢◌, inl, inr, refl, ℕ, ◌+◌, ◌*◌, ◌/◌, ◌%◌, ◌^◌, ◌<◌, ◌≤◌, Bool, true, false, List, length, Option, Some, None, Result, Ok, Err, IsErr, IsErrAnd, IsSome, IsTrue, sym, ap, ◌∙◌, subst, mul-pos, arith, is_some, cases_eq, mul-le-mul_right, mod_below, pow_pos, div-add-mod', StorageView, byte_at, HeaderFields, EntryTableView, entry_table, NamesRefTable, IsRefTableOf, entry_at, HasPlace, ChangesEntry, cluster_size, counts_per_block, reftable_entries, reftable_entry, block_offset, count, one_at, Pending, count_none, Allocator, MetadataCaches, ImageError, ImageFile, ClusterKind, Data, Metadata, ClustersToFreeEntry, run_at, is_data, taken_as, Owed, Taken, Listed, owed_as, MayAllocate, MayDecrement, HasNone, NamesBlock, NamesBehindHeader, KeepsRefblocks, NamesLacking, KeepsEntries, KeepsNamed, NamesRefblock, RefblockAt, InternalAllocatorStep, InternalAllocatorGrowth, PlacesBlock, GetsBlock, RefusedGrowth, AllocatesGiven, AllocatesCluster, Allocates, KeepsPinsAndNotes, view_in, contents_in, known_in, FileInvariant, AllocatorInvariant, HasReftable, RefusedFileStep, StorageError, Fault, of_storage, IsFault, order_of, rb_at, IsCountedAt, IncrementsCount, DecrementsCount, InternalCacheStep, ImageStorage, storage_of}
 use Rattle.image_access.specs.declared.error.StorageError.TheVariants.{Memory}
 use Rattle.qcow2_alloc.proofs.KeptTables.Standing.{own_cluster}
 use Rattle.qcow2_alloc.proofs.Runs.{new_data_more}
@@ -220,14 +220,13 @@ module _ {S : Type 0} (view : S → StorageView) where
   gets_then p a b c t t' (Err e) first second = leaves_then view p a b c t' e first.file_step second
 
   -- ---- the refblock of a range
-  pub stands : (p : Pending) (file : ImageFile S) (t : EntryTableView) → FileInvariant view p file → HasReftable view file t → (range offset cluster bits : ℕ) → offset ≡ block_offset (entry_at t.bytes range) → 0 < offset
-      → cluster * 2 ^ bits ≡ offset → bits ≡ file.header.fields.cluster_bits → IsSome (rb_at file.caches cluster) → RefblockAt view file range (Some cluster)
-  stands p file t sound has range offset cluster bits is some at same there =
+  pub names_refblock : (p : Pending) (file : ImageFile S) (t : EntryTableView) → FileInvariant view p file → HasReftable view file t → (range offset cluster bits : ℕ) → offset ≡ block_offset (entry_at t.bytes range) → 0 < offset
+      → cluster * 2 ^ bits ≡ offset → bits ≡ file.header.fields.cluster_bits → NamesRefblock view file range cluster
+  names_refblock p file t sound has range offset cluster bits is some at same =
       let known : offset ≡ block_offset (reftable_entry file.header.fields (known_in view file) range) =
       is ∙ ap block_offset (has.entries range ∙ sound.caches.kept.kept.crash_invariant.same_top.reftable range) in (
         (λ none. let zero : offset ≡ 0 = known ∙ none in omega arith),
         sym known ∙ sym at ∙ ap (λ n. cluster * 2 ^ n) same,
-        there,
       )
 
   pub stands_none : (file : ImageFile S) (range : ℕ) (o : Option ℕ) → is_some o ≡ false → RefblockAt view file range o → RefblockAt view file range None

@@ -25,7 +25,7 @@ pub use Rattle.image_access.specs.declared.error.StorageError.TheVariants.{Fault
 pub use Rattle.lru.proofs.CallerLemmas.{Contains-lookup_entry}
 pub use Rattle.lru.specs.LruCache.{promoted, LruCache, lru_cache, demoted, put_entries}
 pub use Rattle.number_runs.specs.NumberRuns.{IsIn, Adds, Forgets, SameNumbers, IsRun, NoneIn}
-pub use Rattle.qcow2_alloc.specs.Allocation.{IsUnaligned, run_at, is_data, taken_as, Owed, Taken, Listed, owed_as, MayAllocate, MayDecrement, HasNone, NamesBlock, NamesBehindHeader, KeepsRefblocks, NamesLacking, KeepsEntries, KeepsNamed, RefblockAt, InternalAllocatorStep, InternalAllocatorGrowth, PlacesBlock, GetsBlock, RefusedGrowth, AllocatesGiven, AllocatesCluster, Allocates, listed_as, Frees, GivesBack, HasBytesAt, DecrementsOne, GrowsTable, placing, first_counts, HasPlaceFor, AllocatesLowest, GivesBackAs, SameLeaks, MayFree, StandsFirst, AllocatesAt, LacksFirst, LoadsBlock, HoldsBlock, AllocatesSomeRun, WritesBlock}
+pub use Rattle.qcow2_alloc.specs.Allocation.{IsUnaligned, run_at, is_data, taken_as, Owed, Taken, Listed, owed_as, MayAllocate, MayDecrement, HasNone, NamesBlock, NamesBehindHeader, KeepsRefblocks, NamesLacking, KeepsEntries, KeepsNamed, NamesRefblock, RefblockAt, InternalAllocatorStep, InternalAllocatorGrowth, PlacesBlock, GetsBlock, RefusedGrowth, AllocatesGiven, AllocatesCluster, Allocates, listed_as, Frees, GivesBack, HasBytesAt, DecrementsOne, GrowsTable, placing, first_counts, HasPlaceFor, AllocatesLowest, GivesBackAs, SameLeaks, MayFree, StandsFirst, AllocatesAt, LacksFirst, LoadsBlock, HoldsBlock, AllocatesSomeRun, WritesBlock}
 pub use Rattle.qcow2_alloc.specs.ApartCaches.{ChangesTableApart, ChangesBlockApart, IsFlushedSo, AreNoMore, NoClusterDirtyInBoth, StandAsIn, IsPartlyFlushed, table_put, AreFlushedSince, KnownStays, KnownUnder, KeepsKnownApart, KnownWithout, EvictsTableApart, KnownWithoutBlock, AllocatesBlockApart}
 pub use Rattle.qcow2_alloc.specs.AsyncLruCache.{Cache, slot_of, value_at, set_at, pins_at, pin_at, unpin_at, with_entries, KeepsPins, OthersStay, IsInFront, pinned, is_pinned, oldest_free, can_remove, cache_of, can_pin, can_unpin, OnlyOldestGoes, KeepsOthers}
 pub use Rattle.qcow2_alloc.specs.AsyncLruCacheBackend.{Steps, IsLawful, KeepsBytes, value_laid_over, known_under_key, KeepsKnown, OverlaysBytes}

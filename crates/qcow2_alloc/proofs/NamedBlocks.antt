@@ -1,12 +1,12 @@
--- A reftable entry is written for a refblock that is in its cluster and in its cache.
-use Rattle.qcow2_alloc.proofs.Common.{◌≡◌, ◌≢◌, ◌⊎◌, inl, inr, ℕ, ◌+◌, ◌*◌, ◌/◌, ◌%◌, ◌^◌, ◌<◌, ◌≤◌, Bool, true, false, List, [], Option, Some, Result, Ok, refl, sym, ap, ◌∙◌, subst, arith, cases_Bool, cases_eq, cases_lt, eq-eqb, ne_eqb, cond-true, cond-false, div-add-mod', mod_below, IfSome, w64, to_be_bytes, overwritten, StorageView, EachMomentSince, Changes, Calls, IsLeftBy, StorageError, Bytes, byte_at, EntryTableView, IsRefTableOf, entry_count, RefBlockView, IsRefBlock, count_at, entry_at, ChangesEntry, HeaderFields, cluster_size, counts_per_block, count_width, reftable_entries, is_copied, reftable_entry, block_offset, block_count, host_offset, table_in, in_cluster, named_for_tables, named_by_l1_table, named_by_reftable, on_sector, ref_block_at, SafeThroughout, one_at, with_new_tables, named_now, Pending, SameIn, AreClean, BlocksMayGo, HasL2, HasOwnL2, HasBlock, table_at, SafeStep, IsInternal, SameL1Table, IsSameBut, IsSameOutside, WritesReftableEntry, IsNewBlock, overwritten_but, reftable_entry_beside, table_once, clean_counts, Sizes, block_count-moved, done_safe_throughout, write_safe_throughout, shares, table_has, block_has, reftable_has, table_is_named, unseen_refblock, ImageFile, ImageStorage, placing, first_counts, HasPlaceFor, StandsFirst, HasBytesAt, nothing_given, view_in, contents_in, known_in, state_in, FileInvariant, HasReftable, InternalFileStep, storage_of, AreLoaded, order_of, l2_tables, refblocks, rb_at, IsBlockOf}
+-- A reftable entry is written for a refblock that is in its cluster, and isn't cached.
+use Rattle.qcow2_alloc.proofs.Common.{◌≡◌, ◌≢◌, ◌⊎◌, inl, inr, ℕ, ◌+◌, ◌*◌, ◌/◌, ◌%◌, ◌^◌, ◌<◌, ◌≤◌, Bool, true, false, List, [], Option, Some, None, Result, Ok, refl, sym, ap, ◌∙◌, subst, arith, cases_Bool, cases_eq, cases_lt, eq-eqb, ne_eqb, cond-true, cond-false, div-add-mod', mod_below, IfSome, w64, to_be_bytes, overwritten, StorageView, EachMomentSince, Changes, Calls, IsLeftBy, StorageError, Bytes, byte_at, EntryTableView, IsRefTableOf, entry_count, RefBlockView, IsRefBlock, count_at, entry_at, ChangesEntry, HeaderFields, cluster_size, counts_per_block, count_width, reftable_entries, is_copied, reftable_entry, block_offset, block_count, host_offset, table_in, in_cluster, named_for_tables, named_by_l1_table, named_by_reftable, on_sector, ref_block_at, SafeThroughout, one_at, with_new_tables, named_now, Pending, SameIn, AreClean, BlocksMayGo, HasL2, HasOwnL2, HasBlock, table_at, SafeStep, IsInternal, SameL1Table, IsSameBut, IsSameOutside, WritesReftableEntry, IsNewBlock, overwritten_but, reftable_entry_beside, table_once, clean_counts, Sizes, block_count-moved, done_safe_throughout, write_safe_throughout, shares, table_has, block_has, reftable_has, table_is_named, unseen_refblock, ImageFile, ImageStorage, placing, first_counts, HasPlaceFor, StandsFirst, HasBytesAt, nothing_given, view_in, contents_in, known_in, state_in, FileInvariant, HasReftable, InternalFileStep, storage_of, AreLoaded, order_of, l2_tables, refblocks, rb_at, IsBlockOf}
 use Rattle.qcow2_metadata.proofs.WrittenTables.{IsRefTableOf-written_entry}
 use Rattle.qcow2_laws.proofs.NewBlocks.{other_reftable}
 use Rattle.qcow2_laws.proofs.NewTables.{outside_eight}
 use Rattle.qcow2_alloc.proofs.CountsStay.{counts_follow, fixed_more}
 use Rattle.qcow2_alloc.proofs.FileSteps.{one_here, pending_same}
 use Rattle.qcow2_alloc.proofs.KeptTables.Getting.{cluster_aligned}
-use Rattle.qcow2_alloc.proofs.KeptTables.Named.{AreCurrentIn, current_entry, named_blocks_named, sound_named}
+use Rattle.qcow2_alloc.proofs.KeptTables.Named.{AreCurrentIn, current_none, named_blocks_named, sound_named}
 use Rattle.qcow2_alloc.proofs.KeptTables.Standing.{own_cluster}
 use Rattle.qcow2_alloc.proofs.PlacedBlocks.{IsFree, is_free, file_sizes, has_none, covers_written, known_there, in_own, range_of_first}
 use Rattle.qcow2_alloc.proofs.FileInvariants.{file_invariant_of}
@@ -57,7 +57,7 @@ module _ {S : Type 0} (view : S → StorageView) (d : Bool) (p : Pending) (range
     (within : range < entry_count t) (same : t' ≡ record t { bytes = t'.bytes }) (enters : ChangesEntry t.bytes t'.bytes range (at * cluster_size file.header.fields))
     (offset : block_offset (entry_at t'.bytes range) ≡ at * cluster_size file.header.fields) (fits : entry_at t'.bytes range < 2 ^ 64)
     (whole : IsRefBlock block) (format : IsBlockOf file.header.fields block) (counts : (i : ℕ) → count_at block i ≡ first_counts d i)
-    (new_data : (v : RefBlockView) × (rb_at file.caches at ≡ Some v) × (v.bytes ≡ block.bytes)) (stands : HasBytesAt (contents_in view file) (at * cluster_size file.header.fields) block.bytes) where
+    (uncached : rb_at file.caches at ≡ None) (stands : HasBytesAt (contents_in view file) (at * cluster_size file.header.fields) block.bytes) where
   abbrev h : HeaderFields
   h = file.header.fields
 
@@ -222,12 +222,8 @@ module _ {S : Type 0} (view : S → StorageView) (d : Bool) (p : Pending) (range
     current =
         let bits = file.caches.rb.backend.header.fields.cluster_bits in
         let same_bits = sound.caches.rb_format.bits in
-        let there : (i : ℕ) → i < cluster_size h → byte_at new_data.0.bytes i ≡ on_storage' (at * cluster_size h + i) = λ i lt.
-        ap (λ l. byte_at l i) new_data.2 ∙ stands i (subst (λ n. i < n) (sym (whole.whole ∙ ap (λ n. 2 ^ n) format.bits)) lt)
-        ∙ outside (at * cluster_size h + i) (λ e. free_apart (sym (in_own h.cluster_bits at i lt) ∙ e)) in
         subst (λ n. AreCurrentIn (2 ^ n) at (refblocks file.caches) on_storage') same_bits
-        (current_entry bits (λ (b : RefBlockView). b.bytes) (λ b. b.is_modified) (HasBlock h on_storage) on_storage on_storage' at file.caches.rb.entries new_data.0 new_data.1
-        (subst (λ n. (i : ℕ) → i < 2 ^ n → byte_at new_data.0.bytes i ≡ on_storage' (at * 2 ^ n + i)) (sym same_bits) there)
+        (current_none bits (λ (b : RefBlockView). b.bytes) (λ b. b.is_modified) (HasBlock h on_storage) on_storage on_storage' at file.caches.rb.entries uncached
         (subst (λ n. AreLoaded (2 ^ n) (HasBlock h on_storage) (refblocks file.caches) on_storage) (sym same_bits) sound.caches.kept.rb_loaded))
 
     rb_now : (c : ℕ) → HasBlock h on_storage' c → (HasBlock h on_storage c × SameIn (cluster_size h) c on_storage' on_storage) ⊎ AreCurrentIn (cluster_size h) c (refblocks file.caches) on_storage'

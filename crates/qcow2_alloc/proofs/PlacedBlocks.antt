@@ -113,27 +113,3 @@ module _ {S : Type 0} (view : S → StorageView) where
   write_as before asked after at cluster bits bits' bytes result same is same_bits written =
       subst (λ (s : S). Changes (view s) (view after) result (λ b. overwritten b (at * 2 ^ bits') bytes)) same
       (subst (λ n. Changes (view asked) (view after) result (λ b. overwritten b (at * 2 ^ n) bytes)) same_bits (rw is at written))
-
-  -- ---- and then it is put into its cache
-  module _ (d : Bool) (p : Pending) (range at : ℕ) (file : ImageFile S) (t : EntryTableView) (sound : FileInvariant view (placing d p at) file) (has : HasReftable view file t)
-      (may : BlocksMayGo (order_of file.caches) (l2_tables file.caches)) (place : HasPlaceFor d file.header.fields t range at) (block : RefBlockView) (fits : IsBlockOf file.header.fields block)
-      (long : length block.bytes ≡ cluster_size file.header.fields) (stands : HasBytesAt (contents_in view file) (at * cluster_size file.header.fields) block.bytes) where
-    pub holds_known : HoldsKnown file.header.fields file.caches (contents_in view file) block.bytes at
-    holds_known i lt =
-        stands i (subst (λ n. i < n) (sym long) lt)
-        ∙ sym (known_there (placing d p at) file at sound (is_free d p range at file t sound has may place) (at * cluster_size file.header.fields + i) (in_own file.header.fields.cluster_bits at i lt))
-
-    module _ (storage : ImageStorage S) (caches : MetadataCaches S) (stays : InternalCacheStep file.header.fields (placing d p at) (view_in view file) file.caches (view (storage_of storage)) caches) (marks : KeepsPinsAndNotes file.caches caches) where
-      abbrev put : ImageFile S
-      put = record file { storage = storage; caches = caches }
-
-      -- its bytes stand there still
-      pub still_stands : BlocksMayGo (order_of caches) (l2_tables caches) → HasBytesAt (contents_in view put) (at * cluster_size file.header.fields) block.bytes
-      still_stands may' i lt =
-          let file_step = file_step_cached view (placing d p at) file storage caches sound stays marks in
-          let has' = reftable_cached view (placing d p at) file storage caches sound stays t has in
-          let place' : HasPlaceFor d put.header.fields t range at = record { none = place.none; first = place.first } in
-          let free = is_free d p range at put t file_step.sound has' may' place' in
-          holds_known i (subst (λ n. i < n) long lt)
-          ∙ ap (λ (b : Bytes). b (at * cluster_size file.header.fields + i)) (sym stays.known)
-          ∙ known_there (placing d p at) put at file_step.sound free (at * cluster_size file.header.fields + i) (in_own file.header.fields.cluster_bits at i (subst (λ n. i < n) long lt))

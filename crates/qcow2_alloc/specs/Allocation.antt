@@ -8,7 +8,6 @@ use Rattle.qcow2_metadata.specs.EntryTable.{EntryTableView, entry_count}
 use Rattle.qcow2_metadata.specs.L2Mapping.{IsHostCluster}
 use Rattle.qcow2_metadata.specs.RefBlock.{RefBlockView}
 use Rattle.qcow2_metadata.specs.TableBytes.{entry_at}
-use Rattle.qcow2_alloc.specs.TableCaches.{cleared_rb}
 use Rattle.qcow2_metadata.specs.Entries.{reftable_entry, block_offset}
 use Rattle.qcow2_laws.specs.Clusters.{L2DependsOnRb, RbDependsOnL2}
 use Rattle.qcow2_laws.specs.Changes.{one_at, with_new_data, with_new_tables}
@@ -148,6 +147,12 @@ module _ {S : Type 0} where
   MayDecrement (Listed kind) file = MayFree kind file
 
   module _ (view : S → StorageView) where
+    -- The reftable names a refblock in this cluster for a range.
+    abbrev pub NamesRefblock : ImageFile S → ℕ → ℕ → Type 0
+    NamesRefblock file range block =
+        (block_offset (reftable_entry file.header.fields (known_in view file) range) ≢ 0)
+        × (block_offset (reftable_entry file.header.fields (known_in view file) range) ≡ block * cluster_size file.header.fields)
+
     -- The refblock of a range is cached, from this cluster; or the range has none.
     abbrev pub RefblockAt : ImageFile S → ℕ → Option ℕ → Type 0
     RefblockAt file range None = block_offset (reftable_entry file.header.fields (known_in view file) range) ≡ 0
@@ -171,19 +176,19 @@ module _ {S : Type 0} where
       LoadsBlock range (Ok block) = InternalAllocatorStep p × RefblockAt new range block
       LoadsBlock range (Err e) = IsFault e × RefusedFileStep view p old allocator' new e
 
-      -- A refblock is in its cluster and in its cache.
+      -- A refblock is in its cluster, and no refblock is cached for that cluster.
       pub record HoldsBlock (block : RefBlockView) (at : ℕ) : Type 0 where
-        pub new_data : rb_at new.caches at ≡ Some (cleared_rb block)
+        pub uncached : rb_at new.caches at ≡ None
         pub stands : HasBytesAt (contents_in view new) (at * cluster_size new.header.fields) block.bytes
 
-      -- A refblock is written, and is in its cache.
+      -- A refblock is written, and isn't cached.
       abbrev pub WritesBlock : RefBlockView → ℕ → Result (Unit {0}) ImageError → Type 0
       WritesBlock block at (Ok _) = InternalAllocatorStep p × HoldsBlock block at
       WritesBlock block at (Err e) = IsFault e × RefusedFileStep view p old allocator' new e
 
-      -- The refblock of a range is placed in a cluster.
+      -- The refblock of a range is placed in a cluster, and named there.
       abbrev pub PlacesBlock : Pending → ℕ → ℕ → Result (Unit {0}) ImageError → Type 0
-      PlacesBlock p' range at (Ok _) = InternalAllocatorStep p' × RefblockAt new range (Some at)
+      PlacesBlock p' range at (Ok _) = InternalAllocatorStep p' × NamesRefblock new range at
       PlacesBlock p' range at (Err e) = IsFault e × RefusedFileStep view p old allocator' new e
 
       -- A range gets its refblock.

@@ -44,27 +44,31 @@ fn new_block(alloc: Global, header: &Header, counts_itself: bool) -> Result<RefB
     Ok(block)
 }
 
-// Writes a new refblock to its cluster, after all refcounts, and puts it into the cache.
+// Writes a new refblock to its cluster, after all refcounts. It is not cached: this takes no memory, and its first use loads it.
 #[tactic(auto, using(crate::proofs::TableErrors::storage_of_tables))]
-fn write_block<S: Storage>(file: &mut ImageFile<S>, mut block: RefBlock) -> Result<(), ImageError>
-    requires placed { IsSome block.cluster }
-    requires elsewhere { IfSome block.cluster (λ at. 0 < at) }
-    ensures step { BlockStep S.view block.cluster_bits file.old file.new }
+fn write_block<S: Storage>(
+    file: &mut ImageFile<S>,
+    block: &RefBlock,
+    cluster: HostCluster,
+) -> Result<(), ImageError>
+    requires placed { block.now.cluster ≡ Some cluster }
+    requires elsewhere { 0 < cluster }
+    ensures step { BlockStep S.view block.now.cluster_bits file.old file.new }
     ensures fails { Fails S.view file.old.storage file.new.storage result IsOfTables }
-    ensures sound { (p : Pending) (counts_itself : Bool) (allocator : Allocator) (range at : ℕ)
-        → AllocatorInvariant S.view allocator (placing counts_itself p at) file.old
-        → HasPlaceFor counts_itself file.old.header.fields allocator.reftable range at
-        → IsBlockOf file.old.header.fields block → block.cluster ≡ Some at
-        → WritesBlock S.view (placing counts_itself p at) file.old allocator file.new block at result }
+    ensures sound { (p : Pending) (counts_itself : Bool) (allocator : Allocator) (range : ℕ)
+        → AllocatorInvariant S.view allocator (placing counts_itself p cluster) file.old
+        → HasPlaceFor counts_itself file.old.header.fields allocator.reftable range cluster
+        → IsBlockOf file.old.header.fields block.now → IsRefBlock block.now
+        → WritesBlock S.view (placing counts_itself p cluster) file.old allocator file.new block.now cluster result }
     ensures counted { OnOk result (AreClean (refblocks file.new.caches)) }
     ensures recorded { OnOk result (IsTrue (is_changed_of file.new.storage)) }
     ensures first { OnOk result (BlocksMayGo (order_of file.new.caches) (l2_tables file.new.caches)) }
 {
     file.caches.flush_rb(&mut file.storage)?;
+    file.caches.rb_remove(cluster);
     file.storage.set_write_kind(WriteKind::Other);
-    file.storage.write_new_refblock(&block)?;
-    block.clear_modified();
-    file.caches.rb_insert(&mut file.storage, block)
+    file.storage.write_new_refblock(block)?;
+    Ok(())
 }
 
 #[tactic(auto, using(crate::proofs::TableErrors::storage_of_tables, crate::proofs::TableErrors::metadata_of_tables, crate::proofs::TableErrors::cache_of_tables))]
@@ -327,7 +331,7 @@ impl Allocator {
         let cluster = HostCluster::new(at);
         let mut block = block;
         block.set_cluster(cluster);
-        write_block(file, block)?;
+        write_block(file, &block, cluster)?;
         self.reftable.enter_refblock(range as usize, cluster);
         file.storage.set_write_kind(WriteKind::Other);
         file.storage

@@ -1,6 +1,6 @@
 use Rattle.qcow2_alloc.proofs.Common.{refl, inl, ◌^◌, LoadsBlock, contents_in}
 use Rattle.qcow2_alloc.proofs.FileSteps.{file_step_cached, reftable_cached}
-use Rattle.qcow2_alloc.proofs.AllocationSteps.{handed_on, place_fits, stands}
+use Rattle.qcow2_alloc.proofs.AllocationSteps.{handed_on, place_fits, names_refblock}
 use Rattle.qcow2_alloc.proofs.KeptTables.Places.{named_have_places}
 use Rattle.qcow2_alloc.proofs.AlignedBlocks.{not_off}
 use Rattle.qcow2_alloc.proofs.SparedHeaders.{not_first}
@@ -22,8 +22,8 @@ returns-clause-sound g c = λ p sound.
     let file_step = file_step_cached g.S.Storage.view p c.args.file.now c.rb_get_or_insert.new.storage c.rb_get_or_insert.new.self sound.sound (c.rb_get_or_insert.ensures.sound.keeps c.args.file.now.header.fields p sound.sound.honest sound.sound.caches) c.rb_get_or_insert.ensures.step.marks.pins in
     let reftable = reftable_cached g.S.Storage.view p c.args.file.now c.rb_get_or_insert.new.storage c.rb_get_or_insert.new.self sound.sound (c.rb_get_or_insert.ensures.sound.keeps c.args.file.now.header.fields p sound.sound.honest sound.sound.caches) c.args.self.now.reftable sound.reftable in (
       record { file_step = file_step; reftable = reftable },
-      stands g.S.Storage.view p (record c.args.file.now { storage = c.rb_get_or_insert.new.storage; caches = c.rb_get_or_insert.new.self }) c.args.self.now.reftable file_step.sound reftable c.args.range c.in-Some.offset c.in-Some-checked_cluster.cluster c.cluster_bits.result
-          c.in-Some.ensures.offset c.in-Some.ensures.some c.in-Some-checked_cluster.ensures.cluster c.cluster_bits.ensures.value c.in_ok-rb_get_or_insert.ensures.gets.cached,
+      let named = names_refblock g.S.Storage.view p (record c.args.file.now { storage = c.rb_get_or_insert.new.storage; caches = c.rb_get_or_insert.new.self }) c.args.self.now.reftable file_step.sound reftable c.args.range c.in-Some.offset c.in-Some-checked_cluster.cluster c.cluster_bits.result
+          c.in-Some.ensures.offset c.in-Some.ensures.some c.in-Some-checked_cluster.ensures.cluster c.cluster_bits.ensures.value in (named.0, named.1, c.in_ok-rb_get_or_insert.ensures.gets.cached),
     )
 
 pub returns-in_default-clause-none : goal.returns-in_default-clause-none

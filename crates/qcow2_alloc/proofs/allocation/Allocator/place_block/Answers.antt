@@ -1,6 +1,6 @@
-use Rattle.qcow2_alloc.proofs.Common.{◌≡◌, inr, ℕ, ◌+◌, ◌*◌, ◌/◌, ◌^◌, ◌<◌, ◌≤◌, Bool, IsTrue, Some, Result, Ok, Err, refl, sym, ap, ◌∙◌, subst, arith, IsSome, div-add-mod', IfSome, w64, to_be_bytes, overwritten, StorageView, Changes, Calls, StorageError, HeaderFields, EntryTableView, entry_count, cluster_size, RefBlockView, IsRefBlock, count_at, IsHostCluster, entry_at, ChangesEntry, HasPlace, block_offset, Pending, AreClean, BlocksMayGo, Allocator, ImageError, ImageStorage, ImageFile, placing, first_counts, HasPlaceFor, RefblockAt, InternalAllocatorStep, HoldsBlock, PlacesBlock, of_storage, IsFault, view_in, AllocatorInvariant, storage_of, is_changed_of, order_of, l2_tables, refblocks, rb_at, cleared_rb, IsBlockOf, or_left}
+use Rattle.qcow2_alloc.proofs.Common.{◌≡◌, inr, ℕ, ◌+◌, ◌*◌, ◌/◌, ◌^◌, ◌<◌, ◌≤◌, Bool, IsTrue, Some, Result, Ok, Err, refl, sym, ap, ◌∙◌, subst, arith, IsSome, div-add-mod', IfSome, w64, to_be_bytes, overwritten, StorageView, Changes, Calls, StorageError, HeaderFields, EntryTableView, entry_count, cluster_size, RefBlockView, IsRefBlock, count_at, IsHostCluster, entry_at, ChangesEntry, HasPlace, block_offset, Pending, AreClean, BlocksMayGo, Allocator, ImageError, ImageStorage, ImageFile, placing, first_counts, HasPlaceFor, NamesRefblock, InternalAllocatorStep, HoldsBlock, PlacesBlock, WritesBlock, of_storage, IsFault, view_in, AllocatorInvariant, storage_of, is_changed_of, order_of, l2_tables, refblocks, IsBlockOf, or_left}
 use Rattle.qcow2_alloc.proofs.FileSteps.{file_step_then, interrupted_then}
-use Rattle.qcow2_alloc.proofs.AllocationSteps.{entered_has, handed_on, entries_entered, fault_of_storage, is_sound_now, stands}
+use Rattle.qcow2_alloc.proofs.AllocationSteps.{entered_has, handed_on, entries_entered, fault_of_storage, is_sound_now, names_refblock}
 use Rattle.qcow2_alloc.proofs.NamedBlocks.{entry_write_as, real, safe_throughout_named, named_so}
 use Rattle.qcow2_alloc.proofs.Outcomes.{on_no_ok, entries_none}
 use Rattle.qcow2_alloc.proofs.SparedHeaders.{spares_then, spares_entry}
@@ -22,6 +22,13 @@ has_place b h at k of is named = subst (λ n. HasPlace n k) (sym of.bits) (subst
 whole_in : (b b' : RefBlockView) (k : ℕ) → b' ≡ record b { cluster = Some k } → IsRefBlock b → HasPlace b.cluster_bits k → IsRefBlock b'
 whole_in b b' k is whole here = subst IsRefBlock (sym is) (record { whole = whole.whole; bits = whole.bits; order = whole.order; placed = here })
 
+-- what the write says of the cluster by another number of it
+at_number : {S : Type 0} (view : S → StorageView) (itself : Bool) (p : Pending) (old new : ImageFile S) (t : Allocator) (block : RefBlockView) (range k at : ℕ) (result : Result (Unit {0}) ImageError) → k ≡ at
+    → (AllocatorInvariant view t (placing itself p k) old → HasPlaceFor itself old.header.fields t.reftable range k → WritesBlock view (placing itself p k) old t new block k result)
+    → AllocatorInvariant view t (placing itself p at) old → HasPlaceFor itself old.header.fields t.reftable range at → WritesBlock view (placing itself p at) old t new block at result
+at_number view itself p old new t block range k at result is writes =
+    subst (λ n. AllocatorInvariant view t (placing itself p n) old → HasPlaceFor itself old.header.fields t.reftable range n → WritesBlock view (placing itself p n) old t new block n result) is writes
+
 pub set_cluster-requires : goal.set_cluster-requires
 set_cluster-requires g c = has_place c.args.block c.args.file.now.header.fields c.args.at c.new-cluster.result c.requires.block.0 c.new-cluster.ensures c.requires.place.nameable_here
 
@@ -29,7 +36,7 @@ pub returns-in_err-write_block-clause-sound : goal.returns-in_err-write_block-cl
 returns-in_err-write_block-clause-sound g c = λ p itself sound place counts.
     handed_on (PlacesBlock g.S.Storage.view (placing itself p c.args.at) c.args.file.now c.args.self.now c.write_block.new.file p c.args.range c.args.at)
     c.from_residual.result c.in_err-write_block.field-0.0 c.from_residual.ensures
-    (c.in_err-write_block.ensures.sound p itself c.args.self.now c.args.range c.args.at sound place (format_in _ c.args.block c.set_cluster.new.self _ c.set_cluster.ensures c.requires.block.0) (cluster_in c.args.block c.set_cluster.new.self _ c.set_cluster.ensures ∙ ap Some c.new-cluster.ensures))
+    (at_number g.S.Storage.view itself p c.args.file.now c.write_block.new.file c.args.self.now c.set_cluster.new.self c.args.range c.new-cluster.result c.args.at (Err c.in_err-write_block.field-0.0) c.new-cluster.ensures (λ s has. c.in_err-write_block.ensures.sound p itself c.args.self.now c.args.range s has (format_in _ c.args.block c.set_cluster.new.self _ c.set_cluster.ensures c.requires.block.0) (whole_in c.args.block c.set_cluster.new.self c.new-cluster.result c.set_cluster.ensures c.requires.block.1 (has_place c.args.block c.args.file.now.header.fields c.args.at c.new-cluster.result c.requires.block.0 c.new-cluster.ensures c.requires.place.nameable_here))) sound place)
 
 -- the last step: the entry is written, or is not
 module _ {S : Type 0} (view : S → StorageView) (d : Bool) (p : Pending) (range at : ℕ) (old file : ImageFile S) (t : Allocator) (t' : EntryTableView) (storage : ImageStorage S) (asked : S) (block : RefBlockView)
@@ -62,9 +69,6 @@ module _ {S : Type 0} (view : S → StorageView) (d : Bool) (p : Pending) (range
   calls_now : Calls (view_in view file) (view (storage_of storage)) result
   calls_now = subst (λ s. Calls (view s) (view (storage_of storage)) result) same calls
 
-  new_data : (v : RefBlockView) × (rb_at file.caches at ≡ Some v) × (v.bytes ≡ block.bytes)
-  new_data = (cleared_rb block, before.1.new_data, refl)
-
   there : HasPlaceFor d h t.reftable range at
   there = place
 
@@ -80,22 +84,21 @@ module _ {S : Type 0} (view : S → StorageView) (d : Bool) (p : Pending) (range
     inr (interrupted_then view q q old file named e before.0.file_step (record {
       fault = fault;
       recorded = λ _. or_left (is_changed_of storage) file.caches.is_changed changed;
-      since = safe_throughout_named view d p range at file t.reftable t' block now.sound now.reftable counted first there within rest entered at_place fits whole format counts new_data before.1.stands storage result calls_now changes;
+      since = safe_throughout_named view d p range at file t.reftable t' block now.sound now.reftable counted first there within rest entered at_place fits whole format counts before.1.uncached before.1.stands storage result calls_now changes;
     })),
   )
 
-  is_placed : (x : Unit {0}) → result ≡ Ok x → InternalAllocatorStep view q old (record t { reftable = t' }) named p × RefblockAt view named range (Some at)
+  is_placed : (x : Unit {0}) → result ≡ Ok x → InternalAllocatorStep view q old (record t { reftable = t' }) named p × NamesRefblock view named range at
   is_placed x done =
-      let so = named_so view d p range at file t.reftable t' block now.sound now.reftable counted first there within rest entered at_place fits whole format counts new_data before.1.stands storage result calls_now changes x done in
-      let some : 0 < at * cluster_size h = real view d p range at file t.reftable t' block now.sound now.reftable counted first there within rest entered at_place fits whole format counts new_data before.1.stands in (
+      let so = named_so view d p range at file t.reftable t' block now.sound now.reftable counted first there within rest entered at_place fits whole format counts before.1.uncached before.1.stands storage result calls_now changes x done in
+      let some : 0 < at * cluster_size h = real view d p range at file t.reftable t' block now.sound now.reftable counted first there within rest entered at_place fits whole format counts before.1.uncached before.1.stands in (
         record { file_step = file_step_then view q q p old file named (λ k some. some) before.0.file_step so.0; reftable = so.1 },
-        stands view p named t' so.0.sound so.1 range (at * cluster_size h) at h.cluster_bits (sym at_place) some refl refl (rw new_data.1 refl),
+        names_refblock view p named t' so.0.sound so.1 range (at * cluster_size h) at h.cluster_bits (sym at_place) some refl refl,
       )
 
 pub returns-in_err-write_reftable_entry-clause-sound : goal.returns-in_err-write_reftable_entry-clause-sound
 returns-in_err-write_reftable_entry-clause-sound g c = λ p itself sound place counts.
-    let is = cluster_in c.args.block c.set_cluster.new.self _ c.set_cluster.ensures ∙ ap Some c.new-cluster.ensures in
-    let three = c.in_ok-write_block.ensures.sound p itself c.args.self.now c.args.range c.args.at sound place (format_in _ c.args.block c.set_cluster.new.self _ c.set_cluster.ensures c.requires.block.0) is in
+    let three = at_number g.S.Storage.view itself p c.args.file.now c.write_block.new.file c.args.self.now c.set_cluster.new.self c.args.range c.new-cluster.result c.args.at (Ok c.in_ok-write_block.field-0) c.new-cluster.ensures (λ s has. c.in_ok-write_block.ensures.sound p itself c.args.self.now c.args.range s has (format_in _ c.args.block c.set_cluster.new.self _ c.set_cluster.ensures c.requires.block.0) (whole_in c.args.block c.set_cluster.new.self c.new-cluster.result c.set_cluster.ensures c.requires.block.1 (has_place c.args.block c.args.file.now.header.fields c.args.at c.new-cluster.result c.requires.block.0 c.new-cluster.ensures c.requires.place.nameable_here))) sound place in
     handed_on (PlacesBlock g.S.Storage.view (placing itself p c.args.at) c.args.file.now (record c.args.self.now { reftable = c.enter_refblock.new.self }) (record c.write_block.new.file { storage = c.write_reftable_entry.new.self }) p c.args.range c.args.at)
     c.from_residual-in_err-write_reftable_entry.result (of_storage c.in_err-write_reftable_entry.field-0.0) c.from_residual-in_err-write_reftable_entry.ensures
     (not_placed g.S.Storage.view itself p c.args.range c.args.at c.args.file.now c.write_block.new.file c.args.self.now c.enter_refblock.new.self c.write_reftable_entry.new.self (storage_of c.set_write_kind.new.self) c.set_cluster.new.self c.write_reftable_entry.result
@@ -106,8 +109,7 @@ returns-in_err-write_reftable_entry-clause-sound g c = λ p itself sound place c
 
 pub returns-clause-sound : goal.returns-clause-sound
 returns-clause-sound g c = λ p itself sound place counts.
-    let is = cluster_in c.args.block c.set_cluster.new.self _ c.set_cluster.ensures ∙ ap Some c.new-cluster.ensures in
-    let three = c.in_ok-write_block.ensures.sound p itself c.args.self.now c.args.range c.args.at sound place (format_in _ c.args.block c.set_cluster.new.self _ c.set_cluster.ensures c.requires.block.0) is in
+    let three = at_number g.S.Storage.view itself p c.args.file.now c.write_block.new.file c.args.self.now c.set_cluster.new.self c.args.range c.new-cluster.result c.args.at (Ok c.in_ok-write_block.field-0) c.new-cluster.ensures (λ s has. c.in_ok-write_block.ensures.sound p itself c.args.self.now c.args.range s has (format_in _ c.args.block c.set_cluster.new.self _ c.set_cluster.ensures c.requires.block.0) (whole_in c.args.block c.set_cluster.new.self c.new-cluster.result c.set_cluster.ensures c.requires.block.1 (has_place c.args.block c.args.file.now.header.fields c.args.at c.new-cluster.result c.requires.block.0 c.new-cluster.ensures c.requires.place.nameable_here))) sound place in
     is_placed g.S.Storage.view itself p c.args.range c.args.at c.args.file.now c.write_block.new.file c.args.self.now c.enter_refblock.new.self c.write_reftable_entry.new.self (storage_of c.set_write_kind.new.self) c.set_cluster.new.self c.write_reftable_entry.result
     three c.in_ok-write_block.ensures.counted c.in_ok-write_block.ensures.first (subst (λ h. HasPlaceFor itself h c.args.self.now.reftable c.args.range c.args.at) (sym (ap (λ x. x.fields) c.write_block.ensures.step.header)) place)
     c.requires.place.within c.enter_refblock.ensures.rest (subst (λ k. ChangesEntry c.args.self.now.reftable.bytes c.enter_refblock.new.self.bytes c.args.range (k * 2 ^ c.args.self.now.reftable.cluster_bits)) c.new-cluster.ensures c.enter_refblock.ensures.entry)
