@@ -204,11 +204,6 @@ module _ {S : Type 0} where
     pub first : BlocksGo caches → IsFalse is_modified → BlocksGo caches'
     pub may_go : TablesGo caches → TablesGo caches'
 
-  -- After a refblock is inserted: if all refblocks were written and this one is unmodified, they still are. Refblocks that could be written first still can.
-  pub record KeepsRbWritten (is_modified : Bool) (caches caches' : MetadataCaches S) (result : Result (Unit {0}) ImageError) : Type 0 where
-    pub clean : AreClean (refblocks caches) → IsFalse is_modified → OnOk result (AreClean (refblocks caches'))
-    pub first : BlocksGo caches → OnOk result (BlocksGo caches')
-
   -- The storage and the cached refblocks stay the same.
   abbrev pub KeepsBlocks : ImageStorage S → MetadataCaches S → ImageStorage S → MetadataCaches S → Type 0
   KeepsBlocks old caches new caches' = (new ≡ old) × ((c : ℕ) → rb_at caches' c ≡ rb_at caches c)

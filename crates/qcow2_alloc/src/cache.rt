@@ -13,7 +13,7 @@ ghost use Rattle.qcow2_alloc.specs.MetadataCaches.{MapsCachedEntry, ZeroesEntry,
 ghost use Rattle.qcow2_alloc.specs.MetadataCaches.{RecordsHeld, ShowsKnown, EvictsTable};
 ghost use Rattle.qcow2_alloc.specs.CacheSteps.{CacheStep, TurnStep, KeepsSoundly, TablesGo, BlocksGo, FlushesL2, FlushesRb};
 ghost use Rattle.qcow2_alloc.specs.CacheSteps.{LoadStep, PutStep, HeldStep, GetsL2, GetsRb, PutsL2, PutsRb, PutsL2Soundly, PutsRbSoundly};
-ghost use Rattle.qcow2_alloc.specs.CacheSteps.{KeepsL2Written, KeepsRbWritten, KeepsBlocks, KeepsHeldBlocks, FlushesBlocks};
+ghost use Rattle.qcow2_alloc.specs.CacheSteps.{KeepsL2Written, KeepsBlocks, KeepsHeldBlocks, FlushesBlocks};
 ghost use Rattle.qcow2_alloc.specs.CacheSteps.{RemovesBlock, IncrementsSoundly, DecrementsSoundly, AreNewCaches};
 ghost use Rattle.qcow2_alloc.specs.CacheSteps.{LoadRefusesBy, LoadRbRefusesBy, PutL2RefusesBy, PutRbRefusesBy, MakesWayForL2, MakesWayForRb, SwitchesToRb, SwitchesToL2};
 ghost use Rattle.qcow2_alloc.specs.Steps.{Fails};
@@ -310,7 +310,6 @@ impl<S: Storage> MetadataCaches<S> {
         ensures faults { CachesHaveRoom self.old → PutRbRefusesBy S.view IsFault storage.old self.old result }
         ensures sound { PutsRbSoundly S.view storage.old self.old storage.new self.new result block }
         ensures puts { PutsRb S.view storage.old self.old storage.new self.new result block }
-        ensures written { KeepsRbWritten block.is_modified self.old self.new result }
     {
         let Some(cluster) = block.get_cluster() else {
             unreachable!();

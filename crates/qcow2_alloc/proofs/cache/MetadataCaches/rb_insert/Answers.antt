@@ -1,10 +1,9 @@
-use Rattle.qcow2_alloc.proofs.Common.{inr, ◌≡◌, ℕ, Bool, true, false, Some, Result, Ok, Err, refl, sym, ap, ◌∙◌, subst, ◌+◌, ◌*◌, eqb, cluster_size, of_cache, IsFault, Bytes, byte_at, storage_of, AreClean, RefBlockView, Cache, cached_tables, rb_steps, RefBlockCacheBackend, laid_at}
+use Rattle.qcow2_alloc.proofs.Common.{inr, ◌≡◌, Bool, true, false, Some, Result, Ok, Err, refl, sym, ap, ◌∙◌, ◌+◌, ◌*◌, eqb, cluster_size, of_cache, IsFault, Bytes, byte_at, storage_of, laid_at}
 use Rattle.qcow2_alloc.proofs.KeptTables.Inserting.{block_put, rb_taken, taken_at_last, if_some}
 use Rattle.qcow2_alloc.proofs.KeptTables.Switching.{stay_then}
 use Rattle.qcow2_alloc.proofs.CachePins.{marks_blocks, marks_then}
 use Rattle.qcow2_alloc.specs.declared.error.ImageError.TheVariants as I
 use Rattle.qcow2_alloc.proofs.KeptTables.Causes.{given_err, block_put_refused}
-use Rattle.qcow2_alloc.proofs.KeptTables.Clean.{clean_as, put_clean}
 use Rattle.qcow2_alloc.proofs.KeptTables.Putting.{put_at_last, laid_then}
 use Rattle.qcow2_alloc.proofs.KeptTables.PuttingBlocks.{block_kept, block_laid}
 use Rattle.qcow2_alloc.proofs.KeptTables.InOrder.{order_then, block_put_in_order}
@@ -211,45 +210,6 @@ returns-clause-puts g c = record {
       quiet_then (g.S.Storage.view (storage_of c.args.storage.now)) (g.S.Storage.view (storage_of c.before_rb.new.storage)) (g.S.Storage.view (storage_of c.insert-2.new.store)) (quiet_then (g.S.Storage.view (storage_of c.args.storage.now)) (g.S.Storage.view (storage_of c.insert.new.store)) (g.S.Storage.view (storage_of c.before_rb.new.storage)) one two) (block_put_quietly g.S.Storage.view c.before_rb.new.storage c.insert-2.new.store c.before_rb.new.self true c.in-Some.cluster c.insert-2.new.self c.args.block c.insert.new.value c.insert-2.new.value ((rb_taken g.S.Storage.view c.args.storage.now c.insert.new.store c.args.self.now false c.in-Some.cluster c.insert.new.self c.insert.ensures.kept.others c.args.block (Some c.args.block) c.insert.new.value refl c.in_ok-insert.field-0 c.in_ok-insert.ensures.there c.in_ok-insert.ensures.missing).kept (c.in_ok-branch.was ∙ ap Ok c.if-branch.false)) c.in_ok-insert-2.field-0 c.in_ok-insert-2.ensures.there c.in_ok-insert-2.ensures.missing (λ _. next) two.honest));
 }
 
-pub returns-in_err-branch-clause-written : goal.returns-in_err-branch-clause-written
-returns-in_err-branch-clause-written g c = record {
-  clean = λ _ _. on_no_ok _ c.from_residual-in_err-branch.result (of_cache c.in_err-branch.field-0.0) c.from_residual-in_err-branch.ensures;
-  first = λ _. on_no_ok _ c.from_residual-in_err-branch.result (of_cache c.in_err-branch.field-0.0) c.from_residual-in_err-branch.ensures;
-}
-
-pub returns-then-branch-clause-written : goal.returns-then-branch-clause-written
-returns-then-branch-clause-written g c = record {
-  clean = λ all clean.
-      put_clean (rb_steps (λ s. g.S.Storage.view (storage_of s)) c.args.self.now.rb.backend.header.fields) c.insert.new.self.backend.header.fields.cluster_bits (λ (b : RefBlockView). b.bytes) (λ b. b.is_modified) c.args.self.now.rb.size false c.in-Some.cluster c.args.storage.now c.insert.new.store c.args.self.now.rb.entries c.insert.new.self.entries
-      c.args.block c.insert.new.value clean (clean_as _ _ (λ (b : RefBlockView). b.bytes) (λ b. b.is_modified) c.args.self.now.rb.entries all) c.in_ok-insert.field-0 (Some c.args.block) refl c.in_ok-insert.ensures.there c.in_ok-insert.ensures.missing;
-  first = λ may. may;
-}
-
-pub returns-in_err-before_rb-clause-written : goal.returns-in_err-before_rb-clause-written
-returns-in_err-before_rb-clause-written g c = record {
-  clean = λ _ _. on_no_ok _ c.from_residual-in_err-before_rb.result c.in_err-before_rb.field-0.0 c.from_residual-in_err-before_rb.ensures;
-  first = λ _. on_no_ok _ c.from_residual-in_err-before_rb.result c.in_err-before_rb.field-0.0 c.from_residual-in_err-before_rb.ensures;
-}
-
-pub returns-in_err-branch-2-clause-written : goal.returns-in_err-branch-2-clause-written
-returns-in_err-branch-2-clause-written g c = record {
-  clean = λ _ _. on_no_ok _ c.from_residual-in_err-branch-2.result (of_cache c.in_err-branch-2.field-0.0) c.from_residual-in_err-branch-2.ensures;
-  first = λ _. on_no_ok _ c.from_residual-in_err-branch-2.result (of_cache c.in_err-branch-2.field-0.0) c.from_residual-in_err-branch-2.ensures;
-}
-
-pub returns-clause-written : goal.returns-clause-written
-returns-clause-written g c = record {
-  clean = λ all clean.
-      let kept = (rb_taken g.S.Storage.view c.args.storage.now c.insert.new.store c.args.self.now false c.in-Some.cluster c.insert.new.self c.insert.ensures.kept.others c.args.block (Some c.args.block) c.insert.new.value refl c.in_ok-insert.field-0 c.in_ok-insert.ensures.there c.in_ok-insert.ensures.missing).kept (c.in_ok-branch.was ∙ ap Ok c.if-branch.false) in
-      let one =
-      put_clean (rb_steps (λ s. g.S.Storage.view (storage_of s)) c.args.self.now.rb.backend.header.fields) c.insert.new.self.backend.header.fields.cluster_bits (λ (b : RefBlockView). b.bytes) (λ b. b.is_modified) c.args.self.now.rb.size false c.in-Some.cluster c.args.storage.now c.insert.new.store c.args.self.now.rb.entries c.insert.new.self.entries
-      c.args.block c.insert.new.value clean (clean_as _ _ (λ (b : RefBlockView). b.bytes) (λ b. b.is_modified) c.args.self.now.rb.entries all) c.in_ok-insert.field-0 (Some c.args.block) refl c.in_ok-insert.ensures.there c.in_ok-insert.ensures.missing in
-      let two = subst (λ (rb : Cache (RefBlockCacheBackend g.row.S.Denot) ℕ RefBlockView). AreClean (cached_tables rb.backend.header.fields.cluster_bits (λ (b : RefBlockView). b.bytes) (λ b. b.is_modified) rb.entries)) (sym c.before_rb.ensures.way.stays) one in
-      put_clean (rb_steps (λ s. g.S.Storage.view (storage_of s)) c.before_rb.new.self.rb.backend.header.fields) c.insert-2.new.self.backend.header.fields.cluster_bits (λ (b : RefBlockView). b.bytes) (λ b. b.is_modified) c.before_rb.new.self.rb.size true c.in-Some.cluster c.before_rb.new.storage c.insert-2.new.store c.before_rb.new.self.rb.entries c.insert-2.new.self.entries
-      c.args.block c.insert-2.new.value clean (clean_as _ _ (λ (b : RefBlockView). b.bytes) (λ b. b.is_modified) c.before_rb.new.self.rb.entries two) c.in_ok-insert-2.field-0 c.insert.new.value kept c.in_ok-insert-2.ensures.there c.in_ok-insert-2.ensures.missing;
-  first = λ _. c.in_ok-before_rb.ensures.way.first;
-}
-
 pub returns-in_err-insert-2-clause-step : goal.returns-in_err-insert-2-clause-step
 returns-in_err-insert-2-clause-step g c =
     rw (c.in_err-insert-2.ensures.refused.0, c.in_err-insert-2.ensures.refused.1) (put_step_as (sym c.get_cluster.ensures.value ∙ c.in-Some.is) (put_step_then (rb_put_step g.S.Storage.view c.args.storage.now c.insert.new.store c.args.self.now false c.in-Some.cluster c.insert.new.self c.insert.ensures.kept.others c.args.block (Some c.args.block) c.insert.new.value refl c.in_ok-insert.field-0 c.in_ok-insert.ensures.there c.in_ok-insert.ensures.missing c.insert.ensures.kept.pins c.insert.ensures.keeps.0 c.insert.ensures.kept.stays)
@@ -297,20 +257,6 @@ returns-in_err-insert-clause-faults g c =
 pub returns-in_err-insert-2-clause-faults : goal.returns-in_err-insert-2-clause-faults
 returns-in_err-insert-2-clause-faults g c =
     λ room h p honest sound places. given_err c.from_residual-in_err-insert-2.result I.Memory IsFault c.from_residual-in_err-insert-2.ensures (inr refl)
-
-pub returns-in_err-insert-clause-written : goal.returns-in_err-insert-clause-written
-returns-in_err-insert-clause-written g c =
-    record {
-      clean = λ _ _. on_no_ok _ c.from_residual.result I.Memory c.from_residual.ensures;
-      first = λ _. on_no_ok _ c.from_residual.result I.Memory c.from_residual.ensures;
-    }
-
-pub returns-in_err-insert-2-clause-written : goal.returns-in_err-insert-2-clause-written
-returns-in_err-insert-2-clause-written g c =
-    record {
-      clean = λ _ _. on_no_ok _ c.from_residual-in_err-insert-2.result I.Memory c.from_residual-in_err-insert-2.ensures;
-      first = λ _. on_no_ok _ c.from_residual-in_err-insert-2.result I.Memory c.from_residual-in_err-insert-2.ensures;
-    }
 
 pub returns-in_err-insert-2-clause-fails : goal.returns-in_err-insert-2-clause-fails
 returns-in_err-insert-2-clause-fails g c =
