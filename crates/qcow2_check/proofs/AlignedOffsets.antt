@@ -1,18 +1,17 @@
 -- There is no unaligned offset exactly if each offset is aligned.
-use Rattle.qcow2_check.proofs.Common.{◌≡◌, ◌≢◌, ℕ, ◌%◌, ◌<◌, eqb, Some, None, refl, ap, inl, inr, not, cases_eq, eq-eqb, eqb_tells, sum_below, HeaderFields, cluster_size, IsAligned, host_of, CoverIsAligned, L2Mapping, Data, Zero, Compressed, Uncovered, off_cluster, off_cluster_if}
+use Rattle.qcow2_check.proofs.Common.{◌≡◌, ◌≢◌, ℕ, ◌%◌, ◌<◌, eqb, Some, None, refl, ap, inl, inr, not, cases_eq, eq-eqb, eqb_tells, sum_below, HeaderFields, cluster_size, IsAligned, host_of, CoverIsAligned, L2Mapping, Data, Zero, Compressed, Uncovered, off_cluster, off_cluster_if, and_from, and_parts}
 use Rattle.qcow2_check.proofs.Terms.{from_some_term, some-sum, one_if-some, true_from_some}
-use Rattle.qcow2_check.proofs.TallyTests.{both_true, right_true}
 
 module _ (h : HeaderFields) where
   aligned_place : (place : ℕ) → ((o : ℕ) → off_cluster h o place ≢ 0 → ⊥) → IsAligned h place
   aligned_place place never = elim (eqb_tells (place % cluster_size h) 0) [
     | inl on ↦ on.1
-    | inr off ↦ absurd (never place (one_if-some _ (both_true _ _ (eq-eqb place place refl) (ap not off.0))))
+    | inr off ↦ absurd (never place (one_if-some _ (and_from _ _ (eq-eqb place place refl) (ap not off.0))))
   ]
 
   never_off : (o place : ℕ) → IsAligned h place → off_cluster h o place ≢ 0 → ⊥
   never_off o place on some =
-      let off = right_true (eqb place o) (not (eqb (place % cluster_size h) 0)) (true_from_some _ some) in
+      let off = (and_parts (eqb place o) (not (eqb (place % cluster_size h) 0)) (true_from_some _ some)).1 in
       let told = ap not (eq-eqb (place % cluster_size h) 0 on) in
       cc
 

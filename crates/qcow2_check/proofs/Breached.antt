@@ -1,7 +1,7 @@
 -- The clusters with a breach, which have references or copied marks.
-use Rattle.qcow2_check.proofs.Common.{◌≡◌, ℕ, ◌&&◌, Bool, true, false, cond, eqb, refl, sym, ap, ◌∙◌, cond-true, cond-false, Counts, Tally, TallyMap, tally_in, no_tally, count_in, counted_in, with_count, lines, is_breached, numbered}
+use Rattle.qcow2_check.proofs.Common.{◌≡◌, ℕ, ◌&&◌, Bool, true, false, cond, eqb, refl, sym, ap, ◌∙◌, cond-true, cond-false, Counts, Tally, TallyMap, tally_in, no_tally, count_in, counted_in, with_count, lines, is_breached, numbered, and_parts, eqb-true}
 use Rattle.qcow2_check.proofs.Rising.{lines-same}
-use Rattle.qcow2_check.proofs.TallyTests.{left_true, right_true, same_from_eqb, is_breached-blank}
+use Rattle.qcow2_check.proofs.TallyTests.{is_breached-blank}
 
 module _ (m : TallyMap) (c : Counts) where
   abbrev shows : ℕ → Tally
@@ -12,7 +12,7 @@ module _ (m : TallyMap) (c : Counts) where
       → cond b ((shows q ≡ no_tally) × (is_breached (counted_in m c q) ≡ false)) (shows q ≡ counted_in m c q)
   blank_or_same q true is = (
     cond-true _ _ _ is,
-    is_breached-blank (counted_in m c q) (same_from_eqb _ _ (left_true _ _ is)) (same_from_eqb _ _ (right_true (eqb (tally_in m q).named 0) _ is)),
+    is_breached-blank (counted_in m c q) (eqb-true _ _ ((and_parts _ _ is).0)) (eqb-true _ _ ((and_parts (eqb (tally_in m q).named 0) _ is).1)),
   )
   blank_or_same q false is = cond-false _ _ _ is
 

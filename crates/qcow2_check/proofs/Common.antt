@@ -2,7 +2,7 @@
 pub use Rattle.std.proofs.Common.{◌≡◌, ◌≢◌, ℕ, ◌%◌, ◌<◌, eqb, Some, None, refl, ap, inl, inr, ◌+◌, ◌*◌, ◌/◌, ◌^◌, ◌≤◌, Bool, true, false, cond, ltb, List, [], length, sym, ◌∙◌, arith, ◌&&◌, ◌-◌, zero, suc, ◌∷◌, ◌++◌, length-append, get_or, Option, subst, add-one, map, Ok, append_assoc, unwrap_or, ◌==◌, drop, ◌⊎◌, Result, filter, append-nil, Less, Equal, Greater, ◌||◌, take}
 pub use Rattle.std.proofs.Math.Nat.{div-mul-le_self, mul-le-mul_left, zero-div, zero-mod, div-lt_iff_lt-mul, lt-div-mul-add, div-le_self}
 pub use Rattle.std.proofs.Math.Pow.{pow_mono}
-pub use Rattle.std.proofs.lemmas.Bool.{cases_eq, eq-eqb, cond-true, cond-false, lt-ltb, le-ltb, ne_eqb, cases_lt}
+pub use Rattle.std.proofs.lemmas.Bool.{cases_eq, eq-eqb, cond-true, cond-false, lt-ltb, le-ltb, ne_eqb, cases_lt, and_from, and_parts, and_right, or_parts, or_from, eqb-true}
 pub use Rattle.std.proofs.lemmas.Bool.Decides.{eqb_tells, nat_tests}
 pub use Rattle.std.proofs.lemmas.List.{get_or_past, get_or-set_same, get_or-set_other, get_or_append_left, get_or_push, map-append}
 pub use Rattle.std.proofs.lemmas.Nat.{one_shl, pow_pos, div-add-mod', div-mul-add, le-div, mod_below, mul-le, pow-add, div_below}

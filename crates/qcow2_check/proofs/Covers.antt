@@ -1,7 +1,7 @@
 -- What an entry refers to, by its host offset or as compressed data.
 use Rattle.qcow2_check.proofs.Common.{◌≡◌, ℕ, ◌*◌, ◌&&◌, Bool, true, false, refl, ap, ◌∙◌, arith, one_if}
 
-never : (b : Bool) → one_if (b && false) ≡ 0
+pub never : (b : Bool) → one_if (b && false) ≡ 0
 never true = refl
 never false = refl
 

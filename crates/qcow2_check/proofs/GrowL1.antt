@@ -25,15 +25,12 @@ entries_more h l1 i entry old mid new is so_far next =
 
 -- ---- an L2 table, so many times
 
-times_zero : (times : ℕ) → times * 0 ≡ 0
-times_zero times = omega arith
-
 pub no_table : (h : HeaderFields) (b : Bytes) (place times : ℕ) (m : TallyMap) → place ≡ 0
     → TalliesGrow m m (λ q. times * named_by_l2_table h b q place) (λ _. 0) (λ q. times * marked_by_l2_table h b q place)
 unfolding named_by_l2_table
 no_table h b place times m none =
     let is = eq-eqb place 0 none in
-    grows_none m _ _ _ (λ q. ap (λ n. times * n) (cond-true _ _ _ is) ∙ times_zero times) (λ q. omega arith) (λ q. ap (λ n. times * n) (cond-true _ _ _ is) ∙ times_zero times)
+    grows_none m _ _ _ (λ q. ap (λ n. times * n) (cond-true _ _ _ is) ∙ omega arith) (λ q. omega arith) (λ q. ap (λ n. times * n) (cond-true _ _ _ is) ∙ omega arith)
 
 -- it was read into these bytes
 pub one_table : (h : HeaderFields) (b : Bytes) (bytes : List ℕ) (place times : ℕ) (old new : TallyMap)

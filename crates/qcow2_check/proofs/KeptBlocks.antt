@@ -1,5 +1,5 @@
 -- The refblocks that are kept.
-use Rattle.qcow2_check.proofs.Common.{ltb, ◌≡◌, ◌≢◌, ℕ, zero, suc, ◌+◌, ◌*◌, ◌/◌, ◌%◌, ◌<◌, ◌≤◌, false, Some, None, List, [], ◌∷◌, ◌++◌, ◌-◌, length, length-append, get_or, Option, refl, sym, ap, ◌∙◌, arith, inl, inr, subst, IfSome, is_some, slice_get, option_copied, BTreeMap, get, is_at, nat_cmp, lookup, cond-true, eq-eqb, lt-ltb, le-ltb, cases_eq, cases_lt, get_or_past, Bytes, HeaderFields, counts_per_block, reftable_entries, block_offset, reftable_entry, count, Block, Counts, count_of, counts_kept, count_kept, block_numbered, block_in, count_in, block_count_or_zero, HasBlock, KeepsBlocks, KeepsMore, mod_below, le-div, div-add-mod', div-mul-add, count_under, get_or_append_left, get_or_push}
+use Rattle.qcow2_check.proofs.Common.{ltb, ◌≡◌, ◌≢◌, ℕ, zero, suc, ◌+◌, ◌*◌, ◌/◌, ◌%◌, ◌<◌, ◌≤◌, false, Some, None, List, [], ◌∷◌, ◌++◌, ◌-◌, length, length-append, get_or, Option, refl, sym, ap, ◌∙◌, arith, inl, inr, subst, IfSome, is_some, slice_get, option_copied, BTreeMap, get, is_at, nat_cmp, cond-true, eq-eqb, lt-ltb, le-ltb, cases_eq, cases_lt, get_or_past, Bytes, HeaderFields, counts_per_block, reftable_entries, block_offset, reftable_entry, count, Block, Counts, count_of, counts_kept, count_kept, block_numbered, block_in, count_in, block_count_or_zero, HasBlock, KeepsBlocks, KeepsMore, mod_below, le-div, div-add-mod', div-mul-add, count_under, get_or_append_left, get_or_push}
 use denote.Ref.{Bor}
 use Rattle.std.proofs.lemmas.Option.{slice_get-get_or, slice_get_past}
 use Rattle.qcow2_check.proofs.BlockCounts.{count_past_kept}
@@ -75,11 +75,6 @@ module _ (h : HeaderFields) (b : Bytes) (old : List Block) (numbers : BTreeMap �
         here = here;
         others = others;
       }
-
-pub keeps_nothing : (h : HeaderFields) (b : Bytes) (blocks : List Block) (numbers : BTreeMap ℕ ℕ) → numbers.entries ≡ [] → KeepsBlocks h b blocks numbers
-keeps_nothing h b blocks numbers empty place =
-    let none : get nat_cmp numbers place ≡ None = ap (lookup (is_at (nat_cmp place))) empty in
-    let P : Option ℕ → Type 0 = λ o. IfSome o (λ n. HasBlock h b blocks n place) in subst P (sym none) tt
 
 -- ---- the list of numbers
 

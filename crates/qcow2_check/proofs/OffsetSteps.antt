@@ -1,14 +1,12 @@
 -- Steps over offsets.
-use Rattle.qcow2_check.proofs.Common.{◌≡◌, ◌≢◌, ℕ, ◌+◌, ◌*◌, ◌/◌, ◌<◌, ◌≤◌, List, length, sym, ap, ◌∙◌, arith, div-mul-le_self, cond-true, cond-false, eq-eqb, ne_eqb, TallyMap, fun_ext, Bytes, byte_at, sum_below, HeaderFields, cluster_size, entries_per_cluster, reftable_entries, l1_entry, l2_entry, reftable_entry, host_offset, block_offset, entry_cover, host_of, entry_at, HasBytesAt, entry_stands, Tally, TalliesGrow, tally_in, no_tally, off_cluster, off_cluster_if, tables_off, blocks_off, off_l2_tables, off_refblocks, data_off, data_off_at, times}
+use Rattle.qcow2_check.proofs.Common.{◌≡◌, ◌≢◌, ℕ, ◌+◌, ◌*◌, ◌/◌, List, length, sym, ap, ◌∙◌, arith, cond-true, cond-false, eq-eqb, ne_eqb, TallyMap, fun_ext, Bytes, byte_at, sum_below, HeaderFields, cluster_size, entries_per_cluster, reftable_entries, l1_entry, l2_entry, reftable_entry, host_offset, block_offset, entry_cover, host_of, entry_at, HasBytesAt, entry_stands, Tally, TalliesGrow, tally_in, no_tally, off_cluster, off_cluster_if, tables_off, blocks_off, off_l2_tables, off_refblocks, data_off, data_off_at, times}
 use Rattle.qcow2_check.proofs.Grow.{grows_none, grows_more, times_none, times_more}
 use Rattle.qcow2_check.proofs.Sums.{sum_below_none, sum_below_more, sum_below-same}
 use Rattle.qcow2_check.proofs.Totals.{tally_same, triple}
+use Rattle.qcow2_check.proofs.Shifts.{inside_table}
 
 pub once : (n : ℕ) → 1 * n ≡ n
 once n = omega arith
-
-times_zero : (times : ℕ) → times * 0 ≡ 0
-times_zero times = omega arith
 
 -- a sum of terms for each offset
 pub terms_none : (f : ℕ → ℕ → ℕ) (m : TallyMap) → TalliesGrow m m (λ o. sum_below 0 (λ i. f o i)) (λ _. 0) (λ _. 0)
@@ -32,10 +30,7 @@ times_terms_more times f i term old mid new is so_far next =
 
 pub no_data : (h : HeaderFields) (b : Bytes) (place times : ℕ) (m : TallyMap) → place ≡ 0 → TalliesGrow m m (λ o. times * data_off_at h b o place) (λ _. 0) (λ _. 0)
 no_data h b place times m none =
-    grows_none m _ _ _ (λ o. ap (λ n. times * n) (cond-true _ _ _ (eq-eqb place 0 none)) ∙ times_zero times) (λ o. omega arith) (λ o. omega arith)
-
-inside : (size j : ℕ) → j < size / 8 → 8 * j + 8 ≤ size
-inside size j lt = let down = div-mul-le_self size 8 in omega arith
+    grows_none m _ _ _ (λ o. ap (λ n. times * n) (cond-true _ _ _ (eq-eqb place 0 none)) ∙ omega arith) (λ o. omega arith) (λ o. omega arith)
 
 pub grows_as : (old new : TallyMap) (f g : ℕ → ℕ) → ((q : ℕ) → f q ≡ g q) → TalliesGrow old new f (λ _. 0) (λ _. 0) → TalliesGrow old new g (λ _. 0) (λ _. 0)
 grows_as old new f g same grows = record {
@@ -54,7 +49,7 @@ data_part h b bytes place times old new some stands whole grows =
     sum_below-same (entries_per_cluster h) (λ j. off_cluster_if h o (host_of (entry_cover h (l2_entry (byte_at bytes) 0 j))))
     (λ j. off_cluster_if h o (host_of (entry_cover h (l2_entry b place j))))
     (λ j lt. ap (λ e. off_cluster_if h o (host_of (entry_cover h e)))
-    (let within = inside (cluster_size h) j lt in entry_stands b place bytes j stands (omega (arith, within, whole))))
+    (let within = inside_table (cluster_size h) j lt in entry_stands b place bytes j stands (omega (arith, within, whole))))
     ∙ sym (cond-false _ _ _ (ne_eqb place 0 some)))) grows
 
 -- the tallies of offsets that were counted from none

@@ -2,7 +2,7 @@
 use Rattle.qcow2_check.proofs.Common.{◌≡◌, ℕ, ◌+◌, ◌*◌, ◌/◌, ◌<◌, ◌≤◌, List, length, ap, arith, div-mul-le_self, Bytes, byte_at, HeaderFields, cluster_size, entries_per_cluster, l2_entry, entry_cover, named_by_cover, HasBytesAt, entry_stands, marks_of_cover, named_by_entries, marked_by_entries}
 use Rattle.qcow2_check.proofs.Sums.{sum_below-same}
 
-inside_table : (size j : ℕ) → j < size / 8 → 8 * j + 8 ≤ size
+pub inside_table : (size j : ℕ) → j < size / 8 → 8 * j + 8 ≤ size
 inside_table size j lt = let down = div-mul-le_self size 8 in omega arith
 
 module _ (h : HeaderFields) (b : Bytes) (bytes : List ℕ) (place q : ℕ) (stands : HasBytesAt b place bytes) (whole : length bytes ≡ cluster_size h) where

@@ -1,32 +1,5 @@
 -- What the tests of a tally mean.
-use Rattle.qcow2_check.proofs.Common.{◌≡◌, ◌≢◌, ℕ, ◌≤◌, Bool, true, false, ◌&&◌, ◌||◌, eqb, ltb, refl, ap, ◌∙◌, arith, inl, inr, not, cases_lt, eq-eqb, ne_eqb, le-ltb, lt-ltb, eqb_tells, Tally, is_named, is_under, is_shared, is_miscopied, is_leaked, is_breached}
-
-pub both_true : (a b : Bool) → a ≡ true → b ≡ true → (a && b) ≡ true
-both_true true b one two = two
-both_true false b one two = cc
-
-pub left_true : (a b : Bool) → (a && b) ≡ true → a ≡ true
-left_true true b is = refl
-left_true false b is = cc
-
-pub right_true : (a b : Bool) → (a && b) ≡ true → b ≡ true
-right_true true b is = is
-right_true false b is = cc
-
-and_false : (a b : Bool) → b ≡ false → (a && b) ≡ false
-and_false true b is = is
-and_false false b is = refl
-
-left_false : (a b : Bool) → (a || b) ≡ false → a ≡ false
-left_false true b is = cc
-left_false false b is = refl
-
-right_false : (a b : Bool) → (a || b) ≡ false → b ≡ false
-right_false true b is = cc
-right_false false b is = is
-
-pub same_from_eqb : (m n : ℕ) → eqb m n ≡ true → m ≡ n
-same_from_eqb m n is = elim (eqb_tells m n) [ inl same ↦ same.1 | inr other ↦ cc ]
+use Rattle.qcow2_check.proofs.Common.{◌≡◌, ◌≢◌, ◌≤◌, true, false, ◌&&◌, ◌||◌, eqb, ltb, ap, ◌∙◌, arith, inl, inr, not, cases_lt, eq-eqb, ne_eqb, le-ltb, lt-ltb, eqb_tells, Tally, is_named, is_under, is_shared, is_miscopied, is_leaked, is_breached, and_from, and_right, or_parts, or_from}
 
 -- ---- named or not
 
@@ -54,7 +27,7 @@ is_under-counted t enough = le-ltb t.count t.named enough
 
 pub once_from_is_shared : (t : Tally) → is_shared t ≡ false → t.for_tables ≤ t.named → t.for_tables ≢ 0 → t.named ≡ 1
 once_from_is_shared t fails few some = elim (cases_lt 1 t.named) [
-  | inl more ↦ let shown : is_shared t ≡ true = both_true _ _ (ap not (ne_eqb t.for_tables 0 some)) (lt-ltb _ _ more) in cc
+  | inl more ↦ let shown : is_shared t ≡ true = and_from _ _ (ap not (ne_eqb t.for_tables 0 some)) (lt-ltb _ _ more) in cc
   | inr once ↦ omega arith
 ]
 
@@ -65,7 +38,7 @@ is_shared-once t once = elim (eqb_tells t.for_tables 0) [
 ]
 
 pub is_shared-few : (t : Tally) → t.named ≤ 1 → is_shared t ≡ false
-is_shared-few t few = and_false (not (eqb t.for_tables 0)) _ (le-ltb 1 t.named few)
+is_shared-few t few = and_right (not (eqb t.for_tables 0)) _ (le-ltb 1 t.named few)
 
 -- ---- marked copied, and its own
 
@@ -75,11 +48,11 @@ own_from_is_miscopied t fails some = elim (eqb_tells t.named 1) [
     | inl counted ↦ (named.1, counted.1)
     | inr else ↦
         let test : (eqb t.named 1 && eqb t.count 1) ≡ false = ap (λ e. e && eqb t.count 1) named.0 ∙ else.0 in
-        let shown : is_miscopied t ≡ true = both_true _ _ (ap not (ne_eqb t.marked 0 some)) (ap not test) in cc
+        let shown : is_miscopied t ≡ true = and_from _ _ (ap not (ne_eqb t.marked 0 some)) (ap not test) in cc
   ]
   | inr else ↦
       let test : (eqb t.named 1 && eqb t.count 1) ≡ false = ap (λ e. e && eqb t.count 1) else.0 in
-      let shown : is_miscopied t ≡ true = both_true _ _ (ap not (ne_eqb t.marked 0 some)) (ap not test) in cc
+      let shown : is_miscopied t ≡ true = and_from _ _ (ap not (ne_eqb t.marked 0 some)) (ap not test) in cc
 ]
 
 pub is_miscopied-own : (t : Tally) → (t.marked ≢ 0 → (t.named ≡ 1) × (t.count ≡ 1)) → is_miscopied t ≡ false
@@ -88,32 +61,28 @@ is_miscopied-own t own = elim (eqb_tells t.marked 0) [
   | inr some ↦
       let is = own some.1 in
       ap (λ e. not e && not (eqb t.named 1 && eqb t.count 1)) some.0
-      ∙ ap not (both_true _ _ (eq-eqb t.named 1 is.0) (eq-eqb t.count 1 is.1))
+      ∙ ap not (and_from _ _ (eq-eqb t.named 1 is.0) (eq-eqb t.count 1 is.1))
 ]
 
 -- ---- a tally without a breach
 
 front_quiet : (t : Tally) → is_breached t ≡ false → (is_under t || is_shared t) ≡ false
-front_quiet t quiet = left_false _ (is_miscopied t) quiet
+front_quiet t quiet = (or_parts _ (is_miscopied t) quiet).0
 
 pub breached_under : (t : Tally) → is_breached t ≡ false → is_under t ≡ false
-breached_under t quiet = left_false _ (is_shared t) (front_quiet t quiet)
+breached_under t quiet = (or_parts _ (is_shared t) (front_quiet t quiet)).0
 
 pub breached_shared : (t : Tally) → is_breached t ≡ false → is_shared t ≡ false
-breached_shared t quiet = right_false (is_under t) _ (front_quiet t quiet)
+breached_shared t quiet = (or_parts (is_under t) _ (front_quiet t quiet)).1
 
 pub breached_miscopied : (t : Tally) → is_breached t ≡ false → is_miscopied t ≡ false
-breached_miscopied t quiet = right_false (is_under t || is_shared t) _ quiet
-
-either_false : (a b : Bool) → a ≡ false → b ≡ false → (a || b) ≡ false
-either_false true b one two = cc
-either_false false b one two = two
+breached_miscopied t quiet = (or_parts (is_under t || is_shared t) _ quiet).1
 
 -- a cluster without names and marks has none
 pub is_breached-blank : (t : Tally) → t.named ≡ 0 → t.marked ≡ 0 → is_breached t ≡ false
 is_breached-blank t named marked =
-    either_false (is_under t || is_shared t) (is_miscopied t)
-    (either_false (is_under t) (is_shared t) (is_under-counted t (omega (arith, named))) (is_shared-few t (omega (arith, named))))
+    or_from (is_under t || is_shared t) (is_miscopied t)
+    (or_from (is_under t) (is_shared t) (is_under-counted t (omega (arith, named))) (is_shared-few t (omega (arith, named))))
     (ap (λ e. not e && not (eqb t.named 1 && eqb t.count 1)) (eq-eqb t.marked 0 marked))
 
 -- ---- leaked or not

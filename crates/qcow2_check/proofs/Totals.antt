@@ -1,8 +1,9 @@
 -- The sums over the whole image.
-use Rattle.qcow2_check.proofs.Common.{◌≡◌, ℕ, zero, suc, ◌+◌, ◌-◌, ◌*◌, ◌/◌, ◌%◌, ◌^◌, ◌<◌, ◌≤◌, ◌&&◌, Bool, true, false, eqb, List, length, refl, sym, ap, ◌∙◌, arith, subst, nat_le, nat_lt, TallyMap, one_shl, div_below, pow_pos, le-div, pow_mono, Bytes, sum_below, one_if, HeaderFields, cluster_size, reftable_entries, count, l1_entry, reftable_entry, block_offset, host_offset, table_in, in_cluster, named, named_for_tables, named_by_header, named_by_reftable, named_by_l1_table, named_by_l2_table, named_by_l2_tables, Tally, fun_ext, Counts, TalliesGrow, AddsToTally, tally_in, no_tally, names_of, tally, mul-le-mul_left, entry_at, blocks_among, count_in, counted_in, named_below, tables_below, marked_below}
+use Rattle.qcow2_check.proofs.Common.{◌≡◌, ℕ, zero, suc, ◌+◌, ◌-◌, ◌*◌, ◌/◌, ◌%◌, ◌^◌, ◌<◌, ◌≤◌, ◌&&◌, true, false, eqb, List, length, refl, sym, ap, ◌∙◌, arith, subst, nat_le, nat_lt, TallyMap, one_shl, div_below, pow_pos, le-div, pow_mono, Bytes, sum_below, one_if, HeaderFields, cluster_size, reftable_entries, count, l1_entry, reftable_entry, block_offset, host_offset, table_in, in_cluster, named, named_for_tables, named_by_header, named_by_reftable, named_by_l1_table, named_by_l2_table, named_by_l2_tables, Tally, fun_ext, Counts, TalliesGrow, AddsToTally, tally_in, no_tally, names_of, tally, mul-le-mul_left, entry_at, blocks_among, count_in, counted_in, named_below, tables_below, marked_below}
 use Rattle.qcow2_check.proofs.Sums.{sum_below_more, sum_below-same}
 use Rattle.qcow2_check.proofs.Grow.{grows_more}
 use Rattle.qcow2_check.proofs.GrowL1.{one_if-and_true}
+use Rattle.qcow2_check.proofs.Covers.{never}
 
 pub cluster_of_place : (place bits : ℕ) → 9 ≤ bits → bits ≤ 21 → place < 2 ^ 64 → place / (1 * 2 ^ bits % 2 ^ 64) < 2 ^ 62
 cluster_of_place place bits low high fits =
@@ -28,10 +29,6 @@ blocks_more h entries k place old mid new is so_far next =
 abbrev pub run_in : ℕ → ℕ → ℕ → ℕ → ℕ
 run_in place n size q = one_if (nat_le (place / size) q && nat_lt q (place / size + (n + size - 1) / size))
 
-one_if-and_false : (b : Bool) → one_if (b && false) ≡ 0
-one_if-and_false true = refl
-one_if-and_false false = refl
-
 header_names_at : (h : HeaderFields) (old a m new : TallyMap) → AddsToTally old a 0 true false
     → TalliesGrow a m (run_in h.l1_offset (8 * h.l1_entries) (cluster_size h)) (run_in h.l1_offset (8 * h.l1_entries) (cluster_size h)) (λ _. 0)
     → TalliesGrow m new (run_in h.reftable_offset (h.reftable_clusters * cluster_size h) (cluster_size h)) (run_in h.reftable_offset (h.reftable_clusters * cluster_size h) (cluster_size h)) (λ _. 0)
@@ -46,7 +43,7 @@ header_names_at h old a m new one two three =
     grows_more old a m _ _ _ _ _ _ _ _ _ one two
     (λ q. ap (λ v. v + l1 q) (first q))
     (λ q. ap (λ v. v + l1 q) (first q ∙ sym (one_if-and_true (eqb 0 q))))
-    (λ q. omega (arith, one_if-and_false (eqb 0 q))) in
+    (λ q. omega (arith, never (eqb 0 q))) in
     grows_more old m new _ _ _ _ _ _ _ _ _ mid three (λ q. refl) (λ q. refl) (λ q. omega arith)
 
 pub header_names : (h : HeaderFields) (size : ℕ) → size ≡ cluster_size h → (old a m new : TallyMap)
