@@ -2,7 +2,8 @@
 use Rattle.qcow2_alloc.specs.declared.error.ImageError.TheVariants as I
 use Rattle.qcow2_session.specs.declared.session.Command.TheVariants as C
 use Rattle.qcow2_session.specs.declared.session.Reply.TheVariants as R
-use Rattle.qcow2_session.proofs.Common.{◌≡◌, ◌⊎◌, ◌+◌, ◌<◌, ◌≤◌, inl, inr, ℕ, Bool, true, false, not, IsTrue, List, Option, Some, None, Bor, refl, sym, ap, ◌∙◌, subst, arith, Global, Vec, [], ◌∷◌, length, ◌&&◌, ◌==◌, nat_lt, IfSome, IfErr, IfOk, IsSome, MatchOption, Result, Ok, Err, is_some, slice_get, option_or, cases_lt, eq-eqb, lt-ltb, ltb-true, common_steps, BackingView, StorageView, Clearing, known_in, ImageError, IsUnderMapping, from_in, refuses_clearing, to_in, is_external, is_failed, number_of, abstract_of, taking_as, HasPinnedMapping, CopiesCompressed, MayFailAlone, MayFailReadingRange, MayFailAllocating, Qcow2, Mapping, CommitRefused, Kept, Prepared, IsUnderMappingIn, IsHandedBackBy, MayFail, MayFailPreparing, passes, refuse_if, refuses_mapping, refuses_to_prepare, refuses_to_read, unusable, HasNothingToDo, MayFailOnSound, RefusalJustified, IsUntouchedUnder, MayFailWith, ReportsMisuse, first_cause, ClearingMayFail, CommandMayFailAllocating, reply_of_clearing, refusal_in, RespectsMappings, IsOfReading, NeedsOverflowingToWrite, given_of, IsLimited, Command, Reply}
+use Rattle.qcow2_session.proofs.Common.{◌≡◌, ◌⊎◌, ◌+◌, ◌<◌, ◌≤◌, inl, inr, ℕ, Bool, true, false, not, IsTrue, List, Option, Some, None, Bor, refl, sym, ap, ◌∙◌, subst, arith, Global, Vec, [], ◌∷◌, length, ◌&&◌, ◌==◌, nat_lt, IfSome, IfErr, IfOk, IsSome, MatchOption, Result, Ok, Err, is_some, slice_get, option_or, cases_lt, eq-eqb, lt-ltb, ltb-true, common_steps, BackingView, StorageView, Clearing, known_in, ImageError, IsUnderMapping, from_in, refuses_clearing, to_in, is_external, is_failed, number_of, abstract_of, taking_as, HasPinnedMapping, CopiesCompressed, MayFailAlone, MayFailReadingRange, MayFailAllocating, Qcow2, Mapping, CommitRefused, Kept, Prepared, IsUnderMappingIn, IsHandedBackBy, MayFail, MayFailPreparing, passes, refuse_if, refuses_mapping, refuses_to_prepare, refuses_to_read, unusable, HasNothingToDo, MayFailOnSound, RefusalJustified, IsUntouchedUnder, MayFailWith, ReportsMisuse, first_cause, ClearingMayFail, CommandMayFailAllocating, reply_of_clearing, refusal_in, RespectsMappings, IsOfReading, NeedsOverflowingToWrite, given_of, IsLimited, Command, Reply, and_parts}
+use Rattle.qcow2_alloc.proofs.CachedEntries.Lists.{option_or-none}
 
 -- ---- what was refused at once
 
@@ -10,16 +11,10 @@ pub if_some_to : {E : Type 0} {P Q : E → Type 0} (o : Option E) → ((e : E) �
 if_some_to None to is = tt
 if_some_to (Some e) to is = to e is
 
--- what a call was refused for in the end
-pub if_err_to : {A E : Type 0} {P Q : E → Type 0} (r : Result A E) → ((e : E) → P e → Q e) → IfErr r P → IfErr r Q
-if_err_to (Ok a) to is = tt
-if_err_to (Err e) to is = to e is
-
 if_some_all : {E : Type 0} {P : E → Type 0} (o : Option E) → ((e : E) → P e) → IfSome o P
 if_some_all None to = tt
 if_some_all (Some e) to = to e
 
--- the same error
 pub same_error : {A E : Type 0} {e f : E} → (◌≡◌ {A = Result A E} (Err e) (Err f)) → e ≡ f
 same_error is = cc
 
@@ -155,12 +150,8 @@ module _ {S F : Type 0} (view : S → StorageView) (backing : F → BackingView)
 own_is : {S F : Type 0} (image : Qcow2 S F) (number : ℕ) → number ≡ number_of image → not (number == number_of image) ≡ false
 own_is image number own = ap not (eq-eqb number (number_of image) own)
 
-or_none : {E : Type 0} (u : Option E) → option_or u None ≡ u
-or_none None = refl
-or_none (Some e) = refl
-
 pub own_mapping : {S F : Type 0} (image : Qcow2 S F) (number : ℕ) → number ≡ number_of image → refuses_mapping image number ≡ unusable image
-own_mapping image number own = ap (λ b. option_or (unusable image) (refuse_if b I.ForeignState)) (own_is image number own) ∙ or_none (unusable image)
+own_mapping image number own = ap (λ b. option_or (unusable image) (refuse_if b I.ForeignState)) (own_is image number own) ∙ option_or-none (unusable image)
 
 -- one cause more, after others
 module _ (u : Option ImageError) (test : Bool) (cause : ImageError) where
@@ -181,12 +172,6 @@ module _ (u : Option ImageError) (test : Bool) (cause : ImageError) where
       behind None true none = absurd (let no : Some cause ≡ None = none in cc)
       behind None false none = (refl, refl)
 
--- two tests
-and_is : (a b : Bool) → (a && b) ≡ true → (a ≡ true) × (b ≡ true)
-and_is true true is = (refl, refl)
-and_is true false is = absurd (let no : false ≡ true = is in cc)
-and_is false b is = absurd (let no : false ≡ true = is in cc)
-
 and_isnt : (a b : Bool) → (a && b) ≡ false → a ≡ true → b ≡ true → ⊥
 and_isnt true true isnt a b = let no : true ≡ false = isnt in cc
 and_isnt true false isnt a b = let no : false ≡ true = b in cc
@@ -197,8 +182,8 @@ is_below a b is = ltb-true a b is
 
 -- bytes are put, and the image isn't to be written
 pub put_reads : (n : ℕ) (writable : Bool) → (nat_lt 0 n && not writable) ≡ true → (0 < n) × (writable ≡ false)
-put_reads n true is = absurd (let no : false ≡ true = (and_is (nat_lt 0 n) false is).1 in cc)
-put_reads n false is = (is_below 0 n (and_is (nat_lt 0 n) true is).0, refl)
+put_reads n true is = absurd (let no : false ≡ true = (and_parts (nat_lt 0 n) false is).1 in cc)
+put_reads n false is = (is_below 0 n (and_parts (nat_lt 0 n) true is).0, refl)
 
 pub put_writes : (n : ℕ) (writable : Bool) → (nat_lt 0 n && not writable) ≡ false → 0 < n → IsTrue writable
 put_writes n true isnt some = refl
@@ -206,7 +191,7 @@ put_writes n false isnt some = absurd (and_isnt (nat_lt 0 n) true isnt (lt-ltb 0
 
 -- a mode allocates clusters of a larger disk
 pub takes_larger : (old size : ℕ) (takes : Bool) → (nat_lt old size && takes) ≡ true → (old < size) × IsTrue takes
-takes_larger old size takes is = let both = and_is (nat_lt old size) takes is in (is_below old size both.0, both.1)
+takes_larger old size takes is = let both = and_parts (nat_lt old size) takes is in (is_below old size both.0, both.1)
 
 pub takes_none : (old size : ℕ) (takes : Bool) → (nat_lt old size && takes) ≡ false → old < size → IsTrue takes → ⊥
 takes_none old size takes isnt larger does = and_isnt (nat_lt old size) takes isnt (lt-ltb old size larger) does

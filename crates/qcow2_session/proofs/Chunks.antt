@@ -143,7 +143,6 @@ module _ {D P : Type 0} (spec : Abstraction D P) (has : HasFreePlaces spec) (in_
     ready : AnsweredEffect (abstract_image spec d0 out) (abstract_image spec d1 (Some p ∷ out)) given_bytes [] Ready
     ready = does_if (λ a. a.1) (does_then (λ _ _. none_within (abstract_image spec d0 (None ∷ out)) given_bytes) (does_less (none_within (abstract_image spec d0 out) given_bytes) (enters spec has d0 out)) prepares)
 
-    -- the put was refused
     pub put_refused : (d2 d3 : D) (e : Refusal) → RefusedEffect (abstract_image spec d1 (Some p ∷ out)) (abstract_image spec d2 (Some p ∷ out)) put_given_bytes [] e (IsSame (abstract_image spec d1 (Some p ∷ out)) (abstract_image spec d2 (Some p ∷ out)))
         → AnsweredEffect (abstract_image spec d2 (Some p ∷ out)) (abstract_image spec d3 (None ∷ out)) [] [] (guest_of (abstract_image spec d3 (None ∷ out)) ≡ with_slot (guest_of (abstract_image spec d2 (Some p ∷ out))) 0 None)
         → RefusedEffect (abstract_image spec d0 out) (abstract_image spec d3 out) given_bytes [] e (MayWrite e (guest_of (abstract_image spec d0 out)) offset bytes 0 (guest_of (abstract_image spec d3 out)))

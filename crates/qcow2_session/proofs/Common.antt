@@ -1,7 +1,7 @@
 -- The names that several proofs cite, passed on from one place. Declares nothing.
 pub use Rattle.std.proofs.Common.{◌≡◌, ◌+◌, ◌≤◌, ◌<◌, inl, inr, ℕ, Bool, true, IsTrue, ap, ◌∙◌, subst, arith, List, length, Option, Some, None, Result, Ok, Err, ◌⊎◌, ⊎_elim, ◌-◌, min, [], ◌∷◌, ◌++◌, take, drop, false, refl, sym, not, Bor, IfErr, is_some, suc, eqb, ◌%◌, ◌*◌, ◌/◌, replicate, ◌^◌, ◌≢◌, zero, map, get_or, rules, vec_len, leb, ltb, pow_mono, cond, vec_capacity}
 pub use Rattle.std.proofs.Math.Nat.{zero-mod, div-add-mod, mod-eq_of_lt, mul-add-mod_self_left, div-div-eq-div-mul, add-mod_right}
-pub use Rattle.std.proofs.lemmas.Bool.{cases_lt, cases_Bool, cond-true, cond-false, ltb-true, eq-eqb, lt-ltb, ne_eqb, cases_eq, leb-true, leb-false, ltb-false, le-ltb}
+pub use Rattle.std.proofs.lemmas.Bool.{cases_lt, cases_Bool, cond-true, cond-false, ltb-true, eq-eqb, lt-ltb, ne_eqb, cases_eq, leb-true, leb-false, ltb-false, le-ltb, and_parts}
 pub use Rattle.std.proofs.lemmas.Grind.{common_steps}
 pub use Rattle.std.proofs.lemmas.List.{length-replicate, map-append, take-append-le, length-take-le, get_or-replicate, append-nil, take-append-drop, take-take, take_more, take_all, take_rest}
 pub use Rattle.std.proofs.lemmas.Nat.{div-add-mod', div-mul-add, mod_below, pow_pos}
@@ -94,3 +94,6 @@ pub use Rattle.qcow2_session.specs.Told.{RunPoint, StepsAlong, AreExisting, AreR
 pub use Rattle.qcow2_session.specs.declared.session.Command.{Command}
 pub use Rattle.qcow2_session.specs.declared.session.Reply.{Reply}
 pub use mathlib.Core.Path.{fun_ext}
+pub use Rattle.qcow2_image.proofs.Call.Slots.{get_set_same, set_set, set_same, get_set}
+pub use Rattle.std.proofs.lemmas.Result.{IfErr-weaker}
+pub use Rattle.qcow2_image.proofs.Clear.ClearedCalls.{same_image_then}

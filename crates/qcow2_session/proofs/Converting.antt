@@ -212,7 +212,6 @@ imports_none v contents =
     let none : with_bytes (guest_of v).disk 0 (take 0 contents) ≡ (guest_of v).disk = no_bytes (guest_of v).disk 0 (take 0 contents) (grind (arith, common_steps)) in
     does_if (λ same. sym (ap (λ (d : Disk). with_disk (guest_of v) d) none)) (does_less (none_within v (given_of 0 contents ∷ [])) (does_nothing v))
 
--- all was written
 pub may_write_all : (e : Refusal) (g g' : Guest) (contents : List ℕ) → HasWritten 0 contents g g' → MayWrite e g 0 contents (length contents) g'
 may_write_all e g g' contents written =
     let all : take (length contents) contents ≡ contents = grind (arith, common_steps) in

@@ -1,24 +1,9 @@
 -- Slots of prepared mappings.
-use Rattle.qcow2_session.proofs.Common.{◌≡◌, ℕ, zero, suc, List, [], ◌∷◌, ◌++◌, refl, sym, ap, ◌∙◌, subst, Option, Some, None, length, slice_get, slice_set, replicate, append-nil, fun_ext, PreparedMapping, Abstraction, HasFreePlaces, Guest, abstract_image, guest_of, AnsweredEffect, with_slot, stops_none, rests_none}
+use Rattle.qcow2_session.proofs.Common.{◌≡◌, ℕ, zero, suc, List, [], ◌∷◌, ◌++◌, refl, sym, ap, ◌∙◌, subst, Option, Some, None, length, slice_get, slice_set, replicate, append-nil, fun_ext, PreparedMapping, Abstraction, HasFreePlaces, Guest, abstract_image, guest_of, AnsweredEffect, with_slot, stops_none, rests_none, set_set, set_same}
 use Rattle.qcow2_session.proofs.Turns.{none_within, does_if, does_then}
 
-pub set_found : {X : Type 0} (xs : List X) (k : ℕ) (v : X) → slice_get xs k ≡ Some v → slice_set xs k v ≡ xs
-set_found [] k v e = refl
-set_found (x ∷ xs) zero v e = ap (λ y. y ∷ xs) (cc)
-set_found (x ∷ xs) (suc k) v e = ap (λ ys. x ∷ ys) (set_found xs k v e)
-
-pub set_twice : {X : Type 0} (xs : List X) (k : ℕ) (a b : X) → slice_set (slice_set xs k a) k b ≡ slice_set xs k b
-set_twice [] k a b = refl
-set_twice (x ∷ xs) zero a b = refl
-set_twice (x ∷ xs) (suc k) a b = ap (λ ys. x ∷ ys) (set_twice xs k a b)
-
-pub get_set_same : {X : Type 0} (xs : List X) (k : ℕ) (a v : X) → slice_get xs k ≡ Some v → slice_get (slice_set xs k a) k ≡ Some a
-get_set_same [] k a v e = cc
-get_set_same (x ∷ xs) zero a v e = refl
-get_set_same (x ∷ xs) (suc k) a v e = get_set_same xs k a v e
-
 pub set_back : {X : Type 0} (xs : List X) (k : ℕ) (a b : X) → slice_get xs k ≡ Some b → slice_set (slice_set xs k a) k b ≡ xs
-set_back xs k a b e = set_twice xs k a b ∙ set_found xs k b e
+set_back xs k a b e = set_set xs k a b ∙ set_same xs k b e
 
 -- what was there, put back
 pub set_again : {X : Type 0} (xs : List X) (k : ℕ) (a b v : X) → slice_get xs k ≡ Some v → b ≡ v → slice_set (slice_set xs k a) k b ≡ xs

@@ -1,5 +1,5 @@
 -- An image that was opened for reading, and whose cached tables are unmodified, is never written, whatever it contains.
-use Rattle.qcow2_session.proofs.Common.{◌≡◌, inl, inr, List, [], ◌∷◌, false, IsTrue, sym, ap, ◌∙◌, subst, Option, cases_Bool, BackingView, StorageView, view_in, Qcow2, Prepared, is_failed, is_writable, ReleasesOneMapping, ContentsStayThroughout, HoldsNothingModified, ReadsQuietly, reads_none, reads_same, reads_aside, written_then, AreExisting, IsLeftQuietly, IsNeverWritten, AreReportedAlong, RunPoint, StaysQuiet, Command, Reply}
+use Rattle.qcow2_session.proofs.Common.{◌≡◌, inl, inr, List, [], ◌∷◌, false, IsTrue, sym, ap, ◌∙◌, subst, Option, cases_Bool, BackingView, StorageView, view_in, Qcow2, Prepared, is_failed, is_writable, ReleasesOneMapping, ContentsStayThroughout, HoldsNothingModified, ReadsQuietly, reads_none, reads_same, reads_aside, written_then, AreExisting, IsLeftQuietly, AreReportedAlong, RunPoint, Command, Reply}
 use Rattle.qcow2_alloc.specs.ImageStorage.{storage_of}
 use Rattle.qcow2_image.proofs.Map.Unmodified.{quiet_still}
 
@@ -14,10 +14,6 @@ module _ {S F : Type 0} (view : S → StorageView) where
     tables = unmodified;
     quiet = λ all honest. let same = silent honest in quiet_still (view_in view old.file) (view_in view new.file) (same.1.honest honest) same.1 (same.0 honest);
   }
-
-  -- so an image opened for reading is never written, from its opening on
-  pub never_written : (old new : Qcow2 S F) → StaysQuiet view old new → IsNeverWritten view old new
-  never_written old new stays reading unmodified = (stays reading).quiet unmodified
 
   -- a mapping was let go
   pub quiet_release : (old new : Qcow2 S F) → ReleasesOneMapping view old new → ReadsQuietly view old new

@@ -4,7 +4,6 @@ use Rattle.qcow2_disk.specs.Runs.{Command, Reply}
 use Rattle.qcow2_session.proofs.Meanings.{step_found, found_same}
 use Rattle.qcow2_session.proofs.Places.{guest_none, sound_none}
 
--- the last step of a run
 run_last : (x : Setting) (s : State) (commands : List Command) (replies : List Reply) (command : Command) (reply : Reply) (end : State)
     → Run x s (commands ++ command ∷ []) (replies ++ reply ∷ []) end → (mid : State) × Run x s commands replies mid × CommandStep x mid command reply end
 run_last x s [] [] command reply end run = (s, refl, subst (λ t. CommandStep x s command reply t) (sym run.2) run.1)

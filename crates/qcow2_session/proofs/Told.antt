@@ -3,10 +3,6 @@ use Rattle.qcow2_session.proofs.Common.{◌≡◌, ℕ, map, List, [], ◌∷◌
 use Rattle.qcow2_session.proofs.Meanings.{step_found, found_same, ranges_after}
 use Rattle.qcow2_session.proofs.Runs.{free_stands, none_found, none_mapped}
 
--- the same image after two calls
-pub same_then : {S F : Type 0} {old mid new : Qcow2 S F} → IsSameImage old mid → IsSameImage mid new → IsSameImage old new
-same_then first second = record { number = second.number ∙ first.number; size = second.size ∙ first.size; writable = second.writable ∙ first.writable; external = second.external ∙ first.external }
-
 -- what was answered wasn't refused early
 pub none_refused : {A E : Type 0} (X : Type 0) (o : Option E) (a : A) → IfSome o (λ e. (Ok a ≡ Err e) × X) → o ≡ None
 none_refused X None a early = refl

@@ -1,5 +1,5 @@
 -- An image that was opened for reading is never written: calls that write are refused before any work, and all others leave the contents of its storage the same.
-use Rattle.qcow2_session.proofs.Common.{◌≡◌, ◌⊎◌, ⊎_elim, inl, inr, ℕ, zero, suc, ◌<◌, ◌≤◌, List, [], ◌∷◌, Bool, true, false, not, IsTrue, refl, sym, ap, ◌∙◌, subst, arith, Option, Some, None, Ok, Err, IfSome, IsNone, IsSome, nat_lt, replicate, slice_get, slice_set, ◌&&◌, option_or, cases_lt, lt-ltb, ImageError, Qcow2, Prepared, is_failed, is_writable, size_of, table_of, IsOfNothing, passes, refuse_if, refuses_to_prepare, unusable, IsResized, refuses_to_resize, AreExisting, KeepsItself, free_slots}
+use Rattle.qcow2_session.proofs.Common.{◌≡◌, ◌⊎◌, ⊎_elim, inl, inr, ℕ, zero, suc, ◌<◌, ◌≤◌, List, [], Bool, true, false, not, IsTrue, refl, sym, ap, ◌∙◌, subst, arith, Option, Some, None, Ok, Err, IfSome, IsNone, IsSome, nat_lt, replicate, slice_get, slice_set, ◌&&◌, option_or, cases_lt, lt-ltb, ImageError, Qcow2, Prepared, is_failed, is_writable, size_of, table_of, IsOfNothing, passes, refuse_if, refuses_to_prepare, unusable, IsResized, refuses_to_resize, AreExisting, KeepsItself, free_slots, get_set}
 use Rattle.qcow2_alloc.specs.declared.error.ImageError.TheVariants as I
 use Rattle.qcow2_session.proofs.Told.{none_refused, same_itself}
 
@@ -72,16 +72,9 @@ module _ {S F : Type 0} (image : Qcow2 S F) where
 
 -- ---- mappings that are let go
 
-pub set_or_was : {X : Type 0} (xs : List X) (slot k : ℕ) (a x : X) → slice_get (slice_set xs slot a) k ≡ Some x → (x ≡ a) ⊎ (slice_get xs k ≡ Some x)
-set_or_was [] slot k a x is = inr is
-set_or_was (y ∷ ys) zero zero a x is = inl (let e : Some a ≡ Some x = is in cc)
-set_or_was (y ∷ ys) zero (suc k) a x is = inr is
-set_or_was (y ∷ ys) (suc slot) zero a x is = inr is
-set_or_was (y ∷ ys) (suc slot) (suc k) a x is = set_or_was ys slot k a x is
-
 pub existing_set : (out : List (Option Prepared)) (slot : ℕ) (o : Option Prepared) → AreExisting out → IfSome o (λ p. IsNone (table_of p)) → AreExisting (slice_set out slot o)
-existing_set out slot None existing is k p at = ⊎_elim (λ (e : Some p ≡ None). absurd (cc)) (λ was. existing k p was) (set_or_was out slot k None (Some p) at)
-existing_set out slot (Some q) existing is k p at = ⊎_elim (λ (e : Some p ≡ Some q). subst (λ r. IsNone (table_of r)) (let same : q ≡ p = cc in same) is) (λ was. existing k p was) (set_or_was out slot k (Some q) (Some p) at)
+existing_set out slot None existing is k p at = ⊎_elim (λ (e : Some p ≡ None). absurd (cc)) (λ was. existing k p was) (get_set out slot k None (Some p) at)
+existing_set out slot (Some q) existing is k p at = ⊎_elim (λ (e : Some p ≡ Some q). subst (λ r. IsNone (table_of r)) (let same : q ≡ p = cc in same) is) (λ was. existing k p was) (get_set out slot k (Some q) (Some p) at)
 
 none_in : (n k : ℕ) (p : Prepared) → slice_get (replicate n None) k ≡ Some (Some p) → ⊥
 none_in zero k p is = cc

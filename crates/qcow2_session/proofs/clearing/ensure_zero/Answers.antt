@@ -1,10 +1,10 @@
 use Rattle.qcow2_session.proofs.Marking.{cleared_at_once}
-use Rattle.qcow2_session.proofs.Common.{to_kept_zero, refl, rules}
+use Rattle.qcow2_session.proofs.Common.{to_kept_zero, refl, rules, IfErr-weaker}
 use Rattle.qcow2_session.proofs.Cleared.{clears_command_step, clearing_counted, range_told}
 use Rattle.qcow2_session.proofs.Unwritten.{clear_same}
 use Rattle.qcow2_session.proofs.Quiet.{quiet_left}
 use Rattle.qcow2_session.specs.declared.session.Command.TheVariants as C
-use Rattle.qcow2_session.proofs.Causing.{clears_rightly, if_err_to}
+use Rattle.qcow2_session.proofs.Causing.{clears_rightly}
 use Rattle.qcow2_session.proofs.clearing.ensure_zero.Goals as goal
 
 pub returns : goal.returns
@@ -23,6 +23,6 @@ returns g c = λ slots. record {
   reports = range_told g.S.Storage.view g.F.BackingDisk.backing c.args.image.now c.ensure_zero_mapping.new.self c.args.offset c.args.length c.ensure_zero_mapping.result c.range_reply.result c.range_reply.ensures c.ensure_zero_mapping.ensures.sound.range;
   causes = let before = slots.prepared.items in
       clears_rightly g.S.Storage.view g.F.BackingDisk.backing c.args.image.now c.ensure_zero_mapping.new.self before c.args.offset c.args.length to_kept_zero (C.EnsureZeroMapping c.args.offset c.args.length) refl (λ le. le) (λ e may_fail. may_fail) (λ e may_fail. may_fail) (λ _ respects. respects) (λ _ never. (λ is. absurd (never is), λ is. absurd is))
-      c.ensure_zero_mapping.result c.range_reply.result c.range_reply.ensures c.ensure_zero_mapping.ensures.fails.early c.ensure_zero_mapping.ensures.fails.late (λ none sound. if_err_to c.ensure_zero_mapping.result (λ e refused. refused.may_fail none before sound) c.ensure_zero_mapping.ensures.fails.refused) c.ensure_zero_mapping.ensures.sound.nothing (λ none some sound. c.ensure_zero_mapping.ensures.fails.under none some before sound);
+      c.ensure_zero_mapping.result c.range_reply.result c.range_reply.ensures c.ensure_zero_mapping.ensures.fails.early c.ensure_zero_mapping.ensures.fails.late (λ none sound. IfErr-weaker c.ensure_zero_mapping.result _ _ (λ e refused. refused.may_fail none before sound) c.ensure_zero_mapping.ensures.fails.refused) c.ensure_zero_mapping.ensures.sound.nothing (λ none some sound. c.ensure_zero_mapping.ensures.fails.under none some before sound);
   quiet = λ reading existing. quiet_left g.S.Storage.view c.args.image.now c.ensure_zero_mapping.new.self slots.prepared.items (clear_same c.args.image.now reading _ _ c.ensure_zero_mapping.ensures.fails.early) reading existing;
 }

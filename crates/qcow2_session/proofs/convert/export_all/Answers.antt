@@ -1,9 +1,8 @@
-use Rattle.qcow2_session.proofs.Common.{◌≡◌, ◌∙◌, ◌+◌, ◌-◌, ◌≤◌, refl, sym, [], subst, arith, rules, abstract_of, Fills, IfErr, known_in, MayFailReadingRange, behind_none, behind_then, reads_none, written_then}
+use Rattle.qcow2_session.proofs.Common.{◌≡◌, ◌∙◌, ◌+◌, ◌-◌, ◌≤◌, refl, sym, [], subst, arith, rules, abstract_of, Fills, IfErr, known_in, MayFailReadingRange, behind_none, behind_then, reads_none, written_then, same_image_then}
 use Rattle.qcow2_session.proofs.Counting.{converted, converting_part, so_far_none, so_far_part, so_far_then}
 use Rattle.qcow2_session.proofs.Converting.{does_nothing, interrupted_if, interrupted_then}
 use Rattle.qcow2_session.proofs.FailingOnSound.{reads_part}
 use Rattle.qcow2_session.proofs.Exporting.{part_of_disk, unchanged_refused, fills_more}
-use Rattle.qcow2_session.proofs.Told.{same_then}
 use Rattle.qcow2_session.proofs.Turns.{refused_is, none_within, does_if, does_then}
 use Rattle.qcow2_session.proofs.convert.export_all.Goals as goal
 
@@ -29,7 +28,7 @@ loop-at-preserved g c =
       faults = so_far_then g.S.Storage.view g.F.BackingDisk.backing c.args.image.now c.loop-at.image c.export_some.new.image c.loop-at.invariant.faults (so_far_part g.S.Storage.view g.F.BackingDisk.backing c.loop-at.image c.export_some.new.image _ _ c.in_ok-count.ensures.step.faults);
       counted = c.in_ok-count.ensures.step.faults.told.1 ∙ c.loop-at.invariant.counted;
       within = omega (arith, c.in_ok-count.ensures.within, c.loop-at-test.true);
-      image = same_then c.loop-at.invariant.image c.export_some.ensures.step.image;
+      image = same_image_then c.loop-at.invariant.image c.export_some.ensures.step.image;
       quiet = written_then g.S.Storage.view c.loop-at.invariant.quiet c.export_some.ensures.step.quiet;
       honest = λ h. c.export_some.ensures.step.honest (c.loop-at.invariant.honest h);
       same = λ out. does_if (λ h. h.1 ∙ h.0) (does_then {more = []} (λ _ _. none_within (abstract_of view below c.loop-at.image out) []) (c.loop-at.invariant.same out) (c.in_ok-count.ensures.step.same out));
@@ -45,8 +44,6 @@ returns-clause-sees g c = λ h.
 
 pub returns-in_err-count-clause-may_fail : goal.returns-in_err-count-clause-may_fail
 returns-in_err-count-clause-may_fail g c = λ none size out sound.
-    let view = g.S.Storage.view in
-    let below = g.F.BackingDisk.backing in
     let old = c.args.image.now in
     let mid = c.loop-at.image in
     let e = c.in_err-count.field-0.0 in
@@ -55,7 +52,7 @@ returns-in_err-count-clause-may_fail g c = λ none size out sound.
     let so_far = c.loop-at.invariant.same out in
     let still = (so_far.answer sound).0 in
     subst (λ r. IfErr r (MayFailReadingRange out 0 c.args.size c.args.image.now.file.header.fields (known_in g.S.Storage.view c.args.image.now.file))) (sym (refused_is _ e c.from_residual.ensures))
-    (reads_part view below out old mid sound still (so_far.acts.works sound) 0 c.args.size at (at + (c.args.size - at)) e (omega arith) upto
+    (reads_part g.S.Storage.view g.F.BackingDisk.backing out old mid sound still (so_far.acts.works sound) 0 c.args.size at (at + (c.args.size - at)) e (omega arith) upto
     (c.in_err-count.ensures.may_fail (part_of_disk old mid c.loop-at.invariant.image at (c.args.size - at) (omega (arith, upto, size)) still.works none) out still))
 
 pub returns-in_err-count-clause-step : goal.returns-in_err-count-clause-step

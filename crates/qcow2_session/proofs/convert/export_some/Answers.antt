@@ -1,10 +1,9 @@
-use Rattle.qcow2_session.proofs.Common.{◌≡◌, ◌+◌, ◌≤◌, ◌∙◌, [], length, take, replicate, refl, sym, subst, arith, rules, common_steps, IfErr, known_in, written_then, guest_of, abstract_of, MayFailReadingRange, behind_then}
+use Rattle.qcow2_session.proofs.Common.{◌≡◌, ◌+◌, ◌≤◌, ◌∙◌, [], length, take, replicate, refl, sym, subst, arith, rules, common_steps, IfErr, known_in, written_then, guest_of, abstract_of, MayFailReadingRange, behind_then, same_image_then}
 use Rattle.qcow2_session.proofs.Converting.{interrupted, interrupted_if, interrupted_then}
 use Rattle.qcow2_session.proofs.Counting.{converted, converting_image, converting_part, so_far_call, so_far_none, so_far_part, so_far_then}
 use Rattle.qcow2_session.proofs.Exporting.{fills_more, filled_same, unchanged_refused}
 use Rattle.qcow2_session.proofs.FailingOnSound.{reads_part}
 use Rattle.qcow2_session.proofs.Parts.{part_reads}
-use Rattle.qcow2_session.proofs.Told.{same_then}
 use Rattle.qcow2_session.proofs.Turns.{does_if, does_then, none_within, refused_is}
 use Rattle.qcow2_session.proofs.convert.export_some.Goals as goal
 
@@ -61,7 +60,6 @@ returns-in_err-export_at-clause-step g c =
 pub returns-in_err-export_at-clause-may_fail : goal.returns-in_err-export_at-clause-may_fail
 returns-in_err-export_at-clause-may_fail g c = λ none out sound.
     let view = g.S.Storage.view in
-    let below = g.F.BackingDisk.backing in
     let old = c.args.image.now in
     let mid = c.zero_run.new.image in
     let e = c.in_err-export_at.field-0.0 in
@@ -72,7 +70,7 @@ returns-in_err-export_at-clause-may_fail g c = λ none out sound.
     let so_far = does_if (λ h. h.1) (c.in_ok-passed.ensures.sees out) in
     let still = (so_far.answer sound).0 in
     subst (λ r. IfErr r (MayFailReadingRange out at (at + c.args.max) old.file.header.fields (known_in view old.file))) (sym (refused_is _ e c.from_residual-in_err-export_at.ensures))
-    (reads_part view below out old mid sound still (so_far.acts.works sound) at (at + c.args.max) at (at + count) e (omega arith) upto
+    (reads_part view g.F.BackingDisk.backing out old mid sound still (so_far.acts.works sound) at (at + c.args.max) at (at + count) e (omega arith) upto
     (c.in_err-export_at.ensures.may_fail (part_reads old mid c.zero_run.ensures.step.image at c.args.max at count (omega arith) upto c.in_ok-passed.ensures.step.marks.fails none) out still))
 
 pub returns-clause-step : goal.returns-clause-step
@@ -83,7 +81,7 @@ returns-clause-step g c =
     let mid = c.zero_run.new.image in
     let new = c.export_at.new.image in
     record {
-      image = same_then c.zero_run.ensures.step.image c.export_at.ensures.step.image;
+      image = same_image_then c.zero_run.ensures.step.image c.export_at.ensures.step.image;
       honest = search rules;
       same = λ out. does_if (λ h. h.1 ∙ h.0) (does_then {more = []} (λ _ _. none_within (abstract_of view below mid out) []) (does_if (λ h. h.1) (c.in_ok-passed.ensures.sees out)) (c.in_ok-export_at.ensures.step.same out));
       faults = converted _ _ _ _ _ _ _ (so_far_then view below old mid new (so_far_call view below old mid c.in_ok-passed.ensures.step.faults.told c.in_ok-passed.ensures.step.marks) (so_far_part view below mid new _ _ c.in_ok-export_at.ensures.step.faults)) (c.in_ok-export_at.ensures.step.faults.told.1);
@@ -93,11 +91,8 @@ returns-clause-step g c =
 
 pub returns-clause-sees : goal.returns-clause-sees
 returns-clause-sees g c = λ honest.
-    let view = g.S.Storage.view in
-    let below = g.F.BackingDisk.backing in
-    let old = c.args.image.now in
     let mid = c.zero_run.new.image in
     let before = (g.R.Storage.view c.args.raw.now).contents in
     let long : length (take c.min-count.result c.args.bytes.now) ≡ c.min-count.result = grind (arith, common_steps) in
-    fills_more view below old mid c.args.at c.args.at (length (take c.min-count.result c.args.bytes.now)) c.min-count.result before before (g.R.Storage.view c.export_at.new.raw).contents
+    fills_more g.S.Storage.view g.F.BackingDisk.backing c.args.image.now mid c.args.at c.args.at (length (take c.min-count.result c.args.bytes.now)) c.min-count.result before before (g.R.Storage.view c.export_at.new.raw).contents
     (λ out. does_if (λ h. h.1) (c.in_ok-passed.ensures.sees out)) (λ out sound size le filled. filled) (c.in_ok-export_at.ensures.sees honest) long

@@ -1,11 +1,10 @@
-use Rattle.qcow2_session.proofs.Common.{limited_joined, sym, ◌≡◌, ◌+◌, ◌-◌, ◌%◌, ◌<◌, ◌≤◌, ◌++◌, drop, length, take, refl, ap, ◌∙◌, subst, arith, min, ℕ, rules, zero-mod, add-mod_right, common_steps, bytes_at, with_disk, with_bytes, guest_of, Setting, abstract_of, IfErr, Ok, ImportsAnyOf, MayFailImporting, IsReasonNotToWrite, behind_none, behind_then, written_then}
+use Rattle.qcow2_session.proofs.Common.{limited_joined, sym, ◌≡◌, ◌+◌, ◌-◌, ◌%◌, ◌<◌, ◌≤◌, ◌++◌, drop, length, take, refl, ap, ◌∙◌, subst, arith, min, ℕ, rules, zero-mod, add-mod_right, common_steps, bytes_at, with_disk, with_bytes, guest_of, Setting, abstract_of, IfErr, Ok, ImportsAnyOf, MayFailImporting, IsReasonNotToWrite, behind_none, behind_then, written_then, same_image_then}
 use Rattle.qcow2_session.proofs.convert.import_all.Goals as goal
 use Rattle.qcow2_session.proofs.Counting.{converted, converting_part, so_far_none, so_far_part, so_far_then}
 use Rattle.qcow2_session.proofs.Differing.{part_kept}
 use Rattle.qcow2_session.proofs.Exporting.{part_of_disk}
 use Rattle.qcow2_session.proofs.Reasons.{importing_within, reason_within}
 use Rattle.qcow2_session.proofs.Converting.{any_more, any_none, any_refused, imports_none, all_more, all_refused, same_range}
-use Rattle.qcow2_session.proofs.Told.{same_then}
 use Rattle.qcow2_session.proofs.Turns.{refused_is, does_if}
 use Rattle.qcow2_session.proofs.Quiet.{quiet_image}
 
@@ -41,7 +40,7 @@ loop-at-preserved g c =
       within = grind (arith, common_steps);
       aligned = λ more. subst (λ k. (c.loop-at.at + c.min-count.result) % k ≡ 0) whole
           (next_aligned c.loop-at.at c.min-count.result (length c.loop-at.wanted) c.args.size c.min-count.ensures (c.loop-at.invariant.aligned c.loop-at-test.true) more);
-      image = same_then c.loop-at.invariant.image c.import_at.ensures.step.image;
+      image = same_image_then c.loop-at.invariant.image c.import_at.ensures.step.image;
       raw = λ honest. let before = c.loop-at.invariant.raw honest in let after = c.import_at.ensures.step.raw_left before.0 in (after.0, after.1 ∙ before.1);
       any =
           let long : length (take c.min-count.result c.loop-at.wanted) ≡ c.min-count.result = grind (arith, common_steps) in
@@ -103,14 +102,13 @@ returns-in_err-import_at-clause-late g c = λ none size out sound.
 pub returns-in_err-import_at-clause-may_fail : goal.returns-in_err-import_at-clause-may_fail
 returns-in_err-import_at-clause-may_fail g c = λ none size out sound.
     let e = c.in_err-import_at.field-0.0 in
-    let new = c.import_at.new.image in
     let at = c.loop-at.at in
     let count = length (take c.min-count.result c.loop-at.wanted) in
     let long : count ≡ c.min-count.result = grind (arith, common_steps) in
     let upto : at + count ≤ c.args.size = omega (arith, c.min-count.ensures, c.loop-at-test.true, long) in
     let now = ((c.loop-at.invariant.any.2 out).answer sound).0 in
     subst (λ r. IfErr r (MayFailImporting g.S.Storage.view 0 c.args.size c.import_at.new.image out)) (sym (refused_is _ e c.from_residual.ensures))
-    (importing_within g.S.Storage.view new out 0 c.args.size at (at + count) e (omega arith) upto
+    (importing_within g.S.Storage.view c.import_at.new.image out 0 c.args.size at (at + count) e (omega arith) upto
     (c.in_err-import_at.ensures.may_fail (part_of_disk c.args.image.now c.loop-at.image c.loop-at.invariant.image at count (omega (arith, upto, size)) now.works none) out now))
 
 pub returns-in_err-import_at-clause-differs : goal.returns-in_err-import_at-clause-differs

@@ -33,15 +33,13 @@ returns-in_err-mapping-clause-step g c = record {
 pub returns-in-Zero-clause-sees : goal.returns-in-Zero-clause-sees
 returns-in-Zero-clause-sees g c = λ out.
     let view = g.S.Storage.view in
-    let below = g.F.BackingDisk.backing in
-    let old = c.args.image.now in
     let new = c.get_mapping.new.self in
     let n = c.in_ok-mapping.found in
     does_if (λ h. (h.1, h.0)) (does_why
     (λ sound.
     let still = (c.in_ok-mapping.ensures.sees out).answer sound in
     let found = subst (λ (k : Kind). IsFoundIn (known_in view new.file) (is_some new.backing) c.args.at c.args.max k n) (ap found_kind c.in-Zero.is) ((c.in_ok-mapping.ensures.sound out sound).run) in
-    subst (λ (d : Disk). Shows d c.args.at (replicate n 0)) (ap (λ (x : Guest). x.disk) still.1) (zeros_there view below new out still.0 c.args.at c.args.max n c.in-Zero.explicit found))
+    subst (λ (d : Disk). Shows d c.args.at (replicate n 0)) (ap (λ (x : Guest). x.disk) still.1) (zeros_there view g.F.BackingDisk.backing new out still.0 c.args.at c.args.max n c.in-Zero.explicit found))
     (c.in_ok-mapping.ensures.sees out))
 
 pub returns-in-Zero-clause-step : goal.returns-in-Zero-clause-step

@@ -1,7 +1,7 @@
 use Rattle.qcow2_session.proofs.Common.{◌≡◌, ◌∙◌, ap, refl, subst, ℕ, None, Option, Some, true, Err, IfOk, Ok, Result, false, option_map, option_flatten, BackingView, StorageView, ImageError, Missing, Qcow2, IsHonestBacking, Opens, missing_beside}
 use Rattle.qcow2_image.specs.declared.opening.Qcow2OpenBuilder.{Qcow2OpenBuilder}
 use Rattle.qcow2_image.specs.Readable.{IsNewlyOpened, OpeningStep, files_missing}
-use Rattle.qcow2_image.proofs.Map.Loading.{if_ok}
+use Rattle.std.proofs.lemmas.Result.{IfOk-weaker}
 use Rattle.qcow2_session.proofs.headline.open_over.Goals as goal
 
 -- the builder that opens a storage for writing, over this disk where there is one
@@ -56,13 +56,13 @@ pub returns-clause-cause : goal.returns-clause-cause
 returns-clause-cause g c = (step_by g.S.Storage.view c.args.storage c.args.number c.args.below c.over_disk.result (made_so c.args.storage c.args.number c.args.below c.new.result c.write.result c.over_disk.result c.new.ensures c.write.ensures c.over_disk.ensures) c.open.result c.open.ensures.step).cause
 
 pub returns-clause-format : goal.returns-clause-format
-returns-clause-format g c = λ honest. if_ok c.open.result (λ image is. is.format honest) (image_by g.S.Storage.view c.args.storage c.args.number c.args.below c.over_disk.result (made_so c.args.storage c.args.number c.args.below c.new.result c.write.result c.over_disk.result c.new.ensures c.write.ensures c.over_disk.ensures) c.open.result c.open.ensures.image)
+returns-clause-format g c = λ honest. IfOk-weaker c.open.result _ _ (λ image is. is.format honest) (image_by g.S.Storage.view c.args.storage c.args.number c.args.below c.over_disk.result (made_so c.args.storage c.args.number c.args.below c.new.result c.write.result c.over_disk.result c.new.ensures c.write.ensures c.over_disk.ensures) c.open.result c.open.ensures.image)
 
 pub returns-clause-ok : goal.returns-clause-ok
-returns-clause-ok g c = if_ok c.open.result (λ image is. (is.number_is, is.works, is.writable_is)) (image_by g.S.Storage.view c.args.storage c.args.number c.args.below c.over_disk.result (made_so c.args.storage c.args.number c.args.below c.new.result c.write.result c.over_disk.result c.new.ensures c.write.ensures c.over_disk.ensures) c.open.result c.open.ensures.image)
+returns-clause-ok g c = IfOk-weaker c.open.result _ _ (λ image is. (is.number_is, is.works, is.writable_is)) (image_by g.S.Storage.view c.args.storage c.args.number c.args.below c.over_disk.result (made_so c.args.storage c.args.number c.args.below c.new.result c.write.result c.over_disk.result c.new.ensures c.write.ensures c.over_disk.ensures) c.open.result c.open.ensures.image)
 
 pub returns-clause-header_cluster : goal.returns-clause-header_cluster
-returns-clause-header_cluster g c = if_ok c.open.result (λ image is. is.header_cluster) (image_by g.S.Storage.view c.args.storage c.args.number c.args.below c.over_disk.result (made_so c.args.storage c.args.number c.args.below c.new.result c.write.result c.over_disk.result c.new.ensures c.write.ensures c.over_disk.ensures) c.open.result c.open.ensures.image)
+returns-clause-header_cluster g c = IfOk-weaker c.open.result _ _ (λ image is. is.header_cluster) (image_by g.S.Storage.view c.args.storage c.args.number c.args.below c.over_disk.result (made_so c.args.storage c.args.number c.args.below c.new.result c.write.result c.over_disk.result c.new.ensures c.write.ensures c.over_disk.ensures) c.open.result c.open.ensures.image)
 
 pub returns-clause-over : goal.returns-clause-over
 returns-clause-over g c = over_by g.S.Storage.view c.args.storage c.args.number c.args.below c.over_disk.result (made_so c.args.storage c.args.number c.args.below c.new.result c.write.result c.over_disk.result c.new.ensures c.write.ensures c.over_disk.ensures) c.open.result c.open.ensures.over

@@ -1,6 +1,6 @@
-use Rattle.qcow2_session.proofs.Common.{MarksAtOnce, ◌≡◌, inl, inr, refl, sym, ap, subst, ◌∙◌, List, Option, Some, None, Err, rules, slice_get, slice_set, IsNone, RefinesCommand, commit, done, misuse, refused, done_as, refused_as, none_as, image_abstraction, abstract_image, refusal_of, Commits, reason_of, fault_of, AreExisting, is_failed, table_of, IsOfTables, behind_none, reads_none}
+use Rattle.qcow2_session.proofs.Common.{MarksAtOnce, ◌≡◌, inl, inr, refl, sym, ap, subst, ◌∙◌, List, Option, Some, None, Err, rules, slice_get, slice_set, IsNone, RefinesCommand, commit, done, misuse, refused, done_as, refused_as, none_as, image_abstraction, abstract_image, refusal_of, Commits, reason_of, fault_of, AreExisting, is_failed, table_of, IsOfTables, behind_none, reads_none, get_set_same, set_set, set_same}
 use Rattle.qcow2_session.proofs.Marking.{at_rest, commit_at_once}
-use Rattle.qcow2_session.proofs.Places.{set_found, set_twice, get_set_same, set_again}
+use Rattle.qcow2_session.proofs.Places.{set_again}
 use Rattle.qcow2_session.proofs.Meanings.{found_at, none_at, does_commit, refuses_commit}
 use Rattle.qcow2_session.proofs.Answering.{not_both, not_old_tables, kept_is}
 use Rattle.qcow2_session.proofs.Unwritten.{existing_set}
@@ -25,10 +25,10 @@ returns-in_default g c = record {
   steps = λ _ x s stands founds.
       let spec = image_abstraction g.S.Storage.view g.F.BackingDisk.backing in
       let out = c.args.slots.now.prepared.items in
-      subst (λ (o : List (Option _)). RefinesCommand x (abstract_image spec c.args.image.now out) (abstract_image spec c.args.image.now o) s (commit c.args.slot) misuse) (sym (c.put.ensures.is ∙ set_found out c.args.slot None c.in_default.ensures.was))
+      subst (λ (o : List (Option _)). RefinesCommand x (abstract_image spec c.args.image.now out) (abstract_image spec c.args.image.now o) s (commit c.args.slot) misuse) (sym (c.put.ensures.is ∙ set_same out c.args.slot None c.in_default.ensures.was))
       (none_as x (abstract_image spec c.args.image.now out) s _ _ misuse refl stands (record { sized = λ _. tt; failed = λ _. tt; may = λ _. tt }) (λ _. (none_at spec c.args.image.now out c.args.slot c.in_default.ensures.was, refl)) (λ f. f) (λ _ _. refl) tt);
   finds = search rules;
-  after = c.put.ensures.is ∙ set_found c.args.slots.now.prepared.items c.args.slot None c.in_default.ensures.was;
+  after = c.put.ensures.is ∙ set_same c.args.slots.now.prepared.items c.args.slot None c.in_default.ensures.was;
   reports = tt;
   causes = is_misused g.S.Storage.view g.F.BackingDisk.backing c.args.image.now c.args.image.now c.args.slots.now.prepared.items (C.CommitDataMapping c.args.slot) (λ _. c.in_default.ensures.was, λ _. refl) refl tt;
   quiet = λ reading existing. record { reading = reading; quiet = reads_none g.S.Storage.view c.args.image.now; existing = subst AreExisting (sym c.put.ensures.is) (existing_set c.args.slots.now.prepared.items c.args.slot None existing tt) };
@@ -100,7 +100,7 @@ returns-in-Err-Kept g c = record {
       let spec = image_abstraction g.S.Storage.view g.F.BackingDisk.backing in
       let out = c.args.slots.now.prepared.items in
       subst (λ (o : List (Option _)). RefinesCommand x (abstract_image spec c.args.image.now out) (abstract_image spec c.commit_data_mapping.new.self o) s (commit c.args.slot) (refused (refusal_of c.in-Err-Kept.refusal)))
-      (sym (c.fill.ensures.is ∙ ap (λ (o : List (Option _)). slice_set o c.args.slot (Some c.in-Err-Kept.prepared)) c.put.ensures.is ∙ set_twice out c.args.slot None (Some c.in-Err-Kept.prepared)))
+      (sym (c.fill.ensures.is ∙ ap (λ (o : List (Option _)). slice_set o c.args.slot (Some c.in-Err-Kept.prepared)) c.put.ensures.is ∙ set_set out c.args.slot None (Some c.in-Err-Kept.prepared)))
       (refused_as x _ _ s _ _ _ _ refl stands (record { sized = λ _. tt; failed = λ f. kept_is c.in-Err-Kept.field-0-is (c.in-Err-Kept.ensures.refusals.failed (c.in-Some.ensures.own ∙ c.put.ensures.image ∙ c.requires) f); may = λ _. tt })
       (refuses_commit s.found c.args.slot _ (found_at spec c.args.image.now out c.args.slot c.in-Some.prepared c.in-Some.ensures.was)
       (subst (λ r. Commits g.S.Storage.view g.F.BackingDisk.backing c.args.image.now c.commit_data_mapping.new.self c.in-Some.prepared (Err r)) c.in-Err-Kept.field-0-is c.in-Err-Kept.ensures.sees out c.args.slot c.in-Some.ensures.was).1) (λ f. f) (λ f. f) (λ _ _. refl) tt);

@@ -1,6 +1,5 @@
-use Rattle.qcow2_session.proofs.Common.{counts_released, refl, sym, subst, ◌∙◌, List, Option, None, rules, RefinesCommand, discard, done, misuse, done_as, none_as, abstract_of, image_abstraction, abstract_image, AreExisting, behind_none, reads_none}
+use Rattle.qcow2_session.proofs.Common.{counts_released, refl, sym, subst, ◌∙◌, List, Option, None, rules, RefinesCommand, discard, done, misuse, done_as, none_as, abstract_of, image_abstraction, abstract_image, AreExisting, behind_none, reads_none, set_same}
 use Rattle.qcow2_session.proofs.Marking.{at_rest}
-use Rattle.qcow2_session.proofs.Places.{set_found}
 use Rattle.qcow2_session.proofs.Meanings.{found_at, none_at, does_discard}
 use Rattle.qcow2_session.proofs.Unwritten.{existing_set}
 use Rattle.qcow2_session.specs.declared.session.Command.TheVariants as C
@@ -20,10 +19,10 @@ returns-in-None g c = record {
   steps = λ _ x s stands founds.
       let view = abstract_of g.S.Storage.view g.F.BackingDisk.backing c.args.image.now in
       let out = c.args.slots.now.prepared.items in
-      subst (λ (o : List (Option _)). RefinesCommand x (view out) (view o) s (discard c.args.slot) misuse) (sym (c.put.ensures.is ∙ set_found out c.args.slot None c.in-None.ensures.was))
+      subst (λ (o : List (Option _)). RefinesCommand x (view out) (view o) s (discard c.args.slot) misuse) (sym (c.put.ensures.is ∙ set_same out c.args.slot None c.in-None.ensures.was))
       (none_as x (view out) s _ _ misuse refl stands (record { sized = λ _. tt; failed = λ _. tt; may = λ _. tt }) (λ _. (none_at (image_abstraction g.S.Storage.view g.F.BackingDisk.backing) c.args.image.now out c.args.slot c.in-None.ensures.was, refl)) (λ f. f) (λ _ _. refl) tt);
   finds = search rules;
-  after = c.put.ensures.is ∙ set_found c.args.slots.now.prepared.items c.args.slot None c.in-None.ensures.was;
+  after = c.put.ensures.is ∙ set_same c.args.slots.now.prepared.items c.args.slot None c.in-None.ensures.was;
   reports = tt;
   causes = is_misused g.S.Storage.view g.F.BackingDisk.backing c.args.image.now c.args.image.now c.args.slots.now.prepared.items (C.DiscardDataMapping c.args.slot) (λ _. c.in-None.ensures.was, λ _. refl) refl tt;
   quiet = λ reading existing. record { reading = reading; quiet = reads_none g.S.Storage.view c.args.image.now; existing = subst AreExisting (sym c.put.ensures.is) (existing_set c.args.slots.now.prepared.items c.args.slot None existing tt) };

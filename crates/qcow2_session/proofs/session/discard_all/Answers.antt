@@ -1,6 +1,5 @@
-use Rattle.qcow2_session.proofs.Common.{◌≡◌, ◌∙◌, refl, rules, sym, subst, [], ◌∷◌, ◌++◌, Some, slice_get, abstract_of, ReleasesMappings, faults_then, behind_none, behind_then, written_none, written_then}
+use Rattle.qcow2_session.proofs.Common.{◌≡◌, ◌∙◌, refl, rules, sym, subst, [], ◌∷◌, ◌++◌, Some, slice_get, abstract_of, ReleasesMappings, faults_then, behind_none, behind_then, written_none, written_then, same_image_then}
 use Rattle.qcow2_session.proofs.Places.{get_front}
-use Rattle.qcow2_session.proofs.Told.{same_then}
 use Rattle.qcow2_session.proofs.Turns.{none_within, does_if, does_then}
 use Rattle.qcow2_session.proofs.Counting.{none_counted}
 use Rattle.qcow2_session.proofs.Converting.{does_nothing}
@@ -15,7 +14,7 @@ loop-slot-preserved g c =
       behind = behind_then c.loop-slot.invariant.behind c.release_slot.ensures.step.header_cluster;
       faults = faults_then g.S.Storage.view g.F.BackingDisk.backing c.args.image.now c.loop-slot.image c.release_slot.new.image c.loop-slot.invariant.faults c.release_slot.ensures.step.faults;
       own = λ k p e. c.loop-slot.invariant.own k p (subst (λ o. slice_get o k ≡ Some (Some p)) (sym c.in-Some.ensures.items) (get_front rest (c.in-Some.slot ∷ []) k (Some p) e)) ∙ sym c.release_slot.ensures.step.image.number;
-      image = same_then c.loop-slot.invariant.image c.release_slot.ensures.step.image;
+      image = same_image_then c.loop-slot.invariant.image c.release_slot.ensures.step.image;
       works = c.release_slot.ensures.step.marks ∙ c.loop-slot.invariant.works;
       quiet = written_then view c.loop-slot.invariant.quiet c.release_slot.ensures.step.quiet;
       gone = does_if (λ h. h.1 ∙ h.0)

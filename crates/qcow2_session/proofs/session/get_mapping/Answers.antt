@@ -1,5 +1,5 @@
 use Rattle.qcow2_session.proofs.Marking.{answered_at_once, refused_at_once}
-use Rattle.qcow2_session.proofs.Common.{◌≡◌, refl, sym, ap, subst, ◌∙◌, Some, is_some, arith, rules, ⊎_elim, slice_set, IsFoundIn, done_as, refused_as, known_in, found_kind, mappings_in, unusable, Mapping}
+use Rattle.qcow2_session.proofs.Common.{◌≡◌, refl, sym, ap, subst, ◌∙◌, Some, is_some, arith, rules, ⊎_elim, slice_set, IsFoundIn, done_as, refused_as, known_in, found_kind, mappings_in, unusable, Mapping, get_set}
 use Rattle.qcow2_session.proofs.Turns.{does_if}
 use Rattle.qcow2_session.proofs.Meanings.{found_set}
 use Rattle.qcow2_session.proofs.Answering.{unusable_first, error_is, not_both, lookup_answer}
@@ -8,13 +8,12 @@ use Rattle.qcow2_session.specs.declared.session.Reply.TheVariants as R
 use Rattle.qcow2_session.proofs.Causing.{begun_with, is_answered, is_refused, some_error}
 use Rattle.qcow2_image.proofs.Call.Slots.{length_set}
 use Rattle.qcow2_session.proofs.Told.{none_refused}
-use Rattle.qcow2_session.proofs.Unwritten.{set_or_was}
 use Rattle.qcow2_session.proofs.session.get_mapping.Goals as goal
 
 pub invariant_of-slots-clause-looked_up : goal.invariant_of-slots-clause-looked_up
 invariant_of-slots-clause-looked_up g c = λ k m at.
     ⊎_elim (λ (new : Some m ≡ Some c.in-Ok.mapping). ap (λ (x : Mapping). x.image) (some_error new) ∙ c.in-Ok.ensures.found.own.0 ∙ sym c.requires) (λ was. c.args.slots.now.looked_up k m was)
-    (set_or_was c.args.slots.now.mappings.items c.from.result k (Some c.in-Ok.mapping) (Some m) at)
+    (get_set c.args.slots.now.mappings.items c.from.result k (Some c.in-Ok.mapping) (Some m) at)
 
 pub invariant_of-slots-clause-all_mappings : goal.invariant_of-slots-clause-all_mappings
 invariant_of-slots-clause-all_mappings g c = length_set c.args.slots.now.mappings.items c.from.result (Some c.in-Ok.mapping) ∙ c.args.slots.now.all_mappings

@@ -1,9 +1,8 @@
-use Rattle.qcow2_session.proofs.Common.{counts_on, counts_still, ◌≡◌, ◌<◌, ◌∙◌, ◌+◌, ◌-◌, refl, length, IfErr, sym, subst, ap, [], take, drop, arith, rules, Some, ◌≤◌, common_steps, another, Shows, Guest, guest_of, abstract_of, IsRightlyBeyond, behind_none, behind_then, counted_on, faults_then, MayFail, refuses_to_read, written_none, written_then, MayFailReadingRange, known_in}
+use Rattle.qcow2_session.proofs.Common.{counts_on, counts_still, ◌≡◌, ◌<◌, ◌∙◌, ◌+◌, ◌-◌, refl, length, IfErr, sym, subst, ap, [], take, drop, arith, rules, Some, ◌≤◌, common_steps, another, Shows, Guest, guest_of, abstract_of, IsRightlyBeyond, behind_none, behind_then, counted_on, faults_then, MayFail, refuses_to_read, written_none, written_then, MayFailReadingRange, known_in, same_image_then}
 use Rattle.qcow2_session.proofs.Bytes.{shows_as, shows_both, first_two}
 use Rattle.qcow2_session.proofs.Beyond.{part_refused}
 use Rattle.qcow2_session.proofs.Reading.{reads_refused}
 use Rattle.qcow2_session.proofs.Turns.{refused_is, refuses_here, none_within, does_if, refuses_if, does_then, refuses_then}
-use Rattle.qcow2_session.proofs.Told.{same_then}
 use Rattle.qcow2_session.proofs.Parts.{part_reads}
 use Rattle.qcow2_session.proofs.Marking.{at_rest, in_parts, parts_answered, parts_behind, parts_beyond, parts_handed, unmarked, refused_none}
 use Rattle.qcow2_session.proofs.Counting.{none_counted}
@@ -27,7 +26,7 @@ loop-done-preserved g c = record {
   faults = faults_then g.S.Storage.view g.F.BackingDisk.backing c.args.image.now c.loop-done.image c.read_some.new.image c.loop-done.invariant.faults c.in_ok-done.ensures.step.faults.told;
   within = grind (arith, common_steps);
   end = grind (arith, common_steps);
-  image = same_then c.loop-done.invariant.image c.read_some.ensures.step.image;
+  image = same_image_then c.loop-done.invariant.image c.read_some.ensures.step.image;
   works = c.in_ok-done.ensures.step.marks.fails ∙ c.loop-done.invariant.works;
   counts = counts_on g.S.Storage.view c.args.image.now c.loop-done.image c.read_some.new.image c.loop-done.invariant.counts c.in_ok-done.ensures.step.marks.counts;
   header = c.read_some.ensures.step.header ∙ c.loop-done.invariant.header;

@@ -1,4 +1,4 @@
-use Rattle.qcow2_session.proofs.Common.{counts_on, rules, ◌≡◌, ℕ, ◌∙◌, subst, take, drop, length, [], ◌∷◌, ◌<◌, ap, arith, ◌+◌, ◌≤◌, refl, ◌%◌, ◌-◌, IfSome, Option, Some, None, Result, Err, Ok, common_steps, take_rest, another, Setting, given_of, works_less, abstract_of, refusal_of, LeavesCopied, Writes, cluster_size_of, NeedsOverflowingL1Entry, limited_from, limited_giving, IsTaken, IsUnderMappingIn, TablePrepared, refuses_to_prepare, faults_then, behind_then, written_then, known_in, taking_kept}
+use Rattle.qcow2_session.proofs.Common.{counts_on, rules, ◌≡◌, ℕ, ◌∙◌, subst, take, drop, length, [], ◌∷◌, ◌<◌, ap, arith, ◌+◌, ◌≤◌, refl, ◌%◌, ◌-◌, IfSome, Option, Some, None, Result, Err, Ok, common_steps, take_rest, another, Setting, given_of, works_less, abstract_of, refusal_of, LeavesCopied, Writes, cluster_size_of, NeedsOverflowingL1Entry, limited_from, limited_giving, IsTaken, IsUnderMappingIn, TablePrepared, refuses_to_prepare, faults_then, behind_then, written_then, known_in, taking_kept, same_image_then}
 use Rattle.qcow2_session.proofs.Marking.{parts_answered, parts_behind, parts_beyond}
 use Rattle.qcow2_session.proofs.session.write.Goals as goal
 use Rattle.qcow2_session.proofs.Writing.{ends_on, write_refused}
@@ -6,7 +6,6 @@ use Rattle.qcow2_session.proofs.Respecting.{heeded_first, heeded_more}
 use Rattle.qcow2_session.proofs.WrittenParts.{first_given, never_first, no_more_then, stops_behind, stops_first, writes_on}
 use Rattle.qcow2_session.proofs.Beyond.{part_refused}
 use Rattle.qcow2_session.proofs.Turns.{does_less, refuses_here, refuses_if, nothing_refused}
-use Rattle.qcow2_session.proofs.Told.{same_then}
 use Rattle.qcow2_session.proofs.Parts.{not_failed_yet, part_prepares, part_under, prepares_usable, under_taken}
 use Rattle.qcow2_session.proofs.Copied.{copied_on}
 use Rattle.qcow2_session.proofs.FailingOnSound.{compressed_in_part}
@@ -22,7 +21,7 @@ loop-done-preserved g c = record {
   counts = counts_on g.S.Storage.view c.args.image.now c.loop-done.image c.write_some-in-loop-done.new.image c.loop-done.invariant.counts c.in-Ok-write_some.ensures.step.marks.counts;
   within = grind (arith, common_steps);
   some_done = λ some. let first = c.loop-done.invariant.some_done some in omega (arith, first);
-  image = same_then c.loop-done.invariant.image c.write_some-in-loop-done.ensures.step.image;
+  image = same_image_then c.loop-done.invariant.image c.write_some-in-loop-done.ensures.step.image;
   quiet = λ reading. written_then g.S.Storage.view (c.loop-done.invariant.quiet reading) (c.write_some-in-loop-done.ensures.step.quiet (c.loop-done.invariant.image.writable ∙ reading));
   ends = λ out sound more.
       let still = (c.loop-done.invariant.written out).answer sound in
