@@ -5,10 +5,10 @@ pub use Rattle.std.proofs.Math.Pow.{pow_mono, shr_mono}
 pub use Rattle.std.proofs.lemmas.Bool.{cond-true, cond-false, or_left, or_right, or_cases, cases_eq, eq-eqb, ne_eqb, cases_lt, le-ltb, lt-ltb, and_from, and_left, and_right, le-leb, lt-leb, cases_Bool, ltb-true, eqb-true, leb-true}
 pub use Rattle.std.proofs.lemmas.Bool.Decides.{nat_tests}
 pub use Rattle.std.proofs.lemmas.Grind.{common_steps}
-pub use Rattle.std.proofs.lemmas.List.{append_assoc, append-nil, length-replicate, get_or-replicate, length-append, nil_from_length, take-replicate}
+pub use Rattle.std.proofs.lemmas.List.{append_assoc, append-nil, length-replicate, get_or-replicate, length-append, nil_from_length, take-replicate, length_push}
 pub use Rattle.std.proofs.lemmas.Nat.{mul-le, pow_pos, div-add-mod', div-mul-add, mod-mul-add, mod_below, pow-add, le-div, one_shl}
 pub use Rattle.std.proofs.lemmas.Option.{slice_get_within, slice_get-get_or, slice_get_read}
-pub use Rattle.std.proofs.lemmas.Result.{IfErr-weaker}
+pub use Rattle.std.proofs.lemmas.Result.{IfErr-weaker, IfOk-weaker, on_ok_weaker}
 pub use Rattle.std.specs.Int.{w64, to_be_bytes, trailing_zeros, bit_at}
 pub use Rattle.std.specs.Map.{lookup}
 pub use Rattle.std.specs.Option.{option_map_or, option_or, option_flatten, SomeIff}
@@ -203,3 +203,4 @@ pub use Rattle.qcow2_metadata.specs.declared.header.HeaderFields.{HeaderFields}
 pub use Rattle.qcow2_metadata.specs.declared.l2_mapping.L2Mapping.{L2Mapping}
 pub use Rattle.qcow2_metadata.specs.declared.l2_mapping.L2Mapping.TheVariants.{Uncovered, Data, Zero, Compressed}
 pub use mathlib.Core.Path.{fun_ext}
+pub use Rattle.qcow2_alloc.proofs.GrownTables.{run_few}

@@ -1,5 +1,5 @@
 -- What a call that guests don't see does, from its parts.
-use Rattle.qcow2_image.proofs.Common.{◌≡◌, ℕ, ◌/◌, ◌<◌, ◌≤◌, Bool, true, false, List, [], refl, sym, ap, ◌∙◌, subst, arith, Option, Some, None, IsTrue, slice_get, option_map_or, cond-true, cond-false, fun_ext, BackingView, StorageView, Bytes, cluster_size, known_byte, disk, Pending, StateInvariant, PreparedMapping, SameUsedBytes, used_by_guests, Setting, Guest, guest_of, meaning_at, EffectOnSound, unseen_disk, HeaderFields, state_in, contents_in, known_in, nothing_given, Qcow2, Prepared, below_of, of_data, of_tables, to_free, new_data_by, over_all, pending_in, abstract_of, meaning, is_entered, is_new, is_private, is_hidden, place_of, mapping_of_cluster, backing_bytes, ImageInvariant, MovesTables, pending_with_listed, ListGrows, InternalStep, InternalFreeingStep, stops_of}
+use Rattle.qcow2_image.proofs.Common.{◌≡◌, ℕ, ◌/◌, ◌<◌, ◌≤◌, Bool, true, false, List, [], refl, sym, ap, ◌∙◌, subst, arith, Option, Some, None, IsTrue, slice_get, option_map_or, cond-true, cond-false, fun_ext, BackingView, StorageView, Bytes, cluster_size, known_byte, disk, Pending, PreparedMapping, SameUsedBytes, used_by_guests, Setting, Guest, guest_of, meaning_at, EffectOnSound, unseen_disk, HeaderFields, state_in, contents_in, known_in, nothing_given, Qcow2, Prepared, below_of, of_data, of_tables, to_free, new_data_by, over_all, pending_in, abstract_of, meaning, is_entered, is_new, is_private, is_hidden, place_of, mapping_of_cluster, backing_bytes, ImageInvariant, MovesTables, pending_with_listed, ListGrows, InternalStep, InternalFreeingStep, stops_of}
 use Rattle.qcow2_image.proofs.Images.Moved.{format_file_step, format_stay}
 use Rattle.qcow2_image.proofs.Images.ClusterMappings.{private_used, used_unlaid}
 use Rattle.qcow2_image.proofs.Images.Sound.{free_more, pending_is}
@@ -41,13 +41,10 @@ module _ {S F : Type 0} (view : S → StorageView) (backing : F → BackingView)
       same_hidden : is_hidden view backing new q ≡ is_hidden view backing old q
       same_hidden = let test : HeaderFields → ℕ → Bool = λ h o. option_map_or is_new (mapping_of_cluster h q (o / cluster_size h)) false in ap test same_header
 
-      same_place : (o : ℕ) → place_of new.file.header.fields q o ≡ place_of old.file.header.fields q o
-      same_place o = ap (λ (h : HeaderFields). place_of h q o) same_header
-
       same_shown : (o : ℕ) (b : Bool) → is_private view backing old q o ≡ b → (meaning view backing new q).shown o ≡ (meaning view backing old q).shown o
       same_shown o true is =
           let now : is_private view backing new q o ≡ true = ap (λ (f : ℕ → Bool). f o) same_private ∙ is in
-          ap known_byte (cond-true _ _ _ now ∙ ap (contents_in view new.file) (same_place o) ∙ own_bytes o is ∙ sym (cond-true _ _ _ is))
+          ap known_byte (cond-true _ _ _ now ∙ ap (contents_in view new.file) (ap (λ (h : HeaderFields). place_of h q o) same_header) ∙ own_bytes o is ∙ sym (cond-true _ _ _ is))
       same_shown o false is =
           let now : is_private view backing new q o ≡ false = ap (λ (f : ℕ → Bool). f o) same_private ∙ is in
           ap known_byte (cond-false _ _ _ now ∙ sym (cond-false _ _ _ is))

@@ -1,6 +1,6 @@
 -- Calls that keep tables out of cluster 0 and leave its bytes the same, one after another.
-use Rattle.qcow2_image.proofs.Common.{◌≡◌, ◌∙◌, ◌⊎◌, inl, inr, ℕ, List, [], ◌∷◌, length, Result, Option, Some, None, true, false, ◌+◌, ◌*◌, ◌/◌, ◌^◌, ◌<◌, ◌≤◌, zero, suc, refl, sym, ap, subst, arith, IfSome, IsSome, w64, to_be_bytes, mul-le, pow_pos, overwritten, StorageView, Calls, Changes, ContentsStay, QuietCalls, StorageError, byte_at-overwritten_outside, whole_or_nothing, byte_at, EntryTableView, entry_count, entry_table, without_autoclear, HeaderFields, bytes_of_numbers, l1_table_pointer_written, size_written, L2TableView, LeaveHeaderCluster, KeepBehindHeader, view_in, storage_of, CachesSpareHeader, SparesBytes, SparesHeader, PreservesHeaderButPointer, StandsBehindHeader, Allocator, MetadataCaches, ImageFile, ImageStorage, below_others, bytes_stay, bytes_then, call_keeps, fewer_stay, quiet_keeps, same_kept, Qcow2, IsBegun, IsBesideNumbers, IsL1TableBehind, KeepsL1TableBehind, KeepsTablesBehind, NamesTablesBehind, PreservesHeaderCluster, TablesBehindHeader}
-use Rattle.qcow2_alloc.specs.HeaderClusters.{IsInHeaderCluster, IsBesidePointer, BytesStay, SameAt}
+use Rattle.qcow2_image.proofs.Common.{◌≡◌, ◌∙◌, ◌⊎◌, inl, inr, ℕ, List, [], length, Result, Option, Some, None, true, false, ◌+◌, ◌*◌, ◌/◌, ◌^◌, ◌<◌, ◌≤◌, zero, suc, refl, sym, ap, subst, arith, IfSome, IsSome, w64, to_be_bytes, mul-le, overwritten, StorageView, Calls, Changes, ContentsStay, QuietCalls, StorageError, byte_at-overwritten_outside, whole_or_nothing, byte_at, EntryTableView, entry_count, entry_table, without_autoclear, HeaderFields, bytes_of_numbers, l1_table_pointer_written, size_written, L2TableView, LeaveHeaderCluster, KeepBehindHeader, view_in, storage_of, CachesSpareHeader, SparesBytes, SparesHeader, PreservesHeaderButPointer, StandsBehindHeader, Allocator, MetadataCaches, ImageFile, ImageStorage, below_others, bytes_stay, bytes_then, call_keeps, fewer_stay, quiet_keeps, same_kept, Qcow2, IsBegun, IsBesideNumbers, IsL1TableBehind, KeepsL1TableBehind, KeepsTablesBehind, NamesTablesBehind, PreservesHeaderCluster, TablesBehindHeader}
+use Rattle.qcow2_alloc.specs.HeaderClusters.{IsInHeaderCluster, IsBesidePointer, SameAt}
 
 -- a byte of cluster 0 lies below each offset after it
 below_first : (bits o at : ℕ) → o / 2 ^ bits ≡ 0 → 2 ^ bits ≤ at → o < at
@@ -148,7 +148,6 @@ module _ {S : Type 0} where
     behind_placed result (Some c) at bytes same some behind wrote calls = behind_wrote result (at c) bytes same behind wrote calls
     behind_placed result None at bytes same some behind wrote calls = absurd (let e : false ≡ true = some in cc)
 
-    -- of the size
     pub behind_size : {T : Type 0} {v told v' : StorageView} {caches : MetadataCaches S} (result : Result T StorageError) (h : HeaderFields) → told ≡ v → Changes told v' result (size_written h) → Calls told v' result
         → KeepsTablesBehind own l1 v caches a own l1 v' caches a
     behind_size result h same wrote calls = behind_write result 24 (to_be_bytes w64 h.size) same (λ bits lies o kept. beside o kept.1) wrote calls

@@ -1,12 +1,9 @@
 -- A call begins with no recorded change, does parts that record their changes, and marks a failure: if memory runs out, the image fails exactly if a change was counted.
-use Rattle.qcow2_image.proofs.Common.{◌≡◌, ◌⊎◌, ℕ, ◌<◌, ◌≤◌, Bool, true, false, Ok, Err, inl, inr, refl, sym, ap, ◌∙◌, subst, arith, IsTrue, Result, ◌||◌, or_cases, or_left, or_right, le_refl, le_trans, StorageView, ContentsStay, Rose, CountsChanges, KeepsFileNotes, view_in, changes_of, is_changed_of, storage_of, MetadataCaches, ImageError, Memory, ImageFile, ImageStorage, Qcow2, IsBegun, has_noted_change, is_failed, with_marks, ChangesRose, CommitFailsOnceWritten, CountsImageChanges, FailsOnceWritten, HasMoreChanges, MarksOnceChanged, NoFewerChanges, RecordsChanges, RecordsPart, ReleasesOneMapping, CommitRefused, MarksFailed}
+use Rattle.qcow2_image.proofs.Common.{◌≡◌, ◌⊎◌, ℕ, ◌<◌, ◌≤◌, Bool, true, false, Ok, Err, inl, inr, refl, sym, ap, ◌∙◌, subst, arith, IsTrue, Result, ◌||◌, or_cases, or_left, or_right, le_refl, le_trans, StorageView, ContentsStay, Rose, CountsChanges, KeepsFileNotes, view_in, changes_of, is_changed_of, storage_of, MetadataCaches, ImageError, Memory, ImageFile, ImageStorage, Qcow2, IsBegun, has_noted_change, is_failed, with_marks, ChangesRose, CommitFailsOnceWritten, CountsImageChanges, FailsOnceWritten, HasMoreChanges, MarksOnceChanged, NoFewerChanges, RecordsChanges, RecordsPart, ReleasesOneMapping, CommitRefused, MarksFailed, rose_since}
 
 -- a number that rose has risen since before, and goes on having risen
 rose_later : (a b c : ℕ) → b ≤ c → Rose a b → Rose a c
 rose_later a b c le rose = le_trans rose le
-
-rose_before : (a b c : ℕ) → a ≤ b → Rose b c → Rose a c
-rose_before a b c le rose = omega (arith, le, rose)
 
 -- a newly counted change is recorded
 counted_noted : (was is : Bool) (before now : ℕ) → CountsChanges was before is now → before < now → IsTrue is
@@ -28,8 +25,8 @@ module _ {S F : Type 0} where
 
   pub changes_before : (a b c : Qcow2 S F) → NoFewerChanges a b → ChangesRose b c → ChangesRose a c
   changes_before a b c fewer rose = elim rose [
-    | inl storage ↦ inl (rose_before (changes_of a.file.storage) (changes_of b.file.storage) (changes_of c.file.storage) fewer.storage storage)
-    | inr tables ↦ inr (rose_before a.file.caches.changes b.file.caches.changes c.file.caches.changes fewer.tables tables)
+    | inl storage ↦ inl (rose_since (changes_of a.file.storage) (changes_of b.file.storage) (changes_of c.file.storage) fewer.storage storage)
+    | inr tables ↦ inr (rose_since a.file.caches.changes b.file.caches.changes c.file.caches.changes fewer.tables tables)
   ]
 
 module _ {S F : Type 0} (view : S → StorageView) where

@@ -4,10 +4,6 @@ use Rattle.image_access.specs.declared.error.StorageError.TheVariants as S
 use Rattle.qcow2_metadata.specs.declared.error.MetadataError.TheVariants as M
 use Rattle.qcow2_alloc.specs.declared.error.ImageError.TheVariants as I
 
-pub storage_fault : (e : StorageError) → IsFault (of_storage e)
-storage_fault S.Fault = inl refl
-storage_fault S.Memory = inr refl
-
 pub storage_unlimited : (e : StorageError) → IsUnlimited (of_storage e)
 storage_unlimited S.Fault = tt
 storage_unlimited S.Memory = tt

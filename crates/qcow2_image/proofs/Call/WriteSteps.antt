@@ -99,9 +99,6 @@ module _ {S F : Type 0} {view : S → StorageView} where
     header = header_then a.file.header b.file.header c.file.header first.header then.header;
   }
 
-  pub step_of_taking : {a b : Qcow2 S F} → AllocatingStep view a b → ImageStep view a b
-  step_of_taking part = record { stays = part.stays; notes = part.notes; header_cluster = part.header_cluster }
-
   -- ---- under a condition
   pub taking_where : {Where : Type 0} {a b : Qcow2 S F} → AllocatingStep view a b → AllocatingStepWhere view Where a b
   taking_where part = record { stays = part.stays; notes = part.notes; header_cluster = λ is. part.header_cluster; header = part.header }

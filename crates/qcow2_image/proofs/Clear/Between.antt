@@ -1,5 +1,5 @@
 -- The clusters between two offsets are cleared, as a part of a call.
-use Rattle.qcow2_image.proofs.Common.{◌≡◌, inl, inr, ℕ, suc, ◌+◌, ◌-◌, ◌*◌, ◌/◌, ◌%◌, ◌<◌, ◌≤◌, Bool, true, false, List, [], ◌∷◌, ◌++◌, Option, Some, None, refl, sym, ap, ◌∙◌, subst, arith, cond, mul_assoc, IsSome, IsTrue, slice_get, ◌↔◌, Result, Ok, Err, OnOk, cases_eq, cases_lt, div-add-mod', div-mul-add, mod-mul-add, mod_below, pow_pos, BackingView, StorageView, Bytes, HeaderFields, cluster_size, entries_per_cluster, cover, IsInReach, old_data_run, Guest, Setting, guest_of, EffectOnSound, cleared, with_disk, Pending, Disk, table_at, given_shown, guest_at, works_less, works_then, Sizes-from, Sizes, l2_pins, ClustersToFreeEntry, contents_in, known_in, IsEntryAt, own_cluster, InternalCall, ClearsImageCovers, ClearsPart, ClearsTable, IsUnderMapping, IsClearable, MayClear, ReadsAll, ReadsDropped, cover_once_cleared, given_bytes_between, is_between, listed_by, setting_of, shown_by, AreCleared, ClearMode, Qcow2, Prepared, l1_index_of, l2_index_of, IsPending, IsReadyWith, abstract_of, disk_of, listed_run, pending_in, pins_by, MovesTables, CoversStay, HoldsTable}
+use Rattle.qcow2_image.proofs.Common.{◌≡◌, inl, inr, ℕ, suc, ◌+◌, ◌-◌, ◌*◌, ◌/◌, ◌%◌, ◌<◌, ◌≤◌, Bool, true, false, List, [], ◌∷◌, ◌++◌, Option, Some, None, refl, sym, ap, ◌∙◌, subst, arith, cond, mul_assoc, IsSome, IsTrue, slice_get, ◌↔◌, cases_eq, cases_lt, div-add-mod', div-mul-add, mod-mul-add, mod_below, pow_pos, BackingView, StorageView, Bytes, HeaderFields, cluster_size, entries_per_cluster, cover, IsInReach, old_data_run, Guest, Setting, guest_of, EffectOnSound, cleared, with_disk, Pending, Disk, table_at, given_shown, guest_at, works_less, works_then, Sizes-from, l2_pins, ClustersToFreeEntry, contents_in, known_in, IsEntryAt, own_cluster, InternalCall, ClearsImageCovers, ClearsPart, ClearsTable, IsUnderMapping, IsClearable, MayClear, ReadsAll, ReadsDropped, cover_once_cleared, given_bytes_between, is_between, listed_by, setting_of, shown_by, AreCleared, ClearMode, Qcow2, Prepared, l1_index_of, l2_index_of, IsPending, IsReadyWith, abstract_of, disk_of, listed_run, pending_in, pins_by, MovesTables, CoversStay, HoldsTable}
 use Rattle.qcow2_image.proofs.Images.Apart.{pins_own}
 use Rattle.qcow2_image.proofs.Clear.Cleared.{all_cleared}
 use Rattle.qcow2_image.proofs.Images.Moved.{file_step_then}
@@ -63,11 +63,8 @@ module _ (size row : ℕ) (some : 0 < size) where
       abbrev first : ℕ
       first = from / size
 
-      column_below : first % row < row
-      column_below = mod_below first row rows
-
       inside : first % row * size + size ≤ row * size
-      inside = more (first % row) row column_below
+      inside = more (first % row) row (mod_below first row rows)
 
       swapped : size * row ≡ row * size
       swapped = omega arith
@@ -106,10 +103,6 @@ no_pins is_pinned n is not = elim (cases_lt 0 n) [
   | inl some ↦ absurd (let e : false ≡ true = sym not ∙ is.1 some in cc)
   | inr none ↦ omega (arith, none)
 ]
-
-pub on_ok : {T E A B : Type 0} (r : Result T E) → (A → B) → OnOk r A → OnOk r B
-on_ok (Ok x) follows is = follows is
-on_ok (Err e) follows is = tt
 
 -- ---- entries are read one after another
 
@@ -155,11 +148,8 @@ module _ {S F : Type 0} (view : S → StorageView) (backing : F → BackingView)
     same_setting : setting_of view backing mid ≡ setting_of view backing old
     same_setting = first.works.setting
 
-    same_disk : disk_of view backing mid ≡ disk_of view backing old
-    same_disk = ap (λ (g : Guest). g.disk) first.same
-
     cleared_same : cleared (setting_of view backing mid) (disk_of view backing mid) (shown_by how) from to ≡ cleared (setting_of view backing old) (disk_of view backing old) (shown_by how) from to
-    cleared_same = ap (λ (x : Setting). cleared x (disk_of view backing mid) (shown_by how) from to) same_setting ∙ ap (λ (d : Disk). cleared (setting_of view backing old) d (shown_by how) from to) same_disk
+    cleared_same = ap (λ (x : Setting). cleared x (disk_of view backing mid) (shown_by how) from to) same_setting ∙ ap (λ (d : Disk). cleared (setting_of view backing old) d (shown_by how) from to) (ap (λ (g : Guest). g.disk) first.same)
 
     pub clears_after : ClearsPart view backing how from to mid new out → ClearsPart view backing how from to old new out
     clears_after part =

@@ -102,9 +102,6 @@ module _ {S F : Type 0} (view : S → StorageView) (backing : F → BackingView)
     first_so : first ≡ from_in old offset n
     first_so = ap (λ (r : ℕ × ℕ). r.0) allowed.1
 
-    last_so : last ≡ to_in old offset n
-    last_so = ap (λ (r : ℕ × ℕ). r.1) allowed.1
-
     -- what isn't refused at once
     pub not_early : (new : Qcow2 S F) (r : Result (ℕ × ℕ) ImageError) → IfSome (refuses_to_clear old offset n how) (λ e. (r ≡ Err e) × (new ≡ old))
     not_early new r = none_early (refuses_to_clear old offset n how) (λ e. (r ≡ Err e) × (new ≡ old)) allowed.0
@@ -112,7 +109,7 @@ module _ {S F : Type 0} (view : S → StorageView) (backing : F → BackingView)
     -- ---- no cluster is whole
     module _ (least : last ≤ first) where
       empty : to_in old offset n ≤ from_in old offset n
-      empty = let from = first_so in let to = last_so in omega (arith, from, to, least)
+      empty = let from = first_so in let to = ap (λ (r : ℕ × ℕ). r.1) allowed.1 in omega (arith, from, to, least)
 
       touches_none : {B : Type 0} → from_in old offset n < to_in old offset n → B
       touches_none some = let none = empty in absurd (omega (arith, some, none))

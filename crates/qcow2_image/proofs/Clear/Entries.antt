@@ -29,9 +29,6 @@ all_old_data : (run : Option (ℕ × ℕ)) (c : ℕ) → run_has (cond (is_same_
 all_old_data None c = refl
 all_old_data (Some r) c = refl
 
-none_old_data : (run : Option (ℕ × ℕ)) (c : ℕ) → run_has (cond (is_same_run run run) None run) c ≡ 0
-none_old_data run c = ap (λ b. run_has (cond b None run) c) (same_self run)
-
 module _ (h : HeaderFields) (c : ℕ) where
   -- it names nothing then
   gone : (v w : L2Mapping) → IsInReach v → named_run h.cluster_bits w ≡ None → named_by_cover h c w ≡ 0 → named_by_cover h c v ≡ named_by_cover h c w + run_has (old_data_run h.cluster_bits v w) c
@@ -45,7 +42,7 @@ module _ (h : HeaderFields) (c : ℕ) where
   same : (v w : L2Mapping) → named_run h.cluster_bits w ≡ named_run h.cluster_bits v → named_by_cover h c w ≡ named_by_cover h c v → named_by_cover h c v ≡ named_by_cover h c w + run_has (old_data_run h.cluster_bits v w) c
   same v w runs names =
       let none : run_has (old_data_run h.cluster_bits v w) c ≡ 0 =
-      ap (λ r. run_has (cond (is_same_run (named_run h.cluster_bits v) r) None (named_run h.cluster_bits v)) c) runs ∙ none_old_data (named_run h.cluster_bits v) c in
+      ap (λ r. run_has (cond (is_same_run (named_run h.cluster_bits v) r) None (named_run h.cluster_bits v)) c) runs ∙ (ap (λ b. run_has (cond b None (named_run h.cluster_bits v)) c) (same_self (named_run h.cluster_bits v))) in
       omega arith
 
   kept_by : (place : ℕ) (checkpoint : Bool) (k : ℕ × Bool) → k ≡ (place, checkpoint) → IsInReach (Zero (Some k)) → named_by_cover h c (Zero (Some k)) ≡ named_by_cover h c (zero_cover (copied_kept (Some k))) + run_has (old_data_run h.cluster_bits (Zero (Some k)) (zero_cover (copied_kept (Some k)))) c
@@ -198,9 +195,6 @@ module _ {S F : Type 0} (view : S → StorageView) (backing : F → BackingView)
   mapped : Mapped
   mapped = mapped_as how is_now
 
-  pub others : (g : ℕ) → g ≢ guest_at a.file.header.fields row column → cover a.file.header.fields (known_in view a.file) g ≡ cover a.file.header.fields (known_of a.file.header.fields b.file.caches (contents_in view a.file)) g
-  others = mapped.covers
-
   -- ---- the image
   abbrev final : Qcow2 S F
   final = record a { file = record a.file { caches = caches } }
@@ -262,7 +256,7 @@ module _ {S F : Type 0} (view : S → StorageView) (backing : F → BackingView)
     sound_now = final_sound;
     turn = final_turn;
     cleared = covered;
-    stays = others;
+    stays = mapped.covers;
     table_stays = ap host_offset (same_l1 row);
     counts = counts_stay;
     new_data = λ reach k. let n = names_cleared h k how old reach in let then = named_then k in let before = named_before k in omega (arith, n, then, before);

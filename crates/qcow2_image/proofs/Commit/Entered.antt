@@ -8,6 +8,7 @@ use Rattle.qcow2_image.proofs.Call.Called.{works_none}
 use Rattle.qcow2_image.proofs.Call.Slots.{get_set_other, get_set_same, length_set, set_same, set_set}
 use Rattle.qcow2_image.proofs.Commit.Committing.{enters_part}
 use Rattle.qcow2_image.proofs.Images.ClusterMappings.{host_first, over_all_at, private_shared}
+use Rattle.qcow2_image.proofs.Images.Backings.{table_is}
 
 -- ---- what a guest sees, in parts
 -- nothing is shown anew
@@ -176,11 +177,6 @@ module _ {S F : Type 0} (view : S → StorageView) (backing : F → BackingView)
       ap (λ (m : Qcow2 S F). m.file.caches.is_changed) enters.lists ∙ enters.enters.recorded t is_table h (pending_in view backing old out) (contents_in view old.file) (cluster_of h p / entries_per_cluster h) sound.file.caches
       (record { real = pending.named.real; place = pending.named.place; within = subst (λ j. j < entries_per_cluster h) (sym index_is) inside }) found (subst (IsHostCluster h.cluster_bits) (sym cluster_is) its.nameable)
 
--- a table that is there
-pub table_there : (x : Option ℕ) → IsSome x → (t : ℕ) × (x ≡ Some t)
-table_there None some = absurd (let e : false ≡ true = some in cc)
-table_there (Some t) some = (t, refl)
-
 -- if each cluster is in place, nothing is private
 pub all_in_place : {S F : Type 0} (view : S → StorageView) (backing : F → BackingView) (image : Qcow2 S F) (p : Prepared) → ((j : ℕ) → j < length p.clusters.items → slice_get p.clusters.items j ≡ Some InPlace) → (o : ℕ) → is_private view backing image p o ≡ false
 all_in_place view backing image p each o = by_test (is_private view backing image p o) refl where
@@ -285,7 +281,7 @@ module _ {S F : Type 0} (view : S → StorageView) (backing : F → BackingView)
           parts = λ out k placed some sound.
               let before = (first.parts out k placed some sound).0 in
               let at = get_set_same out k (Some q) (Some p) placed in
-              let there = table_there q.table (subst (λ (x : Option ℕ). IsSome x) (sym first.table) some) in (
+              let there = table_is q.table (subst (λ (x : Option ℕ). IsSome x) (sym first.table) some) in (
                 parts_then view backing out k old now new p q r before (entered_part view backing now new n q r enters (slice_set out k (Some q)) k at there.0 there.1 before.sound),
                 λ _. entered_noted view backing now new n q r enters (slice_set out k (Some q)) k at there.0 there.1 before.sound,
               );
@@ -300,7 +296,6 @@ module _ {S F : Type 0} (view : S → StorageView) (backing : F → BackingView)
           behind = behind_then first.behind (behind_then (behind_by view enters.enters.rest (behind_tables enters.enters.behind)) (behind_by view enters.lists behind_none));
         }
 
-  -- all are
   pub enters_all : (old now : Qcow2 S F) (p q : Prepared) (n : ℕ) (entered : Bool) → EntersFirst old now p q n entered → n ≡ length p.clusters.items → EntersAll view backing old now p q entered
   enters_all old now p q n entered first all = λ out k placed some sound.
       let parts = first.parts out k placed some sound in

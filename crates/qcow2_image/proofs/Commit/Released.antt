@@ -1,5 +1,5 @@
 -- A prepared mapping is released: its slot is empty, and its new clusters wait to be freed.
-use Rattle.qcow2_image.proofs.Common.{◌≡◌, inl, inr, ℕ, ◌+◌, ◌-◌, ◌≤◌, Bool, true, false, List, [], ◌++◌, refl, sym, ap, ◌∙◌, subst, arith, cond, Option, Some, None, slice_get, slice_set, nat_le, nat_lt, ◌&&◌, cases_lt, fun_ext, BackingView, StorageView, Bytes, HeaderFields, new_data_to_old_data, disk, Pending, CrashInvariant, DriverState, SafeStep, AreNamedBlocks, guest_of, with_slot, pending_safe_throughout, pending_is_changed, CachedTable, run_at, l2_pins, SameTables, MetadataCaches, order_of, known_of, CacheInvariant, state_in, view_in, contents_in, known_in, nothing_given, count, Qcow2, Prepared, ClusterMapping, Discards, freed_by, of_data, of_tables, new_data_by, pins_by, pending_in, abstract_of, meaning, backing_bytes, IsReadyWith, ImageInvariant, rests_none, header, cover, file_invariant_of}
+use Rattle.qcow2_image.proofs.Common.{◌≡◌, inl, inr, ℕ, ◌+◌, ◌-◌, ◌≤◌, List, [], ◌++◌, refl, sym, ap, ◌∙◌, subst, arith, Option, Some, None, slice_get, slice_set, cases_lt, fun_ext, BackingView, StorageView, Bytes, HeaderFields, new_data_to_old_data, disk, Pending, CrashInvariant, DriverState, SafeStep, AreNamedBlocks, guest_of, with_slot, pending_safe_throughout, pending_is_changed, CachedTable, l2_pins, SameTables, MetadataCaches, order_of, known_of, CacheInvariant, state_in, view_in, contents_in, known_in, nothing_given, count, Qcow2, Prepared, ClusterMapping, Discards, freed_by, of_data, of_tables, new_data_by, pins_by, pending_in, abstract_of, meaning, backing_bytes, IsReadyWith, ImageInvariant, rests_none, header, cover, file_invariant_of}
 use Rattle.qcow2_image.proofs.Call.Answered.{same_guest}
 use Rattle.qcow2_image.proofs.Images.ClusterMappings.{IsOfData, freed_data, freed_tables, of_data_at, over_all_at, ready_table}
 use Rattle.qcow2_image.proofs.Images.Sound.{free_more}
@@ -18,9 +18,6 @@ sound_while h p q caches on_storage crash_invariant sound =
       rb_fit = sound.rb_fit;
       kept = record { kept = record { crash_invariant = crash_invariant; l2_apart = k.l2_apart; rb_apart = k.rb_apart; l2_stand = k.l2_stand; rb_stand = k.rb_stand }; l2_loaded = sound.kept.l2_loaded; rb_loaded = sound.kept.rb_loaded };
     }
-
-pub run_few : (first n k : ℕ) → run_at first n k ≤ 1
-run_few first n k = elim (nat_le first k && nat_lt k (first + n)) as (λ (b : Bool). cond b 1 0 ≤ 1) [ true ↦ omega arith | false ↦ omega arith ]
 
 module _ {S F : Type 0} (view : S → StorageView) (backing : F → BackingView) (old : Qcow2 S F) (p : Prepared) (caches : MetadataCaches S) (tables : SameTables old.file.caches caches)
     (pins : (c : ℕ) → l2_pins caches c ≡ l2_pins old.file.caches c - pins_by p c) where

@@ -10,7 +10,6 @@ use Rattle.qcow2_image.proofs.Flush.Freeing.{all_listed, beside}
 use Rattle.qcow2_image.proofs.Grow.GrownByParts.{call_since, lasts_then}
 use Rattle.qcow2_image.proofs.Images.Sizes.{sound_is_usable}
 
--- no disk is below
 none_below : {F : Type 0} (backing : F → BackingView) {S : Type 0} (view : S → StorageView) (below : Option F) → is_some below ≡ false → backing_bytes view backing below ≡ (λ i. 0)
 none_below backing view None alone = refl
 none_below backing view (Some f) alone = absurd (cc alone)
@@ -180,9 +179,6 @@ module _ {S F : Type 0} (view : S → StorageView) (backing : F → BackingView)
       format_new : SameFormat old.file.header.fields new.file.header.fields
       format_new = format_then old.file.header.fields mid.file.header.fields new.file.header.fields format_mid written.0.format
 
-      clusters_same : cluster_size (header after) ≡ cluster_size old.file.header.fields
-      clusters_same = ap (λ (h : HeaderFields). cluster_size h) (new_is ∙ format_new)
-
       stay_stored : CoversStay mid.file.header.fields (known_in view mid.file) (header after) after
       stay_stored = subst (λ (h : HeaderFields). CoversStay mid.file.header.fields (known_in view mid.file) h after) (sym new_is) (subst (λ (b : Bytes). CoversStay mid.file.header.fields (known_in view mid.file) new.file.header.fields b) clean written.2)
 
@@ -206,7 +202,7 @@ module _ {S F : Type 0} (view : S → StorageView) (backing : F → BackingView)
           let sound = (takes.sees []).answer opened.sound in
           let works = (takes.sees []).acts.works opened.sound in
           stands mode (taken_stops alone mode hides works sound.0 new written.0.since) (zeros_new mode size after hides (taken_zeros alone mode hides works sound.0 new written.0.since size_new))
-          (covers_then hides after clusters_same stay_stored) (taken_rest alone mode hides works sound.0 new written.0.since)
+          (covers_then hides after (ap (λ (h : HeaderFields). cluster_size h) (new_is ∙ format_new)) stay_stored) (taken_rest alone mode hides works sound.0 new written.0.since)
 
       stands_shown : Lasts view old new (size ∷ []) → Enlarges Mode.None size (view_in view old.file) (view_in view new.file) (Ok tt)
       stands_shown lasts =

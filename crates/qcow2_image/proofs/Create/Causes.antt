@@ -155,8 +155,3 @@ module _ {S : Type 0} (builder : Qcow2CreateBuilder S) where
         → IfErr r (IsReasonNotToCreateOpen view builder)
     opening_reasons storage (Ok image) made rightly = tt
     opening_reasons storage (Err refused) made rightly = opening_reason storage refused.0 made refused.1 (rightly.1 made.honest)
-
-module _ {S : Type 0} (view : S → StorageView) where
-  -- an image that is made is opened
-  pub counts_opened : {F : Type 0} (before mid : ℕ) (r : Result (Qcow2 S F) (S × ImageError)) → mid ≡ before → OpeningCounts view mid r → OpeningCounts view before r
-  counts_opened before mid r same counts = subst (λ n. OpeningCounts view n r) same counts

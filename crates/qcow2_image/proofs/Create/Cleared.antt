@@ -24,7 +24,6 @@ module _ {old new : StorageView} (counts : (t : ℕ) → t ≤ old.moment → ol
   emptied result calls changes honest =
       passes_as (λ c. c ≡ []) (calls.time honest) (⊎_elim (λ same. inl same) (λ cut. inr (cut ∙ none_there (resized old.contents 0) (length-resized old.contents 0))) (whole_or_nothing result old.contents (resized old.contents 0) new.contents (changes honest)))
 
--- its size is asked first
 pub asked_first : {old mid new : StorageView} {T U : Type 0} (size : Result U StorageError) (result : Result T StorageError) → ((t : ℕ) → t ≤ old.moment → old.had_since t old.contents) → ((t : ℕ) → t ≤ mid.moment → mid.had_since t mid.contents)
     → QuietCalls old mid size → mid.contents ≡ old.contents → Calls mid new result → Changes mid new result (λ b. resized b 0) → mid.is_honest → EachMomentSince old new (λ c. c ≡ [])
 asked_first size result counts counts_mid asks same calls changes honest =

@@ -1,11 +1,10 @@
 -- Creating is refused only for a limit or a fault.
-use Rattle.qcow2_image.proofs.Common.{◌≡◌, ◌⊎◌, inl, inr, ℕ, ◌<◌, ◌≤◌, true, false, List, [], None, Result, Ok, Err, refl, sym, ap, ◌∙◌, subst, arith, IfErr, IsTrue, is_some, cases_lt, BackingView, StorageView, PreallocateMode, Bytes, byte_at, IsConsistent, cover, header, HasAlignedTables, MetadataError, HeaderFields, L2Mapping, Uncovered, IsOpened, IsCompressed, IsFault, of_metadata, known_in, view_in, ImageError, HasPinnedMapping, IsUnmapped, IsUnwritten, SameFormat, size_of, abstract_of, HasCompressedIn, MayFailGrowing, IsJustifiedRefusal, IsTableRefused, IsFaultOrLimit, takes_over, Qcow2}
+use Rattle.qcow2_image.proofs.Common.{◌≡◌, ◌⊎◌, inl, inr, ℕ, ◌<◌, ◌≤◌, true, false, List, [], None, Result, Ok, Err, refl, sym, ap, ◌∙◌, subst, arith, IfErr, IsTrue, is_some, cases_lt, BackingView, StorageView, PreallocateMode, Bytes, byte_at, IsConsistent, cover, header, HasAlignedTables, MetadataError, HeaderFields, L2Mapping, Uncovered, IsOpened, IsCompressed, IsFault, of_metadata, known_in, view_in, ImageError, HasPinnedMapping, IsUnmapped, IsUnwritten, SameFormat, size_of, abstract_of, HasCompressedIn, MayFailGrowing, IsJustifiedRefusal, IsTableRefused, IsFaultOrLimit, takes_over, Qcow2, IfErr-weaker}
 use Rattle.image_access.specs.declared.storage.PreallocateMode.TheVariants as Mode
 use Rattle.qcow2_metadata.specs.declared.error.MetadataError.TheVariants as M
 use Rattle.qcow2_alloc.specs.declared.error.ImageError.TheVariants as I
 use Rattle.qcow2_image.specs.declared.image.Missing.TheVariants as N
 use Rattle.qcow2_image.proofs.Create.NewDisks.{unwritten_uncovered}
-use Rattle.qcow2_image.proofs.Prepare.RefusedAsPrepared.{if_err}
 
 -- want of memory
 pub memory_fault : (e : MetadataError) → e ≡ M.Memory → IsFault (of_metadata e)
@@ -42,7 +41,6 @@ takes_none image Mode.FormatAllocate alone takes = absurd (let bad : false ≡ t
 takes_none image Mode.FullAllocate alone takes = absurd (let bad : false ≡ true = sym alone ∙ takes in cc)
 takes_none image Mode.WriteData alone takes = absurd (let bad : false ≡ true = sym alone ∙ takes in cc)
 
--- none is prepared
 pub none_prepared : HasPinnedMapping [] → ⊥
 none_prepared some = absurd (let none = some.there in cc)
 
@@ -73,7 +71,7 @@ module _ {S F : Type 0} (view : S → StorageView) (old : Qcow2 S F) (unmapped :
 
   pub grown_fault : (new : Qcow2 S F) (size to : ℕ) (mode : PreallocateMode) (r : Result (Unit {0}) ImageError) → is_some old.backing ≡ false → (size ≤ size_of old → (r ≡ Ok tt) × (new ≡ old))
       → (size_of old < size → IfErr r (λ e. MayFailGrowing [] mode (size_of old) to old.file.header.fields (known_in view old.file) e ⊎ ((e ≡ I.Preallocation) × IsTrue (takes_over old mode)))) → IfErr r IsFaultOrLimit
-  grown_fault new size to mode r alone no_larger may_fail = if_err r (λ e why. elim why [ inl fault ↦ fault | inr over ↦ absurd (takes_none old mode alone over.1) ]) (grown_refused new size to mode r no_larger may_fail)
+  grown_fault new size to mode r alone no_larger may_fail = IfErr-weaker r _ _ (λ e why. elim why [ inl fault ↦ fault | inr over ↦ absurd (takes_none old mode alone over.1) ]) (grown_refused new size to mode r no_larger may_fail)
 
 -- an unwritten image of version 3 was opened
 pub unmapped_opened : {S F : Type 0} (view : S → StorageView) (backing : F → BackingView) (image : Qcow2 S F) (h : HeaderFields) (n : ℕ) → IsOpened (abstract_of view backing image []) → IsUnwritten n (byte_at (view_in view image.file).contents)

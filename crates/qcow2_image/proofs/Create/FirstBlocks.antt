@@ -1,11 +1,7 @@
 -- The refblock of a new image counts the image's clusters, one after another.
-use Rattle.qcow2_image.proofs.Common.{◌≡◌, ◌≢◌, inl, inr, ℕ, zero, suc, ◌+◌, ◌-◌, ◌^◌, ◌<◌, ◌≤◌, Bool, true, false, IsTrue, IsFalse, refl, sym, ap, ◌∙◌, subst, arith, if◌then◌else◌, nat_lt, cases_eq, cases_lt, cond-true, cond-false, lt-ltb, le-ltb, pow_pos, pow_mono, RefBlockView, IsRefBlock, ChangesCount, count_at, count_limit, counts_of}
+use Rattle.qcow2_image.proofs.Common.{◌≡◌, ◌≢◌, inl, inr, ℕ, ◌+◌, ◌-◌, ◌^◌, ◌≤◌, Bool, true, false, IsTrue, IsFalse, refl, sym, ap, ◌∙◌, subst, arith, if◌then◌else◌, nat_lt, cases_eq, cases_lt, cond-true, cond-false, lt-ltb, le-ltb, pow_pos, pow_mono, RefBlockView, IsRefBlock, ChangesCount, count_at, count_limit, counts_of}
 use Rattle.qcow2_metadata.proofs.Sizes.{counts_in_block}
-
--- the greatest count is above 0
-limit_above : (n : ℕ) → 0 < n → 2 ≤ 2 ^ n
-limit_above zero some = absurd (omega arith)
-limit_above (suc n) some = let p = pow_pos n in omega arith
+use Rattle.qcow2_alloc.proofs.RunBlocks.{limit_above}
 
 -- a refblock counts more than three clusters
 pub many_counts : (b : RefBlockView) → IsRefBlock b → 64 ≤ counts_of b
@@ -29,7 +25,6 @@ pub record Counts (n : ℕ) (old b : RefBlockView) : Type 0 where
   pub order : b.refcount_order ≡ old.refcount_order
   pub counts : CountsBelow n b
 
--- the next one is counted too
 counted_next : (n : ℕ) (old new : RefBlockView) → CountsBelow n old → ChangesCount old.refcount_order old.bytes new.bytes n (count_at old n + 1) → new.refcount_order ≡ old.refcount_order → CountsBelow (n + 1) new
 counted_next n old new below changed same i =
     let order = ap (λ (o : ℕ). count_at (record new { refcount_order = o }) i) same in

@@ -34,7 +34,6 @@ module _ {S F : Type 0} (view : S → StorageView) (backing : F → BackingView)
       let bare : count h b k - (named h b k + 0 + 0 + 0) ≡ 0 = subst (λ (l : List ClustersToFreeEntry). count h b k - (named h b k + 0 + to_free of_tables l k + to_free of_data l k) ≡ 0) empty at in
       omega (arith, bare)
 
-  -- it is flushed
   pub no_leaks_flushed : (old mid new : Qcow2 S F) → KeepsSurplus view backing old mid → IsTrue (is_writable old) → ((k : ℕ) → (abstract_of view backing old []).surplus k ≡ 0) → (r : Result (Unit {0}) ImageError) → FlushesImage view backing mid new r
       → (IsTrue (is_writable mid) → OnOk r (HasNothingToFree new)) → OnOk r (HasNoLeaks (byte_at (view_in view new.file).contents))
   no_leaks_flushed old mid new grew writable none (Ok x) flushes emptied = λ k.

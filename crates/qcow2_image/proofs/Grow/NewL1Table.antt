@@ -24,8 +24,7 @@ pub run_free : {S F : Type 0} (view : S → StorageView) (p : Pending) (image : 
     → (order_of image.file.caches ≡ RbDependsOnL2 → SameCovers image.file.header.fields (contents_in view image.file) (known_in view image.file))
     → (c : ℕ) → 0 < in_run image.file.header.fields c (cluster * cluster_size image.file.header.fields) (length t.bytes) → IsFree view (with_table p t cluster) image.file c
 run_free view p image t cluster sound bits covers c some =
-    let h = image.file.header.fields in
-    let run = same_run h t cluster c bits in
+    let run = same_run image.file.header.fields t cluster c bits in
     let crash_invariant = sound.caches.kept.kept.crash_invariant in
     let new_tables : 0 < p.new_tables c + run_at cluster (clusters_of t) c = omega (arith, run, some) in
     let tally = (crash_invariant.each_cluster c).tally in
@@ -47,9 +46,6 @@ module _ {S F : Type 0} (view : S → StorageView) (backing : F → BackingView)
       (wrote : Changes (view asked) (view after) result (λ b. overwritten b (cluster * 2 ^ image.file.header.fields.cluster_bits) t.bytes)) (called : Calls (view asked) (view after) result) where
     writes : Changes (view_in view image.file) (view after) result (λ b. overwritten b place t.bytes)
     writes = subst (λ (s : S). Changes (view s) (view after) result (λ b. overwritten b place t.bytes)) same wrote
-
-    calls : Calls (view_in view image.file) (view after) result
-    calls = subst (λ (s : S). Calls (view s) (view after) result) same called
 
     -- outside of them all stays
     outside : (c : ℕ) → in_run h c place (length t.bytes) ≤ 0 → SameIn (cluster_size h) c (contents_in view image.file) (byte_at (overwritten (view_in view image.file).contents place t.bytes))
@@ -83,7 +79,7 @@ module _ {S F : Type 0} (view : S → StorageView) (backing : F → BackingView)
       each_now c = subst (λ (s : S). SameIn (cluster_size h) c (contents_in view image.file) (byte_at (view s).contents) ⊎ (IsUnnamed h (contents_in view image.file) (known_in view image.file) c × (q.new_data c ≡ 0))) (sym stored) (each c)
 
       calls_now : Calls (view_in view image.file) (view (storage_of storage)) result
-      calls_now = subst (λ (s : S). Calls (view_in view image.file) (view s) result) (sym stored) calls
+      calls_now = subst (λ (s : S). Calls (view_in view image.file) (view s) result) (sym stored) (subst (λ (s : S). Calls (view s) (view after) result) same called)
 
       reftable_now : (a : Option Allocator) → IfSome a (IsAllocatorOf view image.file) → IfSome a (IsAllocatorOf view placed.file)
       reftable_now = allocator_moved view image.file placed.file q (file_step_written view q image.file storage sound.file (calls_now.honest sound.file.honest) each_now (calls_now.time sound.file.honest))

@@ -28,7 +28,7 @@ pinned_by (Some p ∷ out) t lt = elim (cases_lt 0 (pins_by p t)) [
   | inr none ↦ let rest = pinned_by out t (omega arith) in record { place = suc rest.place; mapping = rest.mapping; there = rest.there; pins = rest.pins }
 ]
 
-table_is : (o : Option ℕ) → IsSome o → (t : ℕ) × (o ≡ Some t)
+pub table_is : (o : Option ℕ) → IsSome o → (t : ℕ) × (o ≡ Some t)
 table_is None some = absurd (cc)
 table_is (Some t) some = (t, refl)
 

@@ -1,5 +1,5 @@
 -- What stays the same when an image's tables move.
-use Rattle.qcow2_image.proofs.Common.{◌≡◌, ℕ, ◌+◌, ◌/◌, ◌%◌, true, refl, sym, ap, ◌∙◌, subst, Option, None, Some, Bytes, HeaderFields, cluster_size, entries_per_cluster, with_l1_table, with_tables_of, cover, IsDataAt, l1_entry, host_offset, is_copied, IsInReach, named_run, SameCovers, table_at, is_copied_data, places_of, with_places, KeepsFormat, cover_format, Prepared, ClusterMapping, InPlace, Kept, New, SameFormat, cluster_of, listed_run, IsReadyWith, IsClusterMappingAt, MovesTables, CoversStay}
+use Rattle.qcow2_image.proofs.Common.{◌≡◌, ℕ, ◌+◌, ◌/◌, ◌%◌, true, refl, sym, ap, ◌∙◌, subst, Option, None, Some, Bytes, HeaderFields, cluster_size, entries_per_cluster, with_l1_table, with_tables_of, cover, IsDataAt, l1_entry, host_offset, is_copied, IsInReach, named_run, SameCovers, table_at, is_copied_data, KeepsFormat, cover_format, Prepared, ClusterMapping, InPlace, Kept, New, cluster_of, listed_run, IsReadyWith, IsClusterMappingAt, MovesTables, CoversStay}
 
 -- ---- the header
 
@@ -9,9 +9,6 @@ file_step_then a b c first then = then ∙ ap (λ (k : HeaderFields). with_table
 -- where only the reftable may have moved
 pub format_file_step : (h h' : HeaderFields) → KeepsFormat h h' → MovesTables h h'
 format_file_step h h' format = subst (λ (k : HeaderFields). k ≡ with_tables_of h k) (sym format) refl
-
-pub file_step_format : (h h' : HeaderFields) → MovesTables h h' → SameFormat h h'
-file_step_format h h' file_step = subst (λ (k : HeaderFields). k ≡ with_places h (places_of k)) (sym file_step) refl
 
 -- ---- the mappings of guest clusters
 pub stay_then : (a b c : HeaderFields) (known known' known'' : Bytes) → CoversStay a known b known' → CoversStay b known' c known'' → CoversStay a known c known''

@@ -1,35 +1,15 @@
 -- An image whose tables were dropped and read again, from the parts of the call.
-use Rattle.qcow2_image.proofs.Common.{◌≡◌, ℕ, ◌<◌, ◌≤◌, ◌*◌, List, inl, inr, Result, Ok, Err, refl, sym, ap, ◌∙◌, subst, IfSome, IsErrAnd, IsSome, OnOk, Option, BackingView, StorageView, byte_at, HeaderView, entries_per_cluster, header, with_fields, with_tables_of, HeaderFields, Pending, l2_pins, CachesHaveRoom, IsFault, contents_in, known_in, view_in, HasReftable, l2_at, rb_at, AreAllWritten, MetadataCaches, ImageError, ImageFile, notes_then, is_writable, leaked_in, ImageStays, IsBegun, HasL1Table, ImageInvariant, ImageStep, ArePlacesFor, DropsCached, RespectsPrepared, HoldsNoTable, IsAsStored, IsAtRest, IsReasonAgainstPlaces, IsReasonAgainstReading, IsOfPrepared, IsReasonNotToRead, IsStillInUse, KeepsTables, ReadsAnew, ReadsPlaces, ReplacesTables, reftable_in, HasPinnedTable, IsReasonAgainstTables, ContentsStayThroughout, Qcow2, Prepared}
+use Rattle.qcow2_image.proofs.Common.{◌≡◌, ℕ, ◌<◌, ◌≤◌, ◌*◌, List, inl, inr, Result, Ok, Err, refl, sym, ap, ◌∙◌, subst, IfSome, IsErrAnd, IsSome, OnOk, Option, BackingView, StorageView, byte_at, HeaderView, entries_per_cluster, header, with_fields, with_tables_of, HeaderFields, Pending, l2_pins, CachesHaveRoom, IsFault, contents_in, known_in, view_in, HasReftable, l2_at, rb_at, AreAllWritten, MetadataCaches, ImageError, ImageFile, notes_then, is_writable, leaked_in, IsBegun, HasL1Table, ImageInvariant, ImageStep, ArePlacesFor, DropsCached, RespectsPrepared, HoldsNoTable, IsAsStored, IsAtRest, IsReasonAgainstPlaces, IsReasonAgainstReading, IsOfPrepared, IsReasonNotToRead, IsStillInUse, KeepsTables, ReadsAnew, ReadsPlaces, ReplacesTables, reftable_in, HasPinnedTable, IsReasonAgainstTables, ContentsStayThroughout, Qcow2, Prepared}
 use Rattle.qcow2_alloc.specs.declared.error.ImageError.TheVariants as I
 use Rattle.qcow2_image.proofs.Call.BehindHeader.{behind_then}
-use Rattle.qcow2_image.proofs.Call.ImageSteps.{step_then}
+use Rattle.qcow2_image.proofs.Call.ImageSteps.{step_then, stays_then}
 use Rattle.qcow2_image.proofs.Invalidate.Reading.{silent_none, silent_then, stays_over}
 use Rattle.qcow2_image.proofs.Invalidate.TakenOver.{kept_then}
 use Rattle.qcow2_image.proofs.Invalidate.Reasons.{l1_fault, places_fault, reftable_fault}
 
--- what holds in any case holds of an answer
-pub on_any : {A E : Type 0} {P : Type 0} (r : Result A E) → P → OnOk r P
-on_any (Ok x) holds = holds
-on_any (Err e) holds = tt
-
-pub on_map : {A E : Type 0} {P Q : Type 0} (r : Result A E) → (P → Q) → OnOk r P → OnOk r Q
-on_map (Ok x) follows holds = follows holds
-on_map (Err e) follows holds = tt
-
 pub on_both : {A E : Type 0} {P Q R : Type 0} (r : Result A E) → (P → Q → R) → OnOk r P → OnOk r Q → OnOk r R
 on_both (Ok x) follows first second = follows first second
 on_both (Err e) follows first second = tt
-
-stays_on : {S F : Type 0} {a b c : Qcow2 S F} → ImageStays a b → ImageStays b c → ImageStays a c
-stays_on first then = record {
-  image = record {
-    number = then.image.number ∙ first.image.number;
-    size = then.image.size ∙ first.image.size;
-    writable = then.image.writable ∙ first.image.writable;
-    external = then.image.external ∙ first.image.external;
-  };
-  failed = then.failed ∙ first.failed;
-}
 
 -- the clusters to be freed are forgotten, and tables are dropped: those in memory stay
 pub kept_dropped : {S F : Type 0} (a b : Qcow2 S F) → DropsCached a b → KeepsTables a b
@@ -98,7 +78,7 @@ module _ {S F : Type 0} (view : S → StorageView) (a b d : Qcow2 S F) (step : I
         let first = step_then step places.part in
         record {
           part = record {
-            stays = stays_on first.stays tables.part.stays;
+            stays = stays_then first.stays tables.part.stays;
             notes = notes_then first.notes tables.part.notes;
             header_cluster = λ names. behind_then first.header_cluster (tables.part.header_cluster names);
           };

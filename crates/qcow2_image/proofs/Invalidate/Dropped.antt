@@ -1,14 +1,12 @@
 -- Tables of an image at rest are dropped, which guests don't see.
-use Rattle.qcow2_image.proofs.Common.{cases_Bool, ◌≡◌, ℕ, ◌<◌, ◌/◌, ◌==◌, Bool, false, inl, inr, List, [], ◌∷◌, length, map, Option, Some, None, Result, Ok, Err, refl, sym, ap, ◌∙◌, subst, arith, ◌≢◌, IfErr, IfSome, OnOk, fun_ext, BackingView, StorageView, Bytes, byte_at, EntryTableView, entry_count, cluster_size, L2TableView, HeaderFields, AreClean, Direction, Pending, CrashInvariant, is_pinned, pinned, pins_at, value_at, l2_pins, CachesHaveRoom, LeavesPinned, KeepBehindHeader, contents_in, known_in, view_in, known_of, l2_tables, order_of, refblocks, AreAllWritten, CacheInvariant, Evict, EvictsTable, InternalCacheStep, Slot, ClustersToFreeEntry, ImageError, ImageFile, IsAllocatorOf, SearchesAnew, Allocator, MetadataCaches, safe_none, pinned_gone, pinned_kept, bytes_stay, IsBesideNumbers, KeepsTablesBehind, CountsImageFaults, SameFaults, leaked_by, leaked_in, RespectsPrepared, HoldsNoTable, HoldsPinnedAlone, IsAtRest, IsReasonAgainstReading, HasPinnedTable, HasL1Table, ImageInvariant, InternalStep, Qcow2, Prepared}
+use Rattle.qcow2_image.proofs.Common.{cases_Bool, ◌≡◌, ℕ, ◌<◌, ◌/◌, ◌==◌, Bool, inl, inr, List, [], ◌∷◌, length, map, Option, Some, None, Result, Ok, Err, refl, sym, ap, ◌∙◌, subst, arith, IfErr, IfSome, OnOk, fun_ext, BackingView, StorageView, Bytes, byte_at, EntryTableView, entry_count, cluster_size, L2TableView, HeaderFields, AreClean, Direction, Pending, CrashInvariant, is_pinned, pinned, value_at, l2_pins, CachesHaveRoom, LeavesPinned, KeepBehindHeader, contents_in, view_in, known_of, l2_tables, order_of, refblocks, AreAllWritten, CacheInvariant, Evict, EvictsTable, InternalCacheStep, Slot, ClustersToFreeEntry, ImageError, IsAllocatorOf, SearchesAnew, Allocator, MetadataCaches, safe_none, pinned_gone, pinned_kept, bytes_stay, IsBesideNumbers, KeepsTablesBehind, leaked_by, leaked_in, HoldsNoTable, IsAtRest, IsReasonAgainstReading, HasPinnedTable, HasL1Table, ImageInvariant, InternalStep, Qcow2, Prepared, anew_kept}
 use Rattle.qcow2_alloc.specs.KeptTables.{cached_tables}
 use Rattle.qcow2_alloc.specs.declared.error.ImageError.TheVariants as I
-use Rattle.qcow2_alloc.proofs.CachedEntries.FirstPinned.{none_pinned}
 use Rattle.qcow2_alloc.proofs.CachedEntries.Pins.{pinned_twice}
-use Rattle.qcow2_image.proofs.Call.FaultCounts.{counted_ok, fewer_of}
 use Rattle.qcow2_image.proofs.Call.Called.{keeps_then}
 use Rattle.qcow2_image.proofs.Invalidate.Pinned.{held_pinned, some_pinned}
-use Rattle.qcow2_image.proofs.Invalidate.Reading.{begins_over}
 use Rattle.qcow2_image.proofs.Map.Loading.{caches_moved}
+use Rattle.qcow2_alloc.proofs.KeptTables.Clean.{clean_as}
 
 module _ {S : Type 0} (h : HeaderFields) (p : Pending) (v : StorageView) (caches caches' : MetadataCaches S) (sound : CacheInvariant h p caches (byte_at v.contents))
     (rest : known_of h caches (byte_at v.contents) ≡ byte_at v.contents) {U : Type 0} (off : Evict U h caches caches' (byte_at v.contents)) where
@@ -87,14 +85,10 @@ module _ {V : Type 0} where
     | inr none ↦ subst (λ l. AreClean (cached_tables bits' bytes is_modified l)) (sym (pinned_gone e es none)) (clean_pinned bits bits' bytes is_modified es clean.1)
   ]
 
-  clean_moved : (bits bits' : ℕ) (bytes : V → List ℕ) (is_modified : V → Bool) (es : List (ℕ × Slot V)) → AreClean (cached_tables bits bytes is_modified es) → AreClean (cached_tables bits' bytes is_modified es)
-  clean_moved bits bits' bytes is_modified [] clean = tt
-  clean_moved bits bits' bytes is_modified (e ∷ es) clean = (clean.0, clean_moved bits bits' bytes is_modified es clean.1)
-
   pub clean_left : (bits bits' : ℕ) (bytes : V → List ℕ) (is_modified : V → Bool) (es fs : List (ℕ × Slot V)) (r : Result (Unit {0}) ImageError) → LeavesPinned es r fs → AreClean (cached_tables bits bytes is_modified es) → AreClean (cached_tables bits' bytes is_modified fs)
   clean_left bits bits' bytes is_modified es fs (Ok x) left clean = subst (λ l. AreClean (cached_tables bits' bytes is_modified l)) (sym left.1) tt
   clean_left bits bits' bytes is_modified es fs (Err e) left clean = elim left.1 [
-    | inl memory ↦ subst (λ l. AreClean (cached_tables bits' bytes is_modified l)) (sym memory.1) (clean_moved bits bits' bytes is_modified es clean)
+    | inl memory ↦ subst (λ l. AreClean (cached_tables bits' bytes is_modified l)) (sym memory.1) (clean_as bits bits' bytes is_modified es clean)
     | inr used ↦ subst (λ l. AreClean (cached_tables bits' bytes is_modified l)) (sym used.3) (clean_pinned bits bits' bytes is_modified es clean)
   ]
 
@@ -168,5 +162,5 @@ anew_moved view backing p old mid caches' a a' out first second is anew =
     let last : Qcow2 _ _ = record mid { file = record mid.file { caches = caches' } } in
     let own : IsAllocatorOf view last.file a = subst (λ (x : Option Allocator). IfSome x (IsAllocatorOf view last.file)) is second.sound.reftable in
     keeps_then view backing out old mid (record last { allocator = Some a' }) p p p (λ k h. h) first
-    (with_tables view backing p mid last out second mid.l1_table (Some a') second.sound.l1_table (begins_over view last.file a a' anew own)
+    (with_tables view backing p mid last out second mid.l1_table (Some a') second.sound.l1_table (anew_kept view last.file a a' anew own)
     (anew.leaks ∙ sym (ap (λ (x : Option Allocator). leaked_by x) is)))

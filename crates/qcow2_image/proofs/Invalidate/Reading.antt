@@ -1,5 +1,5 @@
 -- Reading the tables again returns what was in memory.
-use Rattle.qcow2_image.proofs.Common.{◌≡◌, inl, inr, ℕ, Bool, List, Option, Some, None, Result, refl, sym, ap, ◌∙◌, subst, arith, BackingView, StorageView, ContentsStay, EachMomentSince, IsLeftBy, passes_if, passes_none, passes_on, Bytes, byte_at, l1_entry, reftable_entry, EntryTableView, HeaderView, header, with_fields, with_tables_of, OnlyReads, MetadataError, HeaderFields, Pending, IsTop, view_in, contents_in, HasReftable, storage_of, IsAllocatorOf, IsPassed, SearchesAnew, anew_kept, Allocator, ImageFile, ImageStorage, HasL1Table, ImageInvariant, InternalStep, ContentsStayThroughout, Qcow2, Prepared, CountsChanges, counts_none, changes_of, is_changed_of, SameNotes, KeepsNotes, StandsBehindHeader, is_some, bytes_stay, same_kept, notes_of_storage, IsBesideNumbers, IsL1TableBehind, KeepsTablesBehind, NamesTablesBehind, TablesBehindHeader, leaked_by, leaked_in, ReadsPlaces, ReadsTables, WritesNothing, MetadataCaches}
+use Rattle.qcow2_image.proofs.Common.{◌≡◌, ℕ, Bool, List, Option, Some, Result, refl, sym, ap, ◌∙◌, subst, BackingView, StorageView, IsLeftBy, passes_if, passes_none, passes_on, Bytes, byte_at, l1_entry, EntryTableView, HeaderView, header, with_fields, with_tables_of, OnlyReads, MetadataError, HeaderFields, Pending, IsTop, view_in, HasReftable, storage_of, IsAllocatorOf, IsPassed, Allocator, ImageFile, ImageStorage, HasL1Table, ImageInvariant, InternalStep, ContentsStayThroughout, Qcow2, Prepared, CountsChanges, counts_none, changes_of, is_changed_of, SameNotes, KeepsNotes, StandsBehindHeader, is_some, same_kept, notes_of_storage, IsBesideNumbers, IsL1TableBehind, KeepsTablesBehind, NamesTablesBehind, TablesBehindHeader, leaked_by, leaked_in, ReadsPlaces, ReadsTables, MetadataCaches}
 use Rattle.qcow2_image.proofs.Map.Loading.{still_moved}
 
 -- ---- storages whose contents stay
@@ -29,10 +29,6 @@ module _ {S F : Type 0} (view : S → StorageView) (backing : F → BackingView)
 -- an allocator that begins anew
 pub begins_of : {S : Type 0} (view : S → StorageView) (file : ImageFile S) (a : Allocator) → ((k : ℕ) → ¬ IsPassed a k) → HasReftable view file a.reftable → IsAllocatorOf view file a
 begins_of view file a passed reftable = record { reftable = reftable; hint = λ k is. absurd (passed k is) }
-
--- one that looks for free clusters from the first one on again
-pub begins_over : {S : Type 0} (view : S → StorageView) (file : ImageFile S) (a a' : Allocator) → SearchesAnew a a' → IsAllocatorOf view file a → IsAllocatorOf view file a'
-begins_over view file a a' anew own = anew_kept view file a a' anew own
 
 -- ---- a sound image whose storage was read
 module _ {S F : Type 0} (view : S → StorageView) (backing : F → BackingView) (image : Qcow2 S F) (out : List (Option Prepared)) (p : Pending) (sound : ImageInvariant view backing p image out) where

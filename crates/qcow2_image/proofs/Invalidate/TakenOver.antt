@@ -126,10 +126,6 @@ module _ {S F : Type 0} (view : S → StorageView) (old mid : Qcow2 S F) (w : He
     }
 
   module _ (tables : (mid.l1_table ≡ old.l1_table) × (mid.allocator ≡ old.allocator)) where
-    -- the caches stay
-    same_caches : mid.file.caches ≡ old.file.caches
-    same_caches = ap (λ (i : Qcow2 S F). i.file.caches) read.rest
-
     behind_kept : (bits : ℕ) → TablesBehindHeader bits old.file.header.fields.cluster_bits old.l1_table old.file.caches old.allocator → TablesBehindHeader bits old.file.header.fields.cluster_bits mid.l1_table old.file.caches mid.allocator
     behind_kept bits lies =
         subst (λ (t : EntryTableView). TablesBehindHeader bits old.file.header.fields.cluster_bits t old.file.caches mid.allocator) (sym tables.0)
@@ -137,7 +133,7 @@ module _ {S F : Type 0} (view : S → StorageView) (old mid : Qcow2 S F) (w : He
 
     behind_none_taken : KeepsTablesBehind old.file.header.fields.cluster_bits old.l1_table (view_in view old.file) old.file.caches old.allocator old.file.header.fields.cluster_bits mid.l1_table (view_in view mid.file) mid.file.caches mid.allocator
     behind_none_taken =
-        subst (λ (m : MetadataCaches S). KeepsTablesBehind old.file.header.fields.cluster_bits old.l1_table (view_in view old.file) old.file.caches old.allocator old.file.header.fields.cluster_bits mid.l1_table (view_in view mid.file) m mid.allocator) (sym same_caches)
+        subst (λ (m : MetadataCaches S). KeepsTablesBehind old.file.header.fields.cluster_bits old.l1_table (view_in view old.file) old.file.caches old.allocator old.file.header.fields.cluster_bits mid.l1_table (view_in view mid.file) m mid.allocator) (sym (ap (λ (i : Qcow2 S F). i.file.caches) read.rest))
         (behind_silent {own = old.file.header.fields.cluster_bits} {own' = old.file.header.fields.cluster_bits} {l1 = old.l1_table} {l1' = mid.l1_table} {v = view_in view old.file} {v' = view_in view mid.file} {caches = old.file.caches} {o = old.allocator} {o' = mid.allocator} behind_kept read.silent)
 
     pub none_taken : ReplacesTables view old (with_header mid old.file.header)

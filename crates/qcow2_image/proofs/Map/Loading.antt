@@ -80,11 +80,6 @@ module _ {S : Type 0} (h : HeaderFields) (p : Pending) (caches caches' : Metadat
   pub stays : (v v' : StorageView) → v' ≡ v → v.is_honest → CacheInvariant h p caches (byte_at v.contents) → InternalCacheStep h p v caches v' caches'
   stays v v' same honest sound = subst (λ (w : StorageView). InternalCacheStep h p v caches w caches') (sym same) (stays_at v honest sound)
 
--- what is so of an answer, of what follows of it
-pub if_ok : {A E : Type 0} {P Q : A → Type 0} (answer : Result A E) → ((x : A) → P x → Q x) → IfOk answer P → IfOk answer Q
-if_ok (Ok x) follows is = follows x is
-if_ok (Err e) follows is = tt
-
 -- what is so of each answer
 pub if_ok_any : {A E : Type 0} {Q : A → Type 0} (answer : Result A E) → ((x : A) → Q x) → IfOk answer Q
 if_ok_any (Ok x) all = all x

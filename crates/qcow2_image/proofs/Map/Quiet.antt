@@ -22,7 +22,6 @@ module _ {S F : Type 0} (view : S → StorageView) where
     quiet = λ all honest. subst (λ s. IsQuiet (view (storage_of old.file.storage)) (view s)) (sym same) (quiet_none (view (storage_of old.file.storage)) honest);
   }
 
-  -- bytes are read
   pub reads_bytes : {T : Type 0} (old : Qcow2 S F) (storage : ImageStorage S) (result : Result T StorageError) → QuietCalls (view (storage_of old.file.storage)) (view (storage_of storage)) result
       → ContentsStay (view (storage_of old.file.storage)) (view (storage_of storage)) → ReadsQuietly view old (record old { file = record old.file { storage = storage } })
   reads_bytes old storage result calls same = record {

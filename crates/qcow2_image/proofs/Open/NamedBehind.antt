@@ -1,5 +1,5 @@
 -- The pointers of a sound image lead past cluster 0, since only the header refers to cluster 0.
-use Rattle.qcow2_image.proofs.Common.{◌≡◌, ◌≢◌, ◌∙◌, ◌⊎◌, inl, inr, ℕ, ◌+◌, ◌*◌, ◌/◌, ◌%◌, ◌<◌, ◌≤◌, List, [], Result, Ok, Err, zero, suc, refl, sym, ap, subst, arith, mul-le, pow_pos, IfOk, BackingView, StorageView, Bytes, byte_at, IsConsistent, block_offset, count, reftable_entry, cluster_size, counts_per_block, entries_per_cluster, reftable_entries, in_cluster, in_run, named_for_tables, HeaderFields, Direction, CrashInvariant, Pending, in_own, count_none, has_block, run_has, shares, ImageError, IsOpened, LiesBehindHeader, NamesTablesBehind, abstract_of, Opens, Qcow2}
+use Rattle.qcow2_image.proofs.Common.{◌≡◌, ◌∙◌, ◌⊎◌, inl, inr, ℕ, ◌+◌, ◌*◌, ◌/◌, ◌%◌, ◌<◌, ◌≤◌, [], Result, Ok, Err, zero, suc, refl, ap, subst, arith, mul-le, pow_pos, IfOk, BackingView, StorageView, Bytes, byte_at, IsConsistent, block_offset, reftable_entry, cluster_size, counts_per_block, entries_per_cluster, reftable_entries, in_cluster, in_run, named_for_tables, HeaderFields, Direction, CrashInvariant, Pending, in_own, count_none, has_block, run_has, shares, ImageError, LiesBehindHeader, NamesTablesBehind, Opens, Qcow2}
 
 none_or_some : (n : ℕ) → (n ≡ 0) ⊎ (0 < n)
 none_or_some zero = inl refl
@@ -73,11 +73,8 @@ module _ (h : HeaderFields) (d : Direction) (p : Pending) (on_storage known : By
 
 -- so does an image that was opened so
 module _ {S F : Type 0} (view : S → StorageView) (backing : F → BackingView) where
-  pub opened_behind : (image : Qcow2 S F) → IsOpened (abstract_of view backing image []) → NamesTablesBehind image.file.header.fields
-  opened_behind image opened = names_behind _ _ _ _ _ opened.sound.file.caches.kept.kept.crash_invariant
-
   -- The image's tables lie past cluster 0 if it was opened from a consistent image, or if its header names them there.
   pub lies_if : (Honest : Type 0) (storage : StorageView) (r : Result (Qcow2 S F) (S × ImageError)) → (Honest → storage.is_honest × IsConsistent (byte_at storage.contents)) → IfOk r (Opens view backing storage)
       → IfOk r (λ image. NamesTablesBehind image.file.header.fields → LiesBehindHeader image) → IfOk r (λ image. Honest ⊎ NamesTablesBehind image.file.header.fields → LiesBehindHeader image)
-  lies_if Honest storage (Ok image) made opens lies = λ which. elim which [ inl honest ↦ let from = made honest in lies (opened_behind image (opens from.0 from.1).opened) | inr names ↦ lies names ]
+  lies_if Honest storage (Ok image) made opens lies = λ which. elim which [ inl honest ↦ let from = made honest in lies (names_behind _ _ _ _ _ (opens from.0 from.1).opened.sound.file.caches.kept.kept.crash_invariant) | inr names ↦ lies names ]
   lies_if Honest storage (Err e) made opens lies = tt

@@ -1,5 +1,5 @@
 -- Why filling a range, and growing a disk, is refused on a sound image.
-use Rattle.qcow2_image.proofs.Common.{◌≡◌, ◌⊎◌, inl, inr, ℕ, ◌+◌, ◌-◌, ◌*◌, ◌/◌, ◌%◌, ◌^◌, ◌<◌, ◌≤◌, Bool, true, false, List, Option, Some, None, sym, ap, ◌∙◌, subst, arith, IfErr, IsErr, IsErrAnd, Result, div-lt_iff_lt-mul, cases_lt, div-add-mod', mul-le, pow_pos, BackingView, StorageView, PreallocateMode, Bytes, cover, HasRoomIfPlaced, entry_count, cluster_size, entries_per_cluster, rounded_up, copied_host, zero_cover, HeaderFields, L2Mapping, Data, Zero, Compressed, Uncovered, IsCompressed, Touches, is_copied_data, Pending, IsFault, known_in, ImageError, handed_on, HasPinnedMapping, InternalCall, IsUnderMapping, l1_index_of, ImageInvariant, NeedsOverflowingL1Entry, ReachesOffset, IsPlacedNear, copied_end, CopiesCompressed, HasCompressedIn, HasNearEntries, MayFailGrowing, MayFailAllocating, KeepsL1Place, MovesTables, FillsPart, IsTaken, Qcow2, Prepared}
+use Rattle.qcow2_image.proofs.Common.{◌≡◌, ◌⊎◌, inl, inr, ℕ, ◌+◌, ◌-◌, ◌*◌, ◌/◌, ◌%◌, ◌^◌, ◌<◌, ◌≤◌, Bool, true, false, List, Option, Some, None, sym, ap, ◌∙◌, subst, arith, div-lt_iff_lt-mul, cases_lt, div-add-mod', mul-le, pow_pos, BackingView, StorageView, PreallocateMode, Bytes, cover, HasRoomIfPlaced, entry_count, cluster_size, entries_per_cluster, rounded_up, copied_host, zero_cover, HeaderFields, L2Mapping, Data, Zero, Compressed, Uncovered, IsCompressed, Touches, is_copied_data, Pending, IsFault, known_in, ImageError, HasPinnedMapping, InternalCall, IsUnderMapping, l1_index_of, ImageInvariant, NeedsOverflowingL1Entry, ReachesOffset, IsPlacedNear, copied_end, CopiesCompressed, HasCompressedIn, HasNearEntries, MayFailGrowing, MayFailAllocating, KeepsL1Place, MovesTables, FillsPart, IsTaken, Qcow2, Prepared}
 use Rattle.std.proofs.Common.{pow_mono}
 use Rattle.qcow2_disk.specs.GrownCovers.{FilledCovers}
 use Rattle.qcow2_image.proofs.Grow.L1Lengths.{index_moved, index_rising, last_cluster}
@@ -10,10 +10,6 @@ use Rattle.qcow2_image.proofs.Prepare.FailingAllocations.{taking_as}
 use Rattle.qcow2_image.proofs.Prepare.Unannounced.{compressed_in}
 
 -- ---- refusals
-
--- a refusal is handed on with what holds of it
-pub hands_met : {A : Type 0} (P : ImageError → Type 0) (r : Result A ImageError) (e : ImageError) → IsErr r × IsErrAnd r (λ x. x ≡ e) → P e → IfErr r P
-hands_met P r e on may_fail = handed_on (λ (x : Result _ _). IfErr x P) r e on may_fail
 
 -- clusters that are listed are freed after the refusal, or a fault refuses that
 pub met_filling_freed : (out : List (Option Prepared)) (mode : PreallocateMode) (from to : ℕ) (h : HeaderFields) (known : Bytes) (e e' : ImageError) → (e' ≡ e) ⊎ IsFault e' → MayFailGrowing out mode from to h known e → MayFailGrowing out mode from to h known e'

@@ -2,16 +2,11 @@
 use Rattle.qcow2_image.proofs.Common.{◌≡◌, ℕ, ◌%◌, ◌<◌, ◌≤◌, max, List, Option, refl, sym, ap, ◌∙◌, subst, arith, BackingView, StorageView, HeaderFields, cluster_size, ImageError, Qcow2, Prepared, ImageStays, ImageInvariant, abstract_of, pending_in, MovesTables, PreservesHeaderCluster, FillsPart, IsWholeRange, RefusedFill}
 use Rattle.qcow2_image.proofs.Call.Called.{works_none}
 use Rattle.qcow2_image.proofs.Preallocate.Filled.{fills_none, fills_then, refused_after}
+use Rattle.qcow2_image.proofs.Call.ImageSteps.{stays_then}
 
 module _ {S F : Type 0} where
   pub stays_none : (image : Qcow2 S F) → ImageStays image image
   stays_none image = record { image = record { number = refl; size = refl; writable = refl; external = refl }; failed = refl }
-
-  pub stays_on : (a b c : Qcow2 S F) → ImageStays a b → ImageStays b c → ImageStays a c
-  stays_on a b c first then = record {
-    image = record { number = then.image.number ∙ first.image.number; size = then.image.size ∙ first.image.size; writable = then.image.writable ∙ first.image.writable; external = then.image.external ∙ first.image.external };
-    failed = then.failed ∙ first.failed;
-  }
 
 -- clusters are as large, whatever tables moved
 pub same_size : (h h' : HeaderFields) → MovesTables h h' → cluster_size h' ≡ cluster_size h
@@ -22,9 +17,6 @@ same_version h h' file_step = ap (λ (x : HeaderFields). x.version) file_step
 
 pub still_at : (h h' : HeaderFields) (n : ℕ) → MovesTables h h' → n % cluster_size h ≡ 0 → n % cluster_size h' ≡ 0
 still_at h h' n file_step is = ap (λ s. n % s) (same_size h h' file_step) ∙ is
-
-pub was_at : (h h' : HeaderFields) (n : ℕ) → MovesTables h h' → n % cluster_size h' ≡ 0 → n % cluster_size h ≡ 0
-was_at h h' n file_step is = sym (ap (λ s. n % s) (same_size h h' file_step)) ∙ is
 
 module _ {S F : Type 0} (view : S → StorageView) (backing : F → BackingView) (from to : ℕ) where
   -- so far a range has zeros, up to the start of a cluster
@@ -49,7 +41,7 @@ module _ {S F : Type 0} (view : S → StorageView) (backing : F → BackingView)
         → ((out : List (Option Prepared)) → ImageInvariant view backing (pending_in view backing now out) now out → at ≤ to → IsWholeRange now.file.header.fields at to → 3 ≤ now.file.header.fields.version → FillsPart view backing 0 at next now new out)
         → ZeroedTo next old new
     zeroed_next next stays le most ends fills = let low = before.low in record {
-      stays = stays_on old now new before.stays stays;
+      stays = stays_then before.stays stays;
       low = omega (arith, low, le);
       high = omega (arith, lt, most);
       so_far = λ out sound first whole version.
@@ -57,7 +49,7 @@ module _ {S F : Type 0} (view : S → StorageView) (backing : F → BackingView)
           let file_step = so.0.header in
           let here : IsWholeRange now.file.header.fields at to = (still_at old.file.header.fields now.file.header.fields at file_step so.1, still_at old.file.header.fields now.file.header.fields to file_step whole.1) in (
             fills_then view backing out old now new 0 from at next low le so.0 (fills out so.0.sound (omega (arith, lt)) here (subst (λ v. 3 ≤ v) (sym (same_version old.file.header.fields now.file.header.fields file_step)) version)),
-            was_at old.file.header.fields now.file.header.fields next file_step (ends out so.0.sound here),
+            (sym (ap (λ s. next % s) (same_size old.file.header.fields now.file.header.fields file_step)) ∙ (ends out so.0.sound here)),
           );
     }
 
@@ -87,7 +79,7 @@ module _ {S F : Type 0} (view : S → StorageView) (backing : F → BackingView)
     pub filled_next : (next : ℕ) → ImageStays now new → at < next → next ≤ to
         → ((out : List (Option Prepared)) → ImageInvariant view backing (pending_in view backing now out) now out → to % cluster_size now.file.header.fields ≡ 0 → FillsPart view backing to at next now new out) → FilledTo next old new
     filled_next next stays more most fills = let low = before.low in record {
-      stays = stays_on old now new before.stays stays;
+      stays = stays_then before.stays stays;
       low = omega (arith, low, more);
       high = omega (arith, most);
       so_far = λ out sound whole.

@@ -188,7 +188,6 @@ module _ {S F : Type 0} (view : S → StorageView) (backing : F → BackingView)
       free = first.free;
     }
 
-    -- that is refused
     pub fills_refused : (to' : ℕ) (e : ImageError) → to ≤ to' → MayFail e → IsUnlimited e → RefusedCall view backing b c out e → c.file.header ≡ b.file.header → RefusedFill view backing from to' a c out e
     fills_refused to' e high may_fail unlimited then same = record {
       left = left_after a b c zeros from to' from to from to' (omega arith) high (omega arith) (omega arith) first e (fill_unseen b c from to' e then);

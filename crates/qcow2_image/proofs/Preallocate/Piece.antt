@@ -301,9 +301,6 @@ module _ {S F : Type 0} (view : S → StorageView) (backing : F → BackingView)
     pub all_behind : 0 < p.length → cluster_size mid.file.header.fields ≤ p.offset
     all_behind some = piece_behind out old mid p from n sound ready answered all_fits some
 
-    pub all_header : (mid2 : Qcow2 S F) (r : Result (Unit {0}) ImageError) → WritesBytes view mid mid2 p.offset (replicate count 0) r → mid2.file.header ≡ mid.file.header
-    all_header mid2 r w = ap (λ (image : Qcow2 S F). image.file.header) w.rest
-
     -- the mapping of each guest cluster stays the same
     all_still : (mid2 : Qcow2 S F) → WritesBytes view mid mid2 p.offset (replicate count 0) (Ok tt) → (g : ℕ) → cover mid.file.header.fields (known_in view mid.file) g ≡ cover mid2.file.header.fields (known_in view mid2.file) g
     all_still mid2 w =
@@ -315,9 +312,8 @@ module _ {S F : Type 0} (view : S → StorageView) (backing : F → BackingView)
     all_covers : 0 < p.length → (mid2 new : Qcow2 S F) → WritesBytes view mid mid2 p.offset (replicate count 0) (Ok tt) → CommitsWhole view backing mid2 new (Some p ∷ out) 0 p (None ∷ out) → (first : ℕ) → from + p.length ≤ first
         → FilledCovers (cluster_size old.file.header.fields) first from (from + p.length) old.file.header.fields (known_in view old.file) new.file.header.fields (known_in view new.file)
     all_covers some mid2 new w commits first high =
-        let h = old.file.header.fields in
         let put = all_still mid2 w in
-        let so_far : (g : ℕ) → cover h (known_in view old.file) g ≡ cover mid2.file.header.fields (known_in view mid2.file) g = λ g. ready.covers g ∙ put g in
+        let so_far : (g : ℕ) → cover old.file.header.fields (known_in view old.file) g ≡ cover mid2.file.header.fields (known_in view mid2.file) g = λ g. ready.covers g ∙ put g in
         let from_is : p.guest ≡ from = ready.prepared.from in
         let size2 : cluster_size mid2.file.header.fields ≡ cluster_size old.file.header.fields = ap (λ (image : Qcow2 S F). cluster_size image.file.header.fields) w.rest ∙ ap (λ (x : HeaderFields). cluster_size x) ready.header in
         own_covers p.table refl some mid2 new commits first high so_far put from_is size2
@@ -345,6 +341,6 @@ module _ {S F : Type 0} (view : S → StorageView) (backing : F → BackingView)
     all_filled some mid2 new w commits header stays =
         let put = all_put mid2 (Ok tt) w in
         let done = commits (Some p ∷ out) 0 refl put.sound in
-        piece_filled out old mid p from n sound ready answered all_fits mid2 new put done (all_header mid2 (Ok tt) w) (ap (λ (image : Qcow2 S F). image.allocator) w.rest) header
+        piece_filled out old mid p from n sound ready answered all_fits mid2 new put done (ap (λ (image : Qcow2 S F). image.file.header) w.rest) (ap (λ (image : Qcow2 S F). image.allocator) w.rest) header
         (reaching_stays old.file.header.fields mid.file.header.fields from (from + p.length) (entry_count old.l1_table) (omega (arith, some)) sound.l1_table.count stays) to (all_covers some mid2 new w done to all_within)
         (piece_untaken out old mid p from n sound ready answered all_fits some to all_within)

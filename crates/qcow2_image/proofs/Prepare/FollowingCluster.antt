@@ -135,17 +135,11 @@ module _ {S F : Type 0} (view : S → StorageView) (backing : F → BackingView)
     size : cluster_size hn ≡ cluster_size h
     size = size_format h hn shared.gained.image_step.header
 
-    cluster_same : cluster_of hn p ≡ cluster_of h p
-    cluster_same = ap (λ s. p.guest / s) size
-
     stays_covered : cover hn (known_in view new.file) (cluster_of hn p + count) ≡ mapping
-    stays_covered = ap (λ c. cover hn (known_in view new.file) (c + count)) cluster_same ∙ cover_format h hn shared.gained.image_step.header (known_in view new.file) (cluster_of h p + count) ∙ sym (shared.gained.image_step.covers (cluster_of h p + count)) ∙ covered
-
-    host_same : host_begin_of hn p count ≡ host_begin_of h p count
-    host_same = ap (λ s. p.offset - p.guest % s + count * s) size
+    stays_covered = ap (λ c. cover hn (known_in view new.file) (c + count)) (ap (λ s. p.guest / s) size) ∙ cover_format h hn shared.gained.image_step.header (known_in view new.file) (cluster_of h p + count) ∙ sym (shared.gained.image_step.covers (cluster_of h p + count)) ∙ covered
 
     place : run.first_cluster * cluster_size hn ≡ host_begin_of hn p count
-    place = ap (λ s. run.first_cluster * s) size ∙ shared.place ∙ sym host_is ∙ sym host_same
+    place = ap (λ s. run.first_cluster * s) size ∙ shared.place ∙ sym host_is ∙ sym (ap (λ s. p.offset - p.guest % s + count * s) size)
 
     stands : IsNewAt hn (known_in view new.file) (contents_in view new.file) p count (run ∷ []) old_data
     stands = record {

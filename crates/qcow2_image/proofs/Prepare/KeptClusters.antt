@@ -1,11 +1,11 @@
 -- The host cluster that a zero entry keeps is filled with zeros, which guests don't see and no stop shows.
-use Rattle.qcow2_image.proofs.Common.{◌≡◌, ◌≢◌, ⊎_elim, ℕ, ◌+◌, ◌-◌, ◌*◌, ◌/◌, ◌%◌, ◌<◌, ◌≤◌, Bool, true, false, List, length, [], ◌∷◌, Option, Some, None, refl, sym, ap, ◌∙◌, subst, arith, Result, IfOk, IsTrue, slice_get, replicate, slice_get_within, append-nil, length-replicate, get_or-replicate, div-add-mod', div-mul-add, mod-mul-add, mod_below, pow_pos, fun_ext, BackingView, overwritten, StorageView, EachMomentSince, IsLeftBy, Bytes, byte_at, HeaderFields, cluster_size, entries_per_cluster, cover, known_byte, in_cluster, named_by_cover, named_for_tables, Zero, Pending, IsHostedAt, WritesRun, names, table_at, given_of, DriverState, StateInvariant, SafeStep, WritesAt, in_own, kept_aligned, kept_unlaid, kept_written, kept_zeroed, in_one, beside_tables, ImageError, ImageStorage, storage_of, state_in, view_in, contents_in, known_in, nothing_given, CopyRange, Qcow2, Prepared, ClusterMapping, WritesBytes, HasByte, l1_index_of, backing_bytes, cluster_of, new_data_by, is_private, place_of, mapping_of_cluster, ImageInvariant, HoldsAll, IsFilled, IsKeptAlone, InternalFillingStep, is_announced}
+use Rattle.qcow2_image.proofs.Common.{◌≡◌, ◌≢◌, ⊎_elim, ℕ, ◌+◌, ◌-◌, ◌*◌, ◌/◌, ◌%◌, ◌<◌, ◌≤◌, Bool, true, false, List, length, [], ◌∷◌, Option, Some, None, refl, sym, ap, ◌∙◌, subst, arith, Result, IfOk, IsTrue, slice_get, replicate, slice_get_within, append-nil, length-replicate, get_or-replicate, div-add-mod', div-mul-add, mod-mul-add, mod_below, pow_pos, fun_ext, BackingView, overwritten, StorageView, EachMomentSince, IsLeftBy, Bytes, byte_at, HeaderFields, cluster_size, entries_per_cluster, cover, known_byte, in_cluster, named_by_cover, named_for_tables, Zero, Pending, IsHostedAt, WritesRun, names, table_at, given_of, DriverState, StateInvariant, SafeStep, WritesAt, in_own, kept_aligned, kept_unlaid, kept_written, kept_zeroed, in_one, beside_tables, ImageError, ImageStorage, storage_of, state_in, view_in, contents_in, known_in, nothing_given, CopyRange, Qcow2, Prepared, ClusterMapping, WritesBytes, HasByte, l1_index_of, backing_bytes, cluster_of, new_data_by, is_private, place_of, mapping_of_cluster, ImageInvariant, HoldsAll, IsFilled, IsKeptAlone, InternalFillingStep, is_announced, IfOk-weaker}
 use Rattle.qcow2_laws.specs.GuestLaws.{Kept as HostedKept}
 use Rattle.qcow2_laws.proofs.Shown.{shown_zero}
 use Rattle.qcow2_image.proofs.Images.Apart.{same_row}
 use Rattle.qcow2_image.proofs.Call.Answered.{same_guest, same_slot}
 use Rattle.qcow2_image.proofs.Images.Inside.{names_inside}
-use Rattle.qcow2_image.proofs.Map.Loading.{if_ok, still_moved}
+use Rattle.qcow2_image.proofs.Map.Loading.{still_moved}
 use Rattle.qcow2_image.proofs.Prepare.InternalWrites.{image_step_kept, there_written, written_or_not}
 use Rattle.qcow2_image.proofs.Images.ClusterMappings.{Standing, in_new, in_kept, over_all_at, private_shared, private_stands, ready_table, mapping_here, mapping_there}
 use Rattle.qcow2_image.proofs.Write.Written.{written, writes, there, since_written, sound_written, same_l1_written}
@@ -144,7 +144,7 @@ module _ {S F : Type 0} (view : S → StorageView) (backing : F → BackingView)
   pub filled_with_zeros : (part : CopyRange) → ((i : ℕ) → i < cluster_size hf → is_announced (cluster_size hf) offset length overwrite i ≡ false → HasByte (Some part) i)
       → (r : Result (Unit {0}) ImageError) → WritesBytes view old new (host + part.start) (replicate (part.end - part.start) 0) r → IfOk r (λ done. IsFilled view backing old new (host / cluster_size hf) offset length overwrite)
   filled_with_zeros part all r w =
-      if_ok r
+      IfOk-weaker r _ _
       (λ done there i lt none.
       let within = all i lt none in
       let from = within.0 in

@@ -23,7 +23,6 @@ begins_kept h offset first host p is place other at =
     let same : host ≡ other = ap (λ (x : ℕ × Bool). x.0) pair in
     place ∙ ap (λ b. b + offset % cluster_size h) same
 
--- data keep none
 pub data_keep_none : (h : HeaderFields) (offset : ℕ) (first : L2Mapping) (host : ℕ) (p : Prepared) → first ≡ Data host true → BeginsInKept h offset first p
 data_keep_none h offset first host p is other at = absurd (let both : Data host true ≡ Zero (Some (other, true)) = sym is ∙ at in cc)
 

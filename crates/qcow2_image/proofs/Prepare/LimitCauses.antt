@@ -1,12 +1,12 @@
 -- Why a part of a call was refused for a limit: the cause still holds together with the parts before and after it.
 use Rattle.qcow2_image.proofs.Common.{ImageStays, IsBegun, ImageStep, AllocatesDataAt, RefusedFillingStep, AllocatesData, InternalFillingStep, pending_with_listed, GoesTo, IfLimit, IsLimited, IsLimitedAmong, IsLimitedIn, IsLimitedTaking, IsLimitedInternal, IsLimitedWith, LacksPlace, l1_clusters, ◌≡◌, ◌⊎◌, inl, inr, ℕ, ◌+◌, ◌<◌, ◌≤◌, List, [], ◌∷◌, ◌++◌, Option, Some, Result, Ok, Err, refl, sym, ap, ◌∙◌, subst, arith, cases_lt, le-div, pow_pos, IfErr, IsErr, IsErrAnd, IsSome, None, OnOk, max, length, ◌-◌, ◌*◌, ◌/◌, ◌^◌, BackingView, StorageView, EntryTableView, HasRoomIfPlaced, entry_count, IsHostCluster, HeaderView, cluster_size, Pending, ClustersToFreeEntry, ImageError, IsFault, KeepsHeader, IsFaultOr, EffectOnSound, Value, GivenBytes, IsGiven, TouchesLess, works_less, works_then, RefusedCall, InternalCall, Qcow2, Prepared, ImageInvariant, abstract_of, image_abstraction, pending_in, IsLongerL1, clusters_of, l1_index_of, L1EntryOverflows, EndsBefore, HasNearEntry, IsPlacedNear, IsFaultOrLimit, IsUnlimited, handed_on}
 use Rattle.qcow2_image.proofs.Call.BehindHeader.{behind_begun, behind_then}
-use Rattle.qcow2_image.proofs.Call.ImageSteps.{step_none}
 use Rattle.qcow2_alloc.specs.declared.error.ImageError.TheVariants as I
 use Rattle.qcow2_image.proofs.Call.Refused.{image_step_stays, stays_kept}
 use Rattle.qcow2_image.proofs.Call.Unlimited.{fault_unlimited}
 use Rattle.qcow2_image.proofs.Images.Free.{free_places}
 use Rattle.qcow2_image.proofs.Preallocate.Pieces.{enters, none_of}
+use Rattle.qcow2_disk.proofs.Stops.{given_front, given_more}
 
 -- ---- refusals
 pub limited_not : (e : ImageError) → IsUnlimited e → e ≡ I.Limit → ⊥
@@ -61,19 +61,6 @@ module _ {S F : Type 0} {view : S → StorageView} where
   pub goes_then : {a b c : Qcow2 S F} → GoesTo view a b → GoesTo view b c → GoesTo view a c
   goes_then first then = record { image = record { number = then.image.number ∙ first.image.number; size = then.image.size ∙ first.image.size; writable = then.image.writable ∙ first.image.writable; external = then.image.external ∙ first.image.external }; header_cluster = behind_then first.header_cluster then.header_cluster }
 
-pub limits_both : {A : Type 0} (C D : Type 0) (r : Result A ImageError) → IfLimit r C → IfLimit r D → IfLimit r (C × D)
-limits_both C D (Ok x) first second = tt
-limits_both C D (Err e) first second = λ is. (first is, second is)
-
--- ---- what two lists of gifts give
-given_before : (first then : List GivenBytes) (o : ℕ) (w : Value) → IsGiven first o w → IsGiven (first ++ then) o w
-given_before [] then o w is = absurd is
-given_before (x ∷ first) then o w is = elim is [ inl here ↦ inl here | inr later ↦ inr (given_before first then o w later) ]
-
-given_behind : (first then : List GivenBytes) (o : ℕ) (w : Value) → IsGiven then o w → IsGiven (first ++ then) o w
-given_behind [] then o w is = is
-given_behind (x ∷ first) then o w is = inr (given_behind first then o w is)
-
 ungiven_before : (size : ℕ) (first then : List GivenBytes) → TouchesLess size first (first ++ then)
 ungiven_before size [] then g not = tt
 ungiven_before size (x ∷ first) then g not = (not.0, ungiven_before size first then g not.1)
@@ -84,10 +71,6 @@ ungiven_behind size (x ∷ first) then g not = ungiven_behind size first then g 
 
 -- ---- a limit that a part passed, of a call
 module _ {S F : Type 0} {view : S → StorageView} where
-  -- up to a further end
-  pub limited_in_upto : {Keeps : Qcow2 S F → Type 0} {near far : ℕ} {old : Qcow2 S F} → near ≤ far → IsLimitedIn view Keeps near old → IsLimitedIn view Keeps far old
-  limited_in_upto upto may_fail = record { mid = may_fail.mid; before = may_fail.before; kept = may_fail.kept; offset = may_fail.offset; below = let lt = may_fail.below in omega (arith, upto, lt); limit = may_fail.limit }
-
   -- from a state before it
   pub limited_in_since : {Keeps Keeps' : Qcow2 S F → Type 0} {end : ℕ} {old mid : Qcow2 S F} → GoesTo view old mid → ((image : Qcow2 S F) → Keeps image → Keeps' image) → IsLimitedIn view Keeps end mid → IsLimitedIn view Keeps' end old
   limited_in_since goes keeps may_fail = record { mid = may_fail.mid; before = goes_then goes may_fail.before; kept = keeps may_fail.mid may_fail.kept; offset = may_fail.offset; below = may_fail.below; limit = may_fail.limit }
@@ -152,8 +135,8 @@ module _ {S F : Type 0} {view : S → StorageView} {backing : F → BackingView}
       → EffectOnSound (abstract_of view backing old out) (abstract_of view backing mid out) first [] → ((given : List GivenBytes) × IsLimited view backing given near mid out) → (given : List GivenBytes) × IsLimited view backing given far old out
   limited_joined {old = old} {mid = mid} {out = out} upto goes sound first works may_fail = (
     first ++ may_fail.0,
-    limited_from (omega arith) upto goes sound (works_less (abstract_of view backing old out) (abstract_of view backing mid out) first (first ++ may_fail.0) [] (λ o w is. inr (given_before first may_fail.0 o w is)) (ungiven_before (cluster_size old.file.header.fields) first may_fail.0) works)
-        (limited_less may_fail.0 (first ++ may_fail.0) (given_behind first may_fail.0) (ungiven_behind (cluster_size mid.file.header.fields) first may_fail.0) may_fail.1),
+    limited_from (omega arith) upto goes sound (works_less (abstract_of view backing old out) (abstract_of view backing mid out) first (first ++ may_fail.0) [] (λ o w is. inr (given_front first may_fail.0 o w is)) (ungiven_before (cluster_size old.file.header.fields) first may_fail.0) works)
+        (limited_less may_fail.0 (first ++ may_fail.0) (given_more first may_fail.0) (ungiven_behind (cluster_size mid.file.header.fields) first may_fail.0) may_fail.1),
   )
 
   pub limited_more : {end : ℕ} {given : List GivenBytes} {old : Qcow2 S F} {out : List (Option Prepared)} → IsLimitedAmong view backing given end old out → IsLimited view backing given end old out

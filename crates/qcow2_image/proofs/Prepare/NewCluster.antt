@@ -46,7 +46,6 @@ filled_byte view backing old filled first offset length overwrite fills size is 
     ap (λ x. known_byte (contents_in view filled.file (first * x + o % x))) is
     ∙ fills (o % cluster_size h) (mod_below o (cluster_size h) (pow_pos h.cluster_bits)) open_there ∙ ap (disk_of view backing old).value place
 
--- no pin
 pub not_pinned : (n : ℕ) (b : Bool) → (IsTrue b ↔ (0 < n)) → b ≡ false → n ≡ 0
 not_pinned n b iff isnt = elim (cases_lt 0 n) [
   | inl some ↦ absurd (let yes : b ≡ true = iff.1 some in let e : true ≡ false = sym yes ∙ isnt in cc)

@@ -1,5 +1,5 @@
 -- A prepared mapping is extended by the next cluster.
-use Rattle.qcow2_image.proofs.Common.{◌≡◌, ◌⊎◌, ⊎_elim, inl, inr, ℕ, zero, suc, ◌+◌, ◌-◌, ◌*◌, ◌/◌, ◌%◌, ◌<◌, ◌≤◌, Bool, true, false, List, length, [], ◌∷◌, ◌++◌, Option, Some, refl, sym, ap, ◌∙◌, subst, arith, min, IsTrue, nat_le, nat_lt, slice_get, slice_set, ◌&&◌, fun_ext, cases_lt, cond-true, le-leb, lt-ltb, le-ltb, div-add-mod', div-mul-add, mod_below, pow_pos, slice_get_within, BackingView, StorageView, Bytes, is_within, HeaderFields, known_byte, cluster_size, entries_per_cluster, rounded_up, Guest, guest_of, meaning_at, with_slot, PreparedMapping, IsPrepared, contents_in, known_in, nothing_given, state_in, Qcow2, Prepared, ClusterMapping, InPlace, Kept, New, new_data_in, new_data_by, pins_by, over_all, abstract_of, meaning, is_private, cluster_of, is_entered, IsReady, IsReadyWith, IsClusterMappingAt, IsPending, pending_in, IsExtended, MayGoOn, StandsBehind, StateInvariant}
+use Rattle.qcow2_image.proofs.Common.{◌≡◌, ◌⊎◌, ⊎_elim, inl, inr, ℕ, zero, suc, ◌+◌, ◌-◌, ◌*◌, ◌/◌, ◌%◌, ◌<◌, ◌≤◌, Bool, true, false, List, length, [], ◌∷◌, ◌++◌, Option, Some, refl, sym, ap, ◌∙◌, subst, arith, min, IsTrue, nat_le, nat_lt, slice_get, slice_set, ◌&&◌, fun_ext, cases_lt, cond-true, le-leb, lt-ltb, le-ltb, div-add-mod', div-mul-add, mod_below, pow_pos, slice_get_within, BackingView, StorageView, Bytes, is_within, HeaderFields, known_byte, cluster_size, entries_per_cluster, rounded_up, Guest, guest_of, meaning_at, with_slot, PreparedMapping, IsPrepared, contents_in, known_in, nothing_given, state_in, Qcow2, Prepared, ClusterMapping, InPlace, Kept, New, new_data_in, new_data_by, pins_by, over_all, abstract_of, meaning, is_private, cluster_of, is_entered, IsReady, IsReadyWith, IsClusterMappingAt, IsPending, pending_in, IsExtended, MayGoOn, StandsBehind, StateInvariant, length_push, and_right}
 use Rattle.qcow2_image.proofs.Call.Answered.{same_guest}
 use Rattle.qcow2_image.proofs.Call.Slots.{get_set, over_all_set, slot_set}
 use Rattle.qcow2_image.proofs.Call.Stepped.{Steps, stepped_sound, stepped_works}
@@ -15,10 +15,6 @@ get_behind [] x y (suc i) e = absurd cc
 get_behind (z ∷ xs) x y zero e = inl e
 get_behind (z ∷ xs) x y (suc i) e = ⊎_elim (λ there. inl there) (λ last. inr (ap suc last.0, last.1)) (get_behind xs x y i e)
 
-pub length_behind : {X : Type 0} (xs : List X) (x : X) → length (xs ++ x ∷ []) ≡ length xs + 1
-length_behind [] x = refl
-length_behind (y ∷ xs) x = let rest = length_behind xs x in omega arith
-
 new_data_behind : (clusters : List ClusterMapping) (cluster_mapping : ClusterMapping) (c : ℕ) → new_data_in (clusters ++ cluster_mapping ∷ []) c ≡ new_data_in clusters c + new_data_in (cluster_mapping ∷ []) c
 new_data_behind [] cluster_mapping c = omega arith
 new_data_behind (InPlace ∷ clusters) cluster_mapping c = new_data_behind clusters cluster_mapping c
@@ -33,15 +29,11 @@ mapping_as h known on_storage p l like i (New taken old_data) is = record { firs
 
 -- ---- what is announced
 
-and_false : (b : Bool) → (b && false) ≡ false
-and_false true = refl
-and_false false = refl
-
 within_none : (a m m' o : ℕ) → m' ≤ m → is_within a m o ≡ false → is_within a m' o ≡ false
 within_none a m m' o le none = ⊎_elim
     (λ (inside : o < a + m').
     ap (λ b. nat_le a o && b) (lt-ltb o (a + m') inside) ∙ sym (ap (λ b. nat_le a o && b) (lt-ltb o (a + m) (omega (arith, inside, le)))) ∙ none)
-    (λ (past : a + m' ≤ o). ap (λ b. nat_le a o && b) (le-ltb o (a + m') past) ∙ and_false (nat_le a o))
+    (λ (past : a + m' ≤ o). ap (λ b. nat_le a o && b) (le-ltb o (a + m') past) ∙ and_right (nat_le a o) false refl)
     (cases_lt o (a + m'))
 
 pub announced_less : (overwrite : Bool) (a m m' o : ℕ) → m' ≤ m → (overwrite && is_within a m o ≡ false) → (overwrite && is_within a m' o ≡ false)
@@ -97,7 +89,7 @@ module _ {S F : Type 0} (view : S → StorageView) (backing : F → BackingView)
   pending = subst (IsReadyWith h (known_in view mid.file) (contents_in view mid.file) p) may.under ready.mapped
 
   count : length like.clusters.items ≡ length p.clusters.items + 1
-  count = ap (λ (l : List ClusterMapping). length l) items ∙ length_behind p.clusters.items cluster_mapping
+  count = ap (λ (l : List ClusterMapping). length l) items ∙ length_push p.clusters.items cluster_mapping
 
   all : length like.clusters.items * cluster_size h ≡ length p.clusters.items * cluster_size h + cluster_size h
   all = ap (λ m. m * cluster_size h) count ∙ omega arith

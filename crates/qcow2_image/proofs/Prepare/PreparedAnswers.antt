@@ -8,14 +8,11 @@ module _ (h k : HeaderFields) (b c : Bytes) (same : CoversStay h c (with_tables_
   data_still : (o place : ℕ) → IsDataAt (with_tables_of h k) b true o place → IsDataAt h c true o place
   data_still o place is = (is.0, same (o / cluster_size h) ∙ is.1, is.2)
 
-  data_before : (o place : ℕ) → IsDataAt h c true o place → IsDataAt (with_tables_of h k) b true o place
-  data_before o place is = (is.0, sym (same (o / cluster_size h)) ∙ is.1, is.2)
-
   writable_still : (n place : ℕ) → IsWritableAt (with_tables_of h k) b offset n place → IsWritableAt h c offset n place
   writable_still n place is = (is.0, λ i lt. data_still (offset + i) (place + i) (is.1 i lt))
 
   writable_before : (n place : ℕ) → IsWritableAt h c offset n place → IsWritableAt (with_tables_of h k) b offset n place
-  writable_before n place is = (is.0, λ i lt. data_before (offset + i) (place + i) (is.1 i lt))
+  writable_before n place is = (is.0, λ i lt. ((is.1 i lt).0, sym (same ((offset + i) / cluster_size h)) ∙ (is.1 i lt).1, (is.1 i lt).2))
 
   taken_still : (n : ℕ) (out : List (Option Prepared)) → IsTaken (with_tables_of h k) b offset n out → IsTaken h c offset n out
   taken_still n out is = record { place = is.place; other = is.other; is_out = is.is_out; keeps_table = is.keeps_table; same_table = is.same_table; never = λ host writable. is.never host (writable_before n host writable) }
@@ -142,7 +139,6 @@ entries_some s sound = (Sizes-from s.header s.known (IsTop-top s.header s.on_sto
 
 -- ---- not all of the range is written where it is: a mapping that is out, and no guest saw it made
 
--- there is one
 get_there : {X : Type 0} (xs : List X) (i : ℕ) → i < length xs → (x : X) × (slice_get xs i ≡ Some x)
 get_there [] i lt = absurd (omega (arith, lt))
 get_there (x ∷ xs) zero lt = (x, refl)

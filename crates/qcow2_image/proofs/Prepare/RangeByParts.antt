@@ -1,10 +1,9 @@
 -- A range is prepared part by part, and released if a part is refused.
-use Rattle.qcow2_image.proofs.Common.{◌≡◌, ◌++◌, inl, inr, ℕ, suc, ◌+◌, ◌-◌, ◌*◌, ◌/◌, ◌%◌, ◌<◌, ◌≤◌, Bool, true, false, List, length, [], ◌∷◌, Option, Some, None, refl, sym, ap, ◌∙◌, subst, arith, min, slice_get, slice_set, vec_capacity, ◌==◌, ◌||◌, common_steps, div-add-mod', mod-mul-add, mod_below, pow_pos, fun_ext, cases_eq, cases_lt, cond-true, cond-false, eq-eqb, ne_eqb, BackingView, StorageView, HeaderFields, cluster_size, entries_per_cluster, Guest, guest_of, meaning_at, EffectOnSound, with_slot, Disk, rest_of_table, PreparedMapping, IsPrepared, KeepsFormat, works_then, stops_as, contents_in, known_in, state_in, KeepsHeader, header_format, header_then, ImageError, Qcow2, Prepared, ClusterMapping, ImageStays, Discards, IsReadied, RefusedCall, InternalCall, cluster_of, pending_in, abstract_of, meaning, IsPending, IsReadyWith, ImageInvariant, BreaksOff, Ends, HasRoomForRange, IsExtended, IsLongerMapping, IsNext, EndsWithCluster, ReleasesOneMapping, MayGoOn, MovesTables, CoversStay}
+use Rattle.qcow2_image.proofs.Common.{◌≡◌, ◌++◌, inl, inr, ℕ, suc, ◌+◌, ◌-◌, ◌*◌, ◌/◌, ◌%◌, ◌<◌, ◌≤◌, Bool, true, false, List, length, [], ◌∷◌, Option, Some, None, refl, sym, ap, ◌∙◌, subst, arith, min, slice_get, slice_set, vec_capacity, ◌==◌, ◌||◌, common_steps, div-add-mod', mod-mul-add, mod_below, pow_pos, fun_ext, cases_eq, cases_lt, cond-true, cond-false, eq-eqb, ne_eqb, BackingView, StorageView, HeaderFields, cluster_size, entries_per_cluster, Guest, guest_of, meaning_at, EffectOnSound, with_slot, Disk, rest_of_table, PreparedMapping, IsPrepared, KeepsFormat, works_then, stops_as, contents_in, known_in, state_in, KeepsHeader, header_format, header_then, ImageError, Qcow2, Prepared, ClusterMapping, ImageStays, Discards, IsReadied, RefusedCall, InternalCall, cluster_of, pending_in, abstract_of, meaning, IsPending, IsReadyWith, ImageInvariant, BreaksOff, Ends, HasRoomForRange, IsExtended, IsLongerMapping, IsNext, EndsWithCluster, ReleasesOneMapping, MayGoOn, MovesTables, CoversStay, length_push}
 use Rattle.qcow2_image.proofs.Call.Answered.{same_guest}
 use Rattle.qcow2_image.proofs.Call.Slots.{get_set_same, set_same, set_set}
 use Rattle.qcow2_image.proofs.Images.Moved.{file_step_then, format_file_step, stay_then, format_stay}
 use Rattle.qcow2_image.proofs.Images.Free.{free_places}
-use Rattle.qcow2_image.proofs.Prepare.NextCluster.{length_behind}
 use Rattle.qcow2_image.proofs.Prepare.PreparedAnswers.{entries_some, rest_as}
 
 -- ---- slots
@@ -171,9 +170,6 @@ module _ {S F : Type 0} (view : S → StorageView) (backing : F → BackingView)
     size : cluster_size now.file.header.fields ≡ cluster_size h
     size = ap (λ (x : HeaderFields). cluster_size x) format
 
-    guest_same : q.guest % cluster_size h ≡ p.guest % cluster_size h
-    guest_same = ap (λ g. g % cluster_size h) so.longer.guest
-
     module _ (less : q.length < end) where
       whole : EndsWithCluster h q
       whole = so.longer.whole (omega arith)
@@ -184,7 +180,7 @@ module _ {S F : Type 0} (view : S → StorageView) (backing : F → BackingView)
           let any = entries_some (state_in view old.file (pending_in view backing old (slice_set out k (Some p)))) is.sound.file.caches.kept.kept.crash_invariant in
           let reach = rest_as (cluster_size h) (entries_per_cluster h) p.guest (pow_pos h.cluster_bits) any in
           let w = whole in
-          let g = guest_same in
+          let g = ap (λ g. g % cluster_size h) so.longer.guest in
           let few : length q.clusters.items < entries_per_cluster h - p.guest / cluster_size h % entries_per_cluster h = lt_of_mul (length q.clusters.items) (entries_per_cluster h - p.guest / cluster_size h % entries_per_cluster h) (cluster_size h) (omega arith) in
           let cluster : q.guest / cluster_size h % entries_per_cluster h ≡ p.guest / cluster_size h % entries_per_cluster h = ap (λ x. x / cluster_size h % entries_per_cluster h) so.longer.guest in
           record {
@@ -205,7 +201,7 @@ module _ {S F : Type 0} (view : S → StorageView) (backing : F → BackingView)
 
         r_whole : r.length < n → EndsWithCluster h r
         r_whole short =
-            let few : length r.clusters.items ≡ length q.clusters.items + 1 = ap (λ (l : List ClusterMapping). length l) next.clusters ∙ length_behind q.clusters.items next.cluster_mapping in
+            let few : length r.clusters.items ≡ length q.clusters.items + 1 = ap (λ (l : List ClusterMapping). length l) next.clusters ∙ length_push q.clusters.items next.cluster_mapping in
             let all : length r.clusters.items * cluster_size h ≡ length q.clusters.items * cluster_size h + cluster_size h = ap (λ m. m * cluster_size h) few ∙ omega arith in
             let g : r.guest % cluster_size h ≡ q.guest % cluster_size h = ap (λ x. x % cluster_size h) r_guest in
             let w = whole in

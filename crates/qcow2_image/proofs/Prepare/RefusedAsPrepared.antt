@@ -1,10 +1,5 @@
 -- Why a range is refused 9 (table prepared).
-use Rattle.qcow2_image.proofs.Common.{◌≡◌, inl, inr, ℕ, suc, ◌/◌, ◌%◌, ◌<◌, Bool, true, false, List, [], ◌∷◌, Option, Some, None, refl, sym, ap, ◌∙◌, subst, arith, is_some, Result, Ok, Err, IfErr, slice_get, ◌==◌, cases_eq, cases_lt, eqb-true, BackingView, StorageView, Bytes, one_if, HeaderFields, cluster_size, entries_per_cluster, host_offset, table_at, table_once, shares, two_tables, own_cluster, Pending, l2_pins, order_of, IsEntryAt, contents_in, known_in, Qcow2, Prepared, l1_index_of, IsPlaceOf, IsTaken, HoldsTable, over_all, pins_by, pins_of, IsPending, IsReadyWith, ImageInvariant}
-
--- what follows of what is so of a refusal
-pub if_err : {A E : Type 0} {P Q : E → Type 0} (answer : Result A E) → ((e : E) → P e → Q e) → IfErr answer P → IfErr answer Q
-if_err (Ok x) follows is = tt
-if_err (Err e) follows is = follows e is
+use Rattle.qcow2_image.proofs.Common.{◌≡◌, inl, inr, ℕ, suc, ◌/◌, ◌%◌, ◌<◌, Bool, true, false, List, [], ◌∷◌, Option, Some, None, refl, sym, ap, ◌∙◌, subst, arith, is_some, slice_get, ◌==◌, cases_eq, cases_lt, eqb-true, BackingView, StorageView, Bytes, one_if, HeaderFields, cluster_size, entries_per_cluster, host_offset, table_at, table_once, shares, two_tables, own_cluster, Pending, l2_pins, order_of, IsEntryAt, contents_in, known_in, Qcow2, Prepared, l1_index_of, IsPlaceOf, IsTaken, HoldsTable, over_all, pins_by, pins_of, IsPending, IsReadyWith, ImageInvariant}
 
 -- a pin that is counted is one of a mapping
 pinned_by : (pinned : Option ℕ) (table : ℕ) → 0 < pins_of pinned table → pinned ≡ Some table

@@ -27,12 +27,9 @@ module _ {S F : Type 0} (view : S → StorageView) (backing : F → BackingView)
   pub keeps_none : (p : Pending) (image : Qcow2 S F) → ImageInvariant view backing p image out → InternalStep view backing p p image image out
   keeps_none p image sound = still_moved view backing image out p sound image.file.storage sound.file.honest (passes_none (view_in view image.file) _) refl
 
-  pub unlisted : (p : Pending) (old new : Qcow2 S F) → new.file.free_list ≡ old.file.free_list → p ≡ pending_with_listed p old new
-  unlisted p old new same = sym (listed_after_same view backing out p old new same)
-
   -- where nothing more is to be freed
   pub as_listed_after : (p : Pending) (old new : Qcow2 S F) → new.file.free_list ≡ old.file.free_list → InternalStep view backing p p old new out → InternalStep view backing p (pending_with_listed p old new) old new out
-  as_listed_after p old new same keeps = subst (λ (q : Pending). InternalStep view backing p q old new out) (unlisted p old new same) keeps
+  as_listed_after p old new same keeps = subst (λ (q : Pending). InternalStep view backing p q old new out) (sym (listed_after_same view backing out p old new same)) keeps
 
   pub interrupted_on : (p q : Pending) (a b c : Qcow2 S F) (e : ImageError) → InternalStep view backing p q a b out → InterruptedPart view backing b c e → InterruptedPart view backing a c e
   interrupted_on p q a b c e first second = let on = second.interrupted in record { interrupted = record { fault = on.fault; recorded = on.recorded; since = safe_throughout_then view a.file b.file c.file first.since first.safe_step.known on.since }; leaks = second.leaks ∙ first.leaks }

@@ -69,14 +69,11 @@ module _ {S F : Type 0} (view : S → StorageView) (backing : F → BackingView)
       disk_is : disk_of view backing mid ≡ disk_of view backing old
       disk_is = ap (λ (g : Guest). g.disk) call.same
 
-      given_bytes_are : all_given_by_growing view backing mid size mode ≡ given_bytes
-      given_bytes_are = given_growing view backing out old mid size mode call
-
       behind : (new : Qcow2 S F) → EffectOnSound (abstract_of view backing mid out) (abstract_of view backing new out) (all_given_by_growing view backing mid size mode) [] → EffectOnSound (abstract_of view backing old out) (abstract_of view backing new out) given_bytes []
       behind new works =
           let v = abstract_of view backing old out in
           let m = abstract_of view backing mid out in
-          works_then v m (abstract_of view backing new out) given_bytes [] call.sound (works_less v m [] given_bytes [] (λ o x never. absurd never) (λ g u. tt) call.works) (subst (λ gs. EffectOnSound m (abstract_of view backing new out) gs []) given_bytes_are works)
+          works_then v m (abstract_of view backing new out) given_bytes [] call.sound (works_less v m [] given_bytes [] (λ o x never. absurd never) (λ g u. tt) call.works) (subst (λ gs. EffectOnSound m (abstract_of view backing new out) gs []) (given_growing view backing out old mid size mode call) works)
 
       may_be : (d : Disk) → MayGrow (setting_of view backing mid) (disk_of view backing mid) size mode d → MayGrow (setting_of view backing old) (disk_of view backing old) size mode d
       may_be d may = subst (λ e. MayGrow (setting_of view backing old) e size mode d) disk_is (subst (λ s. MayGrow s (disk_of view backing mid) size mode d) setting_is may)

@@ -93,12 +93,6 @@ module _ (h : HeaderFields) (some : 0 < cluster_size h) (rows : 0 < entries_per_
     many_is : range.1 ≡ cond (nat_lt from to) (min to (at + (end - at)) - from) 0
     many_is = ap (λ (r : ℕ × ℕ). r.1) is
 
-    at_up : at ≤ from
-    at_up = rounded_from (cluster_size h) at some
-
-    end_up : end ≤ rounded_up (cluster_size h) end
-    end_up = rounded_from (cluster_size h) end some
-
     whole : to % cluster_size h ≡ 0
     whole = to_whole h some rows end at (end - at)
 
@@ -124,7 +118,7 @@ module _ (h : HeaderFields) (some : 0 < cluster_size h) (rows : 0 < entries_per_
         | inr at_end ↦
             let l = last_is in
             let before = before_end in
-            let up = at_up in
+            let up = rounded_from (cluster_size h) at some in
             let late : end ≤ to = elim at_end.1 [ inl low ↦ absurd (omega (arith, low, l, before, touched, up)) | inr is ↦ omega (arith, is, l) ] in
             let least = least_up (cluster_size h) some end to late whole in
             let most = to_at_most in
@@ -142,7 +136,7 @@ module _ (h : HeaderFields) (some : 0 < cluster_size h) (rows : 0 < entries_per_
       none_numbers =
           let many = many_is ∙ cond-false (nat_lt from to) (min to (at + (end - at)) - from) 0 (le-ltb from to none) in
           let first = first_is in
-          let up = end_up in
+          let up = rounded_from (cluster_size h) end some in
           let no = no_more in
           let n : next ≡ end = elim branch [ inl inside ↦ absurd (let e = inside.0 in let b = inside.2 in omega (arith, e, b, many, first, up, no, near)) | inr at_end ↦ at_end.0 ] in
           let r = ap (rounded_up (cluster_size h)) n in

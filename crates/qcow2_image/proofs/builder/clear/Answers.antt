@@ -1,5 +1,4 @@
-use Rattle.qcow2_image.proofs.Common.{sym, subst, resized, Calls, Changes, storage_of, of_storage}
-use Rattle.qcow2_image.proofs.Call.Unlimited.{storage_fault}
+use Rattle.qcow2_image.proofs.Common.{sym, subst, resized, Calls, Changes, storage_of, of_storage, fault_of_storage}
 use Rattle.qcow2_image.proofs.Prepare.LimitCauses.{hands_fault}
 use Rattle.qcow2_image.proofs.Create.Cleared.{asked_first, cut_to_none}
 use Rattle.qcow2_image.proofs.builder.clear.Goals as goal
@@ -30,7 +29,7 @@ returns-clause-cleared g c = λ honest.
     cut_to_none (view (storage_of c.set_write_kind.new.self)).contents _ (c.in_ok-clear.ensures.writes.written (subst (λ s. (view s).is_honest) (sym c.set_write_kind.ensures.storage) (c.size.ensures.calls.honest honest)))
 
 pub returns-in_err-size-clause-fault : goal.returns-in_err-size-clause-fault
-returns-in_err-size-clause-fault g c = hands_fault c.from_residual.result (of_storage c.in_err-size.field-0.0) c.from_residual.ensures (storage_fault c.in_err-size.field-0.0)
+returns-in_err-size-clause-fault g c = hands_fault c.from_residual.result (of_storage c.in_err-size.field-0.0) c.from_residual.ensures (fault_of_storage c.in_err-size.field-0.0)
 
 pub returns-in_err-clear-clause-fault : goal.returns-in_err-clear-clause-fault
-returns-in_err-clear-clause-fault g c = hands_fault c.from_residual-in_err-clear.result (of_storage c.in_err-clear.field-0.0) c.from_residual-in_err-clear.ensures (storage_fault c.in_err-clear.field-0.0)
+returns-in_err-clear-clause-fault g c = hands_fault c.from_residual-in_err-clear.result (of_storage c.in_err-clear.field-0.0) c.from_residual-in_err-clear.ensures (fault_of_storage c.in_err-clear.field-0.0)

@@ -56,14 +56,12 @@ returns-clause-leaks g c = λ opened writable none.
 
 pub returns-in_err-resize_grow-clause-limit : goal.returns-in_err-resize_grow-clause-limit
 returns-in_err-resize_grow-clause-limit g c = λ usable sound.
-    let view = g.S.Storage.view in
-    let below = g.F.BackingDisk.backing in
     let old = c.args.image.now in
     let e = c.in_err-resize_grow.field-0.0 in
     let does = c.in_err-resize_grow.ensures in
     hands_limit c.from_residual.result e c.from_residual.ensures (λ is.
     let lt : size_of old < c.args.size = elim (cases_lt (size_of old) c.args.size) [ inl lt ↦ lt | inr le ↦ absurd (let no = (does.no_larger usable le).0 in cc) ] in
-    ((does.sound [] sound).limit usable lt is, left_taking view below old c.resize_grow.new.self c.args.size c.args.mode (Err e) sound (does.image lt) does.sees is))
+    ((does.sound [] sound).limit usable lt is, left_taking g.S.Storage.view g.F.BackingDisk.backing old c.resize_grow.new.self c.args.size c.args.mode (Err e) sound (does.image lt) does.sees is))
 
 pub returns-clause-limit : goal.returns-clause-limit
 returns-clause-limit g c = λ usable sound.

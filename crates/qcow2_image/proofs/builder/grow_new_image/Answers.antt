@@ -49,14 +49,12 @@ returns-in-Ok-clause-leaks g c = λ honest unwritten none.
 
 pub returns-in-Err-clause-limit : goal.returns-in-Err-clause-limit
 returns-in-Err-clause-limit g c = λ honest unwritten new_image uncleared.
-    let view = g.S.Storage.view in
-    let contents = (view (storage_of c.args.storage)).contents in
+    let contents = (g.S.Storage.view (storage_of c.args.storage)).contents in
     other_limit _ c.in-Err.refusal (opening_unlimited contents c.in-Err.refusal new_image (c.in-Err.ensures.step.cause.1 honest))
 
 pub returns-in-Ok-clause-limit : goal.returns-in-Ok-clause-limit
 returns-in-Ok-clause-limit g c = λ honest unwritten new_image uncleared.
     let view = g.S.Storage.view in
-    let below = g.F.BackingDisk.backing in
     let contents = (view (storage_of c.args.storage)).contents in
     let image = c.in-Ok.image in
     let is = (c.in-Ok.ensures.opens honest unwritten.consistent).opened in
@@ -71,4 +69,4 @@ returns-in-Ok-clause-limit g c = λ honest unwritten new_image uncleared.
       is_left = sym c.into_storage.ensures;
       leaves = may_fail.1;
     })
-    (c.grow_and_flush-done.ensures.limit (usable_opened view below image is c.in-Ok.ensures.image.writable_is) is.sound)
+    (c.grow_and_flush-done.ensures.limit (usable_opened view g.F.BackingDisk.backing image is c.in-Ok.ensures.image.writable_is) is.sound)

@@ -1,4 +1,4 @@
-use Rattle.qcow2_image.proofs.Common.{◌≡◌, [], Err, Ok, inl, inr, subst, sym, option_flatten, IsHonestBacking, Opens, IsNewlyOpened, OpeningStep, files_missing, Qcow2OpenBuilder}
+use Rattle.qcow2_image.proofs.Common.{◌≡◌, [], Ok, inr, subst, sym, option_flatten, IsHonestBacking, Opens, IsNewlyOpened, OpeningStep, files_missing, Qcow2OpenBuilder}
 use Rattle.qcow2_image.proofs.builder.open_grown.Goals as goal
 
 pub returns-in-Ok-resize_grow-clause-opens : goal.returns-in-Ok-resize_grow-clause-opens
@@ -38,6 +38,3 @@ returns-in-Err-resize_grow-clause-refused g c =
         may_fail = λ usable lt sound. (does.sound [] sound).may_fail usable lt;
       },
     )
-
-pub returns-in-Err-clause-refused : goal.returns-in-Err-clause-refused
-returns-in-Err-clause-refused g c = inl (subst (λ (b : Qcow2OpenBuilder _ _). OpeningStep {F = g.row.F.Denot} (g.S.Storage.view) (g.S.Storage.view b.image) b.writable (files_missing b.backing) (Err c.in-Err.refused)) c.write.ensures c.in-Err.ensures.step)

@@ -41,6 +41,3 @@ returns-clause-writes g c = λ honest new.
     let still = c.clear.ensures.honest honest in
     writes_then c.args.header.now.fields old mid (view (storage_of c.write_three.new.storage)) c.write_three.result (stops_cleared 0 old mid still (c.clear.ensures.time honest))
     (c.write_three.ensures.writes still (c.in_ok-clear.ensures.cleared honest) new c.in_ok-block.ensures.counts c.in_ok-reftable.ensures.names)
-
-pub returns-clause-stands : goal.returns-clause-stands
-returns-clause-stands g c = λ honest names. c.write_three.ensures.stands (c.clear.ensures.honest honest) names

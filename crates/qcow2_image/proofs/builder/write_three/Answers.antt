@@ -1,5 +1,4 @@
-use Rattle.qcow2_image.proofs.Common.{subst, sym, ◌≡◌, List, ℕ, IsHeaderIn, header_written, of_storage, storage_of, handed_on, WritesThree}
-use Rattle.qcow2_image.proofs.Call.Unlimited.{storage_fault}
+use Rattle.qcow2_image.proofs.Common.{subst, sym, ◌≡◌, List, ℕ, IsHeaderIn, header_written, of_storage, storage_of, handed_on, WritesThree, fault_of_storage}
 use Rattle.qcow2_image.proofs.Prepare.LimitCauses.{hands_fault}
 use Rattle.qcow2_image.proofs.Create.ThreeWrites.{stops_first, stops_second, stops_third, new_stands}
 use Rattle.qcow2_image.proofs.builder.write_three.Goals as goal
@@ -51,10 +50,10 @@ returns-clause-stands g c = λ honest names.
     subst (λ (l : List ℕ). IsHeaderIn c.args.header.now l) (sym is) (c.write_new_header.ensures.reads names)
 
 pub returns-in_err-write_new_refblock-clause-fault : goal.returns-in_err-write_new_refblock-clause-fault
-returns-in_err-write_new_refblock-clause-fault g c = hands_fault c.from_residual.result (of_storage c.in_err-write_new_refblock.field-0.0) c.from_residual.ensures (storage_fault c.in_err-write_new_refblock.field-0.0)
+returns-in_err-write_new_refblock-clause-fault g c = hands_fault c.from_residual.result (of_storage c.in_err-write_new_refblock.field-0.0) c.from_residual.ensures (fault_of_storage c.in_err-write_new_refblock.field-0.0)
 
 pub returns-in_err-write_reftable-clause-fault : goal.returns-in_err-write_reftable-clause-fault
-returns-in_err-write_reftable-clause-fault g c = hands_fault c.from_residual-in_err-write_reftable.result (of_storage c.in_err-write_reftable.field-0.0) c.from_residual-in_err-write_reftable.ensures (storage_fault c.in_err-write_reftable.field-0.0)
+returns-in_err-write_reftable-clause-fault g c = hands_fault c.from_residual-in_err-write_reftable.result (of_storage c.in_err-write_reftable.field-0.0) c.from_residual-in_err-write_reftable.ensures (fault_of_storage c.in_err-write_reftable.field-0.0)
 
 pub returns-in_err-write_new_header-clause-fault : goal.returns-in_err-write_new_header-clause-fault
-returns-in_err-write_new_header-clause-fault g c = hands_fault c.from_residual-in_err-write_new_header.result (of_storage c.in_err-write_new_header.field-0.0) c.from_residual-in_err-write_new_header.ensures (storage_fault c.in_err-write_new_header.field-0.0)
+returns-in_err-write_new_header-clause-fault g c = hands_fault c.from_residual-in_err-write_new_header.result (of_storage c.in_err-write_new_header.field-0.0) c.from_residual-in_err-write_new_header.ensures (fault_of_storage c.in_err-write_new_header.field-0.0)

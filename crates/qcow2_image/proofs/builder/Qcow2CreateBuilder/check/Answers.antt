@@ -1,4 +1,4 @@
-use Rattle.qcow2_image.proofs.Common.{◌≡◌, ◌∙◌, None, ap, arith, false, rules, sym, true, IsTrue, ◌↔◌, CanBeNew, backing_format_in, backing_name_in, longest_disk}
+use Rattle.qcow2_image.proofs.Common.{◌≡◌, ◌∙◌, None, false, rules, sym, true, IsTrue, ◌↔◌, CanBeNew, backing_format_in, backing_name_in}
 use Rattle.qcow2_image.proofs.Create.Causes.{is_allowed, no_such_header, too_long}
 use Rattle.qcow2_image.proofs.builder.Qcow2CreateBuilder.check.Goals as goal
 
@@ -22,22 +22,10 @@ returns-then-allocates_over-clause-refused g c =
     let fits : IsTrue c.fits.result ↔ CanBeNew c.in-Some.cluster_bits c.in-Some-power_of_two.refcount_order (backing_name_in c.args.self.now) (backing_format_in c.args.self.now) None = search rules in
     λ none. absurd (none (is_allowed c.args.self.now (c.in-Some.cluster_bits, c.in-Some-power_of_two.refcount_order) (record { clusters = c.in-Some.ensures.some; counts = c.in-Some-power_of_two.ensures.some; can_be_new = fits.0 c.if-not-fits.false })))
 
-pub returns-then-allocates_over-clause-limit : goal.returns-then-allocates_over-clause-limit
-returns-then-allocates_over-clause-limit g c =
-    λ allowed no long. absurd (let bad : true ≡ false = sym c.if-allocates_over.true ∙ c.allocates_over.ensures ∙ no in cc)
-
-pub returns-then-allocates_over-clause-cause : goal.returns-then-allocates_over-clause-cause
-returns-then-allocates_over-clause-cause g c =
-    sym c.allocates_over.ensures ∙ c.if-allocates_over.true
-
 pub returns-then-not-has_l1_entries-clause-refused : goal.returns-then-not-has_l1_entries-clause-refused
 returns-then-not-has_l1_entries-clause-refused g c =
     let fits : IsTrue c.fits.result ↔ CanBeNew c.in-Some.cluster_bits c.in-Some-power_of_two.refcount_order (backing_name_in c.args.self.now) (backing_format_in c.args.self.now) None = search rules in
     λ none. absurd (none (is_allowed c.args.self.now (c.in-Some.cluster_bits, c.in-Some-power_of_two.refcount_order) (record { clusters = c.in-Some.ensures.some; counts = c.in-Some-power_of_two.ensures.some; can_be_new = fits.0 c.if-not-fits.false })))
-
-pub returns-then-not-has_l1_entries-clause-over : goal.returns-then-not-has_l1_entries-clause-over
-returns-then-not-has_l1_entries-clause-over g c =
-    λ allowed is. absurd (let bad : true ≡ false = sym is ∙ sym c.allocates_over.ensures ∙ c.if-allocates_over.false in cc)
 
 pub returns-then-not-has_l1_entries-clause-cause : goal.returns-then-not-has_l1_entries-clause-cause
 returns-then-not-has_l1_entries-clause-cause g c =
@@ -52,11 +40,3 @@ pub returns-clause-refused : goal.returns-clause-refused
 returns-clause-refused g c =
     let fits : IsTrue c.fits.result ↔ CanBeNew c.in-Some.cluster_bits c.in-Some-power_of_two.refcount_order (backing_name_in c.args.self.now) (backing_format_in c.args.self.now) None = search rules in
     λ none. absurd (none (is_allowed c.args.self.now (c.in-Some.cluster_bits, c.in-Some-power_of_two.refcount_order) (record { clusters = c.in-Some.ensures.some; counts = c.in-Some-power_of_two.ensures.some; can_be_new = fits.0 c.if-not-fits.false })))
-
-pub returns-clause-over : goal.returns-clause-over
-returns-clause-over g c =
-    λ allowed is. absurd (let bad : true ≡ false = sym is ∙ sym c.allocates_over.ensures ∙ c.if-allocates_over.false in cc)
-
-pub returns-clause-limit : goal.returns-clause-limit
-returns-clause-limit g c =
-    λ allowed no long. absurd (let le = c.has_l1_entries.ensures.0 c.if-not-has_l1_entries.false in let size = ap longest_disk c.in-Some.ensures.some in omega (arith, le, long, size))

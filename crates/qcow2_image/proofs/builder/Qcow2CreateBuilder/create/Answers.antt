@@ -1,9 +1,8 @@
-use Rattle.qcow2_image.proofs.Common.{◌≡◌, ◌∙◌, Err, Ok, Result, ap, refl, subst, sym, IfErr, IfOk, FaultsReported, storage_of, ImageError, IsMade, IsReasonNotToCreate, StopsCreating}
+use Rattle.qcow2_image.proofs.Common.{◌≡◌, ◌∙◌, Err, Ok, Result, ap, refl, subst, sym, IfErr, IfOk, FaultsReported, storage_of, ImageError, IsMade, IsReasonNotToCreate, StopsCreating, IfErr-weaker}
 use Rattle.image_access.specs.declared.storage.PreallocateMode.TheVariants as Mode
 use Rattle.qcow2_image.proofs.Create.Causes.{reasons_made, reasons_of}
 use Rattle.qcow2_image.proofs.Create.Creating.{created_then, creating_stops, stops_at_none}
 use Rattle.qcow2_image.proofs.Prepare.LimitCauses.{limits_as}
-use Rattle.qcow2_image.proofs.Prepare.RefusedAsPrepared.{if_err}
 use Rattle.qcow2_image.proofs.builder.Qcow2CreateBuilder.create.Goals as goal
 
 -- what was answered wasn't refused
@@ -18,20 +17,8 @@ returns-in-Err-clause-stops g c = λ honest.
 pub returns-in-Err-clause-cause : goal.returns-in-Err-clause-cause
 returns-in-Err-clause-cause g c = λ honest.
     let view = g.S.Storage.view in
-    let why = if_err c.make-storage.result.1 (reasons_made c.args.self view c.make-storage.result.0) c.make-storage.ensures.cause in
+    let why = IfErr-weaker c.make-storage.result.1 _ _ (reasons_made c.args.self view c.make-storage.result.0) c.make-storage.ensures.cause in
     subst (λ (r : Result _ _). IfErr r (IsReasonNotToCreate view c.args.self c.make-storage.result.0)) c.in-Err.is why
-
-pub returns-in-Err-clause-refused : goal.returns-in-Err-clause-refused
-returns-in-Err-clause-refused g c = λ none. let told = c.make-storage.ensures.refused none in (sym c.in-Err.is ∙ told.0, told.1)
-
-pub returns-in-Err-clause-over : goal.returns-in-Err-clause-over
-returns-in-Err-clause-over g c = λ allowed is. let told = c.make-storage.ensures.over allowed is in (sym c.in-Err.is ∙ told.0, told.1)
-
-pub returns-in-Err-clause-limit : goal.returns-in-Err-clause-limit
-returns-in-Err-clause-limit g c = λ allowed no long. let told = c.make-storage.ensures.limit allowed no long in (sym c.in-Err.is ∙ told.0, told.1)
-
-pub returns-in-Err-clause-faults : goal.returns-in-Err-clause-faults
-returns-in-Err-clause-faults g c = subst (λ (r : Result _ _). FaultsReported (g.S.Storage.view c.args.self.image).faults (g.S.Storage.view c.make-storage.result.0).faults r) c.in-Err.is c.make-storage.ensures.faults
 
 pub returns-clause-stops : goal.returns-clause-stops
 returns-clause-stops g c = λ honest.

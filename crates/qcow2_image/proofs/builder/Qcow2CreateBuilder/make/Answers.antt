@@ -1,11 +1,9 @@
-use Rattle.qcow2_image.proofs.Common.{◌≡◌, Err, Ok, Result, inl, inr, ap, refl, subst, sym, IfOk, passes_none, FaultsReported, storage_of, ImageError, IsMade, StopsCreating, backing_format_in, backing_name_in}
+use Rattle.qcow2_image.proofs.Common.{◌≡◌, Err, Ok, Result, ap, refl, subst, sym, IfOk, passes_none, FaultsReported, storage_of, ImageError, IsMade, StopsCreating, backing_format_in, backing_name_in}
 use Rattle.image_access.specs.declared.storage.PreallocateMode.TheVariants as Mode
 use Rattle.qcow2_image.proofs.Create.Causes.{is_allowed}
 use Rattle.qcow2_image.proofs.Create.Creating.{made_by, new_header_is, three_stops}
-use Rattle.qcow2_image.proofs.Prepare.RefusedAsPrepared.{if_err}
 use Rattle.qcow2_image.proofs.builder.Qcow2CreateBuilder.make.Goals as goal
 
--- the same error
 same_error : {A : Type 0} {e f : ImageError} → (◌≡◌ {A = Result A ImageError} (Err e) (Err f)) → e ≡ f
 same_error is = cc
 
@@ -39,9 +37,6 @@ returns-clause-stops g c = λ honest.
     subst (λ s. StopsCreating Mode.None 0 (view s) (view c.into_inner.result)) c.new-storage.ensures.storage
     (subst (λ s. StopsCreating Mode.None 0 (view start) (view s)) (sym c.into_inner.ensures) (three_stops v.fields (view start) (view mid) c.write_new_image-done.result writes))
 
-pub returns-clause-cause : goal.returns-clause-cause
-returns-clause-cause g c = if_err c.write_new_image-done.result (λ e fault. inr fault) c.write_new_image-done.ensures.fault
-
 pub returns-clause-refused : goal.returns-clause-refused
 returns-clause-refused g c = λ none. absurd (none (is_allowed c.args.self c.in-Ok.logarithms c.in-Ok.ensures.fits))
 
@@ -59,9 +54,6 @@ returns-clause-faults g c =
 
 pub returns-in-Err-clause-stops : goal.returns-in-Err-clause-stops
 returns-in-Err-clause-stops g c = λ honest. passes_none (g.S.Storage.view c.args.self.image) _
-
-pub returns-in-Err-clause-cause : goal.returns-in-Err-clause-cause
-returns-in-Err-clause-cause g c = inl c.in-Err.ensures.cause
 
 pub returns-in-Err-clause-refused : goal.returns-in-Err-clause-refused
 returns-in-Err-clause-refused g c = λ none. (ap Err (same_error (c.in-Err.ensures.refused none)), refl)

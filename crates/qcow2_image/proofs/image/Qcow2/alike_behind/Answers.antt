@@ -11,13 +11,6 @@ behind_more t cluster n before here k some le =
 pub loop-count-init : goal.loop-count-init
 loop-count-init g c = record { near = let some = c.cluster_size-size.ensures.some in omega arith; alike = λ k some le. absurd (let s = some in let l = le in omega arith) }
 
-pub overflow_mul-count : goal.overflow_mul-count
-overflow_mul-count g c =
-    let near = c.loop-count.invariant.near in
-    let asked = c.requires.few in
-    let few = c.cluster_size-size.ensures.few in
-    omega arith
-
 pub loop-count-smaller : goal.loop-count-smaller
 loop-count-smaller g c =
     let more = one_more c.loop-count.count c.cluster_size-size.result in
@@ -37,6 +30,3 @@ loop-count-preserved g c =
           (subst (λ n. IsAlike n (mapping_of c.args.table.now c.args.cluster) (mapping_of c.args.table.now (c.args.cluster + (c.loop-count.count + 1)))) all
           (subst (λ n. IsAlike ((c.loop-count.count + 1) * c.cluster_size-size.result) (mapping_of c.args.table.now c.args.cluster) (mapping_of c.args.table.now n)) (c.new-next.ensures ∙ omega arith) found));
     }
-
-pub returns-in_err-are_alike-clause-reads : goal.returns-in_err-are_alike-clause-reads
-returns-in_err-are_alike-clause-reads g c = λ all. absurd (let no : false ≡ true = c.in_err-are_alike.ensures.reads all in cc)

@@ -8,9 +8,6 @@ use Rattle.qcow2_image.proofs.image.Qcow2.allocate_grown.Goals as goal
 pub returns-in_default-clause-step : goal.returns-in_default-clause-step
 returns-in_default-clause-step g c = step_none
 
-pub returns-clause-step : goal.returns-clause-step
-returns-clause-step g c = c.fill_range.ensures.step
-
 pub returns-in_default-clause-sound : goal.returns-in_default-clause-sound
 returns-in_default-clause-sound g c = λ out sound le.
     record {

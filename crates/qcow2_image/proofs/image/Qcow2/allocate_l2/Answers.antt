@@ -63,9 +63,6 @@ returns-in-Err-clause-sound g c = λ p out sound may says.
       limit = λ near. other_limit _ c.in-Err.refusal (looking_unlimited c.in-Err.refusal (c.in-Err.ensures.may_fail since out keeps.sound known (record { within = near.within; room = near.room }) host));
     }
 
-pub returns-in-Ok-clause-elsewhere : goal.returns-in-Ok-clause-elsewhere
-returns-in-Ok-clause-elsewhere g c = subst (λ n. 0 < n) (sym c.cluster-cluster.ensures) c.in_ok-pending.ensures.elsewhere
-
 pub returns-in_err-pending-clause-step : goal.returns-in_err-pending-clause-step
 returns-in_err-pending-clause-step g c = record { stays = search rules; notes = (notes_of_marks c.allocate_meta.ensures.step.marks); header_cluster = behind_allocated c.in-Some.is c.allocate_meta.ensures.step.header_cluster }
 

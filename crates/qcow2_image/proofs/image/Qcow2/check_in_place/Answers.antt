@@ -1,7 +1,5 @@
 use Rattle.qcow2_image.proofs.Call.WriteSteps.{filling_none, keeping_of_filling, keeping_of_read}
-use Rattle.qcow2_image.proofs.Common.{◌≡◌, ◌∙◌, inr, None, true, sym, subst, arith, ◌+◌, rules, Raw, Image, IsFoundWhole, IsMappedAs, Result, handed_on, none_of, FitsTables, IsCacheHeld, MayFailLookingAgain, table_of}
-use Rattle.qcow2_image.proofs.Grow.L1Lengths.{on_ok}
-use Rattle.qcow2_image.proofs.Map.Loading.{if_ok}
+use Rattle.qcow2_image.proofs.Common.{◌≡◌, ◌∙◌, inr, None, true, sym, subst, arith, ◌+◌, rules, Raw, Image, IsFoundWhole, IsMappedAs, Result, handed_on, none_of, FitsTables, IsCacheHeld, MayFailLookingAgain, table_of, IfOk-weaker, on_ok_weaker}
 use Rattle.qcow2_image.proofs.Prepare.FailingCopies.{hands_met, met_as}
 use Rattle.qcow2_image.proofs.image.Qcow2.check_in_place.Goals as goal
 
@@ -25,18 +23,15 @@ returns-clause-sound g c = λ p out sound.
       may_fail = let none : table_of c.args.prepared.now ≡ None = none_of (sym c.if-is_some.false ∙ c.is_some.ensures) in
           met_as (MayFailLookingAgain (IsCacheHeld old out)) (λ e. (table_of c.args.prepared.now ≡ None) × MayFailLookingAgain (IsCacheHeld old out) e) c.check_mapped.result (λ e why. (none, why)) ((c.check_mapped.ensures.sound p out sound).may_fail);
       outdated = λ some is whole. (c.check_mapped.ensures.sound p out sound).outdated is (subst (λ o. IsFoundWhole view old o (Raw Image c.args.host true) c.args.length) (sym c.in_ok-guest.ensures.place) whole);
-      mapped = λ none some. if_ok c.check_mapped.result (λ done is. subst (λ o. IsMappedAs view c.check_mapped.new.self o (Raw Image c.args.host true) c.args.length) c.in_ok-guest.ensures.place is)
+      mapped = λ none some. IfOk-weaker c.check_mapped.result _ _ (λ done is. subst (λ o. IsMappedAs view c.check_mapped.new.self o (Raw Image c.args.host true) c.args.length) c.in_ok-guest.ensures.place is)
           ((c.check_mapped.ensures.sound p out sound).mapped some);
-      found = λ none. on_ok c.check_mapped.result (λ is. subst (λ o. IsFoundWhole view old o (Raw Image c.args.host true) c.args.length) c.in_ok-guest.ensures.place is) ((c.check_mapped.ensures.sound p out sound).found);
+      found = λ none. on_ok_weaker c.check_mapped.result (λ is. subst (λ o. IsFoundWhole view old o (Raw Image c.args.host true) c.args.length) c.in_ok-guest.ensures.place is) ((c.check_mapped.ensures.sound p out sound).found);
     }
 
 pub returns-in_err-guest-clause-held : goal.returns-in_err-guest-clause-held
 returns-in_err-guest-clause-held g c = λ none some.
     handed_on (λ (r : Result _ _). FitsTables c.args.self.now (c.args.prepared.now.guest + c.args.at) (Raw Image c.args.host true) c.args.length r) c.from_residual.result c.in_err-guest.field-0.0 c.from_residual.ensures
     (λ outdated whole. absurd (let b = whole.below in let p = c.in_err-guest.ensures.past in omega (arith, b, p, some)))
-
-pub returns-clause-held : goal.returns-clause-held
-returns-clause-held g c = λ none some. subst (λ o. FitsTables c.check_mapped.new.self o (Raw Image c.args.host true) c.args.length c.check_mapped.result) c.in_ok-guest.ensures.place (c.check_mapped.ensures.held some)
 
 pub returns-then-is_some-clause-step : goal.returns-then-is_some-clause-step
 returns-then-is_some-clause-step g c = keeping_of_filling filling_none

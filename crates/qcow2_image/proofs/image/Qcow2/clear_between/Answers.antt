@@ -7,21 +7,12 @@ use Rattle.qcow2_image.proofs.Call.Refused.{back_then_freed}
 use Rattle.qcow2_image.proofs.Prepare.LimitCauses.{limited_frees}
 use Rattle.qcow2_image.proofs.Prepare.FailingTables.{met_freed}
 
-pub returns-in-Ok-clause-step : goal.returns-in-Ok-clause-step
-returns-in-Ok-clause-step g c = c.in-Ok.ensures.step
-
 pub returns-in-Err-clause-step : goal.returns-in-Err-clause-step
 returns-in-Err-clause-step g c = step_then c.clear_in_table.ensures.step c.process_free_list_after.ensures.step
-
-pub returns-in-Ok-clause-fails : goal.returns-in-Ok-clause-fails
-returns-in-Ok-clause-fails g c = c.in-Ok.ensures.fails
 
 pub returns-in-Err-clause-fails : goal.returns-in-Err-clause-fails
 returns-in-Err-clause-fails g c =
     fails_freed c.clear_in_table.result c.in-Err.refusal c.process_free_list_after.result c.clear_in_table.ensures.fails c.in-Err.is c.process_free_list_after.ensures.faults (c.process_free_list_after.ensures.refused.cause c.in-Err.ensures.fails.cause)
-
-pub returns-in-Ok-clause-sound : goal.returns-in-Ok-clause-sound
-returns-in-Ok-clause-sound g c = c.in-Ok.ensures.sound
 
 pub returns-in-Err-clause-sound : goal.returns-in-Err-clause-sound
 returns-in-Err-clause-sound g c = λ out sound.
@@ -52,9 +43,3 @@ pub returns-in-Err-clause-freed : goal.returns-in-Err-clause-freed
 returns-in-Err-clause-freed g c = λ out sound whole.
     refused_freed g.S.Storage.view g.F.BackingDisk.backing out c.args.self.now c.clear_in_table.new.self c.process_free_list_after.new.self c.in-Err.refusal c.process_free_list_after.result ((c.in-Err.ensures.sound out sound).whole whole).clears c.process_free_list_after.ensures.refused.fault
     (c.process_free_list_after.ensures.emptied (subst IsTrue (sym c.clear_in_table.ensures.step.stays.image.writable) c.requires.writable) out)
-
-pub returns-in-Ok-clause-pinned : goal.returns-in-Ok-clause-pinned
-returns-in-Ok-clause-pinned g c = c.in-Ok.ensures.pinned
-
-pub returns-in-Err-clause-pinned : goal.returns-in-Err-clause-pinned
-returns-in-Err-clause-pinned g c = λ own is. c.in-Err.ensures.pinned own (c.process_free_list_after.ensures.refused.taken c.in-Err.ensures.fails.cause is)

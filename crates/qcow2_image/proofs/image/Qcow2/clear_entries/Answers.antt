@@ -16,8 +16,3 @@ loop-i-preserved g c =
     subst (λ n. ClearsTable view below c.args.how c.args.table c.args.index n old new) one
     (first_next view below c.args.how c.args.table c.args.index c.loop-i.i old now new c.loop-i.invariant
     (subst (λ k. ClearsEntry c.args.how c.args.table k now new) c.saturating_add.ensures c.clear_entry.ensures))
-
-pub returns-clause-clears : goal.returns-clause-clears
-returns-clause-clears g c =
-    let all : c.loop-i.i ≡ c.args.count = omega (arith, c.loop-i-test.false, c.loop-i.auto.i-end) in
-    subst (λ n. ClearsTable g.S.Storage.view g.F.BackingDisk.backing c.args.how c.args.table c.args.index n c.args.self.now c.loop-i.self) all c.loop-i.invariant

@@ -13,24 +13,14 @@ use Rattle.qcow2_image.proofs.Call.FaultCounts.{counted_ok, faults_then, untouch
 use Rattle.qcow2_image.proofs.Call.Fails.{fails_on}
 use Rattle.qcow2_image.proofs.Clear.ClearedCalls.{counted_other}
 
-pub returns-in_err-table-clause-step : goal.returns-in_err-table-clause-step
-returns-in_err-table-clause-step g c = c.writable_l2_table.ensures.step
-
-pub returns-then-l2_is_pinned-clause-step : goal.returns-then-l2_is_pinned-clause-step
-returns-then-l2_is_pinned-clause-step g c = c.writable_l2_table.ensures.step
-
-pub returns-in_err-old_data-clause-step : goal.returns-in_err-old_data-clause-step
-returns-in_err-old_data-clause-step g c = c.writable_l2_table.ensures.step
-
 pub returns-clause-step : goal.returns-clause-step
 returns-clause-step g c =
-    let b = c.clear_entries.new.self in
     let rest = c.clear_entries.ensures.clears.rest in
     let was = c.writable_l2_table.ensures.step.stays in
     let is = c.clear_entries.ensures.stays in
     record {
       stays = record { image = record { number = is.image.number ∙ was.image.number; size = is.image.size ∙ was.image.size; writable = is.image.writable ∙ was.image.writable; external = is.image.external ∙ was.image.external }; failed = is.failed ∙ was.failed };
-      notes = notes_then c.writable_l2_table.ensures.step.notes (table_kept c.writable_l2_table.new.self b (ap (λ (i : Qcow2 _ _). i.file.storage) rest) c.clear_entries.ensures.clears.marks);
+      notes = notes_then c.writable_l2_table.ensures.step.notes (table_kept c.writable_l2_table.new.self c.clear_entries.new.self (ap (λ (i : Qcow2 _ _). i.file.storage) rest) c.clear_entries.ensures.clears.marks);
       header_cluster = behind_then c.writable_l2_table.ensures.step.header_cluster (behind_by g.S.Storage.view rest (behind_tables c.clear_entries.ensures.clears.behind));
     }
 

@@ -79,9 +79,3 @@ returns-in_default-clause-step g c = taking_none
 
 pub returns-in_err-old_data-clause-step : goal.returns-in_err-old_data-clause-step
 returns-in_err-old_data-clause-step g c = taking_none
-
-pub returns-in_default-2-clause-step : goal.returns-in_default-2-clause-step
-returns-in_default-2-clause-step g c = c.new_cluster_at.ensures.step
-
-pub returns-clause-step : goal.returns-clause-step
-returns-clause-step g c = c.new_cluster_at.ensures.step

@@ -1,11 +1,10 @@
 use Rattle.qcow2_image.proofs.Call.WriteSteps.{filling_written, taking_none, taking_of_filling}
-use Rattle.qcow2_image.proofs.Common.{◌≡◌, ◌+◌, ◌-◌, ◌/◌, ◌^◌, Some, true, false, arith, inl, refl, sym, ap, ◌∙◌, subst, ◌%◌, rules, cluster_size, Data, Zero, pending_in, l1_index_of, cover, handed_on, known_in, Qcow2, FindsBehind, ClusterMappingsAt, IsFilled, IsKeptAlone, InternalFillingStep, IsCompressed, HasUnannounced, IsCopiedCompressed}
+use Rattle.qcow2_image.proofs.Common.{◌≡◌, ◌+◌, ◌-◌, ◌/◌, ◌^◌, Some, true, false, arith, inl, refl, sym, ap, ◌∙◌, subst, ◌%◌, rules, cluster_size, Data, Zero, pending_in, l1_index_of, cover, handed_on, known_in, Qcow2, FindsBehind, ClusterMappingsAt, IsFilled, IsKeptAlone, InternalFillingStep, IsCompressed, HasUnannounced, IsCopiedCompressed, IfErr-weaker}
 use Rattle.qcow2_image.proofs.Call.Refused.{back_refused}
 use Rattle.qcow2_image.proofs.Prepare.FirstCluster.{listed_after_same}
 use Rattle.qcow2_image.proofs.Prepare.KeptMappings.{behind_alone, behind_kept}
 use Rattle.qcow2_image.proofs.Prepare.FollowingCluster.{behind_in_place, ends_elsewhere, finds_shared, next_cluster, next_says}
 use Rattle.qcow2_image.proofs.Prepare.LimitCauses.{hands_limit, limited_taking, limits_as, other_limit}
-use Rattle.qcow2_image.proofs.Prepare.RefusedAsPrepared.{if_err}
 use Rattle.qcow2_image.proofs.Prepare.FailingCopies.{kept_behind}
 use Rattle.qcow2_image.proofs.Prepare.FailingTables.{hands_alone}
 use Rattle.qcow2_image.proofs.Prepare.FailingRanges.{alone_as, guest_fits, next_reads, place_aligned, place_fits}
@@ -22,9 +21,6 @@ returns-in_err-fill_kept-in-None-clause-step g c = taking_of_filling (filling_wr
 
 pub returns-in_ok-fill_kept-in-None-clause-step : goal.returns-in_ok-fill_kept-in-None-clause-step
 returns-in_ok-fill_kept-in-None-clause-step g c = taking_of_filling (filling_written c.fill_kept.ensures.step c.fill_kept.ensures.rest)
-
-pub returns-in-None-2-clause-step : goal.returns-in-None-2-clause-step
-returns-in-None-2-clause-step g c = c.cluster_mapping_at.ensures.step
 
 pub returns-in-Some-copied_offset-clause-sound : goal.returns-in-Some-copied_offset-clause-sound
 returns-in-Some-copied_offset-clause-sound g c = λ out k at may sound.
@@ -119,7 +115,6 @@ returns-in-None-2-clause-sound g c = λ out k at may sound.
     let new = c.cluster_mapping_at.new.self in
     let p = c.args.prepared.now in
     let h = old.file.header.fields in
-    let n = c.args.length in
     let cluster : c.cluster-cluster.result ≡ (p.guest + p.length) / cluster_size h = c.cluster-cluster.ensures ∙ ap (λ o. o / 2 ^ c.cluster_bits.result) (c.new.ensures ∙ c.in-Some.ensures.1) ∙ ap (λ b. (p.guest + p.length) / 2 ^ b) c.cluster_bits.ensures.value in
     let o = c.args.overwrite in
     let covered = next_says view below old out k p at c.args.length c.args.table c.args.overwrite may sound c.cluster-cluster.result c.in_ok-old.old cluster (c.in_ok-old.ensures.says (pending_in view below old out) (l1_index_of h p.guest) sound.file) in
@@ -130,10 +125,10 @@ returns-in-None-2-clause-sound g c = λ out k at may sound.
     let r = c.cluster_mapping_at.result in
     record {
       does = finds_shared view below old out k p at c.args.length c.args.table c.args.overwrite may sound new mapping c.in_ok-old.ensures.reach (c.in-None-2.ensures.none refl) (λ own. let yes = c.keeps.ensures.answer.1 (own ∙ ap (λ b. Zero (Some (b, true))) (sym c.in-Some-checked_add.ensures.1)) in let e : true ≡ false = sym yes ∙ c.if-keeps.false in cc) covered r
-          (subst (λ x. ClusterMappingsAt view below before old new out x (n - p.length) o mapping (p.offset + p.length) r) c.in-Some.ensures.1
+          (subst (λ x. ClusterMappingsAt view below before old new out x (c.args.length - p.length) o mapping (p.offset + p.length) r) c.in-Some.ensures.1
           (subst (λ x. ClusterMappingsAt view below before old new out c.in-Some.next x o mapping (p.offset + p.length) r) c.saturating_sub-left.ensures
           (subst (λ x. ClusterMappingsAt view below before old new out c.in-Some.next c.saturating_sub-left.result o mapping x r) c.in-Some-checked_add.ensures.1 ((c.cluster_mapping_at.ensures.sound before out sound (λ m. omega arith)).clusters))));
-      may_fail = if_err c.cluster_mapping_at.result
+      may_fail = IfErr-weaker c.cluster_mapping_at.result _ _
           (alone_as (λ copied. (
             subst IsCompressed (sym here) copied.0,
             subst (λ x. HasUnannounced (cluster_size h) x (c.args.length - p.length) c.args.overwrite) c.in-Some.ensures.1 (subst (λ x. HasUnannounced (cluster_size h) c.in-Some.next x c.args.overwrite) c.saturating_sub-left.ensures copied.1),

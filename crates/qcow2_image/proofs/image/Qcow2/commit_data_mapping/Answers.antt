@@ -1,9 +1,9 @@
 use Rattle.qcow2_image.proofs.image.Qcow2.commit_data_mapping.Goals as goal
-use Rattle.qcow2_image.proofs.Common.{◌≡◌, ℕ, inl, inr, ◌++◌, [], None, Err, refl, sym, ap, ◌∙◌, subst, rules, Option, false, true, IsTrue, IsSome, storage, storage_of, Qcow2, CommitRefused, Commits, refusal_of, is_failed, append-nil, contents_in, known_in, freed_by, IsReadyWith, abstract_of, pending_in, CountsImageFaults, notes_then, rests_none}
+use Rattle.qcow2_image.proofs.Common.{◌≡◌, ℕ, inl, inr, ◌++◌, [], None, Err, refl, sym, ap, ◌∙◌, subst, rules, Option, false, true, IsTrue, IsSome, storage, storage_of, Qcow2, CommitRefused, Commits, refusal_of, is_failed, append-nil, contents_in, known_in, freed_by, IsReadyWith, abstract_of, pending_in, CountsImageFaults, notes_then, rests_none, cases_Bool}
 use Rattle.qcow2_image.specs.declared.prepared.CommitRefused.TheVariants.{Kept}
 use Rattle.qcow2_image.proofs.Call.Marked.{may_mark_refused}
 use Rattle.qcow2_image.proofs.Call.CallOutcomes.{is_fault, outcome}
-use Rattle.qcow2_image.proofs.Commit.CommitCalls.{commit_interruption, commit_break_off, commit_done, commit_existing, commit_kept, refuses_unsound, true_or_false}
+use Rattle.qcow2_image.proofs.Commit.CommitCalls.{commit_interruption, commit_break_off, commit_done, commit_existing, commit_kept, refuses_unsound}
 use Rattle.qcow2_image.proofs.Call.FaultCounts.{fewer_of, counted_as, faults_then}
 use Rattle.qcow2_image.proofs.Call.OnceWritten.{once_marked, commit_fails_none, counts_begun, counts_on, counts_released}
 use Rattle.qcow2_image.proofs.Call.BehindHeader.{behind_begun, behind_then}
@@ -146,7 +146,7 @@ returns-after-entered-clause-sees g c =
           subst (λ (r : CommitRefused). Commits view below old freed p (Err r)) (sym (c.refused_commit.ensures.failed (w.refused_commit-is ∙ w.if-entered.true)))
           (λ out k placed. commit_break_off view below old p begun entered freed q c.enter_mappings-entered.result c.if-self.false some c.process_free_list_at_end.result
           (λ out sound. record { keeps = c.begin_call.ensures.keeps (pending_in view below old out) out sound; list = c.begin_call.ensures.list }) c.enter_mappings-entered.ensures.enters c.process_free_list_at_end.ensures.frees out k placed number x c.in-Err.is marked w.if-entered.true)
-      | else-entered w ↦ elim (true_or_false (is_failed freed)) [
+      | else-entered w ↦ elim (cases_Bool (is_failed freed)) [
         | inl failed ↦
             subst (λ (r : CommitRefused). Commits view below old freed p (Err r)) (sym (c.refused_commit.ensures.failed (w.refused_commit-is ∙ failed)))
             (λ out k placed. commit_interruption view below old p begun entered freed q c.enter_mappings-entered.result c.if-self.false some c.process_free_list_at_end.result
@@ -158,9 +158,6 @@ returns-after-entered-clause-sees g c =
             (λ out sound. record { keeps = c.begin_call.ensures.keeps (pending_in view below old out) out sound; list = c.begin_call.ensures.list }) c.enter_mappings-entered.ensures.enters c.process_free_list_at_end.ensures.frees out k placed number x c.in-Err.is marked same)
       ]
     ]
-
-pub returns-then-is_none-clause-quiet : goal.returns-then-is_none-clause-quiet
-returns-then-is_none-clause-quiet g c = λ nothing none. ap (λ (image : Qcow2 _ _). storage_of image.file.storage) c.release_prepared.ensures.rest.rest
 
 pub returns-in-Ok-clause-quiet : goal.returns-in-Ok-clause-quiet
 returns-in-Ok-clause-quiet g c = λ nothing none.

@@ -1,4 +1,4 @@
-use Rattle.qcow2_image.proofs.Common.{◌≡◌, None, ap, ◌∙◌, rules, IsSome, Qcow2}
+use Rattle.qcow2_image.proofs.Common.{◌≡◌, None, ap, rules, IsSome, Qcow2}
 use Rattle.qcow2_image.proofs.Preallocate.Piece.{commits_entered, commits_existing}
 use Rattle.qcow2_image.proofs.Call.ImageSteps.{step_then}
 use Rattle.qcow2_image.proofs.image.Qcow2.commit_filled.Goals as goal
@@ -13,21 +13,6 @@ returns-clause-commits g c = λ out k placed sound.
     let some : IsSome c.args.prepared.table = search rules in
     commits_entered g.S.Storage.view g.F.BackingDisk.backing c.args.self.now c.args.prepared c.release_prepared-2.new.self out k placed sound c.enter_mappings-entered.new.self c.enter_mappings-entered.new.prepared c.enter_mappings-entered.result some
     (ap (λ (image : Qcow2 _ _). image.allocator) c.enter_mappings-entered.ensures.rest) c.enter_mappings-entered.ensures.enters c.enter_mappings-entered.ensures.in_place c.release_prepared-2.ensures.sees c.release_prepared-2.ensures.rest
-
-pub returns-then-is_none-clause-header : goal.returns-then-is_none-clause-header
-returns-then-is_none-clause-header g c = ap (λ (image : Qcow2 _ _). image.file.header) c.release_prepared.ensures.rest.rest
-
-pub returns-clause-header : goal.returns-clause-header
-returns-clause-header g c = ap (λ (image : Qcow2 _ _). image.file.header) c.release_prepared-2.ensures.rest.rest ∙ c.enter_mappings-entered.ensures.header
-
-pub returns-then-is_none-clause-table : goal.returns-then-is_none-clause-table
-returns-then-is_none-clause-table g c = ap (λ (image : Qcow2 _ _). image.l1_table) c.release_prepared.ensures.rest.rest
-
-pub returns-clause-table : goal.returns-clause-table
-returns-clause-table g c = ap (λ (image : Qcow2 _ _). image.l1_table) c.release_prepared-2.ensures.rest.rest ∙ ap (λ (image : Qcow2 _ _). image.l1_table) c.enter_mappings-entered.ensures.rest
-
-pub returns-then-is_none-clause-step : goal.returns-then-is_none-clause-step
-returns-then-is_none-clause-step g c = c.release_prepared.ensures.step
 
 pub returns-clause-step : goal.returns-clause-step
 returns-clause-step g c = step_then c.enter_mappings-entered.ensures.step c.release_prepared-2.ensures.step

@@ -1,5 +1,4 @@
-use Rattle.qcow2_image.proofs.Common.{◌≡◌, ℕ, ◌+◌, ◌/◌, List, length, replicate, refl, sym, ap, ◌∙◌, subst, arith, rules, is_some, inl, ◌≤◌, length-replicate, get_or-replicate, cover, known_byte, cluster_size, HeaderView, Disk, known_in, state_in, found_kind, IsMappedAs, backing_bytes, MayFailReading, IsFault}
-use Rattle.qcow2_image.proofs.Map.Loading.{if_ok}
+use Rattle.qcow2_image.proofs.Common.{◌≡◌, ℕ, ◌+◌, ◌/◌, List, length, replicate, refl, sym, ap, ◌∙◌, subst, arith, rules, is_some, inl, ◌≤◌, length-replicate, get_or-replicate, cover, known_byte, cluster_size, HeaderView, Disk, known_in, state_in, found_kind, IsMappedAs, backing_bytes, MayFailReading, IsFault, IfOk-weaker}
 use Rattle.qcow2_image.proofs.Map.Reading.{none_below, zero_shown}
 use Rattle.qcow2_image.proofs.Prepare.InternalWrites.{disk_kept, image_step_data, image_step_kept, image_step_then, own_of, there_written}
 use Rattle.qcow2_image.proofs.Prepare.LimitCauses.{hands_unlimited}
@@ -23,7 +22,7 @@ returns-in-Zero-clause-copies g c = λ p out sound mapped.
     let old = c.args.self.now in
     let h = old.file.header.fields in
     let zeros : List ℕ = replicate c.args.length 0 in
-    if_ok c.write_zeros.result
+    IfOk-weaker c.write_zeros.result _ _
     (λ done there i lt.
     ap known_byte (there i (let n = length-replicate {A = ℕ} c.args.length 0 in omega arith) ∙ get_or-replicate c.args.length i 0 0 lt)
     ∙ sym (zero_shown (state_in view old.file p) sound.file.caches.kept.kept.crash_invariant sound.inside c.args.guest c.args.length mapped.alike (is_some old.backing) (backing_bytes view below old.backing)
@@ -58,7 +57,7 @@ returns-clause-copies g c = λ p out sound mapped.
     let still : length bytes ≡ c.args.length = search rules in
     let first = c.in_ok-read_as.ensures.keeps p out sound in
     let read = c.in_ok-read_as.ensures.shows p out sound (subst (IsMappedAs view old c.args.guest c.args.kind.now) (sym long) mapped) in
-    if_ok c.write_data.result
+    IfOk-weaker c.write_data.result _ _
     (λ done there i lt. ap known_byte (there i (omega (arith, still, lt))) ∙ sym (read i (omega (arith, still, lt))) ∙ ap (λ (d : Disk). d.value (c.args.guest + i)) (disk_kept view below old mid out p sound first))
     (there_written view mid c.write_data.new.self c.args.at bytes c.write_data.result c.write_data.ensures.written first.sound.file.honest)
 

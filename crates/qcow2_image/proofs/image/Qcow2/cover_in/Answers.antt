@@ -8,9 +8,6 @@ pub returns-clause-says : goal.returns-clause-says
 returns-clause-says g c = λ p i sound at here.
     sym (cached_says g.S.Storage.view c.args.self.now.file p c.in-Some.held.now c.args.table i c.args.cluster sound c.in-Some.ensures.shows at here) ∙ sym c.in_ok-mapping.ensures.ok
 
-pub returns-clause-behind : goal.returns-clause-behind
-returns-clause-behind g c = subst (λ n. MarkedIsBehind n c.in_ok-mapping.mapping) c.cluster_size.ensures.value (c.is_behind_header.ensures.0 c.if-not-is_behind_header.false)
-
 -- a mapping that is known to lie past the header's cluster is found to
 found_behind : (n size : ℕ) (found known : L2Mapping) (b : Bool) → n ≡ size → known ≡ found → (MarkedIsBehind n found → IsTrue b) → MarkedIsBehind size known → b ≡ false → ⊥
 found_behind n size found known b same is reports behind missed =

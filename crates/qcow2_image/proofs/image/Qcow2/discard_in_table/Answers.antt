@@ -1,5 +1,5 @@
 use Rattle.qcow2_image.proofs.Call.OnceWritten.{notes_part, parts_then}
-use Rattle.qcow2_image.proofs.Common.{◌∙◌, ◌⊎◌, inl, inr, sym, subst, Err, IfErr, IsTrue, Result, handed_on, not_both, IsFault, HasNothingToFree, has_noted_change, is_failed, size_of, TurnStep, DiscardsStep}
+use Rattle.qcow2_image.proofs.Common.{◌∙◌, ◌⊎◌, inl, inr, Err, IfErr, Result, handed_on, not_both, IsFault, HasNothingToFree, has_noted_change, is_failed, size_of, TurnStep, DiscardsStep}
 use Rattle.qcow2_image.proofs.Call.FaultCounts.{counted_as, counted_still}
 use Rattle.qcow2_image.proofs.Call.Marked.{refused_since}
 use Rattle.qcow2_image.proofs.Clear.ClearedCalls.{same_image_then}
@@ -7,12 +7,6 @@ use Rattle.qcow2_image.proofs.Resize.RefusedSteps.{failed_other, not_marked, tur
 use Rattle.qcow2_image.proofs.Resize.Shrinking.{fault_of, written_stops}
 use Rattle.qcow2_image.proofs.Call.BehindHeader.{behind_then}
 use Rattle.qcow2_image.proofs.image.Qcow2.discard_in_table.Goals as goal
-
-pub returns-in-Ok-clause-step : goal.returns-in-Ok-clause-step
-returns-in-Ok-clause-step g c = c.in-Ok.ensures.step
-
-pub returns-then-is_fault-clause-step : goal.returns-then-is_fault-clause-step
-returns-then-is_fault-clause-step g c = c.in-Err.ensures.step
 
 pub returns-in_err-process_free_list_at_end-in-Err-clause-step : goal.returns-in_err-process_free_list_at_end-in-Err-clause-step
 returns-in_err-process_free_list_at_end-in-Err-clause-step g c =
@@ -49,12 +43,6 @@ returns-in_ok-process_free_list_at_end-in-Err-clause-step g c =
       header_cluster = behind_then turn.header_cluster c.process_free_list_at_end.ensures.header_cluster;
       faults = counted_still view below old mid new (Err e) turn.faults c.in_ok-process_free_list_at_end-in-Err.ensures.fails.faults.told;
     }
-
-pub returns-in-Ok-clause-sound : goal.returns-in-Ok-clause-sound
-returns-in-Ok-clause-sound g c = c.in-Ok.ensures.sound
-
-pub returns-then-is_fault-clause-sound : goal.returns-then-is_fault-clause-sound
-returns-then-is_fault-clause-sound g c = c.in-Err.ensures.sound
 
 pub returns-in_err-process_free_list_at_end-in-Err-clause-sound : goal.returns-in_err-process_free_list_at_end-in-Err-clause-sound
 returns-in_err-process_free_list_at_end-in-Err-clause-sound g c =
@@ -104,18 +92,11 @@ returns-in_ok-process_free_list_at_end-in-Err-clause-sound g c =
       emptied = λ out sound. tt;
     }
 
-pub returns-then-is_fault-clause-emptied : goal.returns-then-is_fault-clause-emptied
-returns-then-is_fault-clause-emptied g c = λ writable out sound. inl (c.is_fault.ensures.0 c.if-is_fault.true)
-
 pub returns-in_err-process_free_list_at_end-in-Err-clause-emptied : goal.returns-in_err-process_free_list_at_end-in-Err-clause-emptied
 returns-in_err-process_free_list_at_end-in-Err-clause-emptied g c = λ writable out sound.
-    let old = c.args.self.now in
     let mid = c.discard_next.new.self in
     let new = c.process_free_list_at_end.new.self in
     let f = c.in_err-process_free_list_at_end-in-Err.field-0.0 in
     let none : IsFault c.in-Err.refusal → ⊥ = λ fault. not_both c.is_fault.result (c.is_fault.ensures.1 fault) c.if-is_fault.false in
-    let still = turn_still g.S.Storage.view g.F.BackingDisk.backing old mid mid c.in-Err.refusal none c.args.at c.requires.usable c.in-Err.ensures.step.image.number c.in-Err.ensures.sound.uncovers out sound in
+    let still = turn_still g.S.Storage.view g.F.BackingDisk.backing c.args.self.now mid mid c.in-Err.refusal none c.args.at c.requires.usable c.in-Err.ensures.step.image.number c.in-Err.ensures.sound.uncovers out sound in
     handed_on (λ (r : Result _ _). IfErr r (λ x. IsFault x ⊎ HasNothingToFree new)) c.from_residual.result f c.from_residual.ensures (inl (fault_of f (c.in_err-process_free_list_at_end-in-Err.ensures.frees out still.0).1))
-
-pub returns-in_ok-process_free_list_at_end-in-Err-clause-emptied : goal.returns-in_ok-process_free_list_at_end-in-Err-clause-emptied
-returns-in_ok-process_free_list_at_end-in-Err-clause-emptied g c = λ writable out sound. inr (c.in_ok-process_free_list_at_end-in-Err.ensures.emptied (subst IsTrue (sym c.discard_next.ensures.step.image.writable) writable))

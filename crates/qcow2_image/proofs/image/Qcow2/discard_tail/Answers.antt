@@ -148,6 +148,3 @@ returns-clause-sound g c = λ out sound.
           ];
       changed = λ past. so.changed out sound past;
     }
-
-pub discard_in_table-requires-clause-usable : goal.discard_in_table-requires-clause-usable
-discard_in_table-requires-clause-usable g c = c.loop-at.invariant.turns.failed ∙ c.requires.usable

@@ -1,7 +1,7 @@
-use Rattle.qcow2_image.proofs.Common.{Bool, ◌≡◌, ◌∙◌, List, ℕ, Result, refl, sym, ap, subst, IfErr, IfErr-weaker, byte_at, header, with_tables_of, HeaderFields, contents_in, ImageError, handed_on, is_writable, IsReasonAgainstPlaces, IsReasonAgainstReading, IsReasonAgainstTables, Qcow2}
+use Rattle.qcow2_image.proofs.Common.{Bool, ◌∙◌, List, ℕ, Result, sym, ap, subst, IfErr, IfErr-weaker, byte_at, header, with_tables_of, HeaderFields, contents_in, ImageError, handed_on, is_writable, IsReasonAgainstPlaces, IsReasonAgainstReading, IsReasonAgainstTables, Qcow2, always_ok}
 use Rattle.qcow2_image.proofs.Call.Called.{keeps_then}
 use Rattle.qcow2_image.proofs.Call.FaultCounts.{counted_since, faults_then}
-use Rattle.qcow2_image.proofs.Invalidate.Calls.{anew_then, as_stored, honest_places, anew_dropped, anew_places, kept_dropped, kept_places, none_held_then, on_any, on_both, places_for, places_reason, silent_places, tables_reason}
+use Rattle.qcow2_image.proofs.Invalidate.Calls.{anew_then, as_stored, honest_places, anew_dropped, anew_places, kept_dropped, kept_places, none_held_then, on_both, places_for, places_reason, silent_places, tables_reason}
 use Rattle.qcow2_image.proofs.Invalidate.Reading.{same_places}
 use Rattle.qcow2_image.proofs.Invalidate.TakenOver.{kept_then, on_refused, on_refused_map}
 use Rattle.qcow2_image.proofs.image.Qcow2.drop_and_read.Goals as goal
@@ -50,7 +50,7 @@ returns-clause-why g c = λ honest.
 
 pub returns-clause-dropped : goal.returns-clause-dropped
 returns-clause-dropped g c =
-    on_any c.replace_tables.result
+    always_ok c.replace_tables.result
     (none_held_then g.S.Storage.view c.args.self.now c.drop_cached.new.self c.read_places.new.self c.drop_cached.ensures.step c.drop_cached.ensures.rest c.read_places.ensures.step c.replace_tables.new.self c.replace_tables.ensures.step c.in_ok-drop_cached.ensures.dropped)
 
 pub returns-clause-read : goal.returns-clause-read

@@ -1,4 +1,4 @@
-use Rattle.qcow2_image.proofs.Common.{◌≡◌, ◌∙◌, List, Option, Result, Some, refl, sym, ap, subst, rules, IfErr, option_map, LeavesPinned, kept_same, EntryTableView, Allocator, ClustersToFreeEntry, ImageError, ImageFile, handed_on, notes_of_marks, notes_then, leaked_by, IsReasonAgainstReading, InternalStep, Qcow2}
+use Rattle.qcow2_image.proofs.Common.{◌∙◌, List, Option, Result, Some, refl, sym, ap, subst, rules, IfErr, option_map, LeavesPinned, kept_same, EntryTableView, Allocator, ClustersToFreeEntry, ImageError, ImageFile, handed_on, notes_of_marks, notes_then, leaked_by, IsReasonAgainstReading, InternalStep, Qcow2}
 use Rattle.qcow2_image.proofs.Call.BehindHeader.{behind_by, behind_tables, behind_then}
 use Rattle.qcow2_image.proofs.Call.Called.{keeps_then}
 use Rattle.qcow2_image.proofs.Invalidate.Dropped.{anew_moved, behind_dropped, dropped_moved, holds_none, left_none, no_entries, rests_there, unmodified_l2, unmodified_rb, why_blocks, why_left}
@@ -20,7 +20,6 @@ returns-in_err-invalidate_l2-clause-keeps g c = λ rest p out sound.
 
 pub returns-in-Some-clause-step : goal.returns-in-Some-clause-step
 returns-in-Some-clause-step g c =
-    let view = g.S.Storage.view in
     let old = c.args.self.now in
     let l2 = c.invalidate_l2.ensures in
     let rb = c.invalidate_rb_cache.ensures in
@@ -29,7 +28,7 @@ returns-in-Some-clause-step g c =
       notes = notes_then {b = c.invalidate_l2.new.self} (record { storage = kept_same old.file.storage; tables = l2.step.marks.changes }) (notes_of_marks rb.marks);
       header_cluster =
           behind_then (behind_tables l2.step.header_cluster)
-          (behind_by view (ap (λ (f : ImageFile _). record old { file = f; allocator = Some c.invalidate_rb_cache.new.self }) rb.rest) (behind_dropped c.in-Some.is rb.anew.reftable rb.header_cluster));
+          (behind_by g.S.Storage.view (ap (λ (f : ImageFile _). record old { file = f; allocator = Some c.invalidate_rb_cache.new.self }) rb.rest) (behind_dropped c.in-Some.is rb.anew.reftable rb.header_cluster));
     }
 
 pub returns-in-Some-clause-why : goal.returns-in-Some-clause-why

@@ -9,18 +9,6 @@ use Rattle.qcow2_image.proofs.Call.Unlimited.{in_use_unlimited}
 use Rattle.qcow2_image.proofs.Prepare.FailingCopies.{hands_met}
 use Rattle.qcow2_image.proofs.Prepare.FailingAllocations.{looking_taking}
 
-pub returns-in_err-cluster-clause-quiet : goal.returns-in_err-cluster-clause-quiet
-returns-in_err-cluster-clause-quiet g c = λ own. let same = c.writable_l2_cluster.ensures.quiet own in record { allocator = ap (λ (i : Qcow2 _ _). i.allocator) same; list = ap (λ (i : Qcow2 _ _). i.file.free_list) same }
-
-pub returns-in_err-l2_get_or_insert-clause-quiet : goal.returns-in_err-l2_get_or_insert-clause-quiet
-returns-in_err-l2_get_or_insert-clause-quiet g c = λ own. let same = c.writable_l2_cluster.ensures.quiet own in record { allocator = ap (λ (i : Qcow2 _ _). i.allocator) same; list = ap (λ (i : Qcow2 _ _). i.file.free_list) same }
-
-pub returns-clause-quiet : goal.returns-clause-quiet
-returns-clause-quiet g c = λ own. let same = c.writable_l2_cluster.ensures.quiet own in record { allocator = ap (λ (i : Qcow2 _ _). i.allocator) same; list = ap (λ (i : Qcow2 _ _). i.file.free_list) same }
-
-pub returns-clause-elsewhere : goal.returns-clause-elsewhere
-returns-clause-elsewhere g c = c.in_ok-cluster.ensures.elsewhere
-
 pub returns-in_err-cluster-clause-own : goal.returns-in_err-cluster-clause-own
 returns-in_err-cluster-clause-own g c = λ own.
     handed_on (λ r. FindsOwn c.args.self.now c.writable_l2_cluster.new.self c.args.offset r) c.from_residual.result c.in_err-cluster.field-0.0 c.from_residual.ensures
@@ -44,9 +32,6 @@ returns-in_err-l2_get_or_insert-clause-rest g c = λ own. ap (λ (i : Qcow2 _ _)
 
 pub returns-clause-rest : goal.returns-clause-rest
 returns-clause-rest g c = λ own. ap (λ (i : Qcow2 _ _). record i { file = record i.file { storage = c.l2_get_or_insert.new.storage; caches = c.l2_get_or_insert.new.self } }) (c.writable_l2_cluster.ensures.quiet own)
-
-pub returns-in_err-cluster-clause-step : goal.returns-in_err-cluster-clause-step
-returns-in_err-cluster-clause-step g c = c.writable_l2_cluster.ensures.step
 
 pub returns-in_err-l2_get_or_insert-clause-step : goal.returns-in_err-l2_get_or_insert-clause-step
 returns-in_err-l2_get_or_insert-clause-step g c = record {

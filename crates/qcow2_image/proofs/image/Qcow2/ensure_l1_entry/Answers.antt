@@ -33,9 +33,6 @@ returns-clause-placed g c = λ past bits. always_ok c.process_free_list.result (
 pub returns-then-in_bounds-clause-step : goal.returns-then-in_bounds-clause-step
 returns-then-in_bounds-clause-step g c = step_none
 
-pub returns-in_err-grow_l1_table-clause-step : goal.returns-in_err-grow_l1_table-clause-step
-returns-in_err-grow_l1_table-clause-step g c = c.grow_l1_table.ensures.step
-
 pub returns-clause-step : goal.returns-clause-step
 returns-clause-step g c = step_then c.grow_l1_table.ensures.step c.process_free_list.ensures.step
 

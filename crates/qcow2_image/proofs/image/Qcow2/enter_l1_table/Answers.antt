@@ -6,7 +6,6 @@ use Rattle.qcow2_image.proofs.Call.BehindHeader.{behind_allocated, behind_then}
 use Rattle.qcow2_image.proofs.Prepare.LimitCauses.{faults_or_limit, faults_unlimited, hands_either, hands_limit, placed_near, table_clusters, unlimited_all, limited_left}
 use Rattle.qcow2_image.proofs.Call.FaultCounts.{counted_since, same_told}
 use Rattle.qcow2_image.proofs.Call.ImageSteps.{step_none, step_where}
-use Rattle.qcow2_image.proofs.Invalidate.Calls.{on_map}
 
 pub returns-in_err-pending-clause-recorded : goal.returns-in_err-pending-clause-recorded
 returns-in_err-pending-clause-recorded g c = on_no_ok _ c.from_residual.result c.in_err-pending.field-0.0 c.from_residual.ensures
@@ -34,9 +33,6 @@ returns-in_err-pending-clause-step g c = record { stays = search rules; notes = 
 
 pub returns-clause-step : goal.returns-clause-step
 returns-clause-step g c = record { stays = search rules; notes = notes_then (notes_of_marks c.allocate_meta.ensures.step.marks) c.write_allocated_l1_table.ensures.step.notes; header_cluster = λ as_wide. behind_then (behind_allocated c.in-Some.is c.allocate_meta.ensures.step.header_cluster) (c.write_allocated_l1_table.ensures.step.header_cluster (as_wide, c.in_ok-pending.ensures.elsewhere)) }
-
-pub returns-clause-entries : goal.returns-clause-entries
-returns-clause-entries g c = on_map c.write_allocated_l1_table.result (λ is. ap entry_count is) c.write_allocated_l1_table.ensures.placed
 
 pub returns-in_default-clause-sound : goal.returns-in_default-clause-sound
 returns-in_default-clause-sound g c = λ p out sound longer. record {

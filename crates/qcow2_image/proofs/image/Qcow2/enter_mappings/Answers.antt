@@ -38,15 +38,6 @@ returns-clause-left g c =
     let count = c.loop-i.invariant.count in
     freed_none c.loop-i.prepared.clusters.items (λ j lt. c.loop-i.invariant.in_place j (omega (arith, end, count, c.loop-i-test.false)))
 
-pub returns-clause-quiet : goal.returns-clause-quiet
-returns-clause-quiet g c = λ none. (c.loop-i.invariant.quiet none).1
-
-pub returns-clause-header : goal.returns-clause-header
-returns-clause-header g c = ap (λ (image : Qcow2 _ _). image.file.header) c.loop-i.invariant.rest
-
-pub returns-clause-rest : goal.returns-clause-rest
-returns-clause-rest g c = c.loop-i.invariant.rest
-
 pub returns-clause-in_place : goal.returns-clause-in_place
 returns-clause-in_place g c =
     let end : c.len-i-end.result ≡ length c.args.prepared.now.clusters.items = search rules in

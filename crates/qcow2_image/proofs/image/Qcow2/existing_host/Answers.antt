@@ -23,9 +23,6 @@ returns-clause-place g c = λ p sound inside at some.
     let behind = place_behind g.S.Storage.view p c.args.self.now.file sound inside c.args.offset c.args.length c.writable_place.result some found in
     subst (IsPlaceOf h known c.args.offset c.args.length) (sym (c.behind_header.ensures.same (subst (λ n. IfSome c.writable_place.result (λ host. n ≤ host)) (sym c.cluster_size.ensures.value) behind))) found
 
-pub returns-clause-behind : goal.returns-clause-behind
-returns-clause-behind g c = subst (λ n. IfSome c.behind_header.result (λ host. n ≤ host)) c.cluster_size.ensures.value c.behind_header.ensures.behind
-
 pub returns-in_err-kind-clause-limited : goal.returns-in_err-kind-clause-limited
 returns-in_err-kind-clause-limited g c = hands_unlimited c.from_residual.result c.in_err-kind.field-0.0 c.from_residual.ensures c.in_err-kind.ensures.limited
 

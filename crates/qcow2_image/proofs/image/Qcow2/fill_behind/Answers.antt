@@ -1,20 +1,13 @@
 use Rattle.qcow2_image.proofs.Call.Unlimited.{fault_unlimited}
-use Rattle.qcow2_image.proofs.Common.{◌<◌, inl, inr, ap, refl, subst, sym, arith, shows_old, handed_on, cluster_size, rounded_up, FillsGrownOrRefuses, IfErr, Result, cases_lt, known_in, MayFailGrowing, PreallocateMode}
+use Rattle.qcow2_image.proofs.Common.{◌<◌, inl, inr, ap, refl, subst, sym, arith, shows_old, handed_on, cluster_size, rounded_up, FillsGrownOrRefuses, IfErr, Result, cases_lt, known_in, MayFailGrowing, PreallocateMode, IfErr-weaker}
 use Rattle.qcow2_image.specs.Preallocation.{first_zeros}
 use Rattle.qcow2_image.proofs.Preallocate.FilledGrowth.{early_refused, grown_none, grown_or_refused}
-use Rattle.qcow2_image.proofs.Preallocate.FailingFills.{hands_met}
-use Rattle.qcow2_image.proofs.Prepare.RefusedAsPrepared.{if_err}
 use Rattle.qcow2_image.proofs.Call.ImageSteps.{step_none}
+use Rattle.qcow2_image.proofs.Prepare.FailingCopies.{hands_met}
 use Rattle.qcow2_image.proofs.image.Qcow2.fill_behind.Goals as goal
 
 pub returns-in-None-clause-step : goal.returns-in-None-clause-step
 returns-in-None-clause-step g c = step_none
-
-pub returns-in-Zero-clause-step : goal.returns-in-Zero-clause-step
-returns-in-Zero-clause-step g c = c.zero_grown.ensures.step
-
-pub returns-in-FormatAllocate-clause-step : goal.returns-in-FormatAllocate-clause-step
-returns-in-FormatAllocate-clause-step g c = c.allocate_grown.ensures.step
 
 pub returns-in_err-writes-in-WriteData-clause-step : goal.returns-in_err-writes-in-WriteData-clause-step
 returns-in_err-writes-in-WriteData-clause-step g c = step_none
@@ -38,7 +31,7 @@ returns-in-Zero-clause-sound g c = λ out sound.
           let h = old.file.header.fields in
           elim (cases_lt h.version 3) [
             | inl low ↦ subst (λ (r : Result _ _). IfErr r (MayFailGrowing out c.args.mode c.args.old (rounded_up (cluster_size h) c.args.size) h (known_in g.S.Storage.view old.file))) (sym (c.zero_grown.ensures.version low).0) (inr (refl, (c.in-Zero.is, low)))
-            | inr high ↦ subst (λ (m : PreallocateMode). IfErr c.zero_grown.result (MayFailGrowing out m c.args.old (rounded_up (cluster_size h) c.args.size) h (known_in g.S.Storage.view old.file))) (sym c.in-Zero.is) (if_err c.zero_grown.result (λ e why. inl why) ((c.zero_grown.ensures.sound out sound (omega (arith, larger))).may_fail high near))
+            | inr high ↦ subst (λ (m : PreallocateMode). IfErr c.zero_grown.result (MayFailGrowing out m c.args.old (rounded_up (cluster_size h) c.args.size) h (known_in g.S.Storage.view old.file))) (sym c.in-Zero.is) (IfErr-weaker c.zero_grown.result _ _ (λ e why. inl why) ((c.zero_grown.ensures.sound out sound (omega (arith, larger))).may_fail high near))
           ];
     }
 
@@ -52,7 +45,7 @@ returns-in-FormatAllocate-clause-sound g c = λ out sound.
       may_fail = λ near.
           let old = c.args.self.now in
           let h = old.file.header.fields in
-          subst (λ (m : PreallocateMode). IfErr c.allocate_grown.result (MayFailGrowing out m c.args.old (rounded_up (cluster_size h) c.args.size) h (known_in g.S.Storage.view old.file))) (sym c.in-FormatAllocate.is) (if_err c.allocate_grown.result (λ e why. inl why) ((c.allocate_grown.ensures.sound out sound (omega (arith, larger))).may_fail near));
+          subst (λ (m : PreallocateMode). IfErr c.allocate_grown.result (MayFailGrowing out m c.args.old (rounded_up (cluster_size h) c.args.size) h (known_in g.S.Storage.view old.file))) (sym c.in-FormatAllocate.is) (IfErr-weaker c.allocate_grown.result _ _ (λ e why. inl why) ((c.allocate_grown.ensures.sound out sound (omega (arith, larger))).may_fail near));
     }
 
 pub returns-in-FullAllocate-clause-sound : goal.returns-in-FullAllocate-clause-sound
@@ -65,7 +58,7 @@ returns-in-FullAllocate-clause-sound g c = λ out sound.
       may_fail = λ near.
           let old = c.args.self.now in
           let h = old.file.header.fields in
-          subst (λ (m : PreallocateMode). IfErr c.allocate_grown-in-FullAllocate.result (MayFailGrowing out m c.args.old (rounded_up (cluster_size h) c.args.size) h (known_in g.S.Storage.view old.file))) (sym c.in-FullAllocate.is) (if_err c.allocate_grown-in-FullAllocate.result (λ e why. inl why) ((c.allocate_grown-in-FullAllocate.ensures.sound out sound (omega (arith, larger))).may_fail near));
+          subst (λ (m : PreallocateMode). IfErr c.allocate_grown-in-FullAllocate.result (MayFailGrowing out m c.args.old (rounded_up (cluster_size h) c.args.size) h (known_in g.S.Storage.view old.file))) (sym c.in-FullAllocate.is) (IfErr-weaker c.allocate_grown-in-FullAllocate.result _ _ (λ e why. inl why) ((c.allocate_grown-in-FullAllocate.ensures.sound out sound (omega (arith, larger))).may_fail near));
     }
 
 pub returns-in_ok-writes-in-WriteData-clause-sound : goal.returns-in_ok-writes-in-WriteData-clause-sound
@@ -78,7 +71,7 @@ returns-in_ok-writes-in-WriteData-clause-sound g c = λ out sound.
       may_fail = λ near.
           let old = c.args.self.now in
           let h = old.file.header.fields in
-          subst (λ (m : PreallocateMode). IfErr c.allocate_grown-in-WriteData.result (MayFailGrowing out m c.args.old (rounded_up (cluster_size h) c.args.size) h (known_in g.S.Storage.view old.file))) (sym c.in-WriteData.is) (if_err c.allocate_grown-in-WriteData.result (λ e why. inl why) ((c.allocate_grown-in-WriteData.ensures.sound out sound (omega (arith, larger))).may_fail near));
+          subst (λ (m : PreallocateMode). IfErr c.allocate_grown-in-WriteData.result (MayFailGrowing out m c.args.old (rounded_up (cluster_size h) c.args.size) h (known_in g.S.Storage.view old.file))) (sym c.in-WriteData.is) (IfErr-weaker c.allocate_grown-in-WriteData.result _ _ (λ e why. inl why) ((c.allocate_grown-in-WriteData.ensures.sound out sound (omega (arith, larger))).may_fail near));
     }
 
 pub returns-in_err-writes-in-WriteData-clause-sound : goal.returns-in_err-writes-in-WriteData-clause-sound

@@ -1,7 +1,6 @@
-use Rattle.qcow2_image.proofs.Common.{◌≡◌, ◌+◌, ◌-◌, ◌*◌, ◌/◌, ◌%◌, ◌^◌, ◌<◌, ℕ, sym, ap, ◌∙◌, arith, is_some, ◌⊎◌, ◌≤◌, inl, inr, rules, div-mul-add, div-add-mod', cluster_size, contents_in, known_in, IsMappedAs, disk_of, cover, known_byte, kind_at, IsFault, IsCopiedCompressed, MayFailReading}
+use Rattle.qcow2_image.proofs.Common.{◌≡◌, ◌+◌, ◌-◌, ◌*◌, ◌/◌, ◌%◌, ◌^◌, ◌<◌, ℕ, sym, ap, ◌∙◌, arith, is_some, ◌⊎◌, ◌≤◌, inl, inr, rules, div-mul-add, div-add-mod', cluster_size, contents_in, known_in, IsMappedAs, disk_of, cover, known_byte, kind_at, IsFault, IsCopiedCompressed, MayFailReading, IfOk-weaker}
 use Rattle.qcow2_image.proofs.Prepare.CopiedBytes.{none_has, some_has}
 use Rattle.qcow2_image.proofs.Prepare.InternalWrites.{alike_within, image_step_none}
-use Rattle.qcow2_image.proofs.Map.Loading.{if_ok}
 use Rattle.qcow2_image.proofs.Prepare.FailingCopies.{behind_start, met_as, reading_met, told_sum, within_cluster}
 use Rattle.qcow2_alloc.specs.declared.error.ImageError.TheVariants as I
 use Rattle.qcow2_image.proofs.Call.WriteSteps.{filling_none}
@@ -43,7 +42,7 @@ returns-clause-sound g c = λ p out sound holds some none.
             kind_is = c.kind_of-kind.ensures.value ∙ ap (kind_at old.file.header.fields (is_some old.backing) c.in-Some-checked_add.guest) (sym (ap (cover old.file.header.fields (known_in view old.file)) here ∙ covered));
             alike = alike_within old.file.header.fields (known_in view old.file) c.in-Some-checked_add.guest (c.in-Some.range.end - c.in-Some.range.start) (λ i lt. inside i lt ∙ sym here);
           } in
-          if_ok c.copy_old.result
+          IfOk-weaker c.copy_old.result _ _
           (λ done there i lt none.
           let range = some_has c.part_to_fill.result c.in-Some.range i c.in-Some.is (c.part_to_fill.ensures.all i lt none) in
           let from = range.0 in
@@ -90,6 +89,3 @@ returns-in_default-clause-step g c = filling_none
 
 pub returns-in_default-checked_add-clause-step : goal.returns-in_default-checked_add-clause-step
 returns-in_default-checked_add-clause-step g c = filling_none
-
-pub returns-clause-step : goal.returns-clause-step
-returns-clause-step g c = c.copy_old.ensures.step

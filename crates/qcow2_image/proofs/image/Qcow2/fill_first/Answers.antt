@@ -1,6 +1,6 @@
 use Rattle.qcow2_image.proofs.Call.ImageSteps.{step_then, step_none}
 use Rattle.qcow2_image.proofs.image.Qcow2.fill_first.Goals as goal
-use Rattle.qcow2_image.proofs.Common.{Err, IsTrue, ◌≡◌, ◌∙◌, ◌+◌, ◌^◌, ◌≤◌, ◌<◌, ◌∷◌, [], None, true, inl, min, refl, sym, ap, subst, arith, rules, inr, Pending, handed_on, ImageInvariant, abstract_of, pending_in, FillsFirst, FillsPart, given_by_zeros, CountsImageFaults, IsFault, known_in, ImageError, HasCompressedIn, MayFailAllocating, HasPinnedMapping}
+use Rattle.qcow2_image.proofs.Common.{Err, ◌≡◌, ◌∙◌, ◌+◌, ◌^◌, ◌≤◌, ◌<◌, ◌∷◌, [], None, true, inl, min, refl, sym, ap, subst, arith, rules, inr, Pending, handed_on, ImageInvariant, abstract_of, pending_in, FillsFirst, FillsPart, given_by_zeros, CountsImageFaults, IsFault, known_in, ImageError, HasCompressedIn, MayFailAllocating, HasPinnedMapping}
 use Rattle.qcow2_image.proofs.Call.Called.{works_none}
 use Rattle.qcow2_image.proofs.Flush.Freeing.{all_listed, beside, freed_refused, tidy_stays}
 use Rattle.qcow2_image.proofs.Images.Free.{free_places}
@@ -10,11 +10,8 @@ use Rattle.qcow2_image.proofs.Call.FaultCounts.{counted_as, counted_of, counted_
 use Rattle.qcow2_image.proofs.Call.FailingErrors.{tables_met}
 use Rattle.qcow2_image.proofs.Call.Unlimited.{fault_unlimited}
 use Rattle.qcow2_image.proofs.Prepare.LimitCauses.{goes_step, limited_giving, limited_upto, other_limit}
-use Rattle.qcow2_image.proofs.Preallocate.FailingFills.{hands_met, met_piece}
-
-pub returns-clause-emptied : goal.returns-clause-emptied
-returns-clause-emptied g c = λ none.
-    c.in_ok-process_free_list.ensures.emptied (subst IsTrue (sym (c.commit_filled.ensures.step.stays.image.writable ∙ c.put_zeros.ensures.step.stays.image.writable ∙ c.prepare.ensures.step.stays.image.writable)) c.requires.writable)
+use Rattle.qcow2_image.proofs.Preallocate.FailingFills.{met_piece}
+use Rattle.qcow2_image.proofs.Prepare.FailingCopies.{hands_met}
 
 pub returns-in-Err-clause-step : goal.returns-in-Err-clause-step
 returns-in-Err-clause-step g c = step_then (step_then (step_then c.prepare.ensures.step c.put_zeros.ensures.step) c.release_prepared.ensures.step) c.process_free_list_after.ensures.step
@@ -29,9 +26,6 @@ returns-in-Err-clause-fails g c = record {
       let told : CountsImageFaults view below {T = Unit {0}} old c.put_zeros.new.self (Err c.in-Err.refusal) = counted_as view below old c.prepare.new.self c.put_zeros.new.self c.put_zeros.result e c.in_ok-prepared.ensures.fails.faults.told c.put_zeros.ensures.fails.faults c.in-Err.is in
       counted_of view below old c.process_free_list_after.new.self c.process_free_list_after.result (c.process_free_list_after.ensures.faults old (counted_still view below old c.put_zeros.new.self c.release_prepared.new.self (Err e) told c.release_prepared.ensures.faults));
 }
-
-pub returns-in_err-prepared-clause-step : goal.returns-in_err-prepared-clause-step
-returns-in_err-prepared-clause-step g c = c.prepare.ensures.step
 
 pub returns-in_err-process_free_list-clause-step : goal.returns-in_err-process_free_list-clause-step
 returns-in_err-process_free_list-clause-step g c = step_then (step_then (step_then c.prepare.ensures.step c.put_zeros.ensures.step) c.commit_filled.ensures.step) c.process_free_list.ensures.step

@@ -2,16 +2,10 @@ use Rattle.qcow2_image.proofs.Prepare.LimitCauses.{other_limit}
 use Rattle.qcow2_image.proofs.Call.Unlimited.{fault_unlimited}
 use Rattle.qcow2_image.proofs.Call.ImageSteps.{step_then}
 use Rattle.qcow2_image.proofs.image.Qcow2.fill_grown.Goals as goal
-use Rattle.qcow2_image.proofs.Common.{◌≡◌, ◌∙◌, ap, subst, sym, refl, Ok, Err, inl, inr, IsTrue, Version, cluster_size, rounded_up, Qcow2, known_in}
+use Rattle.qcow2_image.proofs.Common.{◌∙◌, ap, subst, sym, Err, inl, inr, IsTrue, Version, cluster_size, rounded_up, Qcow2, known_in}
 use Rattle.qcow2_image.proofs.Call.Fails.{fails_freed}
 use Rattle.qcow2_image.proofs.Preallocate.FreedBehind.{grown_freed, grown_left, grown_told, same_refusal}
 use Rattle.qcow2_image.proofs.Preallocate.FailingFills.{met_filling_freed}
-
-pub returns-in-Err-clause-emptied : goal.returns-in-Err-clause-emptied
-returns-in-Err-clause-emptied g c = λ none. tt
-
-pub returns-in-Ok-clause-version : goal.returns-in-Ok-clause-version
-returns-in-Ok-clause-version g c = λ none zero low. absurd (let no : Ok tt ≡ Err Version = sym c.in-Ok.is ∙ (c.fill_behind.ensures.version zero low).0 in cc)
 
 pub returns-in-Err-clause-version : goal.returns-in-Err-clause-version
 returns-in-Err-clause-version g c = λ none zero low.
@@ -25,20 +19,8 @@ returns-in-Err-clause-freed g c = λ out sound.
     grown_left g.S.Storage.view g.F.BackingDisk.backing out c.args.self.now c.fill_behind.new.self c.process_free_list_after.new.self c.args.size c.args.mode c.in-Err.refusal c.process_free_list_after.result refused.left c.process_free_list_after.ensures.refused.fault
     (c.process_free_list_after.ensures.emptied (subst IsTrue (sym c.fill_behind.ensures.step.stays.image.writable) c.requires.writable) out)
 
-pub returns-in-Err-clause-unfilled : goal.returns-in-Err-clause-unfilled
-returns-in-Err-clause-unfilled g c = λ none. absurd (let no : Ok tt ≡ Err c.in-Err.refusal = sym (c.fill_behind.ensures.unfilled none).0 ∙ c.in-Err.is in cc)
-
-pub returns-in-Ok-clause-unfilled : goal.returns-in-Ok-clause-unfilled
-returns-in-Ok-clause-unfilled g c = λ none. (refl, (c.fill_behind.ensures.unfilled none).1)
-
 pub returns-in-Err-clause-step : goal.returns-in-Err-clause-step
 returns-in-Err-clause-step g c = step_then c.fill_behind.ensures.step c.process_free_list_after.ensures.step
-
-pub returns-in-Ok-clause-step : goal.returns-in-Ok-clause-step
-returns-in-Ok-clause-step g c = c.fill_behind.ensures.step
-
-pub returns-in-Ok-clause-sound : goal.returns-in-Ok-clause-sound
-returns-in-Ok-clause-sound g c = c.in-Ok.ensures.sound
 
 pub returns-in-Err-clause-sound : goal.returns-in-Err-clause-sound
 returns-in-Err-clause-sound g c = λ out sound.

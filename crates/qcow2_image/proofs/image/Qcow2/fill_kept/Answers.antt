@@ -24,11 +24,5 @@ returns-in-Some-clause-fills g c = λ p out sound kept.
     filled_with_zeros g.S.Storage.view g.F.BackingDisk.backing out c.args.self.now c.write_zeros.new.self p sound c.args.offset c.args.host c.args.length c.args.overwrite kept c.in-Some.range
     (λ i lt none. some_has c.part_to_fill.result c.in-Some.range i c.in-Some.is (c.part_to_fill.ensures.all i lt none)) c.write_zeros.result c.write_zeros.ensures.written
 
-pub returns-in-Some-clause-fault : goal.returns-in-Some-clause-fault
-returns-in-Some-clause-fault g c = λ behind. c.write_zeros.ensures.fault (omega (arith, behind))
-
 pub returns-in-None-clause-step : goal.returns-in-None-clause-step
 returns-in-None-clause-step g c = step_none
-
-pub returns-in-Some-clause-step : goal.returns-in-Some-clause-step
-returns-in-Some-clause-step g c = c.write_zeros.ensures.step

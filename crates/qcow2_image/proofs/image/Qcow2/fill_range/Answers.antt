@@ -2,7 +2,8 @@ use Rattle.qcow2_image.proofs.Common.{notes_none, notes_then, ◌≡◌, refl, s
 use Rattle.qcow2_image.proofs.Preallocate.FillSteps.{filled_first, filled_next, filled_refused, still_at}
 use Rattle.qcow2_image.proofs.Call.FaultCounts.{counted_ok, counted_on, faults_then, untouched}
 use Rattle.qcow2_image.proofs.Call.BehindHeader.{behind_none, behind_then}
-use Rattle.qcow2_image.proofs.Preallocate.FailingFills.{hands_met, met_before, near_behind}
+use Rattle.qcow2_image.proofs.Preallocate.FailingFills.{met_before, near_behind}
+use Rattle.qcow2_image.proofs.Prepare.FailingCopies.{hands_met}
 use Rattle.qcow2_image.proofs.image.Qcow2.fill_range.Goals as goal
 
 pub loop-at-init : goal.loop-at-init
@@ -24,9 +25,6 @@ loop-at-preserved g c =
       behind = behind_then c.loop-at.invariant.behind c.fill_first.ensures.step.header_cluster;
       notes = notes_then c.loop-at.invariant.notes c.fill_first.ensures.step.notes;
     }
-
-pub returns-clause-emptied : goal.returns-clause-emptied
-returns-clause-emptied g c = λ none. c.loop-at.invariant.emptied none
 
 pub returns-in_err-at-clause-step : goal.returns-in_err-at-clause-step
 returns-in_err-at-clause-step g c = record { stays = search rules; notes = notes_then c.loop-at.invariant.notes c.fill_first.ensures.step.notes; header_cluster = behind_then c.loop-at.invariant.behind c.fill_first.ensures.step.header_cluster }

@@ -1,4 +1,4 @@
-use Rattle.qcow2_image.proofs.Common.{◌≡◌, true, false, [], sym, ◌∙◌, subst, ap, rules, Result, IfErr, Pending, with_listed, FlushesImage, Qcow2, is_failed, ImageInvariant, pending_in, IsFault, IsOfTables}
+use Rattle.qcow2_image.proofs.Common.{false, [], sym, ◌∙◌, subst, ap, rules, Result, IfErr, Pending, with_listed, FlushesImage, Qcow2, is_failed, ImageInvariant, pending_in, IsFault, IsOfTables}
 use Rattle.qcow2_image.proofs.Grow.GrownByParts.{written_back}
 use Rattle.qcow2_image.proofs.Flush.Freeing.{all_listed, beside, flushes_with_outcome, frees_on}
 use Rattle.qcow2_image.proofs.Call.FaultCounts.{counted_marked}
@@ -55,12 +55,6 @@ returns-clause-step g c = record {
 
 pub returns-then-self-clause-step : goal.returns-then-self-clause-step
 returns-then-self-clause-step g c = record { image = search rules; marks = search rules; once_written = fails_none g.S.Storage.view c.args.self.now _; header_cluster = search rules; faults = search rules }
-
-pub returns-then-self-clause-fails : goal.returns-then-self-clause-fails
-returns-then-self-clause-fails g c = record {
-  late = λ usable. absurd (let no : true ≡ false = sym c.if-self.true ∙ usable in cc);
-  fault = λ out sound. absurd (let no : true ≡ false = sym c.if-self.true ∙ sound.works in cc);
-}
 
 pub returns-clause-fails : goal.returns-clause-fails
 returns-clause-fails g c = record {

@@ -14,10 +14,8 @@ use Rattle.qcow2_image.proofs.image.Qcow2.get_mapping.Goals as goal
 
 pub returns-clause-sound : goal.returns-clause-sound
 returns-clause-sound g c = λ out sound.
-    let old = c.args.self.now in
-    let below = g.F.BackingDisk.backing in
     let view = g.S.Storage.view in
-    let p = pending_in view below old out in
+    let p = pending_in view g.F.BackingDisk.backing c.args.self.now out in
     record {
       may_fail = search rules;
       known = ap (λ (image : Qcow2 _ _). known_in view image.file) c.mark_failure.ensures.rest ∙ (c.look_up-found.ensures.sound p out (c.begin_call.ensures.keeps p out sound).sound).known ∙ c.begin_call.ensures.known p out sound;
@@ -35,9 +33,8 @@ returns-clause-sound g c = λ out sound.
 pub returns-in_err-kind-clause-sound : goal.returns-in_err-kind-clause-sound
 returns-in_err-kind-clause-sound g c = λ out sound.
     let old = c.args.self.now in
-    let below = g.F.BackingDisk.backing in
     let view = g.S.Storage.view in
-    let p = pending_in view below old out in
+    let p = pending_in view g.F.BackingDisk.backing old out in
     record {
       may_fail = hands_met (MayFailLooking (IsCacheHeld old out)) c.from_residual-in_err-kind.result c.in_err-kind.field-0.0 c.from_residual-in_err-kind.ensures
           (subst (λ r. IfErr r (MayFailLooking (IsCacheHeld old out))) (sym c.mark_failure.ensures.answer ∙ c.in_err-kind.was) (held_since old c.begin_call.new.self out c.begin_call.ensures.begun (λ held. IfErr c.look_up-found.result (MayFailLooking held)) ((c.look_up-found.ensures.sound p out (c.begin_call.ensures.keeps p out sound).sound).may_fail)));

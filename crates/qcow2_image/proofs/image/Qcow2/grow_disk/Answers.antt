@@ -1,8 +1,7 @@
-use Rattle.qcow2_image.proofs.Common.{GoesTo, IfLimit, IsLimited, or_right, ImageFile, has_noted, known_in, notes_then, [], ◌∷◌, inl, inr, ◌≡◌, ◌∙◌, ◌+◌, ◌-◌, ◌<◌, max, sym, ap, subst, arith, refl, rules, Err, IfErr, IsTrue, Ok, OnOk, Result, HeaderFields, entry_count, with_size, cluster_size, rounded_up, Memory, Version, IsFault, is_changed_of, InternalCall, Qcow2, l1_index_of, Lasts, LastsCall, ReachesSize, HasNothingToFree, is_failed, size_of, with_marks, has_noted_change, ImageInvariant, pending_in, MakesEntry, ReachesOffset, IsPlacedNear, FillsGrown, FillsGrownOrRefuses, FreesRefused, IsFaultOrLimit, MayFail, IsUnlimited, GrowsTables, GrowsTo, LacksZeros, RefusesUnchanged, WritesSizeLast, all_given_by_grow, handed_on, err_as, FailsOnceWritten, pow_pos, MayFailGrowing}
+use Rattle.qcow2_image.proofs.Common.{GoesTo, IfLimit, IsLimited, or_right, ImageFile, has_noted, known_in, notes_then, [], ◌∷◌, inl, inr, ◌≡◌, ◌∙◌, ◌+◌, ◌-◌, ◌<◌, max, sym, ap, subst, arith, refl, rules, Err, IfErr, IsTrue, Ok, OnOk, Result, HeaderFields, entry_count, with_size, cluster_size, rounded_up, Memory, Version, IsFault, is_changed_of, InternalCall, Qcow2, l1_index_of, Lasts, LastsCall, ReachesSize, HasNothingToFree, is_failed, size_of, with_marks, has_noted_change, ImageInvariant, pending_in, MakesEntry, ReachesOffset, IsPlacedNear, FillsGrown, FillsGrownOrRefuses, FreesRefused, IsFaultOrLimit, MayFail, IsUnlimited, GrowsTables, GrowsTo, LacksZeros, RefusesUnchanged, WritesSizeLast, all_given_by_grow, handed_on, err_as, FailsOnceWritten, pow_pos, MayFailGrowing, IfErr-weaker}
 use Rattle.qcow2_image.proofs.image.Qcow2.grow_disk.Goals as goal
 use Rattle.qcow2_image.proofs.Call.Notes.{same_kept}
 use Rattle.qcow2_image.proofs.Grow.GrownByParts.{call_marked, call_then, known_then, lasts_asking, lasts_step, lasts_then, shown_none}
-use Rattle.qcow2_image.proofs.Prepare.RefusedAsPrepared.{if_err}
 use Rattle.qcow2_image.proofs.Call.Marked.{MayMarkBy, marks_memory, may_mark}
 use Rattle.image_access.specs.declared.storage.PreallocateMode.TheVariants.{Zero}
 use Rattle.qcow2_image.proofs.Call.Refused.{stays_then}
@@ -22,7 +21,8 @@ use Rattle.qcow2_image.proofs.Call.BehindHeader.{behind_by, behind_call, behind_
 use Rattle.qcow2_image.proofs.Prepare.LimitCauses.{faults_unlimited, goes_begun, goes_step, goes_then, hands_limit, limited_giving, limited_since, unlimited_all}
 use Rattle.qcow2_image.proofs.Preallocate.FilledGrowth.{up_least}
 use Rattle.qcow2_image.proofs.Preallocate.FillSteps.{same_size}
-use Rattle.qcow2_image.proofs.Preallocate.FailingFills.{hands_met, met_behind, near_longer_ends}
+use Rattle.qcow2_image.proofs.Preallocate.FailingFills.{met_behind, near_longer_ends}
+use Rattle.qcow2_image.proofs.Prepare.FailingCopies.{hands_met}
 
 pub returns-in_err-mark_failure-clause-sees : goal.returns-in_err-mark_failure-clause-sees
 returns-in_err-mark_failure-clause-sees g c =
@@ -313,7 +313,7 @@ returns-clause-sound g c = λ out sound.
     let lasts_begun = (let kept = c.begin_call.ensures.keeps (pending_in view below old out) out sound in lasts_step view (pending_in view below old out) (pending_in view below old out) old begun kept.safe_step kept.since) in
     record {
       may_fail = subst (λ (r : Result _ _). IfErr r (MayFailGrowing out c.args.mode (size_of old) (rounded_up (cluster_size h) c.args.size) h (known_in g.S.Storage.view old.file))) (sym c.mark_fault-2.ensures.answer)
-          (if_err c.write_size-written.result (λ e fault. inl (inl (inl (inl fault)))) c.write_size-written.ensures.fails.cause);
+          (IfErr-weaker c.write_size-written.result _ _ (λ e fault. inl (inl (inl (inl fault)))) c.write_size-written.ensures.fails.cause);
       limit = unlimited_all c.mark_fault-2.result _
           (subst (λ (r : Result _ _). IfErr r IsUnlimited) (sym c.mark_fault-2.ensures.answer) (faults_unlimited c.write_size-written.result c.write_size-written.ensures.fails.cause));
       last = record {
@@ -324,9 +324,8 @@ returns-clause-sound g c = λ out sound.
             let fills : (out : _) → ImageInvariant view below (pending_in view below long out) long out → FillsGrown view below c.args.size c.args.mode long c.mark_fault.new.self out = λ out sound.
             subst (λ (image : Qcow2 _ _). FillsGrown view below c.args.size c.args.mode long image out) (sym whole)
             (subst (FillsGrownOrRefuses view below c.args.size c.args.mode long filled out) put (c.fill_grown-filled.ensures.sound out sound).fills) in
-            let new = c.write_size-written.new.self in
             subst (λ (image : Qcow2 _ _). WritesSizeLast view below old image) (sym c.mark_fault-2.ensures.rest)
-            (last_sized view below old c.args.size c.args.mode c.requires.usable c.requires.larger long longer c.mark_fault.new.self fills new
+            (last_sized view below old c.args.size c.args.mode c.requires.usable c.requires.larger long longer c.mark_fault.new.self fills c.write_size-written.new.self
             (ap (λ (i : Qcow2 _ _). i.number) c.write_size-written.ensures.rest ∙ c.mark_fault.ensures.image.number ∙ c.fill_grown-filled.ensures.step.stays.image.number ∙ numbered)
             (is_failed c.mark_fault-2.new.self) c.write_size-written.ensures.time out sound);
         lasts = λ shows.
@@ -356,5 +355,5 @@ returns-clause-sound g c = λ out sound.
           (subst (λ (image : Qcow2 _ _). ReachesSize (with_size image.file.header.fields c.args.size)) (sym whole) reached) as_long
           (leaves_sized view below out old long c.mark_fault.new.self new c.args.size c.args.mode c.write_size-written.result call grown (c.write_size-written.ensures.writes out grown.sound)) emptied never
           (untaken_grown view below out old long c.args.size c.args.mode call grown.free))));
-      freed = subst (λ (r : Result _ _). IfErr r (FreesRefused new)) (sym c.mark_fault-2.ensures.answer) (if_err c.write_size-written.result (λ e fault. inl fault) c.write_size-written.ensures.fails.cause);
+      freed = subst (λ (r : Result _ _). IfErr r (FreesRefused new)) (sym c.mark_fault-2.ensures.answer) (IfErr-weaker c.write_size-written.result _ _ (λ e fault. inl fault) c.write_size-written.ensures.fails.cause);
     }

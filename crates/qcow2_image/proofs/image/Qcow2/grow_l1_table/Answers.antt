@@ -1,6 +1,6 @@
 use Rattle.qcow2_image.proofs.Call.ImageSteps.{step_none}
 use Rattle.qcow2_image.proofs.image.Qcow2.grow_l1_table.Goals as goal
-use Rattle.qcow2_image.proofs.Common.{◌≤◌, arith, refl, ap, ◌≡◌, ◌<◌, ◌+◌, max, inl, inr, ◌∙◌, subst, rules, entry_count, EntryTableView, handed_on, Lengthens, nat_tests, of_metadata}
+use Rattle.qcow2_image.proofs.Common.{◌≤◌, arith, refl, ap, ◌≡◌, ◌<◌, ◌+◌, max, inl, ◌∙◌, subst, rules, entry_count, EntryTableView, handed_on, Lengthens, nat_tests, of_metadata}
 use Rattle.qcow2_image.proofs.Grow.ReplacedL1Table.{is_longer, lengthened, refused_none}
 use Rattle.qcow2_image.proofs.Prepare.UnlinkedL2Table.{as_listed_after, keeps_none}
 use Rattle.qcow2_image.proofs.Prepare.WritableL2Table.{refused}
@@ -34,12 +34,6 @@ returns-in-Err-clause-lengthens g c = λ p out sound.
     let longer = is_longer g.S.Storage.view g.F.BackingDisk.backing out p old sound c.in_ok-table.table _ c.max-entries.result c.in_ok-table.ensures.table c.in_ok-table.ensures.length enough c.in_ok-table.ensures.entries in
     (c.in-Err.ensures.sound p out sound longer).takes
 
-pub returns-in-Ok-clause-length : goal.returns-in-Ok-clause-length
-returns-in-Ok-clause-length g c = omega (arith, c.in-Ok.ensures.entries, c.in_ok-table.ensures.length, c.max-entries.ensures, c.len.ensures.value)
-
-pub returns-in-Ok-clause-recorded : goal.returns-in-Ok-clause-recorded
-returns-in-Ok-clause-recorded g c = c.in-Ok.ensures.recorded
-
 pub returns-then-index-ge-MAX_L1_ENTRIES-clause-limit : goal.returns-then-index-ge-MAX_L1_ENTRIES-clause-limit
 returns-then-index-ge-MAX_L1_ENTRIES-clause-limit g c = λ p out sound offset at is.
     let past : 4194304 ≤ c.args.index = let past = c.if-index-ge-MAX_L1_ENTRIES.true in grind (arith, nat_tests) in
@@ -67,9 +61,6 @@ pub returns-in-Ok-clause-placed : goal.returns-in-Ok-clause-placed
 returns-in-Ok-clause-placed g c = λ bits.
     let few : c.max-entries.result ≤ 4194304 = let low = c.if-index-ge-MAX_L1_ENTRIES.false in let index : c.args.index < 4194304 = grind (arith, nat_tests) in omega (arith, index, c.max-entries.ensures, c.len.ensures.value, c.len.ensures.limit) in
     c.in-Ok.ensures.placed (omega (arith, few, c.in_ok-table.ensures.length)) (ap (λ (t : EntryTableView). t.cluster_bits) c.in_ok-table.ensures.table ∙ bits)
-
-pub returns-then-index-ge-MAX_L1_ENTRIES-clause-fault : goal.returns-then-index-ge-MAX_L1_ENTRIES-clause-fault
-returns-then-index-ge-MAX_L1_ENTRIES-clause-fault g c = λ writable p out sound. inr refl
 
 pub returns-in_err-table-clause-fault : goal.returns-in_err-table-clause-fault
 returns-in_err-table-clause-fault g c = λ writable p out sound.

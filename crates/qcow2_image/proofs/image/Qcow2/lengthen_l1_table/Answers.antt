@@ -1,4 +1,4 @@
-use Rattle.qcow2_image.proofs.Common.{IsPlacedNear, ◌≡◌, ◌+◌, ◌/◌, ◌^◌, max, ap, ◌∙◌, sym, subst, IsTrue, entry_count, Pending, handed_on, always_ok, l1_index_of, ImageInvariant, pending_in, MakesEntry, on_no_ok, on_ok, pending_with_listed, LastsPart}
+use Rattle.qcow2_image.proofs.Common.{IsPlacedNear, ◌≡◌, ◌+◌, ◌/◌, ◌^◌, max, ap, ◌∙◌, sym, subst, entry_count, Pending, handed_on, always_ok, l1_index_of, ImageInvariant, pending_in, MakesEntry, on_no_ok, on_ok, pending_with_listed, LastsPart}
 use Rattle.qcow2_image.proofs.Flush.Freeing.{all_listed, beside}
 use Rattle.qcow2_image.proofs.Grow.ReplacedL1Table.{freed_then, refused_moved, stays_moved}
 use Rattle.qcow2_image.proofs.Prepare.LimitCauses.{faults_or_limit, faults_unlimited, hands_either, hands_limit, limited_more, limited_unseen, unlimited_all}
@@ -14,9 +14,6 @@ returns-clause-length g c =
     always_ok c.process_free_list.result
     (ap entry_count c.process_free_list.ensures.table ∙ c.in_ok-grow_l1_table.ensures.length ∙ ap (λ i. max (entry_count old.l1_table) (i + 1)) idx)
 
-pub returns-clause-emptied : goal.returns-clause-emptied
-returns-clause-emptied g c = c.process_free_list.ensures.emptied (subst IsTrue (sym c.grow_l1_table.ensures.step.stays.image.writable) c.requires.writable)
-
 pub returns-in_err-grow_l1_table-clause-recorded : goal.returns-in_err-grow_l1_table-clause-recorded
 returns-in_err-grow_l1_table-clause-recorded g c = on_no_ok _ c.from_residual.result c.in_err-grow_l1_table.field-0.0 c.from_residual.ensures
 
@@ -28,9 +25,6 @@ returns-in_err-grow_l1_table-clause-placed g c = λ bits. on_no_ok _ c.from_resi
 
 pub returns-clause-placed : goal.returns-clause-placed
 returns-clause-placed g c = λ bits. on_ok _ c.process_free_list.result (subst IsPlacedNear (sym c.process_free_list.ensures.table) (c.in_ok-grow_l1_table.ensures.placed bits))
-
-pub returns-in_err-grow_l1_table-clause-step : goal.returns-in_err-grow_l1_table-clause-step
-returns-in_err-grow_l1_table-clause-step g c = c.grow_l1_table.ensures.step
 
 pub returns-clause-step : goal.returns-clause-step
 returns-clause-step g c = step_then c.grow_l1_table.ensures.step c.process_free_list.ensures.step

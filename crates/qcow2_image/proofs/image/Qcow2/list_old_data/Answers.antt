@@ -1,9 +1,8 @@
-use Rattle.qcow2_image.proofs.Common.{◌≡◌, ◌++◌, sym, ap, ◌∙◌, subst, cover, IsInReach, old_data_run, L2Mapping, known_in, cover_once_cleared, listed_run}
-use Rattle.qcow2_image.proofs.Clear.Between.{on_ok}
+use Rattle.qcow2_image.proofs.Common.{◌≡◌, ◌++◌, sym, ap, ◌∙◌, subst, cover, IsInReach, old_data_run, L2Mapping, known_in, cover_once_cleared, listed_run, on_ok_weaker}
 use Rattle.qcow2_image.proofs.image.Qcow2.list_old_data.Goals as goal
 
 pub returns-clause-reads : goal.returns-clause-reads
-returns-clause-reads g c = on_ok c.list_run.result (λ listed p i sound at here.
+returns-clause-reads g c = on_ok_weaker c.list_run.result (λ listed p i sound at here.
     let how = c.args.how in
     let old = c.in_ok-old.old in
     let says : cover c.args.self.now.file.header.fields (known_in g.S.Storage.view c.args.self.now.file) c.args.cluster ≡ c.in_ok-old.old = c.in_ok-old.ensures.says p i sound at here in

@@ -1,5 +1,5 @@
-use Rattle.qcow2_image.proofs.Common.{◌≡◌, ◌-◌, ◌/◌, sym, ap, ◌∙◌, subst, arith, min, is_some, Some, None, false, true, ◌<◌, rules, refl, cluster_size, host_offset, IsLongestRun, table_at, Sizes-from, cover_none, IsTop-top, contents_in, known_in, kind_at, rest_of_table, l1_index_of, l2_index_of, NamesL2Table, IsRunFrom, IfSome, MatchOption, IsEntryAt, IsCacheHeld, MayFailLooking, own_table}
-use Rattle.qcow2_image.proofs.Map.Loading.{caches_moved, with_caches, if_ok}
+use Rattle.qcow2_image.proofs.Common.{◌≡◌, ◌-◌, ◌/◌, sym, ap, ◌∙◌, subst, arith, min, is_some, Some, None, false, true, ◌<◌, rules, refl, cluster_size, host_offset, IsLongestRun, table_at, Sizes-from, cover_none, IsTop-top, contents_in, known_in, kind_at, rest_of_table, l1_index_of, l2_index_of, NamesL2Table, IsRunFrom, IfSome, MatchOption, IsEntryAt, IsCacheHeld, MayFailLooking, own_table, IfOk-weaker}
+use Rattle.qcow2_image.proofs.Map.Loading.{caches_moved, with_caches}
 use Rattle.qcow2_image.proofs.Map.Looked.{none_found}
 use Rattle.qcow2_image.proofs.Call.BehindHeader.{behind_caches}
 use Rattle.qcow2_image.proofs.Map.FailingLookups.{answers_met, cache_looking, named_entry}
@@ -45,7 +45,7 @@ returns-in_ok-l2_get_or_insert-in-Some-clause-sound g c = λ p out sound.
       keeps = kept;
       known = stay.known;
       may_fail = answers_met (MayFailLooking (IsCacheHeld old out)) c.run_in_table.result (c.run_in_table.ensures.reads p kept.sound.file entry (omega (arith, limit)));
-      found = if_ok c.run_in_table.result
+      found = IfOk-weaker c.run_in_table.result _ _
           (λ x run. record {
             past = λ le. absurd (let e = c.if-offset-size.false in let s = c.size-size.ensures in omega arith);
             run = λ lt. subst (λ m. IsRunFrom view image c.args.offset m x.0 x.1) limit run;

@@ -1,13 +1,6 @@
-use Rattle.qcow2_image.proofs.Common.{sym, ap, ◌∙◌, subst, IsTrue, has_noted, is_changed_of, ImageFile, Qcow2, is_failed, with_marks}
+use Rattle.qcow2_image.proofs.Common.{sym, ap, subst, IsTrue, has_noted, ImageFile, Qcow2}
 use Rattle.qcow2_image.proofs.Call.Marked.{noted_fails, same_done}
 use Rattle.qcow2_image.proofs.image.Qcow2.mark_fault.Goals as goal
-
-pub returns-clause-rest : goal.returns-clause-rest
-returns-clause-rest g c =
-    c.mark_failure.ensures.rest ∙ ap (λ b. with_marks c.args.self.now b (is_failed c.mark_failure.new.self)) (sym (ap (λ (i : Qcow2 _ _). is_changed_of i.file.storage) c.mark_failure.ensures.rest))
-
-pub returns-clause-file : goal.returns-clause-file
-returns-clause-file g c = ap (λ (i : Qcow2 _ _). i.file) c.mark_failure.ensures.rest
 
 pub returns-clause-same : goal.returns-clause-same
 returns-clause-same g c = same_done c.args.self.now c.mark_failure.new.self c.args.done c.mark_failure.ensures.rest c.mark_failure.ensures.marks

@@ -1,9 +1,8 @@
 use Rattle.qcow2_image.proofs.image.Qcow2.name_l1_table.Goals as goal
-use Rattle.qcow2_image.proofs.Common.{◌*◌, ◌^◌, ◌≤◌, ap, ◌∙◌, arith, rules, entry_count, of_storage, storage_of, handed_on, NamesTable, notes_none, notes_of_storage, told_kept, HeaderView}
+use Rattle.qcow2_image.proofs.Common.{◌*◌, ◌^◌, ◌≤◌, ap, ◌∙◌, arith, rules, entry_count, of_storage, storage_of, handed_on, NamesTable, notes_none, notes_of_storage, told_kept, HeaderView, fault_of_storage}
 use Rattle.qcow2_image.proofs.Grow.NamedL1Table.{named_interruption, named_so}
 use Rattle.qcow2_image.proofs.Call.BehindHeader.{behind_bits, behind_l1, behind_pointer, behind_then}
 use Rattle.qcow2_image.proofs.Prepare.LimitCauses.{hands_fault}
-use Rattle.qcow2_image.proofs.Call.Unlimited.{storage_fault}
 
 pub returns-in_err-write_l1_table_pointer-clause-names : goal.returns-in_err-write_l1_table_pointer-clause-names
 returns-in_err-write_l1_table_pointer-clause-names g c = λ p out sound recorded ready.
@@ -24,12 +23,9 @@ returns-clause-names g c = λ p out sound recorded ready.
     named_so g.S.Storage.view g.F.BackingDisk.backing out p c.args.self.now c.args.table c.args.cluster sound ready c.requires few c.offset-offset.result c.len.result c.set_l1_table.new.self at c.len.ensures.value c.in_ok-set_l1_table.ensures.ok c.write_l1_table_pointer.result
     c.write_l1_table_pointer.new.self (storage_of c.set_write_kind.new.self) c.set_write_kind.ensures.storage c.write_l1_table_pointer.ensures.writes.written c.write_l1_table_pointer.ensures.writes.calls c.in_ok-write_l1_table_pointer.field-0 c.in_ok-write_l1_table_pointer.was
 
-pub returns-in_err-set_l1_table-clause-fault : goal.returns-in_err-set_l1_table-clause-fault
-returns-in_err-set_l1_table-clause-fault g c = absurd (let past = c.in_err-set_l1_table.ensures.err.1 in omega (arith, past, c.len.ensures.limit))
-
 pub returns-in_err-write_l1_table_pointer-clause-fault : goal.returns-in_err-write_l1_table_pointer-clause-fault
 returns-in_err-write_l1_table_pointer-clause-fault g c =
-    hands_fault c.from_residual-in_err-write_l1_table_pointer.result (of_storage c.in_err-write_l1_table_pointer.field-0.0) c.from_residual-in_err-write_l1_table_pointer.ensures (storage_fault c.in_err-write_l1_table_pointer.field-0.0)
+    hands_fault c.from_residual-in_err-write_l1_table_pointer.result (of_storage c.in_err-write_l1_table_pointer.field-0.0) c.from_residual-in_err-write_l1_table_pointer.ensures (fault_of_storage c.in_err-write_l1_table_pointer.field-0.0)
 
 pub returns-in_err-set_l1_table-clause-step : goal.returns-in_err-set_l1_table-clause-step
 returns-in_err-set_l1_table-clause-step g c = record { stays = search rules; notes = notes_none; header_cluster = λ keeps. behind_bits (ap (λ (v : HeaderView). v.fields.cluster_bits) c.in_err-set_l1_table.ensures.same) }

@@ -77,9 +77,6 @@ returns-in_err-pending-clause-sound g c = λ p out sound holds.
       limit = hands_limit c.from_residual.result c.in_err-pending.field-0.0 c.from_residual.ensures ((c.in_err-pending.ensures.sound p out sound holds).limit);
     }
 
-pub returns-in_err-pending-clause-step : goal.returns-in_err-pending-clause-step
-returns-in_err-pending-clause-step g c = c.allocate_data_cluster.ensures.step
-
 pub returns-in-Ok-clause-step : goal.returns-in-Ok-clause-step
 returns-in-Ok-clause-step g c = taking_then c.allocate_data_cluster.ensures.step (taking_of_filling c.fill_cluster.ensures.step)
 

@@ -8,9 +8,6 @@ use Rattle.qcow2_image.proofs.Prepare.FailingTables.{hands_alone}
 use Rattle.qcow2_image.proofs.Call.WriteSteps.{taking_listed, taking_of_filling, taking_then}
 use Rattle.qcow2_image.proofs.image.Qcow2.new_cluster_at.Goals as goal
 
-pub returns-in_default-clause-step : goal.returns-in_default-clause-step
-returns-in_default-clause-step g c = c.allocate_data_cluster_at.ensures.step
-
 pub returns-in-Ok-clause-step : goal.returns-in-Ok-clause-step
 returns-in-Ok-clause-step g c = taking_then c.allocate_data_cluster_at.ensures.step (taking_of_filling c.fill_cluster.ensures.step)
 

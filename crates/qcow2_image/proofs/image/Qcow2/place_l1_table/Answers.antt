@@ -1,11 +1,10 @@
-use Rattle.qcow2_image.proofs.Common.{refl, subst, sym, IsSome, ap, ◌*◌, ◌^◌, of_storage, storage_of, handed_on, with_table, IsLongerL1, PlacesTable, notes_none, notes_then, notes_of_both, notes_of_storage, placed_kept, EntryTableView, not_both, IsHostCluster, contents_in, named_have_places}
+use Rattle.qcow2_image.proofs.Common.{refl, subst, sym, IsSome, ap, ◌*◌, ◌^◌, of_storage, storage_of, handed_on, with_table, IsLongerL1, PlacesTable, notes_none, notes_then, notes_of_both, notes_of_storage, placed_kept, EntryTableView, not_both, IsHostCluster, contents_in, named_have_places, fault_of_storage}
 use Rattle.qcow2_image.proofs.Call.Called.{keeps_then}
 use Rattle.qcow2_image.proofs.Map.Loading.{caches_moved, with_caches}
 use Rattle.qcow2_image.proofs.Prepare.UnlinkedL2Table.{keeps_none}
 use Rattle.qcow2_image.proofs.Grow.NewL1Table.{table_write_as, keeps_placed, stands_whole}
 use Rattle.qcow2_image.proofs.Call.BehindHeader.{behind_caches, behind_none, begins_behind, behind_placed, behind_then, l1_placed}
 use Rattle.qcow2_image.proofs.Prepare.LimitCauses.{hands_fault}
-use Rattle.qcow2_image.proofs.Call.Unlimited.{storage_fault}
 use Rattle.qcow2_image.proofs.image.Qcow2.place_l1_table.Goals as goal
 
 pub returns-in_err-flush_rb-clause-places : goal.returns-in_err-flush_rb-clause-places
@@ -100,4 +99,4 @@ returns-in_err-flush_rb-clause-fault g c = λ p out sound near.
 
 pub returns-in_err-write_l1_table-clause-fault : goal.returns-in_err-write_l1_table-clause-fault
 returns-in_err-write_l1_table-clause-fault g c = λ p out sound near.
-    hands_fault c.from_residual-in_err-write_l1_table.result (of_storage c.in_err-write_l1_table.field-0.0) c.from_residual-in_err-write_l1_table.ensures (storage_fault c.in_err-write_l1_table.field-0.0)
+    hands_fault c.from_residual-in_err-write_l1_table.result (of_storage c.in_err-write_l1_table.field-0.0) c.from_residual-in_err-write_l1_table.ensures (fault_of_storage c.in_err-write_l1_table.field-0.0)

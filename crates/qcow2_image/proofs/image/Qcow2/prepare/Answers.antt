@@ -12,15 +12,6 @@ returns-in-Err-clause-freed g c = λ some out sound. ⊎_elim
     (λ interruption. inl (subst IsFault (sym (c.process_free_list_after.ensures.refused.fault interruption.fault).0) interruption.fault))
     ((c.in-Err.ensures.sound some out sound).readies)
 
-pub returns-in-Ok-clause-pinned : goal.returns-in-Ok-clause-pinned
-returns-in-Ok-clause-pinned g c = c.in-Ok.ensures.pinned
-
-pub returns-in-Err-clause-pinned : goal.returns-in-Err-clause-pinned
-returns-in-Err-clause-pinned g c = λ own is. c.in-Err.ensures.pinned own (c.process_free_list_after.ensures.refused.taken c.in-Err.ensures.fails.cause is)
-
-pub returns-in-Ok-clause-l1_place : goal.returns-in-Ok-clause-l1_place
-returns-in-Ok-clause-l1_place g c = c.in-Ok.ensures.l1_place
-
 pub returns-in-Err-clause-step : goal.returns-in-Err-clause-step
 returns-in-Err-clause-step g c = step_then c.prepare_range.ensures.step c.process_free_list_after.ensures.step
 
@@ -33,9 +24,6 @@ returns-in-Err-clause-fails g c = record {
       counted_of view below old c.process_free_list_after.new.self c.process_free_list_after.result
       (c.process_free_list_after.ensures.faults old (counted_as view below old old c.prepare_range.new.self c.prepare_range.result c.in-Err.refusal (untouched view below old old refl refl) c.prepare_range.ensures.fails.faults c.in-Err.is));
 }
-
-pub returns-in-Ok-clause-step : goal.returns-in-Ok-clause-step
-returns-in-Ok-clause-step g c = c.prepare_range.ensures.step
 
 pub returns-in-Ok-clause-sound : goal.returns-in-Ok-clause-sound
 returns-in-Ok-clause-sound g c = λ some out sound.

@@ -1,10 +1,8 @@
 use Rattle.qcow2_image.proofs.Call.MarkedCalls.{call_marked}
 use Rattle.qcow2_image.proofs.Prepare.LimitCauses.{goes_begun, limited_since, limits_as}
-use Rattle.qcow2_image.proofs.Common.{IfLimit, IsLimited, ◌≡◌, ◌⊎◌, ◌<◌, [], sym, ◌∙◌, subst, arith, ap, refl, ⊎_elim, inl, inr, ◌≤◌, rules, ◌+◌, IfErr, IfOk, None, Result, Some, IsNone, TablePrepared, known_in, IsAnswered, IsTaken, Qcow2, Prepares, is_failed, ListsNoMore, IsExisting, meaning, pending_in, refuses_to_prepare, FreesRefused, PreparesUnpinned, cluster_size, HeaderFields, NeedsOverflowingL1Entry, CopiesCompressed, MayFailAllocating, length_of, offset_of, table_of, HasPinnedMapping}
+use Rattle.qcow2_image.proofs.Common.{IfLimit, IsLimited, ◌≡◌, ◌⊎◌, ◌<◌, [], sym, ◌∙◌, subst, arith, ap, refl, ⊎_elim, inl, inr, ◌≤◌, rules, ◌+◌, IfErr, IfOk, None, Result, Some, IsNone, TablePrepared, known_in, IsAnswered, IsTaken, Qcow2, Prepares, is_failed, ListsNoMore, IsExisting, meaning, pending_in, refuses_to_prepare, FreesRefused, PreparesUnpinned, cluster_size, HeaderFields, NeedsOverflowingL1Entry, CopiesCompressed, MayFailAllocating, length_of, offset_of, table_of, HasPinnedMapping, IfOk-weaker, IfErr-weaker}
 use Rattle.qcow2_image.proofs.image.Qcow2.prepare_data_mapping.Goals as goal
-use Rattle.qcow2_image.proofs.Map.Loading.{if_ok}
 use Rattle.qcow2_image.proofs.Prepare.PreparedAnswers.{answered_before, taken_before}
-use Rattle.qcow2_image.proofs.Prepare.RefusedAsPrepared.{if_err}
 use Rattle.qcow2_image.proofs.Call.Called.{listed}
 use Rattle.qcow2_image.proofs.Clear.ClearCalls.{refused_for}
 use Rattle.qcow2_image.proofs.Call.Answers.{prepare_usable}
@@ -21,10 +19,10 @@ use Rattle.qcow2_image.proofs.Prepare.FailingAllocations.{taking_as}
 pub returns-clause-answer : goal.returns-clause-answer
 returns-clause-answer g c = record {
   own = search rules;
-  some = subst (λ (r : Result _ _). IfOk r (λ p. 0 < c.args.length → 0 < length_of p)) (sym c.mark_failure.ensures.answer) (if_ok c.prepare-prepared.result (λ p has some. (has some).some) c.prepare-prepared.ensures.some);
+  some = subst (λ (r : Result _ _). IfOk r (λ p. 0 < c.args.length → 0 < length_of p)) (sym c.mark_failure.ensures.answer) (IfOk-weaker c.prepare-prepared.result _ _ (λ p has some. (has some).some) c.prepare-prepared.ensures.some);
   behind = let n = c.args.length in
       subst (λ (r : Result _ _). IfOk r (λ p. 0 < n → cluster_size c.mark_failure.new.self.file.header.fields ≤ offset_of p)) (sym c.mark_failure.ensures.answer)
-      (subst (λ (i : Qcow2 _ _). IfOk c.prepare-prepared.result (λ p. 0 < n → cluster_size i.file.header.fields ≤ offset_of p)) (sym c.mark_failure.ensures.rest) (if_ok c.prepare-prepared.result (λ p has some. (has some).behind) c.prepare-prepared.ensures.some));
+      (subst (λ (i : Qcow2 _ _). IfOk c.prepare-prepared.result (λ p. 0 < n → cluster_size i.file.header.fields ≤ offset_of p)) (sym c.mark_failure.ensures.rest) (IfOk-weaker c.prepare-prepared.result _ _ (λ p has some. (has some).behind) c.prepare-prepared.ensures.some));
   end = search rules;
 }
 
@@ -45,32 +43,31 @@ returns-clause-sound g c = λ out sound.
           let h = old.file.header.fields in
           let known = known_in view old.file in
           λ may some. subst (λ (r : Result _ _). IfErr r (MayFailAllocating (HasPinnedMapping out) (IsTaken h known from n out) (CopiesCompressed from n overwrite h known) (NeedsOverflowingL1Entry old from))) (sym c.mark_failure.ensures.answer)
-          (if_err c.prepare-prepared.result
+          (IfErr-weaker c.prepare-prepared.result _ _
           (taking_as (λ held. held) (λ taken. taken_before view old mid from n stays.header stays.covers out taken) (compressed_as h mid.file.header.fields known (known_in view mid.file) from n overwrite size stays.covers) (far_before old mid from c.begin_call.ensures.begun.rest))
           ((c.prepare-prepared.ensures.sound some out stays.sound).may_fail));
       limit = λ may some. subst (λ (r : Result _ _). IfLimit r (IsLimited view below [] (c.args.offset + 1) old out)) (sym c.mark_failure.ensures.answer)
           (limits_as c.prepare-prepared.result (limited_since (omega arith) (goes_begun c.begin_call.ensures.stays c.begin_call.ensures.begun) stays) ((c.prepare-prepared.ensures.sound some out stays.sound).limit));
       taken = λ may. subst (λ r. IfErr r (λ e. e ≡ TablePrepared → IsTaken old.file.header.fields (known_in view old.file) c.args.offset c.args.length out)) (sym c.mark_failure.ensures.answer)
-          (if_err c.prepare-prepared.result
+          (IfErr-weaker c.prepare-prepared.result _ _
           (λ e taken is. taken_before view old mid c.args.offset c.args.length stays.header stays.covers out (taken is))
           ((c.prepare-prepared.ensures.sound some out stays.sound).taken));
       freed = λ may some. subst (λ (image : Qcow2 _ _). IfErr c.mark_failure.result (FreesRefused image)) (sym c.mark_failure.ensures.rest)
           (subst (λ (r : Result _ _). IfErr r (FreesRefused new)) (sym c.mark_failure.ensures.answer) (c.prepare-prepared.ensures.freed some out stays.sound));
       freeing = subst (λ (image : Qcow2 _ _). IfOk c.mark_failure.result (λ p. IsNone (table_of p) → ListsNoMore old image)) (sym c.mark_failure.ensures.rest)
           (subst (λ r. IfOk r (λ p. IsNone (table_of p) → ListsNoMore old c.prepare-prepared.new.self)) (sym c.mark_failure.ensures.answer)
-          (if_ok c.prepare-prepared.result (λ p less none. ⊎_elim (λ same. inl (same ∙ c.begin_call.ensures.list)) (λ empty. inr empty) (less none)) ((c.prepare-prepared.ensures.sound some out stays.sound).freeing)));
+          (IfOk-weaker c.prepare-prepared.result _ _ (λ p less none. ⊎_elim (λ same. inl (same ∙ c.begin_call.ensures.list)) (λ empty. inr empty) (less none)) ((c.prepare-prepared.ensures.sound some out stays.sound).freeing)));
       maps = let now = known_in view new.file in
           λ some. subst (λ (image : Qcow2 _ _). IfOk c.mark_failure.result (λ p. IsAnswered old.file.header.fields (known_in view old.file) c.args.offset c.args.length image.file.header.fields (known_in view image.file) p (meaning view below image p))) (sym c.mark_failure.ensures.rest)
           (subst (λ r. IfOk r (λ p. IsAnswered old.file.header.fields (known_in view old.file) c.args.offset c.args.length new.file.header.fields now p (meaning view below new p))) (sym c.mark_failure.ensures.answer)
-          (if_ok c.prepare-prepared.result
+          (IfOk-weaker c.prepare-prepared.result _ _
           (λ p is. answered_before view old mid c.args.offset c.args.length stays.header stays.covers new.file.header.fields now p (meaning view below new p) is)
           ((c.prepare-prepared.ensures.sound some out stays.sound).answers)));
     }
 
 pub returns-in_err-check_prepare-clause-sound : goal.returns-in_err-check_prepare-clause-sound
 returns-in_err-check_prepare-clause-sound g c = λ out sound.
-    let old = c.args.self.now in
-    let refused = refused_for c.check_prepare.result tt (refuses_to_prepare old c.args.offset c.args.length) c.in_err-check_prepare.field-0.0 c.check_prepare.ensures.refusal c.in_err-check_prepare.was in
+    let refused = refused_for c.check_prepare.result tt (refuses_to_prepare c.args.self.now c.args.offset c.args.length) c.in_err-check_prepare.field-0.0 c.check_prepare.ensures.refusal c.in_err-check_prepare.was in
     record {
       may_fail = λ may some. absurd (let no : None ≡ Some c.in_err-check_prepare.field-0.0 = sym may ∙ refused in cc);
       limit = λ may some. absurd (let no : None ≡ Some c.in_err-check_prepare.field-0.0 = sym may ∙ refused in cc);
@@ -119,9 +116,6 @@ pub returns-in_err-check_prepare-clause-pinned : goal.returns-in_err-check_prepa
 returns-in_err-check_prepare-clause-pinned g c = λ some none own.
     let refused = refused_for c.check_prepare.result tt (refuses_to_prepare c.args.self.now c.args.offset c.args.length) c.in_err-check_prepare.field-0.0 c.check_prepare.ensures.refusal c.in_err-check_prepare.was in
     absurd (let no : None ≡ Some c.in_err-check_prepare.field-0.0 = sym none ∙ refused in cc)
-
-pub returns-then-length-eq0-clause-pinned : goal.returns-then-length-eq0-clause-pinned
-returns-then-length-eq0-clause-pinned g c = λ some none own. absurd (let is = c.if-length-eq0.true in omega (arith, is, some))
 
 pub returns-clause-pinned : goal.returns-clause-pinned
 returns-clause-pinned g c = λ some none own.

@@ -1,7 +1,6 @@
 use Rattle.qcow2_image.proofs.Call.WriteSteps.{filling_pinned, taking_none, taking_of_filling, taking_where}
-use Rattle.qcow2_image.proofs.Common.{BeginsSoundly, rules, refl, ◌/◌, sym, ap, ◌∙◌, subst, List, length, ◌≡◌, ◌≤◌, true, false, inr, arith, MarkedIsBehind, cover, vec_capacity, ClusterMapping, cluster_size, L2Mapping, known_in, handed_on, Prepared, l1_index_of, IsReadied, Readies, pending_in, IsFirst, always_ok, l2_pins}
+use Rattle.qcow2_image.proofs.Common.{BeginsSoundly, rules, refl, ◌/◌, sym, ap, ◌∙◌, subst, List, length, ◌≡◌, ◌≤◌, true, false, inr, arith, MarkedIsBehind, cover, vec_capacity, ClusterMapping, cluster_size, L2Mapping, known_in, handed_on, Prepared, l1_index_of, IsReadied, Readies, pending_in, IsFirst, always_ok, l2_pins, IfOk-weaker, IfErr-weaker}
 use Rattle.qcow2_image.proofs.image.Qcow2.prepare_first.Goals as goal
-use Rattle.qcow2_image.proofs.Map.Loading.{if_ok}
 use Rattle.qcow2_image.proofs.Prepare.KeptMappings.{data_keep_none}
 use Rattle.qcow2_image.proofs.Prepare.RangeByParts.{room_as}
 use Rattle.qcow2_image.proofs.Prepare.WritableL2Table.{refused as any_refusal}
@@ -9,7 +8,6 @@ use Rattle.qcow2_image.proofs.Prepare.NewCluster.{back_none, first_stands, not_p
 use Rattle.qcow2_image.proofs.Clear.Between.{no_pins}
 use Rattle.qcow2_image.proofs.Prepare.LimitCauses.{hands_limit, other_limit}
 use Rattle.qcow2_image.proofs.Prepare.FailingAllocations.{taking_as}
-use Rattle.qcow2_image.proofs.Prepare.RefusedAsPrepared.{if_err}
 
 pub returns-then-l2_is_pinned-clause-sound : goal.returns-then-l2_is_pinned-clause-sound
 returns-then-l2_is_pinned-clause-sound g c = λ out sound holds.
@@ -91,13 +89,13 @@ returns-in-None-clause-sound g c = λ out sound holds.
     record {
       readies = begun.readies;
       limit = begun.limit;
-      may_fail = if_err c.prepare_private.result (taking_as (λ held. held) (λ no. absurd no) (λ is. is) (λ no. no)) begun.may_fail;
-      kept = if_ok c.prepare_private.result (λ p begins host at. begins host (sym covered ∙ at)) c.prepare_private.ensures.kept;
+      may_fail = IfErr-weaker c.prepare_private.result _ _ (taking_as (λ held. held) (λ no. absurd no) (λ is. is) (λ no. no)) begun.may_fail;
+      kept = IfOk-weaker c.prepare_private.result _ _ (λ p begins host at. begins host (sym covered ∙ at)) c.prepare_private.ensures.kept;
     }
 
 pub returns-in-None-clause-begins : goal.returns-in-None-clause-begins
 returns-in-None-clause-begins g c =
-    if_ok c.prepare_private.result
+    IfOk-weaker c.prepare_private.result _ _
     (λ p begun. record {
       own = begun.own;
       first = begun.first;
@@ -123,9 +121,6 @@ returns-in_err-old-clause-step g c = taking_where taking_none
 
 pub returns-in-Some-clause-step : goal.returns-in-Some-clause-step
 returns-in-Some-clause-step g c = taking_where (taking_of_filling (filling_pinned c.prepare_at.ensures.stays c.prepare_at.ensures.pins))
-
-pub returns-in-None-clause-step : goal.returns-in-None-clause-step
-returns-in-None-clause-step g c = c.prepare_private.ensures.step
 
 pub prepare_private-requires-clause-other : goal.prepare_private-requires-clause-other
 prepare_private-requires-clause-other g c = record { reach = c.in_ok-old.ensures.reach; other = c.in-None.ensures.none refl; behind = c.in_ok-old.ensures.behind }

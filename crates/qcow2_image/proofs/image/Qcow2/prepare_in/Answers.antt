@@ -46,9 +46,6 @@ returns-in-Ok-clause-some g c =
     let within = mod_below c.args.offset (cluster_size h) (pow_pos h.cluster_bits) in
     record { some = (let rest = first.rest in let more = longer.more in omega (arith, within)); behind = (let begins = c.in_ok-prepared.ensures.begins.behind in let place = longer.place in omega (arith, size)) }
 
-pub returns-in-Ok-clause-unpinned : goal.returns-in-Ok-clause-unpinned
-returns-in-Ok-clause-unpinned g c = c.in_ok-prepared.ensures.unpinned
-
 pub returns-in-Err-clause-step : goal.returns-in-Err-clause-step
 returns-in-Err-clause-step g c = where_then (where_then c.prepare_first.ensures.step (taking_where c.prepare_rest.ensures.step)) (taking_where (taking_with c.release_prepared.ensures.step c.release_prepared.ensures.header))
 
@@ -62,9 +59,6 @@ returns-in-Err-clause-fails g c = record {
       counted_still view below old c.prepare_rest.new.self c.release_prepared.new.self (Err e)
       (counted_as view below old c.prepare_first.new.self c.prepare_rest.new.self c.prepare_rest.result e c.in_ok-prepared.ensures.fails.faults.told c.prepare_rest.ensures.fails.faults c.in-Err.is) c.release_prepared.ensures.faults;
 }
-
-pub returns-in_err-prepared-clause-step : goal.returns-in_err-prepared-clause-step
-returns-in_err-prepared-clause-step g c = c.prepare_first.ensures.step
 
 pub returns-in-Ok-clause-step : goal.returns-in-Ok-clause-step
 returns-in-Ok-clause-step g c = where_then c.prepare_first.ensures.step (taking_where c.prepare_rest.ensures.step)

@@ -1,5 +1,5 @@
 use Rattle.qcow2_image.proofs.Call.WriteSteps.{filling_pinned, filling_then, filling_written}
-use Rattle.qcow2_image.proofs.Common.{HasPinnedMapping, IsCopiedCompressed, MayFailAllocating, keeping, ◌≤◌, ◌+◌, ◌-◌, ◌%◌, ◌∙◌, List, length, inl, refl, sym, ap, subst, arith, ◌/◌, rules, cluster_size, handed_on, Qcow2, Prepared, ClusterMapping, IsReadied, Readies, pending_in, IsFirst, InternalFillingStep}
+use Rattle.qcow2_image.proofs.Common.{HasPinnedMapping, IsCopiedCompressed, MayFailAllocating, keeping, ◌≤◌, ◌-◌, ◌%◌, List, length, inl, refl, sym, ap, subst, arith, ◌/◌, rules, cluster_size, handed_on, Qcow2, Prepared, ClusterMapping, IsReadied, Readies, pending_in, IsFirst, InternalFillingStep}
 use Rattle.qcow2_image.proofs.Prepare.FirstCluster.{listed_after_same}
 use Rattle.qcow2_image.proofs.Prepare.KeptMappings.{first_alone, readied_kept}
 use Rattle.qcow2_image.proofs.Prepare.LimitCauses.{hands_limit, hands_unlimited, other_limit}
@@ -48,10 +48,6 @@ returns-clause-begins g c = record {
       subst (λ (x : Prepared). cluster_size c.args.self.now.file.header.fields ≤ x.offset) (sym c.prepare_at.ensures.value) (omega (arith, least));
   room = search rules;
 }
-
-pub returns-clause-place : goal.returns-clause-place
-returns-clause-place g c =
-    ap (λ (x : Prepared). x.offset) c.prepare_at.ensures.value ∙ ap (λ (image : Qcow2 _ _). c.args.host + c.args.offset % cluster_size image.file.header.fields) c.fill_kept.ensures.rest
 
 pub returns-in_err-fill_kept-clause-step : goal.returns-in_err-fill_kept-clause-step
 returns-in_err-fill_kept-clause-step g c = filling_written c.fill_kept.ensures.step c.fill_kept.ensures.rest

@@ -4,12 +4,6 @@ use Rattle.qcow2_image.proofs.Prepare.LimitCauses.{hands_limit}
 use Rattle.qcow2_image.proofs.Prepare.FailingTables.{hands_alone}
 use Rattle.qcow2_image.proofs.image.Qcow2.prepare_next.Goals as goal
 
-pub returns-in_default-clause-step : goal.returns-in_default-clause-step
-returns-in_default-clause-step g c = c.cluster_mapping_behind.ensures.step
-
-pub returns-clause-step : goal.returns-clause-step
-returns-clause-step g c = c.cluster_mapping_behind.ensures.step
-
 pub returns-in_default-clause-sound : goal.returns-in_default-clause-sound
 returns-in_default-clause-sound g c = λ out k at may sound.
     record {

@@ -1,7 +1,7 @@
 use Rattle.qcow2_image.proofs.Call.WriteSteps.{taking_of_filling, taking_where}
-use Rattle.qcow2_image.proofs.Common.{L2Mapping, BeginsSoundly, refl, ◌∙◌, subst, sym, cluster_size, MarkedIsBehind}
+use Rattle.qcow2_image.proofs.Common.{L2Mapping, BeginsSoundly, refl, ◌∙◌, subst, sym, IfOk-weaker}
 use Rattle.qcow2_image.proofs.image.Qcow2.prepare_private.Goals as goal
-use Rattle.qcow2_image.proofs.Map.Loading.{if_ok, if_ok_any}
+use Rattle.qcow2_image.proofs.Map.Loading.{if_ok_any}
 use Rattle.qcow2_image.proofs.Prepare.KeptMappings.{begins_kept}
 
 pub returns-in-Some-clause-sound : goal.returns-in-Some-clause-sound
@@ -9,20 +9,11 @@ returns-in-Some-clause-sound g c = λ out sound holds unpinned covered.
     subst (λ (m : L2Mapping). BeginsSoundly g.S.Storage.view g.F.BackingDisk.backing c.args.self.now c.prepare_kept.new.self m c.args.offset c.args.length c.args.overwrite out c.prepare_kept.result) (sym c.in-Some.ensures.place.0)
     (c.prepare_kept.ensures.sound out sound holds unpinned (covered ∙ c.in-Some.ensures.place.0))
 
-pub returns-in-None-clause-sound : goal.returns-in-None-clause-sound
-returns-in-None-clause-sound g c = c.prepare_new.ensures.sound
-
-pub prepare_kept-requires-clause-behind : goal.prepare_kept-requires-clause-behind
-prepare_kept-requires-clause-behind g c = subst (MarkedIsBehind (cluster_size c.args.self.now.file.header.fields)) c.in-Some.ensures.place.0 c.requires.other.behind refl
-
 pub returns-in-Some-clause-kept : goal.returns-in-Some-clause-kept
-returns-in-Some-clause-kept g c = if_ok c.prepare_kept.result (λ p place. begins_kept c.args.self.now.file.header.fields c.args.offset c.args.old.now c.in-Some.host p c.in-Some.ensures.place.0 place) c.prepare_kept.ensures.place
+returns-in-Some-clause-kept g c = IfOk-weaker c.prepare_kept.result _ _ (λ p place. begins_kept c.args.self.now.file.header.fields c.args.offset c.args.old.now c.in-Some.host p c.in-Some.ensures.place.0 place) c.prepare_kept.ensures.place
 
 pub returns-in-None-clause-kept : goal.returns-in-None-clause-kept
 returns-in-None-clause-kept g c = if_ok_any c.prepare_new.result (λ p host at. absurd (c.in-None.ensures.none refl host at))
 
 pub returns-in-Some-clause-step : goal.returns-in-Some-clause-step
 returns-in-Some-clause-step g c = taking_where (taking_of_filling c.prepare_kept.ensures.step)
-
-pub returns-in-None-clause-step : goal.returns-in-None-clause-step
-returns-in-None-clause-step g c = c.prepare_new.ensures.step

@@ -1,11 +1,10 @@
 use Rattle.qcow2_image.proofs.image.Qcow2.prepare_range.Goals as goal
-use Rattle.qcow2_image.proofs.Common.{◌≡◌, true, false, inl, refl, sym, subst, None, Option, [], ◌∷◌, ap, ◌<◌, ◌≤◌, ℕ, rules, arith, known_in, handed_on, PreparesRange, IsPlaceOf, IsWritableAt, IsTaken, meaning, pending_in, on_ok, IsSome, IfSome, notes_then, cluster_size, HeaderFields, NeedsOverflowingL1Entry, CopiesCompressed, MayFailAllocating, HasPinnedMapping}
+use Rattle.qcow2_image.proofs.Common.{◌≡◌, true, false, inl, refl, sym, subst, None, Option, [], ◌∷◌, ap, ◌<◌, ◌≤◌, ℕ, rules, arith, known_in, handed_on, PreparesRange, IsPlaceOf, IsWritableAt, IsTaken, meaning, pending_in, on_ok, IfSome, notes_then, cluster_size, HeaderFields, NeedsOverflowingL1Entry, CopiesCompressed, MayFailAllocating, HasPinnedMapping, IfOk-weaker, IfErr-weaker}
 use Rattle.qcow2_image.proofs.Prepare.PreparedAnswers.{answered_before, answered_existing, answered_range, nowhere_before, taken_before}
-use Rattle.qcow2_image.proofs.Map.Loading.{if_ok}
 use Rattle.qcow2_image.proofs.Images.Free.{free_places}
 use Rattle.qcow2_image.proofs.Prepare.Preparing.{readied_existing}
 use Rattle.qcow2_image.proofs.Call.Refused.{prepares_after, readied_after}
-use Rattle.qcow2_image.proofs.Prepare.RefusedAsPrepared.{if_err, taken_by}
+use Rattle.qcow2_image.proofs.Prepare.RefusedAsPrepared.{taken_by}
 use Rattle.qcow2_image.proofs.Call.BehindHeader.{behind_then}
 use Rattle.qcow2_image.proofs.Prepare.PinnedL2Tables.{found_pins, met_untaken, prepared_unpinned, unpinned_refused}
 use Rattle.qcow2_image.proofs.Prepare.LimitCauses.{hands_limit, other_limit, goes_step, limited_since, limits_as}
@@ -20,38 +19,20 @@ returns-in-Some-clause-some g c = λ some.
     let behind = subst (λ (x : Option ℕ). IfSome x (λ host. cluster_size h ≤ host)) c.in-Some.is c.in_ok-host.ensures.behind in
     record { some = subst (λ n. 0 < n) (sym c.existing_at.ensures.length) some; behind = subst (λ n. cluster_size h ≤ n) (sym c.existing_at.ensures.offset) behind }
 
-pub returns-in-None-clause-some : goal.returns-in-None-clause-some
-returns-in-None-clause-some g c = if_ok c.prepare_in.result (λ p has some. has) c.prepare_in.ensures.some
-
 pub returns-in_err-table-clause-pinned : goal.returns-in_err-table-clause-pinned
 returns-in_err-table-clause-pinned g c = λ own. unpinned_refused c.args.self.now c.args.offset c.from_residual.result c.in_err-table.field-0.0 c.from_residual.ensures (λ is. absurd (met_untaken c.in_err-table.field-0.0 c.in_err-table.ensures.fails.cause is))
 
 pub returns-in_err-host-clause-pinned : goal.returns-in_err-host-clause-pinned
 returns-in_err-host-clause-pinned g c = λ own. unpinned_refused c.args.self.now c.args.offset c.from_residual-in_err-host.result c.in_err-host.field-0.0 c.from_residual-in_err-host.ensures (λ is. absurd (met_untaken c.in_err-host.field-0.0 c.in_err-host.ensures.cause is))
 
-pub returns-in-Some-clause-pinned : goal.returns-in-Some-clause-pinned
-returns-in-Some-clause-pinned g c = λ own some. absurd (let no : false ≡ true = subst (λ (t : Option _). IsSome t) c.existing_at.ensures.existing.table some in cc)
-
 pub returns-in-None-clause-pinned : goal.returns-in-None-clause-pinned
 returns-in-None-clause-pinned g c = λ own.
     prepared_unpinned c.args.self.now c.args.offset _ c.prepare_in.result (found_pins c.args.self.now c.writable_l2_table.new.self c.args.offset c.in_ok-table.table (c.in_ok-table.ensures.own own)) c.prepare_in.ensures.taken c.prepare_in.ensures.unpinned
-
-pub returns-in-Some-clause-l1_place : goal.returns-in-Some-clause-l1_place
-returns-in-Some-clause-l1_place g c = c.in_ok-table.ensures.l1_place
 
 pub returns-in-None-clause-l1_place : goal.returns-in-None-clause-l1_place
 returns-in-None-clause-l1_place g c = λ within.
     on_ok _ c.prepare_in.result
     (place_then c.args.self.now.file.header.fields c.writable_l2_table.new.self.file.header.fields c.prepare_in.new.self.file.header.fields (c.in_ok-table.ensures.l1_place within) (place_kept c.writable_l2_table.new.self.file.header c.prepare_in.new.self.file.header c.prepare_in.ensures.step.header))
-
-pub returns-in_err-table-clause-step : goal.returns-in_err-table-clause-step
-returns-in_err-table-clause-step g c = c.writable_l2_table.ensures.step
-
-pub returns-in_err-host-clause-step : goal.returns-in_err-host-clause-step
-returns-in_err-host-clause-step g c = c.writable_l2_table.ensures.step
-
-pub returns-in-Some-clause-step : goal.returns-in-Some-clause-step
-returns-in-Some-clause-step g c = c.writable_l2_table.ensures.step
 
 pub returns-in-None-clause-step : goal.returns-in-None-clause-step
 returns-in-None-clause-step g c = record {
@@ -78,7 +59,6 @@ returns-in_err-table-clause-sound g c = λ some out sound.
 
 pub returns-in_err-host-clause-sound : goal.returns-in_err-host-clause-sound
 returns-in_err-host-clause-sound g c = λ some out sound.
-    let mid = c.writable_l2_table.new.self in
     let found = (c.in_ok-table.ensures.sound out sound).finds in
     record {
       taken = search rules;
@@ -86,7 +66,7 @@ returns-in_err-host-clause-sound g c = λ some out sound.
       freeing = search rules;
       readies = handed_on (λ r. PreparesRange g.S.Storage.view g.F.BackingDisk.backing c.args.self.now c.writable_l2_table.new.self out c.args.offset c.args.length c.args.overwrite r) c.from_residual-in_err-host.result c.in_err-host.field-0.0 c.from_residual-in_err-host.ensures
           (inl ((c.in_ok-table.ensures.sound out sound).finds).0);
-      may_fail = absurd (let no : false ≡ true = c.in_err-host.ensures.reads (pending_in g.S.Storage.view g.F.BackingDisk.backing mid out) found.0.sound.file found.1.entry in cc);
+      may_fail = absurd (let no : false ≡ true = c.in_err-host.ensures.reads (pending_in g.S.Storage.view g.F.BackingDisk.backing c.writable_l2_table.new.self out) found.0.sound.file found.1.entry in cc);
       limit = hands_limit c.from_residual-in_err-host.result c.in_err-host.field-0.0 c.from_residual-in_err-host.ensures (other_limit _ c.in_err-host.field-0.0 c.in_err-host.ensures.limited);
     }
 
@@ -126,7 +106,7 @@ returns-in-None-clause-sound g c = λ some out sound.
     let taken =
     let p = pending_in view below mid out in
     let place = subst (IsPlaceOf mid.file.header.fields (known_in view mid.file) c.args.offset c.args.length) c.in-None.is (c.in_ok-host.ensures.place p found.0.sound.file found.0.sound.inside found.1.entry some) in
-    if_err c.prepare_in.result
+    IfErr-weaker c.prepare_in.result _ _
     (λ e taken is.
     taken_before view old mid c.args.offset c.args.length found.0.header found.0.covers out
     (taken_by view below mid p out found.0.sound c.args.offset c.in_ok-table.table found.1 (known_in view mid.file) c.args.length (taken is) place)) c.prepare_in.ensures.taken in
@@ -134,7 +114,7 @@ returns-in-None-clause-sound g c = λ some out sound.
     let p = pending_in view below mid out in
     let place = subst (IsPlaceOf mid.file.header.fields (known_in view mid.file) c.args.offset c.args.length) c.in-None.is (c.in_ok-host.ensures.place p found.0.sound.file found.0.sound.inside found.1.entry some) in
     let placed = (free_places view below).free mid [] out found.0.sound in
-    if_ok c.prepare_in.result
+    IfOk-weaker c.prepare_in.result _ _
     (λ q is. answered_before view old mid c.args.offset c.args.length found.0.header found.0.covers new.file.header.fields (known_in view new.file) q (meaning view below new q) is)
     (answered_range view below mid new (None ∷ out) 0 c.args.offset c.args.length c.args.overwrite refl place c.prepare_in.result
     ((c.prepare_in.ensures.sound (None ∷ out) placed found.1).readies) (c.prepare_in.ensures.reaches (None ∷ out) 0 refl placed found.1)) in
@@ -146,7 +126,7 @@ returns-in-None-clause-sound g c = λ some out sound.
           c.prepare_in.result taken ((c.prepare_in.ensures.sound out found.0.sound found.1).may_fail some);
       taken = taken;
       answers = answers;
-      freeing = if_ok c.prepare_in.result
+      freeing = IfOk-weaker c.prepare_in.result _ _
           (λ q is none. let place = is.existing.0 none in absurd ((nowhere_before view old mid c.args.offset c.args.length found.0.header found.0.covers nowhere) place.0 place.1)) answers;
       limit = limits_as c.prepare_in.result (limited_since (omega arith) (goes_step c.writable_l2_table.ensures.step) found.0) ((c.prepare_in.ensures.sound out found.0.sound found.1).limit c.in_ok-table.ensures.elsewhere);
     }

@@ -63,9 +63,6 @@ returns-then-not-branch-clause-fails g c = record {
       (faults_then g.S.Storage.view g.F.BackingDisk.backing c.args.self.now c.loop-prepared.self c.prepare_next.new.self c.loop-prepared.invariant.faults c.in_ok-prepare_next.ensures.fails.faults.told);
 }
 
-pub returns-clause-step : goal.returns-clause-step
-returns-clause-step g c = c.loop-prepared.invariant.step
-
 pub returns-clause-fails : goal.returns-clause-fails
 returns-clause-fails g c = record { faults = counted_ok g.S.Storage.view g.F.BackingDisk.backing c.args.self.now c.loop-prepared.self tt c.loop-prepared.invariant.faults; cause = search rules }
 

@@ -1,4 +1,4 @@
-use Rattle.qcow2_image.proofs.Common.{subst, rules, Some, IfSome, with_listed, IsAllocatorOf, notes_of_both}
+use Rattle.qcow2_image.proofs.Common.{subst, rules, IfSome, with_listed, IsAllocatorOf, notes_of_both}
 use Rattle.qcow2_image.proofs.Call.Answered.{freeing_step_kept}
 use Rattle.qcow2_image.proofs.Flush.Freeing.{frees_listed, frees_fault}
 use Rattle.qcow2_image.proofs.Images.Moving.{leaked_still}

@@ -50,9 +50,6 @@ returns-in-Err-clause-emptied g c = λ may out sound.
     let old = c.args.self.now in
     inl (c.in-Err.ensures.faults (beside view below old out) out (subst (λ (x : Pending). ImageInvariant view below x old out) (all_listed view below old out) sound))
 
-pub returns-then-is_last-clause-faults : goal.returns-then-is_last-clause-faults
-returns-then-is_last-clause-faults g c = λ start told. told
-
 pub returns-in-Ok-clause-faults : goal.returns-in-Ok-clause-faults
 returns-in-Ok-clause-faults g c = λ start told.
     counted_still g.S.Storage.view g.F.BackingDisk.backing start c.args.self.now c.process_free_list.new.self (Err c.args.refusal) told c.in-Ok.ensures.counts.told
@@ -60,12 +57,6 @@ returns-in-Ok-clause-faults g c = λ start told.
 pub returns-in-Err-clause-faults : goal.returns-in-Err-clause-faults
 returns-in-Err-clause-faults g c = λ start told.
     counted_as g.S.Storage.view g.F.BackingDisk.backing start c.args.self.now c.process_free_list.new.self c.process_free_list.result c.in-Err.fault (told.told (λ is. not_both c.is_last.result (c.is_last.ensures.fault (inl is)) c.if-is_last.false)) c.process_free_list.ensures.counts c.in-Err.is
-
-pub returns-then-is_last-clause-told : goal.returns-then-is_last-clause-told
-returns-then-is_last-clause-told g c = (inl refl, λ out sound. inl refl)
-
-pub returns-in-Ok-clause-told : goal.returns-in-Ok-clause-told
-returns-in-Ok-clause-told g c = (inl refl, λ out sound. inl refl)
 
 pub returns-in-Err-clause-told : goal.returns-in-Err-clause-told
 returns-in-Err-clause-told g c =
@@ -77,29 +68,8 @@ returns-in-Err-clause-told g c =
 pub returns-then-is_last-clause-keeps_rest : goal.returns-then-is_last-clause-keeps_rest
 returns-then-is_last-clause-keeps_rest g c = record { header = refl; backing = refl }
 
-pub returns-in-Ok-clause-keeps_rest : goal.returns-in-Ok-clause-keeps_rest
-returns-in-Ok-clause-keeps_rest g c = c.process_free_list.ensures.keeps_rest
-
-pub returns-in-Err-clause-keeps_rest : goal.returns-in-Err-clause-keeps_rest
-returns-in-Err-clause-keeps_rest g c = c.process_free_list.ensures.keeps_rest
-
-pub returns-then-is_last-clause-table : goal.returns-then-is_last-clause-table
-returns-then-is_last-clause-table g c = refl
-
-pub returns-in-Ok-clause-table : goal.returns-in-Ok-clause-table
-returns-in-Ok-clause-table g c = c.process_free_list.ensures.table
-
-pub returns-in-Err-clause-table : goal.returns-in-Err-clause-table
-returns-in-Err-clause-table g c = c.process_free_list.ensures.table
-
 pub returns-then-is_last-clause-step : goal.returns-then-is_last-clause-step
 returns-then-is_last-clause-step g c = step_none
-
-pub returns-in-Ok-clause-step : goal.returns-in-Ok-clause-step
-returns-in-Ok-clause-step g c = c.process_free_list.ensures.step
-
-pub returns-in-Err-clause-step : goal.returns-in-Err-clause-step
-returns-in-Err-clause-step g c = c.process_free_list.ensures.step
 
 pub returns-then-is_last-clause-lasts : goal.returns-then-is_last-clause-lasts
 returns-then-is_last-clause-lasts g c = λ out sound. (lasts_none g.S.Storage.view c.args.self.now []).since

@@ -25,12 +25,6 @@ returns-clause-idle g c = λ none.
     let kept = c.process_free_list-freed.ensures.idle none in
     (c.mark_failure.ensures.answer ∙ kept.0, c.mark_failure.ensures.rest ∙ ap (λ f. record new { is_failed = f }) (subst (λ (r : Result _ _). MarksFailed new c.mark_failure.new.self r) kept.0 c.mark_failure.ensures.marks) ∙ kept.1)
 
-pub returns-clause-header : goal.returns-clause-header
-returns-clause-header g c = ap (λ (i : Qcow2 _ _). i.file.header) c.mark_failure.ensures.rest ∙ c.process_free_list-freed.ensures.keeps_rest.header
-
-pub returns-clause-table : goal.returns-clause-table
-returns-clause-table g c = ap (λ (i : Qcow2 _ _). i.l1_table) c.mark_failure.ensures.rest ∙ c.process_free_list-freed.ensures.table
-
 pub returns-clause-notes : goal.returns-clause-notes
 returns-clause-notes g c = notes_then c.process_free_list-freed.ensures.step.notes (same_kept c.process_free_list-freed.new.self c.mark_failure.new.self (ap (λ (i : Qcow2 _ _). i.file.storage) c.mark_failure.ensures.rest) (ap (λ (i : Qcow2 _ _). i.file.caches) c.mark_failure.ensures.rest))
 

@@ -1,12 +1,12 @@
-use Rattle.qcow2_image.proofs.Common.{ap, replicate, rules, notes_of_storage, told_kept, of_storage}
+use Rattle.qcow2_image.proofs.Common.{ap, replicate, rules, notes_of_storage, told_kept, of_storage, fault_of_storage}
 use Rattle.qcow2_image.proofs.Call.BehindHeader.{behind_guard, behind_wrote}
-use Rattle.qcow2_image.proofs.Call.Unlimited.{storage_fault, storage_unlimited}
+use Rattle.qcow2_image.proofs.Call.Unlimited.{storage_unlimited}
 use Rattle.qcow2_image.proofs.Prepare.LimitCauses.{hands_fault, hands_unlimited}
 use Rattle.qcow2_image.proofs.Call.ImageSteps.{step_none}
 use Rattle.qcow2_image.proofs.image.Qcow2.put_zeros.Goals as goal
 
 pub returns-in_err-write-clause-fault : goal.returns-in_err-write-clause-fault
-returns-in_err-write-clause-fault g c = λ behind. hands_fault c.from_residual.result (of_storage c.in_err-write.field-0.0) c.from_residual.ensures (storage_fault c.in_err-write.field-0.0)
+returns-in_err-write-clause-fault g c = λ behind. hands_fault c.from_residual.result (of_storage c.in_err-write.field-0.0) c.from_residual.ensures (fault_of_storage c.in_err-write.field-0.0)
 
 pub returns-in_err-write-clause-step : goal.returns-in_err-write-clause-step
 returns-in_err-write-clause-step g c = record {

@@ -1,10 +1,9 @@
-use Rattle.qcow2_image.proofs.Common.{◌≡◌, ℕ, ◌+◌, ◌/◌, ◌<◌, List, length, replicate, refl, sym, ap, ◌∙◌, subst, rules, is_some, inl, inr, length-replicate, get_or-replicate, bytes_at, byte_at-bytes_at, length-bytes_at, byte_at, known_byte, cluster_size, cover, disk, known_of, known_in, state_in, view_in, found_kind, is_data_file, backing_bytes, disk_of, notes_of_storage, read_kept, MayFailReading, IsSpecial, IsFault, of_storage}
-use Rattle.qcow2_image.proofs.Map.Loading.{read_moved, if_ok}
+use Rattle.qcow2_image.proofs.Common.{◌≡◌, ℕ, ◌+◌, ◌/◌, ◌<◌, List, length, replicate, refl, sym, ap, ◌∙◌, subst, rules, is_some, inl, length-replicate, get_or-replicate, bytes_at, byte_at-bytes_at, length-bytes_at, byte_at, known_byte, cluster_size, cover, disk, known_of, known_in, state_in, view_in, found_kind, is_data_file, backing_bytes, disk_of, notes_of_storage, read_kept, MayFailReading, IsFault, of_storage, IfOk-weaker, fault_of_storage}
+use Rattle.qcow2_image.proofs.Map.Loading.{read_moved}
 use Rattle.qcow2_image.proofs.Map.Reading.{raw_shown, zero_shown, indirect_shown, none_below}
 use Rattle.qcow2_image.proofs.Call.BehindHeader.{behind_read}
 use Rattle.qcow2_image.proofs.Map.Quiet.{reads_bytes, reads_same}
 use Rattle.qcow2_image.proofs.Prepare.FailingCopies.{hands_met, met_as}
-use Rattle.qcow2_image.proofs.Call.Unlimited.{storage_fault}
 use Rattle.qcow2_image.proofs.image.Qcow2.read_as.Goals as goal
 
 pub returns-in_err-read-in-Raw-clause-keeps : goal.returns-in_err-read-in-Raw-clause-keeps
@@ -36,7 +35,7 @@ returns-in-Indirect-clause-shows g c = λ p out sound mapped.
     let below = backing_bytes g.S.Storage.view g.F.BackingDisk.backing image.backing in
     let same : disk_of g.S.Storage.view g.F.BackingDisk.backing new ≡ disk (known_in g.S.Storage.view file) below =
     ap (λ b. disk (known_in g.S.Storage.view new.file) b.1) (c.read_backing.ensures.keeps p out sound).below ∙ ap (λ f. disk (known_in g.S.Storage.view f) below) c.read_backing.ensures.file in
-    if_ok c.read_backing.result
+    IfOk-weaker c.read_backing.result _ _
     (λ done read i lt. ap (λ d. d.value (c.args.offset + i)) same
     ∙ indirect_shown (state_in g.S.Storage.view file p) sound.file.caches.kept.kept.crash_invariant sound.inside c.args.offset (length c.args.bytes.now) mapped.alike (is_some image.backing) below
     (cover h (known_in g.S.Storage.view file) (c.args.offset / cluster_size h)) refl c.in-Indirect.offset (ap found_kind (sym c.in-Indirect.is) ∙ mapped.kind_is) i (subst (λ m. i < m) read.0 lt)
@@ -56,16 +55,10 @@ returns-in-Zero-clause-shows g c = λ p out sound mapped i lt.
     ∙ ap known_byte (sym (ap (λ (b : List ℕ). byte_at b i) filled ∙ get_or-replicate n i 0 0 within))
 
 pub returns-in_err-read-in-Raw-clause-may_fail : goal.returns-in_err-read-in-Raw-clause-may_fail
-returns-in_err-read-in-Raw-clause-may_fail g c = hands_met (MayFailReading c.args.kind.now) c.from_residual.result (of_storage c.in_err-read-in-Raw.field-0.0) c.from_residual.ensures (inl (storage_fault c.in_err-read-in-Raw.field-0.0))
+returns-in_err-read-in-Raw-clause-may_fail g c = hands_met (MayFailReading c.args.kind.now) c.from_residual.result (of_storage c.in_err-read-in-Raw.field-0.0) c.from_residual.ensures (inl (fault_of_storage c.in_err-read-in-Raw.field-0.0))
 
 pub returns-in-Indirect-clause-may_fail : goal.returns-in-Indirect-clause-may_fail
 returns-in-Indirect-clause-may_fail g c = met_as IsFault (MayFailReading c.args.kind.now) c.read_backing.result (λ e fault. inl fault) c.read_backing.ensures.fault
-
-pub returns-in-Special-clause-may_fail : goal.returns-in-Special-clause-may_fail
-returns-in-Special-clause-may_fail g c = inr (inl (refl, subst IsSpecial (sym c.in-Special.is) tt))
-
-pub returns-in-Eof-clause-may_fail : goal.returns-in-Eof-clause-may_fail
-returns-in-Eof-clause-may_fail g c = inr (inr (refl, c.in-Eof.is))
 
 pub returns-in_err-read-in-Raw-clause-step : goal.returns-in_err-read-in-Raw-clause-step
 returns-in_err-read-in-Raw-clause-step g c = record {

@@ -1,10 +1,8 @@
 use Rattle.qcow2_image.proofs.Call.MarkedCalls.{reading_marked}
-use Rattle.qcow2_image.proofs.Common.{◌≡◌, ◌+◌, ◌<◌, [], sym, ◌∙◌, subst, rules, arith, length, OnOk, Result, IfErr, Shows, IsSame, guest_of, AnswersCall, Qcow2, IsFoundWhole, further_by, is_failed, pending_in, IsCacheHeld, MayFailMapped, FitsTables}
+use Rattle.qcow2_image.proofs.Common.{◌≡◌, ◌+◌, ◌<◌, [], sym, ◌∙◌, subst, rules, arith, length, OnOk, Result, IfErr, Shows, IsSame, guest_of, AnswersCall, Qcow2, IsFoundWhole, further_by, is_failed, pending_in, IsCacheHeld, MayFailMapped, FitsTables, IfOk-weaker, on_ok_weaker}
 use Rattle.qcow2_image.proofs.Call.Marked.{may_mark}
 use Rattle.qcow2_image.proofs.Call.Answers.{usable_works}
 use Rattle.qcow2_image.proofs.Call.Called.{told_answers, tells_quietly, quietly_then}
-use Rattle.qcow2_image.proofs.Grow.L1Lengths.{on_ok}
-use Rattle.qcow2_image.proofs.Map.Loading.{if_ok}
 use Rattle.qcow2_image.proofs.Map.Looked.{found_after, found_before}
 use Rattle.qcow2_image.proofs.Call.OnceWritten.{fails_none}
 use Rattle.qcow2_image.proofs.Map.FailingLookups.{held_since}
@@ -31,7 +29,7 @@ returns-clause-sound g c = λ out sound.
           λ is whole. (c.read_current-done.ensures.sound p out begun.sound).outdated some (sym c.mark_failure.ensures.answer ∙ is)
           (found_after view below old c.begin_call.new.self out p p (c.args.mapping.now.offset + c.args.at) (length c.args.bytes.now) (further_by c.args.at c.args.mapping.now.kind) begun whole);
       mapped = λ some. subst (λ (r : Result _ _). OnOk r (IsFoundWhole view old place kind n)) (sym c.mark_failure.ensures.answer)
-          (on_ok c.read_current-done.result (λ whole. found_before view below old c.begin_call.new.self out p p place n kind begun whole) ((c.read_current-done.ensures.sound p out begun.sound).mapped));
+          (on_ok_weaker c.read_current-done.result (λ whole. found_before view below old c.begin_call.new.self out p p place n kind begun whole) ((c.read_current-done.ensures.sound p out begun.sound).mapped));
     }
 
 pub returns-then-is_empty-clause-sound : goal.returns-then-is_empty-clause-sound
@@ -57,7 +55,7 @@ returns-clause-sees g c =
     (tells_quietly view below old new (λ out. quietly_then view below out old c.begin_call.new.self new c.begin_call.ensures.keeps c.begin_call.ensures.list (λ p out sound. (c.read_current-done.ensures.sound p out sound).keeps) c.read_current-done.ensures.step.list)
     (is_failed c.mark_failure.new.self) (λ done v w. IsSame v w × Shows (guest_of v).disk place shown) c.read_current-done.result (may_mark c.read_current-done.new.self c.mark_failure.new.self c.read_current-done.result c.mark_failure.ensures.marks) (c.read_current-done.ensures.step.part.stays.image.number ∙ c.begin_call.ensures.stays.image.number)
     (usable_works old c.check_usable.result c.in_ok-check_usable.was c.check_usable.ensures)
-    (λ out sound same. if_ok c.read_current-done.result (λ done shows. (same, subst (λ g. Shows g.disk place shown) same shows))
+    (λ out sound same. IfOk-weaker c.read_current-done.result _ _ (λ done shows. (same, subst (λ g. Shows g.disk place shown) same shows))
     ((c.read_current-done.ensures.sound (pending_in view below old out) out (c.begin_call.ensures.keeps (pending_in view below old out) out sound).sound).shows some)))))
 
 pub returns-clause-held : goal.returns-clause-held

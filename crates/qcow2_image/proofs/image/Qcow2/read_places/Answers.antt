@@ -1,4 +1,4 @@
-use Rattle.qcow2_image.proofs.Common.{◌≡◌, ◌∙◌, ◌*◌, ◌<◌, ◌≤◌, List, ℕ, Result, inr, refl, sym, ap, subst, IfErr, byte_at, HeaderView, header, entries_per_cluster, with_tables_of, IsReasonToRefuse, MetadataError, HeaderFields, of_metadata, contents_in, view_in, ImageError, handed_on, is_writable, IsReasonAgainstPlaces, ContentsStayThroughout}
+use Rattle.qcow2_image.proofs.Common.{◌≡◌, ◌∙◌, ◌*◌, ◌<◌, ◌≤◌, List, ℕ, Result, inr, refl, sym, ap, subst, IfErr, byte_at, HeaderView, header, entries_per_cluster, with_tables_of, IsReasonToRefuse, HeaderFields, of_metadata, contents_in, view_in, ImageError, handed_on, is_writable, IsReasonAgainstPlaces, ContentsStayThroughout}
 use Rattle.qcow2_image.proofs.Map.Loading.{read_moved}
 use Rattle.qcow2_image.proofs.Map.Quiet.{kept_throughout}
 use Rattle.qcow2_image.proofs.Invalidate.Reading.{notes_through, places_read, same_notes, silent_moved, silent_read, silent_then}
@@ -42,9 +42,8 @@ returns-then-is_too_long-clause-step g c =
 
 pub returns-then-is_too_long-clause-why : goal.returns-then-is_too_long-clause-why
 returns-then-is_too_long-clause-why g c = λ honest.
-    let h = c.args.self.now.file.header.fields in
     let there = (c.in_ok-header.ensures.ok (c.invalidate_cache.ensures.calls.honest honest)).fields ∙ ap (λ (l : List ℕ). header (byte_at l)) (c.invalidate_cache.ensures.same honest) in
-    inr (subst (λ (k : HeaderFields). 1048576 < k.reftable_clusters * entries_per_cluster h) there (c.is_too_long.ensures.0 c.if-is_too_long.true))
+    inr (subst (λ (k : HeaderFields). 1048576 < k.reftable_clusters * entries_per_cluster c.args.self.now.file.header.fields) there (c.is_too_long.ensures.0 c.if-is_too_long.true))
 
 pub returns-then-is_too_long-clause-keeps : goal.returns-then-is_too_long-clause-keeps
 returns-then-is_too_long-clause-keeps g c = λ p out sound.

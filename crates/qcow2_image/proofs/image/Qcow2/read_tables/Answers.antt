@@ -87,9 +87,8 @@ returns-clause-step g c =
     let mid = c.load_l1_table.new.file in
     let anew = c.load_anew.ensures in
     let last = c.load_anew.new.file in
-    let a = c.load_anew.new.self in
     let spared = c.spare_named.ensures in
-    let a' : Allocator = record a { named = c.spare_named.new.self.named } in
+    let a' : Allocator = record c.load_anew.new.self { named = c.spare_named.new.self.named } in
     let is : last ≡ record old.file { storage = last.storage } = anew.step.rest ∙ ap (λ (f : ImageFile _). record f { storage = last.storage }) l1.rest in
     let through : (view_in view old.file).is_honest → ContentsStayThroughout (view_in view old.file) (view_in view last) = λ honest. silent_then (view_in view old.file) (view_in view mid) (view_in view last) honest (kept_throughout (view_in view old.file) (view_in view mid) l1.time l1.same honest) (λ there. kept_throughout (view_in view mid) (view_in view last) anew.step.time anew.step.same there) in
     let table = c.in_ok-table.table in
@@ -134,7 +133,6 @@ pub returns-clause-read : goal.returns-clause-read
 returns-clause-read g c = λ honest.
     let view = g.S.Storage.view in
     let below = g.F.BackingDisk.backing in
-    let old = c.args.self.now in
     let l1 = c.load_l1_table.ensures in
     let anew = c.load_anew.ensures in
     let last = c.load_anew.new.file in

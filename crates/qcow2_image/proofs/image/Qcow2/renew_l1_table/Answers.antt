@@ -7,17 +7,8 @@ use Rattle.qcow2_image.proofs.Call.ImageSteps.{step_then}
 use Rattle.qcow2_image.proofs.image.Qcow2.renew_l1_table.Goals as goal
 use Rattle.qcow2_image.proofs.Grow.GrownByParts.{refused_part}
 
-pub returns-in-Ok-clause-recorded : goal.returns-in-Ok-clause-recorded
-returns-in-Ok-clause-recorded g c = c.in-Ok.ensures.recorded
-
 pub returns-in-Err-clause-step : goal.returns-in-Err-clause-step
 returns-in-Err-clause-step g c = step_then c.lengthen_l1_table.ensures.step c.process_free_list_after.ensures.step
-
-pub returns-in-Ok-clause-step : goal.returns-in-Ok-clause-step
-returns-in-Ok-clause-step g c = c.lengthen_l1_table.ensures.step
-
-pub returns-in-Ok-clause-sound : goal.returns-in-Ok-clause-sound
-returns-in-Ok-clause-sound g c = c.in-Ok.ensures.sound
 
 pub returns-in-Err-clause-sound : goal.returns-in-Err-clause-sound
 returns-in-Err-clause-sound g c = λ out sound.
@@ -44,9 +35,6 @@ returns-in-Err-clause-freed g c = λ out sound.
 pub returns-in-Err-clause-fails : goal.returns-in-Err-clause-fails
 returns-in-Err-clause-fails g c = fails_freed c.lengthen_l1_table.result c.in-Err.refusal c.process_free_list_after.result c.lengthen_l1_table.ensures.fails c.in-Err.is c.process_free_list_after.ensures.faults
     (met_freed c.in-Err.refusal c.process_free_list_after.result c.in-Err.ensures.fails.cause c.process_free_list_after.ensures.refused.cause c.process_free_list_after.ensures.refused.taken)
-
-pub returns-in-Ok-clause-lasts : goal.returns-in-Ok-clause-lasts
-returns-in-Ok-clause-lasts g c = λ out sound. c.in-Ok.ensures.lasts out sound
 
 pub returns-in-Err-clause-lasts : goal.returns-in-Err-clause-lasts
 returns-in-Err-clause-lasts g c = λ out sound.

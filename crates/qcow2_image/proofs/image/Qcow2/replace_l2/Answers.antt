@@ -1,5 +1,5 @@
 use Rattle.qcow2_image.proofs.Call.Unlimited.{looking_unlimited}
-use Rattle.qcow2_image.proofs.Common.{table_at, inl, refl, rules, ◌≡◌, sym, arith, GoesTo, OwnsTable, notes_then, notes_of_both, contents_in, HasPinnedMapping, MayFailAllocating}
+use Rattle.qcow2_image.proofs.Common.{table_at, inl, refl, rules, ◌≡◌, sym, GoesTo, OwnsTable, notes_then, notes_of_both, contents_in, HasPinnedMapping, MayFailAllocating}
 use Rattle.qcow2_image.proofs.image.Qcow2.replace_l2.Goals as goal
 use Rattle.qcow2_image.proofs.Prepare.UnlinkedL2Table.{as_listed_after}
 use Rattle.qcow2_image.proofs.Map.Loading.{caches_moved, with_caches}
@@ -58,9 +58,6 @@ returns-clause-sound g c = λ p out sound shared.
       may_fail = λ near. swapped.may_fail (record { within = near.within; room = near.room });
       limit = λ near. limits_as c.swap_l2.result (limited_in_since loaded (followed view below out p old sound c.args.index mid kept refl)) (swapped.limit (record { within = near.within; room = near.room }));
     }
-
-pub returns-clause-elsewhere : goal.returns-clause-elsewhere
-returns-clause-elsewhere g c = c.swap_l2.ensures.elsewhere
 
 pub returns-in_err-l2_get_or_insert-clause-step : goal.returns-in_err-l2_get_or_insert-clause-step
 returns-in_err-l2_get_or_insert-clause-step g c = record { stays = search rules; notes = (notes_of_both c.l2_get_or_insert.ensures.step.marks.pins c.l2_get_or_insert.ensures.step.marks.notes); header_cluster = λ some. behind_caches (c.l2_get_or_insert.ensures.step.header_cluster some) }

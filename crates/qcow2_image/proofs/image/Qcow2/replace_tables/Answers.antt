@@ -1,11 +1,10 @@
-use Rattle.qcow2_image.proofs.Common.{◌≡◌, ◌∙◌, ◌*◌, ◌≤◌, Result, refl, sym, ap, subst, IfErr, HeaderView, entries_per_cluster, with_fields, with_tables_of, contents_in, ImageError, handed_on, is_writable, ImageFails, KeepsTables, ReplacesTables, IsReasonAgainstTables, MayFail}
+use Rattle.qcow2_image.proofs.Common.{◌≡◌, ◌∙◌, ◌*◌, ◌≤◌, Result, sym, ap, subst, IfErr, HeaderView, entries_per_cluster, with_fields, with_tables_of, contents_in, ImageError, handed_on, is_writable, ImageFails, KeepsTables, ReplacesTables, IsReasonAgainstTables, MayFail}
 use Rattle.qcow2_image.proofs.Invalidate.TakenOver.{all_taken, counts_named, header_stays, none_taken, on_refused, places_taken, sound_named, step_over, tables_kept, tables_named, with_header}
 use Rattle.qcow2_image.proofs.image.Qcow2.replace_tables.Goals as goal
 
 pub copy_table_pointers-requires : goal.copy_table_pointers-requires
 copy_table_pointers-requires g c =
     let view = g.S.Storage.view in
-    let below = g.F.BackingDisk.backing in
     let old = c.args.self.now in
     let mid = c.read_tables-read.new.self in
     let w = c.replace-named.new.dest in
@@ -17,7 +16,6 @@ copy_table_pointers-requires g c =
 pub returns-in_err-read-clause-step : goal.returns-in_err-read-clause-step
 returns-in_err-read-clause-step g c =
     let view = g.S.Storage.view in
-    let below = g.F.BackingDisk.backing in
     let old = c.args.self.now in
     let mid = c.read_tables-read.new.self in
     let w = c.replace-named.new.dest in
@@ -34,21 +32,18 @@ returns-in_err-read-clause-fails g c =
     let w = c.replace-named.new.dest in
     let read = c.read_tables-read.ensures in
     let back : c.replace-places.new.dest ≡ old.file.header = c.replace-places.ensures.after ∙ c.replace-named.ensures.value in
-    let e = c.in_err-read.field-0.0 in
     let new = with_header mid c.replace-places.new.dest in
-    handed_on (λ (r : Result _ ImageError). ImageFails view below old new r MayFail) c.from_residual.result e c.from_residual.ensures
+    handed_on (λ (r : Result _ ImageError). ImageFails view below old new r MayFail) c.from_residual.result c.in_err-read.field-0.0 c.from_residual.ensures
     (record { faults = counts_named view below old mid w c.replace-places.new.dest _ c.in_err-read.ensures.fails.faults; cause = c.in_err-read.ensures.fails.cause })
 
 pub returns-in_err-read-clause-kept : goal.returns-in_err-read-clause-kept
 returns-in_err-read-clause-kept g c =
-    let view = g.S.Storage.view in
-    let below = g.F.BackingDisk.backing in
     let old = c.args.self.now in
     let mid = c.read_tables-read.new.self in
     let w = c.replace-named.new.dest in
     let read = c.read_tables-read.ensures in
     let back : c.replace-places.new.dest ≡ old.file.header = c.replace-places.ensures.after ∙ c.replace-named.ensures.value in
-    on_refused c.from_residual.result (subst (λ (v : HeaderView). KeepsTables old (with_header mid v)) (sym back) (tables_kept view old mid w read.step c.in_err-read.ensures.refused))
+    on_refused c.from_residual.result (subst (λ (v : HeaderView). KeepsTables old (with_header mid v)) (sym back) (tables_kept g.S.Storage.view old mid w read.step c.in_err-read.ensures.refused))
 
 pub returns-in_err-read-clause-why : goal.returns-in_err-read-clause-why
 returns-in_err-read-clause-why g c = λ honest.
@@ -73,65 +68,56 @@ returns-in_err-read-clause-keeps g c = λ same p out sound.
 pub returns-clause-step : goal.returns-clause-step
 returns-clause-step g c =
     let view = g.S.Storage.view in
-    let below = g.F.BackingDisk.backing in
     let old = c.args.self.now in
     let mid = c.read_tables-read.new.self in
     let w = c.replace-named.new.dest in
     let read = c.read_tables-read.ensures in
     let back : c.replace-places.new.dest ≡ old.file.header = c.replace-places.ensures.after ∙ c.replace-named.ensures.value in
     let v = c.copy_table_pointers.new.header in
-    let r = c.replace-places.result in
     let others : w.fields ≡ with_tables_of old.file.header.fields w.fields = subst (λ (x : HeaderView). x.fields ≡ with_tables_of old.file.header.fields x.fields) (sym c.replace-named.ensures.after) c.requires.others in
     let is : v ≡ with_fields old.file.header (with_tables_of old.file.header.fields w.fields) =
-    c.copy_table_pointers.ensures ∙ ap (λ (x : HeaderView). with_fields x (with_tables_of x.fields r.fields)) back
+    c.copy_table_pointers.ensures ∙ ap (λ (x : HeaderView). with_fields x (with_tables_of x.fields c.replace-places.result.fields)) back
     ∙ ap (λ (x : HeaderView). with_fields old.file.header (with_tables_of old.file.header.fields x.fields)) (c.replace-places.ensures.value ∙ header_stays view old mid w read.step) in
     all_taken view old mid w read.step v others is
 
 pub returns-clause-fails : goal.returns-clause-fails
 returns-clause-fails g c =
-    let view = g.S.Storage.view in
-    let below = g.F.BackingDisk.backing in
     let old = c.args.self.now in
-    let mid = c.read_tables-read.new.self in
     let w = c.replace-named.new.dest in
     let read = c.read_tables-read.ensures in
     let back : c.replace-places.new.dest ≡ old.file.header = c.replace-places.ensures.after ∙ c.replace-named.ensures.value in
-    record { faults = counts_named view below old mid w c.copy_table_pointers.new.header _ c.in_ok-read.ensures.fails.faults; cause = tt }
+    record { faults = counts_named g.S.Storage.view g.F.BackingDisk.backing old c.read_tables-read.new.self w c.copy_table_pointers.new.header _ c.in_ok-read.ensures.fails.faults; cause = tt }
 
 pub returns-clause-taken : goal.returns-clause-taken
 returns-clause-taken g c =
     let view = g.S.Storage.view in
-    let below = g.F.BackingDisk.backing in
     let old = c.args.self.now in
     let mid = c.read_tables-read.new.self in
     let w = c.replace-named.new.dest in
     let read = c.read_tables-read.ensures in
     let back : c.replace-places.new.dest ≡ old.file.header = c.replace-places.ensures.after ∙ c.replace-named.ensures.value in
     let v = c.copy_table_pointers.new.header in
-    let r = c.replace-places.result in
     let others : w.fields ≡ with_tables_of old.file.header.fields w.fields = subst (λ (x : HeaderView). x.fields ≡ with_tables_of old.file.header.fields x.fields) (sym c.replace-named.ensures.after) c.requires.others in
     let is : v ≡ with_fields old.file.header (with_tables_of old.file.header.fields w.fields) =
-    c.copy_table_pointers.ensures ∙ ap (λ (x : HeaderView). with_fields x (with_tables_of x.fields r.fields)) back
+    c.copy_table_pointers.ensures ∙ ap (λ (x : HeaderView). with_fields x (with_tables_of x.fields c.replace-places.result.fields)) back
     ∙ ap (λ (x : HeaderView). with_fields old.file.header (with_tables_of old.file.header.fields x.fields)) (c.replace-places.ensures.value ∙ header_stays view old mid w read.step) in
     places_taken view old mid w read.step v others is ∙ ap (λ (x : HeaderView). x.fields) c.replace-named.ensures.after
 
 pub returns-clause-read : goal.returns-clause-read
 returns-clause-read g c = λ honest.
     let view = g.S.Storage.view in
-    let below = g.F.BackingDisk.backing in
     let old = c.args.self.now in
     let mid = c.read_tables-read.new.self in
     let w = c.replace-named.new.dest in
     let read = c.read_tables-read.ensures in
     let back : c.replace-places.new.dest ≡ old.file.header = c.replace-places.ensures.after ∙ c.replace-named.ensures.value in
     let v = c.copy_table_pointers.new.header in
-    let r = c.replace-places.result in
     let others : w.fields ≡ with_tables_of old.file.header.fields w.fields = subst (λ (x : HeaderView). x.fields ≡ with_tables_of old.file.header.fields x.fields) (sym c.replace-named.ensures.after) c.requires.others in
     let is : v ≡ with_fields old.file.header (with_tables_of old.file.header.fields w.fields) =
-    c.copy_table_pointers.ensures ∙ ap (λ (x : HeaderView). with_fields x (with_tables_of x.fields r.fields)) back
+    c.copy_table_pointers.ensures ∙ ap (λ (x : HeaderView). with_fields x (with_tables_of x.fields c.replace-places.result.fields)) back
     ∙ ap (λ (x : HeaderView). with_fields old.file.header (with_tables_of old.file.header.fields x.fields)) (c.replace-places.ensures.value ∙ header_stays view old mid w read.step) in
     let same = places_taken view old mid w read.step v others is ∙ sym (ap (λ (x : HeaderView). x.fields) (header_stays view old mid w read.step)) in
-    tables_named view below mid.file v mid.l1_table mid.allocator same (c.in_ok-read.ensures.read honest)
+    tables_named view g.F.BackingDisk.backing mid.file v mid.l1_table mid.allocator same (c.in_ok-read.ensures.read honest)
 
 pub returns-clause-keeps : goal.returns-clause-keeps
 returns-clause-keeps g c = λ same p out sound.
@@ -143,10 +129,9 @@ returns-clause-keeps g c = λ same p out sound.
     let read = c.read_tables-read.ensures in
     let back : c.replace-places.new.dest ≡ old.file.header = c.replace-places.ensures.after ∙ c.replace-named.ensures.value in
     let v = c.copy_table_pointers.new.header in
-    let r = c.replace-places.result in
     let others : w.fields ≡ with_tables_of old.file.header.fields w.fields = subst (λ (x : HeaderView). x.fields ≡ with_tables_of old.file.header.fields x.fields) (sym c.replace-named.ensures.after) c.requires.others in
     let is : v ≡ with_fields old.file.header (with_tables_of old.file.header.fields w.fields) =
-    c.copy_table_pointers.ensures ∙ ap (λ (x : HeaderView). with_fields x (with_tables_of x.fields r.fields)) back
+    c.copy_table_pointers.ensures ∙ ap (λ (x : HeaderView). with_fields x (with_tables_of x.fields c.replace-places.result.fields)) back
     ∙ ap (λ (x : HeaderView). with_fields old.file.header (with_tables_of old.file.header.fields x.fields)) (c.replace-places.ensures.value ∙ header_stays view old mid w read.step) in
     let first = ap (λ (x : HeaderView). x.fields) c.replace-named.ensures.after ∙ same in
     step_over view below p out old mid w v first (header_stays view old mid w read.step) (places_taken view old mid w read.step v others is ∙ first) (read.keeps p out (sound_named view below p out old w first sound))

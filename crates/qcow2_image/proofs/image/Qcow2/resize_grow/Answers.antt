@@ -1,11 +1,10 @@
 use Rattle.qcow2_image.proofs.image.Qcow2.resize_grow.Goals as goal
 use Rattle.qcow2_image.proofs.Call.OnceWritten.{fails_none}
-use Rattle.qcow2_image.proofs.Common.{◌≡◌, ◌≤◌, ◌∙◌, inl, inr, sym, subst, refl, arith, rules, IsTrue, Result, passes_none, PreallocateMode, never, view_in, GrowsTo, refuses_to_resize, takes_over}
+use Rattle.qcow2_image.proofs.Common.{◌≤◌, ◌∙◌, inl, inr, sym, subst, refl, arith, rules, IsTrue, Result, PreallocateMode, never, GrowsTo, refuses_to_resize, takes_over, IfErr-weaker}
 use Rattle.qcow2_image.proofs.Resize.StepCalls.{some_none}
 use Rattle.qcow2_image.proofs.Clear.ClearCalls.{err_is, not_refused, refused_for}
 use Rattle.qcow2_image.proofs.Resize.GrowCalls.{grows_early, grows_nothing, grows_over, last_none}
 use Rattle.qcow2_image.proofs.Resize.ShrinkCalls.{resize_works}
-use Rattle.qcow2_image.proofs.Prepare.RefusedAsPrepared.{if_err}
 
 pub returns-in_err-check_resize-clause-sees : goal.returns-in_err-check_resize-clause-sees
 returns-in_err-check_resize-clause-sees g c =
@@ -78,7 +77,7 @@ returns-clause-sound g c = λ out sound.
     let grown = c.grow_disk.ensures.sound out sound in
     record {
       last = grown.last;
-      may_fail = λ works larger. if_err c.grow_disk.result (λ e why. inl why) grown.may_fail;
+      may_fail = λ works larger. IfErr-weaker c.grow_disk.result _ _ (λ e why. inl why) grown.may_fail;
       limit = λ none larger. grown.limit;
       tables = λ none larger. grown.tables;
       freed = λ none larger isnt. grown.freed;

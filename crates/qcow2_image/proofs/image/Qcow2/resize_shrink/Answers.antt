@@ -52,9 +52,6 @@ returns-in_err-check_resize-clause-prepared g c = λ none smaller.
     let refused = refused_for c.check_resize.result tt (refuses_to_resize c.args.self.now) e c.check_resize.ensures c.in_err-check_resize.was in
     absurd (let no : None ≡ Some e = sym none ∙ refused in cc)
 
-pub returns-then-size-clause-prepared : goal.returns-then-size-clause-prepared
-returns-then-size-clause-prepared g c = λ none smaller. absurd (let le = c.if-size.true in let is = c.size.ensures in omega arith)
-
 pub returns-then-is_some-clause-prepared : goal.returns-then-is_some-clause-prepared
 returns-then-is_some-clause-prepared g c = λ none smaller.
     let found = found_pinned (l2_pins c.args.self.now.file.caches) c.first_pinned_l2.result c.first_pinned_l2.ensures.some (sym c.is_some.ensures ∙ c.if-is_some.true) in

@@ -1,4 +1,4 @@
-use Rattle.qcow2_image.proofs.Common.{◌≡◌, ◌∙◌, true, false, refl, sym, arith}
+use Rattle.qcow2_image.proofs.Common.{◌≡◌, ◌∙◌, true, false, refl, sym}
 use Rattle.qcow2_alloc.specs.ImageFile.{l2_pins}
 use Rattle.qcow2_image.proofs.Images.Backings.{found_pinned, none_prepared, some_prepared}
 use Rattle.qcow2_image.proofs.image.Qcow2.set_backing.Goals as goal
@@ -16,7 +16,3 @@ pub returns-then-is_some-clause-pinned : goal.returns-then-is_some-clause-pinned
 returns-then-is_some-clause-pinned g c = λ works.
     let found = found_pinned (l2_pins c.args.self.now.file.caches) c.first_pinned_l2.result c.first_pinned_l2.ensures.some (sym c.is_some.ensures ∙ c.if-is_some.true) in
     ((λ _. record { cluster = found.0; pins = found.1 }), (λ _. refl))
-
-pub returns-clause-pinned : goal.returns-clause-pinned
-returns-clause-pinned g c = λ works.
-    ((λ err. absurd (let no : false ≡ true = err in cc)), (λ has. absurd (let none = c.first_pinned_l2.ensures.none (sym c.is_some.ensures ∙ c.if-is_some.false) has.cluster in let some = has.pins in omega arith)))

@@ -25,14 +25,8 @@ returns-in_err-dropped-clause-sound g c = λ p out sound shared says.
       does = refused (OwnsTable g.S.Storage.view g.F.BackingDisk.backing p c.args.self.now c.args.self.now out c.args.index) c.from_residual.result c.from_residual.ensures.0 (left_alone g.S.Storage.view g.F.BackingDisk.backing out p c.args.self.now sound c.args.index);
     }
 
-pub returns-in-Ok-clause-elsewhere : goal.returns-in-Ok-clause-elsewhere
-returns-in-Ok-clause-elsewhere g c = c.in-Ok.ensures.elsewhere
-
 pub returns-in_err-dropped-clause-step : goal.returns-in_err-dropped-clause-step
 returns-in_err-dropped-clause-step g c = step_none
 
 pub returns-in-Ok-clause-step : goal.returns-in-Ok-clause-step
 returns-in-Ok-clause-step g c = record { stays = search rules; notes = c.allocate_l2.ensures.step.notes; header_cluster = c.allocate_l2.ensures.step.header_cluster }
-
-pub returns-in-Err-clause-step : goal.returns-in-Err-clause-step
-returns-in-Err-clause-step g c = c.allocate_l2.ensures.step

@@ -1,4 +1,4 @@
-use Rattle.qcow2_image.proofs.Common.{◌≡◌, [], sym, ◌∙◌, subst, rules, Result, IfErr, IsSame, IsFault, view_in, AnswersCall, Qcow2, is_failed, ContentsStayThroughout}
+use Rattle.qcow2_image.proofs.Common.{◌≡◌, [], sym, ◌∙◌, subst, rules, Result, IsSame, view_in, AnswersCall, Qcow2, is_failed, ContentsStayThroughout}
 use Rattle.qcow2_image.proofs.Call.BehindHeader.{behind_call}
 use Rattle.qcow2_image.proofs.Call.Called.{told_answers, tells_quietly, quietly_then}
 use Rattle.qcow2_image.proofs.Call.FaultCounts.{counted_marked}
@@ -31,8 +31,7 @@ returns-then-self-clause-step g c = record { image = search rules; header = sear
 pub returns-clause-silent : goal.returns-clause-silent
 returns-clause-silent g c = λ honest.
     let view = g.S.Storage.view in
-    let old = c.args.self.now in
-    subst (λ (image : Qcow2 _ _). ContentsStayThroughout (view_in view old.file) (view_in view image.file)) (sym c.mark_failure.ensures.rest)
+    subst (λ (image : Qcow2 _ _). ContentsStayThroughout (view_in view c.args.self.now.file) (view_in view image.file)) (sym c.mark_failure.ensures.rest)
     (subst (λ s. (view s).is_honest → ContentsStayThroughout (view s) (view_in view c.sync_storage-done.new.self.file)) c.begin_call.ensures.storage c.sync_storage-done.ensures.silent honest)
 
 pub returns-clause-sees : goal.returns-clause-sees
@@ -47,6 +46,3 @@ returns-clause-sees g c =
     (tells_quietly view below old new (λ out. quietly_then view below out old c.begin_call.new.self new c.begin_call.ensures.keeps c.begin_call.ensures.list c.sync_storage-done.ensures.keeps c.sync_storage-done.ensures.step.list)
     (is_failed c.mark_failure.new.self) (λ done v w. IsSame v w) c.sync_storage-done.result (may_mark new c.mark_failure.new.self c.sync_storage-done.result c.mark_failure.ensures.marks) (c.sync_storage-done.ensures.step.part.stays.image.number ∙ c.begin_call.ensures.stays.image.number)
     c.if-self.false (λ out sound same. if_ok_any c.sync_storage-done.result (λ done. same)))))
-
-pub returns-clause-late : goal.returns-clause-late
-returns-clause-late g c = λ _. subst (λ (r : Result _ _). IfErr r IsFault) (sym c.mark_failure.ensures.answer) c.sync_storage-done.ensures.fails.cause

@@ -1,9 +1,8 @@
 use Rattle.qcow2_image.proofs.Call.MarkedCalls.{reading_marked}
-use Rattle.qcow2_image.proofs.Common.{◌≡◌, ◌⊎◌, [], sym, ◌∙◌, subst, rules, Result, IfErr, None, Some, IsSame, AnswersCall, Qcow2, known_in, is_failed, pending_in, IsCacheHeld, MayFailLooking, unusable}
+use Rattle.qcow2_image.proofs.Common.{◌≡◌, ◌⊎◌, [], sym, ◌∙◌, subst, rules, Result, IfErr, None, Some, IsSame, AnswersCall, Qcow2, known_in, is_failed, pending_in, IsCacheHeld, MayFailLooking, unusable, IfOk-weaker}
 use Rattle.qcow2_image.specs.SpecialReads.{ReportsWhether}
 use Rattle.qcow2_image.proofs.Call.Answers.{usable_works}
 use Rattle.qcow2_image.proofs.Call.Called.{told_answers, tells_quietly, quietly_then}
-use Rattle.qcow2_image.proofs.Map.Loading.{if_ok}
 use Rattle.qcow2_image.proofs.Call.Marked.{may_mark}
 use Rattle.qcow2_image.proofs.Call.OnceWritten.{fails_none}
 use Rattle.qcow2_alloc.specs.declared.error.ImageError.TheVariants.{Compressed}
@@ -15,9 +14,8 @@ use Rattle.qcow2_image.proofs.image.Qcow2.try_readv_special.Goals as goal
 pub returns-clause-sound : goal.returns-clause-sound
 returns-clause-sound g c = λ out sound.
     let old = c.args.self.now in
-    let below = g.F.BackingDisk.backing in
     let view = g.S.Storage.view in
-    let p = pending_in view below old out in
+    let p = pending_in view g.F.BackingDisk.backing old out in
     record {
       may_fail = subst (λ (r : Result _ _). IfErr r (λ e. MayFailLooking (IsCacheHeld old out) e ⊎ (e ≡ Compressed))) (sym c.mark_failure.ensures.answer) (held_since old c.begin_call.new.self out c.begin_call.ensures.begun (λ held. IfErr c.check_not_compressed-plain.result (λ e. MayFailLooking held e ⊎ (e ≡ Compressed))) ((c.check_not_compressed-plain.ensures.sound p out (c.begin_call.ensures.keeps p out sound).sound).may_fail));
       reports = λ some. subst (λ r. ReportsWhether (known_in view old.file) c.args.offset r) (sym c.mark_failure.ensures.answer)
@@ -45,7 +43,7 @@ returns-clause-sees g c =
     (tells_quietly view below old new (λ out. quietly_then view below out old c.begin_call.new.self new c.begin_call.ensures.keeps c.begin_call.ensures.list (λ p out sound. (c.check_not_compressed-plain.ensures.sound p out sound).keeps) c.check_not_compressed-plain.ensures.step.list)
     (is_failed c.mark_failure.new.self) (λ at v w. IsSame v w) c.check_not_compressed-plain.result (may_mark c.check_not_compressed-plain.new.self c.mark_failure.new.self c.check_not_compressed-plain.result c.mark_failure.ensures.marks) (c.check_not_compressed-plain.ensures.step.part.stays.image.number ∙ c.begin_call.ensures.stays.image.number)
     (usable_works old c.check_usable.result c.in_ok-check_usable.was c.check_usable.ensures)
-    (λ out sound same. if_ok c.check_not_compressed-plain.result (λ at is. same) c.check_not_compressed-plain.ensures.answer))))
+    (λ out sound same. IfOk-weaker c.check_not_compressed-plain.result _ _ (λ at is. same) c.check_not_compressed-plain.ensures.answer))))
 
 pub returns-clause-step : goal.returns-clause-step
 returns-clause-step g c = reading_marked c.begin_call.ensures.begun c.begin_call.ensures.stays c.begin_call.ensures.faults c.check_not_compressed-plain.result c.mark_failure.result c.mark_failure.ensures.marks c.mark_failure.ensures.rest c.mark_failure.ensures.answer c.check_not_compressed-plain.ensures.step c.check_not_compressed-plain.ensures.fails.faults

@@ -23,12 +23,6 @@ returns-clause-quiet g c = λ own.
 pub returns-then-entry-clause-elsewhere : goal.returns-then-entry-clause-elsewhere
 returns-then-entry-clause-elsewhere g c = behind_first c.cluster_bits-bits.result c.in-Some-checked_cluster.cluster c.in-Some.entry.offset c.in-Some-checked_cluster.ensures.cluster c.in-Some.ensures.some
 
-pub returns-in_default-clause-elsewhere : goal.returns-in_default-clause-elsewhere
-returns-in_default-clause-elsewhere g c = c.allocate_l2.ensures.elsewhere
-
-pub returns-clause-elsewhere : goal.returns-clause-elsewhere
-returns-clause-elsewhere g c = c.replace_l2.ensures.elsewhere
-
 pub returns-then-entry-clause-own : goal.returns-then-entry-clause-own
 returns-then-entry-clause-own g c = λ own.
     let old = c.args.self.now in
@@ -59,9 +53,6 @@ returns-in_err-table-clause-step g c = step_none
 
 pub returns-then-entry-clause-step : goal.returns-then-entry-clause-step
 returns-then-entry-clause-step g c = step_none
-
-pub returns-in_default-clause-step : goal.returns-in_default-clause-step
-returns-in_default-clause-step g c = c.allocate_l2.ensures.step
 
 pub returns-clause-step : goal.returns-clause-step
 returns-clause-step g c = record {

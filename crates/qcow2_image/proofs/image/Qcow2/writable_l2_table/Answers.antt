@@ -1,6 +1,6 @@
 use Rattle.qcow2_alloc.specs.declared.error.ImageError.TheVariants as I
 use Rattle.qcow2_image.proofs.Call.ImageSteps.{step_none, step_then}
-use Rattle.qcow2_image.proofs.Common.{ListsNoMore, ◌≡◌, true, false, Err, ◌∙◌, refl, ap, sym, subst, inl, inr, rules, arith, HeaderView, Pending, handed_on, FindsTable, ImageInvariant, pending_in, IfErr, IsTrue, OnOk, always_ok, l1_index_of, NamesOwn, pending_with_listed, IsFaultOrLacksTable, not_both, HeaderFields, NeedsOverflowingL1Entry, HasNearEntry, HasPinnedMapping, MayFailAllocating}
+use Rattle.qcow2_image.proofs.Common.{ListsNoMore, true, false, Err, ◌∙◌, refl, ap, sym, subst, inl, inr, rules, arith, HeaderView, Pending, handed_on, FindsTable, ImageInvariant, pending_in, IfErr, IsTrue, OnOk, always_ok, l1_index_of, NamesOwn, pending_with_listed, IsFaultOrLacksTable, not_both, HeaderFields, NeedsOverflowingL1Entry, HasNearEntry, HasPinnedMapping, MayFailAllocating}
 use Rattle.qcow2_image.proofs.image.Qcow2.writable_l2_table.Goals as goal
 use Rattle.qcow2_image.proofs.Call.Refused.{finds, finds_after, left_refused, stays_kept, stays_then}
 use Rattle.qcow2_image.proofs.Flush.Freeing.{all_listed, beside, freed_refused, tidy_stays}
@@ -12,38 +12,8 @@ use Rattle.qcow2_image.proofs.Call.Unlimited.{fault_unlimited}
 use Rattle.qcow2_image.proofs.Prepare.FailingCopies.{hands_met, met_as}
 use Rattle.qcow2_image.proofs.Prepare.FailingAllocations.{taking_as}
 
-pub returns-then-has_own_l2-clause-elsewhere : goal.returns-then-has_own_l2-clause-elsewhere
-returns-then-has_own_l2-clause-elsewhere g c = c.ensure_cached_l2.ensures.elsewhere
-
-pub returns-clause-elsewhere : goal.returns-clause-elsewhere
-returns-clause-elsewhere g c = c.ensure_cached_l2-2.ensures.elsewhere
-
-pub returns-then-has_own_l2-clause-own : goal.returns-then-has_own_l2-clause-own
-returns-then-has_own_l2-clause-own g c = c.ensure_cached_l2.ensures.own
-
-pub returns-then-l1_entry_overflows-clause-own : goal.returns-then-l1_entry_overflows-clause-own
-returns-then-l1_entry_overflows-clause-own g c = λ own. absurd (let no : false ≡ true = sym c.if-has_own_l2.false ∙ c.has_own_l2.ensures.1 own in cc)
-
-pub returns-in_err-ensure_l1_entry-clause-own : goal.returns-in_err-ensure_l1_entry-clause-own
-returns-in_err-ensure_l1_entry-clause-own g c = λ own. absurd (let no : false ≡ true = sym c.if-has_own_l2.false ∙ c.has_own_l2.ensures.1 own in cc)
-
-pub returns-in_err-writable_l2_cluster-clause-own : goal.returns-in_err-writable_l2_cluster-clause-own
-returns-in_err-writable_l2_cluster-clause-own g c = λ own. absurd (let no : false ≡ true = sym c.if-has_own_l2.false ∙ c.has_own_l2.ensures.1 own in cc)
-
-pub returns-in_err-process_free_list-clause-own : goal.returns-in_err-process_free_list-clause-own
-returns-in_err-process_free_list-clause-own g c = λ own. absurd (let no : false ≡ true = sym c.if-has_own_l2.false ∙ c.has_own_l2.ensures.1 own in cc)
-
-pub returns-clause-own : goal.returns-clause-own
-returns-clause-own g c = λ own. absurd (let no : false ≡ true = sym c.if-has_own_l2.false ∙ c.has_own_l2.ensures.1 own in cc)
-
-pub returns-then-has_own_l2-clause-step : goal.returns-then-has_own_l2-clause-step
-returns-then-has_own_l2-clause-step g c = c.ensure_cached_l2.ensures.step
-
 pub returns-then-l1_entry_overflows-clause-step : goal.returns-then-l1_entry_overflows-clause-step
 returns-then-l1_entry_overflows-clause-step g c = step_none
-
-pub returns-in_err-ensure_l1_entry-clause-step : goal.returns-in_err-ensure_l1_entry-clause-step
-returns-in_err-ensure_l1_entry-clause-step g c = c.ensure_l1_entry.ensures.step
 
 pub returns-in_err-writable_l2_cluster-clause-step : goal.returns-in_err-writable_l2_cluster-clause-step
 returns-in_err-writable_l2_cluster-clause-step g c = step_then c.ensure_l1_entry.ensures.step c.writable_l2_cluster.ensures.step
@@ -118,10 +88,9 @@ returns-then-l1_entry_overflows-clause-sound g c = λ out sound.
 
 pub returns-in_err-ensure_l1_entry-clause-sound : goal.returns-in_err-ensure_l1_entry-clause-sound
 returns-in_err-ensure_l1_entry-clause-sound g c = λ out sound.
-    let view = g.S.Storage.view in
     record {
       freeing = search rules;
-      finds = handed_on (FindsTable view g.F.BackingDisk.backing c.args.self.now c.ensure_l1_entry.new.self out c.args.offset) c.from_residual.result c.in_err-ensure_l1_entry.field-0.0 c.from_residual.ensures
+      finds = handed_on (FindsTable g.S.Storage.view g.F.BackingDisk.backing c.args.self.now c.ensure_l1_entry.new.self out c.args.offset) c.from_residual.result c.in_err-ensure_l1_entry.field-0.0 c.from_residual.ensures
           ((c.in_err-ensure_l1_entry.ensures.sound out sound).makes);
       may_fail = hands_met (MayFailAllocating (HasPinnedMapping out) ⊥ ⊥ (NeedsOverflowingL1Entry c.args.self.now c.args.offset)) c.from_residual.result c.in_err-ensure_l1_entry.field-0.0 c.from_residual.ensures (inl (inl ((c.in_err-ensure_l1_entry.ensures.sound out sound).fault)));
       limit = hands_limit c.from_residual.result c.in_err-ensure_l1_entry.field-0.0 c.from_residual.ensures ((c.in_err-ensure_l1_entry.ensures.sound out sound).limit);

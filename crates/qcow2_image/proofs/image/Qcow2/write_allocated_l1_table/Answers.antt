@@ -15,9 +15,6 @@ returns-clause-names g c = λ p out sound recorded longer.
           (λ s. c.write_l1_table-done.ensures.names p out s recorded longer) sound),
     )
 
-pub returns-clause-allocator : goal.returns-clause-allocator
-returns-clause-allocator g c = c.write_l1_table-done.ensures.allocator
-
 pub returns-clause-fault : goal.returns-clause-fault
 returns-clause-fault g c = λ p out sound longer.
     subst (λ (r : Result _ _). IfErr r IsFault) (sym c.keep_or_list.ensures.answer)

@@ -1,9 +1,8 @@
-use Rattle.qcow2_image.proofs.Common.{refl, ap, rules, Pending, with_listed, contents_in, handed_on, FreesListed, Qcow2, notes_then, notes_of_both, notes_of_storage, read_kept, IfErr, Result, IsFault, of_storage, written_then, ReadsQuietly}
+use Rattle.qcow2_image.proofs.Common.{refl, ap, rules, Pending, with_listed, contents_in, handed_on, FreesListed, Qcow2, notes_then, notes_of_both, notes_of_storage, read_kept, IfErr, Result, IsFault, of_storage, written_then, ReadsQuietly, fault_of_storage}
 use Rattle.qcow2_image.proofs.Call.Called.{keeps_then}
 use Rattle.qcow2_image.proofs.Map.Loading.{with_caches, caches_moved, read_moved, all_known}
 use Rattle.qcow2_image.proofs.Flush.Freeing.{frees_any, freeing_step_on}
 use Rattle.qcow2_image.proofs.Call.BehindHeader.{behind_caches, behind_then, behind_read}
-use Rattle.qcow2_image.proofs.Call.Unlimited.{storage_fault}
 use Rattle.qcow2_image.proofs.Map.Quiet.{reads_bytes, reads_same}
 use Rattle.qcow2_image.proofs.image.Qcow2.write_back.Goals as goal
 
@@ -63,7 +62,7 @@ returns-in_err-flush_all-clause-fault g c = λ p out sound.
     (c.in_err-flush_all.ensures.faults freed.file.header.fields (with_listed p freed.file.free_list) first.sound.file.honest first.sound.file.caches first.sound.file.named_blocks)
 
 pub returns-in_err-flush-clause-fault : goal.returns-in_err-flush-clause-fault
-returns-in_err-flush-clause-fault g c = λ p out sound. handed_on (λ (r : Result _ _). IfErr r IsFault) c.from_residual-in_err-flush.result (of_storage c.in_err-flush.field-0.0) c.from_residual-in_err-flush.ensures (storage_fault c.in_err-flush.field-0.0)
+returns-in_err-flush-clause-fault g c = λ p out sound. handed_on (λ (r : Result _ _). IfErr r IsFault) c.from_residual-in_err-flush.result (of_storage c.in_err-flush.field-0.0) c.from_residual-in_err-flush.ensures (fault_of_storage c.in_err-flush.field-0.0)
 
 pub returns-in_err-process_free_list-clause-fault : goal.returns-in_err-process_free_list-clause-fault
 returns-in_err-process_free_list-clause-fault g c = λ p out sound. handed_on (λ r. IfErr r IsFault) c.from_residual.result c.in_err-process_free_list.field-0.0 c.from_residual.ensures (c.in_err-process_free_list.ensures.faults p out sound)
@@ -90,9 +89,6 @@ returns-clause-quiet g c = λ reading.
     let first : ReadsQuietly g.S.Storage.view c.args.self.now freed = reads_same g.S.Storage.view c.args.self.now freed (ap (λ (o : Qcow2 _ _). o.file) (c.process_free_list.ensures.untouched reading)) in
     let mid : Qcow2 _ _ = record freed { file = record freed.file { storage = c.flush_all.new.storage; caches = c.flush_all.new.self } } in
     written_then g.S.Storage.view (written_then g.S.Storage.view first c.flush_all.ensures.step.all_written) (reads_bytes g.S.Storage.view mid c.flush.new.self c.flush.result c.flush.ensures.calls c.flush.ensures.same)
-
-pub returns-in_err-process_free_list-clause-step : goal.returns-in_err-process_free_list-clause-step
-returns-in_err-process_free_list-clause-step g c = c.process_free_list.ensures.step
 
 pub returns-in_err-flush_all-clause-step : goal.returns-in_err-flush_all-clause-step
 returns-in_err-flush_all-clause-step g c = record {

@@ -133,8 +133,5 @@ returns-clause-step g c = keeping_then c.check_in_place.ensures.step (keeping_of
 pub returns-in_default-clause-step : goal.returns-in_default-clause-step
 returns-in_default-clause-step g c = keeping_of_filling filling_none
 
-pub returns-in_err-check_in_place-clause-step : goal.returns-in_err-check_in_place-clause-step
-returns-in_err-check_in_place-clause-step g c = c.check_in_place.ensures.step
-
 pub returns-in_default-clause-in_place : goal.returns-in_default-clause-in_place
 returns-in_default-clause-in_place g c = λ none p out sound. record { outdated = λ some is. absurd (cc); mapped = tt }

@@ -1,5 +1,5 @@
 use Rattle.qcow2_image.proofs.image.Qcow2.write_l1_table.Goals as goal
-use Rattle.qcow2_image.proofs.Common.{◌∙◌, ◌≡◌, inl, ap, subst, sym, rules, OnOk, EntryTableView, handed_on, NamesTable, notes_then, Qcow2, IsHostCluster}
+use Rattle.qcow2_image.proofs.Common.{inl, ap, subst, sym, rules, handed_on, NamesTable, notes_then, Qcow2, IsHostCluster}
 use Rattle.qcow2_image.proofs.Grow.ReplacedL1Table.{named_then}
 use Rattle.qcow2_image.proofs.Call.BehindHeader.{behind_then, l1_placed}
 use Rattle.qcow2_image.proofs.Call.FaultCounts.{counted_since, same_of}
@@ -15,21 +15,9 @@ returns-clause-names g c = λ p out sound recorded longer.
     named_then g.S.Storage.view g.F.BackingDisk.backing out p c.args.self.now c.place_l1_table.new.self c.name_l1_table.new.self c.args.table c.place_l1_table.new.table c.args.cluster c.name_l1_table.result sound c.in_ok-place_l1_table.ensures.table
     (c.in_ok-place_l1_table.ensures.places p out sound longer) (λ placed. c.name_l1_table.ensures.names p out placed (c.place_l1_table.ensures.recorded recorded))
 
-pub returns-in_err-place_l1_table-clause-allocator : goal.returns-in_err-place_l1_table-clause-allocator
-returns-in_err-place_l1_table-clause-allocator g c = ap (λ (i : Qcow2 _ _). i.allocator) c.place_l1_table.ensures.rest
-
-pub returns-clause-allocator : goal.returns-clause-allocator
-returns-clause-allocator g c = c.name_l1_table.ensures.allocator ∙ ap (λ (i : Qcow2 _ _). i.allocator) c.place_l1_table.ensures.rest
-
 pub returns-in_err-place_l1_table-clause-fault : goal.returns-in_err-place_l1_table-clause-fault
 returns-in_err-place_l1_table-clause-fault g c = λ p out sound longer.
     hands_fault c.from_residual.result c.in_err-place_l1_table.field-0.0 c.from_residual.ensures (c.in_err-place_l1_table.ensures.fault p out sound (subst (λ n. IsHostCluster n c.args.cluster) (sym longer.bits) c.requires))
-
-pub returns-clause-fault : goal.returns-clause-fault
-returns-clause-fault g c = λ p out sound longer. c.name_l1_table.ensures.fault
-
-pub returns-clause-placed : goal.returns-clause-placed
-returns-clause-placed g c = subst (λ (t : EntryTableView). OnOk c.name_l1_table.result (c.name_l1_table.new.self.l1_table ≡ t)) c.in_ok-place_l1_table.ensures.table c.name_l1_table.ensures.table
 
 pub returns-clause-fails : goal.returns-clause-fails
 returns-clause-fails g c = record {

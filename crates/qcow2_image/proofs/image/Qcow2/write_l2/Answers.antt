@@ -44,15 +44,6 @@ returns-clause-writes g c = λ p out sound may recorded says.
     (c.link_l2.ensures.names p out c.args.table kept.sound (may_still view below out q q old mid sound kept.sound same c.args.index may) (c.in_ok-write_l2_bytes.ensures.recorded (c.in_ok-store_first.ensures.recorded recorded))
     (says_still view below out q q old mid c.args.index c.args.table kept says) c.in_ok-write_l2_bytes.ensures.long placed.1)
 
-pub returns-in_err-store_first-clause-allocator : goal.returns-in_err-store_first-clause-allocator
-returns-in_err-store_first-clause-allocator g c = ap (λ (i : Qcow2 _ _). i.allocator) c.store_first.ensures.rest
-
-pub returns-in_err-write_l2_bytes-clause-allocator : goal.returns-in_err-write_l2_bytes-clause-allocator
-returns-in_err-write_l2_bytes-clause-allocator g c = ap (λ (i : Qcow2 _ _). i.allocator) c.write_l2_bytes.ensures.rest ∙ ap (λ (i : Qcow2 _ _). i.allocator) c.store_first.ensures.rest
-
-pub returns-clause-allocator : goal.returns-clause-allocator
-returns-clause-allocator g c = c.link_l2.ensures.allocator ∙ ap (λ (i : Qcow2 _ _). i.allocator) c.write_l2_bytes.ensures.rest ∙ ap (λ (i : Qcow2 _ _). i.allocator) c.store_first.ensures.rest
-
 pub returns-in_err-store_first-clause-may_fail : goal.returns-in_err-store_first-clause-may_fail
 returns-in_err-store_first-clause-may_fail g c = λ p out sound says near host.
     hands_met (MayFailLooking (HasPinnedMapping out)) c.from_residual.result c.in_err-store_first.field-0.0 c.from_residual.ensures (inl (c.in_err-store_first.ensures.fault (with_new_tables p (one_at c.args.cluster)) out sound))

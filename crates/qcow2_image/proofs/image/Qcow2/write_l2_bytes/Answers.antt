@@ -1,10 +1,8 @@
 use Rattle.qcow2_image.proofs.image.Qcow2.write_l2_bytes.Goals as goal
-use Rattle.qcow2_image.proofs.Common.{inl, arith, ◌≡◌, ◌^◌, false, length, refl, ap, ◌∙◌, subst, sym, IsSome, ◌<◌, ◌*◌, rules, Some, IfSome, OnOk, L2TableView, of_storage, storage_of, l2_at, InsertKeeps, IsTableOf, handed_on, PlacesNewTable, notes_none, notes_then, notes_of_both, notes_of_storage, placed_kept, CachesSpareHeader, not_both, IsHostCluster, HasPinnedMapping, MayFailLooking}
+use Rattle.qcow2_image.proofs.Common.{inl, arith, ◌≡◌, ◌^◌, false, length, refl, ap, ◌∙◌, subst, sym, IsSome, ◌<◌, ◌*◌, rules, Some, IfSome, OnOk, L2TableView, of_storage, storage_of, l2_at, InsertKeeps, IsTableOf, handed_on, PlacesNewTable, notes_none, notes_then, notes_of_both, notes_of_storage, placed_kept, CachesSpareHeader, not_both, IsHostCluster, HasPinnedMapping, MayFailLooking, IfOk-weaker, fault_of_storage}
 use Rattle.qcow2_image.proofs.Call.Called.{keeps_then}
-use Rattle.qcow2_image.proofs.Map.Loading.{if_ok}
 use Rattle.qcow2_image.proofs.Prepare.NewL2Table.{holds, keeps_placed, keeps_put, keeps_stored, places_when, stands_ready, stands_there}
 use Rattle.qcow2_image.proofs.Call.BehindHeader.{behind_caches, behind_none, behind_placed, behind_then, table_behind}
-use Rattle.qcow2_image.proofs.Call.Unlimited.{storage_fault}
 use Rattle.qcow2_image.proofs.Prepare.FailingTables.{faults_looking, put_refused}
 use Rattle.qcow2_image.proofs.Prepare.FailingCopies.{hands_met}
 
@@ -43,7 +41,7 @@ returns-clause-places g c = λ p out sound some format stored.
     let put = keeps_put view below mid out p wrote.sound still at some c.args.table.bytes long there c.l2_insert.new.storage c.l2_insert.new.self stays c.l2_insert.ensures.step.marks.pins.room c.l2_insert.ensures.step.marks.pins.pins c.l2_insert.ensures.written.blocks
     (λ may. c.l2_insert.ensures.written.first may unmodified) in
     places_when view below old new out p at c.args.table.bytes c.l2_insert.result (keeps_then view below out old mid new p p p (λ k h. h) wrote put)
-    (if_ok c.l2_insert.result
+    (IfOk-weaker c.l2_insert.result _ _
     (λ x found. stands_ready view below mid out p wrote.sound still at some c.args.table.bytes long there c.l2_insert.new.storage c.l2_insert.new.self stays c.l2_insert.ensures.step.marks.pins.room c.l2_insert.ensures.step.marks.pins.pins c.l2_insert.ensures.written.blocks
     (λ may. c.l2_insert.ensures.written.first may unmodified) (record c.args.table { cluster = Some at; is_modified = false }) found refl) new_data)
 
@@ -57,7 +55,7 @@ pub returns-then-not-is_nameable-clause-may_fail : goal.returns-then-not-is_name
 returns-then-not-is_nameable-clause-may_fail g c = λ p out sound some format stored near. not_both c.is_nameable.result (c.is_nameable.ensures.1 (subst (λ n. IsHostCluster n c.args.cluster) (sym c.cluster_bits.ensures.value) near)) c.if-not-is_nameable.true
 
 pub returns-in_err-write_new_l2_table-clause-may_fail : goal.returns-in_err-write_new_l2_table-clause-may_fail
-returns-in_err-write_new_l2_table-clause-may_fail g c = λ p out sound some format stored near. hands_met (MayFailLooking (HasPinnedMapping out)) c.from_residual.result (of_storage c.in_err-write_new_l2_table.field-0.0) c.from_residual.ensures (inl (storage_fault c.in_err-write_new_l2_table.field-0.0))
+returns-in_err-write_new_l2_table-clause-may_fail g c = λ p out sound some format stored near. hands_met (MayFailLooking (HasPinnedMapping out)) c.from_residual.result (of_storage c.in_err-write_new_l2_table.field-0.0) c.from_residual.ensures (inl (fault_of_storage c.in_err-write_new_l2_table.field-0.0))
 
 pub returns-then-not-is_nameable-clause-step : goal.returns-then-not-is_nameable-clause-step
 returns-then-not-is_nameable-clause-step g c = record { stays = search rules; notes = notes_none; header_cluster = λ some. behind_none }

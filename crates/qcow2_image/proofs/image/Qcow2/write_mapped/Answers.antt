@@ -1,10 +1,9 @@
 use Rattle.qcow2_image.proofs.Call.MarkedCalls.{putting_marked}
 use Rattle.qcow2_image.proofs.image.Qcow2.write_mapped.Goals as goal
-use Rattle.qcow2_image.proofs.Common.{◌≡◌, ◌+◌, ◌<◌, [], true, length, sym, ◌∙◌, subst, rules, arith, refl, OnOk, Result, IfErr, nil_from_length, Qcow2, Puts, ForeignState, ReadOnly, Raw, Image, IsFoundWhole, is_failed, pending_in, FitsTables, IsCacheHeld, MayFailPutting, handed_on, PutsOnce}
+use Rattle.qcow2_image.proofs.Common.{◌≡◌, ◌+◌, ◌<◌, [], true, length, sym, ◌∙◌, subst, rules, arith, refl, OnOk, Result, IfErr, nil_from_length, Qcow2, Puts, ForeignState, ReadOnly, Raw, Image, IsFoundWhole, is_failed, pending_in, FitsTables, IsCacheHeld, MayFailPutting, handed_on, PutsOnce, on_ok_weaker}
 use Rattle.qcow2_image.proofs.Call.Marked.{may_mark}
 use Rattle.qcow2_image.proofs.Call.Answers.{usable_works}
 use Rattle.qcow2_image.proofs.Call.Called.{Quietly, quiet_sound}
-use Rattle.qcow2_image.proofs.Grow.L1Lengths.{on_ok}
 use Rattle.qcow2_image.proofs.Map.Looked.{found_after, found_before}
 use Rattle.qcow2_image.proofs.Write.PutParts.{puts_early, puts_none, puts_then, puts_with_outcome}
 use Rattle.qcow2_image.proofs.Call.OnceWritten.{fails_none}
@@ -31,7 +30,7 @@ returns-clause-sound g c = λ out sound.
           let kind = Raw Image (c.args.prepared.now.offset + c.args.at) true in
           let n = length c.args.bytes.now in
           λ none some. subst (λ (r : Result _ _). OnOk r (IsFoundWhole view old place kind n)) (sym c.mark_failure.ensures.answer)
-          (on_ok c.write_current-done.result (λ whole. found_before view below old c.begin_call.new.self out p p place n kind begun whole) ((c.write_current-done.ensures.in_place none p out begun.sound).mapped));
+          (on_ok_weaker c.write_current-done.result (λ whole. found_before view below old c.begin_call.new.self out p p place n kind begun whole) ((c.write_current-done.ensures.in_place none p out begun.sound).mapped));
     }
 
 pub returns-then-is_empty-clause-sound : goal.returns-then-is_empty-clause-sound

@@ -1,12 +1,12 @@
-use Rattle.qcow2_image.proofs.Common.{told_kept, notes_of_storage, ap, replicate, rules, of_storage}
+use Rattle.qcow2_image.proofs.Common.{told_kept, notes_of_storage, ap, replicate, rules, of_storage, fault_of_storage}
 use Rattle.qcow2_image.proofs.Call.BehindHeader.{behind_guard, behind_wrote}
 use Rattle.qcow2_image.proofs.Prepare.LimitCauses.{hands_unlimited, hands_fault}
-use Rattle.qcow2_image.proofs.Call.Unlimited.{storage_unlimited, storage_fault}
+use Rattle.qcow2_image.proofs.Call.Unlimited.{storage_unlimited}
 use Rattle.qcow2_image.proofs.Call.ImageSteps.{step_none}
 use Rattle.qcow2_image.proofs.image.Qcow2.write_zeros.Goals as goal
 
 pub returns-in_err-write_zero_data-clause-fault : goal.returns-in_err-write_zero_data-clause-fault
-returns-in_err-write_zero_data-clause-fault g c = λ behind. hands_fault c.from_residual.result (of_storage c.in_err-write_zero_data.field-0.0) c.from_residual.ensures (storage_fault c.in_err-write_zero_data.field-0.0)
+returns-in_err-write_zero_data-clause-fault g c = λ behind. hands_fault c.from_residual.result (of_storage c.in_err-write_zero_data.field-0.0) c.from_residual.ensures (fault_of_storage c.in_err-write_zero_data.field-0.0)
 
 pub returns-in_err-write_zero_data-clause-step : goal.returns-in_err-write_zero_data-clause-step
 returns-in_err-write_zero_data-clause-step g c = record {

@@ -1,19 +1,13 @@
 use Rattle.qcow2_image.proofs.Call.ImageSteps.{step_then, step_none}
 use Rattle.qcow2_image.proofs.Prepare.LimitCauses.{goes_step}
 use Rattle.qcow2_image.proofs.image.Qcow2.zero_between.Goals as goal
-use Rattle.qcow2_image.proofs.Common.{◌≤◌, subst, sym, arith, handed_on, abstract_of, FillsOrRefuses, known_in, HasCompressedIn, MayFailAllocating, HasPinnedMapping}
+use Rattle.qcow2_image.proofs.Common.{◌≤◌, subst, sym, arith, handed_on, abstract_of, FillsOrRefuses, known_in, HasCompressedIn, MayFailAllocating, HasPinnedMapping, IfErr-weaker}
 use Rattle.qcow2_image.proofs.Call.Called.{works_none}
 use Rattle.qcow2_image.proofs.Preallocate.Filled.{fills_before, fills_none, fills_or_refuses, refused_after, zeros_from}
 use Rattle.qcow2_image.proofs.Preallocate.FillSteps.{same_version, still_at}
-use Rattle.qcow2_image.proofs.Preallocate.FailingFills.{hands_met, met_before, near_behind}
-use Rattle.qcow2_image.proofs.Prepare.RefusedAsPrepared.{if_err}
+use Rattle.qcow2_image.proofs.Preallocate.FailingFills.{met_before, near_behind}
 use Rattle.qcow2_image.proofs.Prepare.FailingAllocations.{taking_as}
-
-pub returns-clause-emptied : goal.returns-clause-emptied
-returns-clause-emptied g c = λ none. c.zero_range.ensures.emptied (c.in_ok-fill_range.ensures.emptied (c.in_ok-next.ensures.emptied none))
-
-pub returns-in_err-next-clause-step : goal.returns-in_err-next-clause-step
-returns-in_err-next-clause-step g c = c.zero_first.ensures.step
+use Rattle.qcow2_image.proofs.Prepare.FailingCopies.{hands_met}
 
 pub returns-in_err-fill_range-clause-step : goal.returns-in_err-fill_range-clause-step
 returns-in_err-fill_range-clause-step g c = step_then c.zero_first.ensures.step c.fill_range.ensures.step
@@ -69,18 +63,17 @@ returns-clause-sound g c = λ out sound before order whole third.
     let next = c.in_ok-next.ensures.next in
     let h = a.file.header.fields in
     let first = zeros_from view below out a b c.args.from c.in_ok-next.next whole.0 ((c.in_ok-next.ensures.sound out sound order whole third).fills) in
-    let h' = b.file.header.fields in
     let second = (c.in_ok-fill_range.ensures.sound out first.sound before (still_at a.file.header.fields b.file.header.fields c.args.from first.header whole.0)).fills in
     let h'' = d.file.header.fields in
     let both = fills_before view below out a b d c.args.from c.args.old c.args.from c.in_ok-next.next before next.0 first second in
     let ends = c.in_ok-next.ensures.whole out sound whole in
-    let at = still_at h h' c.args.from first.header whole.0 in
+    let at = still_at h b.file.header.fields c.args.from first.header whole.0 in
     record {
       fills = fills_or_refuses view below out a d c.zero_range.new.self c.args.from c.args.old c.in_ok-next.next c.args.end (omega (arith, before, next.0)) (omega (arith, next.2, order)) both (goes_step (step_then c.zero_first.ensures.step c.fill_range.ensures.step)) next.0 (still_at a.file.header.fields d.file.header.fields c.in_ok-next.next both.header ends) c.zero_range.result
           ((c.zero_range.ensures.sound out both.sound (omega (arith, next.2, order)) (still_at a.file.header.fields d.file.header.fields c.in_ok-next.next both.header ends, still_at a.file.header.fields d.file.header.fields c.args.end both.header whole.1)
           (subst (λ v. 3 ≤ v) (sym (same_version a.file.header.fields d.file.header.fields both.header)) third)).fills);
       may_fail = λ near. let second = (c.in_ok-fill_range.ensures.sound out first.sound before at).fills in
-          if_err c.zero_range.result (taking_as (λ held. held) (λ kept. kept) (λ no. absurd no) (λ no. no))
+          IfErr-weaker c.zero_range.result _ _ (taking_as (λ held. held) (λ kept. kept) (λ no. absurd no) (λ no. no))
           ((c.zero_range.ensures.sound out both.sound (omega (arith, next.2, order)) (still_at h h'' c.in_ok-next.next both.header ends, still_at h h'' c.args.end both.header whole.1) (subst (λ v. 3 ≤ v) (sym (same_version h h'' both.header)) third)).may_fail
           (near_behind view below out _ c.args.old c.in_ok-next.next a d both c.args.end c.args.end (omega (arith, next.2, order)) (omega arith) near));
     }

@@ -1,4 +1,4 @@
-use Rattle.qcow2_image.proofs.Common.{◌≡◌, ◌∙◌, ◌+◌, ◌-◌, ◌^◌, ◌<◌, [], ◌∷◌, inl, min, ap, subst, sym, arith, rules, IsTrue, rest_of_table, entry_count, Pending, Sizes-from, handed_on, contents_in, known_in, IsClearable, KeptZeros, ImageInvariant, abstract_of, pending_in, FillsFirst, given_by_zeros, HasPinnedMapping, MayFailAllocating}
+use Rattle.qcow2_image.proofs.Common.{◌≡◌, ◌∙◌, ◌+◌, ◌-◌, ◌^◌, ◌<◌, [], ◌∷◌, inl, min, ap, subst, arith, rules, rest_of_table, entry_count, Pending, Sizes-from, handed_on, contents_in, known_in, IsClearable, KeptZeros, ImageInvariant, abstract_of, pending_in, FillsFirst, given_by_zeros, HasPinnedMapping, MayFailAllocating}
 use Rattle.qcow2_image.proofs.Call.Called.{works_none}
 use Rattle.qcow2_image.proofs.Flush.Freeing.{all_listed, beside, freed_refused, tidy_stays}
 use Rattle.qcow2_image.proofs.Preallocate.Filled.{cleared_fills, fill_unseen, fills_none, fills_refused, fills_stays, next_whole, next_within, taken_here}
@@ -24,14 +24,8 @@ returns-clause-whole g c = λ out sound whole.
     let high : c.args.to < 2 ^ 64 = search rules in
     next_whole h sizes.some sizes.entries from to c.min-next.result whole.1 is high
 
-pub returns-clause-emptied : goal.returns-clause-emptied
-returns-clause-emptied g c = λ none. c.in_ok-process_free_list.ensures.emptied (subst IsTrue (sym c.clear_between.ensures.step.stays.image.writable) c.requires.writable)
-
 pub returns-then-to-from-clause-step : goal.returns-then-to-from-clause-step
 returns-then-to-from-clause-step g c = step_none
-
-pub returns-in_err-clear_between-clause-step : goal.returns-in_err-clear_between-clause-step
-returns-in_err-clear_between-clause-step g c = c.clear_between.ensures.step
 
 pub returns-in_err-process_free_list-clause-step : goal.returns-in_err-process_free_list-clause-step
 returns-in_err-process_free_list-clause-step g c = step_then c.clear_between.ensures.step c.process_free_list.ensures.step

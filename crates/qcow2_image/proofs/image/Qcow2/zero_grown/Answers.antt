@@ -14,9 +14,6 @@ returns-in_default-clause-step g c = step_none
 pub returns-in_default-rounded_up-clause-step : goal.returns-in_default-rounded_up-clause-step
 returns-in_default-rounded_up-clause-step g c = step_none
 
-pub returns-clause-step : goal.returns-clause-step
-returns-clause-step g c = c.zero_between.ensures.step
-
 pub returns-then-version-lt3-clause-sound : goal.returns-then-version-lt3-clause-sound
 returns-then-version-lt3-clause-sound g c = λ out sound le.
     record {

@@ -27,9 +27,6 @@ loop-at-preserved g c =
       notes = notes_then c.loop-at.invariant.notes c.zero_first.ensures.step.notes;
     }
 
-pub returns-clause-emptied : goal.returns-clause-emptied
-returns-clause-emptied g c = λ none. c.loop-at.invariant.emptied none
-
 pub returns-in_err-at-clause-step : goal.returns-in_err-at-clause-step
 returns-in_err-at-clause-step g c = record { stays = search rules; notes = notes_then c.loop-at.invariant.notes c.zero_first.ensures.step.notes; header_cluster = behind_then c.loop-at.invariant.behind c.zero_first.ensures.step.header_cluster }
 
