@@ -92,7 +92,7 @@ pub use Rattle.qcow2_image.specs.Calls.{refusal_of, AnswersCall, Discards, Flush
 pub use Rattle.qcow2_image.specs.Clearing.{ClearsImageCovers, ClearsPart, ClearsTable, IsUnderMapping, IsClearable, MayClear, ReadsAll, ReadsDropped, cover_once_cleared, given_bytes_between, is_between, listed_by, setting_of, shown_by, AreCleared, Clears, RefusesUngiven, from_in, needs_zero_entries, refuses_to_clear, rounds_past, to_in, ClearsEntry, is_cleared, ClearsOrRefuses, RefusesClearing, all_given_by_clear, with_caches, cleared_entry}
 pub use Rattle.qcow2_image.specs.ClearingCalls.{ClearsSoundly, ClearsStep, FailsToClear, ClearsInTable}
 pub use Rattle.qcow2_image.specs.CopyRange.{HasByte, announced_range_of, copy_range_of, uncut_copy_range}
-pub use Rattle.qcow2_image.specs.Created.{Enlarges, IsNewDisk, IsPreallocated, IsStopOfCreating, IsUnwritten, ShowsZeros, StopsCreating, IsReasonAgainst, backing_format_in, backing_name_in, IsCreated, IsReasonNotToCreate, longest_disk, StaysCreating, IsNewHeader, IsMade, WritesThree, begins_image, CountsThree, NamesOne, AllocatesPlace, HasLogarithms, IsAllowed, IsReasonNotToCreateOpen, LacksPlaceCreating, IsUnmapped, HoldsNewDisk, OpensGrown, empty_of, IsCoverOf}
+pub use Rattle.qcow2_image.specs.Created.{Enlarges, IsNewDisk, IsPreallocated, IsStopOfCreating, IsUnwritten, ShowsZeros, StopsCreating, IsReasonAgainst, backing_format_in, backing_name_in, IsCreated, IsReasonNotToCreate, longest_disk, StaysCreating, IsNewHeader, IsMade, IsThreeWith, WritesThree, begins_image, CountsThree, NamesOne, AllocatesPlace, HasLogarithms, IsAllowed, IsReasonNotToCreateOpen, LacksPlaceCreating, IsUnmapped, HoldsNewDisk, OpensGrown, empty_of, IsCoverOf}
 pub use Rattle.qcow2_image.specs.Faults.{CountsImageFaults, SameFaults, ReportsEachIn, ReportsFault, NoFewerFaults, OneRose, IsNotOfStorage, ReportsEach}
 pub use Rattle.qcow2_image.specs.Found.{l1_index_of, l2_index_of, mapping_of, NamesL2Table, found_kind, IsRunBehind, AreAlikeBehind, IsAlikeTo, IsFoundInImage, IsFoundWhole, IsMappedAs, writable_place, further_by, IsRunFrom, is_data_file}
 pub use Rattle.qcow2_image.specs.Growing.{FitsSize, Extends, Lasts, ReachesSize, SameFormat, WritesBack, LastsCall, LastsKnown, LastsPart, KeepsSurplus, LeavesSound}

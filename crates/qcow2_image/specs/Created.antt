@@ -132,6 +132,11 @@ pub record GivesNames (backing format data_file : Option (List ℕ)) (contents :
   pub format_is : header.backing_format ≡ format
   pub data_file_is : header.data_file_name ≡ data_file
 
+-- The contents are the three clusters of a new image and nothing else. They end with the third cluster, and the header's cluster is zero after the header and its names.
+pub record IsThreeClusters (size header_end : ℕ) (contents : List ℕ) : Type 0 where
+  pub ends : length contents ≡ 3 * size
+  pub zeros : (o : ℕ) → header_end ≤ o → o < size → byte_at contents o ≡ 0
+
 -- The mode allocates clusters for the disk.
 abbrev pub takes_clusters : PreallocateMode → Bool
 takes_clusters Mode.None = false
@@ -146,6 +151,10 @@ module _ {S : Type 0} where
   abbrev pub backing_format_in : Qcow2CreateBuilder S → Option (List ℕ)
   backing_format_in builder = option_map string_bytes builder.backing_format
 
+  -- The length in bytes of the new header with its names.
+  abbrev pub header_end : Qcow2CreateBuilder S → ℕ
+  header_end builder = name_place (backing_format_in builder) None + length (unwrap_or (backing_name_in builder) [])
+
   -- Clusters are to be allocated for a disk over a backing file.
   abbrev pub allocates_over : Qcow2CreateBuilder S → Bool
   allocates_over builder = takes_clusters builder.preallocate && is_some builder.backing_name
@@ -159,7 +168,7 @@ module _ {S : Type 0} where
     pub no_smaller : 9 ≤ cluster_bits
     pub no_larger : cluster_bits ≤ 21
     pub no_wider : refcount_order ≤ 6
-    pub room : name_place (backing_format_in builder) None + length (unwrap_or (backing_name_in builder) []) ≤ builder.cluster_size
+    pub room : header_end builder ≤ builder.cluster_size
 
   -- The binary logarithms of the cluster size and of the refcount width, if a new header may have them.
   pub record HasLogarithms (builder : Qcow2CreateBuilder S) (logarithms : ℕ × ℕ) : Type 0 where
@@ -200,6 +209,8 @@ module _ {S : Type 0} where
     pub no_autoclear : (header (byte_at storage.contents)).autoclear ≡ 0
     pub no_compatible : (header (byte_at storage.contents)).compatible ≡ 0
     pub alone : builder.backing_name ≡ None → ¬ NeedsAnother storage.contents
+    -- A disk of no bytes takes three clusters. Nothing that the storage held before is left.
+    pub no_more : builder.size ≡ 0 → IsThreeClusters builder.cluster_size (header_end builder) storage.contents
 
   -- The settings of the same image, with a disk of no bytes.
   abbrev pub empty_of : Qcow2CreateBuilder S → Qcow2CreateBuilder S
@@ -212,7 +223,7 @@ module _ {S : Type 0} where
 -- ---- the new image, before its disk grows
 
 module _ {S : Type 0} (view : S → StorageView) (builder : Qcow2CreateBuilder S) where
-  -- The new image is on this storage, and its disk has no bytes yet.
+  -- The new image is on this storage, with nothing else, and its disk has no bytes yet.
   pub record IsMade (storage : S) : Type 0 where
     pub created : IsCreated (empty_of builder) (view storage)
     pub new_image : IsNewImage (header (byte_at (view storage).contents)) (byte_at (view storage).contents)
@@ -237,10 +248,11 @@ pub record IsNewHeader (v : HeaderView) : Type 0 where
   pub own_data : v.data_file_name ≡ None
   pub names : HasNewNames v
 
--- A refblock in cluster 2 that counts clusters 0, 1 and 2.
+-- A refblock in cluster 2, one cluster long, that counts clusters 0, 1 and 2.
 pub record CountsThree (h : HeaderFields) (block : RefBlockView) : Type 0 where
   pub bits : block.cluster_bits ≡ h.cluster_bits
   pub order : block.refcount_order ≡ h.refcount_order
+  pub whole : length block.bytes ≡ cluster_size h
   pub cluster_is : block.cluster ≡ Some 2
   pub counts : (i : ℕ) → count_at block i ≡ (if nat_lt i 3 then 1 else 0)
 
@@ -250,6 +262,10 @@ pub record NamesOne (h : HeaderFields) (t : EntryTableView) : Type 0 where
   pub cluster_is : t.cluster ≡ Some 1
   pub whole : length t.bytes ≡ 8 * entries_per_cluster h
   pub entries : (i : ℕ) → entry_at t.bytes i ≡ (if i == 0 then 2 * cluster_size h else 0)
+
+-- The contents are the three clusters of the new image with this header, and nothing else.
+abbrev pub IsThreeWith : HeaderView → List ℕ → Type 0
+IsThreeWith v contents = IsThreeClusters (cluster_size v.fields) (name_place v.backing_format v.data_file_name + length (unwrap_or v.backing_name [])) contents
 
 -- The three clusters are written; or a stop leaves what a stop of creating may.
 abbrev pub WritesThree : HeaderFields → StorageView → StorageView → Result (Unit {0}) ImageError → Type 0
@@ -266,6 +282,12 @@ pub record IsEnlarged (mode : PreallocateMode) (n : ℕ) (old new : StorageView)
   pub reaches : ReachesSize (header (byte_at new.contents))
   pub l1_length : (header (byte_at old.contents)).autoclear ≡ 0 → FitsSize (header (byte_at old.contents)) → FitsSize (header (byte_at new.contents))
   pub rest : KeepsHeaderRest (byte_at old.contents) (byte_at new.contents)
+
+-- The disk grew from the new image, when the storage held nothing else.
+pub record GrewFromNew {S : Type 0} (view : S → StorageView) (builder : Qcow2CreateBuilder S) (storage : S) : Type 0 where
+  pub made : S
+  pub is_made : IsMade view builder made
+  pub grown : IsEnlarged builder.preallocate builder.size (view made) (view storage)
 
 -- The image is opened, grown and flushed; or a stop leaves what a stop of creating may.
 abbrev pub Enlarges : PreallocateMode → ℕ → StorageView → StorageView → Result (Unit {0}) ImageError → Type 0

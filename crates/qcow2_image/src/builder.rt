@@ -2,7 +2,7 @@
 ghost use Rattle.qcow2_image.specs.Limits.{IfLimit, IsLimited};
 ghost use Rattle.std.specs.Prelude.{ℕ, ◌≡◌, ◌≢◌, ◌⊎◌, ◌↔◌, ◌^◌, ◌<◌, ◌≤◌, [], None, IfSome, IfNone, IfOk, IfErr, IsNone, OnOk};
 ghost use Rattle.std.specs.Prelude.{IsSome, IsTrue, Ok, is_some, false};
-ghost use Rattle.image_access.specs.Moments.{EachMomentSince};
+ghost use Rattle.image_access.specs.Moments.{ContentsStay, EachMomentSince, IsLeftBy};
 ghost use Rattle.qcow2_metadata.specs.HeaderLoad.{IsHeaderIn};
 ghost use Rattle.qcow2_metadata.specs.HeaderWrite.{HasNewNames};
 ghost use Rattle.qcow2_metadata.specs.Bytes.{byte_at};
@@ -22,7 +22,7 @@ ghost use Rattle.qcow2_image.specs.ImageInvariant.{abstract_of};
 ghost use Rattle.qcow2_image.specs.Growing.{LeavesSound};
 ghost use Rattle.qcow2_laws.specs.Opened.{HasNoLeaks};
 ghost use Rattle.qcow2_image.specs.Created.{longest_disk, IsUnmapped, IsUnwritten, IsNewHeader, CountsThree, NamesOne};
-ghost use Rattle.qcow2_image.specs.Created.{WritesThree, CantEnlarge, Enlarges, OpensGrown, RefusesGrown};
+ghost use Rattle.qcow2_image.specs.Created.{IsThreeWith, WritesThree, CantEnlarge, Enlarges, OpensGrown, RefusesGrown};
 
 use crate::image::Missing;
 use crate::{Qcow2, Qcow2OpenBuilder};
@@ -97,7 +97,7 @@ fn has_l1_entries(cluster_bits: u32, size: u64) -> bool
 impl<S: Storage> Qcow2CreateBuilder<S> {
     ghost use Rattle.std.specs.Prelude.{Err};
     ghost use Rattle.qcow2_alloc.specs.declared.error.ImageError.TheVariants.{InvalidOption, Preallocation};
-    ghost use Rattle.qcow2_image.specs.Created.{HasLogarithms, IsAllowed, IsCreated, IsMade, IsMadeClosed};
+    ghost use Rattle.qcow2_image.specs.Created.{GrewFromNew, HasLogarithms, IsAllowed, IsCreated, IsMade, IsMadeClosed};
     ghost use Rattle.qcow2_image.specs.Created.{IsMadeOpen, IsMadeUngrown, IsMadeUnopened, IsNotMade};
     ghost use Rattle.qcow2_image.specs.Created.{IsReasonAgainst, IsReasonNotToCreate, StopsCreating, allocates_over};
     ghost use Rattle.std.specs.Prelude.{None, Some, false, true};
@@ -261,6 +261,7 @@ impl<S: Storage> Qcow2CreateBuilder<S> {
     pub fn create(self, alloc: Global) -> (S, Result<(), ImageError>)
         ensures stops { (S.view self.image).is_honest → StopsCreating self.preallocate self.size (S.view self.image) (S.view result.0) }
         ensures created { (S.view self.image).is_honest → IfOk result.1 (λ done. IsCreated self (S.view result.0)) }
+        ensures grew { (S.view self.image).is_honest → IfOk result.1 (λ done. GrewFromNew S.view self result.0) }
         ensures refused { ¬ IsAllowed self → (result.1 ≡ Err InvalidOption) × (result.0 ≡ self.image) }
         ensures over { IsAllowed self → IsTrue (allocates_over self) → (result.1 ≡ Err Preallocation) × (result.0 ≡ self.image) }
         ensures limit { IsAllowed self → allocates_over self ≡ false → longest_disk self.cluster_size < self.size
@@ -412,6 +413,9 @@ fn write_three<S: Storage>(
         → WritesThree header.now.fields (S.view (storage_of storage.old)) (S.view (storage_of storage.new)) result }
     ensures stands { (S.view (storage_of storage.old)).is_honest → HasNewNames header.now
         → OnOk result (IsHeaderIn header.now (S.view (storage_of storage.new)).contents) }
+    ensures alone { (S.view (storage_of storage.old)).is_honest → (S.view (storage_of storage.old)).contents ≡ []
+        → IsNewHeader header.now → CountsThree header.now.fields block.now → NamesOne header.now.fields reftable.now
+        → OnOk result (IsThreeWith header.now (S.view (storage_of storage.new)).contents) }
     ensures fault { IfErr result IsFault }
     ensures faults { CountsFaults S.view storage.old storage.new result }
 {
@@ -433,6 +437,8 @@ fn write_new_image<S: Storage>(
         → WritesThree header.now.fields (S.view (storage_of storage.old)) (S.view (storage_of storage.new)) result }
     ensures stands { (S.view (storage_of storage.old)).is_honest → HasNewNames header.now
         → OnOk result (IsHeaderIn header.now (S.view (storage_of storage.new)).contents) }
+    ensures alone { (S.view (storage_of storage.old)).is_honest → IsNewHeader header.now
+        → OnOk result (IsThreeWith header.now (S.view (storage_of storage.new)).contents) }
     ensures fault { IfErr result IsFault }
     ensures faults { CountsFaults S.view storage.old storage.new result }
 {
@@ -442,6 +448,19 @@ fn write_new_image<S: Storage>(
     write_three(alloc, storage, header, &block, &reftable)
 }
 
+// Flushes a new image whose disk stays empty.
+fn flush_new_image<S: Storage>(storage: &mut ImageStorage<S>) -> Result<(), ImageError>
+    ensures same { ContentsStay (S.view (storage_of storage.old)) (S.view (storage_of storage.new)) }
+    ensures time { EachMomentSince (S.view (storage_of storage.old)) (S.view (storage_of storage.new))
+        (IsLeftBy (S.view (storage_of storage.new))) }
+    ensures fault { IfErr result IsFault }
+    ensures faults { CountsFaults S.view storage.old storage.new result }
+{
+    storage.flush()?;
+    Ok(())
+}
+
+// Opens the new image, grows its disk and flushes it. A disk of no bytes is there already.
 fn grow_new_image<S: Storage, F: WrappedFormat<S>>(
     alloc: Global,
     storage: ImageStorage<S>,
@@ -466,7 +485,14 @@ fn grow_new_image<S: Storage, F: WrappedFormat<S>>(
         → IfLimit result.1 (CantEnlarge S.view F.backing mode size (S.view (storage_of storage)).contents result.0) }
     ensures faults { ((below : F) → (F.backing below).faults ≡ 0)
         → FaultsReported (S.view (storage_of storage)).faults (S.view result.0).faults result.1 }
+    ensures stays { size ≡ 0 → (S.view (storage_of storage)).is_honest
+        → OnOk result.1 ((S.view result.0).contents ≡ (S.view (storage_of storage)).contents) }
 {
+    if size == 0 {
+        let mut storage = storage;
+        let flushed = flush_new_image(&mut storage);
+        return (storage.into_inner(), flushed);
+    }
     match Qcow2::<S, F>::open(alloc, storage, true, 0, Missing::Nothing) {
         Err((storage, refusal)) => (storage, Err(refusal)),
         Ok(mut image) => {

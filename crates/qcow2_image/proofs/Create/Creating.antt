@@ -1,9 +1,10 @@
 -- An unwritten image is opened, grown and flushed: what a stop leaves meanwhile, and what the storage holds then.
-use Rattle.qcow2_image.proofs.Common.{◌≡◌, ◌⊎◌, inl, inr, ⊎_elim, ℕ, ◌^◌, List, [], ◌∷◌, ◌++◌, None, Some, Result, Ok, Err, refl, sym, ap, ◌∙◌, subst, arith, false, IfOk, OnOk, Option, is_some, option_map, BackingView, StorageView, PreallocateMode, passes_on, passes_if, IsHeaderIn, KeepsHeaderRest, Bytes, byte_at, HeaderFields, HeaderView, cluster_size, header, new_header, new_fields, HasNewNames, disk, disk_with, SafeThroughout, Checkpoint, checkpoint_at, checkpoint_with, IsAsked, StopOkEverywhere, LeavesKept, IsNewImage, HasNoLeaks, places_of, with_places, IsOpened, ImageError, nothing_given, view_in, Qcow2CreateBuilder, Qcow2, backing_format_in, backing_name_in, IsUnwritten, IsStopOfCreating, StopsCreating, StaysCreating, IsNewHeader, IsCreated, Enlarges, IsMade, WritesThree, FitsSize, SameFormat, ReachesSize, storage_of_image, IsKeptSince, needs_another, abstract_of, header_rest_same, header_rest_then, new_image_exact}
+use Rattle.qcow2_image.proofs.Common.{◌≡◌, ◌⊎◌, inl, inr, ⊎_elim, ℕ, ◌^◌, List, [], ◌∷◌, ◌++◌, None, Some, Result, Ok, Err, refl, sym, ap, ◌∙◌, subst, arith, false, IfOk, OnOk, Option, is_some, option_map, BackingView, StorageView, EachMomentSince, IsLeftBy, PreallocateMode, passes_on, passes_if, IsHeaderIn, KeepsHeaderRest, Bytes, byte_at, HeaderFields, HeaderView, cluster_size, header, new_header, new_fields, HasNewNames, disk, disk_with, SafeThroughout, Checkpoint, checkpoint_at, checkpoint_with, IsAsked, StopOkEverywhere, LeavesKept, IsNewImage, HasNoLeaks, places_of, with_places, IsOpened, ImageError, nothing_given, view_in, Qcow2CreateBuilder, Qcow2, backing_format_in, backing_name_in, IsUnwritten, IsStopOfCreating, StopsCreating, StaysCreating, IsNewHeader, IsCreated, Enlarges, IsMade, IsThreeWith, WritesThree, FitsSize, SameFormat, ReachesSize, storage_of_image, IsKeptSince, needs_another, abstract_of, header_rest_same, header_rest_then, new_image_exact}
 use Rattle.std.specs.String.{string_bytes}
 use Rattle.image_access.specs.declared.storage.PreallocateMode.TheVariants as Mode
 use Rattle.qcow2_image.proofs.Open.SameHeaders.{alone_still, names_still, not_needed}
 use Rattle.qcow2_alloc.specs.declared.error.ImageError.TheVariants as I
+use Rattle.qcow2_image.specs.Created.{GrewFromNew, IsThreeClusters, header_end}
 use Rattle.qcow2_image.specs.declared.image.Missing.TheVariants as N
 use Rattle.qcow2_image.proofs.Create.NewDisks.{new_disk_consistent, unwritten_covers, unwritten_new, starts_unwritten}
 use Rattle.qcow2_image.proofs.Create.ThreeWrites.{new_unwritten}
@@ -102,6 +103,33 @@ module _ {S F : Type 0} (view : S → StorageView) (backing : F → BackingView)
   pub enlarged_so : (new : Qcow2 S F) (last : S) (r : Result (Unit {0}) ImageError) → last ≡ storage_of_image new → Enlarges mode size (view_in view mid.file) (view_in view new.file) r → Enlarges mode size (view start) (view last) r
   enlarged_so new last r is done = subst (λ (s : S). Enlarges mode size (view start) (view s) r) (sym is) (opened_first (view_in view new.file) r done)
 
+-- ---- a disk of no bytes is only flushed
+module _ (mode : PreallocateMode) (old new : StorageView) (honest : old.is_honest) (unwritten : IsUnwritten 0 (byte_at old.contents)) (same : new.contents ≡ old.contents) (time : EachMomentSince old new (IsLeftBy new)) where
+  still_unwritten : IsUnwritten 0 (byte_at new.contents)
+  still_unwritten = subst (λ (l : List ℕ). IsUnwritten 0 (byte_at l)) (sym same) unwritten
+
+  flushed_stops : StopsCreating mode 0 old new
+  flushed_stops = passes_if (λ c. IsStopOfCreating mode 0 (byte_at c)) (λ c is. inr (inl (unwritten_new mode 0 (byte_at c) (subst (λ (l : List ℕ). IsUnwritten 0 (byte_at l)) (sym is) still_unwritten)))) time
+
+  flushed_by : (r : Result (Unit {0}) ImageError) → Enlarges mode 0 old new r
+  flushed_by (Ok x) =
+      let is : header (byte_at new.contents) ≡ header (byte_at old.contents) = ap (λ (l : List ℕ). header (byte_at l)) same in
+      let none = still_unwritten.size in
+      record {
+        stays = record { honest = time.honest honest; moments = flushed_stops };
+        new_disk = unwritten_new mode 0 (byte_at new.contents) still_unwritten;
+        covers = record { inside = λ g lt. absurd (omega (arith, lt)); behind = (unwritten_covers 0 (byte_at new.contents) still_unwritten).behind };
+        format = subst (λ h. SameFormat (header (byte_at old.contents)) h) (sym is) refl;
+        no_autoclear = λ cleared. ap (λ (h : HeaderFields). h.autoclear) is ∙ cleared;
+        reaches = omega (arith, none);
+        l1_length = λ _ fits. subst FitsSize (sym is) fits;
+        rest = subst (λ (l : List ℕ). KeepsHeaderRest (byte_at old.contents) (byte_at l)) (sym same) (header_rest_same (byte_at old.contents));
+      }
+  flushed_by (Err e) = flushed_stops
+
+  pub flushed_enlarges : (n : ℕ) → n ≡ 0 → (r : Result (Unit {0}) ImageError) → Enlarges mode n old new r
+  flushed_enlarges n none r = subst (λ k. Enlarges mode k old new r) (sym none) (flushed_by r)
+
 -- ---- the whole call
 
 -- a stop that may leave an image of no bytes
@@ -120,8 +148,8 @@ module _ {S : Type 0} (view : S → StorageView) (builder : Qcow2CreateBuilder S
   pub unwritten : IsUnwritten 0 (byte_at (view mid).contents)
   unwritten = new_unwritten v.fields (byte_at (view mid).contents) three.1 (ap (λ (w : HeaderView). w.fields.size) is)
 
-  pub made_empty : builder.cluster_size ≡ 2 ^ bits → builder.refcount_width ≡ 2 ^ order → IsHeaderIn v (view mid).contents → IsMade view builder mid
-  made_empty clusters counts stands =
+  pub made_empty : builder.cluster_size ≡ 2 ^ bits → builder.refcount_width ≡ 2 ^ order → IsHeaderIn v (view mid).contents → IsThreeWith v (view mid).contents → IsMade view builder mid
+  made_empty clusters counts stands three_alone =
       let new_is : header (byte_at (view mid).contents) ≡ new_fields bits order (backing_name_in builder) (backing_format_in builder) None = three.1.header_is ∙ ap (λ (w : HeaderView). w.fields) is in
       record {
         created = record {
@@ -147,14 +175,15 @@ module _ {S : Type 0} (view : S → StorageView) (builder : Qcow2CreateBuilder S
           alone = λ unnamed.
               let none : needs_another v ≡ false = ap (λ (w : HeaderView). needs_another w) is ∙ ap (λ (o : Option _). is_some (option_map string_bytes o)) unnamed in
               not_needed N.OtherFiles v (view mid).contents stands none;
+          no_more = λ _. subst (λ n. IsThreeClusters n (header_end builder) (view mid).contents) (sym clusters) (subst (λ (w : HeaderView). IsThreeWith w (view mid).contents) is three_alone);
         };
         new_image = subst (λ (h : HeaderFields). IsNewImage h (byte_at (view mid).contents)) (sym three.1.header_is) three.1;
       }
 
 pub made_by : {S : Type 0} (view : S → StorageView) (builder : Qcow2CreateBuilder S) (bits order : ℕ) (v : HeaderView) (is : v ≡ new_header bits order (backing_name_in builder) (backing_format_in builder) None) (start mid : S) (r : Result (Unit {0}) ImageError)
-    → WritesThree v.fields (view start) (view mid) r → builder.cluster_size ≡ 2 ^ bits → builder.refcount_width ≡ 2 ^ order → OnOk r (IsHeaderIn v (view mid).contents) → IfOk r (λ done. IsMade view builder mid)
-made_by view builder bits order v is start mid (Ok x) three clusters counts stands = made_empty view builder bits order v is start mid three clusters counts stands
-made_by view builder bits order v is start mid (Err e) three clusters counts stands = tt
+    → WritesThree v.fields (view start) (view mid) r → builder.cluster_size ≡ 2 ^ bits → builder.refcount_width ≡ 2 ^ order → OnOk r (IsHeaderIn v (view mid).contents) → OnOk r (IsThreeWith v (view mid).contents) → IfOk r (λ done. IsMade view builder mid)
+made_by view builder bits order v is start mid (Ok x) three clusters counts stands three_alone = made_empty view builder bits order v is start mid three clusters counts stands three_alone
+made_by view builder bits order v is start mid (Err e) three clusters counts stands three_alone = tt
 
 pub three_stops : (h : HeaderFields) (old new : StorageView) (r : Result (Unit {0}) ImageError) → WritesThree h old new r → StopsCreating Mode.None 0 old new
 three_stops h old new (Ok x) three = three.0.moments
@@ -170,9 +199,10 @@ module _ {S : Type 0} (view : S → StorageView) (builder : Qcow2CreateBuilder S
       stops_of (Ok x) done = done.stays.moments
       stops_of (Err e) stops = stops
 
-  pub created_then : IsMade view builder mid → (r : Result (Unit {0}) ImageError) → Enlarges builder.preallocate builder.size (view mid) (view last) r → OnOk r (HasNoLeaks (byte_at (view last).contents)) → IfOk r (λ done. IsCreated builder (view last))
-  created_then made (Err e) stops exact = tt
-  created_then made (Ok x) done exact =
+  pub created_then : IsMade view builder mid → (r : Result (Unit {0}) ImageError) → Enlarges builder.preallocate builder.size (view mid) (view last) r → OnOk r (HasNoLeaks (byte_at (view last).contents)) → (builder.size ≡ 0 → OnOk r ((view last).contents ≡ (view mid).contents))
+      → IfOk r (λ done. IsCreated builder (view last))
+  created_then made (Err e) stops exact same = tt
+  created_then made (Ok x) done exact same =
       let was = made.created in
       let consistent = new_disk_consistent builder.preallocate builder.size (byte_at (view last).contents) done.new_disk in
       record {
@@ -196,7 +226,12 @@ module _ {S : Type 0} (view : S → StorageView) (builder : Qcow2CreateBuilder S
         no_autoclear = done.no_autoclear was.no_autoclear;
         no_compatible = ap (λ (k : HeaderFields). k.compatible) done.format ∙ was.no_compatible;
         alone = λ unnamed. alone_still (view mid).contents (view last).contents was.new_disk.consistent consistent done.rest (was.alone unnamed);
+        no_more = λ none. subst (λ (l : List ℕ). IsThreeClusters builder.cluster_size (header_end builder) l) (sym (same none)) (was.no_more refl);
       }
+
+  pub grew_then : IsMade view builder mid → (r : Result (Unit {0}) ImageError) → Enlarges builder.preallocate builder.size (view mid) (view last) r → IfOk r (λ done. GrewFromNew view builder last)
+  grew_then made (Ok x) done = record { made = mid; is_made = made; grown = done }
+  grew_then made (Err e) stops = tt
 
 pub refused_open : {S F : Type 0} (storage image : S) (refusal reason : ImageError) (done : Result (Unit {0}) ImageError) → done ≡ Err refusal → (done ≡ Err reason) × (storage ≡ image) → ◌≡◌ {A = Result (Qcow2 S F) (Option S × ImageError)} (Err (Some storage, refusal)) (Err (Some image, reason))
 refused_open storage image refusal reason done is refused = let told = refused.0 in let same = refused.1 in cc

@@ -1,5 +1,5 @@
 -- The refblock of a new image counts the image's clusters, one after another.
-use Rattle.qcow2_image.proofs.Common.{◌≡◌, ◌≢◌, inl, inr, ℕ, ◌+◌, ◌-◌, ◌^◌, ◌≤◌, Bool, true, false, IsTrue, IsFalse, refl, sym, ap, ◌∙◌, subst, arith, if◌then◌else◌, nat_lt, cases_eq, cases_lt, cond-true, cond-false, lt-ltb, le-ltb, pow_pos, pow_mono, RefBlockView, IsRefBlock, ChangesCount, count_at, count_limit, counts_of}
+use Rattle.qcow2_image.proofs.Common.{◌≡◌, ◌≢◌, inl, inr, ℕ, ◌+◌, ◌-◌, ◌^◌, ◌≤◌, Bool, true, false, IsTrue, IsFalse, refl, sym, ap, ◌∙◌, subst, arith, if◌then◌else◌, nat_lt, cases_eq, cases_lt, cond-true, cond-false, lt-ltb, le-ltb, pow_pos, pow_mono, RefBlockView, IsRefBlock, ChangesCount, count_at, count_limit, counts_of, zero, suc, ◌<◌, length}
 use Rattle.qcow2_metadata.proofs.Sizes.{counts_in_block}
 use Rattle.qcow2_alloc.proofs.RunBlocks.{limit_above}
 
@@ -24,6 +24,7 @@ pub record Counts (n : ℕ) (old b : RefBlockView) : Type 0 where
   pub bits : b.cluster_bits ≡ old.cluster_bits
   pub order : b.refcount_order ≡ old.refcount_order
   pub counts : CountsBelow n b
+  pub as_long : length b.bytes ≡ length old.bytes
 
 counted_next : (n : ℕ) (old new : RefBlockView) → CountsBelow n old → ChangesCount old.refcount_order old.bytes new.bytes n (count_at old n + 1) → new.refcount_order ≡ old.refcount_order → CountsBelow (n + 1) new
 counted_next n old new below changed same i =
@@ -56,4 +57,5 @@ counts_next n first old new true below full counted same = record {
   bits = ap (λ (b : RefBlockView). b.cluster_bits) (same refl) ∙ below.bits;
   order = ap (λ (b : RefBlockView). b.refcount_order) (same refl) ∙ below.order;
   counts = counted_next n old new below.counts (counted refl) (ap (λ (b : RefBlockView). b.refcount_order) (same refl));
+  as_long = (counted refl).as_long ∙ below.as_long;
 }

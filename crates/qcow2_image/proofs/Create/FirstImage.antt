@@ -1,5 +1,6 @@
 -- The three clusters of a new image: before the header is written the storage holds no image, afterwards a new one.
-use Rattle.qcow2_image.proofs.Common.{◌≡◌, inl, inr, ℕ, ◌+◌, ◌*◌, ◌/◌, ◌%◌, ◌^◌, ◌<◌, ◌≤◌, false, List, [], ◌++◌, length, replicate, Option, sym, ap, ◌∙◌, subst, arith, lit<, ◌==◌, ◌&&◌, ◌||◌, if◌then◌else◌, is_some, unwrap_or, cases_lt, cond-false, ne_eqb, length-append, le-div, div-mul-add, mod-mul-add, overwritten, byte_at-overwritten_below, byte_at-overwritten_behind, byte_at, number_at, HeaderFields, HeaderView, HeaderReads, backing_format_kind, cluster_size, data_file_kind, count_width, counts_per_block, entries_per_cluster, reftable_entries, IsHeaderIn, numbers_of, bytes_of_numbers, extension_size, header_bytes, header_written, name_extension, name_place, new_fields, reftable_entry, block_count, EntryTableView, entry_count, RefBlockView, IsRefBlockAt, count_at, counts_of, entry_at, IsNewImage, Sizes, Sizes-from, reftable-same, block_count-moved, begins_image, IsNewHeader, CountsThree, NamesOne}
+use Rattle.qcow2_image.proofs.Common.{◌≡◌, inl, inr, ℕ, ◌+◌, ◌*◌, ◌/◌, ◌%◌, ◌^◌, ◌<◌, ◌≤◌, false, List, [], ◌++◌, length, replicate, Option, sym, ap, ◌∙◌, subst, arith, lit<, ◌==◌, ◌&&◌, ◌||◌, if◌then◌else◌, is_some, unwrap_or, cases_lt, cond-false, ne_eqb, length-append, le-div, div-mul-add, mod-mul-add, overwritten, byte_at-overwritten_below, byte_at-overwritten_behind, byte_at, number_at, HeaderFields, HeaderView, HeaderReads, backing_format_kind, cluster_size, data_file_kind, count_width, counts_per_block, entries_per_cluster, reftable_entries, IsHeaderIn, numbers_of, bytes_of_numbers, extension_size, header_bytes, header_written, name_extension, name_place, new_fields, reftable_entry, block_count, EntryTableView, entry_count, RefBlockView, IsRefBlockAt, count_at, counts_of, entry_at, IsNewImage, Sizes, Sizes-from, reftable-same, block_count-moved, begins_image, IsNewHeader, CountsThree, NamesOne, IsThreeWith}
+use Rattle.image_access.proofs.Bytes.{length-overwritten, length-overwritten_within}
 use Rattle.qcow2_metadata.proofs.ReadBack.{length-name_extension, length-numbers}
 use Rattle.qcow2_metadata.proofs.WrittenTables.{IsRefTableOf-written}
 
@@ -41,6 +42,35 @@ module _ (v : HeaderView) (new : IsNewHeader v) where
 
   header_fits : length (header_bytes v) ≤ cluster_size h
   header_fits = omega (arith, written_length v, new.names.room)
+
+  -- written to an empty storage, the three clusters are all that it holds
+  module _ (block : RefBlockView) (counts : CountsThree v.fields block) (t : EntryTableView) (names : NamesOne v.fields t) (c1 c2 : List ℕ) (first : c1 ≡ overwritten [] (2 * cluster_size v.fields) block.bytes)
+      (second : c2 ≡ overwritten c1 (cluster_size v.fields) t.bytes) where
+    first_length : length c1 ≡ 3 * cluster_size h
+    first_length =
+        let whole = counts.whole in
+        let room = new.names.room in
+        let longest = length-overwritten [] (2 * cluster_size h) block.bytes (omega (arith, whole, room)) in
+        omega (arith, whole, longest, ap (λ (l : List ℕ). length l) first)
+
+    second_length : length c2 ≡ 3 * cluster_size h
+    second_length =
+        let whole = names.whole in
+        let long = first_length in
+        let same = length-overwritten_within c1 (cluster_size h) t.bytes (omega (arith, whole, long)) in
+        omega (arith, long, same, ap (λ (l : List ℕ). length l) second)
+
+    pub three_with : IsThreeWith v (header_written v c2)
+    three_with =
+        let fits = header_fits in
+        let long = second_length in
+        let size = written_length v in
+        record {
+          ends = length-overwritten_within c2 0 (header_bytes v) (omega (arith, fits, long)) ∙ long;
+          zeros = λ o past lt.
+              byte_at-overwritten_behind c2 0 (header_bytes v) o (omega (arith, size, past)) ∙ ap (λ (l : List ℕ). byte_at l o) second ∙ byte_at-overwritten_below c1 (cluster_size h) t.bytes o lt
+              ∙ ap (λ (l : List ℕ). byte_at l o) first ∙ byte_at-overwritten_below [] (2 * cluster_size h) block.bytes o (omega (arith, lt));
+        }
 
   module _ (block : RefBlockView) (counts : CountsThree v.fields block) (t : EntryTableView) (names : NamesOne v.fields t) (c1 c2 : List ℕ) (first : IsRefBlockAt (byte_at c1) (2 * cluster_size v.fields) block)
       (second : c2 ≡ overwritten c1 (cluster_size v.fields) t.bytes) (there : IsHeaderIn v (header_written v c2)) where

@@ -1,7 +1,7 @@
 -- The refblock, the reftable and the header of a new image are written one after another: what a stop may leave on the way.
-use Rattle.qcow2_image.proofs.Common.{◌≡◌, inl, inr, ℕ, ◌*◌, ◌/◌, ◌^◌, ◌≤◌, List, [], Option, Result, Ok, Err, sym, ap, ◌∙◌, subst, arith, IfSome, OnOk, overwritten, StorageView, EachMomentSince, Changes, Calls, StorageError, passes_none, passes_on, passes_if, passes_change, Bytes, byte_at, HeaderFields, HeaderView, header, cluster_size, entries_per_cluster, IsHeaderIn, header_written, cover, host_offset, EntryTableView, guest_value, value_under, known_byte, RefBlockView, IsRefBlockAt, L2Mapping, Uncovered, disk, disk_with, IsNewImage, new_image_consistent, cover_none, l1_entry-past, ImageError, IsUnwritten, IsStopOfCreating, StaysCreating, IsNewHeader, CountsThree, NamesOne, WritesThree}
+use Rattle.qcow2_image.proofs.Common.{◌≡◌, inl, inr, ℕ, ◌*◌, ◌/◌, ◌^◌, ◌≤◌, List, [], Option, Result, Ok, Err, sym, ap, ◌∙◌, subst, arith, IfSome, OnOk, overwritten, StorageView, EachMomentSince, Changes, Calls, StorageError, passes_none, passes_on, passes_if, passes_change, Bytes, byte_at, HeaderFields, HeaderView, header, cluster_size, entries_per_cluster, IsHeaderIn, header_written, cover, host_offset, EntryTableView, guest_value, value_under, known_byte, RefBlockView, IsRefBlockAt, L2Mapping, Uncovered, disk, disk_with, IsNewImage, new_image_consistent, cover_none, l1_entry-past, ImageError, IsUnwritten, IsStopOfCreating, StaysCreating, IsNewHeader, CountsThree, NamesOne, IsThreeWith, WritesThree}
 use Rattle.image_access.specs.declared.storage.PreallocateMode.TheVariants as Mode
-use Rattle.qcow2_image.proofs.Create.FirstImage.{IsBlank, no_image, blank_still, is_new_image}
+use Rattle.qcow2_image.proofs.Create.FirstImage.{IsBlank, no_image, blank_still, is_new_image, three_with}
 
 -- ---- a new image is unwritten
 uncovered_shows : (h : HeaderFields) (b backing : Bytes) (o : ℕ) → cover h b (o / cluster_size h) ≡ Uncovered → guest_value h b b backing o ≡ known_byte (backing o)
@@ -113,6 +113,12 @@ module _ {S : Type 0} (view : S → StorageView) (v : HeaderView) (new : IsNewHe
 
         pub new_stands : (z : Unit {0}) → r3 ≡ Ok z → IsNewImage h (byte_at (view s3).contents)
         new_stands z done'' = let is = rw done'' at (writes_third stops_second.honest) in subst (λ (l : List ℕ). IsNewImage h (byte_at l)) (sym is) new_there
+
+        pub three_there : (z : Unit {0}) → r3 ≡ Ok z → IsThreeWith v (view s3).contents
+        three_there z done'' =
+            let is = rw done'' at (writes_third stops_second.honest) in
+            let first : (view s1).contents ≡ overwritten [] (2 * cluster_size h) block.bytes = first_is ∙ ap (λ (l : List ℕ). overwritten l (2 * cluster_size h) block.bytes) empty in
+            subst (λ (l : List ℕ). IsThreeWith v l) (sym is) (three_with v new block counts t names (view s1).contents (view s2).contents first second_is)
 
 -- ---- one part after another
 pub stops_then : (n : ℕ) (old mid new : StorageView) → StaysCreating Mode.None n old mid → StaysCreating Mode.None n mid new → StaysCreating Mode.None n old new

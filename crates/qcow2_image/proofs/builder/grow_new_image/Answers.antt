@@ -1,10 +1,18 @@
-use Rattle.qcow2_image.proofs.Common.{◌≡◌, ◌∙◌, ℕ, ap, subst, sym, true, OnOk, byte_at, header, view_in, storage_of, HasNoLeaks}
+use Rattle.qcow2_image.proofs.Common.{◌≡◌, ◌∙◌, ℕ, ap, subst, sym, true, OnOk, byte_at, header, view_in, storage_of, Enlarges, HasNoLeaks}
 use Rattle.qcow2_image.proofs.Create.Causes.{opening_unlimited, told_closed, told_opening, usable_opened}
 use Rattle.qcow2_image.proofs.Create.Faults.{opening_fault, unmapped_opened}
-use Rattle.qcow2_image.proofs.Create.Creating.{opening_stops, opens_unwritten, enlarged_so, unwritten_mid}
+use Rattle.qcow2_image.proofs.Create.Creating.{flushed_enlarges, opening_stops, opens_unwritten, enlarged_so, unwritten_mid}
 use Rattle.qcow2_image.proofs.Open.Left.{opened_none}
 use Rattle.qcow2_image.proofs.Prepare.LimitCauses.{limits_as, other_limit}
 use Rattle.qcow2_image.proofs.builder.grow_new_image.Goals as goal
+
+pub returns-then-size-eq0-clause-enlarges : goal.returns-then-size-eq0-clause-enlarges
+returns-then-size-eq0-clause-enlarges g c = λ honest unwritten.
+    let view = g.S.Storage.view in
+    let old = view (storage_of c.args.storage) in
+    let new = storage_of c.flush_new_image-flushed.new.storage in
+    subst (λ s. Enlarges c.args.mode c.args.size old (view s) c.flush_new_image-flushed.result) (sym c.into_inner.ensures)
+    (flushed_enlarges c.args.mode old (view new) honest unwritten (c.flush_new_image-flushed.ensures.same honest) c.flush_new_image-flushed.ensures.time c.args.size c.if-size-eq0.true c.flush_new_image-flushed.result)
 
 pub returns-in-Err-clause-enlarges : goal.returns-in-Err-clause-enlarges
 returns-in-Err-clause-enlarges g c = λ honest unwritten. opening_stops c.args.mode c.args.size (g.S.Storage.view (storage_of c.args.storage)) (g.S.Storage.view c.in-Err.storage) unwritten (c.in-Err.ensures.step.since honest unwritten.consistent)

@@ -41,3 +41,6 @@ returns-clause-writes g c = λ honest new.
     let still = c.clear.ensures.honest honest in
     writes_then c.args.header.now.fields old mid (view (storage_of c.write_three.new.storage)) c.write_three.result (stops_cleared 0 old mid still (c.clear.ensures.time honest))
     (c.write_three.ensures.writes still (c.in_ok-clear.ensures.cleared honest) new c.in_ok-block.ensures.counts c.in_ok-reftable.ensures.names)
+
+pub returns-clause-alone : goal.returns-clause-alone
+returns-clause-alone g c = λ honest new. c.write_three.ensures.alone (c.clear.ensures.honest honest) (c.in_ok-clear.ensures.cleared honest) new c.in_ok-block.ensures.counts c.in_ok-reftable.ensures.names

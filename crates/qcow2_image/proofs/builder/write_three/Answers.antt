@@ -1,6 +1,6 @@
 use Rattle.qcow2_image.proofs.Common.{subst, sym, ◌≡◌, List, ℕ, IsHeaderIn, header_written, of_storage, storage_of, handed_on, WritesThree, fault_of_storage}
 use Rattle.qcow2_image.proofs.Prepare.LimitCauses.{hands_fault}
-use Rattle.qcow2_image.proofs.Create.ThreeWrites.{stops_first, stops_second, stops_third, new_stands}
+use Rattle.qcow2_image.proofs.Create.ThreeWrites.{stops_first, stops_second, stops_third, new_stands, three_there}
 use Rattle.qcow2_image.proofs.builder.write_three.Goals as goal
 
 pub returns-in_err-write_new_refblock-clause-writes : goal.returns-in_err-write_new_refblock-clause-writes
@@ -39,6 +39,14 @@ returns-clause-writes g c = λ honest empty new counts names.
           c.write_new_refblock.ensures.writes.written c.write_new_refblock.ensures.writes.calls c.in_ok-write_new_refblock.field-0 c.in_ok-write_new_refblock.was (storage_of c.set_write_kind-2.new.self) (storage_of c.write_reftable.new.self) c.set_write_kind-2.ensures.storage c.write_reftable.result c.write_reftable.ensures.writes.written c.write_reftable.ensures.writes.calls c.in_ok-write_reftable.field-0 c.in_ok-write_reftable.was
           c.write_new_refblock.ensures.of_image (storage_of c.set_write_kind-3.new.self) (storage_of c.write_new_header.new.self) c.set_write_kind-3.ensures.storage c.write_new_header.result c.write_new_header.ensures.writes.written c.write_new_header.ensures.writes.calls (c.write_new_header.ensures.reads new.names) c.in_ok-write_new_header.field-0 c.in_ok-write_new_header.was,
     )
+
+pub returns-clause-alone : goal.returns-clause-alone
+returns-clause-alone g c = λ honest empty new counts names.
+    let view = g.S.Storage.view in
+    let start = storage_of c.args.storage.now in
+    three_there view c.args.header.now new c.args.block.now counts c.args.reftable.now names start honest empty (storage_of c.set_write_kind.new.self) (storage_of c.write_new_refblock.new.self) c.set_write_kind.ensures.storage c.write_new_refblock.result
+    c.write_new_refblock.ensures.writes.written c.write_new_refblock.ensures.writes.calls c.in_ok-write_new_refblock.field-0 c.in_ok-write_new_refblock.was (storage_of c.set_write_kind-2.new.self) (storage_of c.write_reftable.new.self) c.set_write_kind-2.ensures.storage c.write_reftable.result c.write_reftable.ensures.writes.written c.write_reftable.ensures.writes.calls c.in_ok-write_reftable.field-0 c.in_ok-write_reftable.was
+    c.write_new_refblock.ensures.of_image (storage_of c.set_write_kind-3.new.self) (storage_of c.write_new_header.new.self) c.set_write_kind-3.ensures.storage c.write_new_header.result c.write_new_header.ensures.writes.written c.write_new_header.ensures.writes.calls (c.write_new_header.ensures.reads new.names) c.in_ok-write_new_header.field-0 c.in_ok-write_new_header.was
 
 pub returns-clause-stands : goal.returns-clause-stands
 returns-clause-stands g c = λ honest names.

@@ -1,7 +1,7 @@
 use Rattle.qcow2_image.proofs.Common.{◌≡◌, ◌∙◌, Err, Ok, Result, ap, refl, subst, sym, IfErr, IfOk, FaultsReported, storage_of, ImageError, IsMade, IsReasonNotToCreate, StopsCreating, IfErr-weaker}
 use Rattle.image_access.specs.declared.storage.PreallocateMode.TheVariants as Mode
 use Rattle.qcow2_image.proofs.Create.Causes.{reasons_made, reasons_of}
-use Rattle.qcow2_image.proofs.Create.Creating.{created_then, creating_stops, stops_at_none}
+use Rattle.qcow2_image.proofs.Create.Creating.{created_then, creating_stops, grew_then, stops_at_none}
 use Rattle.qcow2_image.proofs.Prepare.LimitCauses.{limits_as}
 use Rattle.qcow2_image.proofs.builder.Qcow2CreateBuilder.create.Goals as goal
 
@@ -35,7 +35,14 @@ returns-clause-created g c = λ honest.
     let builder = c.args.self in
     let made = subst (λ s. IsMade view builder s) (sym c.new.ensures.storage) (subst (λ (r : Result _ _). IfOk r (λ d. IsMade view builder c.make-storage.result.0)) c.in_default.is (c.make-storage.ensures.made honest)) in
     created_then view builder (storage_of c.new.result) c.grow_new_image.result.0 made c.grow_new_image.result.1
-    (c.grow_new_image.ensures.enlarges made.created.honest made.created.new_disk) (c.grow_new_image.ensures.leaks made.created.honest made.created.new_disk made.created.no_leaks)
+    (c.grow_new_image.ensures.enlarges made.created.honest made.created.new_disk) (c.grow_new_image.ensures.leaks made.created.honest made.created.new_disk made.created.no_leaks) (λ none. c.grow_new_image.ensures.stays none made.created.honest)
+
+pub returns-clause-grew : goal.returns-clause-grew
+returns-clause-grew g c = λ honest.
+    let view = g.S.Storage.view in
+    let builder = c.args.self in
+    let made = subst (λ s. IsMade view builder s) (sym c.new.ensures.storage) (subst (λ (r : Result _ _). IfOk r (λ d. IsMade view builder c.make-storage.result.0)) c.in_default.is (c.make-storage.ensures.made honest)) in
+    grew_then view builder (storage_of c.new.result) c.grow_new_image.result.0 made c.grow_new_image.result.1 (c.grow_new_image.ensures.enlarges made.created.honest made.created.new_disk)
 
 pub returns-clause-cause : goal.returns-clause-cause
 returns-clause-cause g c = λ honest.

@@ -24,7 +24,8 @@ returns-clause-made g c = λ honest.
     let there = subst (λ s. (view s).is_honest) (sym c.new-storage.ensures.storage) honest in
     let writes = c.write_new_image-done.ensures.writes there (new_header_is v bits order (backing_name_in builder) (backing_format_in builder) c.new-header.ensures.value c.new-header.ensures.names) in
     subst (λ s. IfOk done (λ d. IsMade view builder s)) (sym c.into_inner.ensures)
-    (made_by view builder bits order v c.new-header.ensures.value start mid done writes c.in-Ok.ensures.fits.clusters c.in-Ok.ensures.fits.counts (c.write_new_image-done.ensures.stands there c.new-header.ensures.names))
+    (made_by view builder bits order v c.new-header.ensures.value start mid done writes c.in-Ok.ensures.fits.clusters c.in-Ok.ensures.fits.counts (c.write_new_image-done.ensures.stands there c.new-header.ensures.names)
+    (c.write_new_image-done.ensures.alone there (new_header_is v bits order (backing_name_in builder) (backing_format_in builder) c.new-header.ensures.value c.new-header.ensures.names)))
 
 pub returns-clause-stops : goal.returns-clause-stops
 returns-clause-stops g c = λ honest.
