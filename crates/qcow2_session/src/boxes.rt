@@ -1,8 +1,14 @@
 //! Calls on an image whose storage and backing disk are of any types, each in a box.
-ghost use Rattle.std.specs.Prelude.{◌≡◌, length, IfOk, List, Option};
+ghost use Rattle.std.specs.Prelude.{◌≡◌, ◌<◌, length, IfErr, IfOk, IsTrue, List, Option, Err, false};
+ghost use Rattle.std.specs.Option.{option_flatten};
+ghost use Rattle.qcow2_alloc.specs.Faults.{FaultsReported};
+ghost use Rattle.qcow2_alloc.specs.declared.error.ImageError.TheVariants.{InvalidOption, Limit, Preallocation};
+ghost use Rattle.qcow2_image.specs.Created.{GrewFromNew, IsAllowed, IsCreated, IsReasonNotToCreate, StopsCreating};
+ghost use Rattle.qcow2_image.specs.Created.{allocates_over, longest_disk};
 ghost use Rattle.qcow2_image.specs.Image.{number_of};
-ghost use Rattle.qcow2_image.specs.ImageInvariant.{abstract_of};
-ghost use Rattle.qcow2_image.specs.Opened.{NeedsMissing};
+ghost use Rattle.qcow2_image.specs.ImageInvariant.{IsHonestBacking, abstract_of};
+ghost use Rattle.qcow2_image.specs.Opened.{NeedsMissing, Opens};
+ghost use Rattle.qcow2_image.specs.Readable.{IsNewlyOpened, OpeningStep, files_missing};
 ghost use Rattle.qcow2_image.specs.declared.prepared.Prepared.{Prepared};
 ghost use Rattle.qcow2_session.specs.CallSteps.{ReadingParts, RefusesToRead, RunStep};
 ghost use Rattle.qcow2_session.specs.CallSteps.{WriteFails, WriteStep, WroteSoundly};
@@ -14,7 +20,7 @@ ghost use Rattle.qcow2_session.specs.Told.{ReportsMatchImage, StaysQuiet};
 use crate::headline::open_and_run;
 use crate::session::{Command, Reply, read, run, write};
 use image_access::{BackingDisk, DynStorage, Storage};
-use qcow2_image::{ImageError, Qcow2};
+use qcow2_image::{ImageError, Qcow2, Qcow2CreateBuilder, Qcow2OpenBuilder};
 use std::alloc::Global;
 
 /// A storage of any type.
@@ -22,6 +28,49 @@ pub type AnyStorage = Box<dyn DynStorage>;
 
 /// A backing disk of any type.
 pub type AnyDisk = Box<dyn BackingDisk>;
+
+/// Opens the image that a builder describes, as `Qcow2OpenBuilder::open` does.
+pub fn open_in_boxes(
+    alloc: Global,
+    opener: Qcow2OpenBuilder<AnyStorage, AnyDisk>,
+) -> Result<Qcow2<AnyStorage, AnyDisk>, (AnyStorage, ImageError)>
+    ensures step { OpeningStep ⟦<AnyStorage as Storage>⟧.view (⟦<AnyStorage as Storage>⟧.view opener.image)
+        opener.writable (files_missing opener.backing) result }
+    ensures image { IfOk result (IsNewlyOpened (⟦<AnyStorage as Storage>⟧.view opener.image)
+        opener.writable opener.number) }
+    ensures over { IfOk result (λ image. image.backing ≡ option_flatten opener.backing) }
+    ensures opens { IsHonestBacking ⟦<AnyStorage as Storage>⟧.view ⟦<AnyDisk as BackingDisk>⟧.backing
+        (option_flatten opener.backing)
+        → IfOk result (Opens ⟦<AnyStorage as Storage>⟧.view ⟦<AnyDisk as BackingDisk>⟧.backing
+        (⟦<AnyStorage as Storage>⟧.view opener.image)) }
+{
+    opener.open(alloc)
+}
+
+/// Writes the new image that a builder describes, and returns its storage, as `Qcow2CreateBuilder::create` does.
+pub fn create_in_boxes(
+    alloc: Global,
+    builder: Qcow2CreateBuilder<AnyStorage>,
+) -> (AnyStorage, Result<(), ImageError>)
+    ensures stops { (⟦<AnyStorage as Storage>⟧.view builder.image).is_honest
+        → StopsCreating builder.preallocate builder.size (⟦<AnyStorage as Storage>⟧.view builder.image)
+        (⟦<AnyStorage as Storage>⟧.view result.0) }
+    ensures created { (⟦<AnyStorage as Storage>⟧.view builder.image).is_honest
+        → IfOk result.1 (λ done. IsCreated builder (⟦<AnyStorage as Storage>⟧.view result.0)) }
+    ensures grew { (⟦<AnyStorage as Storage>⟧.view builder.image).is_honest
+        → IfOk result.1 (λ done. GrewFromNew ⟦<AnyStorage as Storage>⟧.view builder result.0) }
+    ensures refused { ¬ IsAllowed builder → (result.1 ≡ Err InvalidOption) × (result.0 ≡ builder.image) }
+    ensures over { IsAllowed builder → IsTrue (allocates_over builder) → (result.1 ≡ Err Preallocation)
+        × (result.0 ≡ builder.image) }
+    ensures limit { IsAllowed builder → allocates_over builder ≡ false
+        → longest_disk builder.cluster_size < builder.size → (result.1 ≡ Err Limit) × (result.0 ≡ builder.image) }
+    ensures cause { (⟦<AnyStorage as Storage>⟧.view builder.image).is_honest
+        → IfErr result.1 (IsReasonNotToCreate ⟦<AnyStorage as Storage>⟧.view builder result.0) }
+    ensures faults { FaultsReported (⟦<AnyStorage as Storage>⟧.view builder.image).faults
+        (⟦<AnyStorage as Storage>⟧.view result.0).faults result.1 }
+{
+    builder.create(alloc)
+}
 
 /// Opens an image for writing, with its number, over the backing disk if one is given, and answers each command. It is
 /// refused as `open_and_run` is.

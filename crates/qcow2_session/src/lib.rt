@@ -12,7 +12,8 @@ mod slots;
 mod special;
 
 pub use boxes::{
-    AnyDisk, AnyStorage, open_and_run_in_boxes, read_in_boxes, run_in_boxes, write_in_boxes,
+    AnyDisk, AnyStorage, create_in_boxes, open_and_run_in_boxes, open_in_boxes, read_in_boxes,
+    run_in_boxes, write_in_boxes,
 };
 pub use headline::open_and_run;
 pub use qcow2_check::{Breach, Kind, Leak, Leaks, Report, check};

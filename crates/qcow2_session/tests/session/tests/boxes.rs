@@ -1,12 +1,13 @@
 //! That calls take storages and disks below of all types, in boxes.
 use super::{made, opened};
 use crate::boxes::{
-    AnyDisk, AnyStorage, open_and_run_in_boxes, read_in_boxes, run_in_boxes, write_in_boxes,
+    AnyDisk, AnyStorage, create_in_boxes, open_and_run_in_boxes, open_in_boxes, read_in_boxes,
+    run_in_boxes, write_in_boxes,
 };
 use crate::headline::open_and_run;
 use crate::session::{Command, Reply};
 use image_access::{BackingDisk, DynStorage, MemBacking, MemStorage, Storage, TraceStorage};
-use qcow2_image::{ImageError, Qcow2};
+use qcow2_image::{ImageError, Qcow2, Qcow2CreateBuilder};
 use std::alloc::{AllocError, Global};
 use std::test::Fail;
 
@@ -122,5 +123,31 @@ fn an_image_is_printed_by_the_name_of_its_storage(rt: HostRuntime) -> Result<(),
         assert_eq!(rt; storages.len(), 1);
         assert_eq!(rt; storages[0].as_str(), printed.1);
     }
+    Ok(())
+}
+
+// An empty storage in memory, in a box.
+fn empty(alloc: Global) -> Result<AnyStorage, AllocError> {
+    Ok(Box::new(alloc, MemStorage::new(Vec::new(alloc)))?)
+}
+
+// Creates an image in a box, and opens it for writing.
+fn created_in_boxes(alloc: Global) -> Result<Qcow2<AnyStorage, AnyDisk>, ImageError> {
+    let builder = Qcow2CreateBuilder::new(empty(alloc)?).size(65536);
+    let (storage, done) = create_in_boxes(alloc, builder);
+    done?;
+    match open_in_boxes(alloc, Qcow2::builder(storage, 1).write(true)) {
+        Ok(image) => Ok(image),
+        Err((_storage, refusal)) => Err(refusal),
+    }
+}
+
+#[test]
+fn builders_take_storages_in_boxes(rt: HostRuntime) -> Result<(), Fail> {
+    let alloc = rt.alloc();
+    let mut image = created_in_boxes(alloc)?;
+    assert!(rt; write_in_boxes(&mut image, 65534, &[0x77]).is_ok());
+    let bytes = read_in_boxes(alloc, &mut image, 65533, 3)?;
+    assert_eq!(rt; bytes.as_slice(), [0, 0x77, 0].as_slice());
     Ok(())
 }
