@@ -242,6 +242,21 @@ def special_reads_find_compressed_clusters():
     ], status=1)
 
 
+def special_reads_find_compressed_clusters_past_the_size():
+    """The size lies in the first of two compressed clusters, or before both."""
+    plain = "refused 18 not compressed"
+    for size in (100, 0):
+        two_compressed_clusters_share_one()
+        put("disk", 24, size.to_bytes(8, "big"))
+        answers("disk", [
+            ("map 100 1", "eof"),
+            *((f"special {at} {length}", "refused 7 compressed") for at, length in ((99, 1), (100, 4), (511, 2), (512, 1048576), (1023, 1))),
+            ("special 1024 1", plain),
+            ("special 18446744073709551615 4", plain),
+            ("special 512 0", "ok"),
+        ], status=1)
+
+
 def a_compressed_cluster_over_two_is_freed_in_both():
     """The data begin in the last sector of one host cluster and end in the next one; each is counted once."""
     create("disk", 65536, 4096)
@@ -405,6 +420,7 @@ def main():
         a_compressed_cluster_is_overwritten,
         a_compressed_cluster_is_cleared,
         special_reads_find_compressed_clusters,
+        special_reads_find_compressed_clusters_past_the_size,
         a_compressed_cluster_over_two_is_freed_in_both,
     ]:
         checks.run(check.__name__, check)

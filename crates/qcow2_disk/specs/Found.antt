@@ -53,9 +53,9 @@ abbrev pub IsCompressed : L2Mapping → Type 0
 IsCompressed (Compressed place sectors) = Unit {0}
 IsCompressed mapping = ⊥
 
--- The offset lies below the size, in a compressed guest cluster.
+-- The offset lies in a compressed guest cluster, also past the size.
 abbrev pub IsCompressedAt : Bytes → ℕ → Type 0
-IsCompressedAt known offset = (offset < (header known).size) × IsCompressed (cover (header known) known (offset / cluster_size (header known)))
+IsCompressedAt known offset = IsCompressed (cover (header known) known (offset / cluster_size (header known)))
 
 -- What a lookup finds in these bytes, with their own header.
 abbrev pub IsFoundIn : Bytes → Bool → ℕ → ℕ → Kind → ℕ → Type 0

@@ -1,5 +1,5 @@
 -- What the parts of a write do, and what the calls on mappings return: one record or relation for each kind of part.
-use Rattle.std.specs.Prelude.{◌≡◌, ◌≢◌, ◌⊎◌, ℕ, ◌+◌, ◌*◌, ◌/◌, ◌%◌, ◌^◌, ◌<◌, ◌≤◌, Bool, true, false, List, [], Option, None, Some, Result, Ok, Err, IfOk, IfErr, IfSome, OnOk, IsNone, IsOk, IsSome, IsTrue, Vec, length, is_some, vec_capacity, slice_get, MatchResult}
+use Rattle.std.specs.Prelude.{◌≡◌, ◌≢◌, ◌⊎◌, ℕ, ◌+◌, ◌*◌, ◌/◌, ◌%◌, ◌^◌, ◌<◌, ◌≤◌, min, Bool, true, false, List, [], Option, None, Some, Result, Ok, Err, IfOk, IfErr, IfSome, OnOk, IsNone, IsOk, IsSome, IsTrue, Vec, length, is_some, vec_capacity, slice_get, MatchResult}
 use Rattle.image_access.specs.Backing.{BackingView}
 use Rattle.image_access.specs.Moments.{StorageView}
 use Rattle.qcow2_metadata.specs.Cover.{cover}
@@ -11,7 +11,7 @@ use Rattle.qcow2_metadata.specs.declared.l2_mapping.L2Mapping.TheVariants.{Zero}
 use Rattle.qcow2_laws.specs.CrashInvariant.{Pending}
 use Rattle.qcow2_disk.specs.Alike.{AreDataAt}
 use Rattle.qcow2_disk.specs.Calls.{Shows}
-use Rattle.qcow2_disk.specs.Found.{IsFoundIn}
+use Rattle.qcow2_disk.specs.Found.{IsFoundIn, rest_of_table}
 use Rattle.qcow2_disk.specs.Mappings.{is_copied_data}
 use Rattle.qcow2_alloc.specs.CachePins.{l2_pins}
 use Rattle.qcow2_alloc.specs.ImageFile.{KeepsHeader, known_in}
@@ -24,7 +24,7 @@ use Rattle.qcow2_image.specs.BehindHeader.{PreservesHeaderCluster}
 use Rattle.qcow2_image.specs.Calls.{reason_of}
 use Rattle.qcow2_image.specs.CallParts.{PutsPart, Readies}
 use Rattle.qcow2_image.specs.Faults.{CountsImageFaults, NoFewerFaults, ReportsEachBy, ReportsFault}
-use Rattle.qcow2_image.specs.Found.{IsFoundInImage, IsFoundWhole, IsMappedAs, found_kind}
+use Rattle.qcow2_image.specs.Found.{IsFoundInImage, IsFoundWhole, IsMappedAs, IsRunFrom, found_kind}
 use Rattle.qcow2_image.specs.Image.{HasNothingToFree, ImageStays, IsSameImage, KeepsWholeHeader, is_failed, is_writable, number_of, size_of}
 use Rattle.qcow2_image.specs.ImageInvariant.{ImageInvariant, abstract_of, disk_of, meaning, new_data_by, over_all, pending_in}
 use Rattle.qcow2_image.specs.InternalSteps.{HoldsAll, HoldsTable, InternalFillingStep, InternalStep, IsFilled, Gains, SameHeld, AllocatesData}
@@ -189,6 +189,16 @@ module _ {S F : Type 0} (view : S → StorageView) (backing : F → BackingView)
   abbrev pub FindsRun : (offset max : ℕ) → Result (MappingKind × ℕ) ImageError → Type 0
   FindsRun offset max result = (p : Pending) (out : List (Option Prepared)) → ImageInvariant view backing p old out → FindsSoundly p out offset max result
 
+  -- Such a lookup of a range that may lie past the size: it finds the longest range within its L2 table that is mapped alike.
+  pub record FindsInTableSoundly (p : Pending) (out : List (Option Prepared)) (offset max : ℕ) (result : Result (MappingKind × ℕ) ImageError) : Type 0 where
+    pub keeps : InternalStep view backing p p old new out
+    pub known : known_in view new.file ≡ known_in view old.file
+    pub may_fail : IfErr result (MayFailLooking (IsCacheHeld old out))
+    pub run : IfOk result (λ (kind, n). IsRunFrom view new offset (min max (rest_of_table new.file.header.fields offset)) kind n)
+
+  abbrev pub FindsInTable : (offset max : ℕ) → Result (MappingKind × ℕ) ImageError → Type 0
+  FindsInTable offset max result = (p : Pending) (out : List (Option Prepared)) → ImageInvariant view backing p old out → FindsInTableSoundly p out offset max result
+
   -- A range is refused unless all of it still has this mapping.
   pub record ChecksMapped (p : Pending) (out : List (Option Prepared)) (offset n : ℕ) (kind : MappingKind) (result : Result (Unit {0}) ImageError) : Type 0 where
     pub keeps : InternalStep view backing p p old new out
@@ -211,7 +221,7 @@ module _ {S F : Type 0} (view : S → StorageView) (backing : F → BackingView)
   abbrev pub ReadsRange : (offset n : ℕ) → MappingKind → List ℕ → Result (Unit {0}) ImageError → Type 0
   ReadsRange offset n kind bytes result = (p : Pending) (out : List (Option Prepared)) → ImageInvariant view backing p old out → ReadsMapped p out offset n kind bytes result
 
-  -- A range is refused if it begins in a compressed cluster.
+  -- A range is refused if it begins in a compressed cluster, also past the size.
   pub record ChecksPlain (p : Pending) (out : List (Option Prepared)) (offset : ℕ) (result : Result (Option ℕ) ImageError) : Type 0 where
     pub keeps : InternalStep view backing p p old new out
     pub may_fail : IfErr result (λ e. MayFailLooking (IsCacheHeld old out) e ⊎ (e ≡ Compressed))

@@ -199,8 +199,8 @@ impl<S: Storage, F: WrappedFormat<S>> Qcow2<S, F> {
     }
 
     /// Reads a compressed range, from a guest offset on. A read of no bytes succeeds at any offset. The buffer stays the same.
-    /// Refused 16 (failed), 12 (dependency), in this order; then 7 (compressed) if the range begins in a compressed cluster,
-    /// and otherwise 18 (not compressed) with the offset. May be refused 4 (unaligned table), 8 (everything is in use),
+    /// Refused 16 (failed), 12 (dependency), in this order; then 7 (compressed) if the range begins in a compressed cluster, also past the
+    /// disk's size, and otherwise 18 (not compressed) with the offset. May be refused 4 (unaligned table), 8 (everything is in use),
     /// 14 (memory) or 15 (storage) during the work.
     pub fn readv_special(&mut self, bytes: &mut [u8], offset: u64) -> Result<(), ImageError>
         ensures step { ReadingCall S.view F.backing self.old self.new result }
@@ -218,8 +218,8 @@ impl<S: Storage, F: WrappedFormat<S>> Qcow2<S, F> {
     }
 
     /// Like `readv_special`, but returns the offset where `readv_special` refuses 18, and None for no bytes.
-    /// Refused 16 (failed), 12 (dependency), in this order; then 7 (compressed) if the range begins in a compressed cluster.
-    /// May be refused 4 (unaligned table), 8 (everything is in use), 14 (memory) or 15 (storage) during the work.
+    /// Refused 16 (failed), 12 (dependency), in this order; then 7 (compressed) if the range begins in a compressed cluster, also past the
+    /// disk's size. May be refused 4 (unaligned table), 8 (everything is in use), 14 (memory) or 15 (storage) during the work.
     pub fn try_readv_special(
         &mut self,
         bytes: &mut [u8],
@@ -237,18 +237,18 @@ impl<S: Storage, F: WrappedFormat<S>> Qcow2<S, F> {
             return Ok(None);
         }
         self.begin_call();
-        let plain = self.check_not_compressed(offset, bytes.len() as u64);
+        let plain = self.check_not_compressed(offset);
         self.mark_failure(plain)
     }
 
-    // The offset, if the range does not begin in a compressed cluster.
-    fn check_not_compressed(&mut self, offset: u64, length: u64) -> Result<Option<u64>, ImageError>
+    // The offset, if its guest cluster is not compressed. It may lie past the disk's size.
+    fn check_not_compressed(&mut self, offset: u64) -> Result<Option<u64>, ImageError>
         ensures step { ReadingStep S.view self.old self.new }
         ensures fails { ImageFails S.view F.backing self.old self.new result MayFail }
         ensures sound { ChecksWhether S.view F.backing self.old self.new offset result }
         ensures answer { IfOk result (λ at. at ≡ Some offset) }
     {
-        let (kind, _length) = self.look_up(offset, length)?;
+        let (kind, _length) = self.run_from(offset, 1)?;
         if kind.is_special() {
             return Err(ImageError::Compressed);
         }

@@ -1,5 +1,5 @@
 //! Lookups: the mapping of a guest offset, and how many bytes are mapped alike.
-ghost use Rattle.qcow2_image.specs.WriteSteps.{FindsRun, IsLookedUp, LooksUp, RefusesLookup};
+ghost use Rattle.qcow2_image.specs.WriteSteps.{FindsInTable, FindsRun, IsLookedUp, LooksUp, RefusesLookup};
 ghost use Rattle.qcow2_image.specs.ImageSteps.{ImageFails, ReadingCall, ReadingStep};
 ghost use Rattle.qcow2_disk.specs.Alike.{IsAlike};
 ghost use Rattle.std.specs.Prelude.{◌↔◌, List, Option, is_some, ◌≡◌, ◌+◌, ◌*◌, ◌-◌, ◌%◌, true, Some, ◌^◌, ◌<◌, ◌≤◌, []};
@@ -102,7 +102,24 @@ impl<S: Storage, F: WrappedFormat<S>> Qcow2<S, F> {
         if offset >= size {
             return Ok((MappingKind::Eof, 0));
         }
-        let max = max.min(size - offset).min(self.rest_of_table(offset));
+        self.run_from(offset, max.min(size - offset))
+    }
+
+    // The run of clusters that are mapped alike from an offset on, within one L2 table. The range may lie past the disk's size.
+    pub(crate) fn run_from(
+        &mut self,
+        offset: u64,
+        max: u64,
+    ) -> Result<(MappingKind, u64), ImageError>
+        ensures step { ReadingStep S.view self.old self.new }
+        ensures fails { ImageFails S.view F.backing self.old self.new result IsOfTables }
+        ensures sound { FindsInTable S.view F.backing self.old self.new offset max result }
+        ensures within { IfOk result (λ (kind, n). n ≤ max) }
+        ensures some { IfOk result (λ (kind, n). 0 < max → 0 < n) }
+        ensures held { (limit : ℕ) → max ≡ min limit (size_of self.old - offset) → offset < size_of self.old
+            → IfOk result (λ (kind, n). IsHeldRun self.new offset limit kind n) }
+    {
+        let max = max.min(self.rest_of_table(offset));
         match self.l2_cluster(offset)? {
             None => Ok((self.uncovered(offset), max)),
             Some(table) => {

@@ -1,5 +1,5 @@
--- A lookup finds a special range exactly if the guest cluster is compressed.
-use Rattle.qcow2_image.proofs.Common.{◌≡◌, inl, inr, ℕ, ◌/◌, Bool, true, false, refl, sym, ◌∙◌, subst, [], cases_lt, Bytes, cover, header, cluster_size, HeaderFields, L2Mapping, Data, Zero, Compressed, Uncovered, Refusal, AnsweredEffect, RefusedEffect, IsSame, storage, AbstractImage, Kind, raw, indirect, zeros, special, eof, kind_at, IsCompressed, IsCompressedAt, IsFoundIn}
+-- A lookup finds a special range exactly if the guest cluster is compressed, also past the size.
+use Rattle.qcow2_image.proofs.Common.{◌≡◌, inl, ℕ, ◌/◌, Bool, true, false, refl, sym, ◌∙◌, subst, [], Bytes, cover, header, cluster_size, HeaderFields, L2Mapping, Data, Zero, Compressed, Uncovered, Refusal, AnsweredEffect, RefusedEffect, IsSame, storage, AbstractImage, Kind, raw, indirect, zeros, special, eof, kind_at, IsCompressed, IsCompressedAt}
 use Rattle.qcow2_alloc.specs.declared.error.ImageError.TheVariants as I
 use Rattle.qcow2_image.specs.SpecialReads.{is_special}
 
@@ -16,22 +16,22 @@ compressed_special h b offset (Zero kept) is = absurd is
 compressed_special h b offset (Compressed place sectors) is = refl
 compressed_special h b offset Uncovered is = absurd is
 
-module _ (known : Bytes) (b : Bool) (offset max n : ℕ) where
+module _ (known : Bytes) (b : Bool) (offset : ℕ) where
+  abbrev IsKindThere : Kind → Type 0
+  IsKindThere kind = kind ≡ kind_at (header known) b offset (cover (header known) known (offset / cluster_size (header known)))
+
   -- it was found to be special
-  pub found_special : (kind : Kind) → IsFoundIn known b offset max kind n → is_special kind ≡ true → IsCompressedAt known offset
-  found_special (special o) found is = elim (cases_lt offset (header known).size) [
-    | inl below ↦ (below, special_compressed (header known) b offset o (cover (header known) known (offset / cluster_size (header known))) (found.run below).kind_is)
-    | inr past ↦ absurd (let e : special o ≡ eof = (found.past past).0 in cc)
-  ]
+  pub found_special : (kind : Kind) → IsKindThere kind → is_special kind ≡ true → IsCompressedAt known offset
+  found_special (special o) found is = special_compressed (header known) b offset o (cover (header known) known (offset / cluster_size (header known))) found
   found_special (raw external host writable) found is = absurd cc
   found_special (indirect o) found is = absurd cc
   found_special (zeros explicit) found is = absurd cc
   found_special eof found is = absurd cc
 
   -- it wasn't
-  pub found_plain : (kind : Kind) → IsFoundIn known b offset max kind n → is_special kind ≡ false → IsCompressedAt known offset → ⊥
+  pub found_plain : (kind : Kind) → IsKindThere kind → is_special kind ≡ false → IsCompressedAt known offset → ⊥
   found_plain kind found not is =
-      let special : is_special kind ≡ true = subst (λ k. is_special k ≡ true) (sym (found.run is.0).kind_is) (compressed_special (header known) b offset (cover (header known) known (offset / cluster_size (header known))) is.1) in
+      let special : is_special kind ≡ true = subst (λ k. is_special k ≡ true) (sym found) (compressed_special (header known) b offset (cover (header known) known (offset / cluster_size (header known))) is) in
       let e : false ≡ true = sym not ∙ special in
       cc
 

@@ -1,0 +1,116 @@
+use Rattle.qcow2_image.proofs.Common.{IfOk-weaker, ◌≡◌, ◌-◌, ◌/◌, ◌<◌, sym, ap, ◌∙◌, subst, arith, min, is_some, Some, None, false, true, rules, cluster_size, host_offset, IsLongestRun, table_at, Sizes-from, cover_none, IsTop-top, contents_in, known_in, kind_at, rest_of_table, l1_index_of, l2_index_of, NamesL2Table, IsRunFrom, IfSome, MatchOption, IsEntryAt, IsCacheHeld, MayFailLooking, own_table}
+use Rattle.qcow2_image.proofs.Map.Loading.{caches_moved, with_caches}
+use Rattle.qcow2_image.proofs.Map.Looked.{none_found}
+use Rattle.qcow2_image.proofs.Call.BehindHeader.{behind_caches}
+use Rattle.qcow2_image.proofs.Map.FailingLookups.{answers_met, cache_looking, named_entry}
+use Rattle.qcow2_image.proofs.Prepare.FailingCopies.{hands_met}
+use Rattle.qcow2_image.proofs.Prepare.MissingL2Table.{named_place}
+use Rattle.qcow2_image.proofs.Map.Quiet.{reads_none}
+use Rattle.qcow2_image.proofs.Map.Held.{uncovered_held}
+use Rattle.qcow2_image.specs.HeldMappings.{named_place as place_named}
+use Rattle.qcow2_image.proofs.image.Qcow2.run_from.Goals as goal
+
+pub returns-in_err-l2_get_or_insert-in-Some-clause-sound : goal.returns-in_err-l2_get_or_insert-in-Some-clause-sound
+returns-in_err-l2_get_or_insert-in-Some-clause-sound g c = λ p out sound.
+    let view = g.S.Storage.view in
+    let below = g.F.BackingDisk.backing in
+    let old = c.args.self.now in
+    let h = old.file.header.fields in
+    let e = c.in_err-l2_get_or_insert-in-Some.field-0.0 in
+    let stay = c.l2_get_or_insert.ensures.sound.keeps h p sound.file.honest sound.file.caches in
+    let names : NamesL2Table view old c.args.offset (Some c.in-Some.table) = subst (NamesL2Table view old c.args.offset) c.in-Some.is (c.in_ok-l2_cluster.ensures.names sound.l1_table) in
+    record {
+      keeps = caches_moved view below old out p sound c.l2_get_or_insert.new.storage c.l2_get_or_insert.new.self stay c.l2_get_or_insert.ensures.step.marks.pins.room c.l2_get_or_insert.ensures.step.marks.pins.pins;
+      known = stay.known;
+      may_fail = hands_met (MayFailLooking (IsCacheHeld old out)) c.from_residual-in_err-l2_get_or_insert-in-Some.result e c.from_residual-in_err-l2_get_or_insert-in-Some.ensures
+          (cache_looking view below out p old sound e
+          (c.in_err-l2_get_or_insert-in-Some.ensures.refusals h (named_place h (contents_in view old.file) (l1_index_of h c.args.offset) c.in-Some.table names.0) p sound.file.honest sound.file.caches sound.file.named_blocks));
+      run = search rules;
+    }
+
+pub returns-in_ok-l2_get_or_insert-in-Some-clause-sound : goal.returns-in_ok-l2_get_or_insert-in-Some-clause-sound
+returns-in_ok-l2_get_or_insert-in-Some-clause-sound g c = λ p out sound.
+    let view = g.S.Storage.view in
+    let below = g.F.BackingDisk.backing in
+    let old = c.args.self.now in
+    let h = old.file.header.fields in
+    let stay = c.l2_get_or_insert.ensures.sound.keeps h p sound.file.honest sound.file.caches in
+    let kept = caches_moved view below old out p sound c.l2_get_or_insert.new.storage c.l2_get_or_insert.new.self stay c.l2_get_or_insert.ensures.step.marks.pins.room c.l2_get_or_insert.ensures.step.marks.pins.pins in
+    let image = with_caches view below old out p sound c.l2_get_or_insert.new.storage c.l2_get_or_insert.new.self in
+    let names : NamesL2Table view old c.args.offset (Some c.in-Some.table) = subst (NamesL2Table view old c.args.offset) c.in-Some.is (c.in_ok-l2_cluster.ensures.names sound.l1_table) in
+    let entry = subst (λ b. IsEntryAt h b (l1_index_of h c.args.offset) c.in-Some.table (l2_index_of h c.args.offset)) (sym stay.known) (named_entry view below out p old sound c.args.offset c.in-Some.table names) in
+    let limit : c.min-max.result ≡ min c.args.max (rest_of_table h c.args.offset) = c.min-max.ensures ∙ ap (min c.args.max) c.rest_of_table.ensures.value in
+    record {
+      keeps = kept;
+      known = stay.known;
+      may_fail = answers_met (MayFailLooking (IsCacheHeld old out)) c.run_in_table.result (c.run_in_table.ensures.reads p kept.sound.file entry (omega (arith, limit)));
+      run = IfOk-weaker c.run_in_table.result _ _ (λ x run. subst (λ m. IsRunFrom view image c.args.offset m x.0 x.1) limit run) (c.run_in_table.ensures.run p kept.sound.file entry (omega (arith, limit)));
+    }
+
+pub returns-in-None-clause-sound : goal.returns-in-None-clause-sound
+returns-in-None-clause-sound g c = λ p out sound.
+    let old = c.args.self.now in
+    let view = g.S.Storage.view in
+    record {
+      keeps = search rules;
+      known = search rules;
+      may_fail = search rules;
+      run = let h = old.file.header.fields in
+          let known = known_in view old.file in
+          let crash_invariant = sound.file.caches.kept.kept.crash_invariant in
+          let sizes = Sizes-from h known (IsTop-top h (contents_in view old.file) known crash_invariant.same_top crash_invariant.top).header_reads in
+          let names : NamesL2Table view old c.args.offset None = subst (NamesL2Table view old c.args.offset) c.in-None.is (c.in_ok-l2_cluster.ensures.names sound.l1_table) in
+          let none : table_at h known (l1_index_of h c.args.offset) ≡ 0 = ap host_offset (sym (crash_invariant.same_top.l1 (l1_index_of h c.args.offset))) ∙ names in
+          let limit : c.min-max.result ≡ min c.args.max (rest_of_table h c.args.offset) = c.min-max.ensures ∙ ap (min c.args.max) c.rest_of_table.ensures.value in
+          record {
+            kind_is = c.uncovered.ensures.value ∙ ap (kind_at h (is_some old.backing) c.args.offset) (sym (cover_none h known (c.args.offset / cluster_size h) none));
+            longest = subst (λ m. IsLongestRun h known c.args.offset m c.min-max.result) limit (none_found h c.args.offset sizes known c.min-max.result (omega (arith, limit)) none);
+          };
+    }
+
+pub returns-in_err-l2_cluster-clause-sound : goal.returns-in_err-l2_cluster-clause-sound
+returns-in_err-l2_cluster-clause-sound g c = λ p out sound.
+    record {
+      keeps = search rules;
+      known = search rules;
+      may_fail = absurd (let no : false ≡ true = c.in_err-l2_cluster.ensures.reads p out sound in cc);
+      run = search rules;
+    }
+
+pub returns-in-None-clause-held : goal.returns-in-None-clause-held
+returns-in-None-clause-held g c = λ most is lt.
+    let h = c.args.self.now.file.header.fields in
+    let limit : c.min-max.result ≡ min (min most (h.size - c.args.offset)) (rest_of_table h c.args.offset) = c.min-max.ensures ∙ ap (min c.args.max) c.rest_of_table.ensures.value ∙ ap (λ m. min m (rest_of_table h c.args.offset)) is in
+    let image = c.args.self.now in
+    let none = subst (λ t. MatchOption t (place_named h image.l1_table c.args.offset ≡ 0) (λ cluster. (cluster ≡ own_table image c.args.offset) × ¬ (place_named h image.l1_table c.args.offset ≡ 0))) c.in-None.is c.in_ok-l2_cluster.ensures.own in
+    uncovered_held h (is_some image.backing) image.l1_table image.file.caches c.args.offset c.min-max.result most limit lt c.uncovered.result none c.uncovered.ensures.value
+
+pub returns-in_ok-l2_get_or_insert-in-Some-clause-held : goal.returns-in_ok-l2_get_or_insert-in-Some-clause-held
+returns-in_ok-l2_get_or_insert-in-Some-clause-held g c = λ most is lt.
+    let h = c.args.self.now.file.header.fields in
+    let limit : c.min-max.result ≡ min (min most (h.size - c.args.offset)) (rest_of_table h c.args.offset) = c.min-max.ensures ∙ ap (min c.args.max) c.rest_of_table.ensures.value ∙ ap (λ m. min m (rest_of_table h c.args.offset)) is in
+    let image = c.args.self.now in
+    let own = subst (λ t. MatchOption t (place_named h image.l1_table c.args.offset ≡ 0) (λ cluster. (cluster ≡ own_table image c.args.offset) × ¬ (place_named h image.l1_table c.args.offset ≡ 0))) c.in-Some.is c.in_ok-l2_cluster.ensures.own in
+    c.run_in_table.ensures.held most limit lt own.0 own.1
+
+pub returns-in_err-l2_get_or_insert-in-Some-clause-step : goal.returns-in_err-l2_get_or_insert-in-Some-clause-step
+returns-in_err-l2_get_or_insert-in-Some-clause-step g c = record {
+  header = search rules;
+  list = search rules;
+  part = record { stays = search rules; notes = search rules; header_cluster = behind_caches (c.l2_get_or_insert.ensures.step.header_cluster (subst (λ t. IfSome t (λ n. 0 < n)) c.in-Some.is c.in_ok-l2_cluster.ensures.elsewhere)) };
+  quiet = c.l2_get_or_insert.ensures.step.all_written;
+}
+
+pub returns-in_ok-l2_get_or_insert-in-Some-clause-step : goal.returns-in_ok-l2_get_or_insert-in-Some-clause-step
+returns-in_ok-l2_get_or_insert-in-Some-clause-step g c = record {
+  header = search rules;
+  list = search rules;
+  part = record { stays = search rules; notes = search rules; header_cluster = behind_caches (c.l2_get_or_insert.ensures.step.header_cluster (subst (λ t. IfSome t (λ n. 0 < n)) c.in-Some.is c.in_ok-l2_cluster.ensures.elsewhere)) };
+  quiet = c.l2_get_or_insert.ensures.step.all_written;
+}
+
+pub returns-in-None-clause-step : goal.returns-in-None-clause-step
+returns-in-None-clause-step g c = record { part = search rules; header = search rules; list = search rules; quiet = reads_none g.S.Storage.view c.args.self.now }
+
+pub returns-in_err-l2_cluster-clause-step : goal.returns-in_err-l2_cluster-clause-step
+returns-in_err-l2_cluster-clause-step g c = record { part = search rules; header = search rules; list = search rules; quiet = reads_none g.S.Storage.view c.args.self.now }
