@@ -263,6 +263,15 @@ def a_size_past_the_limit_is_refused():
             equal(contents("disk") == before, True, f"the bytes after {size} {mode}")
 
 
+def a_refused_growth_frees_nothing():
+    """The cluster of a mapping that is dropped waits to be freed. The next mapping doesn't get it before a flush."""
+    for mode in MODES:
+        create("disk", 65536, 512)
+        said = run("disk", "prepare 1 0 512 overwrite", "drop 1", f"grow 18446744073709551615 {mode}", "prepare 1 512 512 overwrite", "drop 1", "flush", "prepare 1 512 512 overwrite", "drop 1", status=1)
+        host = int(said[0].split()[1])
+        equal(said[1:], ["ok", "refused 13 limit", f"prepared {host + 512} 512", "ok", "ok", f"prepared {host} 512", "ok"], mode)
+
+
 def the_greatest_size():
     """Its L1 table has 4,194,304 entries of eight bytes. An entry covers 512 GiB where clusters have 2 MiB."""
     size = 4194304 << 39
@@ -589,6 +598,7 @@ def main():
         version_2_has_no_zeros,
         a_size_that_is_not_another_changes_nothing,
         a_size_past_the_limit_is_refused,
+        a_refused_growth_frees_nothing,
         the_greatest_size,
         a_prepared_mapping_keeps_the_size,
     ):

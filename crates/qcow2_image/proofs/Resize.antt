@@ -11,3 +11,4 @@ pub mod GrowCalls
 pub mod GrownTables
 pub mod CountedSteps
 pub mod StepCalls
+pub mod RefusedGrowths

@@ -15,10 +15,10 @@ use Rattle.qcow2_image.specs.CallParts.{FindsTable, PreparesRange}
 use Rattle.qcow2_image.specs.Image.{size_of}
 use Rattle.qcow2_image.specs.L1Entries.{HasNearEntry, HasOwnTable, NeedsOverflowingL1Entry}
 use Rattle.qcow2_image.specs.Limits.{GoesTo, IfLimit, IsLimited, IsLimitedAmong, IsLimitedTaking, IsLimitedInternal}
-use Rattle.qcow2_image.specs.ListedClusters.{ListsNoMore}
+use Rattle.qcow2_image.specs.ListedClusters.{LeavesListed, ListsNoMore}
 use Rattle.qcow2_image.specs.MayFail.{CopiesCompressed, IsCopiedCompressed, MayFailAlone, MayFailGrowing, MayFailAllocating}
 use Rattle.qcow2_image.specs.NewTables.{IsFaultOrLacksTable}
-use Rattle.qcow2_image.specs.Refusals.{FreesRefused, IsFaultOrLimit}
+use Rattle.qcow2_image.specs.Refusals.{IsFaultOrLimit}
 use Rattle.qcow2_image.specs.Resizing.{GrowsLast, GrowsTables, all_given_by_grow}
 use Rattle.qcow2_image.specs.Found.{l1_index_of}
 use Rattle.qcow2_image.specs.Preparing.{IsAnswered, IsTaken}
@@ -103,10 +103,10 @@ module _ {S F : Type 0} (view : S → StorageView) (backing : F → BackingView)
     pub may_fail : IfErr result (MayFailAlone (CopiesCompressed mapping.guest length overwrite old.file.header.fields (known_in view old.file)) ⊥)
     pub limit : GoesTo view start old → IfLimit result (IsLimitedAmong view backing [] 1 start out)
 
-  -- A growth. Each refusal has its cause in the image before it; a limit (13) was passed at some state within it. It leaves no cluster waiting to be freed, except after a fault. The size is the last write. The L1 table and the L2 tables are as the mode says. With mode `None` a stop is as safe as before over every disk below.
+  -- A growth. Each refusal has its cause in the image before it; a limit (13) was passed at some state within it. What waits to be freed after a refusal is as `LeavesListed` says. The size is the last write. The L1 table and the L2 tables are as the mode says. With mode `None` a stop is as safe as before over every disk below.
   pub record GrowsSoundly (mode : PreallocateMode) (size : ℕ) (old new : Qcow2 S F) (out : List (Option Prepared)) (result : Result (Unit {0}) ImageError) : Type 0 where
     pub may_fail : IfErr result (MayFailGrowing out mode (size_of old) (rounded_up (cluster_size old.file.header.fields) size) old.file.header.fields (known_in view old.file))
     pub limit : IfLimit result (IsLimited view backing (all_given_by_grow view backing old size mode) (rounded_up (cluster_size old.file.header.fields) size) old out)
     pub last : GrowsLast view backing mode size old new result
     pub tables : GrowsTables view backing old new size mode out result
-    pub freed : IfErr result (FreesRefused new)
+    pub freed : IfErr result (LeavesListed mode old new)

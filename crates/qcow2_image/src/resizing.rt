@@ -22,7 +22,7 @@ ghost use Rattle.qcow2_image.specs.Growing.{LastsCall, LastsPart};
 ghost use Rattle.qcow2_image.specs.Image.{HasNothingToFree, IsSameImage, has_noted_change, is_failed, is_writable};
 ghost use Rattle.qcow2_image.specs.Image.{size_of, with_marks};
 ghost use Rattle.qcow2_image.specs.ImageInvariant.{ImageInvariant, abstract_of, pending_in};
-ghost use Rattle.qcow2_image.specs.Refusals.{FreesRefused, MayFail, MayFailPreparing, MarksFailed};
+ghost use Rattle.qcow2_image.specs.Refusals.{MayFail, MayFailPreparing, MarksFailed};
 ghost use Rattle.qcow2_image.specs.Refusals.{MarksRefused};
 ghost use Rattle.qcow2_image.specs.Resizing.{GrowsTo, MayFailShrinking, IsResized, Shrinks, WritesSize};
 ghost use Rattle.qcow2_image.specs.Resizing.{refuses_to_resize, size_after};
@@ -169,7 +169,8 @@ impl<S: Storage, F: WrappedFormat<S>> Qcow2<S, F> {
     }
 
     /// Grows the disk. The mode says what the new bytes are, and how they are allocated. A size that isn't larger changes nothing.
-    /// Otherwise no cluster waits to be freed afterwards, also after a refusal, except 6, 9, 14 and 15.
+    /// Otherwise no cluster waits to be freed afterwards, also after a refusal, except 6, 9, 14 and 15, and 13 while the L1 table is
+    /// replaced: then those that waited still do.
     /// Refused in this order: 16 (failed), 12 (dependency), 1 (read-only); for a larger size also 6 (preallocation), for a mode that allocates
     /// clusters over a backing disk; then 13 (limit) if the L1 table would be too long, and 3 (version) for `Zero` below
     /// version 3. May be refused 4 (unaligned table), 13 (limit), 14 (memory) or 15 (storage) during the work. All modes but `None` may also
@@ -225,7 +226,7 @@ impl<S: Storage, F: WrappedFormat<S>> Qcow2<S, F> {
         ensures sees { GrowsTo S.view F.backing self.old self.new size mode result }
     {
         self.begin_call();
-        let longer = self.renew_l1_table(size - 1);
+        let longer = self.lengthen_l1_table(size - 1);
         self.mark_failure(longer)?;
         let end = self.file.header.size();
         let filled = self.fill_grown(end, size, mode);
@@ -249,35 +250,7 @@ impl<S: Storage, F: WrappedFormat<S>> Qcow2<S, F> {
     }
 
     // Replaces the L1 table by one that has an entry for an offset, and all old entries. The clusters of the old one are freed then. After
-    // a refusal, those on the list are freed, except after a fault.
-    #[tactic(auto, using(crate::proofs::Call::FailingErrors::tables_met))]
-    fn renew_l1_table(&mut self, offset: u64) -> Result<(), ImageError>
-        requires writable { IsTrue (is_writable self.old) }
-        ensures step { ImageStep S.view self.old self.new }
-        ensures fails { ImageFails S.view F.backing self.old self.new result MayFail }
-        ensures recorded { OnOk result (IsTrue self.new.file.caches.is_changed) }
-        ensures placed { self.old.l1_table.cluster_bits ≡ self.old.file.header.fields.cluster_bits
-            → OnOk result (IsPlacedNear self.new.l1_table) }
-        ensures length { OnOk result (entry_count self.new.l1_table ≡ max (entry_count self.old.l1_table)
-            (l1_index_of self.old.file.header.fields offset + 1)) }
-        ensures emptied { OnOk result (HasNothingToFree self.new) }
-        ensures sound { (out : List (Option Prepared))
-            → ImageInvariant S.view F.backing (pending_in S.view F.backing self.old out) self.old out
-            → ReachesSoundly S.view F.backing offset self.old self.new out result }
-        ensures lasts { (out : List (Option Prepared))
-            → ImageInvariant S.view F.backing (pending_in S.view F.backing self.old out) self.old out
-            → LastsCall S.view [] self.old self.new result }
-        ensures freed { (out : List (Option Prepared))
-            → ImageInvariant S.view F.backing (pending_in S.view F.backing self.old out) self.old out
-            → IfErr result (FreesRefused self.new) }
-    {
-        match self.lengthen_l1_table(offset) {
-            Ok(()) => Ok(()),
-            Err(refusal) => Err(self.process_free_list_after(refusal)),
-        }
-    }
-
-    // Replaces the L1 table by one that has an entry for an offset, and all old entries. The clusters of the old one are freed then.
+    // a refusal, those on the list stay on it.
     #[tactic(auto, using(crate::proofs::Call::FailingErrors::tables_met))]
     fn lengthen_l1_table(&mut self, offset: u64) -> Result<(), ImageError>
         requires writable { IsTrue (is_writable self.old) }

@@ -1,6 +1,7 @@
-use Rattle.qcow2_image.proofs.Common.{IsPlacedNear, ◌≡◌, ◌+◌, ◌/◌, ◌^◌, max, ap, ◌∙◌, sym, subst, entry_count, Pending, handed_on, always_ok, l1_index_of, ImageInvariant, pending_in, MakesEntry, on_no_ok, on_ok, pending_with_listed, LastsPart}
+use Rattle.qcow2_image.proofs.Common.{IfErr-weaker, IsPlacedNear, ◌≡◌, ◌+◌, ◌/◌, ◌^◌, max, ap, ◌∙◌, sym, subst, entry_count, Pending, handed_on, always_ok, l1_index_of, ImageInvariant, pending_in, MakesEntry, on_no_ok, on_ok, pending_with_listed, LastsPart, IsFault, ListGrows, inl, ◌⊎◌, IsTrue}
 use Rattle.qcow2_image.proofs.Flush.Freeing.{all_listed, beside}
-use Rattle.qcow2_image.proofs.Grow.ReplacedL1Table.{freed_then, refused_moved, stays_moved}
+use Rattle.qcow2_image.proofs.Grow.ReplacedL1Table.{freed_then, listed_moved, refused_moved, stays_moved}
+use Rattle.qcow2_image.proofs.Prepare.FailingCopies.{hands_met}
 use Rattle.qcow2_image.proofs.Prepare.LimitCauses.{faults_or_limit, faults_unlimited, hands_either, hands_limit, limited_more, limited_unseen, unlimited_all}
 use Rattle.qcow2_image.proofs.Call.ImageSteps.{step_then}
 use Rattle.qcow2_image.proofs.image.Qcow2.lengthen_l1_table.Goals as goal
@@ -43,6 +44,7 @@ returns-in_err-grow_l1_table-clause-sound g c = λ out sound.
       makes = handed_on (MakesEntry view below old mid out) c.from_residual.result e c.from_residual.ensures (refused_moved view below out old mid sound e (c.in_err-grow_l1_table.ensures.lengthens p out sound));
       fault = hands_either c.from_residual.result e c.from_residual.ensures (c.in_err-grow_l1_table.ensures.fault c.requires.writable p out sound);
       limit = hands_limit c.from_residual.result e c.from_residual.ensures (λ is. limited_more (limited_unseen sound (c.in_err-grow_l1_table.ensures.limit p out sound c.args.offset idx is)));
+      listed = hands_met (λ x. IsFault x ⊎ ListGrows old mid) c.from_residual.result e c.from_residual.ensures (listed_moved view below p old mid out e (c.in_err-grow_l1_table.ensures.lengthens p out sound));
     }
 
 pub returns-clause-sound : goal.returns-clause-sound
@@ -58,6 +60,7 @@ returns-clause-sound g c = λ out sound.
       makes = freed_then view below out old mid c.process_free_list.new.self first c.process_free_list.result (c.process_free_list.ensures.frees (beside view below mid out) out listed);
       fault = faults_or_limit c.process_free_list.result fault;
       limit = unlimited_all c.process_free_list.result _ (faults_unlimited c.process_free_list.result fault);
+      listed = IfErr-weaker c.process_free_list.result _ _ (λ e is. inl is) fault;
     }
 
 pub returns-in_err-grow_l1_table-clause-lasts : goal.returns-in_err-grow_l1_table-clause-lasts
