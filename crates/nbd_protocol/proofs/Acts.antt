@@ -1,5 +1,6 @@
 -- What several calls do, one after another, whatever they return.
-use Rattle.nbd_protocol.proofs.Common.{◌⊎◌, inl, inr, Result, Ok, Err, IsErrAnd, IsTrue, Errno, Acts, DeviceView}
+use Rattle.std.proofs.Common.{◌⊎◌, inl, inr, Result, Ok, Err}
+use Rattle.nbd_protocol.proofs.Common.{IsErrAnd, IsTrue, Errno, Acts, DeviceView}
 
 -- a refusal that is passed on
 pub acts_refused : {T : Type 0} (old new : DeviceView) (done : T → Type 0) (still : Type 0) (r : Result T Errno) (Q : Errno → Type 0) → IsErrAnd r Q

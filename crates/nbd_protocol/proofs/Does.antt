@@ -1,5 +1,6 @@
 -- What requests do, and that they do nothing else.
-use Rattle.nbd_protocol.proofs.Common.{inl, inr, ℕ, ◌+◌, ◌<◌, List, length, refl, ◌∙◌, arith, Command, Request, Does, MayDo, DeviceView, MayWrite, Stays, StaysBeside, Writes, Zeroes}
+use Rattle.std.proofs.Common.{◌+◌, ◌<◌, inl, inr, ℕ, List, length, refl, ◌∙◌, arith}
+use Rattle.nbd_protocol.proofs.Common.{Command, Request, Does, MayDo, DeviceView, MayWrite, Stays, StaysBeside, Writes, Zeroes}
 use Rattle.nbd_protocol.specs.declared.request.Command.TheVariants as C
 use Rattle.nbd_protocol.proofs.Ranges.{may_of_zeroes, may_start, stays_start, stays_then}
 use Rattle.nbd_protocol.proofs.Trims.{trims_of_stays, trims_start, trims_then}

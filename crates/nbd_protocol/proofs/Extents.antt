@@ -1,5 +1,6 @@
 -- Appending one run of the disk to a list of runs.
-use Rattle.nbd_protocol.proofs.Common.{◌≡◌, ◌+◌, ◌<◌, ◌++◌, ◌∷◌, ℕ, [], List, subst, sym, arith, IsTrue, Extent, AreExtents, total, DeviceView, ShowsZeros, is_zeros}
+use Rattle.std.proofs.Common.{◌≡◌, ◌+◌, ◌<◌, ◌++◌, ◌∷◌, ℕ, [], List, subst, sym, arith}
+use Rattle.nbd_protocol.proofs.Common.{IsTrue, Extent, AreExtents, total, DeviceView, ShowsZeros, is_zeros}
 
 total_push : (es : List Extent) (e : Extent) → total (es ++ e ∷ []) ≡ total es + e.length
 total_push [] e = omega arith

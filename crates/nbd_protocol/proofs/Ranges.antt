@@ -1,5 +1,6 @@
 -- Ranges of a device that are zeroed, written and discarded one after another.
-use Rattle.nbd_protocol.proofs.Common.{◌≡◌, ◌⊎◌, inl, inr, ℕ, ◌+◌, ◌-◌, ◌<◌, ◌≤◌, List, length, refl, sym, ap, subst, ◌∙◌, take, arith, All, Some, slice_index, cases_lt, length-take-le, Clears, DeviceView, MayWrite, MayZero, Stays, StaysBeside, Writes, Zeroes}
+use Rattle.std.proofs.Common.{◌≡◌, ◌⊎◌, ◌+◌, ◌-◌, ◌<◌, ◌≤◌, inl, inr, ℕ, List, length, refl, sym, ap, subst, ◌∙◌, take, arith, Some}
+use Rattle.nbd_protocol.proofs.Common.{All, slice_index, cases_lt, length-take-le, Clears, DeviceView, MayWrite, MayZero, Stays, StaysBeside, Writes, Zeroes}
 use Rattle.std.proofs.lemmas.List.Elements.{All-take}
 
 pub stays_beside : (from to : ℕ) (a b : DeviceView) → Stays a b → StaysBeside from to a b

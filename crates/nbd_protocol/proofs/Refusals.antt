@@ -1,5 +1,6 @@
 -- Why several calls one after another, and the requests that make them, are refused.
-use Rattle.nbd_protocol.proofs.Common.{◌≡◌, ◌∙◌, ap, ℕ, ◌≤◌, Bool, true, false, Some, None, Result, Ok, Err, refl, subst, sym, arith, ◌&&◌, ◌||◌, not, IfErr, IfSome, IsErrOf, IsTrue, OnOk, nat_lt, if◌then◌else◌, IsErrAnd, Errno, Command, Request, IsChecked, IsFailure, IsLate, Refused, asks_always, asks_device, changes, end_of, is_done, past_end, persists, refuses, ChangeFails, DeviceView, Fails, IsFault, IsSameDevice, RefusesToChange, RefusesToRead}
+use Rattle.std.proofs.Common.{◌≡◌, ◌≤◌, ◌&&◌, ◌||◌, if◌then◌else◌, ◌∙◌, ap, ℕ, Bool, true, false, Some, None, Result, Ok, Err, refl, subst, sym, arith}
+use Rattle.nbd_protocol.proofs.Common.{not, IfErr, IfSome, IsErrOf, IsTrue, OnOk, nat_lt, IsErrAnd, Errno, Command, Request, IsChecked, IsFailure, IsLate, Refused, asks_always, asks_device, changes, end_of, is_done, past_end, persists, refuses, ChangeFails, DeviceView, Fails, IsFault, IsSameDevice, RefusesToChange, RefusesToRead}
 use Rattle.std.proofs.lemmas.Bool.Decides.{nat_tests}
 use Rattle.nbd_protocol.specs.declared.device.Errno.TheVariants as E
 use Rattle.nbd_protocol.specs.declared.request.Command.TheVariants as C

@@ -1,5 +1,6 @@
 -- What a writer has received after several writes.
-use Rattle.nbd_protocol.proofs.Common.{ℕ, ◌++◌, List, Option, Some, None, ap, ◌∙◌, append_assoc, Appends, Keeps}
+use Rattle.std.proofs.Common.{◌++◌, ℕ, List, Option, Some, None, ap, ◌∙◌, append_assoc}
+use Rattle.nbd_protocol.proofs.Common.{Appends, Keeps}
 
 pub appends_keeps : (a b c : Option (List ℕ)) (xs : List ℕ) → Appends a b xs → Keeps b c → Appends a c xs
 appends_keeps None b c xs grows keeps = tt

@@ -1,5 +1,6 @@
 -- A conversation continues by one request.
-use Rattle.nbd_protocol.proofs.Common.{◌≡◌, inl, inr, ℕ, ◌++◌, Bool, true, false, List, [], ◌∷◌, Option, Some, Ok, Err, length, refl, sym, ap, subst, ◌∙◌, append_assoc, append-nil, Appends, Consumes, Appends-nil, Appends-trans, Consumes-nil, Consumes-trans, Command, Request, Way, AnswersLookup, AnswersStatus, Conversation, Converses, Deals, Exchange, Exchanges, Talked, payload_count, payload_length, sent, told, way_of, Does, MayDo, DeviceView}
+use Rattle.std.proofs.Common.{◌≡◌, ◌++◌, ◌∷◌, inl, inr, ℕ, Bool, true, false, List, [], Option, Some, Ok, Err, length, refl, sym, ap, subst, ◌∙◌, append_assoc, append-nil}
+use Rattle.nbd_protocol.proofs.Common.{Appends, Consumes, Appends-nil, Appends-trans, Consumes-nil, Consumes-trans, Command, Request, Way, AnswersLookup, AnswersStatus, Conversation, Converses, Deals, Exchange, Exchanges, Talked, payload_count, payload_length, sent, told, way_of, Does, MayDo, DeviceView}
 use Rattle.nbd_protocol.specs.declared.request.Command.TheVariants as C
 use Rattle.nbd_protocol.specs.declared.way.Way.TheVariants as W
 use Rattle.nbd_protocol.specs.Requests.{request_in}

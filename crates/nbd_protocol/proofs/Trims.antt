@@ -1,5 +1,6 @@
 -- Clearing whole units of a range, one part after another.
-use Rattle.nbd_protocol.proofs.Common.{◌≡◌, inl, inr, ℕ, ◌+◌, ◌*◌, ◌/◌, ◌%◌, ◌<◌, ◌≤◌, refl, subst, ◌∙◌, add-mul, div-add-mod', one-mul, arith, cases_lt, AreUnits, Clears, DeviceView, IsInWhole, Stays, Trims}
+use Rattle.std.proofs.Common.{◌≡◌, ◌+◌, ◌*◌, ◌/◌, ◌%◌, ◌<◌, ◌≤◌, inl, inr, ℕ, refl, subst, ◌∙◌, add-mul, div-add-mod', one-mul, arith}
+use Rattle.nbd_protocol.proofs.Common.{cases_lt, AreUnits, Clears, DeviceView, IsInWhole, Stays, Trims}
 use Rattle.std.proofs.lemmas.Nat.{le-div, mul-le}
 
 pub trims_start : (from to : ℕ) (a : DeviceView) → Trims from to a a

@@ -1,5 +1,5 @@
 -- The names that several proofs cite, passed on from one place. Declares nothing.
-pub use Rattle.std.proofs.Common.{◌≡◌, inl, inr, ℕ, ◌+◌, ◌-◌, ◌<◌, ◌≤◌, List, [], length, refl, sym, ap, ◌∙◌, subst, arith, Option, Some, None, Result, Ok, Err, IfOk, OnOk, IsErrAnd, ◌^◌, ◌∷◌, true, ◌&&◌, ⊎_elim, false, ◌++◌, append_assoc, ◌==◌, Bool, if◌then◌else◌, option_map, ◌⊎◌, ◌↔◌, take, max, IsErr, slice_get, slice_index_or, ◌≢◌, zero, suc, not, nat_eq, nat_lt, rules, codes}
+pub use Rattle.std.proofs.Common.{inl, inr, ℕ, List, [], length, refl, sym, ap, ◌∙◌, subst, arith, Option, Some, None, Result, Ok, Err, IfOk, OnOk, IsErrAnd, true, ⊎_elim, false, append_assoc, Bool, option_map, take, max, IsErr, slice_get, slice_index_or, zero, suc, not, nat_eq, nat_lt, rules, codes}
 pub use Rattle.std.proofs.lemmas.Bool.{cases_lt, ltb-false, le-ltb}
 pub use Rattle.std.proofs.lemmas.Grind.{common_steps}
 pub use Rattle.std.specs.Io.KnownBytes.{Appends}

@@ -1,5 +1,6 @@
 -- The failures that a conversion of a whole file counts: of the image's storage, where the image is opened without a backing disk, and of the raw disk.
-use Rattle.program_parts.proofs.Common.{◌≡◌, ℕ, inl, inr, Option, Some, None, Result, Ok, Err, IsErr, IsErrAnd, refl, sym, ap, ◌∙◌, subst, arith, BackingView, StorageView, HasCause, Rose, StorageError, FaultsReported, of_storage, ImageError, handed_on, storage_of_image, faults_below, Qcow2, CountsBoth}
+use Rattle.std.proofs.Common.{◌≡◌, ℕ, inl, inr, Option, Some, None, Result, Ok, Err, IsErr, IsErrAnd, refl, sym, ap, ◌∙◌, subst, arith}
+use Rattle.program_parts.proofs.Common.{BackingView, StorageView, HasCause, Rose, StorageError, FaultsReported, of_storage, ImageError, handed_on, storage_of_image, faults_below, Qcow2, CountsBoth}
 use Rattle.image_access.specs.declared.error.StorageError.TheVariants as S
 use Rattle.qcow2_alloc.specs.declared.error.ImageError.TheVariants as I
 use Rattle.qcow2_session.specs.CountedFaults.{ConversionCounts}

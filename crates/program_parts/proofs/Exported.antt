@@ -1,5 +1,6 @@
 -- A raw disk that was made from an image.
-use Rattle.program_parts.proofs.Common.{◌≡◌, ⊎_elim, inl, ℕ, List, [], refl, sym, ap, ◌∙◌, subst, Result, Ok, Err, IfOk, false, is_some, BackingView, StorageView, IsLeftBy, passes_if, byte_at, IsConsistent, IsOpened, guest_of, CallEffect, disk, KeepsHeaderRest, StopOkEverywhere, checkpoint_at, LeavesKept, IsQuiet, ImageError, Qcow2, storage_of_image, abstract_of, header_rest_same, whole, IsRawOf, Exports, IsUnchanged, IsExport, KeepsDisk, disk_alone, zeros_below}
+use Rattle.std.proofs.Common.{◌≡◌, ⊎_elim, inl, ℕ, List, [], refl, sym, ap, ◌∙◌, subst, Result, Ok, Err, IfOk, false}
+use Rattle.program_parts.proofs.Common.{is_some, BackingView, StorageView, IsLeftBy, passes_if, byte_at, IsConsistent, IsOpened, guest_of, CallEffect, disk, KeepsHeaderRest, StopOkEverywhere, checkpoint_at, LeavesKept, IsQuiet, ImageError, Qcow2, storage_of_image, abstract_of, header_rest_same, whole, IsRawOf, Exports, IsUnchanged, IsExport, KeepsDisk, disk_alone, zeros_below}
 use Rattle.qcow2_image.specs.Opened.{OpensAtOnce}
 use Rattle.qcow2_image.proofs.Map.Unmodified.{quiet_still}
 use Rattle.program_parts.proofs.Imported.{none_below, of_ok}

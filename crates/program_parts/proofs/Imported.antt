@@ -1,5 +1,6 @@
 -- An image that was made from a raw disk.
-use Rattle.program_parts.proofs.Common.{◌≡◌, ℕ, List, [], refl, sym, ap, ◌∙◌, subst, Option, None, Some, false, Result, Ok, Err, IfOk, IsTrue, is_some, BackingView, StorageView, byte_at, IsConsistent, header, cluster_size, count_width, HeaderFields, Setting, IsOpened, disk, contents_in, known_in, Qcow2, HasNothingToFree, IsSameImage, is_writable, storage_of_image, abstract_of, backing_bytes, whole, IsRawOf, Imports, IsImageMade, IsImageOf, IsImageOfSize, zeros_below}
+use Rattle.std.proofs.Common.{◌≡◌, ℕ, List, [], refl, sym, ap, ◌∙◌, subst, Option, None, Some, false, Result, Ok, Err, IfOk}
+use Rattle.program_parts.proofs.Common.{IsTrue, is_some, BackingView, StorageView, byte_at, IsConsistent, header, cluster_size, count_width, HeaderFields, Setting, IsOpened, disk, contents_in, known_in, Qcow2, HasNothingToFree, IsSameImage, is_writable, storage_of_image, abstract_of, backing_bytes, whole, IsRawOf, Imports, IsImageMade, IsImageOf, IsImageOfSize, zeros_below}
 use Rattle.qcow2_disk.proofs.Compose.{rests_none, stops_none}
 use Rattle.qcow2_laws.specs.Opened.{HasNoLeaks}
 use Rattle.qcow2_image.specs.Calls.{FlushesImage}

@@ -1,5 +1,6 @@
 -- The bytes that a writer is known to have received.
-use Rattle.program_parts.proofs.Common.{ℕ, List, [], ◌++◌, Option, Some, None, sym, ◌∙◌, append_assoc, ap, Appends}
+use Rattle.std.proofs.Common.{◌++◌, ℕ, List, [], Option, Some, None, sym, ◌∙◌, append_assoc, ap}
+use Rattle.program_parts.proofs.Common.{Appends}
 use Rattle.std.proofs.lemmas.List.{append-nil}
 
 pub appends_nothing : (known : Option (List ℕ)) → Appends known known []

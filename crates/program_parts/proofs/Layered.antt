@@ -1,5 +1,6 @@
 -- The storage of a layer.
-use Rattle.program_parts.proofs.Common.{◌≡◌, ◌<◌, ◌≤◌, ◌==◌, ℕ, Bool, true, false, List, length, refl, sym, ap, ◌∙◌, subst, arith, if◌then◌else◌, Option, Some, None, option_map, slice_get, slice_index_or, storage_of_image, NoBacking, Qcow2, Stack, storage_at}
+use Rattle.std.proofs.Common.{◌≡◌, ◌<◌, ◌≤◌, ◌==◌, if◌then◌else◌, ℕ, Bool, true, false, List, length, refl, sym, ap, ◌∙◌, subst, arith, Option, Some, None, option_map, slice_get, slice_index_or}
+use Rattle.program_parts.proofs.Common.{storage_of_image, NoBacking, Qcow2, Stack, storage_at}
 use Rattle.std.proofs.lemmas.Option.{slice_get_past, slice_get_read}
 
 if_else : {A : Type 0} (b : Bool) (x y : A) → b ≡ false → (if b then x else y) ≡ y

@@ -1,5 +1,6 @@
 -- Why an image is not made from a raw disk, and why a raw disk is not made from an image.
-use Rattle.program_parts.proofs.Common.{◌≡◌, ◌≢◌, ◌⊎◌, inl, inr, ⊎_elim, ℕ, ◌+◌, ◌≤◌, ◌^◌, List, [], None, Result, Ok, Err, refl, sym, ap, ◌∙◌, subst, true, false, arith, IfErr, IsErrAnd, IsTrue, Option, length, option_map, unwrap_or, is_some, option_or, BackingView, StorageView, Bytes, byte_at, IsConsistent, header, HeaderFields, IsOpened, IsFault, known_in, state_in, ImageError, IsAllowed, IsCreated, IsReasonNotToCreateOpen, allocates_over, backing_format_in, backing_name_in, IsSameImage, is_writable, size_of, storage_of_image, abstract_of, pending_in, NoBacking, Qcow2CreateBuilder, Qcow2, faults_met, opening_reasons, MayFailImporting, IsImageOfSize, IsLayout, MayFailExporting, MayFailOnceCreated, MayFailReadingDisk, IsRefusedUntouched, IsUnopened, OpensToExport, asked_for}
+use Rattle.std.proofs.Common.{◌≡◌, ◌≢◌, ◌⊎◌, ◌+◌, ◌≤◌, ◌^◌, inl, inr, ⊎_elim, ℕ, List, [], None, Result, Ok, Err, refl, sym, ap, ◌∙◌, subst, true, false, arith, IsErrAnd, Option, length, option_map}
+use Rattle.program_parts.proofs.Common.{IfErr, IsTrue, unwrap_or, is_some, option_or, BackingView, StorageView, Bytes, byte_at, IsConsistent, header, HeaderFields, IsOpened, IsFault, known_in, state_in, ImageError, IsAllowed, IsCreated, IsReasonNotToCreateOpen, allocates_over, backing_format_in, backing_name_in, IsSameImage, is_writable, size_of, storage_of_image, abstract_of, pending_in, NoBacking, Qcow2CreateBuilder, Qcow2, faults_met, opening_reasons, MayFailImporting, IsImageOfSize, IsLayout, MayFailExporting, MayFailOnceCreated, MayFailReadingDisk, IsRefusedUntouched, IsUnopened, OpensToExport, asked_for}
 use Rattle.std.specs.String.{string_bytes}
 use Rattle.std.proofs.Math.Pow.{pow_mono}
 use Rattle.qcow2_metadata.specs.HeaderWrite.{name_place}

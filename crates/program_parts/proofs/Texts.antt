@@ -1,5 +1,6 @@
 -- Printing the lines of a list, one after another.
-use Rattle.program_parts.proofs.Common.{◌≡◌, ℕ, List, [], Option, subst, Appends, Bytes, IsConsistent, header, leak_lines, Breach, text_of_report, IsFoundConsistent}
+use Rattle.std.proofs.Common.{◌≡◌, ℕ, List, [], Option, subst}
+use Rattle.program_parts.proofs.Common.{Appends, Bytes, IsConsistent, header, leak_lines, Breach, text_of_report, IsFoundConsistent}
 use Rattle.qcow2_check.specs.declared.report.Leak.{Leak}
 
 -- a report without a breach was told

@@ -1,5 +1,6 @@
 -- Ranges whose refblock is aligned, and those whose refblock is not.
-use Rattle.qcow2_alloc.proofs.Common.{◌≡◌, ℕ, ◌*◌, ◌/◌, ◌%◌, ◌^◌, sym, ap, ◌∙◌, subst, mul-mod_left, block_offset, EntryTableView, cluster_size, counts_per_block, entry_at, HeaderFields, IsUnaligned}
+use Rattle.std.proofs.Common.{◌≡◌, ◌*◌, ◌/◌, ◌%◌, ◌^◌, ℕ, sym, ap, ◌∙◌, subst}
+use Rattle.qcow2_alloc.proofs.Common.{mul-mod_left, block_offset, EntryTableView, cluster_size, counts_per_block, entry_at, HeaderFields, IsUnaligned}
 
 -- the range of a cluster, as a number of counts tells it
 pub unaligned_as : (h : HeaderFields) (t : EntryTableView) (cluster per : ℕ) → counts_per_block h ≡ per → IsUnaligned h t (cluster / counts_per_block h) → IsUnaligned h t (cluster / per)

@@ -1,5 +1,6 @@
 -- What a cache call leaves of a measure of its store that steps never lower and faults increase.
-use Rattle.qcow2_alloc.proofs.Common.{◌≡◌, ◌≤◌, ℕ, Bool, true, false, List, [], ◌∷◌, Option, Some, None, Result, Ok, Err, ⊎_elim, ap, sym, ◌∙◌, subst, arith, option_or, Rose, rose_since, rose_still, Slot, CacheError, InUse, StillInUse, Memory, Backend, Steps, Unit₀, FlushesEntry, FlushesAll, Flushes, Replaces, HasRoomForEntry, HasNoRoom, InsertsNew, GetsNew, Evicts}
+use Rattle.std.proofs.Common.{◌≡◌, ◌≤◌, ◌∷◌, ℕ, Bool, true, false, List, [], Option, Some, None, Result, Ok, Err, ⊎_elim, ap, sym, ◌∙◌, subst, arith}
+use Rattle.qcow2_alloc.proofs.Common.{option_or, Rose, rose_since, rose_still, Slot, CacheError, InUse, StillInUse, Memory, Backend, Steps, Unit₀, FlushesEntry, FlushesAll, Flushes, Replaces, HasRoomForEntry, HasNoRoom, InsertsNew, GetsNew, Evicts}
 
 module _ {S K V E : Type 0} (steps : Steps S K V E) (faults : S → ℕ) (IsFault : E → Type 0) where
   -- a failure with this error, where there was one, raised the number

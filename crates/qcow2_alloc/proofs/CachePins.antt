@@ -1,5 +1,6 @@
 -- What calls of the caches do to pins and recorded changes.
-use Rattle.qcow2_alloc.proofs.Common.{◌≡◌, ℕ, ◌+◌, ◌-◌, ◌^◌, ◌<◌, Bool, true, false, cond, eqb, nat_lt, List, [], ◌∷◌, map, Option, Some, None, IsTrue, refl, sym, ap, ◌∙◌, subst, nat_eq_equiv, option_map, option_map_or, lookup, set_value, lookup-set_value, L2TableView, RefBlockView, Slot, L2CacheBackend, RefBlockCacheBackend, MetadataCaches, Cache, slot_of, value_at, set_at, pins_at, pin_at, unpin_at, can_pin, can_unpin, with_entries, KeepsPins, cached_table, cached_tables, AllValuesFit, IsTableOf, l2_tables, IsOneChange, counts_none, counts_one, counts_then, l2_pins, KeepsPinsAndNotes, SameTables, SetsPins, same_number}
+use Rattle.std.proofs.Common.{◌≡◌, ◌+◌, ◌-◌, ◌^◌, ◌<◌, ◌∷◌, ℕ, Bool, true, false, cond, eqb, nat_lt, List, [], map, Option, Some, None, IsTrue, refl, sym, ap, ◌∙◌, subst}
+use Rattle.qcow2_alloc.proofs.Common.{nat_eq_equiv, option_map, option_map_or, lookup, set_value, lookup-set_value, L2TableView, RefBlockView, Slot, L2CacheBackend, RefBlockCacheBackend, MetadataCaches, Cache, slot_of, value_at, set_at, pins_at, pin_at, unpin_at, can_pin, can_unpin, with_entries, KeepsPins, cached_table, cached_tables, AllValuesFit, IsTableOf, l2_tables, IsOneChange, counts_none, counts_one, counts_then, l2_pins, KeepsPinsAndNotes, SameTables, SetsPins, same_number}
 use Rattle.qcow2_alloc.proofs.CachedEntries.Pins.{set_free}
 
 -- ---- calls that keep the marks

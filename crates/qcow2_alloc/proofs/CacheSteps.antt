@@ -1,5 +1,6 @@
 -- How steps of the caches compose, and how one cache call is such a step.
-use Rattle.qcow2_alloc.proofs.Common.{◌≡◌, ◌≢◌, ℕ, Bool, true, eqb, List, Option, Some, Result, Ok, Err, IsErr, IsErrAnd, IsSome, refl, sym, ◌∙◌, subst, IfSome, IsNone, keys_of, lookup, lookup_entry, remove_entry, IsFalse, IsDistinct, promoted, StorageView, MetadataError, byte_at, L2TableView, RefBlockView, HeaderFields, Pending, MayTurn, AreClean, BlocksMayGo, TablesMayGo, CacheError, L2CacheBackend, RefBlockCacheBackend, MetadataCaches, ImageError, ImageStorage, Cache, KeepsPins, OthersStay, with_entries, Unit₀, Flushes, GetsNew, InsertsNew, Replaces, TablesGo, BlocksGo, CacheStep, TurnStep, LoadStep, PutStep, HeldStep, KeepsSoundly, PutsSoundly, KeepsL2Written, of_cache, IsOfTables, storage_of, KeepsNotes, order, order_of, l2_tables, refblocks, known_of, CacheInvariant, err_of, FailsFor, l2_steps, rb_steps}
+use Rattle.std.proofs.Common.{◌≡◌, ◌≢◌, ℕ, Bool, true, eqb, List, Option, Some, Result, Ok, Err, IsErr, IsErrAnd, IsSome, refl, sym, ◌∙◌, subst, IfSome, IsFalse}
+use Rattle.qcow2_alloc.proofs.Common.{IsNone, keys_of, lookup, lookup_entry, remove_entry, IsDistinct, promoted, StorageView, MetadataError, byte_at, L2TableView, RefBlockView, HeaderFields, Pending, MayTurn, AreClean, BlocksMayGo, TablesMayGo, CacheError, L2CacheBackend, RefBlockCacheBackend, MetadataCaches, ImageError, ImageStorage, Cache, KeepsPins, OthersStay, with_entries, Unit₀, Flushes, GetsNew, InsertsNew, Replaces, TablesGo, BlocksGo, CacheStep, TurnStep, LoadStep, PutStep, HeldStep, KeepsSoundly, PutsSoundly, KeepsL2Written, of_cache, IsOfTables, storage_of, KeepsNotes, order, order_of, l2_tables, refblocks, known_of, CacheInvariant, err_of, FailsFor, l2_steps, rb_steps}
 use Rattle.qcow2_laws.specs.Clusters as Order
 use Rattle.qcow2_alloc.specs.declared.cache.Direction.{Direction}
 use Rattle.qcow2_alloc.proofs.CachePins.{marks_none, marks_tables, marks_blocks}

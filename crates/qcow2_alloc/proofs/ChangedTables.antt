@@ -1,5 +1,6 @@
 -- What changing a cached table in place means for the caches.
-use Rattle.qcow2_alloc.proofs.Common.{◌≡◌, ◌<◌, ℕ, true, List, Option, Some, None, eqb, refl, sym, ap, ◌∙◌, subst, MatchOption, none-some, IsDistinct, keys_of, IfSome, IsSome, Bytes, count, is_copied, l1_entry, old_data_run, L2TableView, cover_at, entries_of, RefBlockView, ChangesCount, count_at, counts_of, ChangesEntry, HeaderFields, Pending, Slot, MetadataCaches, ChangesTableApart, ChangesBlockApart, Cache, with_entries, set_at, value_at, HeldStep, IsOneChange, known_of, CacheInvariant, IsCountedAt, IsEntryAt, MadeEntry, ChangesValue, changed_block, changed_table, ChangesOrStays, SetsCount, SetsEntry, SetsTableCount, SetsTableEntry}
+use Rattle.std.proofs.Common.{◌≡◌, ◌<◌, ℕ, true, List, Option, Some, None, eqb, refl, sym, ap, ◌∙◌, subst, IfSome, IsSome}
+use Rattle.qcow2_alloc.proofs.Common.{MatchOption, none-some, IsDistinct, keys_of, Bytes, count, is_copied, l1_entry, old_data_run, L2TableView, cover_at, entries_of, RefBlockView, ChangesCount, count_at, counts_of, ChangesEntry, HeaderFields, Pending, Slot, MetadataCaches, ChangesTableApart, ChangesBlockApart, Cache, with_entries, set_at, value_at, HeldStep, IsOneChange, known_of, CacheInvariant, IsCountedAt, IsEntryAt, MadeEntry, ChangesValue, changed_block, changed_table, ChangesOrStays, SetsCount, SetsEntry, SetsTableCount, SetsTableEntry}
 use Rattle.qcow2_alloc.proofs.CachePins.{marks_blocks, marks_noted, marks_tables, set_keeps_pins}
 use Rattle.qcow2_alloc.proofs.KeptTables.ApartChanges.{block_changed_apart, table_changed_apart}
 use Rattle.qcow2_alloc.proofs.KeptTables.BehindHeader.{noted_behind, set_behind, set_table_behind}

@@ -1,5 +1,5 @@
 -- The names that several proofs cite, passed on from one place. Declares nothing.
-pub use Rattle.std.proofs.Common.{◌≡◌, ℕ, ◌*◌, ◌/◌, ◌%◌, ◌^◌, sym, ap, ◌∙◌, subst, ◌≢◌, inl, inr, refl, ◌+◌, ◌<◌, ◌≤◌, Bool, true, false, List, length, Option, Some, None, Result, Ok, Err, IsErr, IsErrAnd, IsSome, IsTrue, mul-pos, arith, is_some, [], ◌∷◌, ◌-◌, cond, eqb, nat_lt, map, IfSome, IsFalse, slice_get, ◌++◌, append_assoc, append-nil, OnOk, IfErr, ◌==◌, ◌⊎◌, zero, suc, ◌&&◌, ◌↔◌, max, not, min, ltb, if◌then◌else◌, rules, ⊎_elim, take, All, length-append, ltb-true, ltb-false, get_or, insert, remove, nat_le, ◌||◌, pow-suc, reverse}
+pub use Rattle.std.proofs.Common.{ℕ, sym, ap, ◌∙◌, subst, inl, inr, refl, Bool, true, false, List, length, Option, Some, None, Result, Ok, Err, IsErr, IsErrAnd, IsSome, IsTrue, mul-pos, arith, is_some, [], cond, eqb, nat_lt, map, IfSome, IsFalse, slice_get, append_assoc, append-nil, OnOk, IfErr, zero, suc, max, not, min, ltb, rules, ⊎_elim, take, All, length-append, ltb-true, ltb-false, get_or, insert, remove, nat_le, pow-suc, reverse}
 pub use Rattle.std.proofs.Math.Nat.{mul-mod_left, mul-le-mul_right, div-le_self, mul-le-mul_left, div-mul-le_self, le_refl, le_trans, lt-div-mul-add, zero-div, mul-div_cancel, mul_assoc, div-eq_of_lt}
 pub use Rattle.std.proofs.Math.Pow.{pow_mono}
 pub use Rattle.std.proofs.lemmas.Bool.{cases_eq, cases_Bool, eq-eqb, cond-true, or_right, ne_eqb, cond-false, cases_lt, lt-ltb, le-ltb, and_from, le-leb, or_left, eqb-true, and_parts}

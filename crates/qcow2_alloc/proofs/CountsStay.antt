@@ -1,5 +1,6 @@
 -- Refcounts over steps of an image's file: they change with what is pending, and rise when a refblock gets its reference.
-use Rattle.qcow2_alloc.proofs.Common.{◌≡◌, ◌≢◌, inl, inr, ℕ, ◌+◌, ◌≤◌, ◌==◌, ap, arith, cases_eq, cond-true, eq-eqb, Bytes, HeaderFields, reftable_entries, l1_entry, reftable_entry, block_offset, count, in_cluster, table_in, named_by_reftable, named_for_tables, named_by_guest, Direction, Pending, CrashInvariant, SameCovers, names, over_guests-same, sum_below-le, l1_names-same, pending_at}
+use Rattle.std.proofs.Common.{◌≡◌, ◌≢◌, ◌+◌, ◌≤◌, ◌==◌, inl, inr, ℕ, ap, arith}
+use Rattle.qcow2_alloc.proofs.Common.{cases_eq, cond-true, eq-eqb, Bytes, HeaderFields, reftable_entries, l1_entry, reftable_entry, block_offset, count, in_cluster, table_in, named_by_reftable, named_for_tables, named_by_guest, Direction, Pending, CrashInvariant, SameCovers, names, over_guests-same, sum_below-le, l1_names-same, pending_at}
 
 -- no refblock is named less
 module _ (h : HeaderFields) (on_storage on_storage' : Bytes) (kept : (k : ℕ) → block_offset (reftable_entry h on_storage k) ≢ 0 → reftable_entry h on_storage' k ≡ reftable_entry h on_storage k) where

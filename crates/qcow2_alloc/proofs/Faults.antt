@@ -1,5 +1,6 @@
 -- Which calls count a failure of the image's storage, and how such calls compose.
-use Rattle.qcow2_alloc.proofs.Common.{◌≡◌, ◌≢◌, ℕ, ◌≤◌, Bool, true, false, eqb, inl, inr, List, Option, Some, None, Result, Ok, Err, IsErr, IsErrAnd, IsSome, refl, sym, ap, ◌∙◌, subst, arith, IfSome, IsNone, lookup, lookup_entry, remove_entry, promoted, IsErrOf, StorageView, HasCause, Rose, UnlessErr, StorageError, storage_result, MetadataError, CacheError, Slot, ImageError, Steps, Unit₀, Flushes, GetsNew, InsertsNew, Replaces, FaultsReported, faults_of, storage_of, met_fault_of, RecordsFaults, l2_steps, rb_steps, cleared_l2, cleared_rb, IsTableOf, IsBlockOf, ImageStorage, L2TableView, RefBlockView, HeaderFields, of_storage, of_metadata, of_cache, IsTableFault, answer_refused, table_steps}
+use Rattle.std.proofs.Common.{◌≡◌, ◌≢◌, ◌≤◌, ℕ, Bool, true, false, eqb, inl, inr, List, Option, Some, None, Result, Ok, Err, IsErr, IsErrAnd, IsSome, refl, sym, ap, ◌∙◌, subst, arith, IfSome}
+use Rattle.qcow2_alloc.proofs.Common.{IsNone, lookup, lookup_entry, remove_entry, promoted, IsErrOf, StorageView, HasCause, Rose, UnlessErr, StorageError, storage_result, MetadataError, CacheError, Slot, ImageError, Steps, Unit₀, Flushes, GetsNew, InsertsNew, Replaces, FaultsReported, faults_of, storage_of, met_fault_of, RecordsFaults, l2_steps, rb_steps, cleared_l2, cleared_rb, IsTableOf, IsBlockOf, ImageStorage, L2TableView, RefBlockView, HeaderFields, of_storage, of_metadata, of_cache, IsTableFault, answer_refused, table_steps}
 use Rattle.image_access.specs.declared.error.StorageError.TheVariants as S
 use Rattle.qcow2_metadata.specs.declared.error.MetadataError.TheVariants as M
 use Rattle.qcow2_alloc.specs.declared.async_lru_cache.error.CacheError.TheVariants as C

@@ -1,5 +1,6 @@
 -- Steps of an image's file, one after another: calls of its caches, and refcounts that change. The moments on the way are built here, and from the definitions of `qcow2_laws`.
-use Rattle.qcow2_alloc.proofs.Common.{or_right, cases_eq, eq-eqb, ne_eqb, cond-true, cond-false, ◌≡◌, inl, inr, ℕ, ◌+◌, ◌/◌, ◌<◌, ◌≤◌, ◌==◌, Bool, true, false, cond, [], IsTrue, refl, sym, ap, ◌∙◌, subst, arith, fun_ext, StorageView, passes_on, Bytes, EntryTableView, cluster_size, l1_entry, count, named_for_tables, Checkpoint, StopOkEverywhere, SafeThroughout, LeavesKept, Direction, Pending, one_at, with_new_data, with_new_tables, without_old_tables, without_old_data, new_data_to_old_tables, new_tables_to_old_tables, DriverState, SafeStep, CountRises, CountFalls, IsInternal, unnamed_free_l2, unnamed_free_rb, known_is_on_storage, safe_throughout_none, raise_safe_throughout, fall_safe_throughout, count_is_changed, pending_is_changed, unseen_none, unseen_then, unseen_known, unseen_count, l1_same_none, l1_same_then, l1_same_storage, l1_same_known, Allocator, MetadataCaches, ImageError, ImageFile, ImageStorage, taken_as, listed_as, Owed, Taken, Listed, owed_as, MayAllocate, MayDecrement, Data, Metadata, KeepsPinsAndNotes, nothing_given, pending_at, view_in, contents_in, known_in, state_in, FileInvariant, HasReftable, InternalFileStep, InternalFileGrowth, InterruptedFileStep, RefusedFileStep, storage_of, is_changed_of, IsSafeSince, order_of, l2_tables, refblocks, known_of, InternalCacheStep, Made}
+use Rattle.std.proofs.Common.{◌≡◌, ◌+◌, ◌/◌, ◌<◌, ◌≤◌, ◌==◌, inl, inr, ℕ, Bool, true, false, cond, [], IsTrue, refl, sym, ap, ◌∙◌, subst, arith}
+use Rattle.qcow2_alloc.proofs.Common.{or_right, cases_eq, eq-eqb, ne_eqb, cond-true, cond-false, fun_ext, StorageView, passes_on, Bytes, EntryTableView, cluster_size, l1_entry, count, named_for_tables, Checkpoint, StopOkEverywhere, SafeThroughout, LeavesKept, Direction, Pending, one_at, with_new_data, with_new_tables, without_old_tables, without_old_data, new_data_to_old_tables, new_tables_to_old_tables, DriverState, SafeStep, CountRises, CountFalls, IsInternal, unnamed_free_l2, unnamed_free_rb, known_is_on_storage, safe_throughout_none, raise_safe_throughout, fall_safe_throughout, count_is_changed, pending_is_changed, unseen_none, unseen_then, unseen_known, unseen_count, l1_same_none, l1_same_then, l1_same_storage, l1_same_known, Allocator, MetadataCaches, ImageError, ImageFile, ImageStorage, taken_as, listed_as, Owed, Taken, Listed, owed_as, MayAllocate, MayDecrement, Data, Metadata, KeepsPinsAndNotes, nothing_given, pending_at, view_in, contents_in, known_in, state_in, FileInvariant, HasReftable, InternalFileStep, InternalFileGrowth, InterruptedFileStep, RefusedFileStep, storage_of, is_changed_of, IsSafeSince, order_of, l2_tables, refblocks, known_of, InternalCacheStep, Made}
 use Rattle.qcow2_alloc.specs.ImageFile.{IsFault}
 use Rattle.qcow2_alloc.proofs.CountsStay.{counts_follow}
 use Rattle.qcow2_alloc.proofs.KeptTables.BlocksNamed.{top_still}

@@ -1,5 +1,6 @@
 -- Writing bytes to clusters of an image's file that have no reference and no cached table.
-use Rattle.qcow2_alloc.proofs.Common.{◌≡◌, ◌⊎◌, inl, inr, ℕ, [], refl, sym, ◌∙◌, StorageView, EachMomentSince, IsLeftBy, byte_at, EntryTableView, cluster_size, named_for_tables, Pending, SameIn, SafeStep, IsUnnamed, IsWritten, data_beside, same_beside, unnamed_free, done_safe_throughout, data_is_written, unseen_written, ImageFile, ImageStorage, nothing_given, view_in, contents_in, known_in, state_in, FileInvariant, HasReftable, InternalFileStep, storage_of, order_of, l2_tables, refblocks}
+use Rattle.std.proofs.Common.{◌≡◌, ◌⊎◌, inl, inr, ℕ, [], refl, sym, ◌∙◌}
+use Rattle.qcow2_alloc.proofs.Common.{StorageView, EachMomentSince, IsLeftBy, byte_at, EntryTableView, cluster_size, named_for_tables, Pending, SameIn, SafeStep, IsUnnamed, IsWritten, data_beside, same_beside, unnamed_free, done_safe_throughout, data_is_written, unseen_written, ImageFile, ImageStorage, nothing_given, view_in, contents_in, known_in, state_in, FileInvariant, HasReftable, InternalFileStep, storage_of, order_of, l2_tables, refblocks}
 use Rattle.qcow2_alloc.proofs.CountsStay.{counts_follow, fixed_more}
 use Rattle.qcow2_alloc.proofs.KeptTables.Beside.{top_beside, named_blocks_beside_write, sound_beside}
 use Rattle.qcow2_alloc.proofs.FileInvariants.{file_invariant_of}

@@ -1,5 +1,6 @@
 -- Reftables that were replaced by longer ones, and whose clusters are listed to be freed.
-use Rattle.qcow2_alloc.proofs.Common.{◌≡◌, ℕ, ◌+◌, ◌-◌, ◌*◌, ◌/◌, ◌%◌, ◌^◌, ◌<◌, ◌≤◌, List, [], ◌∷◌, ◌++◌, length, Some, refl, sym, ap, ◌∙◌, subst, append_assoc, arith, EntryTableView, entry_count, IsRefTable, NamesBehindHeader, KeepsRefblocks, KeepsEntries, KeepsNamed, metadata_entry, SamePlace, IsRunOfTable, FillsClusters, ReftableReplaced, OldReftablesQueued, ClustersToFreeEntry}
+use Rattle.std.proofs.Common.{◌≡◌, ◌+◌, ◌-◌, ◌*◌, ◌/◌, ◌%◌, ◌^◌, ◌<◌, ◌≤◌, ◌∷◌, ◌++◌, ℕ, List, [], length, Some, refl, sym, ap, ◌∙◌, subst, append_assoc, arith}
+use Rattle.qcow2_alloc.proofs.Common.{EntryTableView, entry_count, IsRefTable, NamesBehindHeader, KeepsRefblocks, KeepsEntries, KeepsNamed, metadata_entry, SamePlace, IsRunOfTable, FillsClusters, ReftableReplaced, OldReftablesQueued, ClustersToFreeEntry}
 use Rattle.std.proofs.lemmas.List.{append-nil}
 use Rattle.qcow2_alloc.proofs.AllocationSteps.{behind_none, behind_then, ranges_then, entries_then, entries_less}
 

@@ -1,5 +1,6 @@
 -- The entries of a list of clusters to free are freed one after another.
-use Rattle.qcow2_alloc.proofs.Common.{◌≡◌, ◌≤◌, ◌++◌, ◌∷◌, [], List, Result, Ok, refl, sym, ap, ◌∙◌, subst, append_assoc, ℕ, ◌+◌, ◌-◌, ◌/◌, ◌^◌, ◌<◌, Err, le_refl, le_trans, StorageView, HeaderView, counts_per_block, one_at, Pending, Allocator, ClusterKind, ClustersToFreeEntry, ImageError, ImageFile, Frees, GivesBack, IsUnaligned, Listed, MayFree, MayDecrement, Owed, listed_as, owed_as, but, run_of, with_listed, FreesListed, IsOfTables, AllocatorInvariant, LeaksOne, LeaksUnaligned, Fails, GivesSoundly, TableStep}
+use Rattle.std.proofs.Common.{◌≡◌, ◌≤◌, ◌++◌, ◌∷◌, ◌+◌, ◌-◌, ◌/◌, ◌^◌, ◌<◌, [], List, Result, Ok, refl, sym, ap, ◌∙◌, subst, append_assoc, ℕ, Err}
+use Rattle.qcow2_alloc.proofs.Common.{le_refl, le_trans, StorageView, HeaderView, counts_per_block, one_at, Pending, Allocator, ClusterKind, ClustersToFreeEntry, ImageError, ImageFile, Frees, GivesBack, IsUnaligned, Listed, MayFree, MayDecrement, Owed, listed_as, owed_as, but, run_of, with_listed, FreesListed, IsOfTables, AllocatorInvariant, LeaksOne, LeaksUnaligned, Fails, GivesSoundly, TableStep}
 use Rattle.qcow2_alloc.proofs.AllocationSteps.{allocator_step_none, is_sound_now, may_lower_still}
 use Rattle.qcow2_alloc.proofs.Freeing.{behind_first, but_more, but_same, first_owed, frees_as, frees_then, listed_none, run_freed, run_refused, with_both, with_one, with_relisted}
 use Rattle.qcow2_alloc.proofs.Steps.{fails_ok, fails_since, free_step_listed, free_step_none, free_step_of, free_step_then}

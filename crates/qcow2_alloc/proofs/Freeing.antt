@@ -1,5 +1,6 @@
 -- Processing the list of clusters to free.
-use Rattle.qcow2_alloc.proofs.Common.{◌≡◌, ◌≢◌, inl, inr, ℕ, ◌+◌, ◌-◌, ◌*◌, ◌/◌, ◌^◌, ◌<◌, ◌≤◌, Bool, true, false, cond, List, [], ◌∷◌, ◌++◌, append-nil, Result, Ok, Err, OnOk, refl, sym, ap, ◌∙◌, subst, arith, cases_lt, StorageView, HeaderFields, Bytes, EntryTableView, HeaderReads, cluster_size, counts_per_block, count_width, reftable_entries, count, block_offset, one_at, Pending, div-le_self, lt-div-mul-add, mul-le-mul_left, pow_mono, Sizes-from, count_none, reftable_entry-past, Allocator, ClusterKind, Data, Metadata, ClustersToFreeEntry, ImageError, ImageFile, run_at, Listed, listed_as, owed_as, InternalAllocatorStep, GivesBack, Frees, run_of, of_data, of_tables, to_free, is_same, with_listed, but, contents_in, known_in, FileInvariant, AllocatorInvariant, HasReftable, RefusedFileStep}
+use Rattle.std.proofs.Common.{◌≡◌, ◌≢◌, ◌+◌, ◌-◌, ◌*◌, ◌/◌, ◌^◌, ◌<◌, ◌≤◌, ◌∷◌, ◌++◌, inl, inr, ℕ, Bool, true, false, cond, List, [], append-nil, Result, Ok, Err, OnOk, refl, sym, ap, ◌∙◌, subst, arith}
+use Rattle.qcow2_alloc.proofs.Common.{cases_lt, StorageView, HeaderFields, Bytes, EntryTableView, HeaderReads, cluster_size, counts_per_block, count_width, reftable_entries, count, block_offset, one_at, Pending, div-le_self, lt-div-mul-add, mul-le-mul_left, pow_mono, Sizes-from, count_none, reftable_entry-past, Allocator, ClusterKind, Data, Metadata, ClustersToFreeEntry, ImageError, ImageFile, run_at, Listed, listed_as, owed_as, InternalAllocatorStep, GivesBack, Frees, run_of, of_data, of_tables, to_free, is_same, with_listed, but, contents_in, known_in, FileInvariant, AllocatorInvariant, HasReftable, RefusedFileStep}
 use Rattle.qcow2_alloc.specs.ImageFile.{IsFault}
 use Rattle.qcow2_alloc.proofs.AllocationSteps.{owed_counted}
 use Rattle.qcow2_alloc.proofs.FileSteps.{pending_same, file_step_then, interrupted_then}

@@ -1,5 +1,6 @@
 -- A search for room continues only if there is none: a cluster of each room that it passed is in use.
-use Rattle.qcow2_alloc.proofs.Common.{◌≡◌, inl, inr, ℕ, zero, suc, ◌+◌, ◌-◌, ◌*◌, ◌/◌, ◌<◌, ◌≤◌, Bool, true, false, refl, sym, ap, ◌∙◌, subst, arith, Result, Ok, Err, Some, cases_lt, nat_tests, StorageView, one_if, EntryTableView, entry_count, counts_per_block, entries_per_cluster, ImageFile, IsLeastLength, nameable_clusters, HasNoRoomBelow, HasNoRoomFor, CantGrow, IsLowestRoom, LiesLowest, IsUsed, KeepsUsed, AreUsed, opens, opened, OnOk, ImageError}
+use Rattle.std.proofs.Common.{◌≡◌, ◌+◌, ◌-◌, ◌*◌, ◌/◌, ◌<◌, ◌≤◌, inl, inr, ℕ, zero, suc, Bool, true, false, refl, sym, ap, ◌∙◌, subst, arith, Result, Ok, Err, Some, OnOk}
+use Rattle.qcow2_alloc.proofs.Common.{cases_lt, nat_tests, StorageView, one_if, EntryTableView, entry_count, counts_per_block, entries_per_cluster, ImageFile, IsLeastLength, nameable_clusters, HasNoRoomBelow, HasNoRoomFor, CantGrow, IsLowestRoom, LiesLowest, IsUsed, KeepsUsed, AreUsed, opens, opened, ImageError}
 use Rattle.qcow2_alloc.proofs.Lengths.{one_least}
 use Rattle.qcow2_alloc.proofs.Rooms.{next_sum, opened_none, opening}
 

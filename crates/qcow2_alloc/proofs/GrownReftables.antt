@@ -1,5 +1,6 @@
 -- Replacing the reftable by a longer one: in memory, then at a place with room, and the old one is listed to be freed.
-use Rattle.qcow2_alloc.proofs.Common.{KeepsUsed, ◌≡◌, ◌⊎◌, inl, IsTrue, ℕ, ◌+◌, ◌-◌, ◌*◌, ◌/◌, ◌%◌, ◌^◌, ◌==◌, List, length, [], ◌∷◌, ◌++◌, Some, Result, Ok, Err, refl, sym, ap, ◌∙◌, subst, arith, IfErr, cond-true, eq-eqb, div-add-mod', StorageView, sum_below, HeaderFields, HeaderView, cluster_size, entries_per_cluster, block_offset, EntryTableView, IsRefTable, entry_count, in_cluster, table_in, entry_at, Pending, Sizes, sum_below-same, sum_below-longer, Allocator, ClustersToFreeEntry, ImageError, ImageFile, InternalAllocatorStep, InternalAllocatorGrowth, metadata_entry, of_data, of_tables, to_free, pending_then, IsCloneOf, named_by_reftable_entries, counted_run, with_run, without_reftable, NamesReftable, EntersReftable, FileInvariant, HasReftable, RefusedFileStep, IsFaultOr, IsLonger}
+use Rattle.std.proofs.Common.{◌≡◌, ◌⊎◌, ◌+◌, ◌-◌, ◌*◌, ◌/◌, ◌%◌, ◌^◌, ◌==◌, ◌∷◌, ◌++◌, inl, IsTrue, ℕ, List, length, [], Some, Result, Ok, Err, refl, sym, ap, ◌∙◌, subst, arith, IfErr}
+use Rattle.qcow2_alloc.proofs.Common.{KeepsUsed, cond-true, eq-eqb, div-add-mod', StorageView, sum_below, HeaderFields, HeaderView, cluster_size, entries_per_cluster, block_offset, EntryTableView, IsRefTable, entry_count, in_cluster, table_in, entry_at, Pending, Sizes, sum_below-same, sum_below-longer, Allocator, ClustersToFreeEntry, ImageError, ImageFile, InternalAllocatorStep, InternalAllocatorGrowth, metadata_entry, of_data, of_tables, to_free, pending_then, IsCloneOf, named_by_reftable_entries, counted_run, with_run, without_reftable, NamesReftable, EntersReftable, FileInvariant, HasReftable, RefusedFileStep, IsFaultOr, IsLonger}
 use Rattle.qcow2_alloc.proofs.AllocationSteps.{on_of, allocator_step_on, leaves_as}
 use Rattle.qcow2_alloc.proofs.FileSteps.{pending_same}
 use Rattle.qcow2_alloc.proofs.Freeing.{free_more}

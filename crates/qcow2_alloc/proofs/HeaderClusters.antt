@@ -1,5 +1,6 @@
 -- Writes past cluster 0 leave the bytes of cluster 0 the same.
-use Rattle.qcow2_alloc.proofs.Common.{◌≡◌, ◌⊎◌, inl, inr, ℕ, ◌*◌, ◌/◌, ◌^◌, ◌<◌, ◌≤◌, false, true, List, Option, Some, None, Result, IsSome, refl, sym, ap, ◌∙◌, arith, IfSome, div-add-mod', mod_below, mul-le, pow_pos, overwritten, StorageView, Calls, QuietCalls, Changes, ContentsStay, StorageError, byte_at-overwritten_below, passes_none, passes_on, passes_if, whole_or_nothing, byte_at, storage_of, WritesPlaced, ImageStorage, IsInHeaderCluster, SameAt, BytesStay, KeepsHeaderCluster}
+use Rattle.std.proofs.Common.{◌≡◌, ◌⊎◌, ◌*◌, ◌/◌, ◌^◌, ◌<◌, ◌≤◌, inl, inr, ℕ, false, true, List, Option, Some, None, Result, IsSome, refl, sym, ap, ◌∙◌, arith, IfSome}
+use Rattle.qcow2_alloc.proofs.Common.{div-add-mod', mod_below, mul-le, pow_pos, overwritten, StorageView, Calls, QuietCalls, Changes, ContentsStay, StorageError, byte_at-overwritten_below, passes_none, passes_on, passes_if, whole_or_nothing, byte_at, storage_of, WritesPlaced, ImageStorage, IsInHeaderCluster, SameAt, BytesStay, KeepsHeaderCluster}
 
 -- a byte of cluster 0 lies below each other cluster
 pub below_others : (bits c o : ℕ) → 0 < c → o / 2 ^ bits ≡ 0 → o < c * 2 ^ bits

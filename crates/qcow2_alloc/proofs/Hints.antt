@@ -1,5 +1,6 @@
 -- The first free cluster of an allocator over its steps: clusters in use stay in use, except those that are freed.
-use Rattle.qcow2_alloc.proofs.Common.{◌≡◌, ◌≢◌, ◌⊎◌, inl, inr, ℕ, ◌==◌, IsTrue, IsSome, ◌+◌, ◌*◌, ◌/◌, ◌<◌, ◌≤◌, Bool, true, false, Some, None, Result, Ok, Err, sym, ap, ◌∙◌, subst, refl, arith, OnOk, cases_eq, cases_lt, StorageView, block_offset, reftable_entry, count, EntryTableView, entry_count, entry_at, cluster_size, counts_per_block, named_by_reftable, named_for_tables, in_cluster, div-mul-add, pow_pos, zero-div, shares, block_has, in_own, count_none, has_block, one_at, Pending, Allocator, Data, Metadata, ImageError, ImageFile, run_at, taken_as, Owed, Taken, Listed, owed_as, HasNone, NamesRefblock, RefblockAt, InternalAllocatorStep, GetsBlock, DecrementsOne, PlacesBlock, AllocatesGiven, pending_at, contents_in, known_in, FileInvariant, HasReftable, RefusedFileStep, rb_at, MetadataCaches, nat_tests, IsPassed, SearchStays, IsUsed, IsLowestRun, NoFreeBelowHint, KeepsNoFreeBelowHint, BrokeOff, KeepsUsed, AreUsed}
+use Rattle.std.proofs.Common.{◌≡◌, ◌≢◌, ◌⊎◌, ◌==◌, ◌+◌, ◌*◌, ◌/◌, ◌<◌, ◌≤◌, inl, inr, ℕ, IsTrue, IsSome, Bool, true, false, Some, None, Result, Ok, Err, sym, ap, ◌∙◌, subst, refl, arith, OnOk}
+use Rattle.qcow2_alloc.proofs.Common.{cases_eq, cases_lt, StorageView, block_offset, reftable_entry, count, EntryTableView, entry_count, entry_at, cluster_size, counts_per_block, named_by_reftable, named_for_tables, in_cluster, div-mul-add, pow_pos, zero-div, shares, block_has, in_own, count_none, has_block, one_at, Pending, Allocator, Data, Metadata, ImageError, ImageFile, run_at, taken_as, Owed, Taken, Listed, owed_as, HasNone, NamesRefblock, RefblockAt, InternalAllocatorStep, GetsBlock, DecrementsOne, PlacesBlock, AllocatesGiven, pending_at, contents_in, known_in, FileInvariant, HasReftable, RefusedFileStep, rb_at, MetadataCaches, nat_tests, IsPassed, SearchStays, IsUsed, IsLowestRun, NoFreeBelowHint, KeepsNoFreeBelowHint, BrokeOff, KeepsUsed, AreUsed}
 use Rattle.qcow2_alloc.specs.ImageFile.{IsFault}
 use Rattle.qcow2_alloc.proofs.FileSteps.{one_here}
 use Rattle.qcow2_alloc.proofs.Runs.{none_there, run_in}

@@ -1,5 +1,6 @@
 -- An allocator still belongs to its file after steps, and after refused calls.
-use Rattle.qcow2_alloc.proofs.Common.{◌≡◌, ◌⊎◌, inl, inr, subst, sym, ℕ, ◌≤◌, List, Option, Some, None, arith, IfSome, StorageView, count, EntryTableView, Pending, Allocator, ImageError, ImageFile, RefusedGrowth, InternalAllocatorStep, known_in, HasReftable, InternalFileGrowth, InterruptedFileStep, NoFreeBelowHint, SearchesAnew, BrokeOff, IsIn}
+use Rattle.std.proofs.Common.{◌≡◌, ◌⊎◌, ◌≤◌, inl, inr, subst, sym, ℕ, List, Option, Some, None, arith, IfSome}
+use Rattle.qcow2_alloc.proofs.Common.{StorageView, count, EntryTableView, Pending, Allocator, ImageError, ImageFile, RefusedGrowth, InternalAllocatorStep, known_in, HasReftable, InternalFileGrowth, InterruptedFileStep, NoFreeBelowHint, SearchesAnew, BrokeOff, IsIn}
 use Rattle.qcow2_alloc.specs.KeptAllocators.{IsAllocatorOf}
 use Rattle.qcow2_alloc.proofs.AllocationSteps.{on_of}
 

@@ -1,5 +1,6 @@
 -- Steps one after another keep the marks of an image's file.
-use Rattle.qcow2_alloc.proofs.Common.{◌≡◌, ℕ, List, Option, Some, None, IsSome, Result, refl, sym, ◌∙◌, subst, IfSome, StorageView, Calls, Changes, StorageError, KeepsPinsAndNotes, storage_of, RecordsWrite, SameNotes, counts_none, counts_then, KeepMarks, KeepNotes, KeepsNotes, kept_same, kept_then, order_of, MetadataCaches, ImageStorage}
+use Rattle.std.proofs.Common.{◌≡◌, ℕ, List, Option, Some, None, IsSome, Result, refl, sym, ◌∙◌, subst, IfSome}
+use Rattle.qcow2_alloc.proofs.Common.{StorageView, Calls, Changes, StorageError, KeepsPinsAndNotes, storage_of, RecordsWrite, SameNotes, counts_none, counts_then, KeepMarks, KeepNotes, KeepsNotes, kept_same, kept_then, order_of, MetadataCaches, ImageStorage}
 use Rattle.qcow2_alloc.proofs.CachePins.{marks_none, marks_then}
 use Rattle.qcow2_alloc.proofs.KeptNotes.{kept_told, write_kept}
 

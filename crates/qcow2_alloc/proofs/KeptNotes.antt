@@ -1,5 +1,6 @@
 -- Writes and reads of the image's storage keep recorded changes.
-use Rattle.qcow2_alloc.proofs.Common.{◌≡◌, List, ℕ, IsTrue, Result, Ok, Err, sym, ◌∙◌, subst, StorageView, Calls, Changes, ContentsStay, QuietCalls, StorageError, Fault, CountsChanges, counts_none, counts_one, storage_of, is_changed_of, changes_of, RecordsWrite, SameNotes, KeepsNotes, ImageStorage}
+use Rattle.std.proofs.Common.{◌≡◌, List, ℕ, IsTrue, Result, Ok, Err, sym, ◌∙◌, subst}
+use Rattle.qcow2_alloc.proofs.Common.{StorageView, Calls, Changes, ContentsStay, QuietCalls, StorageError, Fault, CountsChanges, counts_none, counts_one, storage_of, is_changed_of, changes_of, RecordsWrite, SameNotes, KeepsNotes, ImageStorage}
 use Rattle.image_access.specs.declared.error.StorageError.TheVariants.{Memory}
 
 module _ {S : Type 0} where

@@ -1,5 +1,6 @@
 -- The free runs that an allocator remembers: a search passes over no clusters but those that it passed before, and those in use.
-use Rattle.qcow2_alloc.proofs.Common.{◌≡◌, ◌⊎◌, inl, inr, ℕ, ◌+◌, ◌-◌, ◌<◌, ◌≤◌, List, Bool, true, false, IsTrue, IsFalse, Option, Some, None, Result, Ok, Err, ap, subst, sym, refl, ◌∙◌, arith, IfSome, IsErr, IsErrAnd, nat_tests, Pending, MetadataCaches, ImageError, AllocatorInvariant, HasReftable, passed_hint, IsFoundUsed, SparedStayOut, ReportsUsed, AddsFree, StorageView, cases_eq, cases_lt, Adds, Forgets, IsIn, SameNumbers, Allocator, ImageFile, IsCovered, IsPassed, IsUsed, KeepsRuns, NoCluster, NoFreeBelowHint, PassesNoOthers, SearchStays}
+use Rattle.std.proofs.Common.{◌≡◌, ◌⊎◌, ◌+◌, ◌-◌, ◌<◌, ◌≤◌, inl, inr, ℕ, List, Bool, true, false, IsTrue, IsFalse, Option, Some, None, Result, Ok, Err, ap, subst, sym, refl, ◌∙◌, arith, IfSome, IsErr, IsErrAnd}
+use Rattle.qcow2_alloc.proofs.Common.{nat_tests, Pending, MetadataCaches, ImageError, AllocatorInvariant, HasReftable, passed_hint, IsFoundUsed, SparedStayOut, ReportsUsed, AddsFree, StorageView, cases_eq, cases_lt, Adds, Forgets, IsIn, SameNumbers, Allocator, ImageFile, IsCovered, IsPassed, IsUsed, KeepsRuns, NoCluster, NoFreeBelowHint, PassesNoOthers, SearchStays}
 use Rattle.qcow2_alloc.proofs.Outcomes.{never}
 
 -- a search passes over no other clusters than before, or than are said

@@ -1,5 +1,6 @@
 -- A count that was lowered.
-use Rattle.qcow2_alloc.proofs.Common.{◌≡◌, ℕ, ◌+◌, ◌-◌, ◌<◌, ◌%◌, Option, Some, None, Ok, IfSome, refl, subst, arith, IsNone, is_some, counts_per_block, RefBlockView, count_at, IsDecremented, TriesToDecrement, rb_at, LeavesCount, SetsCount, MetadataCaches, ImageFile}
+use Rattle.std.proofs.Common.{◌≡◌, ◌+◌, ◌-◌, ◌<◌, ◌%◌, ℕ, Option, Some, None, Ok, IfSome, refl, subst, arith, is_some}
+use Rattle.qcow2_alloc.proofs.Common.{IsNone, counts_per_block, RefBlockView, count_at, IsDecremented, TriesToDecrement, rb_at, LeavesCount, SetsCount, MetadataCaches, ImageFile}
 use Rattle.qcow2_alloc.proofs.KeptTables.Inserting.{found_or_not}
 
 -- one less than one more

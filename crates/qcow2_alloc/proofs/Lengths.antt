@@ -1,5 +1,6 @@
 -- Lengths in whole clusters.
-use Rattle.qcow2_alloc.proofs.Common.{ℕ, ◌+◌, ◌-◌, ◌*◌, ◌/◌, ◌%◌, ◌<◌, ◌≤◌, ◌≡◌, ◌≢◌, ◌∙◌, refl, inl, inr, arith, max, min, sym, subst, ap, cases_lt, mul-le-mul_left, mul-le-mul_right, mul-div_cancel, mul_assoc, IsLongEnough, IsLeastLength}
+use Rattle.std.proofs.Common.{◌+◌, ◌-◌, ◌*◌, ◌/◌, ◌%◌, ◌<◌, ◌≤◌, ◌≡◌, ◌≢◌, ℕ, ◌∙◌, refl, inl, inr, arith, max, min, sym, subst, ap}
+use Rattle.qcow2_alloc.proofs.Common.{cases_lt, mul-le-mul_left, mul-le-mul_right, mul-div_cancel, mul_assoc, IsLongEnough, IsLeastLength}
 use Rattle.std.proofs.lemmas.Grind.{div_ceil_times}
 
 as_clusters : (n p : ℕ) → 0 < p → n % p ≡ 0 → n ≡ n / p * p

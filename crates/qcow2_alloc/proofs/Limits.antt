@@ -1,5 +1,6 @@
 -- Why an allocation is refused, other than by a fault.
-use Rattle.qcow2_alloc.proofs.Common.{◌≡◌, inl, inr, ℕ, ◌<◌, ◌≤◌, Result, Ok, Err, ap, sym, ◌∙◌, subst, arith, ◌*◌, ◌^◌, Option, IsSome, refl, ◌/◌, ◌+◌, ◌⊎◌, Bool, true, false, IsTrue, ◌↔◌, IfErr, StorageView, Pending, Allocator, ImageError, ImageFile, PlacesBlock, run_at, AllocatorInvariant, KeepsHeader, mul-le-mul_right, div-mul-le_self, IsHostCluster, greatest_offset, HeaderFields, counts_per_block, entries_per_cluster, cases_lt, EntryTableView, entry_count, IsUsed, IsLowestRun, IsLeastLength, opened, IsFaultOr, nameable_clusters, IsFull, CantGrow, CantCount}
+use Rattle.std.proofs.Common.{◌≡◌, ◌<◌, ◌≤◌, ◌*◌, ◌^◌, ◌/◌, ◌+◌, ◌⊎◌, ◌↔◌, inl, inr, ℕ, Result, Ok, Err, ap, sym, ◌∙◌, subst, arith, Option, IsSome, refl, Bool, true, false, IsTrue, IfErr}
+use Rattle.qcow2_alloc.proofs.Common.{StorageView, Pending, Allocator, ImageError, ImageFile, PlacesBlock, run_at, AllocatorInvariant, KeepsHeader, mul-le-mul_right, div-mul-le_self, IsHostCluster, greatest_offset, HeaderFields, counts_per_block, entries_per_cluster, cases_lt, EntryTableView, entry_count, IsUsed, IsLowestRun, IsLeastLength, opened, IsFaultOr, nameable_clusters, IsFull, CantGrow, CantCount}
 use Rattle.qcow2_alloc.specs.declared.error.ImageError.TheVariants as I
 use Rattle.qcow2_alloc.specs.ImageFile.{IsFault}
 use Rattle.qcow2_alloc.proofs.ListedAfter.{header_counts}

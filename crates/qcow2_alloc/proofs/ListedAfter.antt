@@ -1,5 +1,6 @@
 -- What replacing the reftable changes besides the table: the header points to the longer one, and the clusters of the old one are listed. What several such steps change.
-use Rattle.qcow2_alloc.proofs.Common.{is_changed_of, or_right, ◌≡◌, ℕ, ◌+◌, ◌<◌, Bool, true, false, List, [], ◌++◌, append_assoc, append-nil, Result, Ok, Err, IsTrue, inl, inr, refl, sym, ap, ◌∙◌, subst, arith, HeaderView, counts_per_block, with_fields, with_reftable, one_at, Pending, KeepsFormat, ClusterKind, Metadata, ClustersToFreeEntry, Allocator, ImageError, ImageFile, StorageView, run_at, taken_as, InternalAllocatorGrowth, GetsBlock, GrowsTable, RefusedGrowth, of_data, of_tables, to_free, pending_then, but, ListsTables, KeepsHeader, InterruptedFileStep}
+use Rattle.std.proofs.Common.{◌≡◌, ◌+◌, ◌<◌, ◌++◌, ℕ, Bool, true, false, List, [], append_assoc, append-nil, Result, Ok, Err, IsTrue, inl, inr, refl, sym, ap, ◌∙◌, subst, arith}
+use Rattle.qcow2_alloc.proofs.Common.{is_changed_of, or_right, HeaderView, counts_per_block, with_fields, with_reftable, one_at, Pending, KeepsFormat, ClusterKind, Metadata, ClustersToFreeEntry, Allocator, ImageError, ImageFile, StorageView, run_at, taken_as, InternalAllocatorGrowth, GetsBlock, GrowsTable, RefusedGrowth, of_data, of_tables, to_free, pending_then, but, ListsTables, KeepsHeader, InterruptedFileStep}
 use Rattle.qcow2_alloc.specs.ImageFile.{IsFault}
 use Rattle.qcow2_alloc.proofs.AllocationSteps.{on_of, allocator_step_on, leaves_as, leaves_on}
 use Rattle.qcow2_alloc.proofs.FileSteps.{pending_same, safe_throughout_then}

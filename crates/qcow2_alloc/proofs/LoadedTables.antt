@@ -1,5 +1,6 @@
 -- A table is loaded if it is readable, and otherwise refused for that.
-use Rattle.qcow2_alloc.proofs.Common.{◌≡◌, inl, inr, ℕ, ◌+◌, ◌*◌, ◌<◌, ◌≤◌, ◌^◌, List, Result, Err, sym, subst, arith, cases_lt, bytes_at, length-bytes_at, HeaderFields, EachReads, IsReasonNotToLoad, PassesLimit, SomeUnread, entry_at, MetadataError, of_metadata, EntriesRead, HasUnreadEntry, IsReasonAgainst}
+use Rattle.std.proofs.Common.{◌≡◌, ◌+◌, ◌*◌, ◌<◌, ◌≤◌, ◌^◌, inl, inr, ℕ, List, Result, Err, sym, subst, arith}
+use Rattle.qcow2_alloc.proofs.Common.{cases_lt, bytes_at, length-bytes_at, HeaderFields, EachReads, IsReasonNotToLoad, PassesLimit, SomeUnread, entry_at, MetadataError, of_metadata, EntriesRead, HasUnreadEntry, IsReasonAgainst}
 use Rattle.image_access.specs.declared.error.StorageError.TheVariants as S
 use Rattle.qcow2_metadata.specs.declared.error.MetadataError.TheVariants as M
 

@@ -1,5 +1,6 @@
 -- Clusters that are in use only after steps that guests don't see: each is pending, or holds a new refblock or the new reftable.
-use Rattle.qcow2_alloc.proofs.Common.{◌≡◌, ◌≢◌, ◌⊎◌, inl, inr, ℕ, ◌+◌, ◌-◌, ◌*◌, ◌/◌, ◌^◌, ◌<◌, ◌≤◌, ◌==◌, Bool, true, false, List, [], ◌∷◌, ◌++◌, Option, Some, None, Result, Ok, Err, refl, sym, ap, ◌∙◌, subst, arith, IfOk, cases_eq, cond-true, cond-false, eq-eqb, ne_eqb, mul-le-mul_left, div-add-mod', div-mul-add, pow_pos, StorageView, Bytes, sum_below, HeaderFields, cluster_size, entries_per_cluster, reftable_entries, with_reftable, l1_entry, reftable_entry, block_offset, count, EntryTableView, IsRefTableOf, entry_count, entry_at, in_cluster, table_in, named_by_reftable, named_by_l1_table, named_for_tables, named_by_guest, one_at, Direction, Pending, CrashInvariant, SameCovers, over_guests, names, KeepsFormat, over_guests-same, reftable_entry-past, shares, in_l1, in_reftable, block_has, some_term, sum_below-le, sum_below-longer, l1_names-same, run_at, taken_as, is_data, Allocates, KeepsRefblocks, RefusedGrowth, InternalAllocatorGrowth, of_data, of_tables, to_free, pending_then, run_of, ListsTables, OldReftablesQueued, IsRunOfTable, reftable_at, without_reftable, pending_at, contents_in, known_in, FileInvariant, HasReftable, AllocatorInvariant, InternalFileGrowth, IsPastLimits, IsUsed, order_of, IsOfNewRefblock, IsOfReftable, IsAllocatedMetadata, IsMadeInTurn, IsListedSince, listed_at, run_in, CountsListed, ListsUsed, AllocatesOnly, Allocator, ClusterKind, Data, Metadata, ClustersToFreeEntry, ImageError, ImageFile}
+use Rattle.std.proofs.Common.{◌≡◌, ◌≢◌, ◌⊎◌, ◌+◌, ◌-◌, ◌*◌, ◌/◌, ◌^◌, ◌<◌, ◌≤◌, ◌==◌, ◌∷◌, ◌++◌, inl, inr, ℕ, Bool, true, false, List, [], Option, Some, None, Result, Ok, Err, refl, sym, ap, ◌∙◌, subst, arith}
+use Rattle.qcow2_alloc.proofs.Common.{IfOk, cases_eq, cond-true, cond-false, eq-eqb, ne_eqb, mul-le-mul_left, div-add-mod', div-mul-add, pow_pos, StorageView, Bytes, sum_below, HeaderFields, cluster_size, entries_per_cluster, reftable_entries, with_reftable, l1_entry, reftable_entry, block_offset, count, EntryTableView, IsRefTableOf, entry_count, entry_at, in_cluster, table_in, named_by_reftable, named_by_l1_table, named_for_tables, named_by_guest, one_at, Direction, Pending, CrashInvariant, SameCovers, over_guests, names, KeepsFormat, over_guests-same, reftable_entry-past, shares, in_l1, in_reftable, block_has, some_term, sum_below-le, sum_below-longer, l1_names-same, run_at, taken_as, is_data, Allocates, KeepsRefblocks, RefusedGrowth, InternalAllocatorGrowth, of_data, of_tables, to_free, pending_then, run_of, ListsTables, OldReftablesQueued, IsRunOfTable, reftable_at, without_reftable, pending_at, contents_in, known_in, FileInvariant, HasReftable, AllocatorInvariant, InternalFileGrowth, IsPastLimits, IsUsed, order_of, IsOfNewRefblock, IsOfReftable, IsAllocatedMetadata, IsMadeInTurn, IsListedSince, listed_at, run_in, CountsListed, ListsUsed, AllocatesOnly, Allocator, ClusterKind, Data, Metadata, ClustersToFreeEntry, ImageError, ImageFile}
 use Rattle.std.specs.Prelude.{IsNone}
 use Rattle.qcow2_laws.proofs.Formats.{size_format, guests_format, l1_format}
 use Rattle.qcow2_alloc.proofs.FormerReftables.{gave_longer}

@@ -1,6 +1,6 @@
 -- Marked keys by their rising numbers, and how many there are.
-use Rattle.qcow2_alloc.proofs.Common.{◌≡◌, ◌≢◌, ℕ, zero, suc, ◌+◌, ◌<◌, ◌≤◌, Bool, true, false, cond, eqb, ltb, ltb-true, ltb-false, List, [], ◌∷◌, length, get_or, insert, remove, slice_get, Option, Some, None, is_some, refl, sym, ap, ◌∙◌, arith, none-some, same_Some, lookup, remove_entry, set_value, IsSome, option_map_or, number_at, Rise, count_below, marks_of, marked_count, IsLastBelow}
-use Rattle.std.proofs.Common.{lt-ltb, eqb-true, eq-eqb, ne_eqb}
+use Rattle.qcow2_alloc.proofs.Common.{none-some, same_Some, lookup, remove_entry, set_value, option_map_or, number_at, Rise, count_below, marks_of, marked_count, IsLastBelow}
+use Rattle.std.proofs.Common.{◌≡◌, ◌≢◌, ◌+◌, ◌<◌, ◌≤◌, ◌∷◌, ℕ, zero, suc, Bool, true, false, cond, eqb, ltb, ltb-true, ltb-false, List, [], length, get_or, insert, remove, slice_get, Option, Some, None, is_some, refl, sym, ap, ◌∙◌, arith, IsSome, lt-ltb, eqb-true, eq-eqb, ne_eqb}
 use Rattle.std.specs.List.Sorted.{IsPartitionPoint, IsNonDecreasingBy}
 
 apart : (n m : ℕ) → n < m → eqb n m ≡ false

@@ -1,5 +1,6 @@
 -- The header's pointer to a longer reftable is written, and the allocator uses that table from then on.
-use Rattle.qcow2_alloc.proofs.Common.{◌≡◌, ◌≢◌, ◌⊎◌, inl, inr, ℕ, ◌+◌, ◌-◌, ◌*◌, ◌/◌, ◌^◌, ◌<◌, ◌≤◌, List, [], length, Some, Result, Ok, IsTrue, refl, sym, ap, ◌∙◌, subst, arith, mul-le-mul_left, cases_eq, or_left, StorageView, Changes, Calls, StorageError, Bytes, byte_at, HeaderFields, HeaderView, cluster_size, entries_per_cluster, with_fields, with_reftable, reftable_pointer_written, l1_entry, reftable_entry, block_offset, EntryTableView, IsRefTable, entry_count, entry_at, HasBlock, Pending, SafeStep, SafeThroughout, WritesHeader, with_reftable_at, IsNewReftable, IsInternal, header_fixed, header_l1, header_known_covers, step_safe_throughout, header_is_written, table_bytes, Allocator, ImageFile, ImageStorage, ImageError, run_at, InternalAllocatorGrowth, reftable_at, with_run, without_reftable, StandsGrown, nothing_given, view_in, contents_in, known_in, state_in, FileInvariant, AllocatorInvariant, HasReftable, InternalFileGrowth, InterruptedFileStep, storage_of, is_changed_of, AreLoaded, IsUsed, order_of, refblocks, known_of}
+use Rattle.std.proofs.Common.{◌≡◌, ◌≢◌, ◌⊎◌, ◌+◌, ◌-◌, ◌*◌, ◌/◌, ◌^◌, ◌<◌, ◌≤◌, inl, inr, ℕ, List, [], length, Some, Result, Ok, IsTrue, refl, sym, ap, ◌∙◌, subst, arith}
+use Rattle.qcow2_alloc.proofs.Common.{mul-le-mul_left, cases_eq, or_left, StorageView, Changes, Calls, StorageError, Bytes, byte_at, HeaderFields, HeaderView, cluster_size, entries_per_cluster, with_fields, with_reftable, reftable_pointer_written, l1_entry, reftable_entry, block_offset, EntryTableView, IsRefTable, entry_count, entry_at, HasBlock, Pending, SafeStep, SafeThroughout, WritesHeader, with_reftable_at, IsNewReftable, IsInternal, header_fixed, header_l1, header_known_covers, step_safe_throughout, header_is_written, table_bytes, Allocator, ImageFile, ImageStorage, ImageError, run_at, InternalAllocatorGrowth, reftable_at, with_run, without_reftable, StandsGrown, nothing_given, view_in, contents_in, known_in, state_in, FileInvariant, AllocatorInvariant, HasReftable, InternalFileGrowth, InterruptedFileStep, storage_of, is_changed_of, AreLoaded, IsUsed, order_of, refblocks, known_of}
 use Rattle.qcow2_laws.proofs.ReftableMoves.{now_l1, now_reftable, known_counts}
 use Rattle.qcow2_alloc.specs.ImageFile.{IsFault}
 use Rattle.qcow2_alloc.proofs.FileSteps.{pending_same}

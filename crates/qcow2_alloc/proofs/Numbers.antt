@@ -1,5 +1,6 @@
 -- The size, and the pointers to the L1 table and the reftable, are written to the header on the storage, whatever its names are.
-use Rattle.qcow2_alloc.proofs.Common.{ℕ, ◌*◌, ◌^◌, ◌<◌, ◌≤◌, List, refl, sym, subst, arith, StorageView, byte_at, HeaderFields, HeaderView, header, HeaderReads, entries_per_cluster, backing_name, first_of_kind, backing_format_kind, data_file_kind, with_size, with_l1_table, with_reftable, size_written, l1_table_pointer_written, reftable_pointer_written, Pending, WritesHeader, resized_places, with_l1_at, with_reftable_at, ImageFile, view_in, known_in, FileInvariant, order_of, l2_tables, refblocks, known_of}
+use Rattle.std.proofs.Common.{◌*◌, ◌^◌, ◌<◌, ◌≤◌, ℕ, List, refl, sym, subst, arith}
+use Rattle.qcow2_alloc.proofs.Common.{StorageView, byte_at, HeaderFields, HeaderView, header, HeaderReads, entries_per_cluster, backing_name, first_of_kind, backing_format_kind, data_file_kind, with_size, with_l1_table, with_reftable, size_written, l1_table_pointer_written, reftable_pointer_written, Pending, WritesHeader, resized_places, with_l1_at, with_reftable_at, ImageFile, view_in, known_in, FileInvariant, order_of, l2_tables, refblocks, known_of}
 use Rattle.qcow2_metadata.specs.HeaderLoad.{IsHeaderIn}
 use Rattle.qcow2_metadata.proofs.StillHeader.{size_still, l1_table_still, reftable_still}
 use Rattle.qcow2_metadata.proofs.WrittenHeader.{size_after, l1_table_after, reftable_after}

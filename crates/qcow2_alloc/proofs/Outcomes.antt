@@ -1,5 +1,6 @@
 -- What holds of the result of a call, whatever the call does.
-use Rattle.qcow2_alloc.proofs.Common.{◌≡◌, ℕ, Bool, false, Result, Ok, Err, IsErr, IsErrAnd, IsTrue, refl, ap, IsErrOf, IfOk, OnOk, EntryTableView, KeepsEntries, ImageError}
+use Rattle.std.proofs.Common.{◌≡◌, ℕ, Bool, false, Result, Ok, Err, IsErr, IsErrAnd, IsTrue, refl, ap, OnOk}
+use Rattle.qcow2_alloc.proofs.Common.{IsErrOf, IfOk, EntryTableView, KeepsEntries, ImageError}
 use Rattle.std.specs.Prelude.{OnErr}
 use Rattle.qcow2_alloc.specs.declared.error.ImageError.TheVariants as I
 use Rattle.qcow2_alloc.proofs.AllocationSteps.{handed_on, behind_none}

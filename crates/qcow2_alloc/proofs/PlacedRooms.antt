@@ -1,5 +1,6 @@
 -- The refblocks of a room are written to its clusters one after another, and entered in a longer reftable.
-use Rattle.qcow2_alloc.proofs.Common.{◌≡◌, ◌≢◌, ◌⊎◌, inl, inr, ℕ, ◌+◌, ◌-◌, ◌*◌, ◌/◌, ◌%◌, ◌^◌, ◌<◌, ◌≤◌, ◌==◌, true, false, refl, sym, ap, ◌∙◌, subst, arith, cases_Bool, cases_eq, cases_lt, eq-eqb, ne_eqb, cond-true, div-add-mod', div-mul-add, mod_below, pow_pos, mul-le-mul_left, Bytes, sum_below, HeaderFields, cluster_size, counts_per_block, count_width, block_offset, block_count, EntryTableView, entry_count, RefBlockView, IsRefBlock, count_at, ref_block_at, IsSameOutside, Sizes, block_count-moved, in_one, table_in, entry_at, ChangesEntry, IsAligned, one_at, sum_below-change, run_at, HasBytesAt, HasNone, IsBlockOf, named_by_reftable_entries, lacks, opens, CountsRun}
+use Rattle.std.proofs.Common.{◌≡◌, ◌≢◌, ◌⊎◌, ◌+◌, ◌-◌, ◌*◌, ◌/◌, ◌%◌, ◌^◌, ◌<◌, ◌≤◌, ◌==◌, inl, inr, ℕ, true, false, refl, sym, ap, ◌∙◌, subst, arith}
+use Rattle.qcow2_alloc.proofs.Common.{cases_Bool, cases_eq, cases_lt, eq-eqb, ne_eqb, cond-true, div-add-mod', div-mul-add, mod_below, pow_pos, mul-le-mul_left, Bytes, sum_below, HeaderFields, cluster_size, counts_per_block, count_width, block_offset, block_count, EntryTableView, entry_count, RefBlockView, IsRefBlock, count_at, ref_block_at, IsSameOutside, Sizes, block_count-moved, in_one, table_in, entry_at, ChangesEntry, IsAligned, one_at, sum_below-change, run_at, HasBytesAt, HasNone, IsBlockOf, named_by_reftable_entries, lacks, opens, CountsRun}
 use Rattle.qcow2_alloc.proofs.KeptTables.Getting.{cluster_aligned}
 use Rattle.qcow2_alloc.proofs.KeptTables.Standing.{own_cluster}
 use Rattle.qcow2_alloc.proofs.NamedBlocks.{table_in-one}

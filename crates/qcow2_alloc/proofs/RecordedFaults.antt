@@ -1,5 +1,6 @@
 -- Loads and writes of tables record their failures.
-use Rattle.qcow2_alloc.proofs.Common.{◌≡◌, ◌≤◌, true, inl, inr, Result, Ok, Err, refl, ap, sym, ◌∙◌, subst, arith, StorageView, HasCause, Rose, StorageError, Fault, faults_of, storage_of, met_fault_of, RecordsFault, RecordsFaults, ImageStorage}
+use Rattle.std.proofs.Common.{◌≡◌, ◌≤◌, true, inl, inr, Result, Ok, Err, refl, ap, sym, ◌∙◌, subst, arith}
+use Rattle.qcow2_alloc.proofs.Common.{StorageView, HasCause, Rose, StorageError, Fault, faults_of, storage_of, met_fault_of, RecordsFault, RecordsFaults, ImageStorage}
 use Rattle.image_access.specs.declared.error.StorageError.TheVariants.{Memory}
 
 module _ {S : Type 0} {view : S → StorageView} where

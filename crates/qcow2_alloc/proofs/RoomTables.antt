@@ -1,5 +1,6 @@
 -- A longer reftable is written after its refblocks, and is then ready.
-use Rattle.qcow2_alloc.proofs.Common.{KeepsUsed, ◌≡◌, ℕ, ◌+◌, ◌*◌, ◌/◌, ◌%◌, ◌<◌, ◌≤◌, List, Option, None, Some, Result, Ok, Err, refl, sym, ap, ◌∙◌, subst, arith, inl, inr, option_map, mod_below, StorageView, Bytes, HeaderFields, cluster_size, counts_per_block, block_offset, EntryTableView, entry_at, AreClean, BlocksMayGo, Pending, SameIn, Sizes, block_count-moved, in_one, Allocator, MetadataCaches, ImageError, ImageFile, ImageStorage, run_at, HasBytesAt, InternalAllocatorStep, InternalAllocatorGrowth, with_run, without_reftable, IsGrown, StandsGrown, NamesReftable, KeepsPinsAndNotes, view_in, contents_in, AllocatorInvariant, RefusedFileStep, storage_of, order_of, l2_tables, refblocks, rb_at, InternalCacheStep, WritesTable}
+use Rattle.std.proofs.Common.{◌≡◌, ◌+◌, ◌*◌, ◌/◌, ◌%◌, ◌<◌, ◌≤◌, ℕ, List, Option, None, Some, Result, Ok, Err, refl, sym, ap, ◌∙◌, subst, arith, inl, inr}
+use Rattle.qcow2_alloc.proofs.Common.{KeepsUsed, option_map, mod_below, StorageView, Bytes, HeaderFields, cluster_size, counts_per_block, block_offset, EntryTableView, entry_at, AreClean, BlocksMayGo, Pending, SameIn, Sizes, block_count-moved, in_one, Allocator, MetadataCaches, ImageError, ImageFile, ImageStorage, run_at, HasBytesAt, InternalAllocatorStep, InternalAllocatorGrowth, with_run, without_reftable, IsGrown, StandsGrown, NamesReftable, KeepsPinsAndNotes, view_in, contents_in, AllocatorInvariant, RefusedFileStep, storage_of, order_of, l2_tables, refblocks, rb_at, InternalCacheStep, WritesTable}
 use Rattle.qcow2_alloc.proofs.Hints.{used_stays}
 use Rattle.qcow2_alloc.proofs.AllocationSteps.{on_of, allocator_step_on, allocator_step_cached}
 use Rattle.qcow2_alloc.proofs.PlacedBlocks.{known_there}

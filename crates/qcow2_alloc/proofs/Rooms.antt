@@ -1,5 +1,6 @@
 -- Runs in which the clusters are allocated whose ranges have refblocks.
-use Rattle.qcow2_alloc.proofs.Common.{◌≡◌, ◌⊎◌, inl, inr, ℕ, suc, ◌+◌, ◌-◌, ◌/◌, ◌<◌, ◌≤◌, Bool, true, false, IsTrue, Ok, refl, sym, ap, ◌∙◌, subst, arith, cases_Bool, cases_eq, cases_lt, cond-true, cond-false, from_bool, StorageView, HeaderFields, sum_below, one_if, EntryTableView, counts_per_block, one_at, with_new_tables, Pending, Allocator, ImageError, ImageFile, run_at, InternalAllocatorStep, AllocatesGiven, counted_run, with_run, AllocatorInvariant, RefusedFileStep, lacks, counted_one, opens, opened, AllocatesFree}
+use Rattle.std.proofs.Common.{◌≡◌, ◌⊎◌, ◌+◌, ◌-◌, ◌/◌, ◌<◌, ◌≤◌, inl, inr, ℕ, suc, Bool, true, false, IsTrue, Ok, refl, sym, ap, ◌∙◌, subst, arith}
+use Rattle.qcow2_alloc.proofs.Common.{cases_Bool, cases_eq, cases_lt, cond-true, cond-false, from_bool, StorageView, HeaderFields, sum_below, one_if, EntryTableView, counts_per_block, one_at, with_new_tables, Pending, Allocator, ImageError, ImageFile, run_at, InternalAllocatorStep, AllocatesGiven, counted_run, with_run, AllocatorInvariant, RefusedFileStep, lacks, counted_one, opens, opened, AllocatesFree}
 use Rattle.qcow2_alloc.specs.ImageFile.{IsFault}
 use Rattle.qcow2_alloc.proofs.FileSteps.{pending_same, file_step_then, leaves_then, interrupted_after}
 use Rattle.qcow2_alloc.proofs.AllocationSteps.{allocator_step_more, is_sound_now}

@@ -1,5 +1,6 @@
 -- Refblocks whose refcounts are those of a run.
-use Rattle.qcow2_alloc.proofs.Common.{◌≡◌, inl, inr, ℕ, zero, suc, ◌+◌, ◌-◌, ◌^◌, ◌<◌, ◌≤◌, Bool, true, false, IsTrue, IsFalse, refl, sym, ap, ◌∙◌, subst, arith, cases_eq, pow_pos, RefBlockView, IsRefBlock, ChangesCount, count_at, count_limit, run_at}
+use Rattle.std.proofs.Common.{◌≡◌, ◌+◌, ◌-◌, ◌^◌, ◌<◌, ◌≤◌, inl, inr, ℕ, zero, suc, Bool, true, false, IsTrue, IsFalse, refl, sym, ap, ◌∙◌, subst, arith}
+use Rattle.qcow2_alloc.proofs.Common.{cases_eq, pow_pos, RefBlockView, IsRefBlock, ChangesCount, count_at, count_limit, run_at}
 use Rattle.qcow2_alloc.proofs.Runs.{run_in, run_after, run_last, none_there}
 
 -- the greatest count is above 0

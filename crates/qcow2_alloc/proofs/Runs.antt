@@ -1,5 +1,6 @@
 -- Runs of clusters that are allocated cluster by cluster.
-use Rattle.qcow2_alloc.proofs.Common.{◌≡◌, inl, inr, ℕ, ◌+◌, ◌-◌, ◌<◌, ◌≤◌, ◌==◌, ◌&&◌, Bool, true, false, nat_le, nat_lt, refl, sym, ap, ◌∙◌, arith, cases_eq, cases_lt, cond-false, ne_eqb, nat_tests, one_at, with_new_data, with_new_tables, Pending, run_at, taken_as}
+use Rattle.std.proofs.Common.{◌≡◌, ◌+◌, ◌-◌, ◌<◌, ◌≤◌, ◌==◌, ◌&&◌, inl, inr, ℕ, Bool, true, false, nat_le, nat_lt, refl, sym, ap, ◌∙◌, arith}
+use Rattle.qcow2_alloc.proofs.Common.{cases_eq, cases_lt, cond-false, ne_eqb, nat_tests, one_at, with_new_data, with_new_tables, Pending, run_at, taken_as}
 use Rattle.qcow2_alloc.proofs.FileSteps.{pending_same, one_here}
 
 pub run_in : (first n k : ℕ) → first ≤ k → k < first + n → run_at first n k ≡ 1

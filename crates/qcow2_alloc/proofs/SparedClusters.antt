@@ -1,5 +1,6 @@
 -- Sparing clusters one after another, and which these are on a sound image.
-use Rattle.qcow2_alloc.proofs.Common.{◌≡◌, ◌≢◌, ◌⊎◌, inl, inr, ℕ, ◌+◌, ◌-◌, ◌*◌, ◌/◌, ◌^◌, ◌<◌, ◌≤◌, Bool, true, false, Option, Some, None, List, IsTrue, IsFalse, sym, ap, ◌∙◌, subst, refl, arith, IfSome, is_some, cases_eq, cond-true, and_from, le-leb, lt-ltb, pow_pos, le-div, div-mul-le_self, mul-le-mul_left, pow_mono, StorageView, IsIn, IsRun, Adds, Bytes, block_offset, host_offset, reftable_entry, l1_entry, EntryTableView, IsL1TableOf, IsRefTableOf, entry_count, cluster_size, named_by_l1_table, named_by_reftable, named_for_tables, entry_at, HeaderFields, shares, block_has, table_has, in_l1, in_reftable, Pending, contents_in, AllocatorInvariant, NoFreeBelowHint, IsWithin, NamesBlockIn, NamesTableIn, IsNamedHere, Spares, Allocator, ImageFile}
+use Rattle.std.proofs.Common.{◌≡◌, ◌≢◌, ◌⊎◌, ◌+◌, ◌-◌, ◌*◌, ◌/◌, ◌^◌, ◌<◌, ◌≤◌, inl, inr, ℕ, Bool, true, false, Option, Some, None, List, IsTrue, IsFalse, sym, ap, ◌∙◌, subst, refl, arith, IfSome, is_some}
+use Rattle.qcow2_alloc.proofs.Common.{cases_eq, cond-true, and_from, le-leb, lt-ltb, pow_pos, le-div, div-mul-le_self, mul-le-mul_left, pow_mono, StorageView, IsIn, IsRun, Adds, Bytes, block_offset, host_offset, reftable_entry, l1_entry, EntryTableView, IsL1TableOf, IsRefTableOf, entry_count, cluster_size, named_by_l1_table, named_by_reftable, named_for_tables, entry_at, HeaderFields, shares, block_has, table_has, in_l1, in_reftable, Pending, contents_in, AllocatorInvariant, NoFreeBelowHint, IsWithin, NamesBlockIn, NamesTableIn, IsNamedHere, Spares, Allocator, ImageFile}
 use Rattle.std.specs.Prelude.{IsNone}
 use Rattle.qcow2_alloc.proofs.Hints.{tables_used}
 

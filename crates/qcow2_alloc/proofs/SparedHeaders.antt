@@ -1,5 +1,6 @@
 -- Calls on an image's file that keep cluster 0, one after another.
-use Rattle.qcow2_alloc.proofs.Common.{◌≡◌, ◌⊎◌, inl, inr, ℕ, zero, suc, ◌+◌, ◌*◌, ◌^◌, ◌<◌, ◌≤◌, List, Option, Some, None, Result, IsSome, refl, sym, ap, ◌∙◌, subst, arith, IfSome, overwritten, StorageView, Calls, Changes, StorageError, whole_or_nothing, byte_at, HeaderFields, EntryTableView, entry_count, HeaderView, with_fields, with_reftable, bytes_of_numbers, reftable_pointer_written, IsInHeaderCluster, IsBesidePointer, BytesStay, KeepsHeaderCluster, KeepBehindHeader, StandsBehindHeader, CachesSpareHeader, SparesBytes, SparesHeader, PreservesHeaderButPointer, view_in, storage_of, MetadataCaches, ClustersToFreeEntry, ImageFile, ImageStorage, IsSameBut, overwritten_but}
+use Rattle.std.proofs.Common.{◌≡◌, ◌⊎◌, ◌+◌, ◌*◌, ◌^◌, ◌<◌, ◌≤◌, inl, inr, ℕ, zero, suc, List, Option, Some, None, Result, IsSome, refl, sym, ap, ◌∙◌, subst, arith, IfSome}
+use Rattle.qcow2_alloc.proofs.Common.{overwritten, StorageView, Calls, Changes, StorageError, whole_or_nothing, byte_at, HeaderFields, EntryTableView, entry_count, HeaderView, with_fields, with_reftable, bytes_of_numbers, reftable_pointer_written, IsInHeaderCluster, IsBesidePointer, BytesStay, KeepsHeaderCluster, KeepBehindHeader, StandsBehindHeader, CachesSpareHeader, SparesBytes, SparesHeader, PreservesHeaderButPointer, view_in, storage_of, MetadataCaches, ClustersToFreeEntry, ImageFile, ImageStorage, IsSameBut, overwritten_but}
 use Rattle.qcow2_alloc.proofs.HeaderClusters.{below_others, bytes_stay, bytes_then, fewer_stay, call_keeps, wrote_above}
 
 -- what begins at an offset that isn't 0 isn't cluster 0

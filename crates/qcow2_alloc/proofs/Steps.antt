@@ -1,5 +1,6 @@
 -- Steps of the allocator one after another, and refusals that are passed on.
-use Rattle.qcow2_alloc.proofs.Common.{◌≡◌, ◌≢◌, ℕ, List, Option, Some, None, Result, Ok, Err, IsErr, IsErrAnd, refl, sym, ap, ◌∙◌, subst, arith, IfErr, StorageView, HasCause, StorageError, MetadataError, storage_result, EntryTableView, FaultsReported, KeepsPinsAndNotes, HeldStep, ReplacesReftable, OldReftablesQueued, KeepsHeaderCluster, view_in, of_storage, of_metadata, IsOfTables, KeepMarks, KeepsMarks, KeepsNotes, kept_then, ClustersToFreeEntry, CachesSpareHeader, KeepBehindHeader, MetadataCaches, ImageStorage, err_of, FailsFor, TableStep, FileStep, KeepsMarksInTurn, DataStep, PointerStep, PointerStepTo, GrowthStep, FreeStep, FreeStepInTurn, PartStep, ImageError, ImageFile}
+use Rattle.std.proofs.Common.{◌≡◌, ◌≢◌, ℕ, List, Option, Some, None, Result, Ok, Err, IsErr, IsErrAnd, refl, sym, ap, ◌∙◌, subst, arith, IfErr}
+use Rattle.qcow2_alloc.proofs.Common.{StorageView, HasCause, StorageError, MetadataError, storage_result, EntryTableView, FaultsReported, KeepsPinsAndNotes, HeldStep, ReplacesReftable, OldReftablesQueued, KeepsHeaderCluster, view_in, of_storage, of_metadata, IsOfTables, KeepMarks, KeepsMarks, KeepsNotes, kept_then, ClustersToFreeEntry, CachesSpareHeader, KeepBehindHeader, MetadataCaches, ImageStorage, err_of, FailsFor, TableStep, FileStep, KeepsMarksInTurn, DataStep, PointerStep, PointerStepTo, GrowthStep, FreeStep, FreeStepInTurn, PartStep, ImageError, ImageFile}
 use Rattle.image_access.specs.declared.error.StorageError.TheVariants as S
 use Rattle.qcow2_metadata.specs.declared.error.MetadataError.TheVariants as M
 use Rattle.qcow2_alloc.specs.declared.error.ImageError.TheVariants as I

@@ -1,5 +1,6 @@
 -- A flush of a modified table that is refused.
-use Rattle.qcow2_alloc.proofs.Common.{◌≡◌, ◌⊎◌, inl, inr, ℕ, ◌*◌, ◌^◌, Bool, true, List, length, Err, subst, overwritten, StorageView, Changes, Calls, StorageError, whole_or_nothing, FailsToFlush}
+use Rattle.std.proofs.Common.{◌≡◌, ◌⊎◌, ◌*◌, ◌^◌, inl, inr, ℕ, Bool, true, List, length, Err, subst}
+use Rattle.qcow2_alloc.proofs.Common.{overwritten, StorageView, Changes, Calls, StorageError, whole_or_nothing, FailsToFlush}
 use Rattle.qcow2_metadata.specs.declared.error.MetadataError.TheVariants.{Storage}
 
 module _ {S V : Type 0} (view : S → StorageView) (cluster_bits : ℕ) (bytes : V → List ℕ) (is_modified : V → Bool) (cleared : V → V) (IsFit : V → Type 0) where

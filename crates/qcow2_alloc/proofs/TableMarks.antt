@@ -1,5 +1,6 @@
 -- Which keys of a cache's entries have modified values.
-use Rattle.qcow2_alloc.proofs.Common.{◌≡◌, ◌⊎◌, inl, inr, ℕ, suc, ◌+◌, ◌-◌, ◌^◌, ◌<◌, nat_lt, Bool, true, false, ◌||◌, not, cond, arith, List, [], ◌∷◌, length, Option, Some, None, Result, Ok, Err, refl, sym, ap, ◌∙◌, subst, set_value_same, none-some, same_Some, IsEquivalence, IsDistinct, keys_of, lookup, lookup_entry, remove_entry, set_value, option_map, option_map_or, IsSome, IfSome, is_some, promoted, Contains-lookup_entry, Slot, CacheError, InUse, StillInUse, Memory, Backend, Cache, with_entries, slot_of, is_pinned, can_remove, pinned, oldest_free, pin_at, unpin_at, set_at, value_at, KeepsOthers, Steps, GetsNew, InsertsNew, Replaces, HasRoomForEntry, placed, marks_in, settled, lookup-remove_entry}
+use Rattle.std.proofs.Common.{◌≡◌, ◌⊎◌, ◌+◌, ◌-◌, ◌^◌, ◌<◌, ◌||◌, ◌∷◌, inl, inr, ℕ, suc, nat_lt, Bool, true, false, not, cond, arith, List, [], length, Option, Some, None, Result, Ok, Err, refl, sym, ap, ◌∙◌, subst, IsSome, IfSome, is_some}
+use Rattle.qcow2_alloc.proofs.Common.{set_value_same, none-some, same_Some, IsEquivalence, IsDistinct, keys_of, lookup, lookup_entry, remove_entry, set_value, option_map, option_map_or, promoted, Contains-lookup_entry, Slot, CacheError, InUse, StillInUse, Memory, Backend, Cache, with_entries, slot_of, is_pinned, can_remove, pinned, oldest_free, pin_at, unpin_at, set_at, value_at, KeepsOthers, Steps, GetsNew, InsertsNew, Replaces, HasRoomForEntry, placed, marks_in, settled, lookup-remove_entry}
 use Rattle.qcow2_alloc.proofs.CachedEntries.Lists.{oldest_free-lookup, lookup-from_entry, lookup_none-removed, none_of, promoted_none}
 use Rattle.qcow2_alloc.proofs.CachedEntries.Pins.{pins_same, oldest_unpinned}
 use Rattle.qcow2_alloc.proofs.CachedEntries.Staying.{stays_same}

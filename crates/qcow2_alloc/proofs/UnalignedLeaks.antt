@@ -1,5 +1,6 @@
 -- Clusters that leave the list and are leaked, since their refblock is not aligned.
-use Rattle.qcow2_alloc.proofs.Common.{◌≡◌, ℕ, zero, suc, ◌+◌, ◌-◌, ◌/◌, ◌%◌, ◌^◌, ◌<◌, ◌≤◌, ◌==◌, nat_lt, not, min, inl, inr, Bool, true, false, if◌then◌else◌, List, [], ◌∷◌, ◌++◌, refl, sym, ap, ◌∙◌, subst, arith, and_parts, cases_lt, cases_eq, nat_tests, block_offset, EntryTableView, entry_count, cluster_size, counts_per_block, entry_at, HeaderFields, IsUnaligned, run_at, run_of, is_unaligned, unaligned_below, LeaksOne, LeaksUnaligned, listed_at, Allocator, ClustersToFreeEntry}
+use Rattle.std.proofs.Common.{◌≡◌, ◌+◌, ◌-◌, ◌/◌, ◌%◌, ◌^◌, ◌<◌, ◌≤◌, ◌==◌, if◌then◌else◌, ◌∷◌, ◌++◌, ℕ, zero, suc, nat_lt, not, min, inl, inr, Bool, true, false, List, [], refl, sym, ap, ◌∙◌, subst, arith}
+use Rattle.qcow2_alloc.proofs.Common.{and_parts, cases_lt, cases_eq, nat_tests, block_offset, EntryTableView, entry_count, cluster_size, counts_per_block, entry_at, HeaderFields, IsUnaligned, run_at, run_of, is_unaligned, unaligned_below, LeaksOne, LeaksUnaligned, listed_at, Allocator, ClustersToFreeEntry}
 use Rattle.qcow2_alloc.proofs.Runs.{run_after, run_before, run_in, run_none}
 
 -- what the test tells

@@ -1,5 +1,6 @@
 -- Keys in the order of their last use, and which of them are marked under their numbers.
-use Rattle.qcow2_alloc.proofs.Common.{◌≡◌, ◌≢◌, ℕ, suc, ◌+◌, ◌-◌, ◌<◌, ◌≤◌, ◌^◌, Bool, true, false, cond, not, inl, inr, List, [], ◌∷◌, ◌++◌, length, Option, Some, None, refl, sym, ap, ◌∙◌, subst, arith, append-nil, append_assoc, cases_eq, set_value_same, none-some, same_Some, lru_cache, put_entries, promoted, IsEquivalence, IsDistinct, AllByRecursion, slice_get, keys_of, lookup, lookup_entry, remove_entry, set_value, IsSome, IfSome, IsNone, is_some, option_map, option_map_or, Marked, number_at, marks_of, marked_count, Fall, AreNumbered, HaveRoom, placed, first_marked, behind, is_first, IsFoundAs, IsLastBelow}
+use Rattle.std.proofs.Common.{◌≡◌, ◌≢◌, ◌+◌, ◌-◌, ◌<◌, ◌≤◌, ◌^◌, ◌∷◌, ◌++◌, ℕ, suc, Bool, true, false, cond, not, inl, inr, List, [], length, Option, Some, None, refl, sym, ap, ◌∙◌, subst, arith, append-nil, append_assoc, slice_get, IsSome, IfSome, is_some}
+use Rattle.qcow2_alloc.proofs.Common.{cases_eq, set_value_same, none-some, same_Some, lru_cache, put_entries, promoted, IsEquivalence, IsDistinct, AllByRecursion, keys_of, lookup, lookup_entry, remove_entry, set_value, IsNone, option_map, option_map_or, Marked, number_at, marks_of, marked_count, Fall, AreNumbered, HaveRoom, placed, first_marked, behind, is_first, IsFoundAs, IsLastBelow}
 use Rattle.std.proofs.lemmas.List.{take_all}
 use Rattle.qcow2_alloc.proofs.Marks.{bit, count_removed, count_set, count_less, length_marks, length_removed}
 

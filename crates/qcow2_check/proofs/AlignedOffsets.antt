@@ -1,5 +1,6 @@
 -- There is no unaligned offset exactly if each offset is aligned.
-use Rattle.qcow2_check.proofs.Common.{◌≡◌, ◌≢◌, ℕ, ◌%◌, ◌<◌, eqb, Some, None, refl, ap, inl, inr, not, cases_eq, eq-eqb, eqb_tells, sum_below, HeaderFields, cluster_size, IsAligned, host_of, CoverIsAligned, L2Mapping, Data, Zero, Compressed, Uncovered, off_cluster, off_cluster_if, and_from, and_parts}
+use Rattle.std.proofs.Common.{◌≡◌, ◌≢◌, ◌%◌, ◌<◌, ℕ, eqb, Some, None, refl, ap, inl, inr}
+use Rattle.qcow2_check.proofs.Common.{not, cases_eq, eq-eqb, eqb_tells, sum_below, HeaderFields, cluster_size, IsAligned, host_of, CoverIsAligned, L2Mapping, Data, Zero, Compressed, Uncovered, off_cluster, off_cluster_if, and_from, and_parts}
 use Rattle.qcow2_check.proofs.Terms.{from_some_term, some-sum, one_if-some, true_from_some}
 
 module _ (h : HeaderFields) where

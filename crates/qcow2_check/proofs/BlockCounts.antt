@@ -1,5 +1,6 @@
 -- The refcounts of one refblock.
-use Rattle.qcow2_check.proofs.Common.{◌≡◌, ℕ, ◌+◌, ◌*◌, ◌/◌, ◌%◌, ◌^◌, ◌<◌, ◌≤◌, ◌⊎◌, Bool, true, false, cond, ltb, List, [], length, sym, ap, ◌∙◌, arith, inl, inr, cond-true, cond-false, lt-ltb, le-ltb, zero-div, zero-mod, byte_at, block_count, Block, count_of, counts_kept}
+use Rattle.std.proofs.Common.{◌≡◌, ◌+◌, ◌*◌, ◌/◌, ◌%◌, ◌^◌, ◌<◌, ◌≤◌, ◌⊎◌, ℕ, Bool, true, false, cond, ltb, List, [], length, sym, ap, ◌∙◌, arith, inl, inr}
+use Rattle.qcow2_check.proofs.Common.{cond-true, cond-false, lt-ltb, le-ltb, zero-div, zero-mod, byte_at, block_count, Block, count_of, counts_kept}
 use Rattle.qcow2_metadata.specs.RefBlock.{count_in as count_in_bytes}
 use Rattle.qcow2_metadata.proofs.TableEntries.{number_at-zeros}
 

@@ -1,5 +1,6 @@
 -- The clusters with a breach, which have references or copied marks.
-use Rattle.qcow2_check.proofs.Common.{◌≡◌, ℕ, ◌&&◌, Bool, true, false, cond, eqb, refl, sym, ap, ◌∙◌, cond-true, cond-false, Counts, Tally, TallyMap, tally_in, no_tally, count_in, counted_in, with_count, lines, is_breached, numbered, and_parts, eqb-true}
+use Rattle.std.proofs.Common.{◌≡◌, ◌&&◌, ℕ, Bool, true, false, cond, eqb, refl, sym, ap, ◌∙◌}
+use Rattle.qcow2_check.proofs.Common.{cond-true, cond-false, Counts, Tally, TallyMap, tally_in, no_tally, count_in, counted_in, with_count, lines, is_breached, numbered, and_parts, eqb-true}
 use Rattle.qcow2_check.proofs.Rising.{lines-same}
 use Rattle.qcow2_check.proofs.TallyTests.{is_breached-blank}
 

@@ -1,5 +1,6 @@
 -- How many clusters compressed data touch.
-use Rattle.qcow2_check.proofs.Common.{◌≡◌, ℕ, ◌+◌, ◌-◌, ◌*◌, ◌/◌, ◌%◌, ◌^◌, ◌<◌, ◌≤◌, arith, div-lt_iff_lt-mul, lt-div-mul-add, div-mul-le_self, mul-le-mul_left, pow_mono, one_shl}
+use Rattle.std.proofs.Common.{◌≡◌, ◌+◌, ◌-◌, ◌*◌, ◌/◌, ◌%◌, ◌^◌, ◌<◌, ◌≤◌, ℕ, arith}
+use Rattle.qcow2_check.proofs.Common.{div-lt_iff_lt-mul, lt-div-mul-add, div-mul-le_self, mul-le-mul_left, pow_mono, one_shl}
 
 pub few_clusters : (place sectors size : ℕ) → 512 ≤ size → sectors ≤ 2 ^ 14
     → ((place / 512 + sectors) * 512 - 1) / size < place / size + 32768

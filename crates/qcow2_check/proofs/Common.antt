@@ -1,5 +1,5 @@
 -- The names that several proofs cite, passed on from one place. Declares nothing.
-pub use Rattle.std.proofs.Common.{◌≡◌, ◌≢◌, ℕ, ◌%◌, ◌<◌, eqb, Some, None, refl, ap, inl, inr, ◌+◌, ◌*◌, ◌/◌, ◌^◌, ◌≤◌, Bool, true, false, cond, ltb, List, [], length, sym, ◌∙◌, arith, ◌&&◌, ◌-◌, zero, suc, ◌∷◌, ◌++◌, length-append, get_or, Option, subst, add-one, map, Ok, append_assoc, unwrap_or, ◌==◌, drop, ◌⊎◌, Result, filter, append-nil, Less, Equal, Greater, ◌||◌, take}
+pub use Rattle.std.proofs.Common.{ℕ, eqb, Some, None, refl, ap, inl, inr, Bool, true, false, cond, ltb, List, [], length, sym, ◌∙◌, arith, zero, suc, length-append, get_or, Option, subst, add-one, map, Ok, append_assoc, unwrap_or, drop, Result, filter, append-nil, Less, Equal, Greater, take}
 pub use Rattle.std.proofs.Math.Nat.{div-mul-le_self, mul-le-mul_left, zero-div, zero-mod, div-lt_iff_lt-mul, lt-div-mul-add, div-le_self}
 pub use Rattle.std.proofs.Math.Pow.{pow_mono}
 pub use Rattle.std.proofs.lemmas.Bool.{cases_eq, eq-eqb, cond-true, cond-false, lt-ltb, le-ltb, ne_eqb, cases_lt, and_from, and_parts, and_right, or_parts, or_from, eqb-true}
@@ -13,7 +13,7 @@ pub use Rattle.std.specs.List.Sorted.{IsStrictlySortedBy}
 pub use Rattle.std.specs.Map.{lookup, keys_of}
 pub use Rattle.std.specs.Option.{option_copied}
 pub use Rattle.std.specs.Ordering.{nat_cmp, is_eq}
-pub use Rattle.std.specs.Prelude.{not, slice_get, nat_le, nat_lt, IfSome, is_some, ◌↔◌, IsTrue}
+pub use Rattle.std.specs.Prelude.{not, slice_get, nat_le, nat_lt, IfSome, is_some, IsTrue}
 unfoldable pub use Rattle.qcow2_check.specs.Counted.{count_in}
 pub use Rattle.qcow2_check.specs.Counted.{count_of, counts_kept, counted_in, block_count_or_zero, block_numbered, HasBlock, KeepsBlocks, KeepsMore, blocks_among, with_count, count_kept, block_in}
 unfoldable pub use Rattle.qcow2_check.specs.Leaked.{leaks_from}

@@ -1,5 +1,6 @@
 -- The refcounts that the reftable gives.
-use Rattle.qcow2_check.proofs.Common.{◌≡◌, ◌≢◌, ℕ, ◌-◌, ◌*◌, ◌%◌, ◌^◌, ◌<◌, ◌≤◌, List, length, arith, sym, ap, ◌∙◌, cond-false, ne_eqb, le-ltb, pow-add, HeaderFields, Bytes, cluster_size, counts_per_block, reftable_entries, reftable_entry, HasBytesAt, count_stands, block_count_or_zero}
+use Rattle.std.proofs.Common.{◌≡◌, ◌≢◌, ◌-◌, ◌*◌, ◌%◌, ◌^◌, ◌<◌, ◌≤◌, ℕ, List, length, arith, sym, ap, ◌∙◌}
+use Rattle.qcow2_check.proofs.Common.{cond-false, ne_eqb, le-ltb, pow-add, HeaderFields, Bytes, cluster_size, counts_per_block, reftable_entries, reftable_entry, HasBytesAt, count_stands, block_count_or_zero}
 use Rattle.qcow2_metadata.specs.RefBlock.{count_in}
 
 pub whole_cluster : (bits : ℕ) → 9 ≤ bits → 2 ^ bits % 8 ≡ 0

@@ -1,5 +1,6 @@
 -- What an entry refers to, by its host offset or as compressed data.
-use Rattle.qcow2_check.proofs.Common.{◌≡◌, ℕ, ◌*◌, ◌&&◌, Bool, true, false, refl, ap, ◌∙◌, arith, one_if}
+use Rattle.std.proofs.Common.{◌≡◌, ◌*◌, ◌&&◌, ℕ, Bool, true, false, refl, ap, ◌∙◌, arith}
+use Rattle.qcow2_check.proofs.Common.{one_if}
 
 pub never : (b : Bool) → one_if (b && false) ≡ 0
 never true = refl

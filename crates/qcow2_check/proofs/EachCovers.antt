@@ -1,5 +1,6 @@
 -- Properties of every L2 entry, as sums of terms.
-use Rattle.qcow2_check.proofs.Common.{◌≢◌, ℕ, ◌<◌, cond, eqb, sym, ◌∙◌, inl, inr, cases_eq, cond-true, cond-false, eq-eqb, ne_eqb, Bytes, sum_below, HeaderFields, entries_per_cluster, l1_entry, l2_entry, host_offset, entry_cover, EachCover, L2Mapping}
+use Rattle.std.proofs.Common.{◌≢◌, ◌<◌, ℕ, cond, eqb, sym, ◌∙◌, inl, inr}
+use Rattle.qcow2_check.proofs.Common.{cases_eq, cond-true, cond-false, eq-eqb, ne_eqb, Bytes, sum_below, HeaderFields, entries_per_cluster, l1_entry, l2_entry, host_offset, entry_cover, EachCover, L2Mapping}
 use Rattle.qcow2_check.proofs.Terms.{from_some_term, some-sum}
 
 -- a term under an L1 entry with a table

@@ -1,5 +1,6 @@
 -- Steps of a map of tallies.
-use Rattle.qcow2_check.proofs.Common.{◌≡◌, ℕ, ◌+◌, ◌*◌, arith, refl, sym, ap, ◌∙◌, TallyMap, Bytes, sum_below, l2_entry, entry_cover, named_by_cover, L2Mapping, HeaderFields, TalliesGrow, marks_of_cover, named_by_entries, marked_by_entries}
+use Rattle.std.proofs.Common.{◌≡◌, ◌+◌, ◌*◌, ℕ, arith, refl, sym, ap, ◌∙◌}
+use Rattle.qcow2_check.proofs.Common.{TallyMap, Bytes, sum_below, l2_entry, entry_cover, named_by_cover, L2Mapping, HeaderFields, TalliesGrow, marks_of_cover, named_by_entries, marked_by_entries}
 use Rattle.qcow2_check.proofs.Sums.{sum_below_none, sum_below_more}
 
 pub grows_none : (m : TallyMap) (f g k : ℕ → ℕ) → ((q : ℕ) → f q ≡ 0) → ((q : ℕ) → g q ≡ 0) → ((q : ℕ) → k q ≡ 0) → TalliesGrow m m f g k

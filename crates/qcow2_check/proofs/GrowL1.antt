@@ -1,5 +1,6 @@
 -- Steps over the L1 table.
-use Rattle.qcow2_check.proofs.Common.{◌≡◌, ◌≢◌, ℕ, ◌+◌, ◌*◌, List, length, Bool, true, false, ◌&&◌, refl, sym, ap, ◌∙◌, arith, cond-true, cond-false, eq-eqb, ne_eqb, TallyMap, Bytes, one_if, byte_at, HeaderFields, cluster_size, entries_per_cluster, host_offset, named_by_l2_table, table_in, TalliesGrow, tally_in, entry_at, named_by_entries, marked_by_entries, marked_by_l2_table, mark_of_entry, tables_among, marks_among, HasBytesAt}
+use Rattle.std.proofs.Common.{◌≡◌, ◌≢◌, ◌+◌, ◌*◌, ◌&&◌, ℕ, List, length, Bool, true, false, refl, sym, ap, ◌∙◌, arith}
+use Rattle.qcow2_check.proofs.Common.{cond-true, cond-false, eq-eqb, ne_eqb, TallyMap, Bytes, one_if, byte_at, HeaderFields, cluster_size, entries_per_cluster, host_offset, named_by_l2_table, table_in, TalliesGrow, tally_in, entry_at, named_by_entries, marked_by_entries, marked_by_l2_table, mark_of_entry, tables_among, marks_among, HasBytesAt}
 use Rattle.qcow2_check.proofs.Sums.{sum_below_none, sum_below_more}
 use Rattle.qcow2_check.proofs.Grow.{grows_none, grows_more}
 use Rattle.qcow2_check.proofs.Shifts.{named_by_part, marked_by_part}

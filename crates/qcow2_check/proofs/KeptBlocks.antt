@@ -1,5 +1,6 @@
 -- The refblocks that are kept.
-use Rattle.qcow2_check.proofs.Common.{ltb, ◌≡◌, ◌≢◌, ℕ, zero, suc, ◌+◌, ◌*◌, ◌/◌, ◌%◌, ◌<◌, ◌≤◌, false, Some, None, List, [], ◌∷◌, ◌++◌, ◌-◌, length, length-append, get_or, Option, refl, sym, ap, ◌∙◌, arith, inl, inr, subst, IfSome, is_some, slice_get, option_copied, BTreeMap, get, is_at, nat_cmp, cond-true, eq-eqb, lt-ltb, le-ltb, cases_eq, cases_lt, get_or_past, Bytes, HeaderFields, counts_per_block, reftable_entries, block_offset, reftable_entry, count, Block, Counts, count_of, counts_kept, count_kept, block_numbered, block_in, count_in, block_count_or_zero, HasBlock, KeepsBlocks, KeepsMore, mod_below, le-div, div-add-mod', div-mul-add, count_under, get_or_append_left, get_or_push}
+use Rattle.std.proofs.Common.{◌≡◌, ◌≢◌, ◌+◌, ◌*◌, ◌/◌, ◌%◌, ◌<◌, ◌≤◌, ◌∷◌, ◌++◌, ◌-◌, ltb, ℕ, zero, suc, false, Some, None, List, [], length, length-append, get_or, Option, refl, sym, ap, ◌∙◌, arith, inl, inr, subst}
+use Rattle.qcow2_check.proofs.Common.{IfSome, is_some, slice_get, option_copied, BTreeMap, get, is_at, nat_cmp, cond-true, eq-eqb, lt-ltb, le-ltb, cases_eq, cases_lt, get_or_past, Bytes, HeaderFields, counts_per_block, reftable_entries, block_offset, reftable_entry, count, Block, Counts, count_of, counts_kept, count_kept, block_numbered, block_in, count_in, block_count_or_zero, HasBlock, KeepsBlocks, KeepsMore, mod_below, le-div, div-add-mod', div-mul-add, count_under, get_or_append_left, get_or_push}
 use denote.Ref.{Bor}
 use Rattle.std.proofs.lemmas.Option.{slice_get-get_or, slice_get_past}
 use Rattle.qcow2_check.proofs.BlockCounts.{count_past_kept}

@@ -1,5 +1,6 @@
 -- The leaks from a cluster on, one after another.
-use Rattle.qcow2_check.proofs.Common.{◌≡◌, ℕ, zero, suc, ◌+◌, ◌-◌, ◌^◌, ◌<◌, ◌≤◌, Bool, true, false, cond, Option, Some, None, List, [], ◌∷◌, ◌++◌, ◌*◌, length, length-append, add-one, map, refl, sym, ap, ◌∙◌, arith, cond-true, cond-false, Counts, Leak, Tally, TallyMap, count_in, counted_in, lines, lines_from, is_leaked, leak_of_cluster, leaks_from, leak_at, leak_lines_of, mul-le}
+use Rattle.std.proofs.Common.{◌≡◌, ◌+◌, ◌-◌, ◌^◌, ◌<◌, ◌≤◌, ◌∷◌, ◌++◌, ◌*◌, ℕ, zero, suc, Bool, true, false, cond, Option, Some, None, List, [], length, length-append, add-one, map, refl, sym, ap, ◌∙◌, arith}
+use Rattle.qcow2_check.proofs.Common.{cond-true, cond-false, Counts, Leak, Tally, TallyMap, count_in, counted_in, lines, lines_from, is_leaked, leak_of_cluster, leaks_from, leak_at, leak_lines_of, mul-le}
 use Rattle.qcow2_check.proofs.KeptBlocks.{count_past_end}
 use Rattle.qcow2_check.proofs.Rising.{rising_all, lines-none, lines_more, lines-add}
 use Rattle.qcow2_check.proofs.TallyTests.{is_leaked-uncounted}

@@ -1,5 +1,6 @@
 -- A report has no breaches exactly if the image is consistent.
-use Rattle.qcow2_check.proofs.Common.{◌≡◌, ◌≢◌, ℕ, ◌+◌, ◌^◌, ◌<◌, ◌≤◌, List, [], ◌++◌, ◌*◌, length, ap, refl, sym, subst, ◌∙◌, arith, inl, inr, ◌↔◌, cases_eq, Bytes, byte_at, HeaderFields, entries_per_cluster, reftable_entries, HeaderReads, ReftableFits, l1_entry, l2_entry, reftable_entry, host_offset, block_offset, is_copied, entry_cover, host_of, named, named_for_tables, Consistent, CoverIsAligned, CopiedIsOwn, Breach, L1, Reftable, L2, Refblock, marked_at, marks_of_cover, marked_by_entries, marked_by_l2_table, mark_of_entry, marked_under, marked_below, times, off_cluster_if, off_l2_tables, off_refblocks, data_off_at, data_off_below, lines, snapshot_lines, external_lines, header_lines, table_offset_lines, offset_lines, is_named, unaligned_line, is_under, under_line, is_shared, shared_line, is_miscopied, copied_line, TallyMap, mul-le, Counts, Tally, count_in, counted_in, tally_in, no_tally, TalliesWithin64Bits, tally, breach_lines, TablesRead, ArePassed}
+use Rattle.std.proofs.Common.{◌≡◌, ◌≢◌, ◌+◌, ◌^◌, ◌<◌, ◌≤◌, ◌++◌, ◌*◌, ◌↔◌, ℕ, List, [], length, ap, refl, sym, subst, ◌∙◌, arith, inl, inr}
+use Rattle.qcow2_check.proofs.Common.{cases_eq, Bytes, byte_at, HeaderFields, entries_per_cluster, reftable_entries, HeaderReads, ReftableFits, l1_entry, l2_entry, reftable_entry, host_offset, block_offset, is_copied, entry_cover, host_of, named, named_for_tables, Consistent, CoverIsAligned, CopiedIsOwn, Breach, L1, Reftable, L2, Refblock, marked_at, marks_of_cover, marked_by_entries, marked_by_l2_table, mark_of_entry, marked_under, marked_below, times, off_cluster_if, off_l2_tables, off_refblocks, data_off_at, data_off_below, lines, snapshot_lines, external_lines, header_lines, table_offset_lines, offset_lines, is_named, unaligned_line, is_under, under_line, is_shared, shared_line, is_miscopied, copied_line, TallyMap, mul-le, Counts, Tally, count_in, counted_in, tally_in, no_tally, TalliesWithin64Bits, tally, breach_lines, TablesRead, ArePassed}
 use Rattle.qcow2_check.specs.declared.report.Kind.TheVariants.{Data}
 use Rattle.qcow2_check.proofs.KeptBlocks.{count_past_end}
 use Rattle.qcow2_check.proofs.NoLines.{append-empty, front_empty, back_empty, EndsBelow, lines-empty, fails_each, zero-line, zero_from_line}

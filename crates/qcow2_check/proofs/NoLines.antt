@@ -1,5 +1,6 @@
 -- When there are no lines.
-use Rattle.qcow2_check.proofs.Common.{◌≡◌, ℕ, zero, suc, ◌<◌, ◌≤◌, Bool, true, false, cond, eqb, List, [], ◌∷◌, ◌++◌, map, refl, sym, ap, ◌∙◌, arith, inl, inr, cases_eq, cases_lt, cond-true, cond-false, eq-eqb, eqb_tells, Tally, no_tally, rising, lines}
+use Rattle.std.proofs.Common.{◌≡◌, ◌<◌, ◌≤◌, ◌∷◌, ◌++◌, ℕ, zero, suc, Bool, true, false, cond, eqb, List, [], map, refl, sym, ap, ◌∙◌, arith, inl, inr}
+use Rattle.qcow2_check.proofs.Common.{cases_eq, cases_lt, cond-true, cond-false, eq-eqb, eqb_tells, Tally, no_tally, rising, lines}
 
 pub append-empty : {L : Type 0} (xs ys : List L) → xs ≡ [] → ys ≡ [] → xs ++ ys ≡ []
 append-empty xs ys front back = ap (λ x. x ++ ys) front ∙ back

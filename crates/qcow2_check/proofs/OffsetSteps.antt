@@ -1,5 +1,6 @@
 -- Steps over offsets.
-use Rattle.qcow2_check.proofs.Common.{◌≡◌, ◌≢◌, ℕ, ◌+◌, ◌*◌, ◌/◌, List, length, sym, ap, ◌∙◌, arith, cond-true, cond-false, eq-eqb, ne_eqb, TallyMap, fun_ext, Bytes, byte_at, sum_below, HeaderFields, cluster_size, entries_per_cluster, reftable_entries, l1_entry, l2_entry, reftable_entry, host_offset, block_offset, entry_cover, host_of, entry_at, HasBytesAt, entry_stands, Tally, TalliesGrow, tally_in, no_tally, off_cluster, off_cluster_if, tables_off, blocks_off, off_l2_tables, off_refblocks, data_off, data_off_at, times}
+use Rattle.std.proofs.Common.{◌≡◌, ◌≢◌, ◌+◌, ◌*◌, ◌/◌, ℕ, List, length, sym, ap, ◌∙◌, arith}
+use Rattle.qcow2_check.proofs.Common.{cond-true, cond-false, eq-eqb, ne_eqb, TallyMap, fun_ext, Bytes, byte_at, sum_below, HeaderFields, cluster_size, entries_per_cluster, reftable_entries, l1_entry, l2_entry, reftable_entry, host_offset, block_offset, entry_cover, host_of, entry_at, HasBytesAt, entry_stands, Tally, TalliesGrow, tally_in, no_tally, off_cluster, off_cluster_if, tables_off, blocks_off, off_l2_tables, off_refblocks, data_off, data_off_at, times}
 use Rattle.qcow2_check.proofs.Grow.{grows_none, grows_more, times_none, times_more}
 use Rattle.qcow2_check.proofs.Sums.{sum_below_none, sum_below_more, sum_below-same}
 use Rattle.qcow2_check.proofs.Totals.{tally_same, triple}

@@ -1,5 +1,6 @@
 -- Copied marks, by offset and by cluster: each mark is on a cluster with one reference and refcount 1 exactly if each cluster with a mark is such a one.
-use Rattle.qcow2_check.proofs.Common.{◌≡◌, ◌≢◌, ℕ, ◌/◌, ◌&&◌, Bool, eqb, Some, None, refl, subst, IsTrue, eq-eqb, Bytes, HeaderFields, cluster_size, count, named, IsOwn, CopiedIsOwn, L2Mapping, Data, Zero, Compressed, Uncovered, marked_at, marks_of_cover, and_from, and_parts, eqb-true}
+use Rattle.std.proofs.Common.{◌≡◌, ◌≢◌, ◌/◌, ◌&&◌, ℕ, Bool, eqb, Some, None, refl, subst}
+use Rattle.qcow2_check.proofs.Common.{IsTrue, eq-eqb, Bytes, HeaderFields, cluster_size, count, named, IsOwn, CopiedIsOwn, L2Mapping, Data, Zero, Compressed, Uncovered, marked_at, marks_of_cover, and_from, and_parts, eqb-true}
 use Rattle.qcow2_check.proofs.Terms.{one_if-some, true_from_some}
 
 module _ (h : HeaderFields) (b : Bytes) where

@@ -1,5 +1,6 @@
 -- The clusters of a range, one after another.
-use Rattle.qcow2_check.proofs.Common.{◌≡◌, ℕ, ◌+◌, ◌-◌, ◌*◌, ◌≤◌, ◌&&◌, false, eqb, ap, ◌∙◌, arith, nat_le, nat_lt, nat_tests, mul-le-mul_left, TallyMap, one_if, TalliesGrow, AddsTimes}
+use Rattle.std.proofs.Common.{◌≡◌, ◌+◌, ◌-◌, ◌*◌, ◌≤◌, ◌&&◌, ℕ, false, eqb, ap, ◌∙◌, arith}
+use Rattle.qcow2_check.proofs.Common.{nat_le, nat_lt, nat_tests, mul-le-mul_left, TallyMap, one_if, TalliesGrow, AddsTimes}
 use Rattle.qcow2_check.proofs.Covers.{never_times}
 use Rattle.qcow2_check.proofs.Grow.{grows_more}
 

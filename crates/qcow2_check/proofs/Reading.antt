@@ -1,5 +1,6 @@
 -- Reads one after another.
-use Rattle.qcow2_check.proofs.Common.{◌≡◌, Result, Ok, ◌∙◌, MetadataError, OnlyReads}
+use Rattle.std.proofs.Common.{◌≡◌, Result, Ok, ◌∙◌}
+use Rattle.qcow2_check.proofs.Common.{MetadataError, OnlyReads}
 use Rattle.image_access.specs.Moments.{StorageView, IsLeftBy}
 use Rattle.image_access.proofs.EachMomentSince.{passes_on, cause_since}
 

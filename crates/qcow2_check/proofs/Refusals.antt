@@ -1,5 +1,6 @@
 -- Why there is no report.
-use Rattle.qcow2_check.proofs.Common.{ℕ, ◌+◌, ◌*◌, ◌^◌, ◌≤◌, List, refl, sym, subst, arith, Bytes, byte_at, HeaderFields, reftable_entries, L1EntryReads, ReftableEntryReads, IsOfStorageOrMemory, MetadataError, IsReasonNotToCount}
+use Rattle.std.proofs.Common.{◌+◌, ◌*◌, ◌^◌, ◌≤◌, ℕ, List, refl, sym, subst, arith}
+use Rattle.qcow2_check.proofs.Common.{Bytes, byte_at, HeaderFields, reftable_entries, L1EntryReads, ReftableEntryReads, IsOfStorageOrMemory, MetadataError, IsReasonNotToCount}
 use Rattle.image_access.specs.Contents.{bytes_at}
 use Rattle.image_access.proofs.Bytes.{length-bytes_at}
 use Rattle.qcow2_metadata.specs.EntryTable.{SomeUnread, IsReasonNotToLoad}

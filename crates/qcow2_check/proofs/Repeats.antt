@@ -1,5 +1,6 @@
 -- A table that is read once for several equal offsets in a row.
-use Rattle.qcow2_check.proofs.Common.{◌≡◌, ℕ, ◌+◌, TallyMap, tally_in}
+use Rattle.std.proofs.Common.{◌≡◌, ◌+◌, ℕ}
+use Rattle.qcow2_check.proofs.Common.{TallyMap, tally_in}
 
 -- so many names and marks are to be there, and so many of them aren't yet
 pub record IsBehind (old new : TallyMap) (named marked late_named late_marked : ℕ → ℕ) : Type 0 where

@@ -1,5 +1,6 @@
 -- The lines of a report, put together.
-use Rattle.qcow2_check.proofs.Common.{◌≡◌, ℕ, List, [], ◌++◌, ap, ◌∙◌, append_assoc, byte_at, HeaderFields, Tally, Leak, Breach, header_lines, unaligned_lines, times, off_l2_tables, off_refblocks, data_off_below, ArePassed, tally, cluster_lines, leak_lines_of, breach_lines, leak_lines}
+use Rattle.std.proofs.Common.{◌≡◌, ◌++◌, ℕ, List, [], ap, ◌∙◌, append_assoc}
+use Rattle.qcow2_check.proofs.Common.{byte_at, HeaderFields, Tally, Leak, Breach, header_lines, unaligned_lines, times, off_l2_tables, off_refblocks, data_off_below, ArePassed, tally, cluster_lines, leak_lines_of, breach_lines, leak_lines}
 
 -- all lines under a header of a file
 whole : HeaderFields → List ℕ → List Breach

@@ -1,5 +1,6 @@
 -- The lines for the entries of a map are the lines for all numbers.
-use Rattle.qcow2_check.proofs.Common.{◌≡◌, ◌≢◌, ℕ, zero, suc, ◌+◌, ◌<◌, ◌≤◌, Bool, true, false, cond, eqb, ltb, List, [], ◌∷◌, ◌++◌, map, filter, unwrap_or, refl, sym, ap, ◌∙◌, arith, inl, inr, add-one, append_assoc, append-nil, subst, ◌-◌, Less, Equal, Greater, range_with_len, AllByRecursion, IsStrictlySortedBy, lookup, keys_of, is_at, is_eq, nat_cmp, cond-true, cond-false, eq-eqb, ne_eqb, le-ltb, lt-ltb, cases_eq, cases_lt, map-append, Tally, no_tally, rising, lines, lines_from, lines_of, numbered, entries_past}
+use Rattle.std.proofs.Common.{◌≡◌, ◌≢◌, ◌+◌, ◌<◌, ◌≤◌, ◌∷◌, ◌++◌, ◌-◌, ℕ, zero, suc, Bool, true, false, cond, eqb, ltb, List, [], map, filter, unwrap_or, refl, sym, ap, ◌∙◌, arith, inl, inr, add-one, append_assoc, append-nil, subst, Less, Equal, Greater}
+use Rattle.qcow2_check.proofs.Common.{range_with_len, AllByRecursion, IsStrictlySortedBy, lookup, keys_of, is_at, is_eq, nat_cmp, cond-true, cond-false, eq-eqb, ne_eqb, le-ltb, lt-ltb, cases_eq, cases_lt, map-append, Tally, no_tally, rising, lines, lines_from, lines_of, numbered, entries_past}
 use Rattle.std.proofs.lemmas.Map.Keys.{sorted_head, sorted_tail}
 
 -- ---- keys

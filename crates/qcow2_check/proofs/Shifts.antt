@@ -1,5 +1,6 @@
 -- A table that was read into a buffer.
-use Rattle.qcow2_check.proofs.Common.{◌≡◌, ℕ, ◌+◌, ◌*◌, ◌/◌, ◌<◌, ◌≤◌, List, length, ap, arith, div-mul-le_self, Bytes, byte_at, HeaderFields, cluster_size, entries_per_cluster, l2_entry, entry_cover, named_by_cover, HasBytesAt, entry_stands, marks_of_cover, named_by_entries, marked_by_entries}
+use Rattle.std.proofs.Common.{◌≡◌, ◌+◌, ◌*◌, ◌/◌, ◌<◌, ◌≤◌, ℕ, List, length, ap, arith}
+use Rattle.qcow2_check.proofs.Common.{div-mul-le_self, Bytes, byte_at, HeaderFields, cluster_size, entries_per_cluster, l2_entry, entry_cover, named_by_cover, HasBytesAt, entry_stands, marks_of_cover, named_by_entries, marked_by_entries}
 use Rattle.qcow2_check.proofs.Sums.{sum_below-same}
 
 pub inside_table : (size j : ℕ) → j < size / 8 → 8 * j + 8 ≤ size

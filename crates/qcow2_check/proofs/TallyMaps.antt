@@ -1,5 +1,6 @@
 -- The tally of a cluster, in an array of small tallies or in a map.
-use Rattle.qcow2_check.proofs.Common.{◌≡◌, ℕ, ◌<◌, ◌≤◌, true, false, List, length, get_or, unwrap_or, Option, Some, sym, ap, ◌∙◌, arith, inl, inr, get, nat_cmp, cond-true, cond-false, cases_lt, get_or_past, Tally, TallyMap, no_tally, blank, is_blank, widened, small_or, small_in, large_in, tally_in}
+use Rattle.std.proofs.Common.{◌≡◌, ◌<◌, ◌≤◌, ℕ, true, false, List, length, get_or, unwrap_or, Option, Some, sym, ap, ◌∙◌, arith, inl, inr}
+use Rattle.qcow2_check.proofs.Common.{get, nat_cmp, cond-true, cond-false, cases_lt, get_or_past, Tally, TallyMap, no_tally, blank, is_blank, widened, small_or, small_in, large_in, tally_in}
 use Rattle.qcow2_check.specs.declared.tally_map.SmallTally.{SmallTally}
 
 pub tally-large : (m : TallyMap) (q : ℕ) → is_blank (small_in m q) ≡ true → tally_in m q ≡ large_in m q

@@ -1,5 +1,6 @@
 -- What the tests of a tally mean.
-use Rattle.qcow2_check.proofs.Common.{◌≡◌, ◌≢◌, ◌≤◌, true, false, ◌&&◌, ◌||◌, eqb, ltb, ap, ◌∙◌, arith, inl, inr, not, cases_lt, eq-eqb, ne_eqb, le-ltb, lt-ltb, eqb_tells, Tally, is_named, is_under, is_shared, is_miscopied, is_leaked, is_breached, and_from, and_right, or_parts, or_from}
+use Rattle.std.proofs.Common.{◌≡◌, ◌≢◌, ◌≤◌, ◌&&◌, ◌||◌, true, false, eqb, ltb, ap, ◌∙◌, arith, inl, inr}
+use Rattle.qcow2_check.proofs.Common.{not, cases_lt, eq-eqb, ne_eqb, le-ltb, lt-ltb, eqb_tells, Tally, is_named, is_under, is_shared, is_miscopied, is_leaked, is_breached, and_from, and_right, or_parts, or_from}
 
 -- ---- named or not
 

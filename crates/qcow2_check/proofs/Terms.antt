@@ -1,5 +1,6 @@
 -- Sums that aren't 0.
-use Rattle.qcow2_check.proofs.Common.{◌≡◌, ◌≢◌, ℕ, zero, suc, ◌<◌, Bool, true, false, refl, arith, inl, inr, cases_eq, sum_below, one_if}
+use Rattle.std.proofs.Common.{◌≡◌, ◌≢◌, ◌<◌, ℕ, zero, suc, Bool, true, false, refl, arith, inl, inr}
+use Rattle.qcow2_check.proofs.Common.{cases_eq, sum_below, one_if}
 use Rattle.qcow2_check.proofs.Sums.{term_le-sum_below}
 
 -- what follows from each term follows from the sum

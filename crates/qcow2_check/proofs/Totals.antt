@@ -1,5 +1,6 @@
 -- The sums over the whole image.
-use Rattle.qcow2_check.proofs.Common.{◌≡◌, ℕ, zero, suc, ◌+◌, ◌-◌, ◌*◌, ◌/◌, ◌%◌, ◌^◌, ◌<◌, ◌≤◌, ◌&&◌, true, false, eqb, List, length, refl, sym, ap, ◌∙◌, arith, subst, nat_le, nat_lt, TallyMap, one_shl, div_below, pow_pos, le-div, pow_mono, Bytes, sum_below, one_if, HeaderFields, cluster_size, reftable_entries, count, l1_entry, reftable_entry, block_offset, host_offset, table_in, in_cluster, named, named_for_tables, named_by_header, named_by_reftable, named_by_l1_table, named_by_l2_table, named_by_l2_tables, Tally, fun_ext, Counts, TalliesGrow, AddsToTally, tally_in, no_tally, names_of, tally, mul-le-mul_left, entry_at, blocks_among, count_in, counted_in, named_below, tables_below, marked_below}
+use Rattle.std.proofs.Common.{◌≡◌, ◌+◌, ◌-◌, ◌*◌, ◌/◌, ◌%◌, ◌^◌, ◌<◌, ◌≤◌, ◌&&◌, ℕ, zero, suc, true, false, eqb, List, length, refl, sym, ap, ◌∙◌, arith, subst}
+use Rattle.qcow2_check.proofs.Common.{nat_le, nat_lt, TallyMap, one_shl, div_below, pow_pos, le-div, pow_mono, Bytes, sum_below, one_if, HeaderFields, cluster_size, reftable_entries, count, l1_entry, reftable_entry, block_offset, host_offset, table_in, in_cluster, named, named_for_tables, named_by_header, named_by_reftable, named_by_l1_table, named_by_l2_table, named_by_l2_tables, Tally, fun_ext, Counts, TalliesGrow, AddsToTally, tally_in, no_tally, names_of, tally, mul-le-mul_left, entry_at, blocks_among, count_in, counted_in, named_below, tables_below, marked_below}
 use Rattle.qcow2_check.proofs.Sums.{sum_below_more, sum_below-same}
 use Rattle.qcow2_check.proofs.Grow.{grows_more}
 use Rattle.qcow2_check.proofs.GrowL1.{one_if-and_true}

@@ -1,5 +1,6 @@
 -- The L1 table, and then its L2 tables, put together.
-use Rattle.qcow2_check.proofs.Common.{◌≡◌, ℕ, ◌+◌, List, ap, ◌∙◌, arith, sum_by, TallyMap, Bytes, sum_below, HeaderFields, l1_entry, host_offset, table_in, named_by_l2_table, entry_at, TalliesGrow, data_off_at, data_off_below, data_off_by_tables, mark_of_entry, marked_by_l2_table, tables_among, marks_among, tables_below, named_below, marked_below, named_by_tables, marked_by_tables}
+use Rattle.std.proofs.Common.{◌≡◌, ◌+◌, ℕ, List, ap, ◌∙◌, arith}
+use Rattle.qcow2_check.proofs.Common.{sum_by, TallyMap, Bytes, sum_below, HeaderFields, l1_entry, host_offset, table_in, named_by_l2_table, entry_at, TalliesGrow, data_off_at, data_off_below, data_off_by_tables, mark_of_entry, marked_by_l2_table, tables_among, marks_among, tables_below, named_below, marked_below, named_by_tables, marked_by_tables}
 use Rattle.qcow2_check.proofs.Sums.{sum_below-same}
 use Rattle.qcow2_check.proofs.Grow.{grows_more}
 use Rattle.qcow2_check.proofs.OffsetSteps.{grows_as}

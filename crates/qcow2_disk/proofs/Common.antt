@@ -1,5 +1,5 @@
 -- The names that several proofs cite, passed on from one place. Declares nothing.
-pub use Rattle.std.proofs.Common.{◌≡◌, ◌⊎◌, ⊎_elim, inl, inr, ℕ, List, IsTrue, sym, ap, ◌∙◌, subst, ◌+◌, ◌<◌, ◌≤◌, ltb, leb, refl, Bool, true, false, Option, Some, [], ◌∷◌, arith, if◌then◌else◌, None, ◌++◌, ◌-◌, length, eqb, ◌^◌, ◌==◌}
+pub use Rattle.std.proofs.Common.{⊎_elim, inl, inr, ℕ, List, IsTrue, sym, ap, ◌∙◌, subst, ltb, leb, refl, Bool, true, false, Option, Some, [], arith, None, length, eqb}
 pub use Rattle.std.proofs.lemmas.Bool.{cases_lt, eq-eqb, lt-leb, le-ltb, and_left, and_right, cond-true, cond-false, le-leb, lt-ltb, and_from}
 pub use Rattle.image_access.proofs.EachMomentSince.{passes_none, passes_if, passes_on, passes_more}
 pub use Rattle.image_access.specs.Moments.{StorageView, EachMomentSince, IsLeftBy}

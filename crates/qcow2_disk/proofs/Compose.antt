@@ -1,5 +1,6 @@
 -- Calls one after another, as a read or a write of several parts makes them, and the moments on the way, each of which is built here.
-use Rattle.qcow2_disk.proofs.Common.{◌≡◌, ◌⊎◌, ⊎_elim, inl, inr, ℕ, List, IsTrue, sym, ap, ◌∙◌, subst, StorageView, EachMomentSince, IsLeftBy, passes_none, passes_if, passes_on, Bytes, byte_at, Value, disk, disk_with, GivenBytes, IsGiven, Checkpoint, checkpoint_with, StopOkEverywhere, SafeThroughout, LeavesKept, Setting, AbstractImage, stored_bytes, guest_of, StartsAt, Stops, EffectOnSound, EffectOnFailed}
+use Rattle.std.proofs.Common.{◌≡◌, ◌⊎◌, ⊎_elim, inl, inr, ℕ, List, IsTrue, sym, ap, ◌∙◌, subst}
+use Rattle.qcow2_disk.proofs.Common.{StorageView, EachMomentSince, IsLeftBy, passes_none, passes_if, passes_on, Bytes, byte_at, Value, disk, disk_with, GivenBytes, IsGiven, Checkpoint, checkpoint_with, StopOkEverywhere, SafeThroughout, LeavesKept, Setting, AbstractImage, stored_bytes, guest_of, StartsAt, Stops, EffectOnSound, EffectOnFailed}
 use Rattle.qcow2_disk.specs.UngivenCovers.{IsUngiven}
 use Rattle.qcow2_disk.proofs.Stops.{given_more, given_front, given_split, kept_more, kept_twice}
 

@@ -1,5 +1,6 @@
 -- The laws for users: values that were given, put and committed.
-use Rattle.qcow2_disk.proofs.Common.{◌≡◌, IsTrue, ◌⊎◌, ⊎_elim, inl, inr, ◌+◌, ◌-◌, ◌<◌, ◌≤◌, ltb, leb, ℕ, refl, sym, ap, ◌∙◌, subst, Bool, true, false, Option, Some, List, [], ◌∷◌, length, eqb, arith, if◌then◌else◌, cases_lt, cond-true, cond-false, eq-eqb, le-leb, lt-ltb, lt-leb, le-ltb, and_from, and_left, and_right, byte_at, laid_over, is_within, Value, known_byte, Disk, disk, with_bytes, Guest, given_at, IsGiven, PreparedMapping, given_by_put, put_disk, put_mapping, committed}
+use Rattle.std.proofs.Common.{◌≡◌, ◌⊎◌, ◌+◌, ◌-◌, ◌<◌, ◌≤◌, ◌∷◌, if◌then◌else◌, IsTrue, ⊎_elim, inl, inr, ltb, leb, ℕ, refl, sym, ap, ◌∙◌, subst, Bool, true, false, Option, Some, List, [], length, eqb, arith}
+use Rattle.qcow2_disk.proofs.Common.{cases_lt, cond-true, cond-false, eq-eqb, le-leb, lt-ltb, lt-leb, le-ltb, and_from, and_left, and_right, byte_at, laid_over, is_within, Value, known_byte, Disk, disk, with_bytes, Guest, given_at, IsGiven, PreparedMapping, given_by_put, put_disk, put_mapping, committed}
 use Rattle.qcow2_disk.specs.ForUsers.{PrivateBytesAreUnseen, CommittedIsReadBack, PutIsReadInPlace, HiddenBytesAreNotGiven, FlushedIsExact}
 
 pub exact : FlushedIsExact

@@ -1,5 +1,6 @@
 -- If the rest of a header stays the same, the names, the extensions and the refcount width do too.
-use Rattle.qcow2_disk.proofs.Common.{◌≡◌, ℕ, ◌+◌, ◌^◌, ◌<◌, ◌≤◌, ◌==◌, inl, inr, List, Some, None, Option, sym, ap, ◌∙◌, subst, arith, if◌then◌else◌, eq-eqb, Bytes, number_at, bytes_from, header, cluster_size, backing_name, AreExtensions, HeaderReads, IsOfHeaderRest, KeepsHeaderRest}
+use Rattle.std.proofs.Common.{◌≡◌, ◌+◌, ◌^◌, ◌<◌, ◌≤◌, ◌==◌, if◌then◌else◌, ℕ, inl, inr, List, Some, None, Option, sym, ap, ◌∙◌, subst, arith}
+use Rattle.qcow2_disk.proofs.Common.{eq-eqb, Bytes, number_at, bytes_from, header, cluster_size, backing_name, AreExtensions, HeaderReads, IsOfHeaderRest, KeepsHeaderRest}
 use Rattle.std.proofs.Math.Pow.{pow_mono}
 use Rattle.qcow2_metadata.proofs.BigEndian.{number_at-same}
 use Rattle.qcow2_metadata.proofs.SameHeader.{SameBetween, extensions-same, backing_name-same}

@@ -1,5 +1,6 @@
 -- The rest of the header's cluster stays the same from one contents to the next.
-use Rattle.qcow2_disk.proofs.Common.{◌≡◌, ℕ, ◌<◌, inl, inr, refl, sym, ◌∙◌, subst, Bytes, header, IsOfHeaderRest, KeepsHeaderRest}
+use Rattle.std.proofs.Common.{◌≡◌, ◌<◌, ℕ, inl, inr, refl, sym, ◌∙◌, subst}
+use Rattle.qcow2_disk.proofs.Common.{Bytes, header, IsOfHeaderRest, KeepsHeaderRest}
 
 pub header_rest_same : (b : Bytes) → KeepsHeaderRest b b
 header_rest_same b = record { version = refl; bytes = λ o _ _. refl; cluster_size = refl }

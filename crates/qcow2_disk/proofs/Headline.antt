@@ -1,5 +1,6 @@
 -- A run of an image that was opened from bytes.
-use Rattle.qcow2_disk.proofs.Common.{◌≡◌, ⊎_elim, inl, ℕ, List, [], ◌∷◌, Option, refl, sym, ap, ◌∙◌, subst, arith, fun_ext, StorageView, EachMomentSince, passes_if, passes_on, Bytes, byte_at, IsConsistent, header, Disk, disk, disk_with, KeepsHeaderRest, checkpoint_at, StopOkEverywhere, StopOk, SafeThroughout, Setting, Guest, Abstraction, abstract_image, guest_of, surplus_of, Command, Reply, State, Run, RefinesDisk, IsStopIn, started, checkpoint_during, given_by, asked_by}
+use Rattle.std.proofs.Common.{◌≡◌, ◌∷◌, ⊎_elim, inl, ℕ, List, [], Option, refl, sym, ap, ◌∙◌, subst, arith}
+use Rattle.qcow2_disk.proofs.Common.{fun_ext, StorageView, EachMomentSince, passes_if, passes_on, Bytes, byte_at, IsConsistent, header, Disk, disk, disk_with, KeepsHeaderRest, checkpoint_at, StopOkEverywhere, StopOk, SafeThroughout, Setting, Guest, Abstraction, abstract_image, guest_of, surplus_of, Command, Reply, State, Run, RefinesDisk, IsStopIn, started, checkpoint_during, given_by, asked_by}
 use Rattle.qcow2_disk.specs.Headline.{shown_below, setting_in, guest_in, IsHeadline}
 use Rattle.qcow2_disk.proofs.HeaderRest.{header_rest_same, header_rest_then, header_rest_back}
 use Rattle.qcow2_disk.proofs.Stops.{stop_of_kept, stop_more}

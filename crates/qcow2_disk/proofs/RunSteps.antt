@@ -1,5 +1,6 @@
 -- One call is one step of a run.
-use Rattle.qcow2_disk.proofs.Common.{◌≡◌, ◌⊎◌, ⊎_elim, inl, inr, ℕ, List, [], ◌∷◌, ◌++◌, Bool, true, false, IsTrue, refl, sym, ap, ◌∙◌, subst, Option, None, fun_ext, EachMomentSince, passes_none, passes_if, passes_more, passes_on, Bytes, byte_at, IsConsistent, Value, Disk, disk, disk_with, KeepsHeaderRest, GivenBytes, IsGiven, Checkpoint, checkpoint_at, checkpoint_with, StopOkEverywhere, StopOk, LeavesKept, LeavesOk, PreparedMapping, Setting, Guest, Abstraction, AbstractImage, abstract_image, guest_of, stored_bytes, IsWhole, Refusal, memory, storage, not_compressed, another, CallEffect, AnsweredEffect, RefusedEffect, IsRefusalByFault, EffectOnSound, EffectOnFailed, Stops, Command, Reply, Found, CommandMeaning, IsFaultReply, IsStorageReply, MayAnswer, IsAnswerOfFailed, ReplyMatches, ResizesLast, State, CommandStep, Run, IsSafeWhile, RefinesGuest, RefinesAlong, IsStopIn, RefinesState, RefinesCommand, RefinesRun, RefinesWholeRun, RefinesDisk, IsOwnInterval, started, checkpoint_during, checkpoint_after, stepped, given_by, asked_by, flush, shrink, done, number_is}
+use Rattle.std.proofs.Common.{◌≡◌, ◌⊎◌, ◌∷◌, ◌++◌, ⊎_elim, inl, inr, ℕ, List, [], Bool, true, false, IsTrue, refl, sym, ap, ◌∙◌, subst, Option, None}
+use Rattle.qcow2_disk.proofs.Common.{fun_ext, EachMomentSince, passes_none, passes_if, passes_more, passes_on, Bytes, byte_at, IsConsistent, Value, Disk, disk, disk_with, KeepsHeaderRest, GivenBytes, IsGiven, Checkpoint, checkpoint_at, checkpoint_with, StopOkEverywhere, StopOk, LeavesKept, LeavesOk, PreparedMapping, Setting, Guest, Abstraction, AbstractImage, abstract_image, guest_of, stored_bytes, IsWhole, Refusal, memory, storage, not_compressed, another, CallEffect, AnsweredEffect, RefusedEffect, IsRefusalByFault, EffectOnSound, EffectOnFailed, Stops, Command, Reply, Found, CommandMeaning, IsFaultReply, IsStorageReply, MayAnswer, IsAnswerOfFailed, ReplyMatches, ResizesLast, State, CommandStep, Run, IsSafeWhile, RefinesGuest, RefinesAlong, IsStopIn, RefinesState, RefinesCommand, RefinesRun, RefinesWholeRun, RefinesDisk, IsOwnInterval, started, checkpoint_during, checkpoint_after, stepped, given_by, asked_by, flush, shrink, done, number_is}
 use Rattle.image_access.proofs.EachMomentSince.{since_start as since_began}
 use Rattle.qcow2_disk.specs.UngivenCovers.{UngivenStay}
 use Rattle.qcow2_disk.proofs.Compose.{TouchesLess, works_less, stops_none, rests_none}

@@ -1,5 +1,6 @@
 -- What calls keep, from one image to the next, and what follows for a stop.
-use Rattle.qcow2_disk.proofs.Common.{◌≡◌, ◌⊎◌, ⊎_elim, inl, inr, ℕ, List, [], ◌∷◌, ◌++◌, refl, sym, ◌∙◌, subst, Bytes, Value, IsConsistent, disk, KeepsHeaderRest, GivenBytes, IsGiven, IsAsked, Checkpoint, checkpoint_with, StopOk, StopOkEverywhere}
+use Rattle.std.proofs.Common.{◌≡◌, ◌⊎◌, ◌∷◌, ◌++◌, ⊎_elim, inl, inr, ℕ, List, [], refl, sym, ◌∙◌, subst}
+use Rattle.qcow2_disk.proofs.Common.{Bytes, Value, IsConsistent, disk, KeepsHeaderRest, GivenBytes, IsGiven, IsAsked, Checkpoint, checkpoint_with, StopOk, StopOkEverywhere}
 use Rattle.qcow2_disk.proofs.HeaderRest.{header_rest_same, header_rest_then}
 
 -- ---- gifts and sizes of several calls

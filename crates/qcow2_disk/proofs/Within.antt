@@ -1,5 +1,6 @@
 -- Places in a cluster.
-use Rattle.qcow2_disk.proofs.Common.{◌≡◌, ℕ, ◌+◌, ◌<◌, ◌≤◌, inl, inr, Bool, true, false, leb, ltb, cases_lt, and_left, and_right, lt-leb, le-ltb, is_within}
+use Rattle.std.proofs.Common.{◌≡◌, ◌+◌, ◌<◌, ◌≤◌, ℕ, inl, inr, Bool, true, false, leb, ltb}
+use Rattle.qcow2_disk.proofs.Common.{cases_lt, and_left, and_right, lt-leb, le-ltb, is_within}
 
 pub within_is : (place size o : ℕ) → is_within place size o ≡ true → (place ≤ o) × (o < place + size)
 within_is place size o is =

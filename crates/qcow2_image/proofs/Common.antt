@@ -1,5 +1,5 @@
 -- The names that several proofs cite, passed on from one place. Declares nothing.
-pub use Rattle.std.proofs.Common.{◌≡◌, ℕ, ◌/◌, ◌<◌, ◌≤◌, Bool, true, false, List, [], refl, sym, ap, ◌∙◌, subst, arith, Option, Some, None, IsTrue, ◌&&◌, nat_lt, Result, Ok, Err, IsErr, IsErrAnd, ◌⊎◌, inl, inr, ◌∷◌, length, ◌+◌, ◌*◌, ◌^◌, zero, suc, IsSome, ◌++◌, IfOk, IfErr, ⊎_elim, cond, eqb, ◌-◌, ◌%◌, mul_assoc, ◌↔◌, min, nat_le, ◌==◌, ◌≢◌, if◌then◌else◌, is_some, replicate, lit<, max, get_or, rules, IsFalse, map, mul-pos, take}
+pub use Rattle.std.proofs.Common.{ℕ, Bool, true, false, List, [], refl, sym, ap, ◌∙◌, subst, arith, Option, Some, None, IsTrue, nat_lt, Result, Ok, Err, IsErr, IsErrAnd, inl, inr, length, zero, suc, IsSome, IfOk, IfErr, ⊎_elim, cond, eqb, mul_assoc, min, nat_le, is_some, replicate, lit<, max, get_or, rules, IsFalse, map, mul-pos, take}
 pub use Rattle.std.proofs.Math.Nat.{le_trans, div-lt_iff_lt-mul, div-mul-le_self, le_refl, div-zero, div-div-eq-div-mul, mul-le-mul_right, div-eq_of_lt}
 pub use Rattle.std.proofs.Math.Pow.{pow_mono, shr_mono}
 pub use Rattle.std.proofs.lemmas.Bool.{cond-true, cond-false, or_left, or_right, or_cases, cases_eq, eq-eqb, ne_eqb, cases_lt, le-ltb, lt-ltb, and_from, and_left, and_right, le-leb, lt-leb, cases_Bool, ltb-true, eqb-true, leb-true}
@@ -12,7 +12,7 @@ pub use Rattle.std.proofs.lemmas.Result.{IfErr-weaker, IfOk-weaker, on_ok_weaker
 pub use Rattle.std.specs.Int.{w64, to_be_bytes, trailing_zeros, bit_at}
 pub use Rattle.std.specs.Map.{lookup}
 pub use Rattle.std.specs.Option.{option_map_or, option_or, option_flatten, SomeIff}
-pub use Rattle.std.specs.Prelude.{slice_get, not, MatchOption, IfSome, ◌||◌, OnOk, slice_set, option_map, OnErr, IsOk, IsNone, vec_capacity, MatchResult, unwrap_or}
+pub use Rattle.std.specs.Prelude.{slice_get, not, MatchOption, IfSome, OnOk, slice_set, option_map, OnErr, IsOk, IsNone, vec_capacity, MatchResult, unwrap_or}
 pub use Rattle.image_access.proofs.Bytes.{byte_at-bytes_at, byte_at-overwritten, length-bytes_at, byte_at-overwritten_outside, length-resized, byte_at-overwritten_below, byte_at-overwritten_behind, bytes_at_past}
 pub use Rattle.image_access.proofs.EachMomentSince.{whole_or_nothing, passes_if, passes_on, rose_since, passes_none, passes_change}
 pub use Rattle.image_access.specs.Backing.{BackingView}

@@ -1,5 +1,6 @@
 -- What guests read in contiguous data and in clusters that are mapped alike, and how long such a run is.
-use Rattle.qcow2_laws.proofs.Common.{◌≡◌, ℕ, ◌+◌, ◌-◌, ◌*◌, ◌/◌, ◌%◌, ◌<◌, ◌≤◌, Bool, refl, sym, ap, ◌∙◌, arith, inl, inr, subst, min, Option, cases_lt, div-add-mod', div-mul-add, mod_below, mod-mul-add, pow_pos, Bytes, HeaderFields, cluster_size, cover, known_byte, L2Mapping, Data, Zero, Compressed, Uncovered, disk, DriverState, StateInvariant, IsDataAt, AreDataAt, IsAlike, IsAlikeAt, IsAlikeRun, IsLongestRun}
+use Rattle.std.proofs.Common.{◌≡◌, ◌+◌, ◌-◌, ◌*◌, ◌/◌, ◌%◌, ◌<◌, ◌≤◌, ℕ, Bool, refl, sym, ap, ◌∙◌, arith, inl, inr, subst, min}
+use Rattle.qcow2_laws.proofs.Common.{Option, cases_lt, div-add-mod', div-mul-add, mod_below, mod-mul-add, pow_pos, Bytes, HeaderFields, cluster_size, cover, known_byte, L2Mapping, Data, Zero, Compressed, Uncovered, disk, DriverState, StateInvariant, IsDataAt, AreDataAt, IsAlike, IsAlikeAt, IsAlikeRun, IsLongestRun}
 use Rattle.qcow2_laws.proofs.Places.{in_one, div_mono}
 use Rattle.qcow2_laws.proofs.Shown.{shown_data, shown_zero, shown_uncovered}
 

@@ -1,5 +1,6 @@
 -- Storage writes outside of the caches' modified tables: the known contents change as the storage does.
-use Rattle.qcow2_laws.proofs.Common.{◌≡◌, ℕ, ◌+◌, ◌*◌, ◌/◌, ◌<◌, ◌≤◌, ◌⊎◌, inl, inr, List, length, refl, sym, ap, ◌∙◌, arith, cases_lt, div-mul-add, overwritten, Bytes, byte_at, HeaderFields, header, HeaderReads, cluster_size, reftable_entries, l1_entry, reftable_entry, in_cluster, CachedTable, IsOfHeaderRest, GivenBytes, Direction, Pending, SameIn, IsUnnamed, MayChange, IsWritten, Places, with_places, IsSameBut, WritesL1Entry, WritesReftableEntry, WritesHeader, known_bytes, IsFreeOf, CacheInvariantOver, AreNamedBlocks}
+use Rattle.std.proofs.Common.{◌≡◌, ◌+◌, ◌*◌, ◌/◌, ◌<◌, ◌≤◌, ◌⊎◌, ℕ, inl, inr, List, length, refl, sym, ap, ◌∙◌, arith}
+use Rattle.qcow2_laws.proofs.Common.{cases_lt, div-mul-add, overwritten, Bytes, byte_at, HeaderFields, header, HeaderReads, cluster_size, reftable_entries, l1_entry, reftable_entry, in_cluster, CachedTable, IsOfHeaderRest, GivenBytes, Direction, Pending, SameIn, IsUnnamed, MayChange, IsWritten, Places, with_places, IsSameBut, WritesL1Entry, WritesReftableEntry, WritesHeader, known_bytes, IsFreeOf, CacheInvariantOver, AreNamedBlocks}
 use Rattle.image_access.proofs.Bytes.{byte_at-overwritten_outside}
 use Rattle.qcow2_laws.proofs.Places.{Sizes, l1-same, reftable-same}
 use Rattle.qcow2_laws.proofs.Consistency.{in_own}

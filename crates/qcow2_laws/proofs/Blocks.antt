@@ -1,5 +1,6 @@
 -- Refcounts of one refblock, and entries of one L2 table, change in the known contents.
-use Rattle.qcow2_laws.proofs.Common.{◌≡◌, ℕ, ◌+◌, ◌-◌, ◌*◌, ◌/◌, ◌%◌, ◌<◌, ◌≤◌, ◌≢◌, ◌⊎◌, List, [], refl, sym, ap, ◌∙◌, arith, inl, inr, subst, cases_eq, cases_lt, eq-eqb, ne_eqb, cond-true, cond-false, div-add-mod', mod_below, mul-le, Bytes, HeaderFields, cluster_size, entries_per_cluster, count_width, counts_per_block, l2_entry, reftable_entry, count, block_count, host_offset, block_offset, cover, entry_cover, guest_value, named_for_tables, CoverIsAligned, GivenBytes, IsGiven, Checkpoint, checkpoint_with, StopOkEverywhere, Direction, L2DependsOnRb, RbDependsOnL2, guests, names, marks, named_in_either, table_at, Pending, cluster, CrashInvariant, IsTop, SameTop, SameCovers, SameCounts, SameIn, one_at, with_new_data, with_new_tables, without_old_tables, without_old_data, remapped, IsSameOutside}
+use Rattle.std.proofs.Common.{◌≡◌, ◌+◌, ◌-◌, ◌*◌, ◌/◌, ◌%◌, ◌<◌, ◌≤◌, ◌≢◌, ◌⊎◌, ℕ, List, [], refl, sym, ap, ◌∙◌, arith, inl, inr, subst}
+use Rattle.qcow2_laws.proofs.Common.{cases_eq, cases_lt, eq-eqb, ne_eqb, cond-true, cond-false, div-add-mod', mod_below, mul-le, Bytes, HeaderFields, cluster_size, entries_per_cluster, count_width, counts_per_block, l2_entry, reftable_entry, count, block_count, host_offset, block_offset, cover, entry_cover, guest_value, named_for_tables, CoverIsAligned, GivenBytes, IsGiven, Checkpoint, checkpoint_with, StopOkEverywhere, Direction, L2DependsOnRb, RbDependsOnL2, guests, names, marks, named_in_either, table_at, Pending, cluster, CrashInvariant, IsTop, SameTop, SameCovers, SameCounts, SameIn, one_at, with_new_data, with_new_tables, without_old_tables, without_old_data, remapped, IsSameOutside}
 use Rattle.qcow2_laws.proofs.Places.{Sizes, Sizes-from, count_in, cover_in, has_table}
 use Rattle.qcow2_laws.proofs.Tops.{IsTop-top, for_tables-top}
 use Rattle.qcow2_laws.proofs.Clusters.{new_data_unnamed}

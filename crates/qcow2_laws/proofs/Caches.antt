@@ -1,5 +1,6 @@
 -- A cached table is written: the invariant holds, the known contents stay the same, and a stop is as safe as before.
-use Rattle.qcow2_laws.proofs.Common.{◌≡◌, ℕ, ◌+◌, ◌/◌, ◌<◌, ◌≤◌, ◌≢◌, ◌⊎◌, inl, inr, List, ◌∷◌, ◌++◌, true, refl, sym, ap, subst, ◌∙◌, arith, fun_ext, cases_eq, Bytes, HeaderFields, cluster_size, entries_per_cluster, counts_per_block, l1_entry, is_copied, reftable_entry, host_offset, block_offset, cover, in_cluster, named_for_tables, named_by_reftable, named_by_l1_table, CachedTable, known, Direction, Neither, L2DependsOnRb, RbDependsOnL2, table_at, Pending, CrashInvariant, SameTop, SameIn, IsPartly, SameCovers, SameCounts, IsInOrder, IsMixed, MayTurn, IsUnnamed, known_bytes, IsFreeAt, IsFreeOf, AreApart, AreClean, HasOwnL2, HasBlock, CacheInvariantOver, BlocksMayGo, TablesMayGo, IsWrittenSo, InternalTableWrite, AreNamedBlocks}
+use Rattle.std.proofs.Common.{◌≡◌, ◌+◌, ◌/◌, ◌<◌, ◌≤◌, ◌≢◌, ◌⊎◌, ◌∷◌, ◌++◌, ℕ, inl, inr, List, true, refl, sym, ap, subst, ◌∙◌, arith}
+use Rattle.qcow2_laws.proofs.Common.{fun_ext, cases_eq, Bytes, HeaderFields, cluster_size, entries_per_cluster, counts_per_block, l1_entry, is_copied, reftable_entry, host_offset, block_offset, cover, in_cluster, named_for_tables, named_by_reftable, named_by_l1_table, CachedTable, known, Direction, Neither, L2DependsOnRb, RbDependsOnL2, table_at, Pending, CrashInvariant, SameTop, SameIn, IsPartly, SameCovers, SameCounts, IsInOrder, IsMixed, MayTurn, IsUnnamed, known_bytes, IsFreeAt, IsFreeOf, AreApart, AreClean, HasOwnL2, HasBlock, CacheInvariantOver, BlocksMayGo, TablesMayGo, IsWrittenSo, InternalTableWrite, AreNamedBlocks}
 use Rattle.qcow2_laws.proofs.Places.{Sizes, Sizes-from}
 use Rattle.qcow2_laws.proofs.Tops.{for_tables-top}
 use Rattle.qcow2_laws.proofs.Mixes.{top_kept, mixed_crash_invariant, mixed_either, turned_crash_invariant}

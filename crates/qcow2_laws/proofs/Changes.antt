@@ -1,5 +1,6 @@
 -- A change of the known contents keeps the crash invariant, and leaves a stop as safe as before.
-use Rattle.qcow2_laws.proofs.Common.{◌≡◌, ℕ, ◌+◌, ◌-◌, ◌/◌, ◌<◌, ◌≤◌, ◌≢◌, ◌⊎◌, true, false, cond, eqb, List, [], refl, sym, ap, ◌∙◌, arith, inl, inr, subst, max, cases_eq, cases_lt, ne_eqb, cond-false, Bytes, HeaderFields, cluster_size, count, cover, guest_value, named_by_guest, CoverIsAligned, L2Mapping, GivenBytes, IsGiven, Checkpoint, checkpoint_with, StopOkEverywhere, Direction, L2DependsOnRb, RbDependsOnL2, guests, over_guests, names, marks, named_in_either, marked_by_guest, SameTop, Pending, cluster, CrashInvariant, SameCovers, SameCounts, one_at, with_new_data, with_new_tables, without_old_tables, without_old_data, new_data_to_old_data, new_data_to_old_tables, new_tables_to_old_tables, remapped}
+use Rattle.std.proofs.Common.{◌≡◌, ◌+◌, ◌-◌, ◌/◌, ◌<◌, ◌≤◌, ◌≢◌, ◌⊎◌, ℕ, true, false, cond, eqb, List, [], refl, sym, ap, ◌∙◌, arith, inl, inr, subst, max}
+use Rattle.qcow2_laws.proofs.Common.{cases_eq, cases_lt, ne_eqb, cond-false, Bytes, HeaderFields, cluster_size, count, cover, guest_value, named_by_guest, CoverIsAligned, L2Mapping, GivenBytes, IsGiven, Checkpoint, checkpoint_with, StopOkEverywhere, Direction, L2DependsOnRb, RbDependsOnL2, guests, over_guests, names, marks, named_in_either, marked_by_guest, SameTop, Pending, cluster, CrashInvariant, SameCovers, SameCounts, one_at, with_new_data, with_new_tables, without_old_tables, without_old_data, new_data_to_old_data, new_data_to_old_tables, new_tables_to_old_tables, remapped}
 use Rattle.qcow2_laws.proofs.Clusters.{Good, allocate_data, allocate_table, free_table, free_data, drop_new_data, undo, abandon, remap, new_data_unnamed}
 use Rattle.qcow2_laws.proofs.Places.{Sizes-from}
 use Rattle.qcow2_laws.proofs.Guests.{own_data_of, over_guests-same, over_guests-change, guest_le, names_within}

@@ -1,5 +1,6 @@
 -- What each step does to the numbers of one cluster.
-use Rattle.qcow2_laws.proofs.Common.{ℕ, ◌+◌, ◌-◌, ◌<◌, ◌≤◌, ◌≡◌, ◌⊎◌, arith, Direction, Neither, L2DependsOnRb, RbDependsOnL2, Cluster, ClusterInvariant, Ordered}
+use Rattle.std.proofs.Common.{◌+◌, ◌-◌, ◌<◌, ◌≤◌, ◌≡◌, ◌⊎◌, ℕ, arith}
+use Rattle.qcow2_laws.proofs.Common.{Direction, Neither, L2DependsOnRb, RbDependsOnL2, Cluster, ClusterInvariant, Ordered}
 
 -- how the sums of a cluster's numbers go together
 pub record Tied (k : Cluster) : Type 0 where

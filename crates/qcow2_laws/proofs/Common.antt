@@ -1,10 +1,10 @@
 -- The names that several proofs cite, passed on from one place. Declares nothing.
-pub use Rattle.std.proofs.Common.{◌≡◌, ℕ, ◌+◌, ◌-◌, ◌*◌, ◌/◌, ◌%◌, ◌<◌, ◌≤◌, Bool, refl, sym, ap, ◌∙◌, arith, inl, inr, subst, ◌⊎◌, List, length, ◌≢◌, true, false, cond, eqb, Some, None, [], max, ◌∷◌, ◌++◌, ◌^◌, lit≤, leb, ltb, zero, suc, min, replicate, ⊎_elim, Result, append_assoc, add-zero}
+pub use Rattle.std.proofs.Common.{ℕ, Bool, refl, sym, ap, ◌∙◌, arith, inl, inr, subst, List, length, true, false, cond, eqb, Some, None, [], max, lit≤, leb, ltb, zero, suc, min, replicate, ⊎_elim, Result, append_assoc, add-zero}
 pub use Rattle.std.proofs.Math.Pow.{pow_mono}
 pub use Rattle.std.proofs.lemmas.Bool.{cases_lt, cases_eq, cond-true, cond-false, eq-eqb, ne_eqb, le-leb, lt-ltb, and_from, le-ltb, eqb-true, cases_Bool, ltb-true, eqb-false, agree_below_at, or_cases}
 pub use Rattle.std.proofs.lemmas.Bool.Decides.{nat_tests}
 pub use Rattle.std.proofs.lemmas.Nat.{div-add-mod', div-mul-add, mod_below, mod-mul-add, pow_pos, mul-le, le-div, pow-add}
-pub use Rattle.std.specs.Prelude.{Option, ◌&&◌, IsTrue, if◌then◌else◌, nat_le, nat_lt, ◌==◌, ◌||◌}
+pub use Rattle.std.specs.Prelude.{Option, IsTrue, nat_le, nat_lt}
 pub use Rattle.image_access.proofs.EachMomentSince.{passes_if, whole_or_nothing, passes_none, passes_on, passes_change}
 unfoldable pub use Rattle.image_access.specs.Contents.{overwritten}
 pub use Rattle.qcow2_disk.proofs.ForUsers.{laid_inside, laid_outside}

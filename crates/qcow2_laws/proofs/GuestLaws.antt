@@ -1,5 +1,6 @@
 -- What guests keep over steps.
-use Rattle.qcow2_laws.proofs.Common.{◌≡◌, ℕ, ◌+◌, ◌-◌, ◌*◌, ◌/◌, ◌≤◌, List, [], ◌∷◌, refl, sym, ap, ◌∙◌, arith, inl, inr, subst, cases_lt, pow_pos, le-div, passes_if, Bytes, byte_at, header, cluster_size, known_byte, guest_value, value_under, disk, disk_with, GivenBytes, Checkpoint, checkpoint_with, StopOkEverywhere, given_shown, guests, DriverState, StateInvariant, LongerL1TableKeepsGuests, SizeStaysUnlessAsked, HasSizeSince}
+use Rattle.std.proofs.Common.{◌≡◌, ◌+◌, ◌-◌, ◌*◌, ◌/◌, ◌≤◌, ◌∷◌, ℕ, List, [], refl, sym, ap, ◌∙◌, arith, inl, inr, subst}
+use Rattle.qcow2_laws.proofs.Common.{cases_lt, pow_pos, le-div, passes_if, Bytes, byte_at, header, cluster_size, known_byte, guest_value, value_under, disk, disk_with, GivenBytes, Checkpoint, checkpoint_with, StopOkEverywhere, given_shown, guests, DriverState, StateInvariant, LongerL1TableKeepsGuests, SizeStaysUnlessAsked, HasSizeSince}
 use Rattle.qcow2_disk.specs.AbstractImages.{AbstractImage, stored_bytes}
 use Rattle.qcow2_disk.specs.Calls.{EffectOnSound, StartsAt}
 use Rattle.qcow2_laws.proofs.Places.{Sizes-from}

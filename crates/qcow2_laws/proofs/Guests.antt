@@ -1,5 +1,6 @@
 -- Sums over all guest clusters.
-use Rattle.qcow2_laws.proofs.Common.{◌≡◌, ℕ, ◌+◌, ◌*◌, ◌/◌, ◌%◌, ◌<◌, ◌≤◌, ◌≢◌, ◌^◌, Bool, true, false, cond, eqb, sym, ap, ◌∙◌, refl, arith, inl, inr, Option, Some, None, cases_eq, cases_lt, ne_eqb, cond-false, cond-true, eq-eqb, div-mul-add, div-add-mod', mod_below, mul-le, Bytes, sum_below, HeaderFields, entries_per_cluster, has_data_file, l1_entry, l2_entry, is_copied, cover, entry_cover, in_cluster, table_in, named_by_cover, named_by_kept, named_by_l2_table, named_by_l2_tables, named_by_l1_table, named_for_tables, named, L2Mapping, Data, Zero, Compressed, Uncovered, guests, over_guests, marked_by_kept, marked_by_cover, named_by_guest, marked_by_guest, names, table_at, marked_by_l1_table}
+use Rattle.std.proofs.Common.{◌≡◌, ◌+◌, ◌*◌, ◌/◌, ◌%◌, ◌<◌, ◌≤◌, ◌≢◌, ◌^◌, ℕ, Bool, true, false, cond, eqb, sym, ap, ◌∙◌, refl, arith, inl, inr, Some, None}
+use Rattle.qcow2_laws.proofs.Common.{Option, cases_eq, cases_lt, ne_eqb, cond-false, cond-true, eq-eqb, div-mul-add, div-add-mod', mod_below, mul-le, Bytes, sum_below, HeaderFields, entries_per_cluster, has_data_file, l1_entry, l2_entry, is_copied, cover, entry_cover, in_cluster, table_in, named_by_cover, named_by_kept, named_by_l2_table, named_by_l2_tables, named_by_l1_table, named_for_tables, named, L2Mapping, Data, Zero, Compressed, Uncovered, guests, over_guests, marked_by_kept, marked_by_cover, named_by_guest, marked_by_guest, names, table_at, marked_by_l1_table}
 use Rattle.qcow2_laws.proofs.Sums.{sum_below-le, sum_below-same, sum_below-zero, sum_below-change, sum_below-rows, term_le-sum_below, two_terms_le-sum_below, some_term}
 use Rattle.qcow2_laws.proofs.Places.{Sizes, l1_entry-past, cover_none, cover_at}
 

@@ -1,5 +1,6 @@
 -- The calls that write header numbers, as steps outside of the caches' modified tables.
-use Rattle.qcow2_laws.proofs.Common.{◌≡◌, ◌≢◌, ◌⊎◌, ◌+◌, ◌<◌, ◌≤◌, inl, inr, ℕ, List, replicate, ap, ◌∙◌, subst, lit≤, arith, eq-eqb, if◌then◌else◌, Bytes, byte_at, number_at, HeaderFields, HeaderView, header, HeaderReads, cluster_size, with_size, with_l1_table, with_reftable, without_autoclear, CachedTable, IsOfHeaderRest, Direction, Pending, Places, with_places, IsSameBut, WritesHeader, resized_places, with_l1_at, with_reftable_at, known_bytes, CacheInvariantOver}
+use Rattle.std.proofs.Common.{◌≡◌, ◌≢◌, ◌⊎◌, ◌+◌, ◌<◌, ◌≤◌, if◌then◌else◌, inl, inr, ℕ, List, replicate, ap, ◌∙◌, subst, lit≤, arith}
+use Rattle.qcow2_laws.proofs.Common.{eq-eqb, Bytes, byte_at, number_at, HeaderFields, HeaderView, header, HeaderReads, cluster_size, with_size, with_l1_table, with_reftable, without_autoclear, CachedTable, IsOfHeaderRest, Direction, Pending, Places, with_places, IsSameBut, WritesHeader, resized_places, with_l1_at, with_reftable_at, known_bytes, CacheInvariantOver}
 use Rattle.std.specs.Int.{w64, to_be_bytes}
 use Rattle.qcow2_metadata.specs.HeaderLoad.{IsHeaderIn}
 use Rattle.qcow2_metadata.specs.HeaderWrite.{bytes_of_numbers, size_written, l1_table_pointer_written, reftable_pointer_written, autoclear_cleared}

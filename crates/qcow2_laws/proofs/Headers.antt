@@ -1,5 +1,6 @@
 -- Fields of the header are written: the size, or the pointer to the L1 table.
-use Rattle.qcow2_laws.proofs.Common.{◌≡◌, ℕ, ◌+◌, ◌*◌, ◌/◌, ◌<◌, ◌≤◌, ◌≢◌, ◌⊎◌, inl, inr, List, [], refl, sym, ap, ◌∙◌, arith, subst, cases_lt, div-mul-add, Bytes, HeaderFields, header, HeaderReads, cluster_size, l1_entry, reftable_entry, count, count_under, host_offset, block_offset, L1EntryReads, ReftableEntryReads, cover, cover_under, in_cluster, named_for_tables, named_by_header, named_by_reftable, named_by_l1_table, IsAligned, IsOfHeaderRest, IsAsked, Checkpoint, checkpoint_with, StopOkEverywhere, Direction, named_in_either, marked_by_l1_table, Pending, CrashInvariant, IsTop, SameTop, SameCovers, SameCounts, SameIn, Places, with_places, KeepsCovers, IsSameBut, IsSameOutside, WritesHeader, WritesAt, resized_places}
+use Rattle.std.proofs.Common.{◌≡◌, ◌+◌, ◌*◌, ◌/◌, ◌<◌, ◌≤◌, ◌≢◌, ◌⊎◌, ℕ, inl, inr, List, [], refl, sym, ap, ◌∙◌, arith, subst}
+use Rattle.qcow2_laws.proofs.Common.{cases_lt, div-mul-add, Bytes, HeaderFields, header, HeaderReads, cluster_size, l1_entry, reftable_entry, count, count_under, host_offset, block_offset, L1EntryReads, ReftableEntryReads, cover, cover_under, in_cluster, named_for_tables, named_by_header, named_by_reftable, named_by_l1_table, IsAligned, IsOfHeaderRest, IsAsked, Checkpoint, checkpoint_with, StopOkEverywhere, Direction, named_in_either, marked_by_l1_table, Pending, CrashInvariant, IsTop, SameTop, SameCovers, SameCounts, SameIn, Places, with_places, KeepsCovers, IsSameBut, IsSameOutside, WritesHeader, WritesAt, resized_places}
 use Rattle.qcow2_laws.proofs.Places.{Sizes, Sizes-from}
 use Rattle.qcow2_laws.proofs.Tops.{IsTop-top, for_tables-top, l1_names-same, reftable_names-same, l1_marks-same}
 use Rattle.qcow2_laws.proofs.Consistency.{in_own}

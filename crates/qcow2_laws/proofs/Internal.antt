@@ -1,5 +1,6 @@
 -- Steps of the driver that guests don't see.
-use Rattle.qcow2_laws.proofs.Common.{◌≡◌, ℕ, ◌+◌, ◌*◌, ◌/◌, ◌<◌, ◌≤◌, ◌≢◌, ◌⊎◌, refl, sym, ap, ◌∙◌, arith, inl, inr, subst, fun_ext, Bytes, HeaderFields, header, cluster_size, l1_entry, cover, named_for_tables, named_by_guest, disk, disk_with, over_guests, names, named_in_either, SameCovers, SameIn, IsSameOutside, WritesL1Entry, IsNewTable, WritesReftableEntry, IsUnnamed, DriverState, StateInvariant, block_of, used_by_guests, SameUsedBytes, KeepsFormat, IsInternal, SameL1Table}
+use Rattle.std.proofs.Common.{◌≡◌, ◌+◌, ◌*◌, ◌/◌, ◌<◌, ◌≤◌, ◌≢◌, ◌⊎◌, ℕ, refl, sym, ap, ◌∙◌, arith, inl, inr, subst}
+use Rattle.qcow2_laws.proofs.Common.{fun_ext, Bytes, HeaderFields, header, cluster_size, l1_entry, cover, named_for_tables, named_by_guest, disk, disk_with, over_guests, names, named_in_either, SameCovers, SameIn, IsSameOutside, WritesL1Entry, IsNewTable, WritesReftableEntry, IsUnnamed, DriverState, StateInvariant, block_of, used_by_guests, SameUsedBytes, KeepsFormat, IsInternal, SameL1Table}
 use Rattle.qcow2_laws.proofs.Places.{Sizes-from}
 use Rattle.qcow2_laws.proofs.Guests.{own_data_of, over_guests-same, guest_le, names_within}
 use Rattle.qcow2_laws.proofs.Formats.{format_refl, format_same, format_then, size_format, l1_format, covers_format, guests_format, value_format}

@@ -1,5 +1,6 @@
 -- The header's pointer to a new L1 table, which may be longer, is written.
-use Rattle.qcow2_laws.proofs.Common.{◌≡◌, ℕ, ◌+◌, ◌-◌, ◌*◌, ◌/◌, ◌<◌, ◌≤◌, ◌≢◌, cond, [], refl, sym, ap, ◌∙◌, arith, inl, inr, subst, fun_ext, cases_lt, Bytes, sum_below, HeaderFields, cluster_size, entries_per_cluster, l1_entry, reftable_entry, count, count_under, host_offset, block_offset, is_copied, L1EntryReads, ReftableEntryReads, cover, cover_under, in_run, table_in, named_for_tables, named_by_reftable, named_by_l1_table, named_by_guest, IsAligned, disk, disk_with, Checkpoint, StopOkEverywhere, Direction, over_guests, names, named_in_either, marked_by_l1_table, Pending, CrashInvariant, IsTop, SameTop, SameIn, renamed, with_places, KeepsCovers, WritesHeader, with_l1_at, IsNewL1, KeepsGuests, state_with_l1_table}
+use Rattle.std.proofs.Common.{◌≡◌, ◌+◌, ◌-◌, ◌*◌, ◌/◌, ◌<◌, ◌≤◌, ◌≢◌, ℕ, cond, [], refl, sym, ap, ◌∙◌, arith, inl, inr, subst}
+use Rattle.qcow2_laws.proofs.Common.{fun_ext, cases_lt, Bytes, sum_below, HeaderFields, cluster_size, entries_per_cluster, l1_entry, reftable_entry, count, count_under, host_offset, block_offset, is_copied, L1EntryReads, ReftableEntryReads, cover, cover_under, in_run, table_in, named_for_tables, named_by_reftable, named_by_l1_table, named_by_guest, IsAligned, disk, disk_with, Checkpoint, StopOkEverywhere, Direction, over_guests, names, named_in_either, marked_by_l1_table, Pending, CrashInvariant, IsTop, SameTop, SameIn, renamed, with_places, KeepsCovers, WritesHeader, with_l1_at, IsNewL1, KeepsGuests, state_with_l1_table}
 use Rattle.qcow2_laws.proofs.Sums.{sum_below-same, sum_below-longer}
 use Rattle.qcow2_laws.proofs.Places.{Sizes-from, l1-same, l1_entry-past}
 use Rattle.qcow2_laws.proofs.Writes.{new_tables_is_unnamed}

@@ -1,5 +1,6 @@
 -- Lists of cached tables, one of which is written.
-use Rattle.qcow2_laws.proofs.Common.{◌≡◌, ℕ, ◌+◌, ◌-◌, ◌*◌, ◌/◌, ◌%◌, ◌<◌, inl, inr, Bool, true, false, cond, leb, ltb, List, [], ◌∷◌, ◌++◌, refl, sym, ap, subst, ◌∙◌, arith, ◌&&◌, fun_ext, cases_eq, cases_Bool, cond-true, cond-false, le-leb, lt-ltb, and_from, div-add-mod', mod_below, Bytes, is_within, CachedTable, known, overlays, IsPartly, IsSameOutside, IsFreeAt, AreApart, AreClean, IsWrittenSo}
+use Rattle.std.proofs.Common.{◌≡◌, ◌+◌, ◌-◌, ◌*◌, ◌/◌, ◌%◌, ◌<◌, ◌∷◌, ◌++◌, ◌&&◌, ℕ, inl, inr, Bool, true, false, cond, leb, ltb, List, [], refl, sym, ap, subst, ◌∙◌, arith}
+use Rattle.qcow2_laws.proofs.Common.{fun_ext, cases_eq, cases_Bool, cond-true, cond-false, le-leb, lt-ltb, and_from, div-add-mod', mod_below, Bytes, is_within, CachedTable, known, overlays, IsPartly, IsSameOutside, IsFreeAt, AreApart, AreClean, IsWrittenSo}
 use Rattle.qcow2_laws.proofs.Places.{in_one}
 use Rattle.qcow2_disk.proofs.Within.{within_is}
 

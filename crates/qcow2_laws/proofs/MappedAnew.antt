@@ -1,5 +1,6 @@
 -- One guest cluster gets another mapping: what it then shows, and that everything else stays the same.
-use Rattle.qcow2_laws.proofs.Common.{◌≡◌, ℕ, ◌+◌, ◌-◌, ◌*◌, ◌/◌, ◌%◌, ◌<◌, ◌≤◌, ◌⊎◌, Bool, true, cond, eqb, [], ◌∷◌, refl, sym, ap, ◌∙◌, arith, inl, inr, subst, Option, fun_ext, cases_eq, cases_lt, eq-eqb, ne_eqb, cond-true, cond-false, div-add-mod', mod_below, pow_pos, Bytes, header, cluster_size, cover, Value, known_byte, value_under, in_cluster, named_for_tables, named_by_guest, CoverIsAligned, Data, Zero, Uncovered, disk, given_shown, names, table_at, Pending, remapped, DriverState, StateInvariant, SafeStep, guest_at, EntryChanges, IsMappedAnew, with_cluster}
+use Rattle.std.proofs.Common.{◌≡◌, ◌+◌, ◌-◌, ◌*◌, ◌/◌, ◌%◌, ◌<◌, ◌≤◌, ◌⊎◌, ◌∷◌, ℕ, Bool, true, cond, eqb, [], refl, sym, ap, ◌∙◌, arith, inl, inr, subst}
+use Rattle.qcow2_laws.proofs.Common.{Option, fun_ext, cases_eq, cases_lt, eq-eqb, ne_eqb, cond-true, cond-false, div-add-mod', mod_below, pow_pos, Bytes, header, cluster_size, cover, Value, known_byte, value_under, in_cluster, named_for_tables, named_by_guest, CoverIsAligned, Data, Zero, Uncovered, disk, given_shown, names, table_at, Pending, remapped, DriverState, StateInvariant, SafeStep, guest_at, EntryChanges, IsMappedAnew, with_cluster}
 use Rattle.qcow2_laws.proofs.Places.{in_one}
 use Rattle.qcow2_laws.proofs.Guests.{own_names, own_data_of, uncovered_names, over_guests-change}
 use Rattle.qcow2_laws.proofs.Tops.{for_tables-top, IsTop-top}

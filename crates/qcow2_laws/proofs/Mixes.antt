@@ -1,5 +1,6 @@
 -- An image in which some cached tables were written, in an allowed order, still has the crash invariant.
-use Rattle.qcow2_laws.proofs.Common.{◌≡◌, ℕ, ◌+◌, ◌*◌, ◌/◌, ◌%◌, ◌≤◌, ◌≢◌, ◌⊎◌, refl, sym, ap, ◌∙◌, arith, inl, inr, subst, max, Bytes, SameFrom, HeaderFields, cluster_size, entries_per_cluster, counts_per_block, reftable_entry, count, host_offset, block_offset, cover, named_by_guest, CoverIsAligned, L2Mapping, Direction, Neither, L2DependsOnRb, RbDependsOnL2, over_guests, names, marks, marked_by_guest, named_in_either, table_at, IsTop, SameTop, Pending, cluster, CrashInvariant, IsPartly, SameCovers, IsInOrder, IsMixed, MayTurn}
+use Rattle.std.proofs.Common.{◌≡◌, ◌+◌, ◌*◌, ◌/◌, ◌%◌, ◌≤◌, ◌≢◌, ◌⊎◌, ℕ, refl, sym, ap, ◌∙◌, arith, inl, inr, subst, max}
+use Rattle.qcow2_laws.proofs.Common.{Bytes, SameFrom, HeaderFields, cluster_size, entries_per_cluster, counts_per_block, reftable_entry, count, host_offset, block_offset, cover, named_by_guest, CoverIsAligned, L2Mapping, Direction, Neither, L2DependsOnRb, RbDependsOnL2, over_guests, names, marks, marked_by_guest, named_in_either, table_at, IsTop, SameTop, Pending, cluster, CrashInvariant, IsPartly, SameCovers, IsInOrder, IsMixed, MayTurn}
 use Rattle.qcow2_laws.proofs.Clusters.{Tied, Good, Nearer, InOrder, mix, turn_from_free, turn_to_l2, turn_to_rb, turn_free, turn_free_too}
 use Rattle.qcow2_laws.proofs.Places.{Sizes, Sizes-from, SameFrom-in, SameFrom-sym, l1-same, reftable-same, has_table, has_block, count-same, cover-same}
 use Rattle.qcow2_laws.proofs.Guests.{over_guests-le, over_guests-same, marks-le, marks-all}

@@ -1,5 +1,6 @@
 -- Writing the reftable entry of a refblock keeps the crash invariant, and leaves a stop as safe as before.
-use Rattle.qcow2_laws.proofs.Common.{◌≡◌, ℕ, ◌+◌, ◌-◌, ◌*◌, ◌/◌, ◌%◌, ◌<◌, ◌≤◌, ◌≢◌, ltb, [], refl, sym, ap, ◌∙◌, arith, inl, inr, subst, cases_eq, cases_lt, mod_below, Bytes, SameFrom, HeaderFields, cluster_size, reftable_entries, count_width, counts_per_block, l1_entry, reftable_entry, count, block_count, host_offset, block_offset, L1EntryReads, ReftableEntryReads, table_in, named_for_tables, named_by_reftable, IsAligned, number_at-same, Checkpoint, StopOkEverywhere, Direction, RbDependsOnL2, named_in_either, Pending, CrashInvariant, IsTop, SameTop, SameCovers, SameIn, named_now, places_of, IsSameBut, IsSameOutside, WritesReftableEntry, IsNewBlock}
+use Rattle.std.proofs.Common.{◌≡◌, ◌+◌, ◌-◌, ◌*◌, ◌/◌, ◌%◌, ◌<◌, ◌≤◌, ◌≢◌, ℕ, ltb, [], refl, sym, ap, ◌∙◌, arith, inl, inr, subst}
+use Rattle.qcow2_laws.proofs.Common.{cases_eq, cases_lt, mod_below, Bytes, SameFrom, HeaderFields, cluster_size, reftable_entries, count_width, counts_per_block, l1_entry, reftable_entry, count, block_count, host_offset, block_offset, L1EntryReads, ReftableEntryReads, table_in, named_for_tables, named_by_reftable, IsAligned, number_at-same, Checkpoint, StopOkEverywhere, Direction, RbDependsOnL2, named_in_either, Pending, CrashInvariant, IsTop, SameTop, SameCovers, SameIn, named_now, places_of, IsSameBut, IsSameOutside, WritesReftableEntry, IsNewBlock}
 use Rattle.qcow2_laws.proofs.Sums.{sum_below-change}
 use Rattle.qcow2_laws.proofs.Places.{Sizes, Sizes-from, SameFrom-in, cond-same, block_count-moved, count_in, count_none}
 use Rattle.qcow2_laws.proofs.Tops.{from_start, header-first, HeaderReads-same, IsTop-top, for_tables-top, l1_names-same, l1_marks-same}

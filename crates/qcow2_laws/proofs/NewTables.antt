@@ -1,5 +1,6 @@
 -- Writing the L1 entry of a new table keeps the crash invariant, and leaves a stop as safe as before.
-use Rattle.qcow2_laws.proofs.Common.{◌≡◌, ℕ, ◌+◌, ◌-◌, ◌*◌, ◌/◌, ◌%◌, ◌<◌, ◌≤◌, ◌≢◌, Bool, true, false, cond, ltb, eqb, [], refl, sym, ap, ◌∙◌, arith, inl, inr, subst, cases_eq, cases_lt, eq-eqb, ne_eqb, cond-true, cond-false, Bytes, SameFrom, HeaderFields, cluster_size, entries_per_cluster, l1_entry, l2_entry, reftable_entry, count, host_offset, block_offset, is_copied, L1EntryReads, ReftableEntryReads, cover, entry_cover, table_in, in_cluster, named_for_tables, named_by_l1_table, IsAligned, number_at-same, Checkpoint, StopOkEverywhere, Direction, named_in_either, table_at, marked_by_l1_table, Pending, CrashInvariant, IsTop, SameTop, SameCovers, SameCounts, SameIn, renamed, places_of, IsSameBut, IsSameOutside, WritesL1Entry, IsNewTable, mod_below}
+use Rattle.std.proofs.Common.{◌≡◌, ◌+◌, ◌-◌, ◌*◌, ◌/◌, ◌%◌, ◌<◌, ◌≤◌, ◌≢◌, ℕ, Bool, true, false, cond, ltb, eqb, [], refl, sym, ap, ◌∙◌, arith, inl, inr, subst}
+use Rattle.qcow2_laws.proofs.Common.{cases_eq, cases_lt, eq-eqb, ne_eqb, cond-true, cond-false, Bytes, SameFrom, HeaderFields, cluster_size, entries_per_cluster, l1_entry, l2_entry, reftable_entry, count, host_offset, block_offset, is_copied, L1EntryReads, ReftableEntryReads, cover, entry_cover, table_in, in_cluster, named_for_tables, named_by_l1_table, IsAligned, number_at-same, Checkpoint, StopOkEverywhere, Direction, named_in_either, table_at, marked_by_l1_table, Pending, CrashInvariant, IsTop, SameTop, SameCovers, SameCounts, SameIn, renamed, places_of, IsSameBut, IsSameOutside, WritesL1Entry, IsNewTable, mod_below}
 use Rattle.qcow2_laws.proofs.Sums.{sum_below-change}
 use Rattle.qcow2_laws.proofs.Places.{Sizes, Sizes-from, eight_in, SameFrom-in, l2_entry-same, cover_in, cond-same}
 use Rattle.qcow2_laws.proofs.Tops.{from_start, header-first, HeaderReads-same, IsTop-top, for_tables-top, reftable_names-same}

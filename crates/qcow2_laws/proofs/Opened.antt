@@ -1,5 +1,6 @@
 -- A consistent image has the crash invariant when it is opened.
-use Rattle.qcow2_laws.proofs.Common.{◌≡◌, ℕ, ◌+◌, ◌/◌, ◌%◌, ◌<◌, ◌≤◌, ◌≢◌, Bool, true, false, cond, eqb, refl, sym, ap, ◌∙◌, arith, subst, inl, inr, max, Option, Some, None, cases_eq, cases_lt, cond-false, eq-eqb, eqb-true, mod_below, Bytes, HeaderFields, header, cluster_size, entries_per_cluster, has_data_file, l1_entry, is_copied, count, cover, named_for_tables, named_by_l1_table, table_in, in_cluster, Consistent, EachCover, CoverIsAligned, IsOwn, KeptIsOwn, CopiedIsOwn, L2Mapping, Data, Zero, Compressed, Uncovered, Neither, ClusterInvariant, over_guests, names, marks, marked_by_cover, marked_by_guest, marked_by_kept, marked_by_l1_table, table_at, cluster, CrashInvariant, nothing_pending, surplus_of}
+use Rattle.std.proofs.Common.{◌≡◌, ◌+◌, ◌/◌, ◌%◌, ◌<◌, ◌≤◌, ◌≢◌, ℕ, Bool, true, false, cond, eqb, refl, sym, ap, ◌∙◌, arith, subst, inl, inr, max, Some, None}
+use Rattle.qcow2_laws.proofs.Common.{Option, cases_eq, cases_lt, cond-false, eq-eqb, eqb-true, mod_below, Bytes, HeaderFields, header, cluster_size, entries_per_cluster, has_data_file, l1_entry, is_copied, count, cover, named_for_tables, named_by_l1_table, table_in, in_cluster, Consistent, EachCover, CoverIsAligned, IsOwn, KeptIsOwn, CopiedIsOwn, L2Mapping, Data, Zero, Compressed, Uncovered, Neither, ClusterInvariant, over_guests, names, marks, marked_by_cover, marked_by_guest, marked_by_kept, marked_by_l1_table, table_at, cluster, CrashInvariant, nothing_pending, surplus_of}
 use Rattle.qcow2_laws.proofs.Sums.{some_term}
 use Rattle.qcow2_laws.proofs.Places.{Sizes, Sizes-from, cover_in, cover_none, has_table}
 use Rattle.qcow2_laws.proofs.Guests.{named-is, over_guests-same, some_guest, marks-all, l1_marks-le}

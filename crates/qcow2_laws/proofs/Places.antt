@@ -1,5 +1,6 @@
 -- Numbers, entries, refcounts and mappings depend only on the bytes of their clusters.
-use Rattle.qcow2_laws.proofs.Common.{◌≡◌, ℕ, zero, suc, ◌+◌, ◌-◌, ◌*◌, ◌/◌, ◌%◌, ◌^◌, ◌<◌, ◌≤◌, ◌≢◌, true, false, cond, ltb, eqb, Bool, refl, sym, ap, ◌∙◌, arith, inl, inr, ltb-true, eqb-false, cases_lt, cond-true, cond-false, le-ltb, eq-eqb, ne_eqb, div-mul-add, div-add-mod', mod_below, mod-mul-add, pow_pos, pow-add, le-div, pow_mono, Bytes, number_at, SameFrom, HeaderFields, HeaderReads, cluster_size, entries_per_cluster, reftable_entries, count_width, counts_per_block, l1_entry, l2_entry, reftable_entry, block_count, count_under, count, host_offset, block_offset, cover, cover_under, entry_cover, Uncovered, number_at-same, SameIn, table_at}
+use Rattle.std.proofs.Common.{◌≡◌, ◌+◌, ◌-◌, ◌*◌, ◌/◌, ◌%◌, ◌^◌, ◌<◌, ◌≤◌, ◌≢◌, ℕ, zero, suc, true, false, cond, ltb, eqb, Bool, refl, sym, ap, ◌∙◌, arith, inl, inr}
+use Rattle.qcow2_laws.proofs.Common.{ltb-true, eqb-false, cases_lt, cond-true, cond-false, le-ltb, eq-eqb, ne_eqb, div-mul-add, div-add-mod', mod_below, mod-mul-add, pow_pos, pow-add, le-div, pow_mono, Bytes, number_at, SameFrom, HeaderFields, HeaderReads, cluster_size, entries_per_cluster, reftable_entries, count_width, counts_per_block, l1_entry, l2_entry, reftable_entry, block_count, count_under, count, host_offset, block_offset, cover, cover_under, entry_cover, Uncovered, number_at-same, SameIn, table_at}
 
 -- what sizes of clusters and counts there are
 pub record Sizes (h : HeaderFields) : Type 0 where

@@ -1,5 +1,6 @@
 -- One storage write over a run of clusters: in place, into clusters that zero entries keep, and into new data.
-use Rattle.qcow2_laws.proofs.Common.{◌≡◌, ℕ, zero, suc, ◌+◌, ◌-◌, ◌*◌, ◌/◌, ◌%◌, ◌<◌, ◌≤◌, ◌≢◌, ◌⊎◌, Bool, true, false, cond, List, [], ◌∷◌, length, refl, sym, ap, ◌∙◌, arith, inl, inr, subst, Some, fun_ext, cases_eq, cases_lt, div-add-mod', div-mul-add, mod_below, pow_pos, Bytes, byte_at, laid_over, cluster_size, cover, known_byte, in_cluster, named_for_tables, named_by_guest, CoverIsAligned, Data, Zero, disk, with_values, GivenBytes, IsGiven, given_of, names, marks, marked_by_guest, named_in_either, SameCovers, SameIn, IsSameOutside, WritesAt, IsWritten, DriverState, StateInvariant, SafeStep, SameL1Table, IsDataAt, Hosting, InPlace, Kept, Held, IsHostedAt, IsHeld, is_private_hosting, IsGivenAt, WritesRun, RunIsWritten, laid_inside, laid_outside}
+use Rattle.std.proofs.Common.{◌≡◌, ◌+◌, ◌-◌, ◌*◌, ◌/◌, ◌%◌, ◌<◌, ◌≤◌, ◌≢◌, ◌⊎◌, ◌∷◌, ℕ, zero, suc, Bool, true, false, cond, List, [], length, refl, sym, ap, ◌∙◌, arith, inl, inr, subst, Some}
+use Rattle.qcow2_laws.proofs.Common.{fun_ext, cases_eq, cases_lt, div-add-mod', div-mul-add, mod_below, pow_pos, Bytes, byte_at, laid_over, cluster_size, cover, known_byte, in_cluster, named_for_tables, named_by_guest, CoverIsAligned, Data, Zero, disk, with_values, GivenBytes, IsGiven, given_of, names, marks, marked_by_guest, named_in_either, SameCovers, SameIn, IsSameOutside, WritesAt, IsWritten, DriverState, StateInvariant, SafeStep, SameL1Table, IsDataAt, Hosting, InPlace, Kept, Held, IsHostedAt, IsHeld, is_private_hosting, IsGivenAt, WritesRun, RunIsWritten, laid_inside, laid_outside}
 use Rattle.qcow2_laws.proofs.Guests.{own_names, own_marks, own_data_of}
 use Rattle.qcow2_laws.proofs.Places.{in_one}
 use Rattle.qcow2_laws.proofs.Mixes.{tied}

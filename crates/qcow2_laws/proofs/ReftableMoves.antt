@@ -1,5 +1,6 @@
 -- The header's pointer to a new reftable, with new refblocks, is written.
-use Rattle.qcow2_laws.proofs.Common.{◌≡◌, ℕ, ◌+◌, ◌-◌, ◌*◌, ◌/◌, ◌%◌, ◌<◌, ◌≤◌, ◌≢◌, [], refl, sym, ap, ◌∙◌, arith, inl, inr, subst, cases_eq, cases_lt, mod_below, Bytes, HeaderFields, cluster_size, counts_per_block, count_width, l1_entry, reftable_entry, count, count_under, block_count, host_offset, block_offset, L1EntryReads, ReftableEntryReads, cover, cover_under, in_cluster, in_run, table_in, named_for_tables, named_by_reftable, named_by_l1_table, IsAligned, Checkpoint, StopOkEverywhere, Direction, named_in_either, marked_by_l1_table, Pending, CrashInvariant, IsTop, SameTop, SameIn, renamed, IsUnnamed, with_places, KeepsCovers, WritesHeader, with_reftable_at, IsNewReftable}
+use Rattle.std.proofs.Common.{◌≡◌, ◌+◌, ◌-◌, ◌*◌, ◌/◌, ◌%◌, ◌<◌, ◌≤◌, ◌≢◌, ℕ, [], refl, sym, ap, ◌∙◌, arith, inl, inr, subst}
+use Rattle.qcow2_laws.proofs.Common.{cases_eq, cases_lt, mod_below, Bytes, HeaderFields, cluster_size, counts_per_block, count_width, l1_entry, reftable_entry, count, count_under, block_count, host_offset, block_offset, L1EntryReads, ReftableEntryReads, cover, cover_under, in_cluster, in_run, table_in, named_for_tables, named_by_reftable, named_by_l1_table, IsAligned, Checkpoint, StopOkEverywhere, Direction, named_in_either, marked_by_l1_table, Pending, CrashInvariant, IsTop, SameTop, SameIn, renamed, IsUnnamed, with_places, KeepsCovers, WritesHeader, with_reftable_at, IsNewReftable}
 use Rattle.qcow2_laws.proofs.Sums.{sum_below-same}
 use Rattle.qcow2_laws.proofs.Places.{Sizes, Sizes-from, SameFrom-in, reftable-same, block_count-moved, count_in, count_none}
 use Rattle.qcow2_laws.proofs.Tops.{l1_marks-same}

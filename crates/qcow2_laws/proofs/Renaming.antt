@@ -1,5 +1,6 @@
 -- The header, the L1 table or the reftable changes, on the storage and in the known contents, and all guest clusters keep their mappings.
-use Rattle.qcow2_laws.proofs.Common.{◌≡◌, ℕ, ◌+◌, ◌-◌, ◌*◌, ◌/◌, ◌<◌, ◌≤◌, ◌⊎◌, List, [], refl, sym, ap, ◌∙◌, arith, inl, inr, subst, max, mul-le, Bytes, sum_below, HeaderFields, header, cluster_size, entries_per_cluster, count, cover, guest_value, value_under, named_for_tables, named_by_guest, CoverIsAligned, L2Mapping, Uncovered, disk, IsOfHeaderRest, IsAsked, Checkpoint, checkpoint_with, StopOkEverywhere, Direction, RbDependsOnL2, guests, over_guests, names, named_in_either, marked_by_guest, marked_by_l1_table, IsTop, SameTop, Pending, cluster, CrashInvariant, SameCovers, Places, with_places, KeepsCovers, kept_on}
+use Rattle.std.proofs.Common.{◌≡◌, ◌+◌, ◌-◌, ◌*◌, ◌/◌, ◌<◌, ◌≤◌, ◌⊎◌, ℕ, List, [], refl, sym, ap, ◌∙◌, arith, inl, inr, subst, max}
+use Rattle.qcow2_laws.proofs.Common.{mul-le, Bytes, sum_below, HeaderFields, header, cluster_size, entries_per_cluster, count, cover, guest_value, value_under, named_for_tables, named_by_guest, CoverIsAligned, L2Mapping, Uncovered, disk, IsOfHeaderRest, IsAsked, Checkpoint, checkpoint_with, StopOkEverywhere, Direction, RbDependsOnL2, guests, over_guests, names, named_in_either, marked_by_guest, marked_by_l1_table, IsTop, SameTop, Pending, cluster, CrashInvariant, SameCovers, Places, with_places, KeepsCovers, kept_on}
 use Rattle.qcow2_laws.proofs.Clusters.{Good, rename}
 use Rattle.qcow2_laws.proofs.Sums.{sum_below-same, sum_below-longer}
 use Rattle.qcow2_laws.proofs.Places.{Sizes, Sizes-from}

@@ -1,5 +1,6 @@
 -- Steps one after another, and the moments of a storage on the way: a function for each elementary step, which gets the step's own fact whole.
-use Rattle.qcow2_laws.proofs.Common.{◌≡◌, ◌⊎◌, inl, inr, ⊎_elim, ℕ, List, [], ◌++◌, Result, sym, ◌∙◌, subst, append_assoc, overwritten, whole_or_nothing, passes_none, passes_on, passes_if, passes_change, Bytes, byte_at, Value, disk, GivenBytes, IsGiven, Checkpoint, checkpoint_with, StopOkEverywhere, SafeThroughout, LeavesKept, IsSafeAfter, L2Mapping, MapsInTurn, DriverState, StateInvariant, SafeStep, CountRises, CountFalls, EntryChanges, given_more, given_front, given_split, kept_more}
+use Rattle.std.proofs.Common.{◌≡◌, ◌⊎◌, ◌++◌, inl, inr, ⊎_elim, ℕ, List, [], Result, sym, ◌∙◌, subst, append_assoc}
+use Rattle.qcow2_laws.proofs.Common.{overwritten, whole_or_nothing, passes_none, passes_on, passes_if, passes_change, Bytes, byte_at, Value, disk, GivenBytes, IsGiven, Checkpoint, checkpoint_with, StopOkEverywhere, SafeThroughout, LeavesKept, IsSafeAfter, L2Mapping, MapsInTurn, DriverState, StateInvariant, SafeStep, CountRises, CountFalls, EntryChanges, given_more, given_front, given_split, kept_more}
 use Rattle.image_access.specs.declared.error.StorageError.{StorageError}
 use Rattle.image_access.specs.Moments.{StorageView, EachMomentSince, Calls, Changes, IsLeftBy}
 

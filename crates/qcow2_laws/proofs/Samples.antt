@@ -1,5 +1,6 @@
 -- The definitions tried on a small image.
-use Rattle.qcow2_laws.proofs.Common.{◌≡◌, ℕ, zero, suc, ◌%◌, ◌<◌, ◌≤◌, ◌≢◌, ◌⊎◌, length, refl, arith, inl, inr, lit≤, eqb, [], Some, None, true, false, ◌==◌, ◌||◌, agree_below_at, or_cases, eqb-true, cond-false, ne_eqb, nat_tests, Bytes, byte_at, number_at, sum_below, HeaderFields, header, HeaderReads, l1_entry, l2_entry, reftable_entry, block_count, count_under, count, block_offset, ReftableEntryReads, named_by_cover, table_in, named, named_for_tables, named_by_header, named_by_reftable, named_by_l1_table, named_by_l2_table, named_by_l2_tables, Consistent, IsConsistent, cover, cover_under, cover_of, guest_value, known_byte, Data, Zero, Compressed, Uncovered}
+use Rattle.std.proofs.Common.{◌≡◌, ◌%◌, ◌<◌, ◌≤◌, ◌≢◌, ◌⊎◌, ◌==◌, ◌||◌, ℕ, zero, suc, length, refl, arith, inl, inr, lit≤, eqb, [], Some, None, true, false}
+use Rattle.qcow2_laws.proofs.Common.{agree_below_at, or_cases, eqb-true, cond-false, ne_eqb, nat_tests, Bytes, byte_at, number_at, sum_below, HeaderFields, header, HeaderReads, l1_entry, l2_entry, reftable_entry, block_count, count_under, count, block_offset, ReftableEntryReads, named_by_cover, table_in, named, named_for_tables, named_by_header, named_by_reftable, named_by_l1_table, named_by_l2_table, named_by_l2_tables, Consistent, IsConsistent, cover, cover_under, cover_of, guest_value, known_byte, Data, Zero, Compressed, Uncovered}
 use Rattle.qcow2_laws.proofs.Sums.{sum_below-zero}
 use Rattle.qcow2_disk.specs.Rules.{answered}
 use Rattle.qcow2_laws.specs.Samples.{empty_image, written_image}

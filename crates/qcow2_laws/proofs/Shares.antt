@@ -1,5 +1,6 @@
 -- What a cluster holds: the header, a part of the L1 table or of the reftable, a refblock or an L2 table. Changes of other bytes don't affect it.
-use Rattle.qcow2_laws.proofs.Common.{◌≡◌, ℕ, ◌+◌, ◌-◌, ◌*◌, ◌/◌, ◌%◌, ◌<◌, ◌≤◌, ◌≢◌, Bool, true, false, ltb, leb, refl, sym, ap, ◌∙◌, arith, subst, ◌&&◌, cond-true, le-leb, lt-ltb, and_from, div-add-mod', div-mul-add, mod_below, le-div, Bytes, SameFrom, one_if, HeaderFields, cluster_size, entries_per_cluster, reftable_entries, counts_per_block, l1_entry, reftable_entry, count, block_offset, cover, in_cluster, in_run, table_in, named_by_header, named_by_reftable, named_by_l1_table, named_for_tables, table_at, IsTop, SameTop, SameCovers, SameCounts, SameIn}
+use Rattle.std.proofs.Common.{◌≡◌, ◌+◌, ◌-◌, ◌*◌, ◌/◌, ◌%◌, ◌<◌, ◌≤◌, ◌≢◌, ◌&&◌, ℕ, Bool, true, false, ltb, leb, refl, sym, ap, ◌∙◌, arith, subst}
+use Rattle.qcow2_laws.proofs.Common.{cond-true, le-leb, lt-ltb, and_from, div-add-mod', div-mul-add, mod_below, le-div, Bytes, SameFrom, one_if, HeaderFields, cluster_size, entries_per_cluster, reftable_entries, counts_per_block, l1_entry, reftable_entry, count, block_offset, cover, in_cluster, in_run, table_in, named_by_header, named_by_reftable, named_by_l1_table, named_for_tables, table_at, IsTop, SameTop, SameCovers, SameCounts, SameIn}
 use Rattle.qcow2_laws.proofs.Sums.{term_le-sum_below, two_terms_le-sum_below}
 use Rattle.qcow2_laws.proofs.Places.{Sizes, Sizes-from, div_mono, SameFrom-in, l1-same, reftable-same, has_table, has_block, count-same, cover-same}
 use Rattle.qcow2_laws.proofs.Consistency.{in_own, table_in_own}

@@ -1,5 +1,6 @@
 -- What guests read, and what they see of bytes that are written to a cluster of new data.
-use Rattle.qcow2_laws.proofs.Common.{◌≡◌, ℕ, ◌+◌, ◌/◌, ◌%◌, ◌<◌, Bool, List, [], sym, ap, ◌∙◌, arith, subst, Option, mod_below, pow_pos, Bytes, cluster_size, cover, known_byte, guest_value, value_under, named_by_guest, CoverIsAligned, L2Mapping, Data, Zero, Uncovered, Disk, disk, GivenBytes, names, named_in_either, DriverState, StateInvariant, SafeStep, IsInternalBut, SameL1Table}
+use Rattle.std.proofs.Common.{◌≡◌, ◌+◌, ◌/◌, ◌%◌, ◌<◌, ℕ, Bool, List, [], sym, ap, ◌∙◌, arith, subst}
+use Rattle.qcow2_laws.proofs.Common.{Option, mod_below, pow_pos, Bytes, cluster_size, cover, known_byte, guest_value, value_under, named_by_guest, CoverIsAligned, L2Mapping, Data, Zero, Uncovered, Disk, disk, GivenBytes, names, named_in_either, DriverState, StateInvariant, SafeStep, IsInternalBut, SameL1Table}
 use Rattle.qcow2_laws.proofs.Guests.{own_names, own_data_of}
 use Rattle.qcow2_laws.proofs.Places.{in_one}
 use Rattle.qcow2_laws.proofs.Mixes.{tied}

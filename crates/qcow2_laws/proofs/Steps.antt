@@ -1,5 +1,6 @@
 -- Each step of the driver is a safe step.
-use Rattle.qcow2_laws.proofs.Common.{inl, inr, [], ◌∷◌, ◌++◌, refl, sym, subst, header, L2DependsOnRb, RbDependsOnL2, CrashInvariant, one_at, with_new_data, with_new_tables, without_old_tables, without_old_data, stop_of_kept, kept_more}
+use Rattle.std.proofs.Common.{◌∷◌, ◌++◌, inl, inr, [], refl, sym, subst}
+use Rattle.qcow2_laws.proofs.Common.{header, L2DependsOnRb, RbDependsOnL2, CrashInvariant, one_at, with_new_data, with_new_tables, without_old_tables, without_old_data, stop_of_kept, kept_more}
 use Rattle.qcow2_laws.specs.Laws.{SoundIsConsistent, MixIsSafe, TableIsWritten, CountIsChanged, PendingIsChanged, EntryIsChanged, DataIsWritten, TableIsNamed, HeaderIsWritten, StepsCompose}
 use Rattle.qcow2_laws.proofs.Mixes.{mixed_crash_invariant, turned_crash_invariant}
 use Rattle.qcow2_laws.proofs.Consistency.{crash_invariant_consistent, known_consistent}

@@ -1,5 +1,6 @@
 -- Sums over a range.
-use Rattle.qcow2_laws.proofs.Common.{◌≡◌, ℕ, zero, suc, ◌+◌, ◌*◌, ◌<◌, ◌≤◌, ◌≢◌, refl, sym, ap, ◌∙◌, arith, inl, inr, cases_eq, cases_lt, sum_below}
+use Rattle.std.proofs.Common.{◌≡◌, ◌+◌, ◌*◌, ◌<◌, ◌≤◌, ◌≢◌, ℕ, zero, suc, refl, sym, ap, ◌∙◌, arith, inl, inr}
+use Rattle.qcow2_laws.proofs.Common.{cases_eq, cases_lt, sum_below}
 
 pub sum_below-same : (n : ℕ) (f g : ℕ → ℕ) → ((i : ℕ) → i < n → f i ≡ g i) → sum_below n f ≡ sum_below n g
 unfolding sum_below

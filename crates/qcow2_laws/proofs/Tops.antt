@@ -1,5 +1,6 @@
 -- What stays the same if the header, the L1 table and the reftable do.
-use Rattle.qcow2_laws.proofs.Common.{◌≡◌, ℕ, ◌+◌, ◌<◌, refl, sym, ap, ◌∙◌, arith, subst, cond, add-zero, zero, suc, Bytes, bytes_from, SameFrom, HeaderFields, header, HeaderReads, cluster_size, reftable_entries, l1_entry, reftable_entry, host_offset, block_offset, is_copied, L1EntryReads, ReftableEntryReads, named_for_tables, named_by_reftable, named_by_l1_table, table_in, IsAligned, IsOfHeaderRest, KeepsHeaderRest, marked_by_l1_table, IsTop, SameTop}
+use Rattle.std.proofs.Common.{◌≡◌, ◌+◌, ◌<◌, ℕ, refl, sym, ap, ◌∙◌, arith, subst, cond, add-zero, zero, suc}
+use Rattle.qcow2_laws.proofs.Common.{Bytes, bytes_from, SameFrom, HeaderFields, header, HeaderReads, cluster_size, reftable_entries, l1_entry, reftable_entry, host_offset, block_offset, is_copied, L1EntryReads, ReftableEntryReads, named_for_tables, named_by_reftable, named_by_l1_table, table_in, IsAligned, IsOfHeaderRest, KeepsHeaderRest, marked_by_l1_table, IsTop, SameTop}
 use Rattle.qcow2_metadata.proofs.SameHeader.{header-same, well_formed-same}
 use Rattle.qcow2_laws.proofs.Sums.{sum_below-same}
 use Rattle.qcow2_laws.proofs.Places.{SameFrom-sym, Sizes, Sizes-from}

@@ -1,5 +1,6 @@
 -- Writes to clusters without a table keep the invariant, and leave a stop as safe as before, with what they give.
-use Rattle.qcow2_laws.proofs.Common.{false, ◌≡◌, ℕ, ◌+◌, ◌*◌, ◌/◌, ◌%◌, ◌<◌, ◌≤◌, ◌⊎◌, List, [], refl, sym, ap, ◌∙◌, arith, inl, inr, subst, max, cases_eq, cases_lt, div-add-mod', mod_below, mod-mul-add, pow_pos, Bytes, HeaderFields, cluster_size, has_data_file, count, cover, Value, known_byte, guest_value, value_under, named_for_tables, in_cluster, named_by_cover, named_by_guest, marked_by_cover, CoverIsAligned, L2Mapping, Data, Zero, Compressed, Uncovered, GivenBytes, IsGiven, Checkpoint, checkpoint_with, StopOkEverywhere, Direction, Neither, L2DependsOnRb, RbDependsOnL2, over_guests, names, marks, named_in_either, marked_by_guest, Pending, cluster, CrashInvariant, SameTop, SameCovers, SameCounts, SameIn, IsUnnamed, IsWritten}
+use Rattle.std.proofs.Common.{◌≡◌, ◌+◌, ◌*◌, ◌/◌, ◌%◌, ◌<◌, ◌≤◌, ◌⊎◌, false, ℕ, List, [], refl, sym, ap, ◌∙◌, arith, inl, inr, subst, max}
+use Rattle.qcow2_laws.proofs.Common.{cases_eq, cases_lt, div-add-mod', mod_below, mod-mul-add, pow_pos, Bytes, HeaderFields, cluster_size, has_data_file, count, cover, Value, known_byte, guest_value, value_under, named_for_tables, in_cluster, named_by_cover, named_by_guest, marked_by_cover, CoverIsAligned, L2Mapping, Data, Zero, Compressed, Uncovered, GivenBytes, IsGiven, Checkpoint, checkpoint_with, StopOkEverywhere, Direction, Neither, L2DependsOnRb, RbDependsOnL2, over_guests, names, marks, named_in_either, marked_by_guest, Pending, cluster, CrashInvariant, SameTop, SameCovers, SameCounts, SameIn, IsUnnamed, IsWritten}
 use Rattle.qcow2_laws.proofs.Clusters.{Good, Written, new_data_unnamed, new_tables_unnamed, unused_unnamed, named_once}
 use Rattle.qcow2_laws.proofs.Places.{Sizes, Sizes-from, in_one}
 use Rattle.qcow2_laws.proofs.Guests.{own_names, own_marks, own_data_of, over_guests-same, guest_le, two_guests_le, names_within, marks-le}

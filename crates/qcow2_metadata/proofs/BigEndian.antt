@@ -1,5 +1,6 @@
 -- Numbers made of bytes.
-use Rattle.qcow2_metadata.proofs.Common.{◌≡◌, ℕ, zero, suc, ◌+◌, ◌-◌, ◌<◌, List, get_or, take, drop, refl, ap, ◌∙◌, arith, lit<, w32, w64, from_be_bytes, get_or-take, get_or-drop, Bytes, byte_at, number_at, SameFrom}
+use Rattle.std.proofs.Common.{◌≡◌, ◌+◌, ◌-◌, ◌<◌, ℕ, zero, suc, List, get_or, take, drop, refl, ap, ◌∙◌, arith, lit<}
+use Rattle.qcow2_metadata.proofs.Common.{w32, w64, from_be_bytes, get_or-take, get_or-drop, Bytes, byte_at, number_at, SameFrom}
 
 -- a number depends on its own bytes alone
 pub number_at-same : (b c : Bytes) (place n : ℕ) → SameFrom place n b c → number_at b place n ≡ number_at c place n

@@ -1,5 +1,5 @@
 -- The names that several proofs cite, passed on from one place. Declares nothing.
-pub use Rattle.std.proofs.Common.{◌≡◌, ℕ, zero, suc, ◌+◌, ◌-◌, ◌<◌, List, get_or, take, drop, refl, ap, ◌∙◌, arith, lit<, ◌*◌, ◌/◌, ◌%◌, ◌^◌, ◌≤◌, inl, inr, subst, [], ◌++◌, Option, nat_lt, if◌then◌else◌, length, replicate, sym, ◌≢◌, ◌==◌, Bool, true, false, ◌∷◌, Some, None, not, eqb, IfSome, ◌⊎◌, is_some, unwrap_or, min, zero-add, Result, Ok, Err, OnOk, rules, option_copied, tests, ⊎_elim, pow-suc, mul_assoc, mul-pos, leb, ltb, set, cond, option_map}
+pub use Rattle.std.proofs.Common.{ℕ, zero, suc, List, get_or, take, drop, refl, ap, ◌∙◌, arith, lit<, inl, inr, subst, [], Option, nat_lt, length, replicate, sym, Bool, true, false, Some, None, not, eqb, IfSome, is_some, unwrap_or, min, zero-add, Result, Ok, Err, OnOk, rules, option_copied, tests, ⊎_elim, pow-suc, mul_assoc, mul-pos, leb, ltb, set, cond, option_map}
 pub use Rattle.std.proofs.Math.Nat.{div-mul-le_self, mul-le-mul_right, zero-div, zero-mod}
 pub use Rattle.std.proofs.Math.Pow.{pow_mono}
 pub use Rattle.std.proofs.lemmas.Bool.{cases_eq, cases_lt, cond-false, cond-true, le-ltb, lt-ltb, eq-eqb, ne_eqb, and_right, le-leb, lt-leb, and_from, and_left}
@@ -9,7 +9,7 @@ pub use Rattle.std.proofs.lemmas.Nat.{and_mask, mod_below, pow-add, from_be_byte
 pub use Rattle.std.proofs.lemmas.Nat.Bits.{and_high, and_pow, bit_at-lt, ones_shr}
 pub use Rattle.std.proofs.lemmas.Result.{err_from_is_err_and, IfOk-weaker, IfErr-weaker}
 pub use Rattle.std.specs.Int.{w32, w64, from_be_bytes, to_be_bytes, bit_at, w16}
-pub use Rattle.std.specs.Prelude.{bit_and, IsUtf8, ◌&&◌, bit_or, ◌||◌, IsTrue}
+pub use Rattle.std.specs.Prelude.{bit_and, IsUtf8, bit_or, IsTrue}
 pub use Rattle.image_access.proofs.Bytes.{length-bytes_at, put_mid-overwritten, byte_at-overwritten, byte_at-overwritten_outside, length-overwritten_within, byte_at-bytes_at, byte_at-overwritten_behind, byte_at_past, byte_at-overwritten_below, whole}
 unfoldable pub use Rattle.image_access.specs.Contents.{bytes_at, overwritten}
 pub use Rattle.image_access.specs.Moments.{ContentsBecome, StorageView, Changes}

@@ -1,5 +1,6 @@
 -- Tables of entries of 64 bits.
-use Rattle.qcow2_metadata.proofs.Common.{◌≡◌, ℕ, ◌+◌, ◌-◌, ◌*◌, ◌/◌, ◌%◌, ◌^◌, ◌≤◌, inl, inr, subst, lit<, List, [], ◌++◌, Option, nat_lt, if◌then◌else◌, length, replicate, refl, sym, ap, ◌∙◌, arith, bit_and, drop-replicate, get_or_append_left, get_or-append_right, length-replicate, nil_from_length, cases_eq, cases_lt, cond-false, cond-true, le-ltb, lt-ltb, and_block, and_le_l, and_mask, mod_below, pow-add, shr_split, bytes_at, overwritten, byte_at_past, length-bytes_at, put_mid-overwritten, byte_at, number_at, HeaderFields, reftable_entries, l1_entry, l2_entry, reftable_entry, L1EntryReads, ReftableEntryReads, entry_at, ChangesEntry, EntryTableView, EachReads, HasRoomIfPlaced, IsClear, IsL1TableOf, IsReasonNotToLoad, IsRefTableOf, NamesL1Table, NamesRefTable, PassesLimit, SomeUnread, MetadataError, Storage, Memory, Version, Unaligned, Limit, Format}
+use Rattle.std.proofs.Common.{◌≡◌, ◌+◌, ◌-◌, ◌*◌, ◌/◌, ◌%◌, ◌^◌, ◌≤◌, ◌++◌, if◌then◌else◌, ℕ, inl, inr, subst, lit<, List, [], Option, nat_lt, length, replicate, refl, sym, ap, ◌∙◌, arith}
+use Rattle.qcow2_metadata.proofs.Common.{bit_and, drop-replicate, get_or_append_left, get_or-append_right, length-replicate, nil_from_length, cases_eq, cases_lt, cond-false, cond-true, le-ltb, lt-ltb, and_block, and_le_l, and_mask, mod_below, pow-add, shr_split, bytes_at, overwritten, byte_at_past, length-bytes_at, put_mid-overwritten, byte_at, number_at, HeaderFields, reftable_entries, l1_entry, l2_entry, reftable_entry, L1EntryReads, ReftableEntryReads, entry_at, ChangesEntry, EntryTableView, EachReads, HasRoomIfPlaced, IsClear, IsL1TableOf, IsReasonNotToLoad, IsRefTableOf, NamesL1Table, NamesRefTable, PassesLimit, SomeUnread, MetadataError, Storage, Memory, Version, Unaligned, Limit, Format}
 use Rattle.qcow2_metadata.proofs.TableEntries.{byte_at-zeros, entry_at-loaded, entry_at-zeros, number_at-moved, number_at-zeros}
 
 -- past its end a table has no entry

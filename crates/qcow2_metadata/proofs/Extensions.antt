@@ -1,5 +1,6 @@
 -- A walk over the extensions of a header.
-use Rattle.qcow2_metadata.proofs.Common.{◌≡◌, ◌≢◌, ℕ, ◌+◌, ◌<◌, ◌≤◌, ◌==◌, Bool, true, false, List, [], ◌∷◌, length, get_or, take, drop, Option, Some, None, refl, sym, ap, ◌∙◌, subst, ⊎_elim, if◌then◌else◌, arith, length-take, length-drop, get_or-take, get_or-drop, ext_get_or, length-map-range_with_len, get_or-map-range_with_len, Bytes, byte_at, bytes_from, number_at, IsUtf8, IsExtension, AreExtensions, ExtensionsRead, IsNameKind, behind_extension, first_of_kind, backing_format_kind, data_file_kind, first_so_far, AreNamed}
+use Rattle.std.proofs.Common.{◌≡◌, ◌≢◌, ◌+◌, ◌<◌, ◌≤◌, ◌==◌, ◌∷◌, if◌then◌else◌, ℕ, Bool, true, false, List, [], length, get_or, take, drop, Option, Some, None, refl, sym, ap, ◌∙◌, subst, ⊎_elim, arith}
+use Rattle.qcow2_metadata.proofs.Common.{length-take, length-drop, get_or-take, get_or-drop, ext_get_or, length-map-range_with_len, get_or-map-range_with_len, Bytes, byte_at, bytes_from, number_at, IsUtf8, IsExtension, AreExtensions, ExtensionsRead, IsNameKind, behind_extension, first_of_kind, backing_format_kind, data_file_kind, first_so_far, AreNamed}
 
 -- no extension and no end begins where less than eight bytes are left
 pub stand_no_room : (b : Bytes) (limit place : ℕ) → limit < place + 8 → (list : List (ℕ × List ℕ)) → AreExtensions b limit place list → ⊥

@@ -1,5 +1,6 @@
 -- One-bit refcounts that are all 1.
-use Rattle.qcow2_metadata.proofs.Common.{◌≡◌, ◌≢◌, ℕ, zero, suc, ◌+◌, ◌-◌, ◌*◌, ◌/◌, ◌%◌, ◌^◌, ◌<◌, ◌≤◌, List, length, inl, inr, ap, ◌∙◌, sym, refl, pow-suc, arith, cases_eq, Bytes, byte_at, number_at, RefBlockView, count_in, counts_of, IsRefBlock}
+use Rattle.std.proofs.Common.{◌≡◌, ◌≢◌, ◌+◌, ◌-◌, ◌*◌, ◌/◌, ◌%◌, ◌^◌, ◌<◌, ◌≤◌, ℕ, zero, suc, List, length, inl, inr, ap, ◌∙◌, sym, refl, pow-suc, arith}
+use Rattle.qcow2_metadata.proofs.Common.{cases_eq, Bytes, byte_at, number_at, RefBlockView, count_in, counts_of, IsRefBlock}
 use Rattle.qcow2_metadata.proofs.Quotients.{multiple_of_8}
 use Rattle.qcow2_metadata.proofs.RefCounts.{narrow_count}
 

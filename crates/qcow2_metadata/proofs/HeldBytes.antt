@@ -1,5 +1,6 @@
 -- Bytes at an offset of a file.
-use Rattle.qcow2_metadata.proofs.Common.{◌≡◌, ℕ, ◌+◌, ◌-◌, ◌^◌, ◌<◌, List, ◌++◌, length, refl, sym, ap, ◌∙◌, arith, w32, w64, to_be_bytes, length-append, get_or_append_left, get_or-append_right, ext_get_or, length-map-range_with_len, get_or-map-range_with_len, from_be_bytes-to_be_bytes_4, from_be_bytes-to_be_bytes_8, overwritten, byte_at-overwritten, Bytes, byte_at, bytes_from, number_at}
+use Rattle.std.proofs.Common.{◌≡◌, ◌+◌, ◌-◌, ◌^◌, ◌<◌, ◌++◌, ℕ, List, length, refl, sym, ap, ◌∙◌, arith}
+use Rattle.qcow2_metadata.proofs.Common.{w32, w64, to_be_bytes, length-append, get_or_append_left, get_or-append_right, ext_get_or, length-map-range_with_len, get_or-map-range_with_len, from_be_bytes-to_be_bytes_4, from_be_bytes-to_be_bytes_8, overwritten, byte_at-overwritten, Bytes, byte_at, bytes_from, number_at}
 use Rattle.qcow2_metadata.proofs.BigEndian.{from_be_bytes-4, from_be_bytes-8}
 
 abbrev pub Holds : Bytes → ℕ → List ℕ → Type 0

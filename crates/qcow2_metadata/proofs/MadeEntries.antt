@@ -1,5 +1,6 @@
 -- The meaning of entries that are encoded here.
-use Rattle.qcow2_metadata.proofs.Common.{◌≡◌, ℕ, ◌+◌, ◌-◌, ◌*◌, ◌/◌, ◌%◌, ◌^◌, ◌<◌, ◌≤◌, Bool, true, false, not, eqb, Option, Some, None, refl, sym, ap, ◌∙◌, arith, inl, inr, lit<, mul_assoc, mul-pos, ◌&&◌, ◌||◌, if◌then◌else◌, IfSome, IsTrue, bit_or, cases_eq, eq-eqb, ne_eqb, cond-true, cond-false, and_right, or_shifted, pow-add, pow_pos, has_bit, host_offset, is_copied, cover_of, has_host, entry_at, ChangesEntry, L2TableView, cover_at, IsEntryHost, copied_entry, zero_entry, zero_cover, copied_host, Data, Zero, Compressed, Uncovered}
+use Rattle.std.proofs.Common.{◌≡◌, ◌+◌, ◌-◌, ◌*◌, ◌/◌, ◌%◌, ◌^◌, ◌<◌, ◌≤◌, ◌&&◌, ◌||◌, if◌then◌else◌, ℕ, Bool, true, false, not, eqb, Option, Some, None, refl, sym, ap, ◌∙◌, arith, inl, inr, lit<, mul_assoc, mul-pos, IfSome}
+use Rattle.qcow2_metadata.proofs.Common.{IsTrue, bit_or, cases_eq, eq-eqb, ne_eqb, cond-true, cond-false, and_right, or_shifted, pow-add, pow_pos, has_bit, host_offset, is_copied, cover_of, has_host, entry_at, ChangesEntry, L2TableView, cover_at, IsEntryHost, copied_entry, zero_entry, zero_cover, copied_host, Data, Zero, Compressed, Uncovered}
 use Rattle.qcow2_metadata.specs.L2Mapping.{greatest_offset}
 
 or_true : (b : Bool) → b || true ≡ true

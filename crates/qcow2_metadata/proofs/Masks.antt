@@ -1,5 +1,6 @@
 -- Masks and shifts against the bits of a number.
-use Rattle.qcow2_metadata.proofs.Common.{◌≡◌, ℕ, ◌+◌, ◌-◌, ◌*◌, ◌/◌, ◌%◌, ◌^◌, ◌<◌, ◌≤◌, not, eqb, sym, ap, ◌∙◌, arith, inl, inr, bit_and, bit_at, cases_eq, eq-eqb, ne_eqb, one_shl, and_mask, field_of, pow_pos, and_le_r, mod_below, pow_mono, and_pow, bit_at-lt, bits_of, has_bit}
+use Rattle.std.proofs.Common.{◌≡◌, ◌+◌, ◌-◌, ◌*◌, ◌/◌, ◌%◌, ◌^◌, ◌<◌, ◌≤◌, ℕ, not, eqb, sym, ap, ◌∙◌, arith, inl, inr}
+use Rattle.qcow2_metadata.proofs.Common.{bit_and, bit_at, cases_eq, eq-eqb, ne_eqb, one_shl, and_mask, field_of, pow_pos, and_le_r, mod_below, pow_mono, and_pow, bit_at-lt, bits_of, has_bit}
 
 -- `n & (1 << k) != 0`
 pub mask_tests_bit : (n k : ℕ) → not (eqb (bit_and n (2 ^ k)) 0) ≡ has_bit n k

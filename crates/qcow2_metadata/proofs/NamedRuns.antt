@@ -1,5 +1,6 @@
 -- The host clusters that an entry refers to, as a run.
-use Rattle.qcow2_metadata.proofs.Common.{◌≡◌, inl, inr, ℕ, ◌+◌, ◌-◌, ◌*◌, ◌/◌, ◌^◌, ◌≤◌, eqb, leb, ltb, Option, Some, None, refl, sym, ap, ◌∙◌, arith, ◌&&◌, div-mul-le_self, cases_lt, eq-eqb, ne_eqb, le-leb, lt-leb, lt-ltb, le-ltb, and_from, and_left, and_right, pow_pos, le-div, one_if, HeaderFields, Data, Zero, Compressed, Uncovered}
+use Rattle.std.proofs.Common.{◌≡◌, ◌+◌, ◌-◌, ◌*◌, ◌/◌, ◌^◌, ◌≤◌, ◌&&◌, inl, inr, ℕ, eqb, leb, ltb, Option, Some, None, refl, sym, ap, ◌∙◌, arith}
+use Rattle.qcow2_metadata.proofs.Common.{div-mul-le_self, cases_lt, eq-eqb, ne_eqb, le-leb, lt-leb, lt-ltb, le-ltb, and_from, and_left, and_right, pow_pos, le-div, one_if, HeaderFields, Data, Zero, Compressed, Uncovered}
 use Rattle.qcow2_metadata.specs.Named.{named_by_cover}
 use Rattle.qcow2_metadata.specs.L2Mapping.{IsInReach, run_of_bytes, named_run, run_has}
 use Rattle.qcow2_metadata.specs.declared.l2_mapping.L2Mapping.{L2Mapping}

@@ -1,5 +1,6 @@
 -- The numbers and names of a new header satisfy the invariant of headers.
-use Rattle.qcow2_metadata.proofs.Common.{◌≡◌, ◌⊎◌, inl, inr, ℕ, ◌^◌, ◌≤◌, List, [], length, Option, Some, None, is_some, unwrap_or, if◌then◌else◌, refl, arith, pow_mono, IsKept, IsShort, CanBeNew, extension_size, new_fields}
+use Rattle.std.proofs.Common.{◌≡◌, ◌⊎◌, ◌^◌, ◌≤◌, if◌then◌else◌, inl, inr, ℕ, List, [], length, Option, Some, None, is_some, unwrap_or, refl, arith}
+use Rattle.qcow2_metadata.proofs.Common.{pow_mono, IsKept, IsShort, CanBeNew, extension_size, new_fields}
 
 pub short_name : (name : Option (List ℕ)) → length (unwrap_or name []) ≤ 2097152 → IsShort name
 short_name None short = tt

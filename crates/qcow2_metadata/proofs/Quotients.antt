@@ -1,5 +1,6 @@
 -- Quotients by cluster sizes and table sizes.
-use Rattle.qcow2_metadata.proofs.Common.{◌≡◌, ℕ, zero, suc, ◌+◌, ◌-◌, ◌*◌, ◌/◌, ◌%◌, ◌^◌, ◌<◌, ◌≤◌, ◌≢◌, min, ap, ◌∙◌, arith, inl, inr, cases_eq, cases_lt, pow_mono, ones_shr, pow-add, pow_pos, shl-shr, div-mul-add, mod-mul-add, div-add-mod'}
+use Rattle.std.proofs.Common.{◌≡◌, ◌+◌, ◌-◌, ◌*◌, ◌/◌, ◌%◌, ◌^◌, ◌<◌, ◌≤◌, ◌≢◌, ℕ, zero, suc, min, ap, ◌∙◌, arith, inl, inr}
+use Rattle.qcow2_metadata.proofs.Common.{cases_eq, cases_lt, pow_mono, ones_shr, pow-add, pow_pos, shl-shr, div-mul-add, mod-mul-add, div-add-mod'}
 
 -- the entries of a cluster are a power of two
 pub eighth_is : (k : ℕ) → 3 ≤ k → 2 ^ k / 8 ≡ 2 ^ (k - 3)

@@ -1,5 +1,6 @@
 -- A header that was written with its names at their new offsets reads back.
-use Rattle.qcow2_metadata.proofs.Common.{◌≡◌, ◌≢◌, ℕ, ◌+◌, ◌-◌, ◌^◌, ◌<◌, ◌≤◌, ◌==◌, Bool, false, List, [], ◌∷◌, ◌++◌, length, replicate, Option, Some, None, is_some, unwrap_or, if◌then◌else◌, refl, sym, ap, ◌∙◌, subst, zero-add, arith, lit<, IsUtf8, w32, w64, to_be_bytes, eq-eqb, ne_eqb, length-append, length-replicate, Four, Eight, Bytes, byte_at, bytes_from, number_at, HeaderFields, HeaderView, header, cluster_size, backing_name, backing_format_kind, data_file_kind, first_of_kind, behind_extension, rounded_up, IsInRange, IsWithinLimits, IsExtension, AreExtensions, BackingNameReads, IsHeaderOf, IsHeaderIn, numbers_of, bytes_of_numbers, AllFit, extension_bytes, name_extension, header_bytes, header_written, extension_size, name_place, HasNewNames, IsText}
+use Rattle.std.proofs.Common.{◌≡◌, ◌≢◌, ◌+◌, ◌-◌, ◌^◌, ◌<◌, ◌≤◌, ◌==◌, ◌∷◌, ◌++◌, if◌then◌else◌, ℕ, Bool, false, List, [], length, replicate, Option, Some, None, is_some, unwrap_or, refl, sym, ap, ◌∙◌, subst, zero-add, arith, lit<}
+use Rattle.qcow2_metadata.proofs.Common.{IsUtf8, w32, w64, to_be_bytes, eq-eqb, ne_eqb, length-append, length-replicate, Four, Eight, Bytes, byte_at, bytes_from, number_at, HeaderFields, HeaderView, header, cluster_size, backing_name, backing_format_kind, data_file_kind, first_of_kind, behind_extension, rounded_up, IsInRange, IsWithinLimits, IsExtension, AreExtensions, BackingNameReads, IsHeaderOf, IsHeaderIn, numbers_of, bytes_of_numbers, AllFit, extension_bytes, name_extension, header_bytes, header_written, extension_size, name_place, HasNewNames, IsText}
 use Rattle.qcow2_metadata.specs.declared.header.write.Number.{Number}
 use Rattle.qcow2_metadata.proofs.ShortNames.{cluster_small}
 use Rattle.qcow2_metadata.proofs.HeldBytes.{Holds, holds_written, holds_left, holds_right, held_4, held_8, held_bytes}

@@ -1,5 +1,6 @@
 -- Refcounts in the bytes of refblocks.
-use Rattle.qcow2_metadata.proofs.Common.{◌≡◌, ◌≢◌, ℕ, zero, suc, ◌+◌, ◌-◌, ◌*◌, ◌/◌, ◌%◌, ◌^◌, ◌<◌, ◌≤◌, inl, inr, List, [], ◌∷◌, length, get_or, set, replicate, Bool, true, false, cond, refl, sym, ap, ◌∙◌, arith, lit<, zero-add, w16, w32, w64, from_be_bytes, to_be_bytes, mul-le-mul_right, div-mul-le_self, zero-div, zero-mod, cases_eq, cases_lt, length-set, get_or-set_same, get_or-set_other, pow_pos, pow-add, le-div, shl_whole, shr-shr, shr_below, field_of, mod-pow-add, mod_low, mod_below, div-add-mod', div-mul-add, mod-mul-add, from_be_bytes-to_be_bytes_2, from_be_bytes-to_be_bytes_4, from_be_bytes-to_be_bytes_8, overwritten, byte_at-overwritten, byte_at-overwritten_outside, length-overwritten_within, Bytes, byte_at, number_at, block_count, count_in, ChangesCount}
+use Rattle.std.proofs.Common.{◌≡◌, ◌≢◌, ◌+◌, ◌-◌, ◌*◌, ◌/◌, ◌%◌, ◌^◌, ◌<◌, ◌≤◌, ◌∷◌, ℕ, zero, suc, inl, inr, List, [], length, get_or, set, replicate, Bool, true, false, cond, refl, sym, ap, ◌∙◌, arith, lit<, zero-add}
+use Rattle.qcow2_metadata.proofs.Common.{w16, w32, w64, from_be_bytes, to_be_bytes, mul-le-mul_right, div-mul-le_self, zero-div, zero-mod, cases_eq, cases_lt, length-set, get_or-set_same, get_or-set_other, pow_pos, pow-add, le-div, shl_whole, shr-shr, shr_below, field_of, mod-pow-add, mod_low, mod_below, div-add-mod', div-mul-add, mod-mul-add, from_be_bytes-to_be_bytes_2, from_be_bytes-to_be_bytes_4, from_be_bytes-to_be_bytes_8, overwritten, byte_at-overwritten, byte_at-overwritten_outside, length-overwritten_within, Bytes, byte_at, number_at, block_count, count_in, ChangesCount}
 use Rattle.qcow2_metadata.proofs.BigEndian.{number_at-same, from_be_bytes-4, from_be_bytes-8}
 use Rattle.qcow2_metadata.proofs.TableEntries.{number_at-moved, number_at-zeros, byte_at-zeros}
 

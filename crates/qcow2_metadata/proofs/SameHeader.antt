@@ -1,5 +1,6 @@
 -- The header depends only on the bytes of cluster 0.
-use Rattle.qcow2_metadata.proofs.Common.{◌≡◌, ◌≢◌, ℕ, ◌+◌, ◌<◌, ◌≤◌, ◌==◌, Bool, List, [], ◌∷◌, length, Some, None, refl, sym, ap, ◌∙◌, subst, inl, inr, if◌then◌else◌, arith, IsUtf8, ext_get_or, length-map-range_with_len, get_or-map-range_with_len, cases_eq, eq-eqb, Bytes, byte_at, bytes_from, number_at, HeaderFields, HeaderView, header, cluster_size, backing_name, IsInRange, IsExtension, AreExtensions, BackingNameReads, IsWellFormed, HeaderReads, behind_extension, IsHeaderOf, IsReasonToRefuse, IsReasonNotToRead, MetadataError, Storage, Memory, Version, Unaligned, Limit, Format, bytes_at, byte_at-bytes_at}
+use Rattle.std.proofs.Common.{◌≡◌, ◌≢◌, ◌+◌, ◌<◌, ◌≤◌, ◌==◌, ◌∷◌, if◌then◌else◌, ℕ, Bool, List, [], length, Some, None, refl, sym, ap, ◌∙◌, subst, inl, inr, arith}
+use Rattle.qcow2_metadata.proofs.Common.{IsUtf8, ext_get_or, length-map-range_with_len, get_or-map-range_with_len, cases_eq, eq-eqb, Bytes, byte_at, bytes_from, number_at, HeaderFields, HeaderView, header, cluster_size, backing_name, IsInRange, IsExtension, AreExtensions, BackingNameReads, IsWellFormed, HeaderReads, behind_extension, IsHeaderOf, IsReasonToRefuse, IsReasonNotToRead, MetadataError, Storage, Memory, Version, Unaligned, Limit, Format, bytes_at, byte_at-bytes_at}
 use Rattle.qcow2_metadata.proofs.BigEndian.{number_at-same}
 
 -- the bytes from one place to another are the same

@@ -1,5 +1,6 @@
 -- Names in cluster 0 are short.
-use Rattle.qcow2_metadata.proofs.Common.{◌≡◌, ℕ, ◌^◌, ◌≤◌, ◌==◌, Bool, true, false, List, [], ◌∷◌, length, Option, Some, None, sym, subst, inl, inr, if◌then◌else◌, arith, cases_eq, eq-eqb, ne_eqb, length-map-range_with_len, pow_mono, Bytes, bytes_from, HeaderFields, IsInRange, IsWithinLimits, IsShort, IsKept, AreExtensions, BackingNameReads, backing_name, behind_extension, first_of_kind, cluster_size, AreNamed}
+use Rattle.std.proofs.Common.{◌≡◌, ◌^◌, ◌≤◌, ◌==◌, ◌∷◌, if◌then◌else◌, ℕ, Bool, true, false, List, [], length, Option, Some, None, sym, subst, inl, inr, arith}
+use Rattle.qcow2_metadata.proofs.Common.{cases_eq, eq-eqb, ne_eqb, length-map-range_with_len, pow_mono, Bytes, bytes_from, HeaderFields, IsInRange, IsWithinLimits, IsShort, IsKept, AreExtensions, BackingNameReads, backing_name, behind_extension, first_of_kind, cluster_size, AreNamed}
 
 one_short : (is_kind : Bool) (name : List ℕ) (others : Option (List ℕ)) → length name ≤ 2097152 → IsShort others → IsShort (if is_kind then Some name else others)
 one_short true name others short rest = short

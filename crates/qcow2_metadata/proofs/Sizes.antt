@@ -1,5 +1,6 @@
 -- The sizes that follow from a header's numbers, if these are in range.
-use Rattle.qcow2_metadata.proofs.Common.{◌≡◌, ℕ, ◌+◌, ◌-◌, ◌*◌, ◌/◌, ◌%◌, ◌^◌, ◌<◌, ◌≤◌, sym, ap, ◌∙◌, subst, arith, one_shl, pow-add, shl-shr, pow_mono}
+use Rattle.std.proofs.Common.{◌≡◌, ◌+◌, ◌-◌, ◌*◌, ◌/◌, ◌%◌, ◌^◌, ◌<◌, ◌≤◌, ℕ, sym, ap, ◌∙◌, subst, arith}
+use Rattle.qcow2_metadata.proofs.Common.{one_shl, pow-add, shl-shr, pow_mono}
 
 -- `1 << n` lies between the powers of its bounds
 pub shift_low : (low n : ℕ) → low ≤ n → n < 64 → 2 ^ low ≤ 1 * 2 ^ n % 2 ^ 64

@@ -1,5 +1,6 @@
 -- A header is still the one in its contents after the same field is written to both.
-use Rattle.qcow2_metadata.proofs.Common.{◌≡◌, ◌≢◌, ◌⊎◌, inl, inr, ℕ, ◌+◌, ◌^◌, ◌<◌, ◌≤◌, ◌==◌, List, [], ◌∷◌, length, replicate, if◌then◌else◌, refl, sym, ap, ◌∙◌, subst, arith, eq-eqb, w64, to_be_bytes, overwritten, byte_at-overwritten_behind, Four, Eight, Bytes, byte_at, number_at, HeaderFields, HeaderView, header, backing_name, with_fields, with_size, with_l1_table, with_reftable, without_autoclear, IsInRange, IsWithinLimits, IsWellFormed, IsHeaderOf, IsHeaderIn, bytes_of_numbers, size_written, l1_table_pointer_written, reftable_pointer_written, autoclear_cleared}
+use Rattle.std.proofs.Common.{◌≡◌, ◌≢◌, ◌⊎◌, ◌+◌, ◌^◌, ◌<◌, ◌≤◌, ◌==◌, ◌∷◌, if◌then◌else◌, inl, inr, ℕ, List, [], length, replicate, refl, sym, ap, ◌∙◌, subst, arith}
+use Rattle.qcow2_metadata.proofs.Common.{eq-eqb, w64, to_be_bytes, overwritten, byte_at-overwritten_behind, Four, Eight, Bytes, byte_at, number_at, HeaderFields, HeaderView, header, backing_name, with_fields, with_size, with_l1_table, with_reftable, without_autoclear, IsInRange, IsWithinLimits, IsWellFormed, IsHeaderOf, IsHeaderIn, bytes_of_numbers, size_written, l1_table_pointer_written, reftable_pointer_written, autoclear_cleared}
 use Rattle.qcow2_metadata.proofs.SameHeader.{is_header_of-same}
 use Rattle.qcow2_metadata.proofs.WrittenHeader.{size_after, l1_table_after, reftable_after, autoclear_after}
 

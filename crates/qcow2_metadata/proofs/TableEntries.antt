@@ -1,5 +1,6 @@
 -- Entries in the bytes of tables.
-use Rattle.qcow2_metadata.proofs.Common.{◌≡◌, ℕ, zero, suc, ◌+◌, ◌*◌, ◌^◌, ◌<◌, ◌≤◌, inl, inr, List, length, replicate, refl, sym, ap, ◌∙◌, arith, w64, to_be_bytes, cases_lt, get_or-replicate, get_or_past, length-replicate, from_be_bytes-to_be_bytes_8, bytes_at, overwritten, byte_at-bytes_at, byte_at-overwritten, byte_at-overwritten_outside, length-overwritten_within, Bytes, byte_at, number_at, l2_entry, entry_at, ChangesEntry}
+use Rattle.std.proofs.Common.{◌≡◌, ◌+◌, ◌*◌, ◌^◌, ◌<◌, ◌≤◌, ℕ, zero, suc, inl, inr, List, length, replicate, refl, sym, ap, ◌∙◌, arith}
+use Rattle.qcow2_metadata.proofs.Common.{w64, to_be_bytes, cases_lt, get_or-replicate, get_or_past, length-replicate, from_be_bytes-to_be_bytes_8, bytes_at, overwritten, byte_at-bytes_at, byte_at-overwritten, byte_at-overwritten_outside, length-overwritten_within, Bytes, byte_at, number_at, l2_entry, entry_at, ChangesEntry}
 use Rattle.qcow2_metadata.proofs.BigEndian.{number_at-same, from_be_bytes-8}
 
 -- a number depends only on its own bytes, wherever they lie

@@ -1,5 +1,6 @@
 -- Tables whose bytes are in a file.
-use Rattle.qcow2_metadata.proofs.Common.{◌≡◌, ℕ, zero, suc, ◌+◌, ◌*◌, ◌/◌, ◌%◌, ◌^◌, ◌<◌, ◌≤◌, List, Result, Ok, Err, length, sym, ap, ◌∙◌, arith, OnOk, bytes_at, overwritten, ContentsBecome, StorageError, length-bytes_at, byte_at-bytes_at, byte_at-overwritten, Bytes, byte_at, number_at, l2_entry, block_count, entry_at, RefBlockView, count_in, IsRefBlock, IsRefBlockAt, L2TableView, IsL2Table, IsL2TableAt}
+use Rattle.std.proofs.Common.{◌≡◌, ◌+◌, ◌*◌, ◌/◌, ◌%◌, ◌^◌, ◌<◌, ◌≤◌, ℕ, zero, suc, List, Result, Ok, Err, length, sym, ap, ◌∙◌, arith, OnOk}
+use Rattle.qcow2_metadata.proofs.Common.{bytes_at, overwritten, ContentsBecome, StorageError, length-bytes_at, byte_at-bytes_at, byte_at-overwritten, Bytes, byte_at, number_at, l2_entry, block_count, entry_at, RefBlockView, count_in, IsRefBlock, IsRefBlockAt, L2TableView, IsL2Table, IsL2TableAt}
 use Rattle.qcow2_metadata.proofs.Quotients.{multiple_of_8}
 use Rattle.qcow2_metadata.proofs.TableEntries.{number_at-moved}
 

@@ -1,5 +1,6 @@
 -- The numbers of a header after some of them were written.
-use Rattle.qcow2_metadata.proofs.Common.{◌≡◌, inl, inr, ℕ, ◌+◌, ◌^◌, ◌<◌, ◌≤◌, ◌==◌, Bool, true, false, List, [], ◌∷◌, ◌++◌, length, replicate, if◌then◌else◌, refl, sym, arith, lit<, cases_lt, overwritten, byte_at-overwritten_below, byte_at-overwritten_behind, Bytes, byte_at, number_at, Four, Eight, bytes_of_numbers, header, with_size, with_l1_table, with_reftable, without_autoclear, w32, w64, to_be_bytes}
+use Rattle.std.proofs.Common.{◌≡◌, ◌+◌, ◌^◌, ◌<◌, ◌≤◌, ◌==◌, ◌∷◌, ◌++◌, if◌then◌else◌, inl, inr, ℕ, Bool, true, false, List, [], length, replicate, refl, sym, arith, lit<}
+use Rattle.qcow2_metadata.proofs.Common.{cases_lt, overwritten, byte_at-overwritten_below, byte_at-overwritten_behind, Bytes, byte_at, number_at, Four, Eight, bytes_of_numbers, header, with_size, with_l1_table, with_reftable, without_autoclear, w32, w64, to_be_bytes}
 use Rattle.qcow2_metadata.proofs.BigEndian.{number_at-same}
 use Rattle.qcow2_metadata.proofs.HeldBytes.{holds_written, holds_left, holds_right, held_4, held_8}
 

@@ -1,5 +1,6 @@
 -- What the file holds of a written table.
-use Rattle.qcow2_metadata.proofs.Common.{◌≡◌, ◌≢◌, ℕ, ◌+◌, ◌*◌, ◌%◌, ◌^◌, ◌<◌, ◌≤◌, inl, inr, List, Option, Some, None, Result, Ok, Err, nat_lt, if◌then◌else◌, length, sym, ap, ◌∙◌, subst, arith, IfSome, OnOk, w64, to_be_bytes, cases_eq, cases_lt, cond-false, cond-true, le-ltb, lt-ltb, from_be_bytes-to_be_bytes_8, overwritten, StorageView, ContentsBecome, Changes, StorageError, byte_at-overwritten, byte_at-overwritten_outside, byte_at, number_at, HeaderFields, reftable_entries, l1_entry, l2_entry, reftable_entry, entry_at, EntryTableView, entry_count, IsL1TableOf, IsL1TableBut, IsRefTableOf, IsRefTableBut, NamesL1Table, NamesRefTable}
+use Rattle.std.proofs.Common.{◌≡◌, ◌≢◌, ◌+◌, ◌*◌, ◌%◌, ◌^◌, ◌<◌, ◌≤◌, if◌then◌else◌, ℕ, inl, inr, List, Option, Some, None, Result, Ok, Err, nat_lt, length, sym, ap, ◌∙◌, subst, arith, IfSome, OnOk}
+use Rattle.qcow2_metadata.proofs.Common.{w64, to_be_bytes, cases_eq, cases_lt, cond-false, cond-true, le-ltb, lt-ltb, from_be_bytes-to_be_bytes_8, overwritten, StorageView, ContentsBecome, Changes, StorageError, byte_at-overwritten, byte_at-overwritten_outside, byte_at, number_at, HeaderFields, reftable_entries, l1_entry, l2_entry, reftable_entry, entry_at, EntryTableView, entry_count, IsL1TableOf, IsL1TableBut, IsRefTableOf, IsRefTableBut, NamesL1Table, NamesRefTable}
 use Rattle.qcow2_metadata.proofs.BigEndian.{number_at-same, from_be_bytes-8}
 use Rattle.qcow2_metadata.proofs.TableEntries.{number_at-moved}
 use Rattle.qcow2_metadata.proofs.EntryTables.{entry_at_past}

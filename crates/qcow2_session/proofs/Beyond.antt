@@ -1,5 +1,6 @@
 -- When a range is refused as beyond the size.
-use Rattle.qcow2_session.proofs.Common.{◌≡◌, ◌+◌, ◌≤◌, ℕ, IsTrue, subst, arith, common_steps, ImageError, Qcow2, size_of, passes, IsRightlyBeyond}
+use Rattle.std.proofs.Common.{◌≡◌, ◌+◌, ◌≤◌, ℕ, IsTrue, subst, arith}
+use Rattle.qcow2_session.proofs.Common.{common_steps, ImageError, Qcow2, size_of, passes, IsRightlyBeyond}
 
 -- a part passes the size only where the whole does
 pub part_passes : (size offset n at m : ℕ) → offset ≤ at → at + m ≤ offset + n → IsTrue (passes size at m) → IsTrue (passes size offset n)

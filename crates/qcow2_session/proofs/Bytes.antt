@@ -1,5 +1,6 @@
 -- Bytes at an offset of a disk, in parts.
-use Rattle.qcow2_session.proofs.Common.{◌≡◌, ◌⊎◌, inl, inr, ⊎_elim, ℕ, ◌+◌, ◌-◌, ◌<◌, ◌≤◌, leb, ltb, min, List, [], ◌∷◌, ◌++◌, take, drop, length, true, false, refl, sym, ap, ◌∙◌, subst, arith, cond-true, cond-false, cases_Bool, leb-true, ltb-true, leb-false, ltb-false, take-append-le, length-take-le, common_steps, fun_ext, byte_at, laid_over, is_within, Value, known_byte, Disk, with_bytes, IsGiven, given_of, Shows}
+use Rattle.std.proofs.Common.{◌≡◌, ◌⊎◌, ◌+◌, ◌-◌, ◌<◌, ◌≤◌, ◌∷◌, ◌++◌, inl, inr, ⊎_elim, ℕ, leb, ltb, min, List, [], take, drop, length, true, false, refl, sym, ap, ◌∙◌, subst, arith}
+use Rattle.qcow2_session.proofs.Common.{cond-true, cond-false, cases_Bool, leb-true, ltb-true, leb-false, ltb-false, take-append-le, length-take-le, common_steps, fun_ext, byte_at, laid_over, is_within, Value, known_byte, Disk, with_bytes, IsGiven, given_of, Shows}
 use Rattle.std.proofs.Math.Seq.{take-append-add}
 use Rattle.qcow2_disk.proofs.ForUsers.{laid_inside, laid_outside}
 

@@ -2,7 +2,8 @@
 use Rattle.qcow2_alloc.specs.declared.error.ImageError.TheVariants as I
 use Rattle.qcow2_session.specs.declared.session.Command.TheVariants as C
 use Rattle.qcow2_session.specs.declared.session.Reply.TheVariants as R
-use Rattle.qcow2_session.proofs.Common.{◌≡◌, ◌⊎◌, ◌+◌, ◌<◌, ◌≤◌, inl, inr, ℕ, Bool, true, false, not, IsTrue, List, Option, Some, None, Bor, refl, sym, ap, ◌∙◌, subst, arith, Global, Vec, [], ◌∷◌, length, ◌&&◌, ◌==◌, nat_lt, IfSome, IfErr, IfOk, IsSome, MatchOption, Result, Ok, Err, is_some, slice_get, option_or, cases_lt, eq-eqb, lt-ltb, ltb-true, common_steps, BackingView, StorageView, Clearing, known_in, ImageError, IsUnderMapping, from_in, refuses_clearing, to_in, is_external, is_failed, number_of, abstract_of, taking_as, HasPinnedMapping, CopiesCompressed, MayFailAlone, MayFailReadingRange, MayFailAllocating, Qcow2, Mapping, CommitRefused, Kept, Prepared, IsUnderMappingIn, IsHandedBackBy, MayFail, MayFailPreparing, passes, refuse_if, refuses_mapping, refuses_to_prepare, refuses_to_read, unusable, HasNothingToDo, MayFailOnSound, RefusalJustified, IsUntouchedUnder, MayFailWith, ReportsMisuse, first_cause, ClearingMayFail, CommandMayFailAllocating, reply_of_clearing, refusal_in, RespectsMappings, IsOfReading, NeedsOverflowingToWrite, given_of, IsLimited, Command, Reply, and_parts}
+use Rattle.std.proofs.Common.{◌≡◌, ◌⊎◌, ◌+◌, ◌<◌, ◌≤◌, ◌∷◌, ◌&&◌, ◌==◌, inl, inr, ℕ, Bool, true, false, not, IsTrue, List, Option, Some, None, Bor, refl, sym, ap, ◌∙◌, subst, arith, [], length, IfErr, Result, Ok, Err, is_some}
+use Rattle.qcow2_session.proofs.Common.{Global, Vec, nat_lt, IfSome, IfOk, IsSome, MatchOption, slice_get, option_or, cases_lt, eq-eqb, lt-ltb, ltb-true, common_steps, BackingView, StorageView, Clearing, known_in, ImageError, IsUnderMapping, from_in, refuses_clearing, to_in, is_external, is_failed, number_of, abstract_of, taking_as, HasPinnedMapping, CopiesCompressed, MayFailAlone, MayFailReadingRange, MayFailAllocating, Qcow2, Mapping, CommitRefused, Kept, Prepared, IsUnderMappingIn, IsHandedBackBy, MayFail, MayFailPreparing, passes, refuse_if, refuses_mapping, refuses_to_prepare, refuses_to_read, unusable, HasNothingToDo, MayFailOnSound, RefusalJustified, IsUntouchedUnder, MayFailWith, ReportsMisuse, first_cause, ClearingMayFail, CommandMayFailAllocating, reply_of_clearing, refusal_in, RespectsMappings, IsOfReading, NeedsOverflowingToWrite, given_of, IsLimited, Command, Reply, and_parts}
 use Rattle.qcow2_alloc.proofs.CachedEntries.Lists.{option_or-none}
 
 -- ---- what was refused at once

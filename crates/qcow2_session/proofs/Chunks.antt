@@ -1,5 +1,6 @@
 -- A part of a write: prepared, put and committed. If one of these is refused, the mapping is released.
-use Rattle.qcow2_session.proofs.Common.{◌≡◌, ◌⊎◌, ⊎_elim, inl, inr, ℕ, suc, eqb, ◌+◌, ◌-◌, ◌%◌, ◌<◌, ◌≤◌, min, List, [], ◌∷◌, take, length, true, false, Option, Some, None, refl, sym, ap, ◌∙◌, subst, arith, cond-true, cond-false, cases_Bool, ne_eqb, common_steps, fun_ext, byte_at, laid_over, is_within, rounded_down, Value, known_byte, Disk, with_bytes, GivenBytes, IsGiven, PreparedMapping, IsPrepared, put_disk, put_mapping, committed, given_of, given_by_put, given_by_commit, Setting, Abstraction, HasFreePlaces, Guest, abstract_image, guest_of, Refusal, memory, storage, not_compressed, another, IsRefusalByFault, AnsweredEffect, RefusedEffect, IsSame, MayWrite, WritesSome, with_disk, with_slot, shown_is, touches_part}
+use Rattle.std.proofs.Common.{◌≡◌, ◌⊎◌, ◌+◌, ◌-◌, ◌%◌, ◌<◌, ◌≤◌, ◌∷◌, ⊎_elim, inl, inr, ℕ, suc, eqb, min, List, [], take, length, true, false, Option, Some, None, refl, sym, ap, ◌∙◌, subst, arith}
+use Rattle.qcow2_session.proofs.Common.{cond-true, cond-false, cases_Bool, ne_eqb, common_steps, fun_ext, byte_at, laid_over, is_within, rounded_down, Value, known_byte, Disk, with_bytes, GivenBytes, IsGiven, PreparedMapping, IsPrepared, put_disk, put_mapping, committed, given_of, given_by_put, given_by_commit, Setting, Abstraction, HasFreePlaces, Guest, abstract_image, guest_of, Refusal, memory, storage, not_compressed, another, IsRefusalByFault, AnsweredEffect, RefusedEffect, IsSame, MayWrite, WritesSome, with_disk, with_slot, shown_is, touches_part}
 use Rattle.qcow2_disk.proofs.ForUsers.{put_given}
 use Rattle.qcow2_disk.proofs.Within.{within_is}
 use Rattle.qcow2_session.proofs.Bytes.{byte_in, laid_in, laid_out, no_bytes, same_values, part_within}

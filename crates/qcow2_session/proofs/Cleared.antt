@@ -1,5 +1,6 @@
 -- Clearing a range is one step of a run.
-use Rattle.qcow2_session.proofs.Common.{◌≡◌, ◌∷◌, [], inl, inr, refl, sym, ap, ◌∙◌, subst, ℕ, ◌+◌, ◌<◌, ◌≤◌, Bool, true, false, IsTrue, List, Option, Some, None, arith, Result, Ok, Err, IfOk, IfSome, OnOk, ◌&&◌, nat_lt, not, option_or, cases_lt, lt-ltb, common_steps, BackingView, StorageView, HeaderFields, header, cluster_size, Setting, Clearing, cleared_at, given_by_clear, with_disk, State, RefinesState, RefinesCommand, clear, done_as, refused_as, ImageError, known_in, AnswersCall, from_in, refuses_clearing, setting_of, to_in, Qcow2, Prepared, CountsImageFaults, is_writable, size_of, ImageInvariant, abstract_of, disk_of, pending_in, passes, refuse_if, unusable, header_is, disk_size, reply_of, reply_of_clearing, CommandCounts, ReportsRange, Reply}
+use Rattle.std.proofs.Common.{◌≡◌, ◌∷◌, ◌+◌, ◌<◌, ◌≤◌, ◌&&◌, [], inl, inr, refl, sym, ap, ◌∙◌, subst, ℕ, Bool, true, false, IsTrue, List, Option, Some, None, arith, Result, Ok, Err, not}
+use Rattle.qcow2_session.proofs.Common.{IfOk, IfSome, OnOk, nat_lt, option_or, cases_lt, lt-ltb, common_steps, BackingView, StorageView, HeaderFields, header, cluster_size, Setting, Clearing, cleared_at, given_by_clear, with_disk, State, RefinesState, RefinesCommand, clear, done_as, refused_as, ImageError, known_in, AnswersCall, from_in, refuses_clearing, setting_of, to_in, Qcow2, Prepared, CountsImageFaults, is_writable, size_of, ImageInvariant, abstract_of, disk_of, pending_in, passes, refuse_if, unusable, header_is, disk_size, reply_of, reply_of_clearing, CommandCounts, ReportsRange, Reply}
 use Rattle.qcow2_disk.specs.ClearedCovers.{ClearsCovers, IsRightlyCleared, needs_zeros, rounds_past}
 use Rattle.qcow2_disk.specs.Rules.{answered, touched_from, touched_to}
 use Rattle.qcow2_alloc.specs.declared.error.ImageError.TheVariants as I

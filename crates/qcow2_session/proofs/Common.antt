@@ -1,5 +1,5 @@
 -- The names that several proofs cite, passed on from one place. Declares nothing.
-pub use Rattle.std.proofs.Common.{◌≡◌, ◌+◌, ◌≤◌, ◌<◌, inl, inr, ℕ, Bool, true, IsTrue, ap, ◌∙◌, subst, arith, List, length, Option, Some, None, Result, Ok, Err, ◌⊎◌, ⊎_elim, ◌-◌, min, [], ◌∷◌, ◌++◌, take, drop, false, refl, sym, not, Bor, IfErr, is_some, suc, eqb, ◌%◌, ◌*◌, ◌/◌, replicate, ◌^◌, ◌≢◌, zero, map, get_or, rules, vec_len, leb, ltb, pow_mono, cond, vec_capacity}
+pub use Rattle.std.proofs.Common.{inl, inr, ℕ, Bool, true, IsTrue, ap, ◌∙◌, subst, arith, List, length, Option, Some, None, Result, Ok, Err, ⊎_elim, min, [], take, drop, false, refl, sym, not, Bor, IfErr, is_some, suc, eqb, replicate, zero, map, get_or, rules, vec_len, leb, ltb, pow_mono, cond, vec_capacity}
 pub use Rattle.std.proofs.Math.Nat.{zero-mod, div-add-mod, mod-eq_of_lt, mul-add-mod_self_left, div-div-eq-div-mul, add-mod_right}
 pub use Rattle.std.proofs.lemmas.Bool.{cases_lt, cases_Bool, cond-true, cond-false, ltb-true, eq-eqb, lt-ltb, ne_eqb, cases_eq, leb-true, leb-false, ltb-false, le-ltb, and_parts}
 pub use Rattle.std.proofs.lemmas.Grind.{common_steps}
@@ -8,7 +8,7 @@ pub use Rattle.std.proofs.lemmas.Nat.{div-add-mod', div-mul-add, mod_below, pow_
 pub use Rattle.std.proofs.lemmas.Option.{slice_get_read, slice_get-get_or}
 pub use Rattle.std.specs.Global.{Global}
 pub use Rattle.std.specs.Option.{option_or, option_flatten}
-pub use Rattle.std.specs.Prelude.{IfSome, Vec, ◌&&◌, ◌==◌, nat_lt, IfOk, IsSome, MatchOption, slice_get, OnOk, IsNone, slice_set, IsErr, ◌||◌, if◌then◌else◌, IsErrAnd, option_map, IsOk}
+pub use Rattle.std.specs.Prelude.{IfSome, Vec, nat_lt, IfOk, IsSome, MatchOption, slice_get, OnOk, IsNone, slice_set, IsErr, IsErrAnd, option_map, IsOk}
 pub use Rattle.image_access.proofs.Bytes.{same_contents, length-bytes_at, byte_at-bytes_at, length-resized, byte_at-resized, byte_at-resized_past, length-overwritten_within, byte_at-overwritten, byte_at-overwritten_below, byte_at-overwritten_behind}
 pub use Rattle.image_access.specs.Backing.{BackingView}
 unfoldable pub use Rattle.image_access.specs.Contents.{bytes_at, overwritten, resized}

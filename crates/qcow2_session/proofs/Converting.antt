@@ -1,5 +1,6 @@
 -- The disk of an image is made equal to a raw disk, range by range.
-use Rattle.qcow2_session.proofs.Common.{◌≡◌, ◌⊎◌, ⊎_elim, inl, inr, ℕ, ◌+◌, ◌-◌, ◌*◌, ◌/◌, ◌%◌, ◌<◌, ◌≤◌, List, [], ◌∷◌, ◌++◌, replicate, take, drop, length, refl, sym, ap, ◌∙◌, subst, arith, div-add-mod, mod-eq_of_lt, zero-mod, mul-add-mod_self_left, cases_lt, common_steps, length-replicate, Option, Result, Ok, Err, bytes_at, same_contents, length-bytes_at, byte_at-bytes_at, byte_at, known_byte, Disk, with_bytes, GivenBytes, IsGiven, given_of, Setting, AbstractImage, Guest, guest_of, Refusal, memory, storage, not_compressed, another, AnsweredEffect, RefusedEffect, Shows, MayWrite, WritesSome, IsSame, with_disk, BackingView, StorageView, ImageError, refusal_of, FlushesImage, Qcow2, Prepared, size_of, abstract_of, HasWritten, ReadsInto, Writes, EndsCluster, cluster_size_of, RefusedConversion, HasSome, IsRawOf, Imports, ImportsAll, ImportsAt, ImportsAny, ImportsAnyAt, ImportsAnyOf, stops_none, rests_none, touches_part}
+use Rattle.std.proofs.Common.{◌≡◌, ◌⊎◌, ◌+◌, ◌-◌, ◌*◌, ◌/◌, ◌%◌, ◌<◌, ◌≤◌, ◌∷◌, ◌++◌, ⊎_elim, inl, inr, ℕ, List, [], replicate, take, drop, length, refl, sym, ap, ◌∙◌, subst, arith, Option, Result, Ok, Err}
+use Rattle.qcow2_session.proofs.Common.{div-add-mod, mod-eq_of_lt, zero-mod, mul-add-mod_self_left, cases_lt, common_steps, length-replicate, bytes_at, same_contents, length-bytes_at, byte_at-bytes_at, byte_at, known_byte, Disk, with_bytes, GivenBytes, IsGiven, given_of, Setting, AbstractImage, Guest, guest_of, Refusal, memory, storage, not_compressed, another, AnsweredEffect, RefusedEffect, Shows, MayWrite, WritesSome, IsSame, with_disk, BackingView, StorageView, ImageError, refusal_of, FlushesImage, Qcow2, Prepared, size_of, abstract_of, HasWritten, ReadsInto, Writes, EndsCluster, cluster_size_of, RefusedConversion, HasSome, IsRawOf, Imports, ImportsAll, ImportsAt, ImportsAny, ImportsAnyAt, ImportsAnyOf, stops_none, rests_none, touches_part}
 use Rattle.qcow2_session.proofs.Bytes.{cut_short, cut_part, byte_in, byte_out, cases_place, no_bytes, same_values, part_within, rest_long, rest_part}
 use Rattle.qcow2_session.proofs.Chunks.{may_write_none}
 use Rattle.qcow2_session.proofs.Turns.{IsWithin, all_within, none_within, does_if, does_why, does_less, does_then, acts_less, acts_then}

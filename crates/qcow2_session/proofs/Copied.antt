@@ -1,5 +1,6 @@
 -- What a write leaves: copied data, in the image's own file.
-use Rattle.qcow2_session.proofs.Common.{◌≡◌, ⊎_elim, inl, inr, ℕ, ◌+◌, ◌-◌, ◌*◌, ◌/◌, ◌%◌, ◌^◌, ◌<◌, ◌≤◌, Bool, true, false, Option, Some, None, List, [], ◌∷◌, drop, length, take, is_some, refl, sym, ap, ◌∙◌, subst, arith, IsSome, Ok, not, common_steps, div-div-eq-div-mul, cases_lt, cond-false, le-ltb, div-add-mod', div-mul-add, mod_below, pow_pos, BackingView, StorageView, Bytes, cover, cluster_size, entries_per_cluster, HeaderFields, L2Mapping, Data, Zero, Compressed, Uncovered, Setting, AreDataAt, IsAlike, IsDataAt, EffectOnSound, kind_at, raw, rest_of_table, given_of, is_copied_data, IsRightlyWritten, GivenBytes, IsUngiven, Touches, contents_in, known_in, IsEntryAt, ShowsKnown, header_is, l1_index_of, mapping_of, abstract_of, meaning, pending_in, ImageInvariant, guest_offset_of, length_of, offset_of, IsAnswered, Prepares, StandsByPart, LeavesCopied, Writes, ReleasesOneMapping, Qcow2, Image, Prepared}
+use Rattle.std.proofs.Common.{◌≡◌, ◌+◌, ◌-◌, ◌*◌, ◌/◌, ◌%◌, ◌^◌, ◌<◌, ◌≤◌, ◌∷◌, ⊎_elim, inl, inr, ℕ, Bool, true, false, Option, Some, None, List, [], drop, length, take, is_some, refl, sym, ap, ◌∙◌, subst, arith, Ok, not}
+use Rattle.qcow2_session.proofs.Common.{IsSome, common_steps, div-div-eq-div-mul, cases_lt, cond-false, le-ltb, div-add-mod', div-mul-add, mod_below, pow_pos, BackingView, StorageView, Bytes, cover, cluster_size, entries_per_cluster, HeaderFields, L2Mapping, Data, Zero, Compressed, Uncovered, Setting, AreDataAt, IsAlike, IsDataAt, EffectOnSound, kind_at, raw, rest_of_table, given_of, is_copied_data, IsRightlyWritten, GivenBytes, IsUngiven, Touches, contents_in, known_in, IsEntryAt, ShowsKnown, header_is, l1_index_of, mapping_of, abstract_of, meaning, pending_in, ImageInvariant, guest_offset_of, length_of, offset_of, IsAnswered, Prepares, StandsByPart, LeavesCopied, Writes, ReleasesOneMapping, Qcow2, Image, Prepared}
 use Rattle.std.proofs.Math.Pow.{shr_mono}
 use Rattle.qcow2_metadata.specs.Entries.{host_offset, l1_entry}
 use Rattle.qcow2_alloc.proofs.KeptTables.Mapping.{shown_if}

@@ -1,5 +1,6 @@
 -- The failures that a run counts command by command, and a conversion call by call.
-use Rattle.qcow2_session.proofs.Common.{◌≡◌, ◌≢◌, ℕ, inl, inr, List, [], ◌∷◌, ◌++◌, None, Some, Result, Ok, Err, refl, sym, ap, ◌∙◌, subst, arith, BackingView, StorageView, HasCause, Rose, StorageError, of_storage, ImageError, Qcow2, CommitRefused, reason_of, is_failed, CountsImageChanges, CountsImageFaults, IsNotOfStorage, NoFewerFaults, SameFaults, ReportsFault, counted_since, each_since, faults_then, fewer_of, rose_after, tells_since, untouched, changes_before, counts_on, counts_still, FailsBy, MarksConversion, MarksInParts, CommandCounts, ConversionCounts, RunCounts, ReportsConversion, refusal_in, Reply}
+use Rattle.std.proofs.Common.{◌≡◌, ◌≢◌, ◌∷◌, ◌++◌, ℕ, inl, inr, List, [], None, Some, Result, Ok, Err, refl, sym, ap, ◌∙◌, subst, arith}
+use Rattle.qcow2_session.proofs.Common.{BackingView, StorageView, HasCause, Rose, StorageError, of_storage, ImageError, Qcow2, CommitRefused, reason_of, is_failed, CountsImageChanges, CountsImageFaults, IsNotOfStorage, NoFewerFaults, SameFaults, ReportsFault, counted_since, each_since, faults_then, fewer_of, rose_after, tells_since, untouched, changes_before, counts_on, counts_still, FailsBy, MarksConversion, MarksInParts, CommandCounts, ConversionCounts, RunCounts, ReportsConversion, refusal_in, Reply}
 use Rattle.image_access.specs.declared.error.StorageError.TheVariants as S
 use Rattle.qcow2_alloc.specs.declared.error.ImageError.TheVariants as I
 use Rattle.qcow2_session.proofs.Marking.{fails_no_more, parts_behind, stays_failed}

@@ -1,5 +1,6 @@
 -- A raw disk is made equal to the disk of an image, range by range.
-use Rattle.qcow2_session.proofs.Common.{◌≡◌, false, inl, inr, ℕ, ◌+◌, ◌-◌, ◌/◌, ◌<◌, ◌≤◌, Bool, List, [], is_some, length, refl, replicate, sym, ap, ◌∙◌, subst, arith, cases_lt, common_steps, length-replicate, get_or-replicate, None, Option, Result, Err, option_or, BackingView, overwritten, resized, StorageView, length-resized, byte_at-resized, byte_at-resized_past, length-overwritten_within, byte_at-overwritten, byte_at-overwritten_below, byte_at-overwritten_behind, byte_at, cover, known_byte, cluster_size, HeaderFields, Disk, Guest, guest_of, AnsweredEffect, Shows, IsSame, IsFoundIn, known_in, state_in, ImageError, refusal_of, IsSameImage, is_failed, size_of, passes, refuse_if, refuses_to_read, unusable, Qcow2, Prepared, ImageInvariant, abstract_of, backing_bytes, disk_of, pending_in, header_is, RefusedConversion, IsRawOf, IsUnchanged, IsFilledUpTo, Fills}
+use Rattle.std.proofs.Common.{◌≡◌, ◌+◌, ◌-◌, ◌/◌, ◌<◌, ◌≤◌, false, inl, inr, ℕ, Bool, List, [], is_some, length, refl, replicate, sym, ap, ◌∙◌, subst, arith, None, Option, Result, Err}
+use Rattle.qcow2_session.proofs.Common.{cases_lt, common_steps, length-replicate, get_or-replicate, option_or, BackingView, overwritten, resized, StorageView, length-resized, byte_at-resized, byte_at-resized_past, length-overwritten_within, byte_at-overwritten, byte_at-overwritten_below, byte_at-overwritten_behind, byte_at, cover, known_byte, cluster_size, HeaderFields, Disk, Guest, guest_of, AnsweredEffect, Shows, IsSame, IsFoundIn, known_in, state_in, ImageError, refusal_of, IsSameImage, is_failed, size_of, passes, refuse_if, refuses_to_read, unusable, Qcow2, Prepared, ImageInvariant, abstract_of, backing_bytes, disk_of, pending_in, header_is, RefusedConversion, IsRawOf, IsUnchanged, IsFilledUpTo, Fills}
 use Rattle.qcow2_disk.specs.Found.{IsFound as IsFoundOf}
 use Rattle.qcow2_disk.specs.Found as K
 use Rattle.qcow2_alloc.specs.declared.error.ImageError.TheVariants as I

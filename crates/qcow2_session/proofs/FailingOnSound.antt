@@ -1,7 +1,8 @@
 -- Why reads, lookups and writes of a sound image are refused.
 use Rattle.qcow2_alloc.specs.declared.error.ImageError.TheVariants as I
 use Rattle.qcow2_image.specs.declared.mapping.MappingKind.TheVariants as M
-use Rattle.qcow2_session.proofs.Common.{◌≡◌, inl, inr, ℕ, zero, suc, ◌+◌, ◌-◌, ◌*◌, ◌/◌, ◌%◌, ◌^◌, ◌<◌, ◌≤◌, ◌∷◌, Bool, true, false, List, [], Option, Some, None, refl, sym, ap, ◌∙◌, subst, arith, pow_mono, ⊎_elim, IsNone, IsSome, is_some, slice_get, ◌&&◌, cases_lt, common_steps, div-add-mod', mod_below, pow_pos, BackingView, StorageView, Bytes, is_within, cover, cluster_size, header, HeaderFields, L2Mapping, Compressed, Data, Uncovered, Zero, AreDataAt, EffectOnSound, Kind, IsCompressed, IsFoundIn, eof, indirect, kind_at, raw, rest_of_table, special, zeros, Touches, contents_in, known_in, ImageError, header_is, HasPinnedMapping, IsFoundWhole, found_kind, further_by, size_of, ImageInvariant, IsReadyWith, abstract_of, meaning, pending_in, IsUnlimited, fault_unlimited, CopiesCompressed, HasCompressedIn, IsCacheHeld, MayFailLooking, MayFailMapped, MayFailPutting, MayFailReadingRange, IsSpecial, MayFailLookingAgain, guest_offset_of, length_of, offset_of, table_of, IsAnswered, Qcow2, Image, Prepared}
+use Rattle.std.proofs.Common.{◌≡◌, ◌+◌, ◌-◌, ◌*◌, ◌/◌, ◌%◌, ◌^◌, ◌<◌, ◌≤◌, ◌∷◌, ◌&&◌, inl, inr, ℕ, zero, suc, Bool, true, false, List, [], Option, Some, None, refl, sym, ap, ◌∙◌, subst, arith, pow_mono, ⊎_elim, is_some}
+use Rattle.qcow2_session.proofs.Common.{IsNone, IsSome, slice_get, cases_lt, common_steps, div-add-mod', mod_below, pow_pos, BackingView, StorageView, Bytes, is_within, cover, cluster_size, header, HeaderFields, L2Mapping, Compressed, Data, Uncovered, Zero, AreDataAt, EffectOnSound, Kind, IsCompressed, IsFoundIn, eof, indirect, kind_at, raw, rest_of_table, special, zeros, Touches, contents_in, known_in, ImageError, header_is, HasPinnedMapping, IsFoundWhole, found_kind, further_by, size_of, ImageInvariant, IsReadyWith, abstract_of, meaning, pending_in, IsUnlimited, fault_unlimited, CopiesCompressed, HasCompressedIn, IsCacheHeld, MayFailLooking, MayFailMapped, MayFailPutting, MayFailReadingRange, IsSpecial, MayFailLookingAgain, guest_offset_of, length_of, offset_of, table_of, IsAnswered, Qcow2, Image, Prepared}
 use Rattle.qcow2_disk.specs.Found.{IsFound as IsFoundOf}
 use Rattle.qcow2_image.proofs.Map.Looked.{compressed_there, data_found, found_upto, product_le}
 use Rattle.qcow2_image.proofs.Prepare.NameablePlaces.{IsNearData, cover_near}

@@ -1,5 +1,6 @@
 -- The contents after the first writes of a storage that records its changes are contents that the storage had at a moment since.
-use Rattle.qcow2_session.proofs.Common.{◌≡◌, ⊎_elim, inl, inr, ℕ, List, [], map, length, Option, Result, Ok, Err, sym, ap, subst, Vec, Global, BackingView, IsHeadline, ImageError, Qcow2, storage_of_image, image_abstraction, command_of, reply_of, EachMomentOpensAgain, HadNoRoom, Headline, bytes_below, Command, Reply}
+use Rattle.std.proofs.Common.{◌≡◌, ⊎_elim, inl, inr, ℕ, List, [], map, length, Option, Result, Ok, Err, sym, ap, subst}
+use Rattle.qcow2_session.proofs.Common.{Vec, Global, BackingView, IsHeadline, ImageError, Qcow2, storage_of_image, image_abstraction, command_of, reply_of, EachMomentOpensAgain, HadNoRoom, Headline, bytes_below, Command, Reply}
 use Rattle.image_access.specs.Changes.{HadSince}
 use Rattle.image_access.specs.TraceStorage.{Trace, view_of_trace}
 use Rattle.image_access.proofs.Replays.{had_up_to_write}

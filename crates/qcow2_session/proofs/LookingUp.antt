@@ -1,5 +1,6 @@
 -- The lookups at the start of a run of an image that was just opened.
-use Rattle.qcow2_session.proofs.Common.{◌≡◌, inl, inr, List, [], ◌∷◌, Bool, false, sym, ap, ◌∙◌, subst, ℕ, map, BackingView, StorageView, Bytes, Kind, IsFoundIn, Setting, State, CommandStep, get_mapping, mapping_is, known_in, found_kind, command_of, reply_of, LooksUp, RunPoint, StepsAlong}
+use Rattle.std.proofs.Common.{◌≡◌, ◌∷◌, inl, inr, List, [], Bool, false, sym, ap, ◌∙◌, subst, ℕ, map}
+use Rattle.qcow2_session.proofs.Common.{BackingView, StorageView, Bytes, Kind, IsFoundIn, Setting, State, CommandStep, get_mapping, mapping_is, known_in, found_kind, command_of, reply_of, LooksUp, RunPoint, StepsAlong}
 use Rattle.qcow2_disk.specs.Runs.{Command}
 use Rattle.qcow2_session.specs.declared.session.Command.{Command as SessionCommand}
 use Rattle.qcow2_session.specs.declared.session.Command.TheVariants as C

@@ -1,5 +1,6 @@
 -- When commands fail an image, one call after another.
-use Rattle.qcow2_session.proofs.Common.{◌≡◌, ◌≢◌, ◌∙◌, inl, inr, ℕ, Bool, true, false, IsTrue, Option, Some, None, refl, sym, ap, subst, option_or, ◌||◌, MatchOption, OnOk, Result, Ok, Err, StorageView, ImageError, IsNotOfStorage, reason_of, is_failed, CommitFailsOnceWritten, CountsImageChanges, FailsOnceWritten, MarksFailed, MarksRefused, failed_after, Qcow2, CommitRefused, changes_before, changes_later, counts_on, counts_still, once_none, reply_of_clearing, refusal_in, FailsBy, MarksAtOnce, MarksInParts, reason_in, Reply}
+use Rattle.std.proofs.Common.{◌≡◌, ◌≢◌, ◌||◌, ◌∙◌, inl, inr, ℕ, Bool, true, false, IsTrue, Option, Some, None, refl, sym, ap, subst, Result, Ok, Err}
+use Rattle.qcow2_session.proofs.Common.{option_or, MatchOption, OnOk, StorageView, ImageError, IsNotOfStorage, reason_of, is_failed, CommitFailsOnceWritten, CountsImageChanges, FailsOnceWritten, MarksFailed, MarksRefused, failed_after, Qcow2, CommitRefused, changes_before, changes_later, counts_on, counts_still, once_none, reply_of_clearing, refusal_in, FailsBy, MarksAtOnce, MarksInParts, reason_in, Reply}
 use Rattle.qcow2_alloc.specs.declared.error.ImageError.TheVariants as I
 
 stays_marked : (before recorded now : Bool) → now ≡ (before || recorded) → IsTrue before → IsTrue now

@@ -1,5 +1,6 @@
 -- What calls on prepared mappings do, as commands of a run.
-use Rattle.qcow2_session.proofs.Common.{◌≡◌, inl, inr, ℕ, zero, suc, ◌+◌, ◌-◌, ◌<◌, ◌≤◌, ◌≢◌, min, eqb, get_or, List, [], ◌∷◌, Bool, true, false, refl, sym, ap, ◌∙◌, subst, Option, Some, None, length, Bor, arith, slice_get, slice_set, MatchOption, is_some, ◌==◌, if◌then◌else◌, cond-true, cond-false, cases_Bool, cases_eq, cases_lt, eq-eqb, ne_eqb, slice_get-get_or, slice_get_read, fun_ext, Bytes, HeaderFields, IsFound, Kind, GivenBytes, PreparedMapping, IsPrepared, put_mapping, put_disk, committed, given_by_put, given_by_commit, Setting, HostRange, Abstraction, AbstractImage, abstract_image, guest_of, meaning_at, Refusal, CallEffect, AnsweredEffect, RefusedEffect, IsSame, with_disk, with_slot, Found, State, RefinesState, CommandMeaning, CommandStep, found_after, given_at, given_by, put, commit, discard, prepare, done, prepared_is, Mapping, command_of, reply_of, looked_up_after, mapping_at, mappings_in, range_of, get_set_same}
+use Rattle.std.proofs.Common.{◌≡◌, ◌+◌, ◌-◌, ◌<◌, ◌≤◌, ◌≢◌, ◌∷◌, ◌==◌, if◌then◌else◌, inl, inr, ℕ, zero, suc, min, eqb, get_or, List, [], Bool, true, false, refl, sym, ap, ◌∙◌, subst, Option, Some, None, length, Bor, arith, is_some}
+use Rattle.qcow2_session.proofs.Common.{slice_get, slice_set, MatchOption, cond-true, cond-false, cases_Bool, cases_eq, cases_lt, eq-eqb, ne_eqb, slice_get-get_or, slice_get_read, fun_ext, Bytes, HeaderFields, IsFound, Kind, GivenBytes, PreparedMapping, IsPrepared, put_mapping, put_disk, committed, given_by_put, given_by_commit, Setting, HostRange, Abstraction, AbstractImage, abstract_image, guest_of, meaning_at, Refusal, CallEffect, AnsweredEffect, RefusedEffect, IsSame, with_disk, with_slot, Found, State, RefinesState, CommandMeaning, CommandStep, found_after, given_at, given_by, put, commit, discard, prepare, done, prepared_is, Mapping, command_of, reply_of, looked_up_after, mapping_at, mappings_in, range_of, get_set_same}
 use Rattle.qcow2_disk.specs.Runs.{Command, Reply}
 use Rattle.qcow2_session.specs.declared.session.Command.{Command as SessionCommand}
 use Rattle.qcow2_session.specs.declared.session.Command.TheVariants as C

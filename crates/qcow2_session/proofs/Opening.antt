@@ -1,5 +1,6 @@
 -- Why a consistent image isn't opened: breaches that a consistent image doesn't have are no reason. What a stop leaves is consistent, so it opens again.
-use Rattle.qcow2_session.proofs.Common.{◌≡◌, ⊎_elim, ℕ, true, List, [], None, inl, inr, sym, subst, arith, StorageView, Bytes, byte_at, disk, shown_below, Checkpoint, checkpoint_at, IsSafeAfter, StopOkEverywhere, ImageError, Missing, nothing_given, IsKeptSince, MayRefuseToOpen, OpensAgain}
+use Rattle.std.proofs.Common.{◌≡◌, ⊎_elim, ℕ, true, List, [], None, inl, inr, sym, subst, arith}
+use Rattle.qcow2_session.proofs.Common.{StorageView, Bytes, byte_at, disk, shown_below, Checkpoint, checkpoint_at, IsSafeAfter, StopOkEverywhere, ImageError, Missing, nothing_given, IsKeptSince, MayRefuseToOpen, OpensAgain}
 use Rattle.image_access.proofs.EachMomentSince.{since_start}
 use Rattle.qcow2_metadata.specs.Consistent.{IsConsistent}
 use Rattle.qcow2_disk.proofs.Headline.{at_once}

@@ -1,5 +1,6 @@
 -- If no check refuses a whole range, a part of the range is refused only for causes that come during the work.
-use Rattle.qcow2_session.proofs.Common.{◌≡◌, ◌+◌, ◌<◌, ◌≤◌, ◌∙◌, inl, inr, ℕ, Bool, true, false, not, IsTrue, List, Option, Some, None, refl, sym, ap, arith, ◌&&◌, nat_lt, option_or, cases_Bool, cases_lt, common_steps, Bytes, cluster_size, HeaderFields, ImageError, IsUnderMapping, IsSameImage, is_external, is_failed, is_writable, number_of, size_of, IsUnderMappingIn, IsTaken, MayFail, passes, refuse_if, refuses_mapping, refuses_to_prepare, refuses_to_read, unusable, Qcow2, Prepared}
+use Rattle.std.proofs.Common.{◌≡◌, ◌+◌, ◌<◌, ◌≤◌, ◌&&◌, ◌∙◌, inl, inr, ℕ, Bool, true, false, not, IsTrue, List, Option, Some, None, refl, sym, ap, arith}
+use Rattle.qcow2_session.proofs.Common.{nat_lt, option_or, cases_Bool, cases_lt, common_steps, Bytes, cluster_size, HeaderFields, ImageError, IsUnderMapping, IsSameImage, is_external, is_failed, is_writable, number_of, size_of, IsUnderMappingIn, IsTaken, MayFail, passes, refuse_if, refuses_mapping, refuses_to_prepare, refuses_to_read, unusable, Qcow2, Prepared}
 use Rattle.qcow2_alloc.specs.declared.error.ImageError.TheVariants as I
 use Rattle.qcow2_session.proofs.Beyond.{part_passes}
 use Rattle.qcow2_session.proofs.Causing.{own_mapping, put_writes, then_none}

@@ -1,5 +1,6 @@
 -- Slots of prepared mappings.
-use Rattle.qcow2_session.proofs.Common.{◌≡◌, ℕ, zero, suc, List, [], ◌∷◌, ◌++◌, refl, sym, ap, ◌∙◌, subst, Option, Some, None, length, slice_get, slice_set, replicate, append-nil, fun_ext, PreparedMapping, Abstraction, HasFreePlaces, Guest, abstract_image, guest_of, AnsweredEffect, with_slot, stops_none, rests_none, set_set, set_same}
+use Rattle.std.proofs.Common.{◌≡◌, ◌∷◌, ◌++◌, ℕ, zero, suc, List, [], refl, sym, ap, ◌∙◌, subst, Option, Some, None, length, replicate}
+use Rattle.qcow2_session.proofs.Common.{slice_get, slice_set, append-nil, fun_ext, PreparedMapping, Abstraction, HasFreePlaces, Guest, abstract_image, guest_of, AnsweredEffect, with_slot, stops_none, rests_none, set_set, set_same}
 use Rattle.qcow2_session.proofs.Turns.{none_within, does_if, does_then}
 
 pub set_back : {X : Type 0} (xs : List X) (k : ℕ) (a b : X) → slice_get xs k ≡ Some b → slice_set (slice_set xs k a) k b ≡ xs

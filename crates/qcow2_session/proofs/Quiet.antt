@@ -1,5 +1,6 @@
 -- An image that was opened for reading, and whose cached tables are unmodified, is never written, whatever it contains.
-use Rattle.qcow2_session.proofs.Common.{◌≡◌, inl, inr, List, [], ◌∷◌, false, IsTrue, sym, ap, ◌∙◌, subst, Option, cases_Bool, BackingView, StorageView, view_in, Qcow2, Prepared, is_failed, is_writable, ReleasesOneMapping, ContentsStayThroughout, HoldsNothingModified, ReadsQuietly, reads_none, reads_same, reads_aside, written_then, AreExisting, IsLeftQuietly, AreReportedAlong, RunPoint, Command, Reply}
+use Rattle.std.proofs.Common.{◌≡◌, ◌∷◌, inl, inr, List, [], false, IsTrue, sym, ap, ◌∙◌, subst, Option}
+use Rattle.qcow2_session.proofs.Common.{cases_Bool, BackingView, StorageView, view_in, Qcow2, Prepared, is_failed, is_writable, ReleasesOneMapping, ContentsStayThroughout, HoldsNothingModified, ReadsQuietly, reads_none, reads_same, reads_aside, written_then, AreExisting, IsLeftQuietly, AreReportedAlong, RunPoint, Command, Reply}
 use Rattle.qcow2_alloc.specs.ImageStorage.{storage_of}
 use Rattle.qcow2_image.proofs.Map.Unmodified.{quiet_still}
 

@@ -1,5 +1,6 @@
 -- A read into a buffer, and the bytes that it returns.
-use Rattle.qcow2_session.proofs.Common.{◌≡◌, ℕ, List, [], sym, subst, Option, Result, Err, BackingView, StorageView, ImageError, RefusedEffect, IsSame, refusal_of, Qcow2, Prepared, abstract_of, ReadsInto}
+use Rattle.std.proofs.Common.{◌≡◌, ℕ, List, [], sym, subst, Option, Result, Err}
+use Rattle.qcow2_session.proofs.Common.{BackingView, StorageView, ImageError, RefusedEffect, IsSame, refusal_of, Qcow2, Prepared, abstract_of, ReadsInto}
 
 module _ {S F : Type 0} (view : S → StorageView) (backing : F → BackingView) (old new : Qcow2 S F) where
   -- a refusal that was passed on

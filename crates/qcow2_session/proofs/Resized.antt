@@ -1,5 +1,6 @@
 -- A resize is one step of a run.
-use Rattle.qcow2_session.proofs.Common.{◌≡◌, ◌⊎◌, ◌∷◌, [], inl, inr, refl, sym, ap, subst, ℕ, ◌-◌, ◌<◌, ◌≤◌, cond, Bool, true, false, List, Option, Some, None, arith, Result, Ok, Err, IfSome, ◌==◌, not, option_or, cases_lt, cases_eq, cond-true, cond-false, eq-eqb, ne_eqb, pow_pos, BackingView, StorageView, EachMomentSince, byte_at, HeaderFields, Value, header, cluster_size, rounded_up, AbstractImage, Setting, guest_of, IsRefusalByFault, IsShrinkEnd, IsShrunk, given_by_shrink, given_by_shrunk, Disk, State, RefinesState, RefinesCommand, done, grow, number_is, refused, shrink, IsGiven, done_as, gave_less, refused_as, ImageError, known_in, refusal_of, Qcow2, Prepared, is_external, is_failed, is_writable, size_of, ImageInvariant, abstract_of, pending_in, refuse_if, GrowsTo, Shrinks, WritesSizeLast, refuses_to_resize, header_is, disk_size, TouchesLess, touches_less}
+use Rattle.std.proofs.Common.{◌≡◌, ◌⊎◌, ◌∷◌, ◌-◌, ◌<◌, ◌≤◌, ◌==◌, [], inl, inr, refl, sym, ap, subst, ℕ, cond, Bool, true, false, List, Option, Some, None, arith, Result, Ok, Err, not}
+use Rattle.qcow2_session.proofs.Common.{IfSome, option_or, cases_lt, cases_eq, cond-true, cond-false, eq-eqb, ne_eqb, pow_pos, BackingView, StorageView, EachMomentSince, byte_at, HeaderFields, Value, header, cluster_size, rounded_up, AbstractImage, Setting, guest_of, IsRefusalByFault, IsShrinkEnd, IsShrunk, given_by_shrink, given_by_shrunk, Disk, State, RefinesState, RefinesCommand, done, grow, number_is, refused, shrink, IsGiven, done_as, gave_less, refused_as, ImageError, known_in, refusal_of, Qcow2, Prepared, is_external, is_failed, is_writable, size_of, ImageInvariant, abstract_of, pending_in, refuse_if, GrowsTo, Shrinks, WritesSizeLast, refuses_to_resize, header_is, disk_size, TouchesLess, touches_less}
 use Rattle.image_access.specs.declared.storage.PreallocateMode.{PreallocateMode}
 use Rattle.qcow2_disk.specs.GrownCovers.{GrownCovers, IsRightlyGrown}
 use Rattle.qcow2_alloc.specs.declared.error.ImageError.TheVariants as I

@@ -1,5 +1,6 @@
 -- The parts of a write respect the prepared mappings: no byte is written under an L2 table that another mapping pins, unless it is written in place.
-use Rattle.qcow2_session.proofs.Common.{◌≡◌, ◌∙◌, inl, inr, ℕ, ◌+◌, ◌-◌, ◌*◌, ◌/◌, ◌%◌, ◌<◌, ◌≤◌, List, Option, take, drop, length, refl, sym, ap, subst, arith, Ok, cases_lt, common_steps, BackingView, StorageView, cluster_size, rest_of_table, known_in, l1_index_of, IsTaken, Qcow2, Prepared, RespectsFirst, IsRespectedAt, Writes}
+use Rattle.std.proofs.Common.{◌≡◌, ◌+◌, ◌-◌, ◌*◌, ◌/◌, ◌%◌, ◌<◌, ◌≤◌, ◌∙◌, inl, inr, ℕ, List, Option, take, drop, length, refl, sym, ap, subst, arith, Ok}
+use Rattle.qcow2_session.proofs.Common.{cases_lt, common_steps, BackingView, StorageView, cluster_size, rest_of_table, known_in, l1_index_of, IsTaken, Qcow2, Prepared, RespectsFirst, IsRespectedAt, Writes}
 use Rattle.qcow2_session.proofs.Copied.{same_index}
 use Rattle.qcow2_session.proofs.WrittenParts.{writes_none}
 

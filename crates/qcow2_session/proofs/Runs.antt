@@ -1,5 +1,6 @@
 -- A run of commands on an image with as many empty places as there are slots.
-use Rattle.qcow2_session.proofs.Common.{◌≡◌, ℕ, zero, suc, ◌+◌, List, [], ◌∷◌, ◌++◌, false, refl, sym, ap, ◌∙◌, subst, Option, None, take, map, replicate, map-append, Setting, Abstraction, HasFreePlaces, abstract_image, Found, State, RefinesState, CommandStep, RefinesCommand, Run, RefinesRun, begun, found_after, ran_none, ran_more, Mapping, found_in, mappings_in}
+use Rattle.std.proofs.Common.{◌≡◌, ◌+◌, ◌∷◌, ◌++◌, ℕ, zero, suc, List, [], false, refl, sym, ap, ◌∙◌, subst, Option, None, take, map, replicate}
+use Rattle.qcow2_session.proofs.Common.{map-append, Setting, Abstraction, HasFreePlaces, abstract_image, Found, State, RefinesState, CommandStep, RefinesCommand, Run, RefinesRun, begun, found_after, ran_none, ran_more, Mapping, found_in, mappings_in}
 use Rattle.qcow2_disk.specs.Runs.{Command, Reply}
 use Rattle.qcow2_session.proofs.Meanings.{step_found, found_same}
 use Rattle.qcow2_session.proofs.Places.{guest_none, sound_none}

@@ -1,5 +1,6 @@
 -- What special reads mean.
-use Rattle.qcow2_session.proofs.Common.{◌≡◌, ◌⊎◌, ◌<◌, false, true, inl, inr, refl, sym, ◌∙◌, subst, ℕ, zero, suc, arith, Option, Some, None, IsErr, IfErr, IfOk, MatchOption, Result, Ok, Err, Bytes, not_compressed, IsCompressedAt, IsRightlySpecial, ImageError, refusal_of, MayFail, ReportsPlain, ReportsSpecial}
+use Rattle.std.proofs.Common.{◌≡◌, ◌⊎◌, ◌<◌, false, true, inl, inr, refl, sym, ◌∙◌, subst, ℕ, zero, suc, arith, Option, Some, None, IfErr, Result, Ok, Err}
+use Rattle.qcow2_session.proofs.Common.{IsErr, IfOk, MatchOption, Bytes, not_compressed, IsCompressedAt, IsRightlySpecial, ImageError, refusal_of, MayFail, ReportsPlain, ReportsSpecial}
 use Rattle.qcow2_alloc.specs.declared.error.ImageError.TheVariants as I
 use Rattle.qcow2_image.specs.SpecialReads.{ReportsCompressed, ReportsWhether}
 

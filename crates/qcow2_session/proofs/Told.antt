@@ -1,5 +1,6 @@
 -- What a run reports about its image, one command after another.
-use Rattle.qcow2_session.proofs.Common.{◌≡◌, ℕ, map, List, [], ◌∷◌, ◌++◌, false, refl, sym, ap, ◌∙◌, subst, Option, Some, None, fun_ext, replicate, IfSome, Ok, Err, BackingView, StorageView, Setting, Found, State, RefinesState, RefinesCommand, HasNoInvalidation, KeepsUnflushed, begun, Qcow2, Mapping, Prepared, IsSameImage, is_external, is_writable, number_of, abstract_of, image_abstraction, free_places, command_of, reply_of, mappings_in, range_of, AreReportedAlong, IsReportedStep, KeepsItself, RunPoint, StepsAlong, abstract_at, first_point, free_slots, Command, Reply}
+use Rattle.std.proofs.Common.{◌≡◌, ◌∷◌, ◌++◌, ℕ, map, List, [], false, refl, sym, ap, ◌∙◌, subst, Option, Some, None, replicate, Ok, Err}
+use Rattle.qcow2_session.proofs.Common.{fun_ext, IfSome, BackingView, StorageView, Setting, Found, State, RefinesState, RefinesCommand, HasNoInvalidation, KeepsUnflushed, begun, Qcow2, Mapping, Prepared, IsSameImage, is_external, is_writable, number_of, abstract_of, image_abstraction, free_places, command_of, reply_of, mappings_in, range_of, AreReportedAlong, IsReportedStep, KeepsItself, RunPoint, StepsAlong, abstract_at, first_point, free_slots, Command, Reply}
 use Rattle.qcow2_session.proofs.Meanings.{step_found, found_same, ranges_after}
 use Rattle.qcow2_session.proofs.Runs.{free_stands, none_found, none_mapped}
 

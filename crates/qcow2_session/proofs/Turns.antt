@@ -1,5 +1,6 @@
 -- Calls one after another, whatever they return.
-use Rattle.qcow2_session.proofs.Common.{◌≡◌, ◌⊎◌, ⊎_elim, inl, inr, ℕ, zero, suc, ◌<◌, List, [], true, false, IsTrue, refl, sym, ap, ◌∙◌, arith, Option, Some, None, IfErr, IfSome, Result, Ok, Err, IsErr, IsErrAnd, Value, GivenBytes, IsGiven, disk, AbstractImage, Refusal, memory, storage, not_compressed, another, IsRefusalByFault, EffectOnSound, CallEffect, AnsweredEffect, RefusedEffect, works_less, works_then, rests_then, stops_resting, TouchesLess}
+use Rattle.std.proofs.Common.{◌≡◌, ◌⊎◌, ◌<◌, ⊎_elim, inl, inr, ℕ, zero, suc, List, [], true, false, IsTrue, refl, sym, ap, ◌∙◌, arith, Option, Some, None, IfErr, Result, Ok, Err}
+use Rattle.qcow2_session.proofs.Common.{IfSome, IsErr, IsErrAnd, Value, GivenBytes, IsGiven, disk, AbstractImage, Refusal, memory, storage, not_compressed, another, IsRefusalByFault, EffectOnSound, CallEffect, AnsweredEffect, RefusedEffect, works_less, works_then, rests_then, stops_resting, TouchesLess}
 
 -- a refusal that was passed on
 pub refused_is : {A E : Type 0} (r : Result A E) (e : E) → IsErr r × IsErrAnd r (λ x. x ≡ e) → r ≡ Err e

@@ -1,5 +1,6 @@
 -- A prepared range lies in no L2 table that another mapping pins, unless it is existing.
-use Rattle.qcow2_session.proofs.Common.{◌≡◌, ◌+◌, ◌*◌, ◌/◌, ◌%◌, ◌<◌, ◌∙◌, ◌∷◌, inl, inr, ℕ, suc, false, true, List, Option, Some, None, refl, sym, ap, subst, arith, IsNone, IsSome, slice_get, slice_set, cases_lt, div-mul-add, pow_pos, BackingView, StorageView, Bytes, cluster_size, entries_per_cluster, HeaderFields, PreparedMapping, contents_in, known_in, IsEntryAt, l1_index_of, IsPending, IsReadyWith, abstract_of, cluster_of, pins_by, IsAnswered, IsTaken, Qcow2, Prepared, get_set_same}
+use Rattle.std.proofs.Common.{◌≡◌, ◌+◌, ◌*◌, ◌/◌, ◌%◌, ◌<◌, ◌∷◌, ◌∙◌, inl, inr, ℕ, suc, false, true, List, Option, Some, None, refl, sym, ap, subst, arith}
+use Rattle.qcow2_session.proofs.Common.{IsNone, IsSome, slice_get, slice_set, cases_lt, div-mul-add, pow_pos, BackingView, StorageView, Bytes, cluster_size, entries_per_cluster, HeaderFields, PreparedMapping, contents_in, known_in, IsEntryAt, l1_index_of, IsPending, IsReadyWith, abstract_of, cluster_of, pins_by, IsAnswered, IsTaken, Qcow2, Prepared, get_set_same}
 use Rattle.qcow2_image.proofs.Images.Apart.{pins_own}
 use Rattle.qcow2_image.proofs.Call.Slots.{get_set_other, over_all_two}
 

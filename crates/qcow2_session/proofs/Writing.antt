@@ -1,5 +1,6 @@
 -- A write continues by one part, or is refused.
-use Rattle.qcow2_session.proofs.Common.{◌≡◌, ⊎_elim, inl, inr, ℕ, ◌+◌, ◌%◌, ◌<◌, ◌≤◌, min, subst, List, [], ◌∷◌, take, drop, length, sym, ap, ◌∙◌, arith, common_steps, take-append-drop, Disk, with_bytes, given_of, AbstractImage, Guest, guest_of, Refusal, memory, storage, not_compressed, another, AnsweredEffect, RefusedEffect, MayWrite, WritesSome, with_disk, Qcow2, cluster_size_of, EndsCluster, touches_part}
+use Rattle.std.proofs.Common.{◌≡◌, ◌+◌, ◌%◌, ◌<◌, ◌≤◌, ◌∷◌, ⊎_elim, inl, inr, ℕ, min, subst, List, [], take, drop, length, sym, ap, ◌∙◌, arith}
+use Rattle.qcow2_session.proofs.Common.{common_steps, take-append-drop, Disk, with_bytes, given_of, AbstractImage, Guest, guest_of, Refusal, memory, storage, not_compressed, another, AnsweredEffect, RefusedEffect, MayWrite, WritesSome, with_disk, Qcow2, cluster_size_of, EndsCluster, touches_part}
 use Rattle.std.proofs.Math.Seq.{take-add}
 use Rattle.qcow2_session.proofs.Bytes.{no_bytes, with_both, part_within, rest_long, rest_part}
 use Rattle.qcow2_session.proofs.Turns.{IsWithin, does_if, refuses_if, does_then, refuses_then}

@@ -1,5 +1,6 @@
 -- What a session's write has done up to some part: the bytes of the parts that succeeded are written, and no others were given.
-use Rattle.qcow2_session.proofs.Common.{◌≡◌, ⊎_elim, inl, inr, ℕ, ◌+◌, ◌-◌, ◌<◌, ◌≤◌, List, [], ◌∷◌, take, drop, length, refl, sym, ap, ◌∙◌, subst, arith, Ok, common_steps, take-take, BackingView, StorageView, byte_at, Disk, with_bytes, given_of, AbstractImage, Guest, guest_of, AnsweredEffect, with_disk, ListsNoMore, Qcow2, touches_part, StopsFor, Writes}
+use Rattle.std.proofs.Common.{◌≡◌, ◌+◌, ◌-◌, ◌<◌, ◌≤◌, ◌∷◌, ⊎_elim, inl, inr, ℕ, List, [], take, drop, length, refl, sym, ap, ◌∙◌, subst, arith, Ok}
+use Rattle.qcow2_session.proofs.Common.{common_steps, take-take, BackingView, StorageView, byte_at, Disk, with_bytes, given_of, AbstractImage, Guest, guest_of, AnsweredEffect, with_disk, ListsNoMore, Qcow2, touches_part, StopsFor, Writes}
 use Rattle.qcow2_session.proofs.Bytes.{cut_part, cut_short, no_bytes, part_within, rest_part}
 use Rattle.qcow2_session.proofs.Converting.{does_nothing}
 use Rattle.qcow2_session.proofs.Turns.{IsWithin, none_within, does_if, does_less, does_then}

@@ -1,7 +1,7 @@
 -- The names that several proofs cite, passed on from one place. Declares nothing.
-pub use Rattle.std.proofs.Common.{[], List, ◌≡◌, ◌⊎◌, inl, inr, ℕ, ◌+◌, ◌<◌, Bool, true, false, Some, refl, sym, ap, subst, ◌∙◌, arith, ◌-◌, ◌≤◌, length, min, ◌/◌, Option, None, Result, Ok, Err, take, is_some, ◌*◌, ◌%◌, add-mul, mul_assoc}
+pub use Rattle.std.proofs.Common.{[], List, inl, inr, ℕ, Bool, true, false, Some, refl, sym, ap, subst, ◌∙◌, arith, length, min, Option, None, Result, Ok, Err, take, is_some, add-mul, mul_assoc}
 pub use Rattle.std.proofs.lemmas.Bool.{cases_lt, cases_eq, cond-false, cond-true, eq-eqb, le-ltb, lt-ltb, ne_eqb}
-pub use Rattle.std.specs.Prelude.{IsTrue, nat_lt, ◌&&◌, IfSome, not, nat_eq, if◌then◌else◌}
+pub use Rattle.std.specs.Prelude.{IsTrue, nat_lt, IfSome, not, nat_eq}
 pub use Rattle.image_access.specs.Backing.{BackingView}
 pub use Rattle.image_access.specs.Moments.{StorageView}
 pub use Rattle.nbd_protocol.specs.Devices.{DeviceView, AreUnits, Stays, Fails, IsFault, IsSameDevice, RefusesToChange, RefusesToRead, Clears, MayWrite, Shows, Writes, Tells, is_zeros}

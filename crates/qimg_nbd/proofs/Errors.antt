@@ -1,5 +1,6 @@
 -- What a client is sent for a refused call of an image.
-use Rattle.qimg_nbd.proofs.Common.{[], List, ◌≡◌, ◌⊎◌, inl, inr, ℕ, ◌+◌, ◌<◌, Bool, true, false, Option, Some, None, Result, Ok, Err, refl, sym, ap, subst, ◌∙◌, arith, ◌&&◌, IfSome, IsTrue, nat_lt, not, BackingView, StorageView, cluster_size, HeaderFields, known_in, Clearing, IsSameImage, is_external, is_failed, is_writable, size_of, abstract_of, Qcow2, header_is, DeviceView, Fails, IsFault, IsSameDevice, RefusesToChange, RefusesToRead, device_of, error_of}
+use Rattle.std.proofs.Common.{◌≡◌, ◌⊎◌, ◌+◌, ◌<◌, ◌&&◌, [], List, inl, inr, ℕ, Bool, true, false, Option, Some, None, Result, Ok, Err, refl, sym, ap, subst, ◌∙◌, arith}
+use Rattle.qimg_nbd.proofs.Common.{IfSome, IsTrue, nat_lt, not, BackingView, StorageView, cluster_size, HeaderFields, known_in, Clearing, IsSameImage, is_external, is_failed, is_writable, size_of, abstract_of, Qcow2, header_is, DeviceView, Fails, IsFault, IsSameDevice, RefusesToChange, RefusesToRead, device_of, error_of}
 use Rattle.std.specs.Option.{option_or}
 use Rattle.std.proofs.lemmas.Grind.{common_steps}
 use Rattle.qcow2_disk.specs.Disk.{disk_with}

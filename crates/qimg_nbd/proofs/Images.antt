@@ -1,5 +1,6 @@
 -- What the calls of an image do to it as a block device.
-use Rattle.qimg_nbd.proofs.Common.{◌≡◌, ◌⊎◌, inl, inr, ℕ, ◌+◌, ◌-◌, ◌<◌, ◌≤◌, List, [], length, take, sym, ap, subst, ◌∙◌, arith, min, IsTrue, Some, cases_lt, BackingView, StorageView, known_byte, cluster_size, AbstractImage, Guest, Setting, guest_of, AnsweredEffect, CallEffect, IsSame, Refusal, RefusedEffect, WritesSome, another, memory, not_compressed, storage, with_disk, answered, touched_from, touched_to, Qcow2, abstract_of, AreUnits, Clears, DeviceView, MayWrite, Shows, Stays, Writes, byte_of, device_of}
+use Rattle.std.proofs.Common.{◌≡◌, ◌⊎◌, ◌+◌, ◌-◌, ◌<◌, ◌≤◌, inl, inr, ℕ, List, [], length, take, sym, ap, subst, ◌∙◌, arith, min, Some}
+use Rattle.qimg_nbd.proofs.Common.{IsTrue, cases_lt, BackingView, StorageView, known_byte, cluster_size, AbstractImage, Guest, Setting, guest_of, AnsweredEffect, CallEffect, IsSame, Refusal, RefusedEffect, WritesSome, another, memory, not_compressed, storage, with_disk, answered, touched_from, touched_to, Qcow2, abstract_of, AreUnits, Clears, DeviceView, MayWrite, Shows, Stays, Writes, byte_of, device_of}
 use Rattle.std.proofs.lemmas.List.{get_or-take, length-take-le}
 use Rattle.std.proofs.lemmas.Nat.{pow_pos}
 use Rattle.qcow2_metadata.specs.Bytes.{byte_at, laid_over}

@@ -1,5 +1,6 @@
 -- What a lookup of an image reports about its disk.
-use Rattle.qimg_nbd.proofs.Common.{◌≡◌, inl, inr, ℕ, ◌+◌, ◌-◌, ◌/◌, ◌<◌, ◌≤◌, Bool, true, false, [], is_some, refl, sym, ap, ◌∙◌, subst, arith, IsTrue, cases_lt, BackingView, StorageView, known_byte, cluster_size, HeaderFields, Guest, guest_of, AnsweredEffect, known_in, state_in, size_of, ImageInvariant, abstract_of, backing_bytes, disk_of, pending_in, Qcow2, header_is, Stays, Tells, is_zeros, byte_of, device_of, told_state}
+use Rattle.std.proofs.Common.{◌≡◌, ◌+◌, ◌-◌, ◌/◌, ◌<◌, ◌≤◌, inl, inr, ℕ, Bool, true, false, [], is_some, refl, sym, ap, ◌∙◌, subst, arith}
+use Rattle.qimg_nbd.proofs.Common.{IsTrue, cases_lt, BackingView, StorageView, known_byte, cluster_size, HeaderFields, Guest, guest_of, AnsweredEffect, known_in, state_in, size_of, ImageInvariant, abstract_of, backing_bytes, disk_of, pending_in, Qcow2, header_is, Stays, Tells, is_zeros, byte_of, device_of, told_state}
 use Rattle.qcow2_metadata.specs.Cover.{cover}
 use Rattle.qcow2_disk.specs.Found.{IsFoundIn, Kind, IsFound as IsFoundOf}
 use Rattle.qcow2_disk.specs.Found as K

@@ -1,5 +1,6 @@
 -- The part of a range that a clearing call returns, as numbers.
-use Rattle.qimg_nbd.proofs.Common.{◌≡◌, ◌⊎◌, ◌∙◌, inl, inr, ℕ, ◌+◌, ◌-◌, ◌*◌, ◌/◌, ◌%◌, ◌<◌, ◌≤◌, sym, ap, add-mul, mul_assoc, arith, min, nat_eq, nat_lt, if◌then◌else◌, cases_eq, cases_lt, cond-false, cond-true, eq-eqb, le-ltb, lt-ltb, ne_eqb, rounded_down, rounded_up, answered, touched_from, touched_to, AreUnits}
+use Rattle.std.proofs.Common.{◌≡◌, ◌⊎◌, ◌+◌, ◌-◌, ◌*◌, ◌/◌, ◌%◌, ◌<◌, ◌≤◌, if◌then◌else◌, ◌∙◌, inl, inr, ℕ, sym, ap, add-mul, mul_assoc, arith, min}
+use Rattle.qimg_nbd.proofs.Common.{nat_eq, nat_lt, cases_eq, cases_lt, cond-false, cond-true, eq-eqb, le-ltb, lt-ltb, ne_eqb, rounded_down, rounded_up, answered, touched_from, touched_to, AreUnits}
 use native.Mathlib.Nat.{mul-mod_left}
 use Rattle.std.proofs.lemmas.Nat.{div-add-mod'}
 

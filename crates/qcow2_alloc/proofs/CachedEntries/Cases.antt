@@ -1,5 +1,6 @@
 -- What each call of a cache does to its entries, by cases.
-use Rattle.qcow2_alloc.proofs.Common.{◌≡◌, inl, inr, ℕ, Bool, true, false, List, ◌∷◌, Option, Some, None, Result, Ok, Err, refl, sym, subst, Slot, CacheError, InUse, StillInUse, Memory, Backend, slot_of, Steps, Unit₀, FlushesAll, Flushes, GetsNew, HasRoomForEntry, InsertsNew, Replaces}
+use Rattle.std.proofs.Common.{◌≡◌, ◌∷◌, inl, inr, ℕ, Bool, true, false, List, Option, Some, None, Result, Ok, Err, refl, sym, subst}
+use Rattle.qcow2_alloc.proofs.Common.{Slot, CacheError, InUse, StillInUse, Memory, Backend, slot_of, Steps, Unit₀, FlushesAll, Flushes, GetsNew, HasRoomForEntry, InsertsNew, Replaces}
 
 module _ {S K V E : Type 0} (steps : Steps S K V E) (s t : S) (es fs : List (K × Slot V)) where
   -- a flush is one of each entry in turn

@@ -1,5 +1,6 @@
 -- A property of all entries of a cache still holds after entries are flushed, loaded or inserted.
-use Rattle.qcow2_alloc.proofs.Common.{◌≡◌, inl, inr, ℕ, eqb, Bool, true, false, List, [], ◌∷◌, Option, Some, None, Result, Ok, refl, sym, subst, cond, lookup_entry, remove_entry, option_map_or, promoted, Slot, CacheError, slot_of, Steps, Unit₀, FlushesEntry, FlushesAll, Flushes, GetsNew, HasRoomForEntry, InsertsNew, Replaces}
+use Rattle.std.proofs.Common.{◌≡◌, ◌∷◌, inl, inr, ℕ, eqb, Bool, true, false, List, [], Option, Some, None, Result, Ok, refl, sym, subst, cond}
+use Rattle.qcow2_alloc.proofs.Common.{lookup_entry, remove_entry, option_map_or, promoted, Slot, CacheError, slot_of, Steps, Unit₀, FlushesEntry, FlushesAll, Flushes, GetsNew, HasRoomForEntry, InsertsNew, Replaces}
 use Rattle.qcow2_alloc.proofs.CachedEntries.Cases.{flush_cases, get_cases, insert_cases, replace_cases}
 
 -- it holds of a list where it holds of each entry

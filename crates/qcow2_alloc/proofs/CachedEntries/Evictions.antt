@@ -1,5 +1,6 @@
 -- Which entry moves to the front, and which is evicted.
-use Rattle.qcow2_alloc.proofs.Common.{◌≡◌, ℕ, Bool, true, false, cond, inl, inr, List, ◌∷◌, Option, Some, None, Result, Ok, Err, refl, ap, ◌∙◌, IsEquivalence, is_some, IsSome, IsNone, option_map, option_map_or, lookup, lookup_entry, remove_entry, promoted, Contains-lookup_entry, Slot, CacheError, InUse, StillInUse, Memory, Backend, slot_of, IsInFront, OnlyOldestGoes, Steps, HasRoomForEntry, HasNoRoom, GetsNew}
+use Rattle.std.proofs.Common.{◌≡◌, ◌∷◌, ℕ, Bool, true, false, cond, inl, inr, List, Option, Some, None, Result, Ok, Err, refl, ap, ◌∙◌, is_some, IsSome}
+use Rattle.qcow2_alloc.proofs.Common.{IsEquivalence, IsNone, option_map, option_map_or, lookup, lookup_entry, remove_entry, promoted, Contains-lookup_entry, Slot, CacheError, InUse, StillInUse, Memory, Backend, slot_of, IsInFront, OnlyOldestGoes, Steps, HasRoomForEntry, HasNoRoom, GetsNew}
 use Rattle.qcow2_alloc.proofs.CachedEntries.Lists.{lookup-from_entry}
 use Rattle.qcow2_alloc.proofs.CachedEntries.Knowing.{lookup-promoted, removed_apart}
 

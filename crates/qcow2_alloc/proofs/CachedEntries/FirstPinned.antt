@@ -1,5 +1,6 @@
 -- The first pinned entry.
-use Rattle.qcow2_alloc.proofs.Common.{◌≡◌, ◌<◌, ◌∙◌, inl, inr, Bool, true, false, List, [], ◌∷◌, Option, Some, None, refl, sym, subst, arith, slice_get, IfSome, IsEquivalence, AllByRecursion, IsDistinct, option_map, keys_of, lookup, cases_Bool, nat_tests, Slot, pinned, is_pinned, pins_at}
+use Rattle.std.proofs.Common.{◌≡◌, ◌<◌, ◌∷◌, ◌∙◌, inl, inr, Bool, true, false, List, [], Option, Some, None, refl, sym, subst, arith, slice_get, IfSome}
+use Rattle.qcow2_alloc.proofs.Common.{IsEquivalence, AllByRecursion, IsDistinct, option_map, keys_of, lookup, cases_Bool, nat_tests, Slot, pinned, is_pinned, pins_at}
 use Rattle.std.specs.Prelude.{IsNone}
 use Rattle.qcow2_alloc.proofs.CachedEntries.Lists.{pinned_kept, pinned_gone}
 

@@ -1,5 +1,6 @@
 -- Flushing all entries up to some entry.
-use Rattle.qcow2_alloc.proofs.Common.{◌≡◌, List, [], ◌∷◌, ◌++◌, length, Option, Some, None, Bool, true, Result, Ok, Err, refl, sym, ap, ◌∙◌, subst, append_assoc, append-nil, arith, option_or, IfSome, IsSome, OnOk, OnErr, IfErr, result_err, lookup, set_value, length-set_value, set_value_same, LruCache, lru_cache, Slot, Steps, slot_of, CacheError, Backend, Unit₀, FlushesEntry, FlushesAll, FlushesKey, FlushesFound}
+use Rattle.std.proofs.Common.{◌≡◌, ◌∷◌, ◌++◌, List, [], length, Option, Some, None, Bool, true, Result, Ok, Err, refl, sym, ap, ◌∙◌, subst, append_assoc, append-nil, arith, IfSome, IsSome, OnOk, IfErr}
+use Rattle.qcow2_alloc.proofs.Common.{option_or, OnErr, result_err, lookup, set_value, length-set_value, set_value_same, LruCache, lru_cache, Slot, Steps, slot_of, CacheError, Backend, Unit₀, FlushesEntry, FlushesAll, FlushesKey, FlushesFound}
 use Rattle.qcow2_alloc.proofs.CachedEntries.Lists.{option_or-assoc, option_or-none}
 
 module _ {S K V E : Type 0} (steps : Steps S K V E) (s : S) (es : List (K × Slot V)) where

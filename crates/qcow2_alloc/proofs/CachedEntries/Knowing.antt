@@ -1,5 +1,6 @@
 -- Loads and flushes leave the known bytes the same: those of the store with the modified values overlaid.
-use Rattle.qcow2_alloc.proofs.Common.{◌≡◌, ◌≢◌, ℕ, Bool, true, false, cond, inl, inr, List, [], ◌∷◌, Option, Some, None, Result, Ok, Err, refl, sym, ap, ◌∙◌, subst, IsEquivalence, AllByRecursion, IsDistinct, IfSome, IsSome, option_map, option_map_or, keys_of, lookup, lookup_entry, remove_entry, set_value, lookup-remove_entry, lookup-set_value, set_value_same, LruCache, promoted, Contains-lookup_entry, Slot, CacheError, InUse, StillInUse, Memory, Backend, slot_of, Steps, IsLawful, KeepsBytes, value_laid_over, known_under_key, KeepsKnown, OverlaysBytes, FlushesEntry, FlushesAll, Evicts, HasRoomForEntry, HasNoRoom, InsertsNew, GetsNew, Replaces, FlushesFound}
+use Rattle.std.proofs.Common.{◌≡◌, ◌≢◌, ◌∷◌, ℕ, Bool, true, false, cond, inl, inr, List, [], Option, Some, None, Result, Ok, Err, refl, sym, ap, ◌∙◌, subst, IfSome, IsSome}
+use Rattle.qcow2_alloc.proofs.Common.{IsEquivalence, AllByRecursion, IsDistinct, option_map, option_map_or, keys_of, lookup, lookup_entry, remove_entry, set_value, lookup-remove_entry, lookup-set_value, set_value_same, LruCache, promoted, Contains-lookup_entry, Slot, CacheError, InUse, StillInUse, Memory, Backend, slot_of, Steps, IsLawful, KeepsBytes, value_laid_over, known_under_key, KeepsKnown, OverlaysBytes, FlushesEntry, FlushesAll, Evicts, HasRoomForEntry, HasNoRoom, InsertsNew, GetsNew, Replaces, FlushesFound}
 use Rattle.qcow2_alloc.proofs.CachedEntries.Lists.{none_is_none, lookup-from_entry, oldest_free-lookup}
 use Rattle.qcow2_alloc.proofs.CachedEntries.Room.{room_missing}
 

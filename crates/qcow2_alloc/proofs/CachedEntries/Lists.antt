@@ -1,5 +1,6 @@
 -- Lists of entries.
-use Rattle.qcow2_alloc.proofs.Common.{set_value_same, ◌≡◌, ◌+◌, ◌-◌, ◌^◌, ◌≤◌, Bool, true, false, cond, List, [], ◌∷◌, ◌++◌, length, Option, Some, None, refl, sym, ap, ◌∙◌, subst, arith, nat_lt, IsEquivalence, AllByRecursion, IsDistinct, none-some, option_map_or, option_or, option_map, is_some, IsSome, keys_of, lookup, lookup_entry, remove_entry, set_value, nat_tests, promoted, demoted, Slot, oldest_free, pinned, is_pinned, pin_at, unpin_at}
+use Rattle.std.proofs.Common.{◌≡◌, ◌+◌, ◌-◌, ◌^◌, ◌≤◌, ◌∷◌, ◌++◌, Bool, true, false, cond, List, [], length, Option, Some, None, refl, sym, ap, ◌∙◌, subst, arith, nat_lt, is_some, IsSome}
+use Rattle.qcow2_alloc.proofs.Common.{set_value_same, IsEquivalence, AllByRecursion, IsDistinct, none-some, option_map_or, option_or, option_map, keys_of, lookup, lookup_entry, remove_entry, set_value, nat_tests, promoted, demoted, Slot, oldest_free, pinned, is_pinned, pin_at, unpin_at}
 
 pub option_or-assoc : {X : Type 0} (o p q : Option X) → option_or (option_or o p) q ≡ option_or o (option_or p q)
 option_or-assoc None p q = refl

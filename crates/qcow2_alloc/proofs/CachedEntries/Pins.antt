@@ -1,5 +1,6 @@
 -- What a call does to the pins of the entries: each key keeps its own pins.
-use Rattle.qcow2_alloc.proofs.Common.{◌≡◌, ℕ, ◌<◌, ◌≤◌, Bool, true, false, cond, inl, inr, List, [], ◌∷◌, length, Option, Some, None, Result, refl, sym, ap, ◌∙◌, subst, arith, nat_lt, nat_tests, IsEquivalence, AllByRecursion, IsDistinct, option_map, option_map_or, option_or, IfSome, IsSome, keys_of, lookup, lookup_entry, remove_entry, set_value, lookup-remove_entry, promoted, Slot, CacheError, slot_of, pins_at, is_pinned, pinned, oldest_free, KeepsPins, Steps, FlushesEntry, FlushesAll, HasRoomForEntry, InsertsNew, GetsNew, Replaces}
+use Rattle.std.proofs.Common.{◌≡◌, ◌<◌, ◌≤◌, ◌∷◌, ℕ, Bool, true, false, cond, inl, inr, List, [], length, Option, Some, None, Result, refl, sym, ap, ◌∙◌, subst, arith, nat_lt, IfSome, IsSome}
+use Rattle.qcow2_alloc.proofs.Common.{nat_tests, IsEquivalence, AllByRecursion, IsDistinct, option_map, option_map_or, option_or, keys_of, lookup, lookup_entry, remove_entry, set_value, lookup-remove_entry, promoted, Slot, CacheError, slot_of, pins_at, is_pinned, pinned, oldest_free, KeepsPins, Steps, FlushesEntry, FlushesAll, HasRoomForEntry, InsertsNew, GetsNew, Replaces}
 use Rattle.qcow2_alloc.proofs.CachedEntries.Knowing.{lookup_alike, removed_apart, lookup-promoted}
 use Rattle.qcow2_alloc.proofs.CachedEntries.Lists.{oldest_cases, oldest_free-lookup, pinned_kept, pinned_gone, none_is_none, lookup-from_entry}
 use Rattle.qcow2_alloc.proofs.CachedEntries.Room.{room_missing}

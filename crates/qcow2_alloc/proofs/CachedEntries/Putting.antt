@@ -1,5 +1,6 @@
 -- Inserting a value into a cache, and replacing one there.
-use Rattle.qcow2_alloc.proofs.Common.{◌≡◌, ℕ, ◌-◌, ◌^◌, ◌<◌, ◌≤◌, Bool, true, List, ◌∷◌, length, take, Option, Some, None, IfSome, IsSome, refl, ap, ◌∙◌, arith, none-some, option_map, lookup, lookup_entry, remove_entry, set_value, LruCache, lru_cache, promoted, put_entries, Contains-lookup_entry, Slot, Steps, FlushesEntry, FlushesFound}
+use Rattle.std.proofs.Common.{◌≡◌, ◌-◌, ◌^◌, ◌<◌, ◌≤◌, ◌∷◌, ℕ, Bool, true, List, length, take, Option, Some, None, IfSome, IsSome, refl, ap, ◌∙◌, arith}
+use Rattle.qcow2_alloc.proofs.Common.{none-some, option_map, lookup, lookup_entry, remove_entry, set_value, LruCache, lru_cache, promoted, put_entries, Contains-lookup_entry, Slot, Steps, FlushesEntry, FlushesFound}
 use Rattle.std.proofs.lemmas.Grind.{common_steps}
 use Rattle.qcow2_alloc.proofs.CachedEntries.Lists.{none_is_none, entry_none, lookup-from_entry, lookup_front, set_front, length-remove_found}
 

@@ -1,5 +1,6 @@
 -- Making room for one more entry.
-use Rattle.qcow2_alloc.proofs.Common.{◌≡◌, ℕ, ◌<◌, ◌≤◌, Bool, true, length, Option, Some, None, Result, Ok, IfSome, inl, inr, List, refl, sym, ap, ◌∙◌, subst, arith, IsEquivalence, IsDistinct, option_map, keys_of, lookup, remove_entry, set_value_same, LruCache, lru_cache, Slot, CacheError, oldest_free, Steps, MustEvict, FailsToEvict, HasRoomForEntry, MakesRoom, FlushesFound}
+use Rattle.std.proofs.Common.{◌≡◌, ◌<◌, ◌≤◌, ℕ, Bool, true, length, Option, Some, None, Result, Ok, IfSome, inl, inr, List, refl, sym, ap, ◌∙◌, subst, arith}
+use Rattle.qcow2_alloc.proofs.Common.{IsEquivalence, IsDistinct, option_map, keys_of, lookup, remove_entry, set_value_same, LruCache, lru_cache, Slot, CacheError, oldest_free, Steps, MustEvict, FailsToEvict, HasRoomForEntry, MakesRoom, FlushesFound}
 use Rattle.qcow2_alloc.proofs.CachedEntries.Lists.{remove_entry-set_value, length-remove_found, lookup_none-removed, oldest_free-lookup}
 
 module _ {K V : Type 0} (eq : K → K → Bool) (es : List (K × Slot V)) where

@@ -1,5 +1,6 @@
 -- The other entries that are still in the cache after a call are unchanged.
-use Rattle.qcow2_alloc.proofs.Common.{◌≡◌, ℕ, Bool, true, false, cond, inl, inr, List, ◌∷◌, Option, Some, None, Result, eqb, refl, sym, ap, ◌∙◌, subst, IsEquivalence, IsDistinct, option_map, IfSome, IsSome, keys_of, lookup, lookup_entry, remove_entry, lookup-remove_entry, promoted, Contains-lookup_entry, Slot, CacheError, slot_of, value_at, OthersStay, Steps, HasRoomForEntry, InsertsNew, GetsNew, Replaces}
+use Rattle.std.proofs.Common.{◌≡◌, ◌∷◌, ℕ, Bool, true, false, cond, inl, inr, List, Option, Some, None, Result, eqb, refl, sym, ap, ◌∙◌, subst, IfSome, IsSome}
+use Rattle.qcow2_alloc.proofs.Common.{IsEquivalence, IsDistinct, option_map, keys_of, lookup, lookup_entry, remove_entry, lookup-remove_entry, promoted, Contains-lookup_entry, Slot, CacheError, slot_of, value_at, OthersStay, Steps, HasRoomForEntry, InsertsNew, GetsNew, Replaces}
 use Rattle.qcow2_alloc.proofs.CachedEntries.Knowing.{removed_apart, lookup-promoted}
 use Rattle.qcow2_alloc.proofs.CachedEntries.Lists.{none_is_none, lookup-from_entry}
 use Rattle.qcow2_alloc.proofs.CachedEntries.Cases.{get_cases, insert_cases, replace_cases}

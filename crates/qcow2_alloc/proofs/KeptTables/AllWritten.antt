@@ -1,5 +1,6 @@
 -- If no cached table is modified, none is afterwards, and nothing is written, whatever the tables hold.
-use Rattle.qcow2_alloc.proofs.Common.{◌≡◌, ℕ, Bool, true, eqb, Result, Ok, IsSome, ap, IsNone, lookup, promoted, StorageView, MetadataError, L2TableView, RefBlockView, CacheError, L2CacheBackend, RefBlockCacheBackend, MetadataCaches, ImageStorage, Cache, Unit₀, Flushes, GetsNew, storage_of, l2_steps, rb_steps, KeepAllWritten}
+use Rattle.std.proofs.Common.{◌≡◌, ℕ, Bool, true, eqb, Result, Ok, IsSome, ap}
+use Rattle.qcow2_alloc.proofs.Common.{IsNone, lookup, promoted, StorageView, MetadataError, L2TableView, RefBlockView, CacheError, L2CacheBackend, RefBlockCacheBackend, MetadataCaches, ImageStorage, Cache, Unit₀, Flushes, GetsNew, storage_of, l2_steps, rb_steps, KeepAllWritten}
 use Rattle.qcow2_alloc.specs.declared.cache.Direction.{Direction}
 use Rattle.qcow2_alloc.proofs.KeptTables.Clean.{clean_as, clean_next, flush_clean, get_clean}
 use Rattle.qcow2_alloc.proofs.KeptTables.Quiet.{quiet_none, quiet_then, tables_quiet, blocks_quiet, block_got_quietly, table_got_quietly}

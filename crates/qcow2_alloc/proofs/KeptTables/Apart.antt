@@ -1,5 +1,6 @@
 -- What holds throughout calls of caches in which no cluster has a modified table in both.
-use Rattle.qcow2_alloc.proofs.Common.{◌≡◌, ◌⊎◌, inl, inr, ℕ, ◌/◌, ◌%◌, ◌^◌, ◌<◌, Bool, false, eqb, List, [], ◌∷◌, ◌++◌, None, refl, sym, ap, ◌∙◌, subst, fun_ext, AllByRecursion, IsDistinct, keys_of, lookup, Bytes, CachedTable, known, Direction, Neither, L2DependsOnRb, RbDependsOnL2, SameIn, IsPartly, known_bytes, IsFreeAt, IsFreeOf, AreApart, AreClean, BlocksMayGo, TablesMayGo, IsWrittenSo, known-at, known-none, unmodified_over, free_too, written_partly, written_known, IsFlushedSo, cached_tables, AreElsewhere, AreLoaded, Slot}
+use Rattle.std.proofs.Common.{◌≡◌, ◌⊎◌, ◌/◌, ◌%◌, ◌^◌, ◌<◌, ◌∷◌, ◌++◌, inl, inr, ℕ, Bool, false, eqb, List, [], None, refl, sym, ap, ◌∙◌, subst}
+use Rattle.qcow2_alloc.proofs.Common.{fun_ext, AllByRecursion, IsDistinct, keys_of, lookup, Bytes, CachedTable, known, Direction, Neither, L2DependsOnRb, RbDependsOnL2, SameIn, IsPartly, known_bytes, IsFreeAt, IsFreeOf, AreApart, AreClean, BlocksMayGo, TablesMayGo, IsWrittenSo, known-at, known-none, unmodified_over, free_too, written_partly, written_known, IsFlushedSo, cached_tables, AreElsewhere, AreLoaded, Slot}
 use Rattle.qcow2_alloc.proofs.KeptTables.Loaded.{stays_free, loaded_written, loaded_without, loaded_promoted}
 use Rattle.qcow2_alloc.proofs.KeptTables.Listing.{loaded_distinct, ShowsSame, shows_without, shows_more, shows_promoted}
 use Rattle.qcow2_alloc.proofs.KeptTables.Changing.{loaded_apart}

@@ -1,5 +1,6 @@
 -- Calls of caches in which no cluster has a modified table in both: the known contents stay the same, or a table is overlaid on them, and tables are written in the order of the direction.
-use Rattle.qcow2_alloc.proofs.Common.{◌≡◌, ◌⊎◌, inl, inr, ℕ, ◌*◌, ◌/◌, ◌%◌, ◌^◌, ◌<◌, Bool, true, false, eqb, List, [], ◌∷◌, ◌++◌, Option, Some, Result, Ok, IsSome, refl, sym, ap, ◌∙◌, subst, pow_pos, IsDistinct, IfSome, IsNone, keys_of, lookup, lookup_entry, remove_entry, promoted, StorageView, EachMomentSince, passes_none, passes_on, passes_if, Bytes, byte_at, HeaderFields, MetadataError, cluster_size, L2TableView, RefBlockView, CachedTable, known, overlays, Direction, Neither, L2DependsOnRb, RbDependsOnL2, SameIn, IsPartly, known_bytes, IsFreeAt, IsFreeOf, BlocksMayGo, TablesMayGo, differs, known_is_on_storage, Slot, CacheError, L2CacheBackend, RefBlockCacheBackend, MetadataCaches, ImageStorage, table_steps, Cache, slot_of, with_entries, Unit₀, Flushes, GetsNew, InsertsNew, Replaces, storage_of, l2_steps, rb_steps, cleared_l2, cleared_rb, IsTableOf, IsBlockOf, cached_table, cached_tables, AreElsewhere, order_of, l2_tables, refblocks, known_of, StandAsIn, IsFlushedSo, IsPartlyFlushed, AreNoMore, table_put, NoClusterDirtyInBoth, AreFlushedSince, KnownStays, KnownUnder, KeepsKnownApart}
+use Rattle.std.proofs.Common.{◌≡◌, ◌⊎◌, ◌*◌, ◌/◌, ◌%◌, ◌^◌, ◌<◌, ◌∷◌, ◌++◌, inl, inr, ℕ, Bool, true, false, eqb, List, [], Option, Some, Result, Ok, IsSome, refl, sym, ap, ◌∙◌, subst, IfSome}
+use Rattle.qcow2_alloc.proofs.Common.{pow_pos, IsDistinct, IsNone, keys_of, lookup, lookup_entry, remove_entry, promoted, StorageView, EachMomentSince, passes_none, passes_on, passes_if, Bytes, byte_at, HeaderFields, MetadataError, cluster_size, L2TableView, RefBlockView, CachedTable, known, overlays, Direction, Neither, L2DependsOnRb, RbDependsOnL2, SameIn, IsPartly, known_bytes, IsFreeAt, IsFreeOf, BlocksMayGo, TablesMayGo, differs, known_is_on_storage, Slot, CacheError, L2CacheBackend, RefBlockCacheBackend, MetadataCaches, ImageStorage, table_steps, Cache, slot_of, with_entries, Unit₀, Flushes, GetsNew, InsertsNew, Replaces, storage_of, l2_steps, rb_steps, cleared_l2, cleared_rb, IsTableOf, IsBlockOf, cached_table, cached_tables, AreElsewhere, order_of, l2_tables, refblocks, known_of, StandAsIn, IsFlushedSo, IsPartlyFlushed, AreNoMore, table_put, NoClusterDirtyInBoth, AreFlushedSince, KnownStays, KnownUnder, KeepsKnownApart}
 use Rattle.qcow2_alloc.proofs.KeptTables.Writing.{no_safety, Flushed, Puts, WritesOne, flushed_all, nothing_new, made_ready}
 use Rattle.qcow2_alloc.proofs.KeptTables.Entries.{AreDistinct}
 use Rattle.qcow2_alloc.proofs.KeptTables.Getting.{HoldsWhatStands, hit_done, get_done, insert_put, replace_put}

@@ -1,5 +1,6 @@
 -- A cached table is changed in place, in caches in which no cluster has a modified table in both.
-use Rattle.qcow2_alloc.proofs.Common.{◌≡◌, ◌⊎◌, inl, inr, ℕ, ◌+◌, ◌-◌, ◌*◌, ◌/◌, ◌%◌, ◌^◌, ◌<◌, ◌&&◌, Bool, true, eqb, List, ◌∷◌, ◌++◌, Option, Some, None, arith, refl, sym, ap, ◌∙◌, subst, cases_Bool, pow_pos, div-mul-add, IsDistinct, IfSome, keys_of, lookup, Bytes, byte_at, is_within, cluster_size, L2TableView, RefBlockView, CachedTable, known, overlays, known_bytes, IsFreeAt, IsFreeOf, AreApart, IsSameOutside, known-none, known_there, known_elsewhere, unmodified_over, cluster_within, differs, changed_outside, changed_there, Slot, MetadataCaches, slot_of, value_at, set_at, with_entries, cached_table, cached_tables, l2_tables, refblocks, ChangesTableApart, ChangesBlockApart}
+use Rattle.std.proofs.Common.{◌≡◌, ◌⊎◌, ◌+◌, ◌-◌, ◌*◌, ◌/◌, ◌%◌, ◌^◌, ◌<◌, ◌&&◌, ◌∷◌, ◌++◌, inl, inr, ℕ, Bool, true, eqb, List, Option, Some, None, arith, refl, sym, ap, ◌∙◌, subst, IfSome}
+use Rattle.qcow2_alloc.proofs.Common.{cases_Bool, pow_pos, div-mul-add, IsDistinct, keys_of, lookup, Bytes, byte_at, is_within, cluster_size, L2TableView, RefBlockView, CachedTable, known, overlays, known_bytes, IsFreeAt, IsFreeOf, AreApart, IsSameOutside, known-none, known_there, known_elsewhere, unmodified_over, cluster_within, differs, changed_outside, changed_there, Slot, MetadataCaches, slot_of, value_at, set_at, with_entries, cached_table, cached_tables, l2_tables, refblocks, ChangesTableApart, ChangesBlockApart}
 use Rattle.qcow2_alloc.proofs.KeptTables.Loaded.{in_own_cluster, loaded_without}
 use Rattle.qcow2_alloc.proofs.KeptTables.Listing.{loaded_distinct, free_elsewhere, free_of}
 use Rattle.qcow2_alloc.proofs.KeptTables.Entries.{tables_at, away_from}

@@ -1,5 +1,6 @@
 -- Tables are dropped unwritten from caches in which no cluster has a modified table in both.
-use Rattle.qcow2_alloc.proofs.Common.{◌≡◌, ◌⊎◌, inl, inr, ℕ, ◌+◌, ◌*◌, ◌/◌, ◌%◌, ◌^◌, ◌<◌, ◌&&◌, Bool, true, false, cond, eqb, List, ◌∷◌, ◌++◌, Option, Some, None, IsTrue, arith, refl, sym, ap, ◌∙◌, subst, pow_pos, div-mul-add, IsDistinct, IfSome, option_map, keys_of, lookup_entry, remove_entry, Contains-lookup_entry, Bytes, is_within, HeaderFields, cluster_size, L2TableView, RefBlockView, CachedTable, known, overlays, SameIn, IsPartly, known_bytes, IsFreeAt, IsFreeOf, AreApart, AreClean, known-at, known-none, known_elsewhere, known_unmodified, clean_known, no_overlay, overlays_within, within_cluster, cluster_within, differs, Slot, L2CacheBackend, RefBlockCacheBackend, MetadataCaches, Cache, can_remove, with_entries, same_number, cached_table, cached_tables, rb_at, l2_tables, refblocks, AreNoMore, NoClusterDirtyInBoth, KnownWithout, EvictsTableApart, KnownWithoutBlock, AllocatesBlockApart}
+use Rattle.std.proofs.Common.{◌≡◌, ◌⊎◌, ◌+◌, ◌*◌, ◌/◌, ◌%◌, ◌^◌, ◌<◌, ◌&&◌, ◌∷◌, ◌++◌, inl, inr, ℕ, Bool, true, false, cond, eqb, List, Option, Some, None, IsTrue, arith, refl, sym, ap, ◌∙◌, subst, IfSome}
+use Rattle.qcow2_alloc.proofs.Common.{pow_pos, div-mul-add, IsDistinct, option_map, keys_of, lookup_entry, remove_entry, Contains-lookup_entry, Bytes, is_within, HeaderFields, cluster_size, L2TableView, RefBlockView, CachedTable, known, overlays, SameIn, IsPartly, known_bytes, IsFreeAt, IsFreeOf, AreApart, AreClean, known-at, known-none, known_elsewhere, known_unmodified, clean_known, no_overlay, overlays_within, within_cluster, cluster_within, differs, Slot, L2CacheBackend, RefBlockCacheBackend, MetadataCaches, Cache, can_remove, with_entries, same_number, cached_table, cached_tables, rb_at, l2_tables, refblocks, AreNoMore, NoClusterDirtyInBoth, KnownWithout, EvictsTableApart, KnownWithoutBlock, AllocatesBlockApart}
 use Rattle.qcow2_alloc.proofs.CachedEntries.Lists.{lookup-from_entry}
 use Rattle.qcow2_alloc.proofs.KeptTables.Loaded.{loaded_without}
 use Rattle.qcow2_alloc.proofs.KeptTables.Listing.{loaded_distinct, free_elsewhere, free_of}

@@ -1,5 +1,6 @@
 -- If no cached table lies in cluster 0, calls of the caches leave that cluster the same.
-use Rattle.qcow2_alloc.proofs.Common.{◌≡◌, inl, inr, ℕ, ◌*◌, ◌<◌, ◌^◌, Bool, true, false, cond, eqb, List, [], ◌∷◌, Option, Some, None, Result, Ok, Err, IsSome, refl, sym, ap, ◌∙◌, subst, arith, IfSome, IsNone, option_map, option_map_or, option_or, lookup, lookup_entry, remove_entry, set_value, nat_tests, promoted, StorageView, MetadataError, L2TableView, RefBlockView, Slot, CacheError, InUse, StillInUse, Memory, Backend, L2CacheBackend, RefBlockCacheBackend, MetadataCaches, ImageStorage, Cache, oldest_free, is_pinned, slot_of, set_at, with_entries, OthersStay, Unit₀, FlushesEntry, FlushesAll, Flushes, HasRoomForEntry, HasNoRoom, GetsNew, InsertsNew, Replaces, IsInHeaderCluster, BytesStay, KeepsHeaderCluster, LeaveHeaderCluster, CachesSpareHeader, KeepBehindHeader, storage_of, answer_done, answer_refused, table_steps, LoadsTable, FailsToLoad, FlushesTable, FailsToFlush, l2_steps, rb_steps, cleared_l2, cleared_rb, IsTableOf, IsBlockOf}
+use Rattle.std.proofs.Common.{◌≡◌, ◌*◌, ◌<◌, ◌^◌, ◌∷◌, inl, inr, ℕ, Bool, true, false, cond, eqb, List, [], Option, Some, None, Result, Ok, Err, IsSome, refl, sym, ap, ◌∙◌, subst, arith, IfSome}
+use Rattle.qcow2_alloc.proofs.Common.{IsNone, option_map, option_map_or, option_or, lookup, lookup_entry, remove_entry, set_value, nat_tests, promoted, StorageView, MetadataError, L2TableView, RefBlockView, Slot, CacheError, InUse, StillInUse, Memory, Backend, L2CacheBackend, RefBlockCacheBackend, MetadataCaches, ImageStorage, Cache, oldest_free, is_pinned, slot_of, set_at, with_entries, OthersStay, Unit₀, FlushesEntry, FlushesAll, Flushes, HasRoomForEntry, HasNoRoom, GetsNew, InsertsNew, Replaces, IsInHeaderCluster, BytesStay, KeepsHeaderCluster, LeaveHeaderCluster, CachesSpareHeader, KeepBehindHeader, storage_of, answer_done, answer_refused, table_steps, LoadsTable, FailsToLoad, FlushesTable, FailsToFlush, l2_steps, rb_steps, cleared_l2, cleared_rb, IsTableOf, IsBlockOf}
 use Rattle.qcow2_alloc.specs.declared.cache.Direction.{Direction}
 use Rattle.qcow2_alloc.proofs.HeaderClusters.{below_others, call_keeps, quiet_keeps, same_kept, above_kept, header_cluster_none, header_cluster_then}
 use Rattle.qcow2_alloc.proofs.KeptTables.Fetching.{none_or_some}

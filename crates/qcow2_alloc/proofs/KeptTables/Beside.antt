@@ -1,5 +1,6 @@
 -- A write to bytes that belong to no table keeps the invariant of the caches.
-use Rattle.qcow2_alloc.proofs.Common.{◌≡◌, ◌⊎◌, inl, inr, ℕ, ◌/◌, ◌<◌, refl, sym, ap, ◌∙◌, subst, arith, Bytes, HeaderFields, cluster_size, l1_entry, reftable_entry, host_offset, block_offset, is_copied, named_for_tables, Pending, CrashInvariant, SameIn, SameTop, HasL2, HasOwnL2, HasBlock, AreNamedBlocks, kept_beside, shares, top_stays, table_has, block_has, MetadataCaches, order_of, l2_tables, refblocks, known_of, CacheInvariant}
+use Rattle.std.proofs.Common.{◌≡◌, ◌⊎◌, ◌/◌, ◌<◌, inl, inr, ℕ, refl, sym, ap, ◌∙◌, subst, arith}
+use Rattle.qcow2_alloc.proofs.Common.{Bytes, HeaderFields, cluster_size, l1_entry, reftable_entry, host_offset, block_offset, is_copied, named_for_tables, Pending, CrashInvariant, SameIn, SameTop, HasL2, HasOwnL2, HasBlock, AreNamedBlocks, kept_beside, shares, top_stays, table_has, block_has, MetadataCaches, order_of, l2_tables, refblocks, known_of, CacheInvariant}
 use Rattle.qcow2_alloc.proofs.KeptTables.Loaded.{loaded_beside}
 
 module _ {S : Type 0} (h : HeaderFields) (p p' : Pending) (caches : MetadataCaches S) (on_storage on_storage' : Bytes) (sound : CacheInvariant h p caches on_storage) (named_blocks : AreNamedBlocks h (refblocks caches) on_storage)

@@ -1,5 +1,6 @@
 -- The reftable still names each refblock that it named before, and the offset of every table fits into 64 bits.
-use Rattle.qcow2_alloc.proofs.Common.{◌≡◌, ◌⊎◌, inl, inr, ℕ, ◌*◌, ◌/◌, ◌%◌, ◌^◌, ◌<◌, List, sym, ap, ◌∙◌, subst, arith, mod_below, pow_pos, div-add-mod', Bytes, HeaderFields, cluster_size, l1_entry, reftable_entry, host_offset, block_offset, L2TableView, RefBlockView, HasPlace, CachedTable, Direction, Pending, SameTop, known_bytes, IsFreeOf, HasL2, HasBlock, AreNamedBlocks, SameTop-sym, SameTop-trans, Slot, MetadataCaches, IsTableOf, IsBlockOf, cached_tables, AreKept, l2_tables, refblocks, CacheInvariant}
+use Rattle.std.proofs.Common.{◌≡◌, ◌⊎◌, ◌*◌, ◌/◌, ◌%◌, ◌^◌, ◌<◌, inl, inr, ℕ, List, sym, ap, ◌∙◌, subst, arith}
+use Rattle.qcow2_alloc.proofs.Common.{mod_below, pow_pos, div-add-mod', Bytes, HeaderFields, cluster_size, l1_entry, reftable_entry, host_offset, block_offset, L2TableView, RefBlockView, HasPlace, CachedTable, Direction, Pending, SameTop, known_bytes, IsFreeOf, HasL2, HasBlock, AreNamedBlocks, SameTop-sym, SameTop-trans, Slot, MetadataCaches, IsTableOf, IsBlockOf, cached_tables, AreKept, l2_tables, refblocks, CacheInvariant}
 use Rattle.qcow2_alloc.proofs.KeptTables.Standing.{AreStanding, standing_of, free_or_named}
 
 -- ---- where tables are named

@@ -1,5 +1,6 @@
 -- Why calls on sound caches are refused.
-use Rattle.qcow2_alloc.proofs.Common.{◌≡◌, ◌⊎◌, inl, inr, ℕ, ◌≤◌, Bool, true, false, eqb, List, length, Option, Some, Result, Ok, Err, IfErr, IsErr, IsErrAnd, IsSome, refl, sym, ◌∙◌, subst, IfSome, IsNone, lookup, lookup_entry, remove_entry, promoted, StorageView, Bytes, MetadataError, HeaderFields, L2TableView, RefBlockView, HasPlace, IsOfStorageOrMemory, Pending, HasL2, Slot, CacheError, InUse, StillInUse, Memory, Backend, L2CacheBackend, RefBlockCacheBackend, MetadataCaches, ImageError, ImageStorage, Cache, pinned, Steps, Unit₀, Flushes, GetsNew, InsertsNew, Replaces, CachesHaveRoom, AreAllPinned, IsInUseOrFault, of_metadata, of_cache, IsFault, storage_of, l2_steps, rb_steps, cleared_l2, cleared_rb, IsTableOf, IsBlockOf, HavePlaces, CacheInvariant}
+use Rattle.std.proofs.Common.{◌≡◌, ◌⊎◌, ◌≤◌, inl, inr, ℕ, Bool, true, false, eqb, List, length, Option, Some, Result, Ok, Err, IfErr, IsErr, IsErrAnd, IsSome, refl, sym, ◌∙◌, subst, IfSome}
+use Rattle.qcow2_alloc.proofs.Common.{IsNone, lookup, lookup_entry, remove_entry, promoted, StorageView, Bytes, MetadataError, HeaderFields, L2TableView, RefBlockView, HasPlace, IsOfStorageOrMemory, Pending, HasL2, Slot, CacheError, InUse, StillInUse, Memory, Backend, L2CacheBackend, RefBlockCacheBackend, MetadataCaches, ImageError, ImageStorage, Cache, pinned, Steps, Unit₀, Flushes, GetsNew, InsertsNew, Replaces, CachesHaveRoom, AreAllPinned, IsInUseOrFault, of_metadata, of_cache, IsFault, storage_of, l2_steps, rb_steps, cleared_l2, cleared_rb, IsTableOf, IsBlockOf, HavePlaces, CacheInvariant}
 use Rattle.image_access.specs.declared.error.StorageError.TheVariants as S
 use Rattle.qcow2_metadata.specs.declared.error.MetadataError.TheVariants as M
 use Rattle.qcow2_alloc.specs.declared.error.ImageError.TheVariants as I

@@ -1,5 +1,6 @@
 -- A cached table is changed in place.
-use Rattle.qcow2_alloc.proofs.Common.{◌≡◌, inl, inr, ℕ, ◌+◌, ◌-◌, ◌/◌, ◌%◌, ◌<◌, ◌&&◌, Bool, true, false, eqb, List, [], ◌∷◌, ◌++◌, Option, Some, None, IsSome, refl, sym, ap, ◌∙◌, subst, arith, cases_Bool, eq-eqb, option_map, lookup, set_value, Bytes, is_within, CachedTable, known, overlays, AreApart, known-none, known_there, known_elsewhere, unmodified_over, overlays_within, within_cluster, cluster_within, Slot, slot_of, value_at, set_at, same_number, AreElsewhere, IsCurrent, AreLoaded, AllValuesFit}
+use Rattle.std.proofs.Common.{◌≡◌, ◌+◌, ◌-◌, ◌/◌, ◌%◌, ◌<◌, ◌&&◌, ◌∷◌, ◌++◌, inl, inr, ℕ, Bool, true, false, eqb, List, [], Option, Some, None, IsSome, refl, sym, ap, ◌∙◌, subst, arith}
+use Rattle.qcow2_alloc.proofs.Common.{cases_Bool, eq-eqb, option_map, lookup, set_value, Bytes, is_within, CachedTable, known, overlays, AreApart, known-none, known_there, known_elsewhere, unmodified_over, overlays_within, within_cluster, cluster_within, Slot, slot_of, value_at, set_at, same_number, AreElsewhere, IsCurrent, AreLoaded, AllValuesFit}
 use Rattle.qcow2_alloc.proofs.KeptTables.Loaded.{elsewhere_with, in_own_cluster}
 use Rattle.qcow2_alloc.proofs.KeptTables.Listing.{free_elsewhere, loaded_distinct}
 use Rattle.qcow2_alloc.proofs.KeptTables.Entries.{away_from}

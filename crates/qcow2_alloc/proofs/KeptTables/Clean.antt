@@ -1,5 +1,6 @@
 -- If no table of a cache is modified, none is after a flush, or after an unmodified one was inserted.
-use Rattle.qcow2_alloc.proofs.Common.{◌≡◌, inl, inr, ℕ, Bool, true, false, cond, eqb, List, [], ◌∷◌, Option, Some, None, Result, Ok, IsSome, refl, sym, subst, IfSome, IsNone, option_or, lookup, lookup_entry, remove_entry, promoted, StorageView, MetadataError, L2TableView, RefBlockView, CachedTable, overlays, Direction, Neither, L2DependsOnRb, RbDependsOnL2, IsFreeAt, AreClean, BlocksMayGo, TablesMayGo, unmodified_over, Slot, CacheError, L2CacheBackend, RefBlockCacheBackend, MetadataCaches, ImageStorage, Cache, is_pinned, oldest_free, slot_of, Steps, Unit₀, GetsNew, InsertsNew, Replaces, Flushes, storage_of, l2_steps, cached_table, cached_tables, l2_tables, refblocks, NextIsClean}
+use Rattle.std.proofs.Common.{◌≡◌, ◌∷◌, inl, inr, ℕ, Bool, true, false, cond, eqb, List, [], Option, Some, None, Result, Ok, IsSome, refl, sym, subst, IfSome}
+use Rattle.qcow2_alloc.proofs.Common.{IsNone, option_or, lookup, lookup_entry, remove_entry, promoted, StorageView, MetadataError, L2TableView, RefBlockView, CachedTable, overlays, Direction, Neither, L2DependsOnRb, RbDependsOnL2, IsFreeAt, AreClean, BlocksMayGo, TablesMayGo, unmodified_over, Slot, CacheError, L2CacheBackend, RefBlockCacheBackend, MetadataCaches, ImageStorage, Cache, is_pinned, oldest_free, slot_of, Steps, Unit₀, GetsNew, InsertsNew, Replaces, Flushes, storage_of, l2_steps, cached_table, cached_tables, l2_tables, refblocks, NextIsClean}
 use Rattle.qcow2_alloc.proofs.KeptTables.Fetching.{none_or_some}
 use Rattle.qcow2_alloc.proofs.KeptTables.Inserting.{found_or_not, lookup_none}
 use Rattle.qcow2_alloc.proofs.CachedEntries.Each.{IsOfEach, each_flushed, each_got, each_inserted, each_promoted, each_replaced}

@@ -1,5 +1,6 @@
 -- One refcount of a cached refblock changes.
-use Rattle.qcow2_alloc.proofs.Common.{◌≡◌, ◌↔◌, IsTrue, ℕ, ◌+◌, ◌-◌, ◌*◌, ◌/◌, ◌%◌, ◌^◌, ◌<◌, ◌≤◌, ◌==◌, Bool, true, false, eqb, List, [], ◌∷◌, ◌++◌, Some, refl, sym, ap, ◌∙◌, subst, arith, mod_below, eq-eqb, ne_eqb, Bytes, byte_at, HeaderFields, cluster_size, count_width, counts_per_block, reftable_entry, block_offset, block_count, count, named_by_reftable, RefBlockView, count_in, count_at, counts_of, ChangesCount, CachedTable, known, Pending, CrashInvariant, SameCovers, block_of, CountRises, CountFalls, IsSameOutside, known_bytes, HasBlock, AreNamedBlocks, Sizes, block_count-moved, known-at, known-none, changed_outside, block_has, kept_sizes, l2s_free, counted_covers, refblock_changed, Slot, MetadataCaches, slot_of, value_at, set_at, with_entries, IsBlockOf, cached_table, cached_tables, AreKept, AreLoaded, AllValuesFit, order_of, l2_tables, refblocks, known_of, CacheInvariant, IsCountedAt, Made}
+use Rattle.std.proofs.Common.{◌≡◌, ◌↔◌, ◌+◌, ◌-◌, ◌*◌, ◌/◌, ◌%◌, ◌^◌, ◌<◌, ◌≤◌, ◌==◌, ◌∷◌, ◌++◌, IsTrue, ℕ, Bool, true, false, eqb, List, [], Some, refl, sym, ap, ◌∙◌, subst, arith}
+use Rattle.qcow2_alloc.proofs.Common.{mod_below, eq-eqb, ne_eqb, Bytes, byte_at, HeaderFields, cluster_size, count_width, counts_per_block, reftable_entry, block_offset, block_count, count, named_by_reftable, RefBlockView, count_in, count_at, counts_of, ChangesCount, CachedTable, known, Pending, CrashInvariant, SameCovers, block_of, CountRises, CountFalls, IsSameOutside, known_bytes, HasBlock, AreNamedBlocks, Sizes, block_count-moved, known-at, known-none, changed_outside, block_has, kept_sizes, l2s_free, counted_covers, refblock_changed, Slot, MetadataCaches, slot_of, value_at, set_at, with_entries, IsBlockOf, cached_table, cached_tables, AreKept, AreLoaded, AllValuesFit, order_of, l2_tables, refblocks, known_of, CacheInvariant, IsCountedAt, Made}
 use Rattle.qcow2_laws.proofs.Places.{count_in as count_found}
 use Rattle.qcow2_laws.proofs.CachedChanges.{count_rises, count_falls}
 use Rattle.qcow2_alloc.proofs.KeptTables.Entries.{tables_at}

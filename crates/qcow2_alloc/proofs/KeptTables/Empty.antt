@@ -1,5 +1,6 @@
 -- Empty caches.
-use Rattle.qcow2_alloc.proofs.Common.{◌≡◌, ◌==◌, ℕ, inl, [], refl, sym, ap, subst, Bytes, HeaderFields, cluster_size, has_data_file, known, Neither, Pending, CrashInvariant, known_bytes, MetadataCaches, HasFormat, order_of, known_of, CacheInvariant}
+use Rattle.std.proofs.Common.{◌≡◌, ◌==◌, ℕ, inl, [], refl, sym, ap, subst}
+use Rattle.qcow2_alloc.proofs.Common.{Bytes, HeaderFields, cluster_size, has_data_file, known, Neither, Pending, CrashInvariant, known_bytes, MetadataCaches, HasFormat, order_of, known_of, CacheInvariant}
 
 -- no table is laid over the bytes
 pub known_empty : (size : ℕ) (b : Bytes) → known_bytes size [] [] b ≡ b

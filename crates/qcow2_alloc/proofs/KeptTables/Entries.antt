@@ -1,5 +1,6 @@
 -- Entries of a cache as tables: which one is evicted, moves to the front, or is inserted.
-use Rattle.qcow2_alloc.proofs.Common.{◌≡◌, ◌≢◌, ℕ, ◌+◌, ◌*◌, ◌^◌, ◌<◌, ◌≤◌, ◌⊎◌, Bool, true, false, cond, eqb, inl, inr, List, [], ◌∷◌, ◌++◌, Option, Some, None, refl, sym, ap, arith, cases_Bool, nat_tests, pow_pos, option_or, lookup, lookup_entry, remove_entry, CachedTable, Slot, oldest_free, is_pinned, apart, cached_table, cached_tables, AreElsewhere}
+use Rattle.std.proofs.Common.{◌≡◌, ◌≢◌, ◌+◌, ◌*◌, ◌^◌, ◌<◌, ◌≤◌, ◌⊎◌, ◌∷◌, ◌++◌, ℕ, Bool, true, false, cond, eqb, inl, inr, List, [], Option, Some, None, refl, sym, ap, arith}
+use Rattle.qcow2_alloc.proofs.Common.{cases_Bool, nat_tests, pow_pos, option_or, lookup, lookup_entry, remove_entry, CachedTable, Slot, oldest_free, is_pinned, apart, cached_table, cached_tables, AreElsewhere}
 use Rattle.qcow2_alloc.proofs.KeptTables.Loaded.{elsewhere_of}
 
 -- each begins at a place of its own

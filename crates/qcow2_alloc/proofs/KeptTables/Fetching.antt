@@ -1,5 +1,6 @@
 -- A table is loaded into the caches.
-use Rattle.qcow2_alloc.proofs.Common.{◌≡◌, ◌⊎◌, inl, inr, ℕ, ◌^◌, ◌%◌, Bool, true, false, eqb, List, ◌∷◌, Option, Some, None, Result, Ok, IsSome, refl, sym, ap, subst, IsNone, lookup, promoted, StorageView, Bytes, byte_at, MetadataError, cluster_size, L2TableView, RefBlockView, CachedTable, known_bytes, BlocksMayGo, TablesMayGo, HasL2, HasBlock, CacheError, L2CacheBackend, RefBlockCacheBackend, MetadataCaches, ImageStorage, Cache, with_entries, GetsNew, storage_of, l2_steps, rb_steps, cleared_l2, cleared_rb, IsTableOf, IsBlockOf, cached_tables, AllValuesFit, AreElsewhere, AreKept, order_of, l2_tables, refblocks, KeepSound}
+use Rattle.std.proofs.Common.{◌≡◌, ◌⊎◌, ◌^◌, ◌%◌, ◌∷◌, inl, inr, ℕ, Bool, true, false, eqb, List, Option, Some, None, Result, Ok, IsSome, refl, sym, ap, subst}
+use Rattle.qcow2_alloc.proofs.Common.{IsNone, lookup, promoted, StorageView, Bytes, byte_at, MetadataError, cluster_size, L2TableView, RefBlockView, CachedTable, known_bytes, BlocksMayGo, TablesMayGo, HasL2, HasBlock, CacheError, L2CacheBackend, RefBlockCacheBackend, MetadataCaches, ImageStorage, Cache, with_entries, GetsNew, storage_of, l2_steps, rb_steps, cleared_l2, cleared_rb, IsTableOf, IsBlockOf, cached_tables, AllValuesFit, AreElsewhere, AreKept, order_of, l2_tables, refblocks, KeepSound}
 use Rattle.qcow2_alloc.proofs.KeptTables.BlocksNamed.{named_blocks_beside, named_blocks_anew, blocks_stand, block_place}
 use Rattle.qcow2_alloc.proofs.KeptTables.Standing.{AreStanding, stand_promoted, get_stands}
 use Rattle.qcow2_alloc.proofs.KeptTables.Writing.{crash_safety, Flushed}

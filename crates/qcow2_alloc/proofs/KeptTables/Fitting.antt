@@ -1,5 +1,6 @@
 -- The tables of a cache have the image's format, whatever is flushed, loaded or inserted.
-use Rattle.qcow2_alloc.proofs.Common.{◌≡◌, ℕ, Bool, true, eqb, List, Option, Some, Result, Ok, sym, subst, lookup_entry, remove_entry, promoted, StorageView, MetadataError, Slot, CacheError, table_steps, Unit₀, Flushes, GetsNew, InsertsNew, Replaces, AllValuesFit, Steps}
+use Rattle.std.proofs.Common.{◌≡◌, ℕ, Bool, true, eqb, List, Option, Some, Result, Ok, sym, subst}
+use Rattle.qcow2_alloc.proofs.Common.{lookup_entry, remove_entry, promoted, StorageView, MetadataError, Slot, CacheError, table_steps, Unit₀, Flushes, GetsNew, InsertsNew, Replaces, AllValuesFit, Steps}
 use Rattle.qcow2_alloc.proofs.CachedEntries.Each.{IsOfEach, each_flushed, each_got, each_inserted, each_promoted, each_replaced}
 
 fits_each : {V : Type 0} (IsFit : V → Type 0) → IsOfEach (λ k v. IsFit v) (AllValuesFit IsFit)

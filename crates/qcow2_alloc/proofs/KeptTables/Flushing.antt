@@ -1,5 +1,6 @@
 -- A whole cache is flushed.
-use Rattle.qcow2_alloc.proofs.Common.{◌≡◌, ℕ, ◌^◌, List, [], ◌∷◌, ◌++◌, Option, Some, None, Result, Ok, Err, refl, ap, subst, StorageView, Bytes, byte_at, HeaderFields, MetadataError, cluster_size, L2TableView, RefBlockView, CachedTable, Direction, Pending, known_bytes, AreClean, BlocksMayGo, TablesMayGo, IsWrittenSo, IsSafeBetween, HasBlock, Slot, CacheError, InUse, StillInUse, Memory, Backend, L2CacheBackend, RefBlockCacheBackend, MetadataCaches, ImageStorage, Cache, with_entries, Unit₀, Flushes, FlushesAll, storage_of, l2_steps, rb_steps, cleared_l2, cleared_rb, IsTableOf, IsBlockOf, cached_tables, AreKept, order_of, l2_tables, refblocks, KeepSound}
+use Rattle.std.proofs.Common.{◌≡◌, ◌^◌, ◌∷◌, ◌++◌, ℕ, List, [], Option, Some, None, Result, Ok, Err, refl, ap, subst}
+use Rattle.qcow2_alloc.proofs.Common.{StorageView, Bytes, byte_at, HeaderFields, MetadataError, cluster_size, L2TableView, RefBlockView, CachedTable, Direction, Pending, known_bytes, AreClean, BlocksMayGo, TablesMayGo, IsWrittenSo, IsSafeBetween, HasBlock, Slot, CacheError, InUse, StillInUse, Memory, Backend, L2CacheBackend, RefBlockCacheBackend, MetadataCaches, ImageStorage, Cache, with_entries, Unit₀, Flushes, FlushesAll, storage_of, l2_steps, rb_steps, cleared_l2, cleared_rb, IsTableOf, IsBlockOf, cached_tables, AreKept, order_of, l2_tables, refblocks, KeepSound}
 use Rattle.qcow2_alloc.proofs.KeptTables.BlocksNamed.{named_blocks_beside, named_blocks_anew, blocks_stand, block_place}
 use Rattle.qcow2_alloc.proofs.KeptTables.Standing.{flush_stands}
 use Rattle.qcow2_alloc.proofs.KeptTables.Fitting.{flush_fits}

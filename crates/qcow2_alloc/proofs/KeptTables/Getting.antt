@@ -1,5 +1,6 @@
 -- A table moves to the front of a cache, is loaded, or is evicted: the invariant holds, the known contents stay the same, and a stop is as safe as before.
-use Rattle.qcow2_alloc.proofs.Common.{◌≡◌, ◌⊎◌, ℕ, ◌+◌, ◌*◌, ◌%◌, ◌^◌, ◌<◌, Bool, true, false, eqb, inl, inr, List, ◌∷◌, ◌++◌, Option, Some, None, Result, Ok, Err, refl, sym, ap, ◌∙◌, subst, arith, mod-mul-add, pow_pos, option_map_or, lookup, lookup_entry, remove_entry, promoted, Contains-lookup_entry, StorageView, EachMomentSince, byte_at-bytes_at, passes_if, Bytes, byte_at, MetadataError, CachedTable, Slot, CacheError, InUse, StillInUse, Memory, Backend, slot_of, LoadsTable, FailsToLoad, FlushesTable, FailsToFlush, table_steps, Evicts, HasRoomForEntry, HasNoRoom, GetsNew, InsertsNew, Replaces, same_number, cached_table, cached_tables, AreElsewhere, IsCurrent}
+use Rattle.std.proofs.Common.{◌≡◌, ◌⊎◌, ◌+◌, ◌*◌, ◌%◌, ◌^◌, ◌<◌, ◌∷◌, ◌++◌, ℕ, Bool, true, false, eqb, inl, inr, List, Option, Some, None, Result, Ok, Err, refl, sym, ap, ◌∙◌, subst, arith}
+use Rattle.qcow2_alloc.proofs.Common.{mod-mul-add, pow_pos, option_map_or, lookup, lookup_entry, remove_entry, promoted, Contains-lookup_entry, StorageView, EachMomentSince, byte_at-bytes_at, passes_if, Bytes, byte_at, MetadataError, CachedTable, Slot, CacheError, InUse, StillInUse, Memory, Backend, slot_of, LoadsTable, FailsToLoad, FlushesTable, FailsToFlush, table_steps, Evicts, HasRoomForEntry, HasNoRoom, GetsNew, InsertsNew, Replaces, same_number, cached_table, cached_tables, AreElsewhere, IsCurrent}
 use Rattle.qcow2_alloc.proofs.CachedEntries.Lists.{lookup_none-removed}
 use Rattle.qcow2_alloc.proofs.KeptTables.Writing.{Safety, WritesOne, Flushed, Puts, flushed_none, flushed_then, flushed_entry}
 use Rattle.qcow2_alloc.proofs.KeptTables.Entries.{AreDistinct, away_from, split_oldest, split_found, tables_at, tables_both, removed_at, elsewhere_of_none}

@@ -1,5 +1,6 @@
 -- A flush leaves the bytes of each cached table the same.
-use Rattle.qcow2_alloc.proofs.Common.{◌≡◌, ℕ, Bool, inl, inr, eqb, List, [], ◌∷◌, Option, Some, None, Result, ap, ◌∙◌, cases_Bool, option_map, StorageView, MetadataError, RefBlockView, Slot, CacheError, RefBlockCacheBackend, MetadataCaches, ImageStorage, Cache, value_at, Steps, Unit₀, Flushes, FlushesEntry, FlushesAll, storage_of, rb_at, rb_steps}
+use Rattle.std.proofs.Common.{◌≡◌, ◌∷◌, ℕ, Bool, inl, inr, eqb, List, [], Option, Some, None, Result, ap, ◌∙◌}
+use Rattle.qcow2_alloc.proofs.Common.{cases_Bool, option_map, StorageView, MetadataError, RefBlockView, Slot, CacheError, RefBlockCacheBackend, MetadataCaches, ImageStorage, Cache, value_at, Steps, Unit₀, Flushes, FlushesEntry, FlushesAll, storage_of, rb_at, rb_steps}
 use Rattle.qcow2_alloc.proofs.KeptTables.Flushing.{all_of}
 
 module _ {S V E : Type 0} (steps : Steps S ℕ V E) (bytes : V → List ℕ) (keeps : (s t : S) (k : ℕ) (v w : V) → steps.flushed s k v w t → bytes w ≡ bytes v) (test : ℕ → Bool) where

@@ -1,5 +1,6 @@
 -- Calls of the caches write tables in the order of the direction.
-use Rattle.qcow2_alloc.proofs.Common.{◌≡◌, inl, inr, ℕ, Bool, true, false, eqb, List, [], Option, Some, Result, Ok, Err, IsSome, refl, subst, IfSome, IsNone, lookup, lookup_entry, remove_entry, promoted, StorageView, passes_none, passes_on, passes_if, Bytes, byte_at, HeaderFields, MetadataError, cluster_size, L2TableView, RefBlockView, CachedTable, Direction, IsMixed, known_bytes, BlocksMayGo, TablesMayGo, HasL2, HasBlock, Slot, CacheError, L2CacheBackend, RefBlockCacheBackend, MetadataCaches, ImageStorage, Cache, Unit₀, Flushes, GetsNew, InsertsNew, Replaces, storage_of, l2_steps, rb_steps, cleared_l2, cleared_rb, IsTableOf, IsBlockOf, IsInOrderSince, order_of, l2_tables, refblocks, known_of, KeepSound, WritesInOrder}
+use Rattle.std.proofs.Common.{◌≡◌, inl, inr, ℕ, Bool, true, false, eqb, List, [], Option, Some, Result, Ok, Err, IsSome, refl, subst, IfSome}
+use Rattle.qcow2_alloc.proofs.Common.{IsNone, lookup, lookup_entry, remove_entry, promoted, StorageView, passes_none, passes_on, passes_if, Bytes, byte_at, HeaderFields, MetadataError, cluster_size, L2TableView, RefBlockView, CachedTable, Direction, IsMixed, known_bytes, BlocksMayGo, TablesMayGo, HasL2, HasBlock, Slot, CacheError, L2CacheBackend, RefBlockCacheBackend, MetadataCaches, ImageStorage, Cache, Unit₀, Flushes, GetsNew, InsertsNew, Replaces, storage_of, l2_steps, rb_steps, cleared_l2, cleared_rb, IsTableOf, IsBlockOf, IsInOrderSince, order_of, l2_tables, refblocks, known_of, KeepSound, WritesInOrder}
 use Rattle.qcow2_alloc.proofs.KeptTables.Writing.{crash_safety, Flushed, Puts, flushed_all}
 use Rattle.qcow2_alloc.proofs.KeptTables.Flushing.{all_of}
 use Rattle.qcow2_alloc.proofs.KeptTables.Fetching.{none_or_some, is_none}

@@ -1,5 +1,6 @@
 -- A table is inserted into the caches.
-use Rattle.qcow2_alloc.proofs.Common.{◌≡◌, ℕ, ◌+◌, ◌*◌, ◌<◌, ◌^◌, ◌%◌, Bool, true, false, eqb, List, ◌∷◌, Option, Some, None, Result, Ok, Err, arith, refl, sym, ap, ◌∙◌, subst, IfSome, IsNone, option_map, lookup, lookup_entry, remove_entry, Contains-lookup_entry, nat_tests, StorageView, Bytes, byte_at, HeaderFields, Pending, MetadataError, cluster_size, L2TableView, RefBlockView, CachedTable, known_bytes, BlocksMayGo, TablesMayGo, HasL2, HasBlock, Slot, CacheError, L2CacheBackend, RefBlockCacheBackend, MetadataCaches, ImageStorage, Cache, slot_of, value_at, with_entries, Steps, InsertsNew, Replaces, storage_of, l2_steps, rb_steps, cleared_l2, cleared_rb, IsTableOf, IsBlockOf, cached_tables, AllValuesFit, AreElsewhere, AreKept, HasFormat, order_of, l2_tables, refblocks, CacheInvariant, InternalCacheStep, HoldsKnown}
+use Rattle.std.proofs.Common.{◌≡◌, ◌+◌, ◌*◌, ◌<◌, ◌^◌, ◌%◌, ◌∷◌, ℕ, Bool, true, false, eqb, List, Option, Some, None, Result, Ok, Err, arith, refl, sym, ap, ◌∙◌, subst, IfSome}
+use Rattle.qcow2_alloc.proofs.Common.{IsNone, option_map, lookup, lookup_entry, remove_entry, Contains-lookup_entry, nat_tests, StorageView, Bytes, byte_at, HeaderFields, Pending, MetadataError, cluster_size, L2TableView, RefBlockView, CachedTable, known_bytes, BlocksMayGo, TablesMayGo, HasL2, HasBlock, Slot, CacheError, L2CacheBackend, RefBlockCacheBackend, MetadataCaches, ImageStorage, Cache, slot_of, value_at, with_entries, Steps, InsertsNew, Replaces, storage_of, l2_steps, rb_steps, cleared_l2, cleared_rb, IsTableOf, IsBlockOf, cached_tables, AllValuesFit, AreElsewhere, AreKept, HasFormat, order_of, l2_tables, refblocks, CacheInvariant, InternalCacheStep, HoldsKnown}
 use Rattle.qcow2_alloc.proofs.CachedEntries.Lists.{lookup-from_entry}
 use Rattle.qcow2_alloc.proofs.KeptTables.BlocksNamed.{named_blocks_beside, named_blocks_anew, blocks_stand, block_place}
 use Rattle.qcow2_alloc.proofs.KeptTables.Standing.{clean_stands, insert_stands, replace_stands}

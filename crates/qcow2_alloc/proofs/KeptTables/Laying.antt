@@ -1,5 +1,6 @@
 -- A modified table is inserted into the caches: it is overlaid on the known contents.
-use Rattle.qcow2_alloc.proofs.Common.{◌≡◌, ◌≢◌, ◌⊎◌, inl, inr, ℕ, ◌-◌, ◌/◌, ◌%◌, ◌≤◌, max, true, false, cond, List, [], ◌∷◌, refl, sym, ap, ◌∙◌, subst, arith, cases_Bool, cases_eq, cond-true, fun_ext, Bytes, HeaderFields, L2Mapping, cluster_size, entries_per_cluster, host_offset, named_by_l1_table, named_by_reftable, named_by_guest, CachedTable, known, overlays, Direction, Pending, CrashInvariant, SameCovers, SameIn, names, table_at, IsUnnamed, known_bytes, IsFreeAt, AreNamedBlocks, HasL2, HasOwnL2, HasBlock, table_once, over_guests-same, known-at, known-none, known_elsewhere, no_overlay, overlays_within, within_cluster, differs, shares, table_has, block_has, cover_stays, IsTop-top, AreElsewhere, AreKept}
+use Rattle.std.proofs.Common.{◌≡◌, ◌≢◌, ◌⊎◌, ◌-◌, ◌/◌, ◌%◌, ◌≤◌, ◌∷◌, inl, inr, ℕ, max, true, false, cond, List, [], refl, sym, ap, ◌∙◌, subst, arith}
+use Rattle.qcow2_alloc.proofs.Common.{cases_Bool, cases_eq, cond-true, fun_ext, Bytes, HeaderFields, L2Mapping, cluster_size, entries_per_cluster, host_offset, named_by_l1_table, named_by_reftable, named_by_guest, CachedTable, known, overlays, Direction, Pending, CrashInvariant, SameCovers, SameIn, names, table_at, IsUnnamed, known_bytes, IsFreeAt, AreNamedBlocks, HasL2, HasOwnL2, HasBlock, table_once, over_guests-same, known-at, known-none, known_elsewhere, no_overlay, overlays_within, within_cluster, differs, shares, table_has, block_has, cover_stays, IsTop-top, AreElsewhere, AreKept}
 use Rattle.qcow2_alloc.proofs.KeptTables.Listing.{free_elsewhere}
 
 -- ---- what is known

@@ -1,5 +1,6 @@
 -- The lists of cached tables change, and the known contents don't: an unmodified table is inserted, evicted or moved to the front.
-use Rattle.qcow2_alloc.proofs.Common.{◌≡◌, ◌⊎◌, ℕ, ◌+◌, ◌%◌, ◌/◌, ◌<◌, ◌≤◌, arith, true, false, inl, inr, List, [], ◌∷◌, ◌++◌, sym, ap, ◌∙◌, subst, Bytes, HeaderFields, cluster_size, named_by_reftable, named_by_l1_table, CachedTable, known, overlays, Direction, Pending, CrashInvariant, IsUnnamed, known_bytes, IsFreeAt, AreApart, HasL2, HasBlock, CacheInvariantOver, known_unmodified, known_promoted, unmodified_over, overlays_within, within_cluster, no_overlay, differs, table_has, block_has, rbs_free, l2s_free, known_is_on_storage, AreElsewhere, IsCurrent, AreLoaded, AreKept}
+use Rattle.std.proofs.Common.{◌≡◌, ◌⊎◌, ◌+◌, ◌%◌, ◌/◌, ◌<◌, ◌≤◌, ◌∷◌, ◌++◌, ℕ, arith, true, false, inl, inr, List, [], sym, ap, ◌∙◌, subst}
+use Rattle.qcow2_alloc.proofs.Common.{Bytes, HeaderFields, cluster_size, named_by_reftable, named_by_l1_table, CachedTable, known, overlays, Direction, Pending, CrashInvariant, IsUnnamed, known_bytes, IsFreeAt, AreApart, HasL2, HasBlock, CacheInvariantOver, known_unmodified, known_promoted, unmodified_over, overlays_within, within_cluster, no_overlay, differs, table_has, block_has, rbs_free, l2s_free, known_is_on_storage, AreElsewhere, IsCurrent, AreLoaded, AreKept}
 use Rattle.qcow2_alloc.proofs.KeptTables.Loaded.{one_place, in_own_cluster, loaded_without, loaded_promoted}
 use Rattle.qcow2_alloc.proofs.KeptTables.Entries.{AreDistinct}
 

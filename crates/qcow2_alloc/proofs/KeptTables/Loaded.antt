@@ -1,5 +1,6 @@
 -- What the caches hold after one of their tables was written.
-use Rattle.qcow2_alloc.proofs.Common.{◌≡◌, ◌≢◌, ℕ, ◌+◌, ◌-◌, ◌*◌, ◌/◌, ◌%◌, ◌<◌, true, false, ◌&&◌, inl, inr, List, [], ◌∷◌, ◌++◌, sym, ap, ◌∙◌, subst, arith, cases_Bool, div-add-mod', div-mul-add, Bytes, is_within, CachedTable, overlays, SameIn, IsFreeAt, IsFreeOf, IsWrittenSo, known_there, known-none, unmodified_over, overlays_within, within_cluster, cluster_within, no_overlay, AreElsewhere, IsCurrent, AreLoaded}
+use Rattle.std.proofs.Common.{◌≡◌, ◌≢◌, ◌+◌, ◌-◌, ◌*◌, ◌/◌, ◌%◌, ◌<◌, ◌&&◌, ◌∷◌, ◌++◌, ℕ, true, false, inl, inr, List, [], sym, ap, ◌∙◌, subst, arith}
+use Rattle.qcow2_alloc.proofs.Common.{cases_Bool, div-add-mod', div-mul-add, Bytes, is_within, CachedTable, overlays, SameIn, IsFreeAt, IsFreeOf, IsWrittenSo, known_there, known-none, unmodified_over, overlays_within, within_cluster, cluster_within, no_overlay, AreElsewhere, IsCurrent, AreLoaded}
 
 -- ---- places
 

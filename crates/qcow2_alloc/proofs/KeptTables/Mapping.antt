@@ -1,5 +1,6 @@
 -- One entry of a cached L2 table changes.
-use Rattle.qcow2_alloc.proofs.Common.{◌≡◌, ℕ, ◌+◌, ◌*◌, ◌/◌, ◌%◌, ◌^◌, ◌<◌, ◌≤◌, true, eqb, List, [], ◌∷◌, ◌++◌, Option, Some, None, IfSome, refl, sym, ap, ◌∙◌, subst, arith, Bytes, byte_at, HeaderFields, cluster_size, entries_per_cluster, l1_entry, l2_entry, host_offset, is_copied, named_by_l1_table, old_data_run, L2TableView, cover_at, entries_of, entry_at, ChangesEntry, CachedTable, known, number_at-moved, table_at, Pending, CrashInvariant, IsSameOutside, known_bytes, HasL2, HasOwnL2, AreNamedBlocks, Sizes, known-at, known-none, changed_outside, table_has, kept_sizes, rbs_free, l2_table_changed, Slot, MetadataCaches, slot_of, value_at, set_at, with_entries, IsTableOf, cached_table, cached_tables, AreKept, AreLoaded, AllValuesFit, order_of, l2_tables, refblocks, known_of, CacheInvariant, IsEntryAt, MadeEntry, ShowsEntry, ShowsKnown}
+use Rattle.std.proofs.Common.{◌≡◌, ◌+◌, ◌*◌, ◌/◌, ◌%◌, ◌^◌, ◌<◌, ◌≤◌, ◌∷◌, ◌++◌, ℕ, true, eqb, List, [], Option, Some, None, IfSome, refl, sym, ap, ◌∙◌, subst, arith}
+use Rattle.qcow2_alloc.proofs.Common.{Bytes, byte_at, HeaderFields, cluster_size, entries_per_cluster, l1_entry, l2_entry, host_offset, is_copied, named_by_l1_table, old_data_run, L2TableView, cover_at, entries_of, entry_at, ChangesEntry, CachedTable, known, number_at-moved, table_at, Pending, CrashInvariant, IsSameOutside, known_bytes, HasL2, HasOwnL2, AreNamedBlocks, Sizes, known-at, known-none, changed_outside, table_has, kept_sizes, rbs_free, l2_table_changed, Slot, MetadataCaches, slot_of, value_at, set_at, with_entries, IsTableOf, cached_table, cached_tables, AreKept, AreLoaded, AllValuesFit, order_of, l2_tables, refblocks, known_of, CacheInvariant, IsEntryAt, MadeEntry, ShowsEntry, ShowsKnown}
 use Rattle.qcow2_metadata.specs.Cover.{entry_cover}
 use Rattle.qcow2_alloc.proofs.KeptTables.Entries.{tables_at}
 use Rattle.qcow2_alloc.proofs.KeptTables.Loaded.{in_own_cluster}

@@ -1,5 +1,6 @@
 -- A cached table gets its reference: the invariant of the caches holds over the new bytes.
-use Rattle.qcow2_alloc.proofs.Common.{◌≡◌, ◌≢◌, ◌⊎◌, inl, inr, ℕ, ◌+◌, ◌*◌, ◌/◌, ◌%◌, ◌^◌, ◌<◌, Bool, eqb, List, [], ◌∷◌, ◌++◌, Option, Some, None, refl, sym, ap, ◌∙◌, subst, lookup, option_map, Bytes, byte_at, HeaderFields, cluster_size, CachedTable, Pending, CrashInvariant, SameIn, HasL2, HasOwnL2, HasBlock, AreNamedBlocks, kept_beside, Slot, MetadataCaches, slot_of, value_at, cached_table, cached_tables, AreElsewhere, IsCurrent, AreLoaded, order_of, l2_tables, refblocks, known_of, CacheInvariant}
+use Rattle.std.proofs.Common.{◌≡◌, ◌≢◌, ◌⊎◌, ◌+◌, ◌*◌, ◌/◌, ◌%◌, ◌^◌, ◌<◌, ◌∷◌, ◌++◌, inl, inr, ℕ, Bool, eqb, List, [], Option, Some, None, refl, sym, ap, ◌∙◌, subst}
+use Rattle.qcow2_alloc.proofs.Common.{lookup, option_map, Bytes, byte_at, HeaderFields, cluster_size, CachedTable, Pending, CrashInvariant, SameIn, HasL2, HasOwnL2, HasBlock, AreNamedBlocks, kept_beside, Slot, MetadataCaches, slot_of, value_at, cached_table, cached_tables, AreElsewhere, IsCurrent, AreLoaded, order_of, l2_tables, refblocks, known_of, CacheInvariant}
 use Rattle.qcow2_alloc.proofs.KeptTables.Changing.{new_data}
 use Rattle.qcow2_alloc.proofs.KeptTables.Entries.{tables_at, elsewhere_of_none}
 use Rattle.qcow2_alloc.proofs.KeptTables.Getting.{cluster_aligned}

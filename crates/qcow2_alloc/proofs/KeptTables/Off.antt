@@ -1,5 +1,6 @@
 -- Tables are dropped from the caches, unwritten: each cluster then has its known bytes or those on the storage.
-use Rattle.qcow2_alloc.proofs.Common.{◌≡◌, ◌⊎◌, inl, inr, ℕ, ◌+◌, ◌*◌, ◌/◌, ◌%◌, ◌^◌, ◌<◌, ◌≤◌, max, ◌&&◌, Bool, true, false, cond, not, nat_lt, eqb, List, [], ◌∷◌, ◌++◌, Option, Some, None, Result, Ok, Err, IsTrue, map, refl, sym, ap, ◌∙◌, subst, arith, cases_Bool, cases_eq, div-mul-add, mul-mod_left, nat_eq_equiv, IfSome, option_map, option_map_or, IsErr, IsErrAnd, lookup, lookup_entry, remove_entry, Contains-lookup_entry, Bytes, is_within, HeaderFields, MetadataError, L2Mapping, cluster_size, L2TableView, RefBlockView, named_by_l1_table, named_by_guest, CachedTable, known, overlays, Direction, Pending, CrashInvariant, IsPartly, named_in_either, IsUnnamed, known_bytes, IsFreeAt, IsFreeOf, AreApart, AreClean, AreNamedBlocks, HasL2, HasBlock, over_guests-le, known-at, known-none, known_there, known_elsewhere, known_unmodified, clean_known, no_overlay, unmodified_over, overlays_within, within_cluster, cluster_within, either_cover, table_has, kept_sizes, rbs_free, Slot, CacheError, InUse, StillInUse, Memory, Backend, L2CacheBackend, RefBlockCacheBackend, MetadataCaches, ImageError, of_cache, Cache, value_at, can_remove, is_pinned, pinned, with_entries, Unit₀, Invalidates, counts_none, CachesHaveRoom, KeepsPinsAndNotes, LeavesPinned, same_number, IsTableOf, IsBlockOf, cached_table, cached_tables, AreElsewhere, AreLoaded, AreKept, AllValuesFit, order_of, l2_tables, refblocks, rb_at, CacheInvariant, Evict, EvictsTable, TakenFrom, AllocatesBlock}
+use Rattle.std.proofs.Common.{◌≡◌, ◌⊎◌, ◌+◌, ◌*◌, ◌/◌, ◌%◌, ◌^◌, ◌<◌, ◌≤◌, ◌&&◌, ◌∷◌, ◌++◌, inl, inr, ℕ, max, Bool, true, false, cond, not, nat_lt, eqb, List, [], Option, Some, None, Result, Ok, Err, IsTrue, map, refl, sym, ap, ◌∙◌, subst, arith, IfSome, IsErr, IsErrAnd}
+use Rattle.qcow2_alloc.proofs.Common.{cases_Bool, cases_eq, div-mul-add, mul-mod_left, nat_eq_equiv, option_map, option_map_or, lookup, lookup_entry, remove_entry, Contains-lookup_entry, Bytes, is_within, HeaderFields, MetadataError, L2Mapping, cluster_size, L2TableView, RefBlockView, named_by_l1_table, named_by_guest, CachedTable, known, overlays, Direction, Pending, CrashInvariant, IsPartly, named_in_either, IsUnnamed, known_bytes, IsFreeAt, IsFreeOf, AreApart, AreClean, AreNamedBlocks, HasL2, HasBlock, over_guests-le, known-at, known-none, known_there, known_elsewhere, known_unmodified, clean_known, no_overlay, unmodified_over, overlays_within, within_cluster, cluster_within, either_cover, table_has, kept_sizes, rbs_free, Slot, CacheError, InUse, StillInUse, Memory, Backend, L2CacheBackend, RefBlockCacheBackend, MetadataCaches, ImageError, of_cache, Cache, value_at, can_remove, is_pinned, pinned, with_entries, Unit₀, Invalidates, counts_none, CachesHaveRoom, KeepsPinsAndNotes, LeavesPinned, same_number, IsTableOf, IsBlockOf, cached_table, cached_tables, AreElsewhere, AreLoaded, AreKept, AllValuesFit, order_of, l2_tables, refblocks, rb_at, CacheInvariant, Evict, EvictsTable, TakenFrom, AllocatesBlock}
 use Rattle.qcow2_alloc.proofs.CachedEntries.Knowing.{removed_apart}
 use Rattle.qcow2_alloc.proofs.CachedEntries.Lists.{lookup-from_entry}
 use Rattle.qcow2_alloc.proofs.CachedEntries.Pins.{removed_free}

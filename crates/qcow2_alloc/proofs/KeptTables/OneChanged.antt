@@ -1,5 +1,6 @@
 -- A cached value is replaced by another one.
-use Rattle.qcow2_alloc.proofs.Common.{◌≡◌, ℕ, false, cond, eqb, List, Option, Some, None, refl, ap, ◌∙◌, nat_eq_equiv, option_map, option_map_or, lookup, set_value, Slot, slot_of, value_at, set_at, ChangesHeld}
+use Rattle.std.proofs.Common.{◌≡◌, ℕ, false, cond, eqb, List, Option, Some, None, refl, ap, ◌∙◌}
+use Rattle.qcow2_alloc.proofs.Common.{nat_eq_equiv, option_map, option_map_or, lookup, set_value, Slot, slot_of, value_at, set_at, ChangesHeld}
 use Rattle.qcow2_alloc.proofs.CachePins.{set_found}
 
 module _ {V : Type 0} (key : ℕ) (es : List (ℕ × Slot V)) (w : V) where

@@ -1,5 +1,6 @@
 -- Tables are written in an order that the direction allows.
-use Rattle.qcow2_alloc.proofs.Common.{◌≡◌, inl, inr, ℕ, ◌%◌, ◌^◌, ◌++◌, false, List, ◌∷◌, refl, sym, ◌∙◌, subst, Bytes, HeaderFields, cluster_size, CachedTable, Direction, Neither, L2DependsOnRb, RbDependsOnL2, Pending, CrashInvariant, IsInOrder, IsMixed, SameCovers, SameCounts, known_bytes, BlocksMayGo, TablesMayGo, IsWrittenSo, IsSafeBetween, rb_mixed, l2_mixed, top_kept, either_cover, either_count, IsTop-top, SameTop-sym, SameTop-trans, AreElsewhere, AreKept}
+use Rattle.std.proofs.Common.{◌≡◌, ◌%◌, ◌^◌, ◌++◌, ◌∷◌, inl, inr, ℕ, false, List, refl, sym, ◌∙◌, subst}
+use Rattle.qcow2_alloc.proofs.Common.{Bytes, HeaderFields, cluster_size, CachedTable, Direction, Neither, L2DependsOnRb, RbDependsOnL2, Pending, CrashInvariant, IsInOrder, IsMixed, SameCovers, SameCounts, known_bytes, BlocksMayGo, TablesMayGo, IsWrittenSo, IsSafeBetween, rb_mixed, l2_mixed, top_kept, either_cover, either_count, IsTop-top, SameTop-sym, SameTop-trans, AreElsewhere, AreKept}
 use Rattle.qcow2_alloc.proofs.KeptTables.Flushing.{l2_step, rb_step}
 use Rattle.qcow2_alloc.proofs.KeptTables.Getting.{HoldsWhatStands}
 use Rattle.qcow2_alloc.proofs.KeptTables.Listing.{l2_drop, l2_add, l2_promote, rb_drop, rb_add, rb_promote}

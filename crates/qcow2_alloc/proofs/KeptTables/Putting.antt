@@ -1,5 +1,6 @@
 -- A modified table is inserted into the caches, or nothing is.
-use Rattle.qcow2_alloc.proofs.Common.{◌≡◌, ℕ, ◌*◌, ◌%◌, ◌^◌, Bool, true, false, eqb, List, [], ◌∷◌, Option, Some, Result, Ok, refl, sym, ap, ◌∙◌, subst, mul-mod_left, IfSome, IsNone, lookup, lookup_entry, remove_entry, StorageView, Bytes, byte_at, HeaderFields, MetadataError, cluster_size, L2TableView, CachedTable, known, Pending, CrashInvariant, known_bytes, TablesMayGo, AreNamedBlocks, HasL2, HasOwnL2, Slot, CacheError, L2CacheBackend, MetadataCaches, ImageStorage, Cache, slot_of, with_entries, InsertsNew, Replaces, storage_of, l2_steps, cleared_l2, IsTableOf, cached_table, cached_tables, AllValuesFit, AreElsewhere, AreKept, laid_at, order_of, l2_tables, refblocks, CacheInvariant, InternalCacheStep, Overlay}
+use Rattle.std.proofs.Common.{◌≡◌, ◌*◌, ◌%◌, ◌^◌, ◌∷◌, ℕ, Bool, true, false, eqb, List, [], Option, Some, Result, Ok, refl, sym, ap, ◌∙◌, subst, IfSome}
+use Rattle.qcow2_alloc.proofs.Common.{mul-mod_left, IsNone, lookup, lookup_entry, remove_entry, StorageView, Bytes, byte_at, HeaderFields, MetadataError, cluster_size, L2TableView, CachedTable, known, Pending, CrashInvariant, known_bytes, TablesMayGo, AreNamedBlocks, HasL2, HasOwnL2, Slot, CacheError, L2CacheBackend, MetadataCaches, ImageStorage, Cache, slot_of, with_entries, InsertsNew, Replaces, storage_of, l2_steps, cleared_l2, IsTableOf, cached_table, cached_tables, AllValuesFit, AreElsewhere, AreKept, laid_at, order_of, l2_tables, refblocks, CacheInvariant, InternalCacheStep, Overlay}
 use Rattle.qcow2_alloc.proofs.KeptTables.BlocksNamed.{named_blocks_beside}
 use Rattle.qcow2_alloc.proofs.KeptTables.Standing.{own_cluster}
 use Rattle.qcow2_alloc.proofs.KeptTables.Writing.{crash_safety, Ready, Puts, nothing_new, made_ready}

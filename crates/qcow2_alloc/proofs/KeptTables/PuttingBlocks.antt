@@ -1,5 +1,6 @@
 -- A modified refblock is inserted into the caches, or nothing is.
-use Rattle.qcow2_alloc.proofs.Common.{◌≡◌, ◌⊎◌, ℕ, ◌*◌, ◌/◌, ◌%◌, ◌^◌, Bool, true, false, eqb, List, [], ◌∷◌, Option, Some, Result, Ok, refl, sym, ap, ◌∙◌, subst, mul-mod_left, IfSome, IsNone, lookup, lookup_entry, remove_entry, Contains-lookup_entry, StorageView, Bytes, byte_at, HeaderFields, MetadataError, cluster_size, RefBlockView, CachedTable, known, Pending, CrashInvariant, IsUnnamed, known_bytes, BlocksMayGo, IsFreeOf, AreNamedBlocks, HasBlock, SameTop-sym, overlays_within, within_cluster, Slot, CacheError, RefBlockCacheBackend, MetadataCaches, ImageStorage, Cache, slot_of, with_entries, InsertsNew, Replaces, storage_of, same_number, rb_steps, cleared_rb, IsBlockOf, cached_table, cached_tables, AllValuesFit, AreElsewhere, AreKept, laid_at, order_of, l2_tables, refblocks, CacheInvariant, InternalCacheStep, Overlay}
+use Rattle.std.proofs.Common.{◌≡◌, ◌⊎◌, ◌*◌, ◌/◌, ◌%◌, ◌^◌, ◌∷◌, ℕ, Bool, true, false, eqb, List, [], Option, Some, Result, Ok, refl, sym, ap, ◌∙◌, subst, IfSome}
+use Rattle.qcow2_alloc.proofs.Common.{mul-mod_left, IsNone, lookup, lookup_entry, remove_entry, Contains-lookup_entry, StorageView, Bytes, byte_at, HeaderFields, MetadataError, cluster_size, RefBlockView, CachedTable, known, Pending, CrashInvariant, IsUnnamed, known_bytes, BlocksMayGo, IsFreeOf, AreNamedBlocks, HasBlock, SameTop-sym, overlays_within, within_cluster, Slot, CacheError, RefBlockCacheBackend, MetadataCaches, ImageStorage, Cache, slot_of, with_entries, InsertsNew, Replaces, storage_of, same_number, rb_steps, cleared_rb, IsBlockOf, cached_table, cached_tables, AllValuesFit, AreElsewhere, AreKept, laid_at, order_of, l2_tables, refblocks, CacheInvariant, InternalCacheStep, Overlay}
 use Rattle.qcow2_alloc.proofs.KeptTables.BlocksNamed.{top_still, named_blocks_anew, blocks_stand, block_place}
 use Rattle.qcow2_alloc.proofs.KeptTables.Standing.{IsStanding, AreStanding, own_cluster, insert_stands, replace_stands}
 use Rattle.qcow2_alloc.proofs.KeptTables.Writing.{crash_safety, block_named, Ready, Puts, nothing_new, made_ready}

@@ -1,5 +1,6 @@
 -- Nothing is written if nothing has to be.
-use Rattle.qcow2_alloc.proofs.Common.{◌≡◌, inl, inr, ℕ, ◌≤◌, Bool, true, false, eqb, List, [], ◌∷◌, length, Option, Some, None, Result, Ok, Err, IsSome, refl, sym, ap, ◌∙◌, subst, arith, IfSome, IsNone, option_map, lookup, lookup_entry, remove_entry, promoted, StorageError, StorageView, Calls, QuietCalls, ContentsStay, passes_none, passes_on, passes_if, MetadataError, L2TableView, RefBlockView, AreClean, BlocksMayGo, TablesMayGo, Slot, CacheError, InUse, StillInUse, Memory, Backend, L2CacheBackend, RefBlockCacheBackend, MetadataCaches, ImageStorage, Cache, oldest_free, with_entries, Unit₀, FlushesEntry, FlushesAll, Flushes, HasRoomForEntry, HasNoRoom, GetsNew, InsertsNew, Replaces, storage_of, answer_done, table_steps, l2_steps, rb_steps, cleared_l2, cleared_rb, IsTableOf, IsBlockOf, cached_tables, order_of, l2_tables, refblocks, IsQuiet, NextIsClean, WritesNothing, TableGoesQuietly, BlockGoesQuietly, GetsTableQuietly, GetsBlockQuietly, PutsTableQuietly, PutsBlockQuietly}
+use Rattle.std.proofs.Common.{◌≡◌, ◌≤◌, ◌∷◌, inl, inr, ℕ, Bool, true, false, eqb, List, [], length, Option, Some, None, Result, Ok, Err, IsSome, refl, sym, ap, ◌∙◌, subst, arith, IfSome}
+use Rattle.qcow2_alloc.proofs.Common.{IsNone, option_map, lookup, lookup_entry, remove_entry, promoted, StorageError, StorageView, Calls, QuietCalls, ContentsStay, passes_none, passes_on, passes_if, MetadataError, L2TableView, RefBlockView, AreClean, BlocksMayGo, TablesMayGo, Slot, CacheError, InUse, StillInUse, Memory, Backend, L2CacheBackend, RefBlockCacheBackend, MetadataCaches, ImageStorage, Cache, oldest_free, with_entries, Unit₀, FlushesEntry, FlushesAll, Flushes, HasRoomForEntry, HasNoRoom, GetsNew, InsertsNew, Replaces, storage_of, answer_done, table_steps, l2_steps, rb_steps, cleared_l2, cleared_rb, IsTableOf, IsBlockOf, cached_tables, order_of, l2_tables, refblocks, IsQuiet, NextIsClean, WritesNothing, TableGoesQuietly, BlockGoesQuietly, GetsTableQuietly, GetsBlockQuietly, PutsTableQuietly, PutsBlockQuietly}
 use Rattle.qcow2_alloc.proofs.KeptTables.Fetching.{none_or_some}
 use Rattle.qcow2_alloc.proofs.KeptTables.Inserting.{found_or_not, lookup_none}
 use Rattle.qcow2_alloc.proofs.CachedEntries.Lists.{lookup-from_entry}

@@ -1,5 +1,6 @@
 -- The modified tables of a cache lie where the image has tables, whatever is flushed, loaded or inserted. So flushes and loads are refused only by the storage or because memory runs out.
-use Rattle.qcow2_alloc.proofs.Common.{◌≡◌, ◌⊎◌, inl, inr, ℕ, ◌+◌, ◌*◌, ◌/◌, ◌^◌, ◌≤◌, Bool, true, false, ◌&&◌, eqb, List, [], ◌∷◌, ◌++◌, length, Option, Some, None, Result, Ok, Err, IfErr, refl, sym, ap, ◌∙◌, subst, arith, cases_Bool, cases_eq, option_or, IfSome, lookup_entry, remove_entry, div-mul-add, pow_pos, promoted, Contains-lookup_entry, StorageView, is_within, MetadataError, HasPlace, IsOfStorageOrMemory, CachedTable, overlays, IsFreeOf, overlays_within, within_cluster, cluster_within, no_overlay, unmodified_over, differs, Slot, CacheError, InUse, StillInUse, Memory, Backend, slot_of, oldest_free, Steps, table_steps, Unit₀, FlushesEntry, FlushesAll, Flushes, HasNoRoom, GetsNew, InsertsNew, Replaces, cached_table, cached_tables, AllValuesFit, same_number}
+use Rattle.std.proofs.Common.{◌≡◌, ◌⊎◌, ◌+◌, ◌*◌, ◌/◌, ◌^◌, ◌≤◌, ◌&&◌, ◌∷◌, ◌++◌, inl, inr, ℕ, Bool, true, false, eqb, List, [], length, Option, Some, None, Result, Ok, Err, IfErr, refl, sym, ap, ◌∙◌, subst, arith, IfSome}
+use Rattle.qcow2_alloc.proofs.Common.{cases_Bool, cases_eq, option_or, lookup_entry, remove_entry, div-mul-add, pow_pos, promoted, Contains-lookup_entry, StorageView, is_within, MetadataError, HasPlace, IsOfStorageOrMemory, CachedTable, overlays, IsFreeOf, overlays_within, within_cluster, cluster_within, no_overlay, unmodified_over, differs, Slot, CacheError, InUse, StillInUse, Memory, Backend, slot_of, oldest_free, Steps, table_steps, Unit₀, FlushesEntry, FlushesAll, Flushes, HasNoRoom, GetsNew, InsertsNew, Replaces, cached_table, cached_tables, AllValuesFit, same_number}
 use Rattle.qcow2_alloc.proofs.KeptTables.Entries.{split_oldest}
 use Rattle.qcow2_alloc.proofs.KeptTables.Getting.{cluster_aligned}
 use Rattle.qcow2_alloc.proofs.CachedEntries.Each.{IsOfEach, each_flushed, each_found, each_got, each_inserted, each_promoted, each_replaced}

@@ -1,5 +1,6 @@
 -- Calls of the caches one after another, and changes of the order of writes.
-use Rattle.qcow2_alloc.proofs.Common.{◌≡◌, ◌⊎◌, inl, inr, List, ℕ, Result, Ok, Err, OnOk, refl, sym, ◌∙◌, subst, StorageView, EachMomentSince, IsLeftBy, passes_none, passes_on, passes_if, Bytes, byte_at, HeaderFields, StopOkEverywhere, Direction, Neither, L2DependsOnRb, RbDependsOnL2, Pending, MayTurn, AreClean, BlocksMayGo, TablesMayGo, IsSafeBetween, clean_covers, clean_counts, kept_turned, MetadataCaches, ImageStorage, storage_of, IsSafeSince, order, order_of, l2_tables, refblocks, known_of, AreAllWritten, CacheInvariant, InternalCacheStep, KeepSound}
+use Rattle.std.proofs.Common.{◌≡◌, ◌⊎◌, inl, inr, List, ℕ, Result, Ok, Err, OnOk, refl, sym, ◌∙◌, subst}
+use Rattle.qcow2_alloc.proofs.Common.{StorageView, EachMomentSince, IsLeftBy, passes_none, passes_on, passes_if, Bytes, byte_at, HeaderFields, StopOkEverywhere, Direction, Neither, L2DependsOnRb, RbDependsOnL2, Pending, MayTurn, AreClean, BlocksMayGo, TablesMayGo, IsSafeBetween, clean_covers, clean_counts, kept_turned, MetadataCaches, ImageStorage, storage_of, IsSafeSince, order, order_of, l2_tables, refblocks, known_of, AreAllWritten, CacheInvariant, InternalCacheStep, KeepSound}
 use Rattle.qcow2_alloc.specs.declared.cache.Direction.TheVariants as D
 
 -- ---- moments: a word for each elementary step of the caches

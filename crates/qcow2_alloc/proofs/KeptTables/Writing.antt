@@ -1,5 +1,6 @@
 -- One cached table is written, or a whole cache is flushed: the invariant holds, the known contents stay the same, and a stop is as safe as before.
-use Rattle.qcow2_alloc.proofs.Common.{◌≡◌, ℕ, ◌+◌, ◌-◌, ◌*◌, ◌/◌, ◌^◌, ◌<◌, ◌≤◌, ◌⊎◌, Bool, true, false, ◌&&◌, cond, inl, inr, List, [], ◌∷◌, ◌++◌, Option, Some, None, Result, Ok, Err, length, refl, sym, ap, ◌∙◌, subst, append_assoc, arith, cases_lt, and_from, le-leb, lt-ltb, fun_ext, option_or, overwritten, StorageView, EachMomentSince, IsLeftBy, byte_at-overwritten, byte_at-overwritten_outside, passes_none, passes_on, passes_if, Bytes, byte_at, is_within, HeaderFields, MetadataError, cluster_size, host_offset, block_offset, named_by_reftable, named_by_l1_table, CachedTable, known, StopOkEverywhere, Direction, Pending, SameTop, known_bytes, AreClean, HasL2, HasBlock, CacheInvariantOver, BlocksMayGo, TablesMayGo, IsWrittenSo, IsSafeBetween, InternalTableWrite, SameTop-sym, SameTop-trans, table_has, block_has, rbs_free, l2s_free, differs, table_is_written, Slot, CacheError, slot_of, FlushesTable, FailsToFlush, table_steps, FlushesEntry, FlushesAll, cached_table, cached_tables, AreElsewhere, AreKept, IsSafeSince}
+use Rattle.std.proofs.Common.{◌≡◌, ◌+◌, ◌-◌, ◌*◌, ◌/◌, ◌^◌, ◌<◌, ◌≤◌, ◌⊎◌, ◌&&◌, ◌∷◌, ◌++◌, ℕ, Bool, true, false, cond, inl, inr, List, [], Option, Some, None, Result, Ok, Err, length, refl, sym, ap, ◌∙◌, subst, append_assoc, arith}
+use Rattle.qcow2_alloc.proofs.Common.{cases_lt, and_from, le-leb, lt-ltb, fun_ext, option_or, overwritten, StorageView, EachMomentSince, IsLeftBy, byte_at-overwritten, byte_at-overwritten_outside, passes_none, passes_on, passes_if, Bytes, byte_at, is_within, HeaderFields, MetadataError, cluster_size, host_offset, block_offset, named_by_reftable, named_by_l1_table, CachedTable, known, StopOkEverywhere, Direction, Pending, SameTop, known_bytes, AreClean, HasL2, HasBlock, CacheInvariantOver, BlocksMayGo, TablesMayGo, IsWrittenSo, IsSafeBetween, InternalTableWrite, SameTop-sym, SameTop-trans, table_has, block_has, rbs_free, l2s_free, differs, table_is_written, Slot, CacheError, slot_of, FlushesTable, FailsToFlush, table_steps, FlushesEntry, FlushesAll, cached_table, cached_tables, AreElsewhere, AreKept, IsSafeSince}
 use Rattle.qcow2_disk.proofs.Within.{within_is}
 use Rattle.qcow2_alloc.proofs.KeptTables.Loaded.{stays_free, loaded_written, loaded_beside}
 use Rattle.qcow2_alloc.proofs.KeptTables.Switching.{safe_none, safe_then}

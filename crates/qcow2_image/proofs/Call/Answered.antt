@@ -1,5 +1,6 @@
 -- What a call that guests don't see does, from its parts.
-use Rattle.qcow2_image.proofs.Common.{◌≡◌, ℕ, ◌/◌, ◌<◌, ◌≤◌, Bool, true, false, List, [], refl, sym, ap, ◌∙◌, subst, arith, Option, Some, None, IsTrue, slice_get, option_map_or, cond-true, cond-false, fun_ext, BackingView, StorageView, Bytes, cluster_size, known_byte, disk, Pending, PreparedMapping, SameUsedBytes, used_by_guests, Setting, Guest, guest_of, meaning_at, EffectOnSound, unseen_disk, HeaderFields, state_in, contents_in, known_in, nothing_given, Qcow2, Prepared, below_of, of_data, of_tables, to_free, new_data_by, over_all, pending_in, abstract_of, meaning, is_entered, is_new, is_private, is_hidden, place_of, mapping_of_cluster, backing_bytes, ImageInvariant, MovesTables, pending_with_listed, ListGrows, InternalStep, InternalFreeingStep, stops_of}
+use Rattle.std.proofs.Common.{◌≡◌, ◌/◌, ◌<◌, ◌≤◌, ℕ, Bool, true, false, List, [], refl, sym, ap, ◌∙◌, subst, arith, Option, Some, None, IsTrue}
+use Rattle.qcow2_image.proofs.Common.{slice_get, option_map_or, cond-true, cond-false, fun_ext, BackingView, StorageView, Bytes, cluster_size, known_byte, disk, Pending, PreparedMapping, SameUsedBytes, used_by_guests, Setting, Guest, guest_of, meaning_at, EffectOnSound, unseen_disk, HeaderFields, state_in, contents_in, known_in, nothing_given, Qcow2, Prepared, below_of, of_data, of_tables, to_free, new_data_by, over_all, pending_in, abstract_of, meaning, is_entered, is_new, is_private, is_hidden, place_of, mapping_of_cluster, backing_bytes, ImageInvariant, MovesTables, pending_with_listed, ListGrows, InternalStep, InternalFreeingStep, stops_of}
 use Rattle.qcow2_image.proofs.Images.Moved.{format_file_step, format_stay}
 use Rattle.qcow2_image.proofs.Images.ClusterMappings.{private_used, used_unlaid}
 use Rattle.qcow2_image.proofs.Images.Sound.{free_more, pending_is}

@@ -1,5 +1,6 @@
 -- What the parts of a call say of its result.
-use Rattle.qcow2_image.proofs.Common.{◌≡◌, ℕ, Bool, true, false, List, [], refl, sym, subst, ◌&&◌, nat_lt, not, Option, MatchOption, Result, Ok, Err, IsErr, IsErrAnd, option_or, BackingView, StorageView, GivenBytes, Guest, RefusedEffect, IsSame, ImageError, Qcow2, Prepared, refusal_of, AnswersCall, is_failed, is_external, is_writable, size_of, passes, refuse_if, refuses_to_prepare, unusable, abstract_of}
+use Rattle.std.proofs.Common.{◌≡◌, ◌&&◌, ℕ, Bool, true, false, List, [], refl, sym, subst, nat_lt, Option, Result, Ok, Err, IsErr, IsErrAnd}
+use Rattle.qcow2_image.proofs.Common.{not, MatchOption, option_or, BackingView, StorageView, GivenBytes, Guest, RefusedEffect, IsSame, ImageError, Qcow2, Prepared, refusal_of, AnswersCall, is_failed, is_external, is_writable, size_of, passes, refuse_if, refuses_to_prepare, unusable, abstract_of}
 use Rattle.qcow2_alloc.specs.declared.error.ImageError.TheVariants as I
 
 module _ {S F : Type 0} (view : S → StorageView) (backing : F → BackingView) (old new : Qcow2 S F) where

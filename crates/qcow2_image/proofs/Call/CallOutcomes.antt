@@ -1,5 +1,6 @@
 -- A call succeeds, or is refused and marks the image as failed by the rule, depending on what its work did.
-use Rattle.qcow2_image.proofs.Common.{◌≡◌, ◌⊎◌, inl, inr, Bool, true, false, List, [], refl, sym, ap, ◌∙◌, subst, Option, IsTrue, BackingView, StorageView, GivenBytes, storage, IsRefusalByFault, EffectOnSound, AnsweredEffect, RefusedEffect, IsSame, ImageError, Qcow2, Prepared, refusal_of, number_of, is_failed, ImageInvariant, pending_in, abstract_of, stops_as}
+use Rattle.std.proofs.Common.{◌≡◌, ◌⊎◌, inl, inr, Bool, true, false, List, [], refl, sym, ap, ◌∙◌, subst, Option, IsTrue}
+use Rattle.qcow2_image.proofs.Common.{BackingView, StorageView, GivenBytes, storage, IsRefusalByFault, EffectOnSound, AnsweredEffect, RefusedEffect, IsSame, ImageError, Qcow2, Prepared, refusal_of, number_of, is_failed, ImageInvariant, pending_in, abstract_of, stops_as}
 use Rattle.qcow2_alloc.specs.declared.error.ImageError.TheVariants as I
 use Rattle.qcow2_image.proofs.Call.Marked.{MayMark}
 

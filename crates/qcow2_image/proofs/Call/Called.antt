@@ -1,5 +1,6 @@
 -- Calls that guests don't see, from their parts.
-use Rattle.qcow2_image.proofs.Common.{◌≡◌, inl, ℕ, ◌<◌, Bool, false, List, [], ◌++◌, refl, sym, ap, ◌∙◌, subst, arith, Option, Result, Ok, Err, IfOk, append_assoc, fun_ext, BackingView, StorageView, l1_entry, Pending, KeepsFormat, Guest, AbstractImage, guest_of, Refusal, storage, EffectOnSound, AnsweredEffect, RefusedEffect, IsSame, l1_format, safe_step_then, steps_safe_throughout, unseen_then, ImageError, state_in, view_in, nothing_given, Qcow2, Prepared, refusal_of, AnswersCall, number_of, is_failed, of_data, of_tables, to_free, ImageInvariant, pending_in, abstract_of, NamesOwn, KeepsCopied, pending_with_listed, InternalStep, stops_none, rests_none}
+use Rattle.std.proofs.Common.{◌≡◌, ◌<◌, ◌++◌, inl, ℕ, Bool, false, List, [], refl, sym, ap, ◌∙◌, subst, arith, Option, Result, Ok, Err, IfOk}
+use Rattle.qcow2_image.proofs.Common.{append_assoc, fun_ext, BackingView, StorageView, l1_entry, Pending, KeepsFormat, Guest, AbstractImage, guest_of, Refusal, storage, EffectOnSound, AnsweredEffect, RefusedEffect, IsSame, l1_format, safe_step_then, steps_safe_throughout, unseen_then, ImageError, state_in, view_in, nothing_given, Qcow2, Prepared, refusal_of, AnswersCall, number_of, is_failed, of_data, of_tables, to_free, ImageInvariant, pending_in, abstract_of, NamesOwn, KeepsCopied, pending_with_listed, InternalStep, stops_none, rests_none}
 use Rattle.qcow2_image.proofs.Call.Marked.{MayMark, MayMarkBy}
 use Rattle.qcow2_image.proofs.Call.Answered.{works_now, sound_now, same_now}
 use Rattle.qcow2_image.proofs.Call.CallOutcomes.{outcome_answered, outcome_refused}

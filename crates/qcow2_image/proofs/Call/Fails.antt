@@ -1,5 +1,6 @@
 -- Why a part is refused: a refusal of one of its own parts that `?` passes on, also one after which clusters are freed.
-use Rattle.qcow2_image.proofs.Common.{◌≡◌, Result, Err, IsErr, IsErrAnd, refl, subst, IfErr, BackingView, StorageView, handed_on, ImageError, CountsImageFaults, ImageFails, Qcow2}
+use Rattle.std.proofs.Common.{◌≡◌, Result, Err, IsErr, IsErrAnd, refl, subst, IfErr}
+use Rattle.qcow2_image.proofs.Common.{BackingView, StorageView, handed_on, ImageError, CountsImageFaults, ImageFails, Qcow2}
 use Rattle.qcow2_image.proofs.Call.FaultCounts.{counted_as, counted_of, untouched}
 
 module _ {S F : Type 0} {view : S → StorageView} {backing : F → BackingView} {T A : Type 0} {R Q : ImageError → Type 0} where

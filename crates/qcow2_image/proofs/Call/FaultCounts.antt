@@ -1,5 +1,6 @@
 -- Which calls on an image count a failure of its storage or of the backing disk, and how such calls compose.
-use Rattle.qcow2_image.proofs.Common.{◌≡◌, inl, inr, Option, Some, None, Result, Ok, Err, IsErr, IsErrAnd, ap, arith, subst, sym, ◌∙◌, IfErr-weaker, le_trans, BackingView, StorageView, Rose, UnlessErr, ImageError, Storage, CountsFaults, faults_of, handed_on, Qcow2, CountsImageFaults, NoFewerFaults, OneRose, SameFaults, ReportsEachIn, ReportsFault, faults_below}
+use Rattle.std.proofs.Common.{◌≡◌, inl, inr, Option, Some, None, Result, Ok, Err, IsErr, IsErrAnd, ap, arith, subst, sym, ◌∙◌}
+use Rattle.qcow2_image.proofs.Common.{IfErr-weaker, le_trans, BackingView, StorageView, Rose, UnlessErr, ImageError, Storage, CountsFaults, faults_of, handed_on, Qcow2, CountsImageFaults, NoFewerFaults, OneRose, SameFaults, ReportsEachIn, ReportsFault, faults_below}
 use Rattle.std.specs.Option.{IfSome}
 
 -- a weaker statement, if the refusal is another one

@@ -1,5 +1,6 @@
 -- A part is refused, and clusters are freed after the refusal.
-use Rattle.qcow2_image.proofs.Common.{◌≡◌, ℕ, inl, inr, List, sym, subst, Option, BackingView, StorageView, HeaderView, IsFault, ImageError, TablePrepared, RefusedCall, Qcow2, Prepared, l1_index_of, ImageInvariant, pending_in, IsFaultOrLacksTable, MayName, FreesRefused, MayFail, MayFailPreparing}
+use Rattle.std.proofs.Common.{◌≡◌, ℕ, inl, inr, List, sym, subst, Option}
+use Rattle.qcow2_image.proofs.Common.{BackingView, StorageView, HeaderView, IsFault, ImageError, TablePrepared, RefusedCall, Qcow2, Prepared, l1_index_of, ImageInvariant, pending_in, IsFaultOrLacksTable, MayName, FreesRefused, MayFail, MayFailPreparing}
 use Rattle.qcow2_image.proofs.Prepare.UnlinkedL2Table.{may_still}
 
 -- the refusal that is reported afterwards comes during the work if the first one did, and is not 9

@@ -1,5 +1,6 @@
 -- The marks of a call, from the marks of its parts.
-use Rattle.qcow2_image.proofs.Common.{IsFault, ◌≡◌, ◌⊎◌, inl, inr, Bool, true, false, refl, sym, ap, ◌∙◌, subst, IfErr, IsTrue, Result, Ok, Err, ◌||◌, OnOk, or_left, or_right, ImageError, ImageFile, has_noted, Qcow2, has_noted_change, is_failed, failed_after, failed_by, MarksFailed, MarksRefused}
+use Rattle.std.proofs.Common.{◌≡◌, ◌⊎◌, ◌||◌, inl, inr, Bool, true, false, refl, sym, ap, ◌∙◌, subst, IfErr, IsTrue, Result, Ok, Err}
+use Rattle.qcow2_image.proofs.Common.{IsFault, OnOk, or_left, or_right, ImageError, ImageFile, has_noted, Qcow2, has_noted_change, is_failed, failed_after, failed_by, MarksFailed, MarksRefused}
 use Rattle.qcow2_alloc.specs.declared.error.ImageError.TheVariants as I
 
 -- a failing storage marks the image, want of memory may, and nothing else does

@@ -1,5 +1,6 @@
 -- A call that begins, does one part, and marks a failure.
-use Rattle.qcow2_image.proofs.Common.{◌≡◌, sym, ap, ◌∙◌, subst, Result, BackingView, StorageView, ImageError, CountsImageFaults, SameFaults, ImageStays, IsBegun, IsSameImage, CallStep, ImageStep, ReadingCall, ReadingStep, MarksFailed, KeepingStep, PuttingCall, Qcow2}
+use Rattle.std.proofs.Common.{◌≡◌, sym, ap, ◌∙◌, subst, Result}
+use Rattle.qcow2_image.proofs.Common.{BackingView, StorageView, ImageError, CountsImageFaults, SameFaults, ImageStays, IsBegun, IsSameImage, CallStep, ImageStep, ReadingCall, ReadingStep, MarksFailed, KeepingStep, PuttingCall, Qcow2}
 use Rattle.qcow2_image.proofs.Call.BehindHeader.{behind_call}
 use Rattle.qcow2_image.proofs.Call.FaultCounts.{counted_marked}
 use Rattle.qcow2_image.proofs.Call.ImageSteps.{stays_then}

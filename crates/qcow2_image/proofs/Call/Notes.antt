@@ -1,5 +1,6 @@
 -- Steps that leave the storage the same keep recorded changes.
-use Rattle.qcow2_image.proofs.Common.{◌≡◌, sym, subst, StorageView, CountsTableChanges, KeepsPinsAndNotes, counts_none, KeepsFileNotes, KeepsNotes, kept_same, MetadataCaches, ImageStorage, Qcow2}
+use Rattle.std.proofs.Common.{◌≡◌, sym, subst}
+use Rattle.qcow2_image.proofs.Common.{StorageView, CountsTableChanges, KeepsPinsAndNotes, counts_none, KeepsFileNotes, KeepsNotes, kept_same, MetadataCaches, ImageStorage, Qcow2}
 
 module _ {S F : Type 0} {view : S → StorageView} (a b : Qcow2 S F) (same : b.file.storage ≡ a.file.storage) where
   storage_kept : KeepsNotes view a.file.storage b.file.storage

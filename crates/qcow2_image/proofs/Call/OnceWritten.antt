@@ -1,5 +1,6 @@
 -- A call begins with no recorded change, does parts that record their changes, and marks a failure: if memory runs out, the image fails exactly if a change was counted.
-use Rattle.qcow2_image.proofs.Common.{◌≡◌, ◌⊎◌, ℕ, ◌<◌, ◌≤◌, Bool, true, false, Ok, Err, inl, inr, refl, sym, ap, ◌∙◌, subst, arith, IsTrue, Result, ◌||◌, or_cases, or_left, or_right, le_refl, le_trans, StorageView, ContentsStay, Rose, CountsChanges, KeepsFileNotes, view_in, changes_of, is_changed_of, storage_of, MetadataCaches, ImageError, Memory, ImageFile, ImageStorage, Qcow2, IsBegun, has_noted_change, is_failed, with_marks, ChangesRose, CommitFailsOnceWritten, CountsImageChanges, FailsOnceWritten, HasMoreChanges, MarksOnceChanged, NoFewerChanges, RecordsChanges, RecordsPart, ReleasesOneMapping, CommitRefused, MarksFailed, rose_since}
+use Rattle.std.proofs.Common.{◌≡◌, ◌⊎◌, ◌<◌, ◌≤◌, ◌||◌, ℕ, Bool, true, false, Ok, Err, inl, inr, refl, sym, ap, ◌∙◌, subst, arith, IsTrue, Result}
+use Rattle.qcow2_image.proofs.Common.{or_cases, or_left, or_right, le_refl, le_trans, StorageView, ContentsStay, Rose, CountsChanges, KeepsFileNotes, view_in, changes_of, is_changed_of, storage_of, MetadataCaches, ImageError, Memory, ImageFile, ImageStorage, Qcow2, IsBegun, has_noted_change, is_failed, with_marks, ChangesRose, CommitFailsOnceWritten, CountsImageChanges, FailsOnceWritten, HasMoreChanges, MarksOnceChanged, NoFewerChanges, RecordsChanges, RecordsPart, ReleasesOneMapping, CommitRefused, MarksFailed, rose_since}
 
 -- a number that rose has risen since before, and goes on having risen
 rose_later : (a b c : ℕ) → b ≤ c → Rose a b → Rose a c

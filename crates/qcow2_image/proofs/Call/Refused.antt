@@ -1,5 +1,6 @@
 -- A refused call: everything is as before except for the clusters to free, or a fault interrupted the call.
-use Rattle.qcow2_image.proofs.Common.{◌≡◌, ◌⊎◌, ⊎_elim, inl, inr, ℕ, Bool, true, false, List, [], Option, Some, refl, sym, ap, ◌∙◌, subst, arith, Result, Ok, Err, IsTrue, slice_set, BackingView, StorageView, HeaderFields, cluster_size, IsRefusalByFault, IsSame, RefusedEffect, EffectOnSound, with_slot, Disk, IsPrepared, works_then, stops_of, Pending, SameCovers, Guest, Setting, guest_of, ImageError, known_in, nothing_given, InterruptedFileStep, Qcow2, Prepared, refusal_of, number_of, is_failed, KeepsRestOn, has_noted_change, leaked_in, InternalCall, InterruptedCall, RefusedCall, FindsTable, IsReadied, PreparesRange, InterruptedStep, Ensures, InternalFillingStep, RefusedFillingStep, InternalStep, RefusedStep, pending_with_listed, of_data, of_tables, to_free, pending_in, abstract_of, meaning, below_of, ImageInvariant}
+use Rattle.std.proofs.Common.{◌≡◌, ◌⊎◌, ⊎_elim, inl, inr, ℕ, Bool, true, false, List, [], Option, Some, refl, sym, ap, ◌∙◌, subst, arith, Result, Ok, Err, IsTrue}
+use Rattle.qcow2_image.proofs.Common.{slice_set, BackingView, StorageView, HeaderFields, cluster_size, IsRefusalByFault, IsSame, RefusedEffect, EffectOnSound, with_slot, Disk, IsPrepared, works_then, stops_of, Pending, SameCovers, Guest, Setting, guest_of, ImageError, known_in, nothing_given, InterruptedFileStep, Qcow2, Prepared, refusal_of, number_of, is_failed, KeepsRestOn, has_noted_change, leaked_in, InternalCall, InterruptedCall, RefusedCall, FindsTable, IsReadied, PreparesRange, InterruptedStep, Ensures, InternalFillingStep, RefusedFillingStep, InternalStep, RefusedStep, pending_with_listed, of_data, of_tables, to_free, pending_in, abstract_of, meaning, below_of, ImageInvariant}
 use Rattle.qcow2_alloc.specs.ImageError.{IsFault as FaultOfTables}
 use Rattle.qcow2_alloc.specs.declared.error.ImageError.TheVariants as I
 use Rattle.qcow2_image.proofs.Call.Marked.{MayMark}

@@ -1,5 +1,6 @@
 -- Slots of prepared mappings, one of which changes.
-use Rattle.qcow2_image.proofs.Common.{◌≡◌, ◌⊎◌, ⊎_elim, inl, inr, ℕ, zero, suc, ◌+◌, ◌≤◌, List, length, [], ◌∷◌, refl, sym, ap, ◌∙◌, Option, Some, None, arith, cond, eqb, slice_get, slice_set, option_map_or, cases_eq, eq-eqb, ne_eqb, cond-true, cond-false, PreparedMapping, meaning_at, Prepared, over_all}
+use Rattle.std.proofs.Common.{◌≡◌, ◌⊎◌, ◌+◌, ◌≤◌, ◌∷◌, ⊎_elim, inl, inr, ℕ, zero, suc, List, length, [], refl, sym, ap, ◌∙◌, Option, Some, None, arith, cond, eqb}
+use Rattle.qcow2_image.proofs.Common.{slice_get, slice_set, option_map_or, cases_eq, eq-eqb, ne_eqb, cond-true, cond-false, PreparedMapping, meaning_at, Prepared, over_all}
 use Rattle.qcow2_image.proofs.Images.ClusterMappings.{over_all_at}
 
 pub get_set : {X : Type 0} (xs : List X) (k j : ℕ) (a y : X) → slice_get (slice_set xs k a) j ≡ Some y → (y ≡ a) ⊎ (slice_get xs j ≡ Some y)

@@ -1,5 +1,6 @@
 -- What a call does, from one step of the driver and the mappings that are prepared afterwards.
-use Rattle.qcow2_image.proofs.Common.{◌≡◌, List, [], sym, ap, ◌∙◌, subst, Option, BackingView, StorageView, Bytes, HeaderFields, cluster_size, Pending, SafeStep, SafeThroughout, GivenBytes, EffectOnSound, UngivenStay, KeepsFormat, state_in, view_in, known_in, Qcow2, Prepared, backing_bytes, below_of, ImageInvariant, pending_in, abstract_of, leaked_in, stops_of}
+use Rattle.std.proofs.Common.{◌≡◌, List, [], sym, ap, ◌∙◌, subst, Option}
+use Rattle.qcow2_image.proofs.Common.{BackingView, StorageView, Bytes, HeaderFields, cluster_size, Pending, SafeStep, SafeThroughout, GivenBytes, EffectOnSound, UngivenStay, KeepsFormat, state_in, view_in, known_in, Qcow2, Prepared, backing_bytes, below_of, ImageInvariant, pending_in, abstract_of, leaked_in, stops_of}
 use Rattle.qcow2_image.proofs.Call.Answered.{same_setting}
 use Rattle.qcow2_image.proofs.Images.Sound.{IsOnly, pending_is}
 

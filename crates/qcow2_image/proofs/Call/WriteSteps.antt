@@ -1,5 +1,6 @@
 -- The parts of a write: how they leave an image one after another, and what each promises in addition.
-use Rattle.qcow2_image.proofs.Common.{◌≡◌, ℕ, List, refl, ap, ◌∙◌, StorageView, ClustersToFreeEntry, notes_none, notes_then, header_same, header_then, ImageStays, is_external, is_writable, ImageStep, ImageStepWhere, ReadingStep, FreesLater, Pins, FillingStep, KeepingStep, AllocatingStep, AllocatingStepWhere, Qcow2}
+use Rattle.std.proofs.Common.{◌≡◌, ℕ, List, refl, ap, ◌∙◌}
+use Rattle.qcow2_image.proofs.Common.{StorageView, ClustersToFreeEntry, notes_none, notes_then, header_same, header_then, ImageStays, is_external, is_writable, ImageStep, ImageStepWhere, ReadingStep, FreesLater, Pins, FillingStep, KeepingStep, AllocatingStep, AllocatingStepWhere, Qcow2}
 use Rattle.qcow2_image.proofs.Call.BehindHeader.{behind_by, behind_none, behind_tables, behind_then}
 use Rattle.qcow2_image.proofs.Call.ImageSteps.{stays_then, step_none}
 use Rattle.qcow2_image.proofs.Call.Notes.{pins_kept, same_kept}

@@ -1,5 +1,6 @@
 -- The clusters between two offsets are cleared, as a part of a call.
-use Rattle.qcow2_image.proofs.Common.{◌≡◌, inl, inr, ℕ, suc, ◌+◌, ◌-◌, ◌*◌, ◌/◌, ◌%◌, ◌<◌, ◌≤◌, Bool, true, false, List, [], ◌∷◌, ◌++◌, Option, Some, None, refl, sym, ap, ◌∙◌, subst, arith, cond, mul_assoc, IsSome, IsTrue, slice_get, ◌↔◌, cases_eq, cases_lt, div-add-mod', div-mul-add, mod-mul-add, mod_below, pow_pos, BackingView, StorageView, Bytes, HeaderFields, cluster_size, entries_per_cluster, cover, IsInReach, old_data_run, Guest, Setting, guest_of, EffectOnSound, cleared, with_disk, Pending, Disk, table_at, given_shown, guest_at, works_less, works_then, Sizes-from, l2_pins, ClustersToFreeEntry, contents_in, known_in, IsEntryAt, own_cluster, InternalCall, ClearsImageCovers, ClearsPart, ClearsTable, IsUnderMapping, IsClearable, MayClear, ReadsAll, ReadsDropped, cover_once_cleared, given_bytes_between, is_between, listed_by, setting_of, shown_by, AreCleared, ClearMode, Qcow2, Prepared, l1_index_of, l2_index_of, IsPending, IsReadyWith, abstract_of, disk_of, listed_run, pending_in, pins_by, MovesTables, CoversStay, HoldsTable}
+use Rattle.std.proofs.Common.{◌≡◌, ◌+◌, ◌-◌, ◌*◌, ◌/◌, ◌%◌, ◌<◌, ◌≤◌, ◌∷◌, ◌++◌, ◌↔◌, inl, inr, ℕ, suc, Bool, true, false, List, [], Option, Some, None, refl, sym, ap, ◌∙◌, subst, arith, cond, mul_assoc, IsSome, IsTrue}
+use Rattle.qcow2_image.proofs.Common.{slice_get, cases_eq, cases_lt, div-add-mod', div-mul-add, mod-mul-add, mod_below, pow_pos, BackingView, StorageView, Bytes, HeaderFields, cluster_size, entries_per_cluster, cover, IsInReach, old_data_run, Guest, Setting, guest_of, EffectOnSound, cleared, with_disk, Pending, Disk, table_at, given_shown, guest_at, works_less, works_then, Sizes-from, l2_pins, ClustersToFreeEntry, contents_in, known_in, IsEntryAt, own_cluster, InternalCall, ClearsImageCovers, ClearsPart, ClearsTable, IsUnderMapping, IsClearable, MayClear, ReadsAll, ReadsDropped, cover_once_cleared, given_bytes_between, is_between, listed_by, setting_of, shown_by, AreCleared, ClearMode, Qcow2, Prepared, l1_index_of, l2_index_of, IsPending, IsReadyWith, abstract_of, disk_of, listed_run, pending_in, pins_by, MovesTables, CoversStay, HoldsTable}
 use Rattle.qcow2_image.proofs.Images.Apart.{pins_own}
 use Rattle.qcow2_image.proofs.Clear.Cleared.{all_cleared}
 use Rattle.qcow2_image.proofs.Images.Moved.{file_step_then}

@@ -1,5 +1,6 @@
 -- Clearing as a call: it succeeds, or is refused and perhaps marked as failed.
-use Rattle.qcow2_image.proofs.Common.{◌≡◌, ◌⊎◌, inl, inr, ℕ, ◌+◌, ◌-◌, ◌<◌, ◌≤◌, Bool, true, false, List, [], ◌∷◌, Option, refl, sym, ap, ◌∙◌, subst, arith, min, cond, IsTrue, IsErr, IsErrAnd, IfSome, MatchOption, Result, Ok, Err, Some, None, nat_lt, not, ◌&&◌, option_or, pow_pos, cases_lt, cond-true, cond-false, le-ltb, lt-ltb, fun_ext, BackingView, StorageView, HeaderFields, cluster_size, entries_per_cluster, Value, known_byte, Bytes, laid_over, AbstractImage, Setting, guest_of, Clearing, to_zero, to_kept_zero, to_backing, IsRefusalByFault, IsSame, Refusal, storage, another, EffectOnSound, RefusedEffect, cleared, with_disk, Disk, given_shown, answered, touched_to, GivenBytes, Sizes-from, works_less, works_then, laid_outside, ImageError, contents_in, known_in, EndsFreeing, RefusedCall, InternalCall, refusal_of, Clears, ClearsImageCovers, ClearsPart, IsUnderMapping, IsClearable, RefusesUngiven, from_in, given_bytes_between, all_given_by_clear, needs_zero_entries, refuses_to_clear, rounds_past, setting_of, shown_by, to_in, ClearMode, Qcow2, Prepared, number_of, is_external, is_failed, is_writable, size_of, has_noted_change, ImageInvariant, abstract_of, disk_of, pending_in, passes, refuse_if, MovesTables, CoversStay}
+use Rattle.std.proofs.Common.{◌≡◌, ◌⊎◌, ◌+◌, ◌-◌, ◌<◌, ◌≤◌, ◌∷◌, ◌&&◌, inl, inr, ℕ, Bool, true, false, List, [], Option, refl, sym, ap, ◌∙◌, subst, arith, min, cond, IsTrue, IsErr, IsErrAnd, Result, Ok, Err, Some, None, nat_lt}
+use Rattle.qcow2_image.proofs.Common.{IfSome, MatchOption, not, option_or, pow_pos, cases_lt, cond-true, cond-false, le-ltb, lt-ltb, fun_ext, BackingView, StorageView, HeaderFields, cluster_size, entries_per_cluster, Value, known_byte, Bytes, laid_over, AbstractImage, Setting, guest_of, Clearing, to_zero, to_kept_zero, to_backing, IsRefusalByFault, IsSame, Refusal, storage, another, EffectOnSound, RefusedEffect, cleared, with_disk, Disk, given_shown, answered, touched_to, GivenBytes, Sizes-from, works_less, works_then, laid_outside, ImageError, contents_in, known_in, EndsFreeing, RefusedCall, InternalCall, refusal_of, Clears, ClearsImageCovers, ClearsPart, IsUnderMapping, IsClearable, RefusesUngiven, from_in, given_bytes_between, all_given_by_clear, needs_zero_entries, refuses_to_clear, rounds_past, setting_of, shown_by, to_in, ClearMode, Qcow2, Prepared, number_of, is_external, is_failed, is_writable, size_of, has_noted_change, ImageInvariant, abstract_of, disk_of, pending_in, passes, refuse_if, MovesTables, CoversStay}
 use Rattle.qcow2_alloc.specs.declared.error.ImageError.TheVariants as I
 use Rattle.qcow2_image.proofs.Call.Marked.{MayMark}
 use Rattle.qcow2_image.proofs.Call.Called.{Quietly, listed, refuses_early, works_none}

@@ -1,5 +1,6 @@
 -- Entries of a cached table are cleared one after another, and the clusters that they named wait to be freed.
-use Rattle.qcow2_image.proofs.Common.{◌≡◌, inl, inr, ℕ, zero, suc, ◌+◌, ◌-◌, ◌*◌, ◌^◌, ◌<◌, ◌≤◌, true, false, List, [], ◌∷◌, ◌++◌, Option, refl, sym, ap, ◌∙◌, subst, arith, min, IsSome, IsTrue, nat_le, nat_lt, cases_eq, cases_lt, and_from, and_left, and_right, cond-true, cond-false, le-leb, lt-leb, lt-ltb, le-ltb, pow_pos, pow_mono, BackingView, StorageView, Bytes, HeaderFields, cluster_size, cover, IsInReach, old_data_run, Setting, EffectOnSound, cleared, Pending, Disk, disk, uncovered, zeroed_between, ClearsRange, MapsEntry, MapsInTurn, given_shown, DriverState, guest_at, GivenBytes, entries_safe_throughout, KeepsPinsAndNotes, MetadataCaches, ClustersToFreeEntry, state_in, view_in, contents_in, known_in, IsEntryAt, l2_at, AreCleared, ClearsImageCovers, ClearsEntry, ClearsPart, ClearsTable, MayClear, cover_once_cleared, given_bytes_between, is_between, is_cleared, listed_by, setting_of, shown_by, with_caches, ClearMode, Zeros, KeptZeros, Qcow2, Prepared, ImageInvariant, abstract_of, backing_bytes, disk_of, listed_run, of_data, of_tables, pending_in, to_free, IsUngiven, file_invariant_of}
+use Rattle.std.proofs.Common.{◌≡◌, ◌+◌, ◌-◌, ◌*◌, ◌^◌, ◌<◌, ◌≤◌, ◌∷◌, ◌++◌, inl, inr, ℕ, zero, suc, true, false, List, [], Option, refl, sym, ap, ◌∙◌, subst, arith, min, IsSome, IsTrue, nat_le, nat_lt}
+use Rattle.qcow2_image.proofs.Common.{cases_eq, cases_lt, and_from, and_left, and_right, cond-true, cond-false, le-leb, lt-leb, lt-ltb, le-ltb, pow_pos, pow_mono, BackingView, StorageView, Bytes, HeaderFields, cluster_size, cover, IsInReach, old_data_run, Setting, EffectOnSound, cleared, Pending, Disk, disk, uncovered, zeroed_between, ClearsRange, MapsEntry, MapsInTurn, given_shown, DriverState, guest_at, GivenBytes, entries_safe_throughout, KeepsPinsAndNotes, MetadataCaches, ClustersToFreeEntry, state_in, view_in, contents_in, known_in, IsEntryAt, l2_at, AreCleared, ClearsImageCovers, ClearsEntry, ClearsPart, ClearsTable, MayClear, cover_once_cleared, given_bytes_between, is_between, is_cleared, listed_by, setting_of, shown_by, with_caches, ClearMode, Zeros, KeptZeros, Qcow2, Prepared, ImageInvariant, abstract_of, backing_bytes, disk_of, listed_run, of_data, of_tables, pending_in, to_free, IsUngiven, file_invariant_of}
 use Rattle.qcow2_laws.proofs.MappedRanges.{clusters_in_turn_are_a_range}
 use Rattle.qcow2_alloc.proofs.CachePins.{marks_none, marks_then}
 use Rattle.qcow2_image.specs.declared.discarding.ClearMode.TheVariants.{Uncovered}

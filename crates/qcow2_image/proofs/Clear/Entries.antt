@@ -1,5 +1,6 @@
 -- An entry of a cached table is cleared: the new mapping of its guest cluster, the references that it loses, and that everything else stays the same.
-use Rattle.qcow2_image.proofs.Common.{◌≡◌, inl, inr, ℕ, ◌+◌, ◌*◌, ◌/◌, ◌%◌, ◌<◌, ◌≤◌, Bool, true, false, List, length, Option, Some, None, refl, sym, ap, ◌∙◌, subst, arith, cond, IsSome, IsTrue, slice_get, ◌==◌, ◌&&◌, ◌≢◌, eq-eqb, div-mul-add, slice_get_within, BackingView, StorageView, Bytes, HeaderFields, L2Mapping, Data, Zero, Compressed, cluster_size, entries_per_cluster, has_data_file, cover, cover_of, entry_cover, is_copied, l1_entry, l2_entry, host_offset, count, CoverIsAligned, IsInReach, named_run, is_same_run, old_data_run, copied_host, copied_kept, zero_cover, named_by_cover, copied_host_is, cover_of-0, cover_of-zero_entry, named_by_cover-run, Pending, CrashInvariant, IsZeros, MapsEntry, names, table_at, DriverState, StateInvariant, guest_at, EntryChanges, SameOtherCovers, Takes, takes_nothing, takes_own, entry_uncovered, entry_zeroed, pending_after, Sizes-from, cover_at, l2_pins, MetadataCaches, state_in, contents_in, known_in, IsEntryAt, MadeEntry, known_of, l2_at, own_cluster, file_invariant_of, ClearsEntry, cover_once_cleared, cleared_entry, is_cleared, needs_zero_entries, ClearMode, Zeros, KeptZeros, Qcow2, Prepared, ImageInvariant, IsPending, IsReadyWith, cluster_of, listed_run, of_data, pins_by, to_free}
+use Rattle.std.proofs.Common.{◌≡◌, ◌+◌, ◌*◌, ◌/◌, ◌%◌, ◌<◌, ◌≤◌, ◌==◌, ◌&&◌, ◌≢◌, inl, inr, ℕ, Bool, true, false, List, length, Option, Some, None, refl, sym, ap, ◌∙◌, subst, arith, cond, IsSome, IsTrue}
+use Rattle.qcow2_image.proofs.Common.{slice_get, eq-eqb, div-mul-add, slice_get_within, BackingView, StorageView, Bytes, HeaderFields, L2Mapping, Data, Zero, Compressed, cluster_size, entries_per_cluster, has_data_file, cover, cover_of, entry_cover, is_copied, l1_entry, l2_entry, host_offset, count, CoverIsAligned, IsInReach, named_run, is_same_run, old_data_run, copied_host, copied_kept, zero_cover, named_by_cover, copied_host_is, cover_of-0, cover_of-zero_entry, named_by_cover-run, Pending, CrashInvariant, IsZeros, MapsEntry, names, table_at, DriverState, StateInvariant, guest_at, EntryChanges, SameOtherCovers, Takes, takes_nothing, takes_own, entry_uncovered, entry_zeroed, pending_after, Sizes-from, cover_at, l2_pins, MetadataCaches, state_in, contents_in, known_in, IsEntryAt, MadeEntry, known_of, l2_at, own_cluster, file_invariant_of, ClearsEntry, cover_once_cleared, cleared_entry, is_cleared, needs_zero_entries, ClearMode, Zeros, KeptZeros, Qcow2, Prepared, ImageInvariant, IsPending, IsReadyWith, cluster_of, listed_run, of_data, pins_by, to_free}
 use Rattle.qcow2_metadata.specs.declared.l2_mapping.L2Mapping.TheVariants as M
 use Rattle.qcow2_metadata.specs.L2Mapping.{run_has}
 use Rattle.qcow2_image.specs.declared.discarding.ClearMode.TheVariants.{Uncovered}

@@ -1,5 +1,6 @@
 -- A table is still cached after one of its entries changes.
-use Rattle.qcow2_image.proofs.Common.{◌≡◌, ℕ, ◌≤◌, ◌<◌, true, false, Option, Some, None, inl, inr, refl, sym, ap, ◌∙◌, subst, IsSome, IfSome, cases_lt, L2TableView, entries_of, MetadataCaches, l2_at}
+use Rattle.std.proofs.Common.{◌≡◌, ◌≤◌, ◌<◌, ℕ, true, false, Option, Some, None, inl, inr, refl, sym, ap, ◌∙◌, subst, IsSome}
+use Rattle.qcow2_image.proofs.Common.{IfSome, cases_lt, L2TableView, entries_of, MetadataCaches, l2_at}
 use Rattle.qcow2_alloc.specs.TableChanges.{SetsEntry}
 
 module _ {S : Type 0} (old new : MetadataCaches S) (table index : ℕ) (entry : L2TableView → ℕ) (answer : Option (ℕ × ℕ)) where

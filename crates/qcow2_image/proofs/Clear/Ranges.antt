@@ -1,5 +1,6 @@
 -- The range that a call touches: whole clusters within one L2 table.
-use Rattle.qcow2_image.proofs.Common.{◌≡◌, inl, inr, ℕ, ◌+◌, ◌-◌, ◌*◌, ◌/◌, ◌%◌, ◌<◌, ◌≤◌, Bool, true, false, sym, ap, ◌∙◌, arith, cond, min, mul_assoc, ◌==◌, cases_lt, div-add-mod', mod-mul-add, mod_below, HeaderFields, cluster_size, entries_per_cluster, rounded_up, rounded_down, rest_of_table, touched_from, touched_to}
+use Rattle.std.proofs.Common.{◌≡◌, ◌+◌, ◌-◌, ◌*◌, ◌/◌, ◌%◌, ◌<◌, ◌≤◌, ◌==◌, inl, inr, ℕ, Bool, true, false, sym, ap, ◌∙◌, arith, cond, min, mul_assoc}
+use Rattle.qcow2_image.proofs.Common.{cases_lt, div-add-mod', mod-mul-add, mod_below, HeaderFields, cluster_size, entries_per_cluster, rounded_up, rounded_down, rest_of_table, touched_from, touched_to}
 
 -- where the touched range ends, by the rest of a table
 module _ (h : HeaderFields) (some : 0 < cluster_size h) (rows : 0 < entries_per_cluster h) (from : ℕ) where

@@ -1,5 +1,6 @@
 -- The whole clusters of a range, as numbers.
-use Rattle.qcow2_image.proofs.Common.{◌≡◌, inl, inr, ℕ, ◌+◌, ◌-◌, ◌*◌, ◌/◌, ◌%◌, ◌^◌, ◌<◌, ◌≤◌, Option, Some, None, List, [], ◌∷◌, ◌++◌, refl, sym, ap, ◌∙◌, arith, cond, min, IfSome, nat_lt, SomeIff, cases_lt, cond-true, cond-false, lt-ltb, le-ltb, div-add-mod', div-mul-add, mod_below, rounded_up}
+use Rattle.std.proofs.Common.{◌≡◌, ◌+◌, ◌-◌, ◌*◌, ◌/◌, ◌%◌, ◌^◌, ◌<◌, ◌≤◌, ◌∷◌, ◌++◌, inl, inr, ℕ, Option, Some, None, List, [], refl, sym, ap, ◌∙◌, arith, cond, min, nat_lt}
+use Rattle.qcow2_image.proofs.Common.{IfSome, SomeIff, cases_lt, cond-true, cond-false, lt-ltb, le-ltb, div-add-mod', div-mul-add, mod_below, rounded_up}
 
 module _ (size offset : ℕ) (some : 0 < size) where
   pub on_boundary : offset % size ≡ 0 → rounded_up size offset ≡ offset

@@ -1,5 +1,6 @@
 -- A commit as a call: its clusters are entered, clusters are freed, and the mapping is released.
-use Rattle.qcow2_image.proofs.Common.{◌≡◌, inl, inr, ℕ, Bool, true, false, List, [], ◌∷◌, refl, sym, ap, ◌∙◌, subst, eqb, Option, Some, None, IsTrue, IsSome, Result, Ok, Err, slice_get, slice_set, cases_eq, cond-true, cond-false, eq-eqb, ne_eqb, fun_ext, BackingView, StorageView, Refusal, storage, IsRefusalByFault, IsSame, EffectOnSound, EffectOnFailed, AnsweredEffect, RefusedEffect, with_disk, with_slot, PreparedMapping, given_by_commit, committed, GivenBytes, AbstractImage, Guest, guest_of, meaning_at, works_less, works_then, stops_as, ImageError, Qcow2, Prepared, number_of, is_failed, Discards, refusal_of, CommitsAll, EndsFreeing, EntersAll, ShowsPart, InternalCall, contents_in, known_in, pending_in, abstract_of, meaning, IsReadyWith, ImageInvariant}
+use Rattle.std.proofs.Common.{◌≡◌, ◌∷◌, inl, inr, ℕ, Bool, true, false, List, [], refl, sym, ap, ◌∙◌, subst, eqb, Option, Some, None, IsTrue, IsSome, Result, Ok, Err}
+use Rattle.qcow2_image.proofs.Common.{slice_get, slice_set, cases_eq, cond-true, cond-false, eq-eqb, ne_eqb, fun_ext, BackingView, StorageView, Refusal, storage, IsRefusalByFault, IsSame, EffectOnSound, EffectOnFailed, AnsweredEffect, RefusedEffect, with_disk, with_slot, PreparedMapping, given_by_commit, committed, GivenBytes, AbstractImage, Guest, guest_of, meaning_at, works_less, works_then, stops_as, ImageError, Qcow2, Prepared, number_of, is_failed, Discards, refusal_of, CommitsAll, EndsFreeing, EntersAll, ShowsPart, InternalCall, contents_in, known_in, pending_in, abstract_of, meaning, IsReadyWith, ImageInvariant}
 use Rattle.qcow2_image.proofs.Call.Answered.{same_guest}
 use Rattle.qcow2_image.proofs.Call.Called.{Quietly, quiet_same, quiet_sound, quiet_works}
 use Rattle.qcow2_image.proofs.Call.CallOutcomes.{outcome_answered}

@@ -1,5 +1,6 @@
 -- A cluster of a prepared mapping is entered in its L2 table: its private bytes become visible.
-use Rattle.qcow2_image.proofs.Common.{◌≡◌, ◌≢◌, ◌⊎◌, inl, inr, ℕ, ◌+◌, ◌-◌, ◌*◌, ◌/◌, ◌%◌, ◌<◌, ◌≤◌, true, false, List, length, [], ◌∷◌, ◌++◌, refl, sym, ap, ◌∙◌, subst, arith, cond, Bool, Option, Some, None, IsSome, IsTrue, nat_le, nat_lt, ◌&&◌, slice_get, slice_set, ◌==◌, if◌then◌else◌, option_map_or, cases_lt, cases_eq, cond-true, cond-false, eq-eqb, ne_eqb, lt-leb, div-mul-add, mod-mul-add, div-add-mod', pow_pos, slice_get_within, BackingView, StorageView, Bytes, one_if, HeaderFields, cluster_size, entries_per_cluster, has_data_file, rounded_up, l1_entry, l2_entry, host_offset, count, Value, known_byte, cover, entry_cover, IsHostCluster, named_run, named_by_cover-run, IsEntryHost, copied_entry, copied_host, in_cluster, named_for_tables, Data, Zero, CoverIsAligned, cover_of-copied_entry, cluster_is_host, Disk, disk, Pending, CrashInvariant, names, marks, named_by_guest, marked_by_guest, table_at, DriverState, StateInvariant, SafeStep, PreparedMapping, given_shown, given_by_commit, committed, first_of, end_of, GivenBytes, IsGiven, guest_at, EntryChanges, guest_of, entry_top, entry_counts, Takes, takes_new_data, takes_own, works_less, TouchesLess, kept_committed, Maps, pending_after, private_committed, committed_new_data, committed_old_data, Sizes-from, cover_at, beside_tables, shares, in_own, entry_safe_throughout, run_at, KeepsPinsAndNotes, data_entry, MetadataCaches, ClustersToFreeEntry, IsEntryAt, ChangesKnownEntry, MadeEntry, MapsCachedEntry, l2_at, order_of, known_of, run_in, run_before, run_after, state_in, view_in, file_invariant_of, Qcow2, Prepared, ClusterMapping, InPlace, Kept, New, CommitsPart, ShowsPart, old_data_by, to_free, of_data, of_tables, listed_run, new_data_in, new_data_by, pins_by, over_all, pending_in, abstract_of, meaning, is_entered, is_private, cluster_of, host_begin_of, mapping_of_cluster, backing_bytes, IsNewAt, IsClusterMappingAt, IsPending, IsReady, IsReadyWith, ImageInvariant}
+use Rattle.std.proofs.Common.{◌≡◌, ◌≢◌, ◌⊎◌, ◌+◌, ◌-◌, ◌*◌, ◌/◌, ◌%◌, ◌<◌, ◌≤◌, ◌∷◌, ◌++◌, ◌&&◌, ◌==◌, if◌then◌else◌, inl, inr, ℕ, true, false, List, length, [], refl, sym, ap, ◌∙◌, subst, arith, cond, Bool, Option, Some, None, IsSome, IsTrue, nat_le, nat_lt}
+use Rattle.qcow2_image.proofs.Common.{slice_get, slice_set, option_map_or, cases_lt, cases_eq, cond-true, cond-false, eq-eqb, ne_eqb, lt-leb, div-mul-add, mod-mul-add, div-add-mod', pow_pos, slice_get_within, BackingView, StorageView, Bytes, one_if, HeaderFields, cluster_size, entries_per_cluster, has_data_file, rounded_up, l1_entry, l2_entry, host_offset, count, Value, known_byte, cover, entry_cover, IsHostCluster, named_run, named_by_cover-run, IsEntryHost, copied_entry, copied_host, in_cluster, named_for_tables, Data, Zero, CoverIsAligned, cover_of-copied_entry, cluster_is_host, Disk, disk, Pending, CrashInvariant, names, marks, named_by_guest, marked_by_guest, table_at, DriverState, StateInvariant, SafeStep, PreparedMapping, given_shown, given_by_commit, committed, first_of, end_of, GivenBytes, IsGiven, guest_at, EntryChanges, guest_of, entry_top, entry_counts, Takes, takes_new_data, takes_own, works_less, TouchesLess, kept_committed, Maps, pending_after, private_committed, committed_new_data, committed_old_data, Sizes-from, cover_at, beside_tables, shares, in_own, entry_safe_throughout, run_at, KeepsPinsAndNotes, data_entry, MetadataCaches, ClustersToFreeEntry, IsEntryAt, ChangesKnownEntry, MadeEntry, MapsCachedEntry, l2_at, order_of, known_of, run_in, run_before, run_after, state_in, view_in, file_invariant_of, Qcow2, Prepared, ClusterMapping, InPlace, Kept, New, CommitsPart, ShowsPart, old_data_by, to_free, of_data, of_tables, listed_run, new_data_in, new_data_by, pins_by, over_all, pending_in, abstract_of, meaning, is_entered, is_private, cluster_of, host_begin_of, mapping_of_cluster, backing_bytes, IsNewAt, IsClusterMappingAt, IsPending, IsReady, IsReadyWith, ImageInvariant}
 use Rattle.qcow2_metadata.specs.L2Mapping.{run_has}
 use Rattle.qcow2_laws.specs.GuestLaws.{Kept as HostedKept, Held as HostedHeld}
 use Rattle.qcow2_image.proofs.Images.Sound.{free_more}

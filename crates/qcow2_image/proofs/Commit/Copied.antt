@@ -1,5 +1,6 @@
 -- A committed mapping is copied data, each byte at the host offset that the prepare returned.
-use Rattle.qcow2_image.proofs.Common.{◌≡◌, ℕ, ◌+◌, ◌/◌, ◌%◌, ◌<◌, Bool, true, false, List, Option, Some, None, length, sym, ap, ◌∙◌, subst, arith, IsSome, Ok, Result, slice_get, slice_set, BackingView, StorageView, Bytes, HeaderFields, cluster_size, cover, AreDataAt, IsDataAt, ImageError, contents_in, known_in, Qcow2, Prepared, InPlace, CommitsAll, EndsFreeing, EntersAll, IsEntered, InternalCall, cluster_of, host_begin_of, pending_in, IsPending, IsReadyWith, ImageInvariant, ReleasesOneMapping}
+use Rattle.std.proofs.Common.{◌≡◌, ◌+◌, ◌/◌, ◌%◌, ◌<◌, ℕ, Bool, true, false, List, Option, Some, None, length, sym, ap, ◌∙◌, subst, arith, IsSome, Ok, Result}
+use Rattle.qcow2_image.proofs.Common.{slice_get, slice_set, BackingView, StorageView, Bytes, HeaderFields, cluster_size, cover, AreDataAt, IsDataAt, ImageError, contents_in, known_in, Qcow2, Prepared, InPlace, CommitsAll, EndsFreeing, EntersAll, IsEntered, InternalCall, cluster_of, host_begin_of, pending_in, IsPending, IsReadyWith, ImageInvariant, ReleasesOneMapping}
 use Rattle.qcow2_image.proofs.Call.Called.{Quietly, quiet_sound}
 use Rattle.qcow2_image.proofs.Call.Slots.{get_set_same}
 use Rattle.qcow2_image.proofs.Images.Moved.{data_moved}

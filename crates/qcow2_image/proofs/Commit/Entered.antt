@@ -1,5 +1,6 @@
 -- The clusters of a prepared mapping are entered one after another, until no byte of it is private.
-use Rattle.qcow2_image.proofs.Common.{KeepsFileNotes, notes_none, notes_then, ◌≡◌, ◌⊎◌, inl, inr, ℕ, ◌+◌, ◌-◌, ◌*◌, ◌/◌, ◌%◌, ◌^◌, ◌<◌, ◌≤◌, Bool, true, false, List, length, [], ◌∷◌, ◌++◌, refl, sym, ap, ◌∙◌, subst, arith, min, if◌then◌else◌, ◌==◌, Option, Some, None, IsSome, IsTrue, slice_get, slice_set, option_map_or, lookup, cases_eq, cond-true, cond-false, eq-eqb, ne_eqb, append-nil, pow_pos, slice_get_within, pow_mono, fun_ext, BackingView, StorageView, Bytes, HeaderFields, cluster_size, entries_per_cluster, rounded_down, rounded_up, IsHostCluster, Guest, Setting, guest_of, meaning_at, EffectOnSound, PreparedMapping, first_of, end_of, given_shown, given_by_commit, committed, works_less, works_then, l2_pins, MetadataCaches, Slot, MapsCachedEntry, l2_at, contents_in, known_in, ClustersToFreeEntry, PreservesHeaderCluster, Qcow2, Prepared, ClusterMapping, InPlace, Kept, New, CommitsPart, EntersAll, IsEntered, ShowsPart, ImageStays, DropsNothing, EntersMapping, old_data_by, cluster_of, host_begin_of, is_entered, pins_by, pending_in, abstract_of, meaning, is_private, IsClusterMappingAt, IsPending, IsReadyWith, ImageInvariant}
+use Rattle.std.proofs.Common.{◌≡◌, ◌⊎◌, ◌+◌, ◌-◌, ◌*◌, ◌/◌, ◌%◌, ◌^◌, ◌<◌, ◌≤◌, ◌∷◌, ◌++◌, if◌then◌else◌, ◌==◌, inl, inr, ℕ, Bool, true, false, List, length, [], refl, sym, ap, ◌∙◌, subst, arith, min, Option, Some, None, IsSome, IsTrue}
+use Rattle.qcow2_image.proofs.Common.{KeepsFileNotes, notes_none, notes_then, slice_get, slice_set, option_map_or, lookup, cases_eq, cond-true, cond-false, eq-eqb, ne_eqb, append-nil, pow_pos, slice_get_within, pow_mono, fun_ext, BackingView, StorageView, Bytes, HeaderFields, cluster_size, entries_per_cluster, rounded_down, rounded_up, IsHostCluster, Guest, Setting, guest_of, meaning_at, EffectOnSound, PreparedMapping, first_of, end_of, given_shown, given_by_commit, committed, works_less, works_then, l2_pins, MetadataCaches, Slot, MapsCachedEntry, l2_at, contents_in, known_in, ClustersToFreeEntry, PreservesHeaderCluster, Qcow2, Prepared, ClusterMapping, InPlace, Kept, New, CommitsPart, EntersAll, IsEntered, ShowsPart, ImageStays, DropsNothing, EntersMapping, old_data_by, cluster_of, host_begin_of, is_entered, pins_by, pending_in, abstract_of, meaning, is_private, IsClusterMappingAt, IsPending, IsReadyWith, ImageInvariant}
 use Rattle.qcow2_image.proofs.Call.Notes.{same_kept, table_kept}
 use Rattle.std.specs.Option.{option_map}
 use Rattle.qcow2_image.proofs.Call.BehindHeader.{behind_by, behind_none, behind_tables, behind_then}

@@ -1,5 +1,6 @@
 -- A prepared mapping is released: its slot is empty, and its new clusters wait to be freed.
-use Rattle.qcow2_image.proofs.Common.{◌≡◌, inl, inr, ℕ, ◌+◌, ◌-◌, ◌≤◌, List, [], ◌++◌, refl, sym, ap, ◌∙◌, subst, arith, Option, Some, None, slice_get, slice_set, cases_lt, fun_ext, BackingView, StorageView, Bytes, HeaderFields, new_data_to_old_data, disk, Pending, CrashInvariant, DriverState, SafeStep, AreNamedBlocks, guest_of, with_slot, pending_safe_throughout, pending_is_changed, CachedTable, l2_pins, SameTables, MetadataCaches, order_of, known_of, CacheInvariant, state_in, view_in, contents_in, known_in, nothing_given, count, Qcow2, Prepared, ClusterMapping, Discards, freed_by, of_data, of_tables, new_data_by, pins_by, pending_in, abstract_of, meaning, backing_bytes, IsReadyWith, ImageInvariant, rests_none, header, cover, file_invariant_of}
+use Rattle.std.proofs.Common.{◌≡◌, ◌+◌, ◌-◌, ◌≤◌, ◌++◌, inl, inr, ℕ, List, [], refl, sym, ap, ◌∙◌, subst, arith, Option, Some, None}
+use Rattle.qcow2_image.proofs.Common.{slice_get, slice_set, cases_lt, fun_ext, BackingView, StorageView, Bytes, HeaderFields, new_data_to_old_data, disk, Pending, CrashInvariant, DriverState, SafeStep, AreNamedBlocks, guest_of, with_slot, pending_safe_throughout, pending_is_changed, CachedTable, l2_pins, SameTables, MetadataCaches, order_of, known_of, CacheInvariant, state_in, view_in, contents_in, known_in, nothing_given, count, Qcow2, Prepared, ClusterMapping, Discards, freed_by, of_data, of_tables, new_data_by, pins_by, pending_in, abstract_of, meaning, backing_bytes, IsReadyWith, ImageInvariant, rests_none, header, cover, file_invariant_of}
 use Rattle.qcow2_image.proofs.Call.Answered.{same_guest}
 use Rattle.qcow2_image.proofs.Images.ClusterMappings.{IsOfData, freed_data, freed_tables, of_data_at, over_all_at, ready_table}
 use Rattle.qcow2_image.proofs.Images.Sound.{free_more}

@@ -1,5 +1,6 @@
 -- A new disk is grown and flushed. If clusters are allocated for it, every moment shows zeros, and each guest cluster gets the mapping of the mode.
-use Rattle.qcow2_image.proofs.Common.{◌≡◌, ◌⊎◌, inl, inr, ⊎_elim, ℕ, ◌<◌, ◌≤◌, true, false, List, [], ◌∷◌, Option, None, Some, Result, Ok, Err, refl, sym, ap, ◌∙◌, subst, arith, IsTrue, is_some, not, option_or, cases_lt, BackingView, StorageView, PreallocateMode, passes_if, passes_on, KeepsHeaderRest, Bytes, byte_at, cover, header, cluster_size, rounded_up, HeaderFields, Uncovered, IsOpened, Stops, EffectOnSound, shows_old, disk, first_zeros, Checkpoint, GivenBytes, StopOkEverywhere, checkpoint_at, Pending, places_of, with_places, with_listed, ImageError, known_in, state_in, view_in, FlushesImage, setting_of, Enlarges, IsNewDisk, IsPreallocated, IsStopOfCreating, IsUnwritten, ShowsZeros, StopsCreating, AllocatesPlace, Qcow2, KeepsFormat, FitsSize, Extends, Lasts, ReachesSize, SameFormat, WritesBack, is_writable, size_of, ImageInvariant, abstract_of, backing_bytes, disk_of, pending_in, CoversStay, refuse_if, GrowsTo, LeavesTables, all_given_by_grow, refuses_to_resize, known_header}
+use Rattle.std.proofs.Common.{◌≡◌, ◌⊎◌, ◌<◌, ◌≤◌, ◌∷◌, inl, inr, ⊎_elim, ℕ, true, false, List, [], Option, None, Some, Result, Ok, Err, refl, sym, ap, ◌∙◌, subst, arith, IsTrue, is_some}
+use Rattle.qcow2_image.proofs.Common.{not, option_or, cases_lt, BackingView, StorageView, PreallocateMode, passes_if, passes_on, KeepsHeaderRest, Bytes, byte_at, cover, header, cluster_size, rounded_up, HeaderFields, Uncovered, IsOpened, Stops, EffectOnSound, shows_old, disk, first_zeros, Checkpoint, GivenBytes, StopOkEverywhere, checkpoint_at, Pending, places_of, with_places, with_listed, ImageError, known_in, state_in, view_in, FlushesImage, setting_of, Enlarges, IsNewDisk, IsPreallocated, IsStopOfCreating, IsUnwritten, ShowsZeros, StopsCreating, AllocatesPlace, Qcow2, KeepsFormat, FitsSize, Extends, Lasts, ReachesSize, SameFormat, WritesBack, is_writable, size_of, ImageInvariant, abstract_of, backing_bytes, disk_of, pending_in, CoversStay, refuse_if, GrowsTo, LeavesTables, all_given_by_grow, refuses_to_resize, known_header}
 use Rattle.image_access.specs.declared.storage.PreallocateMode.TheVariants as Mode
 use Rattle.qcow2_disk.specs.GrownCovers.{FilledCovers}
 use Rattle.qcow2_alloc.specs.declared.error.ImageError.TheVariants as I

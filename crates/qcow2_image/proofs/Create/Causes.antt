@@ -1,5 +1,6 @@
 -- Why an image is not created: the refusals of its parts, and when a fault of the storage is reported.
-use Rattle.qcow2_image.proofs.Common.{[], ◌≡◌, ◌≢◌, ◌⊎◌, inl, inr, ℕ, ◌+◌, ◌^◌, ◌<◌, ◌≤◌, true, Option, Some, None, Result, Ok, Err, refl, sym, ap, ◌∙◌, subst, arith, IfErr, IsTrue, not, option_or, bit_at, trailing_zeros, w64, cases_eq, cases_lt, pow-add, pow_pos, pow_mono, BackingView, StorageView, rose_since, ImageError, byte_at, header, CanBeNew, IsConsistent, IsNewImage, new_image_consistent, IsOpened, FaultsReported, IsFault, Qcow2, CountsImageFaults, is_writable, storage_of_image, abstract_of, faults_below, HasLogarithms, IsAllowed, IsReasonAgainst, backing_format_in, backing_name_in, IsCreated, IsReasonNotToCreate, IsReasonNotToCreateOpen, LacksPlaceCreating, longest_disk, Qcow2CreateBuilder, IsJustifiedRefusal, OpensRightly, IsFaultOrLimit, MayFail, IsUnlimited, refuse_if, refuses_to_resize}
+use Rattle.std.proofs.Common.{◌≡◌, ◌≢◌, ◌⊎◌, ◌+◌, ◌^◌, ◌<◌, ◌≤◌, [], inl, inr, ℕ, true, Option, Some, None, Result, Ok, Err, refl, sym, ap, ◌∙◌, subst, arith, IfErr, IsTrue}
+use Rattle.qcow2_image.proofs.Common.{not, option_or, bit_at, trailing_zeros, w64, cases_eq, cases_lt, pow-add, pow_pos, pow_mono, BackingView, StorageView, rose_since, ImageError, byte_at, header, CanBeNew, IsConsistent, IsNewImage, new_image_consistent, IsOpened, FaultsReported, IsFault, Qcow2, CountsImageFaults, is_writable, storage_of_image, abstract_of, faults_below, HasLogarithms, IsAllowed, IsReasonAgainst, backing_format_in, backing_name_in, IsCreated, IsReasonNotToCreate, IsReasonNotToCreateOpen, LacksPlaceCreating, longest_disk, Qcow2CreateBuilder, IsJustifiedRefusal, OpensRightly, IsFaultOrLimit, MayFail, IsUnlimited, refuse_if, refuses_to_resize}
 use Rattle.std.proofs.lemmas.Nat.Bits.{bit_at-pow_other, bit_at-pow_same, bit_at-trailing_zeros}
 use Rattle.qcow2_alloc.specs.declared.error.ImageError.TheVariants as I
 use Rattle.qcow2_image.proofs.Images.Sizes.{sound_is_usable}

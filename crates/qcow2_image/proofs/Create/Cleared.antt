@@ -1,5 +1,6 @@
 -- A storage is emptied, unless it is empty: at each moment since, it has its old contents or none.
-use Rattle.qcow2_image.proofs.Common.{◌≡◌, ◌⊎◌, inl, inr, ⊎_elim, ℕ, ◌≤◌, List, [], ◌∷◌, length, Result, sym, ◌∙◌, subst, arith, resized, StorageError, StorageView, EachMomentSince, Calls, QuietCalls, Changes, IsLeftBy, length-resized, whole_or_nothing, passes_on}
+use Rattle.std.proofs.Common.{◌≡◌, ◌⊎◌, ◌≤◌, ◌∷◌, inl, inr, ⊎_elim, ℕ, List, [], length, Result, sym, ◌∙◌, subst, arith}
+use Rattle.qcow2_image.proofs.Common.{resized, StorageError, StorageView, EachMomentSince, Calls, QuietCalls, Changes, IsLeftBy, length-resized, whole_or_nothing, passes_on}
 
 -- contents of no length
 pub none_there : (c : List ℕ) → length c ≡ 0 → c ≡ []

@@ -1,5 +1,6 @@
 -- An unwritten image is opened, grown and flushed: what a stop leaves meanwhile, and what the storage holds then.
-use Rattle.qcow2_image.proofs.Common.{◌≡◌, ◌⊎◌, inl, inr, ⊎_elim, ℕ, ◌^◌, List, [], ◌∷◌, ◌++◌, None, Some, Result, Ok, Err, refl, sym, ap, ◌∙◌, subst, arith, false, IfOk, OnOk, Option, is_some, option_map, BackingView, StorageView, EachMomentSince, IsLeftBy, PreallocateMode, passes_on, passes_if, IsHeaderIn, KeepsHeaderRest, Bytes, byte_at, HeaderFields, HeaderView, cluster_size, header, new_header, new_fields, HasNewNames, disk, disk_with, SafeThroughout, Checkpoint, checkpoint_at, checkpoint_with, IsAsked, StopOkEverywhere, LeavesKept, IsNewImage, HasNoLeaks, places_of, with_places, IsOpened, ImageError, nothing_given, view_in, Qcow2CreateBuilder, Qcow2, backing_format_in, backing_name_in, IsUnwritten, IsStopOfCreating, StopsCreating, StaysCreating, IsNewHeader, IsCreated, Enlarges, IsMade, IsThreeWith, WritesThree, FitsSize, SameFormat, ReachesSize, storage_of_image, IsKeptSince, needs_another, abstract_of, header_rest_same, header_rest_then, new_image_exact}
+use Rattle.std.proofs.Common.{◌≡◌, ◌⊎◌, ◌^◌, ◌∷◌, ◌++◌, inl, inr, ⊎_elim, ℕ, List, [], None, Some, Result, Ok, Err, refl, sym, ap, ◌∙◌, subst, arith, false, IfOk, Option, is_some}
+use Rattle.qcow2_image.proofs.Common.{OnOk, option_map, BackingView, StorageView, EachMomentSince, IsLeftBy, PreallocateMode, passes_on, passes_if, IsHeaderIn, KeepsHeaderRest, Bytes, byte_at, HeaderFields, HeaderView, cluster_size, header, new_header, new_fields, HasNewNames, disk, disk_with, SafeThroughout, Checkpoint, checkpoint_at, checkpoint_with, IsAsked, StopOkEverywhere, LeavesKept, IsNewImage, HasNoLeaks, places_of, with_places, IsOpened, ImageError, nothing_given, view_in, Qcow2CreateBuilder, Qcow2, backing_format_in, backing_name_in, IsUnwritten, IsStopOfCreating, StopsCreating, StaysCreating, IsNewHeader, IsCreated, Enlarges, IsMade, IsThreeWith, WritesThree, FitsSize, SameFormat, ReachesSize, storage_of_image, IsKeptSince, needs_another, abstract_of, header_rest_same, header_rest_then, new_image_exact}
 use Rattle.std.specs.String.{string_bytes}
 use Rattle.image_access.specs.declared.storage.PreallocateMode.TheVariants as Mode
 use Rattle.qcow2_image.proofs.Open.SameHeaders.{alone_still, names_still, not_needed}

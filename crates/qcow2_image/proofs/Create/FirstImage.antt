@@ -1,5 +1,6 @@
 -- The three clusters of a new image: before the header is written the storage holds no image, afterwards a new one.
-use Rattle.qcow2_image.proofs.Common.{◌≡◌, inl, inr, ℕ, ◌+◌, ◌*◌, ◌/◌, ◌%◌, ◌^◌, ◌<◌, ◌≤◌, false, List, [], ◌++◌, length, replicate, Option, sym, ap, ◌∙◌, subst, arith, lit<, ◌==◌, ◌&&◌, ◌||◌, if◌then◌else◌, is_some, unwrap_or, cases_lt, cond-false, ne_eqb, length-append, le-div, div-mul-add, mod-mul-add, overwritten, byte_at-overwritten_below, byte_at-overwritten_behind, byte_at, number_at, HeaderFields, HeaderView, HeaderReads, backing_format_kind, cluster_size, data_file_kind, count_width, counts_per_block, entries_per_cluster, reftable_entries, IsHeaderIn, numbers_of, bytes_of_numbers, extension_size, header_bytes, header_written, name_extension, name_place, new_fields, reftable_entry, block_count, EntryTableView, entry_count, RefBlockView, IsRefBlockAt, count_at, counts_of, entry_at, IsNewImage, Sizes, Sizes-from, reftable-same, block_count-moved, begins_image, IsNewHeader, CountsThree, NamesOne, IsThreeWith}
+use Rattle.std.proofs.Common.{◌≡◌, ◌+◌, ◌*◌, ◌/◌, ◌%◌, ◌^◌, ◌<◌, ◌≤◌, ◌++◌, ◌==◌, ◌&&◌, ◌||◌, if◌then◌else◌, inl, inr, ℕ, false, List, [], length, replicate, Option, sym, ap, ◌∙◌, subst, arith, lit<, is_some}
+use Rattle.qcow2_image.proofs.Common.{unwrap_or, cases_lt, cond-false, ne_eqb, length-append, le-div, div-mul-add, mod-mul-add, overwritten, byte_at-overwritten_below, byte_at-overwritten_behind, byte_at, number_at, HeaderFields, HeaderView, HeaderReads, backing_format_kind, cluster_size, data_file_kind, count_width, counts_per_block, entries_per_cluster, reftable_entries, IsHeaderIn, numbers_of, bytes_of_numbers, extension_size, header_bytes, header_written, name_extension, name_place, new_fields, reftable_entry, block_count, EntryTableView, entry_count, RefBlockView, IsRefBlockAt, count_at, counts_of, entry_at, IsNewImage, Sizes, Sizes-from, reftable-same, block_count-moved, begins_image, IsNewHeader, CountsThree, NamesOne, IsThreeWith}
 use Rattle.image_access.proofs.Bytes.{length-overwritten, length-overwritten_within}
 use Rattle.qcow2_metadata.proofs.ReadBack.{length-name_extension, length-numbers}
 use Rattle.qcow2_metadata.proofs.WrittenTables.{IsRefTableOf-written}

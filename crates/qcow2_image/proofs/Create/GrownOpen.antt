@@ -1,5 +1,6 @@
 -- A new image is opened by the builder that a closure returned for its storage, and its disk is grown: what it holds, and what a stop leaves.
-use Rattle.qcow2_image.proofs.Common.{◌≡◌, ◌⊎◌, inl, inr, ℕ, List, [], Option, Result, Ok, true, false, ap, ◌∙◌, subst, sym, IfErr, IsTrue, is_some, option_flatten, BackingView, StorageView, passes_on, byte_at, header, HeaderFields, shows_old, known_in, view_in, ImageError, TablesBehindHeader, HoldsNewDisk, IsCreated, IsNewDisk, IsStopOfCreating, IsUnwritten, OpensGrown, StopsCreating, empty_of, IsHonestBacking, IsKeptSince, IsOpenedFrom, Opens, IsNewlyOpened, OpeningStep, files_missing, IsFaultOrLimit, takes_over, Qcow2CreateBuilder, Qcow2, Qcow2OpenBuilder}
+use Rattle.std.proofs.Common.{◌≡◌, ◌⊎◌, inl, inr, ℕ, List, [], Option, Result, Ok, true, false, ap, ◌∙◌, subst, sym, IfErr, IsTrue, is_some}
+use Rattle.qcow2_image.proofs.Common.{option_flatten, BackingView, StorageView, passes_on, byte_at, header, HeaderFields, shows_old, known_in, view_in, ImageError, TablesBehindHeader, HoldsNewDisk, IsCreated, IsNewDisk, IsStopOfCreating, IsUnwritten, OpensGrown, StopsCreating, empty_of, IsHonestBacking, IsKeptSince, IsOpenedFrom, Opens, IsNewlyOpened, OpeningStep, files_missing, IsFaultOrLimit, takes_over, Qcow2CreateBuilder, Qcow2, Qcow2OpenBuilder}
 use Rattle.image_access.specs.declared.storage.PreallocateMode.TheVariants as Mode
 use Rattle.qcow2_alloc.specs.declared.error.ImageError.TheVariants as I
 use Rattle.qcow2_image.proofs.Create.Causes.{usable_opened}

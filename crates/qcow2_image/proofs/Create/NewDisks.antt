@@ -1,5 +1,6 @@
 -- New disks: an unwritten one shows zeros, and its guest clusters are unmapped; the mappings that a mode leaves; and what calls keep that give only zeros.
-use Rattle.qcow2_image.proofs.Common.{◌≡◌, ◌⊎◌, inl, inr, ⊎_elim, ℕ, ◌+◌, ◌*◌, ◌/◌, ◌%◌, ◌<◌, ◌≤◌, Bool, true, false, List, [], ◌∷◌, None, refl, sym, ap, ◌∙◌, subst, arith, ◌||◌, nat_le, if◌then◌else◌, div-mul-add, mod-mul-add, pow_pos, PreallocateMode, Bytes, IsConsistent, cover, Value, guest_value, known_byte, value_under, HeaderFields, L2Mapping, Data, Zero, Compressed, Uncovered, header, cluster_size, rounded_up, given_by_grow, shows_old, to_kept_zero, Disk, disk, disk_with, zeroed_between, Setting, Touches, first_zeros, given_shown, is_copied_data, GivenBytes, IsGiven, Checkpoint, checkpoint_at, checkpoint_with, StopOkEverywhere, header_rest_same, IsCoverOf, IsNewDisk, IsPreallocated, IsUnwritten, ShowsZeros, CoversStay}
+use Rattle.std.proofs.Common.{◌≡◌, ◌⊎◌, ◌+◌, ◌*◌, ◌/◌, ◌%◌, ◌<◌, ◌≤◌, ◌∷◌, ◌||◌, if◌then◌else◌, inl, inr, ⊎_elim, ℕ, Bool, true, false, List, [], None, refl, sym, ap, ◌∙◌, subst, arith, nat_le}
+use Rattle.qcow2_image.proofs.Common.{div-mul-add, mod-mul-add, pow_pos, PreallocateMode, Bytes, IsConsistent, cover, Value, guest_value, known_byte, value_under, HeaderFields, L2Mapping, Data, Zero, Compressed, Uncovered, header, cluster_size, rounded_up, given_by_grow, shows_old, to_kept_zero, Disk, disk, disk_with, zeroed_between, Setting, Touches, first_zeros, given_shown, is_copied_data, GivenBytes, IsGiven, Checkpoint, checkpoint_at, checkpoint_with, StopOkEverywhere, header_rest_same, IsCoverOf, IsNewDisk, IsPreallocated, IsUnwritten, ShowsZeros, CoversStay}
 use Rattle.image_access.specs.declared.storage.PreallocateMode.TheVariants as Mode
 use Rattle.qcow2_disk.specs.ClearedCovers.{cleared_cover}
 use Rattle.qcow2_disk.specs.GrownCovers.{FilledCovers}

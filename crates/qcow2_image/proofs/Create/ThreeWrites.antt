@@ -1,5 +1,6 @@
 -- The refblock, the reftable and the header of a new image are written one after another: what a stop may leave on the way.
-use Rattle.qcow2_image.proofs.Common.{◌≡◌, inl, inr, ℕ, ◌*◌, ◌/◌, ◌^◌, ◌≤◌, List, [], Option, Result, Ok, Err, sym, ap, ◌∙◌, subst, arith, IfSome, OnOk, overwritten, StorageView, EachMomentSince, Changes, Calls, StorageError, passes_none, passes_on, passes_if, passes_change, Bytes, byte_at, HeaderFields, HeaderView, header, cluster_size, entries_per_cluster, IsHeaderIn, header_written, cover, host_offset, EntryTableView, guest_value, value_under, known_byte, RefBlockView, IsRefBlockAt, L2Mapping, Uncovered, disk, disk_with, IsNewImage, new_image_consistent, cover_none, l1_entry-past, ImageError, IsUnwritten, IsStopOfCreating, StaysCreating, IsNewHeader, CountsThree, NamesOne, IsThreeWith, WritesThree}
+use Rattle.std.proofs.Common.{◌≡◌, ◌*◌, ◌/◌, ◌^◌, ◌≤◌, inl, inr, ℕ, List, [], Option, Result, Ok, Err, sym, ap, ◌∙◌, subst, arith}
+use Rattle.qcow2_image.proofs.Common.{IfSome, OnOk, overwritten, StorageView, EachMomentSince, Changes, Calls, StorageError, passes_none, passes_on, passes_if, passes_change, Bytes, byte_at, HeaderFields, HeaderView, header, cluster_size, entries_per_cluster, IsHeaderIn, header_written, cover, host_offset, EntryTableView, guest_value, value_under, known_byte, RefBlockView, IsRefBlockAt, L2Mapping, Uncovered, disk, disk_with, IsNewImage, new_image_consistent, cover_none, l1_entry-past, ImageError, IsUnwritten, IsStopOfCreating, StaysCreating, IsNewHeader, CountsThree, NamesOne, IsThreeWith, WritesThree}
 use Rattle.image_access.specs.declared.storage.PreallocateMode.TheVariants as Mode
 use Rattle.qcow2_image.proofs.Create.FirstImage.{IsBlank, no_image, blank_still, is_new_image, three_with}
 

@@ -1,5 +1,6 @@
 -- Listed clusters are freed, which guests don't see.
-use Rattle.qcow2_image.proofs.Common.{is_changed_of, or_right, ◌≡◌, ⊎_elim, inl, inr, ℕ, ◌<◌, Bool, false, List, [], Option, Some, refl, sym, ap, ◌∙◌, subst, arith, Result, Ok, Err, IfOk, IfErr, IsTrue, BackingView, StorageView, Pending, AnsweredEffect, IsRefusalByFault, IsSame, SafeStep, stored_bytes, format_same, format_then, safe_step_then, steps_safe_throughout, unseen_then, Allocator, ImageError, ImageFile, Frees, l2_pins, with_listed, state_in, view_in, contents_in, known_in, nothing_given, file_step_on, pending_same, freed_kept, KeepsNoFreeBelowHint, Qcow2, Prepared, EndsFreeing, RefusedCall, InternalCall, InternalStep, InternalFreeingStep, FreesListed, FlushesImage, refusal_of, number_of, is_failed, has_noted_change, leaked_by, leaked_in, ImageInvariant, pending_in, abstract_of}
+use Rattle.std.proofs.Common.{◌≡◌, ◌<◌, ⊎_elim, inl, inr, ℕ, Bool, false, List, [], Option, Some, refl, sym, ap, ◌∙◌, subst, arith, Result, Ok, Err, IfOk, IfErr, IsTrue}
+use Rattle.qcow2_image.proofs.Common.{is_changed_of, or_right, BackingView, StorageView, Pending, AnsweredEffect, IsRefusalByFault, IsSame, SafeStep, stored_bytes, format_same, format_then, safe_step_then, steps_safe_throughout, unseen_then, Allocator, ImageError, ImageFile, Frees, l2_pins, with_listed, state_in, view_in, contents_in, known_in, nothing_given, file_step_on, pending_same, freed_kept, KeepsNoFreeBelowHint, Qcow2, Prepared, EndsFreeing, RefusedCall, InternalCall, InternalStep, InternalFreeingStep, FreesListed, FlushesImage, refusal_of, number_of, is_failed, has_noted_change, leaked_by, leaked_in, ImageInvariant, pending_in, abstract_of}
 use Rattle.qcow2_alloc.specs.ImageError.{IsFault as FaultOfTables}
 use Rattle.qcow2_alloc.specs.declared.error.ImageError.TheVariants as I
 use Rattle.qcow2_image.proofs.Call.Marked.{MayMarkBy}

@@ -1,5 +1,6 @@
 -- The number of L1 entries after the parts of a call.
-use Rattle.qcow2_image.proofs.Common.{◌≡◌, inl, inr, ℕ, ◌+◌, ◌-◌, ◌*◌, ◌/◌, ◌%◌, ◌^◌, ◌<◌, ◌≤◌, List, Option, max, sym, ap, ◌∙◌, subst, arith, div-zero, cases_lt, div-add-mod', div-mul-add, mod_below, pow_pos, BackingView, StorageView, HeaderFields, l1_entry, EntryTableView, entry_count, HeaderView, cluster_size, entries_per_cluster, rounded_up, entry_at, Pending, KeepsFormat, div_mono, contents_in, Qcow2, Prepared, l1_index_of, FitsSize, ImageInvariant, ReachesOffset, ReachingStays, HasOwnTable, KeepsL1Place, MovesTables, NamesOwn}
+use Rattle.std.proofs.Common.{◌≡◌, ◌+◌, ◌-◌, ◌*◌, ◌/◌, ◌%◌, ◌^◌, ◌<◌, ◌≤◌, inl, inr, ℕ, List, Option, max, sym, ap, ◌∙◌, subst, arith}
+use Rattle.qcow2_image.proofs.Common.{div-zero, cases_lt, div-add-mod', div-mul-add, mod_below, pow_pos, BackingView, StorageView, HeaderFields, l1_entry, EntryTableView, entry_count, HeaderView, cluster_size, entries_per_cluster, rounded_up, entry_at, Pending, KeepsFormat, div_mono, contents_in, Qcow2, Prepared, l1_index_of, FitsSize, ImageInvariant, ReachesOffset, ReachingStays, HasOwnTable, KeepsL1Place, MovesTables, NamesOwn}
 
 -- a table that stays where it is does so where a header is the same
 pub place_same : (h : HeaderFields) (v v' : HeaderView) → v' ≡ v → KeepsL1Place h v.fields → KeepsL1Place h v'.fields

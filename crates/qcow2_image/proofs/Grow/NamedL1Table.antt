@@ -1,5 +1,6 @@
 -- The header's pointer to a longer L1 table is written, and the image uses that table from then on.
-use Rattle.qcow2_image.proofs.Common.{or_right, ◌≡◌, ℕ, ◌+◌, ◌*◌, ◌/◌, ◌^◌, ◌<◌, ◌≤◌, List, [], length, Option, Some, Result, Ok, Err, inr, refl, sym, ap, ◌∙◌, subst, arith, IfSome, IsTrue, append-nil, BackingView, StorageView, Changes, Calls, StorageError, Bytes, byte_at, HeaderFields, HeaderView, cluster_size, with_fields, with_l1_table, l1_table_pointer_written, l1_entry, reftable_entry, count, count_under, EntryTableView, entry_count, IsHostCluster, in_run, renamed, Pending, SameIn, KeepsGuests, SafeStep, SafeThroughout, WritesHeader, with_places, with_l1_at, IsNewL1, longer_l1_table_keeps_guests, step_safe_throughout, Sizes, l1-same, run_has, header_is_written, Allocator, ImageStorage, nothing_given, view_in, contents_in, known_in, state_in, of_storage, storage_of, is_changed_of, order_of, known_of, fault_of_storage, pending_same, cluster_aligned, own_cluster, file_sizes, known_there, IsAllocatorOf, allocator_kept, header_known_counts, file_invariant_of, Qcow2, Prepared, with_table, without_l1, StandsWhole, InternalMove, NamesTable, ImageInvariant, MovesTables}
+use Rattle.std.proofs.Common.{◌≡◌, ◌+◌, ◌*◌, ◌/◌, ◌^◌, ◌<◌, ◌≤◌, ℕ, List, [], length, Option, Some, Result, Ok, Err, inr, refl, sym, ap, ◌∙◌, subst, arith, IsTrue}
+use Rattle.qcow2_image.proofs.Common.{or_right, IfSome, append-nil, BackingView, StorageView, Changes, Calls, StorageError, Bytes, byte_at, HeaderFields, HeaderView, cluster_size, with_fields, with_l1_table, l1_table_pointer_written, l1_entry, reftable_entry, count, count_under, EntryTableView, entry_count, IsHostCluster, in_run, renamed, Pending, SameIn, KeepsGuests, SafeStep, SafeThroughout, WritesHeader, with_places, with_l1_at, IsNewL1, longer_l1_table_keeps_guests, step_safe_throughout, Sizes, l1-same, run_has, header_is_written, Allocator, ImageStorage, nothing_given, view_in, contents_in, known_in, state_in, of_storage, storage_of, is_changed_of, order_of, known_of, fault_of_storage, pending_same, cluster_aligned, own_cluster, file_sizes, known_there, IsAllocatorOf, allocator_kept, header_known_counts, file_invariant_of, Qcow2, Prepared, with_table, without_l1, StandsWhole, InternalMove, NamesTable, ImageInvariant, MovesTables}
 use Rattle.qcow2_laws.specs.GuestLaws.{state_with_l1_table as with_new_l1}
 use Rattle.qcow2_laws.proofs.L1Moves.{now_l1, now_reftable}
 use Rattle.qcow2_alloc.proofs.Numbers.{l1_pointer_writes}

@@ -1,5 +1,6 @@
 -- A longer L1 table is written to clusters that were allocated for it, after all refcounts.
-use Rattle.qcow2_image.proofs.Common.{◌≡◌, ◌⊎◌, inl, inr, ℕ, ◌+◌, ◌-◌, ◌*◌, ◌/◌, ◌^◌, ◌<◌, ◌≤◌, List, length, Option, Some, Result, Ok, refl, sym, ap, ◌∙◌, subst, arith, IfSome, nat_le, nat_lt, ◌&&◌, cases_lt, BackingView, overwritten, StorageView, Changes, Calls, StorageError, whole_or_nothing, byte_at, one_if, HeaderFields, cluster_size, l1_entry, EntryTableView, entry_count, in_run, entry_at, AreClean, BlocksMayGo, RbDependsOnL2, Pending, SameCovers, SameIn, with_places, with_l1_at, IsUnnamed, overwritten_but, clean_counts, run_has, data_is_written, Allocator, ImageStorage, run_at, view_in, contents_in, known_in, state_in, FileInvariant, storage_of, order_of, l2_tables, refblocks, cluster_aligned, own_cluster, IsFree, covers_written, file_sizes, IsAllocatorOf, Qcow2, Prepared, with_table, clusters_of, IsLongerL1, StandsWhole, InternalStep, ImageInvariant}
+use Rattle.std.proofs.Common.{◌≡◌, ◌⊎◌, ◌+◌, ◌-◌, ◌*◌, ◌/◌, ◌^◌, ◌<◌, ◌≤◌, ◌&&◌, inl, inr, ℕ, List, length, Option, Some, Result, Ok, refl, sym, ap, ◌∙◌, subst, arith, nat_le, nat_lt}
+use Rattle.qcow2_image.proofs.Common.{IfSome, cases_lt, BackingView, overwritten, StorageView, Changes, Calls, StorageError, whole_or_nothing, byte_at, one_if, HeaderFields, cluster_size, l1_entry, EntryTableView, entry_count, in_run, entry_at, AreClean, BlocksMayGo, RbDependsOnL2, Pending, SameCovers, SameIn, with_places, with_l1_at, IsUnnamed, overwritten_but, clean_counts, run_has, data_is_written, Allocator, ImageStorage, run_at, view_in, contents_in, known_in, state_in, FileInvariant, storage_of, order_of, l2_tables, refblocks, cluster_aligned, own_cluster, IsFree, covers_written, file_sizes, IsAllocatorOf, Qcow2, Prepared, with_table, clusters_of, IsLongerL1, StandsWhole, InternalStep, ImageInvariant}
 use Rattle.qcow2_metadata.proofs.WrittenTables.{IsL1TableOf-written}
 use Rattle.qcow2_alloc.proofs.FileWrites.{file_step_written, reftable_written}
 use Rattle.qcow2_image.proofs.Open.Reftables.{allocator_moved}

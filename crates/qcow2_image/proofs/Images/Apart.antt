@@ -1,5 +1,6 @@
 -- Prepared mappings have no guest cluster in common, since each pins an L2 table of its own.
-use Rattle.qcow2_image.proofs.Common.{◌≡◌, ℕ, ◌+◌, ◌*◌, ◌/◌, ◌%◌, ◌<◌, List, Option, Some, refl, sym, ap, ◌∙◌, arith, length, slice_get, ◌==◌, cond-true, eq-eqb, div-add-mod', div-mul-add, pow_pos, BackingView, StorageView, Bytes, HeaderFields, cluster_size, entries_per_cluster, Pending, table_at, contents_in, known_in, Qcow2, Prepared, cluster_of, pins_by, pins_of, IsPending, ImageInvariant}
+use Rattle.std.proofs.Common.{◌≡◌, ◌+◌, ◌*◌, ◌/◌, ◌%◌, ◌<◌, ◌==◌, ℕ, List, Option, Some, refl, sym, ap, ◌∙◌, arith, length}
+use Rattle.qcow2_image.proofs.Common.{slice_get, cond-true, eq-eqb, div-add-mod', div-mul-add, pow_pos, BackingView, StorageView, Bytes, HeaderFields, cluster_size, entries_per_cluster, Pending, table_at, contents_in, known_in, Qcow2, Prepared, cluster_of, pins_by, pins_of, IsPending, ImageInvariant}
 use Rattle.qcow2_image.proofs.Call.Slots.{over_all_two}
 
 -- all guest clusters of a mapping are under one L1 entry, each at its own entry of the L2 table

@@ -1,5 +1,6 @@
 -- Replacing the backing disk of a sound image with prepared mappings.
-use Rattle.qcow2_image.proofs.Common.{◌≡◌, ◌+◌, ◌<◌, inl, inr, ℕ, zero, suc, List, [], ◌∷◌, Option, Some, None, refl, sym, subst, arith, slice_get, is_some, true, IfSome, IsSome, option_map_or, cases_lt, eq-eqb, BackingView, StorageView, one_if, Qcow2, Prepared, table_of, pins_by, pins_of, over_all, abstract_of, HasPinnedTable, HasPinnedMapping}
+use Rattle.std.proofs.Common.{◌≡◌, ◌+◌, ◌<◌, ◌∷◌, inl, inr, ℕ, zero, suc, List, [], Option, Some, None, refl, sym, subst, arith, is_some, true, IsSome}
+use Rattle.qcow2_image.proofs.Common.{slice_get, IfSome, option_map_or, cases_lt, eq-eqb, BackingView, StorageView, one_if, Qcow2, Prepared, table_of, pins_by, pins_of, over_all, abstract_of, HasPinnedTable, HasPinnedMapping}
 use Rattle.qcow2_alloc.specs.ImageFile.{l2_pins}
 
 -- ---- pins

@@ -1,5 +1,6 @@
 -- The meaning of the cluster mappings of a prepared mapping: which clusters they hold, and whose bytes these have.
-use Rattle.qcow2_image.proofs.Common.{◌≡◌, inl, inr, ℕ, zero, suc, ◌+◌, ◌-◌, ◌*◌, ◌/◌, ◌%◌, ◌<◌, ◌≤◌, Bool, true, false, List, [], ◌∷◌, ◌++◌, length, Option, Some, None, refl, sym, ap, ◌∙◌, subst, arith, cond, IsTrue, nat_le, slice_get, slice_set, option_map_or, cases_lt, cond-true, cond-false, le-leb, lt-leb, div-add-mod', div-mul-add, mod-mul-add, mod_below, pow_pos, append_assoc, BackingView, StorageView, Bytes, HeaderFields, cluster_size, cover, in_cluster, named_by_cover, Zero, Pending, over_guests, names, DriverState, StateInvariant, used_by_guests, in_own, kept_aligned, tied, in_one, named_some, data_entry, ClustersToFreeEntry, state_in, contents_in, known_in, run_in, Qcow2, Prepared, ClusterMapping, InPlace, Kept, New, freed_by, HoldsAll, of_data, of_tables, to_free, new_data_in, new_data_by, over_all, is_entered, cluster_of, begin_of, host_begin_of, place_of, mapping_of_cluster, IsClusterMappingAt, IsPending, IsReadyWith, is_private, ImageInvariant}
+use Rattle.std.proofs.Common.{◌≡◌, ◌+◌, ◌-◌, ◌*◌, ◌/◌, ◌%◌, ◌<◌, ◌≤◌, ◌∷◌, ◌++◌, inl, inr, ℕ, zero, suc, Bool, true, false, List, [], length, Option, Some, None, refl, sym, ap, ◌∙◌, subst, arith, cond, IsTrue, nat_le}
+use Rattle.qcow2_image.proofs.Common.{slice_get, slice_set, option_map_or, cases_lt, cond-true, cond-false, le-leb, lt-leb, div-add-mod', div-mul-add, mod-mul-add, mod_below, pow_pos, append_assoc, BackingView, StorageView, Bytes, HeaderFields, cluster_size, cover, in_cluster, named_by_cover, Zero, Pending, over_guests, names, DriverState, StateInvariant, used_by_guests, in_own, kept_aligned, tied, in_one, named_some, data_entry, ClustersToFreeEntry, state_in, contents_in, known_in, run_in, Qcow2, Prepared, ClusterMapping, InPlace, Kept, New, freed_by, HoldsAll, of_data, of_tables, to_free, new_data_in, new_data_by, over_all, is_entered, cluster_of, begin_of, host_begin_of, place_of, mapping_of_cluster, IsClusterMappingAt, IsPending, IsReadyWith, is_private, ImageInvariant}
 use Rattle.qcow2_image.proofs.Images.Inside.{names_inside}
 use Rattle.qcow2_image.proofs.Images.Sound.{free_more}
 

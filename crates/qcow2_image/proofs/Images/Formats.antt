@@ -1,5 +1,6 @@
 -- What stays the same in an image if its header does, except the pointer to the reftable.
-use Rattle.qcow2_image.proofs.Common.{◌≡◌, ℕ, sym, ◌∙◌, subst, Option, None, Some, Bytes, HeaderFields, with_reftable, l1_entry, cover, cover_under, L2TableView, KeepsFormat, l1_format, ListsTables, IsEntryAt, Qcow2, Prepared, ClusterMapping, InPlace, Kept, New, SaysKnown, ListGrows, IsClusterMappingAt, IsReadyWith}
+use Rattle.std.proofs.Common.{◌≡◌, ℕ, sym, ◌∙◌, subst, Option, None, Some}
+use Rattle.qcow2_image.proofs.Common.{Bytes, HeaderFields, with_reftable, l1_entry, cover, cover_under, L2TableView, KeepsFormat, l1_format, ListsTables, IsEntryAt, Qcow2, Prepared, ClusterMapping, InPlace, Kept, New, SaysKnown, ListGrows, IsClusterMappingAt, IsReadyWith}
 
 -- ---- what is read with it
 module _ (h : HeaderFields) (offset clusters : ℕ) (known on_storage : Bytes) where

@@ -1,5 +1,6 @@
 -- Empty slots make no difference to an image, a sound image is whole, and from now on its storage has only had its present contents.
-use Rattle.qcow2_image.proofs.Common.{◌≡◌, ℕ, zero, suc, ◌+◌, ◌-◌, ◌≤◌, List, [], ◌∷◌, ◌++◌, sym, ap, ◌∙◌, subst, Option, Some, None, arith, refl, slice_get, option_map_or, fun_ext, BackingView, StorageView, count, cluster_size, named, HeaderFields, Pending, HasFreePlaces, IsWhole, sound_is_consistent, known_header, state_in, view_in, known_in, FileInvariant, storage_of, Qcow2, Prepared, over_all, new_data_by, pins_by, to_free, of_tables, of_data, pending_in, ImageInvariant, image_abstraction, abstract_of}
+use Rattle.std.proofs.Common.{◌≡◌, ◌+◌, ◌-◌, ◌≤◌, ◌∷◌, ◌++◌, ℕ, zero, suc, List, [], sym, ap, ◌∙◌, subst, Option, Some, None, arith, refl}
+use Rattle.qcow2_image.proofs.Common.{slice_get, option_map_or, fun_ext, BackingView, StorageView, count, cluster_size, named, HeaderFields, Pending, HasFreePlaces, IsWhole, sound_is_consistent, known_header, state_in, view_in, known_in, FileInvariant, storage_of, Qcow2, Prepared, over_all, new_data_by, pins_by, to_free, of_tables, of_data, pending_in, ImageInvariant, image_abstraction, abstract_of}
 
 over_all_free : (f : Prepared → ℕ → ℕ) (a b : List (Option Prepared)) (k : ℕ) → over_all f (a ++ None ∷ b) k ≡ over_all f (a ++ b) k
 over_all_free f [] b k = omega arith

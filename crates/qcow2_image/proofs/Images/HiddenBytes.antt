@@ -1,5 +1,6 @@
 -- Bytes that are private to a prepared mapping are hidden from stops, unless a zero entry keeps their host cluster.
-use Rattle.qcow2_image.proofs.Common.{◌≡◌, ◌⊎◌, inl, inr, ℕ, ◌+◌, ◌/◌, true, false, List, Option, Some, IsTrue, sym, ap, ◌∙◌, subst, slice_get, option_map_or, BackingView, StorageView, cover, header, cluster_size, HeaderFields, Zero, IsHiddenIn, DriverState, known_header, state_in, known_in, Qcow2, Prepared, ClusterMapping, InPlace, Kept, New, pending_in, meaning, host_begin_of, is_entered, is_new, is_private, is_hidden, mapping_of_cluster, IsClusterMappingAt, ImageInvariant}
+use Rattle.std.proofs.Common.{◌≡◌, ◌⊎◌, ◌+◌, ◌/◌, inl, inr, ℕ, true, false, List, Option, Some, IsTrue, sym, ap, ◌∙◌, subst}
+use Rattle.qcow2_image.proofs.Common.{slice_get, option_map_or, BackingView, StorageView, cover, header, cluster_size, HeaderFields, Zero, IsHiddenIn, DriverState, known_header, state_in, known_in, Qcow2, Prepared, ClusterMapping, InPlace, Kept, New, pending_in, meaning, host_begin_of, is_entered, is_new, is_private, is_hidden, mapping_of_cluster, IsClusterMappingAt, ImageInvariant}
 use Rattle.qcow2_image.proofs.Images.ClusterMappings.{private_shared, ready_table, mapping_here}
 
 module _ {S F : Type 0} (view : S → StorageView) (backing : F → BackingView) (image : Qcow2 S F) (out : List (Option Prepared)) (sound : ImageInvariant view backing (pending_in view backing image out) image out) where

@@ -1,5 +1,6 @@
 -- What stays the same when an image's tables move.
-use Rattle.qcow2_image.proofs.Common.{◌≡◌, ℕ, ◌+◌, ◌/◌, ◌%◌, true, refl, sym, ap, ◌∙◌, subst, Option, None, Some, Bytes, HeaderFields, cluster_size, entries_per_cluster, with_l1_table, with_tables_of, cover, IsDataAt, l1_entry, host_offset, is_copied, IsInReach, named_run, SameCovers, table_at, is_copied_data, KeepsFormat, cover_format, Prepared, ClusterMapping, InPlace, Kept, New, cluster_of, listed_run, IsReadyWith, IsClusterMappingAt, MovesTables, CoversStay}
+use Rattle.std.proofs.Common.{◌≡◌, ◌+◌, ◌/◌, ◌%◌, ℕ, true, refl, sym, ap, ◌∙◌, subst, Option, None, Some}
+use Rattle.qcow2_image.proofs.Common.{Bytes, HeaderFields, cluster_size, entries_per_cluster, with_l1_table, with_tables_of, cover, IsDataAt, l1_entry, host_offset, is_copied, IsInReach, named_run, SameCovers, table_at, is_copied_data, KeepsFormat, cover_format, Prepared, ClusterMapping, InPlace, Kept, New, cluster_of, listed_run, IsReadyWith, IsClusterMappingAt, MovesTables, CoversStay}
 
 -- ---- the header
 

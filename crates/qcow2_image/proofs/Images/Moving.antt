@@ -1,5 +1,6 @@
 -- A step on an image's file that guests don't see, as a step on the image.
-use Rattle.qcow2_image.proofs.Common.{◌≡◌, ℕ, ◌+◌, ◌/◌, ◌<◌, List, [], Option, Some, refl, sym, ap, ◌∙◌, subst, IfSome, append-nil, BackingView, StorageView, HeaderFields, cluster_size, Pending, KeepsFormat, l1_format, SameLeaks, l2_pins, Allocator, ImageFile, contents_in, known_in, InternalFileStep, InternalFileGrowth, file_step_on, IsAllocatorOf, Qcow2, Prepared, leaked_by, leaked_in, InternalStep, ListGrows, InternalFreeingStep, cluster_of, HasL1Table, IsReadyWith, ImageInvariant}
+use Rattle.std.proofs.Common.{◌≡◌, ◌+◌, ◌/◌, ◌<◌, ℕ, List, [], Option, Some, refl, sym, ap, ◌∙◌, subst}
+use Rattle.qcow2_image.proofs.Common.{IfSome, append-nil, BackingView, StorageView, HeaderFields, cluster_size, Pending, KeepsFormat, l1_format, SameLeaks, l2_pins, Allocator, ImageFile, contents_in, known_in, InternalFileStep, InternalFileGrowth, file_step_on, IsAllocatorOf, Qcow2, Prepared, leaked_by, leaked_in, InternalStep, ListGrows, InternalFreeingStep, cluster_of, HasL1Table, IsReadyWith, ImageInvariant}
 use Rattle.qcow2_image.proofs.Images.Formats.{l1_shared, ready_format}
 use Rattle.qcow2_image.proofs.Images.Ready.{still_ready}
 

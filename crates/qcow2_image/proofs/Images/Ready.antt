@@ -1,5 +1,6 @@
 -- Prepared mappings stay ready if the mappings of guest clusters and the L2 tables that are marked copied stay the same.
-use Rattle.qcow2_image.proofs.Common.{◌≡◌, ℕ, ◌+◌, ◌/◌, sym, ap, ◌∙◌, subst, Option, Some, None, slice_get, Bytes, HeaderFields, entries_per_cluster, l1_entry, host_offset, is_copied, cover, table_at, Prepared, ClusterMapping, InPlace, Kept, New, NamesOwn, IsInReach, named_run, is_copied_data, cluster_of, listed_run, IsClusterMappingAt, IsPending, IsReadyWith}
+use Rattle.std.proofs.Common.{◌≡◌, ◌+◌, ◌/◌, ℕ, sym, ap, ◌∙◌, subst, Option, Some, None}
+use Rattle.qcow2_image.proofs.Common.{slice_get, Bytes, HeaderFields, entries_per_cluster, l1_entry, host_offset, is_copied, cover, table_at, Prepared, ClusterMapping, InPlace, Kept, New, NamesOwn, IsInReach, named_run, is_copied_data, cluster_of, listed_run, IsClusterMappingAt, IsPending, IsReadyWith}
 
 -- a cluster mapping stays valid if the mapping of its guest cluster stays the same
 pub still_mapping : (h : HeaderFields) (known on_storage known' on_storage' : Bytes) (q : Prepared) (i : ℕ) → cover h known (cluster_of h q + i) ≡ cover h known' (cluster_of h q + i) → (cluster_mapping : ClusterMapping) → IsClusterMappingAt h known on_storage q i cluster_mapping → IsClusterMappingAt h known' on_storage' q i cluster_mapping

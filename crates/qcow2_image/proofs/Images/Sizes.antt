@@ -1,5 +1,6 @@
 -- On a sound image the size that a guest sees is the header's, and no call is refused as on an unusable one.
-use Rattle.qcow2_image.proofs.Common.{◌≡◌, ◌∙◌, false, None, sym, ap, List, Option, option_or, BackingView, StorageView, has_data_file, guest_of, state_in, Qcow2, Prepared, size_of, is_external, abstract_of, pending_in, backing_bytes, refuse_if, unusable}
+use Rattle.std.proofs.Common.{◌≡◌, ◌∙◌, false, None, sym, ap, List, Option}
+use Rattle.qcow2_image.proofs.Common.{option_or, BackingView, StorageView, has_data_file, guest_of, state_in, Qcow2, Prepared, size_of, is_external, abstract_of, pending_in, backing_bytes, refuse_if, unusable}
 use Rattle.qcow2_laws.proofs.Shown.{shown_size}
 use Rattle.qcow2_alloc.specs.declared.error.ImageError.TheVariants as I
 

@@ -1,5 +1,6 @@
 -- A part of a call that guests don't see: the image is sound again, the guest sees what it saw, and a stop is as safe as before.
-use Rattle.qcow2_image.proofs.Common.{◌≡◌, ℕ, ◌+◌, ◌-◌, List, ap, ◌∙◌, arith, Option, fun_ext, BackingView, StorageView, count, named, Pending, DriverState, StateInvariant, named-is, own_data_of, Sizes-from, for_tables-top, IsTop-top, Qcow2, Prepared, of_data, of_tables, to_free, new_data_by, over_all, pending_in, state_in}
+use Rattle.std.proofs.Common.{◌≡◌, ◌+◌, ◌-◌, ℕ, List, ap, ◌∙◌, arith, Option}
+use Rattle.qcow2_image.proofs.Common.{fun_ext, BackingView, StorageView, count, named, Pending, DriverState, StateInvariant, named-is, own_data_of, Sizes-from, for_tables-top, IsTop-top, Qcow2, Prepared, of_data, of_tables, to_free, new_data_by, over_all, pending_in, state_in}
 pub use Rattle.qcow2_alloc.proofs.Freeing.{free_more}
 
 -- ---- what is pending

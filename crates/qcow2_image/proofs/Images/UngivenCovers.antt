@@ -1,5 +1,6 @@
 -- The mappings of guest clusters that a call gives no byte of.
-use Rattle.qcow2_image.proofs.Common.{ℕ, ◌+◌, ◌-◌, ◌*◌, ◌/◌, ◌%◌, ◌≡◌, ◌<◌, ◌≤◌, List, [], inl, inr, sym, ap, ◌∙◌, arith, cases_lt, div-add-mod', mod_below, StorageView, cover, cluster_size, rounded_down, rounded_up, HeaderFields, GivenBytes, IsUngiven, UngivenStay, Pending, StateInvariant, known_header, known_in, state_in, ImageFile, CoversStay}
+use Rattle.std.proofs.Common.{◌+◌, ◌-◌, ◌*◌, ◌/◌, ◌%◌, ◌≡◌, ◌<◌, ◌≤◌, ℕ, List, [], inl, inr, sym, ap, ◌∙◌, arith}
+use Rattle.qcow2_image.proofs.Common.{cases_lt, div-add-mod', mod_below, StorageView, cover, cluster_size, rounded_down, rounded_up, HeaderFields, GivenBytes, IsUngiven, UngivenStay, Pending, StateInvariant, known_header, known_in, state_in, ImageFile, CoversStay}
 use Rattle.qcow2_disk.specs.UngivenCovers.{Touches}
 
 module _ {S : Type 0} (view : S → StorageView) (old new : ImageFile S) (p p' : Pending) (sound : StateInvariant (state_in view old p)) (sound' : StateInvariant (state_in view new p')) where

@@ -1,5 +1,6 @@
 -- The whole clusters of a committed mapping, compared with those of the requested range.
-use Rattle.qcow2_image.proofs.Common.{ℕ, ◌+◌, ◌-◌, ◌*◌, ◌/◌, ◌%◌, ◌≡◌, ◌<◌, ◌≤◌, [], ◌∷◌, inl, inr, sym, ap, ◌∙◌, arith, ◌==◌, if◌then◌else◌, cases_lt, cond-true, cond-false, eq-eqb, ne_eqb, div-add-mod', mod_below, rounded_down, rounded_up, Disk, PreparedMapping, end_of, first_of, given_by_commit, GivenBytes, TouchesLess}
+use Rattle.std.proofs.Common.{◌+◌, ◌-◌, ◌*◌, ◌/◌, ◌%◌, ◌≡◌, ◌<◌, ◌≤◌, ◌∷◌, ◌==◌, if◌then◌else◌, ℕ, [], inl, inr, sym, ap, ◌∙◌, arith}
+use Rattle.qcow2_image.proofs.Common.{cases_lt, cond-true, cond-false, eq-eqb, ne_eqb, div-add-mod', mod_below, rounded_down, rounded_up, Disk, PreparedMapping, end_of, first_of, given_by_commit, GivenBytes, TouchesLess}
 use Rattle.qcow2_image.proofs.Prepare.RestOfCluster.{rounds_up}
 use Rattle.qcow2_image.proofs.Resize.TailSteps.{mono_up}
 use Rattle.qcow2_image.proofs.Images.UngivenCovers.{touches_less, touches_whole}

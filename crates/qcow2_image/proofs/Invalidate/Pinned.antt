@@ -1,5 +1,6 @@
 -- Entries of a cache that are all pinned, as invalidating the cache leaves them.
-use Rattle.qcow2_image.proofs.Common.{nat_tests, ◌≡◌, ℕ, ◌<◌, ◌==◌, Bool, true, false, List, [], ◌∷◌, length, inl, inr, refl, sym, ap, ◌∙◌, arith, IsSome, cases_Bool, eq-eqb, is_pinned, pinned, pins_at, value_at, Slot, length-pinned, pinned_gone, pinned_kept}
+use Rattle.std.proofs.Common.{◌≡◌, ◌<◌, ◌==◌, ◌∷◌, ℕ, Bool, true, false, List, [], length, inl, inr, refl, sym, ap, ◌∙◌, arith, IsSome}
+use Rattle.qcow2_image.proofs.Common.{nat_tests, cases_Bool, eq-eqb, is_pinned, pinned, pins_at, value_at, Slot, length-pinned, pinned_gone, pinned_kept}
 
 module _ {V : Type 0} where
   tail_is : {e : ℕ × Slot V} {es fs : List (ℕ × Slot V)} → e ∷ es ≡ e ∷ fs → es ≡ fs

@@ -1,5 +1,6 @@
 -- Reading the tables again returns what was in memory.
-use Rattle.qcow2_image.proofs.Common.{◌≡◌, ℕ, Bool, List, Option, Some, Result, refl, sym, ap, ◌∙◌, subst, BackingView, StorageView, IsLeftBy, passes_if, passes_none, passes_on, Bytes, byte_at, l1_entry, EntryTableView, HeaderView, header, with_fields, with_tables_of, OnlyReads, MetadataError, HeaderFields, Pending, IsTop, view_in, HasReftable, storage_of, IsAllocatorOf, IsPassed, Allocator, ImageFile, ImageStorage, HasL1Table, ImageInvariant, InternalStep, ContentsStayThroughout, Qcow2, Prepared, CountsChanges, counts_none, changes_of, is_changed_of, SameNotes, KeepsNotes, StandsBehindHeader, is_some, same_kept, notes_of_storage, IsBesideNumbers, IsL1TableBehind, KeepsTablesBehind, NamesTablesBehind, TablesBehindHeader, leaked_by, leaked_in, ReadsPlaces, ReadsTables, MetadataCaches}
+use Rattle.std.proofs.Common.{◌≡◌, ℕ, Bool, List, Option, Some, Result, refl, sym, ap, ◌∙◌, subst, is_some}
+use Rattle.qcow2_image.proofs.Common.{BackingView, StorageView, IsLeftBy, passes_if, passes_none, passes_on, Bytes, byte_at, l1_entry, EntryTableView, HeaderView, header, with_fields, with_tables_of, OnlyReads, MetadataError, HeaderFields, Pending, IsTop, view_in, HasReftable, storage_of, IsAllocatorOf, IsPassed, Allocator, ImageFile, ImageStorage, HasL1Table, ImageInvariant, InternalStep, ContentsStayThroughout, Qcow2, Prepared, CountsChanges, counts_none, changes_of, is_changed_of, SameNotes, KeepsNotes, StandsBehindHeader, same_kept, notes_of_storage, IsBesideNumbers, IsL1TableBehind, KeepsTablesBehind, NamesTablesBehind, TablesBehindHeader, leaked_by, leaked_in, ReadsPlaces, ReadsTables, MetadataCaches}
 use Rattle.qcow2_image.proofs.Map.Loading.{still_moved}
 
 -- ---- storages whose contents stay

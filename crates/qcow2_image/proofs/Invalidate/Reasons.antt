@@ -1,5 +1,6 @@
 -- Reading the tables of a sound image again is refused only for a fault.
-use Rattle.qcow2_image.proofs.Common.{◌*◌, ◌<◌, Bool, inl, inr, refl, sym, subst, arith, Bytes, header, entries_per_cluster, HeaderReads, HasAlignedTables, IsReasonToRefuse, MetadataError, HeaderFields, IsTop, IsFault, of_metadata, IsReasonAgainstL1Table, IsReasonAgainstReftable, ImageError, IsReasonAgainstPlaces}
+use Rattle.std.proofs.Common.{◌*◌, ◌<◌, Bool, inl, inr, refl, sym, subst, arith}
+use Rattle.qcow2_image.proofs.Common.{Bytes, header, entries_per_cluster, HeaderReads, HasAlignedTables, IsReasonToRefuse, MetadataError, HeaderFields, IsTop, IsFault, of_metadata, IsReasonAgainstL1Table, IsReasonAgainstReftable, ImageError, IsReasonAgainstPlaces}
 use Rattle.image_access.specs.declared.error.StorageError.TheVariants as S
 use Rattle.qcow2_metadata.specs.declared.error.MetadataError.TheVariants as M
 use Rattle.qcow2_alloc.specs.declared.error.ImageError.TheVariants as I

@@ -1,5 +1,6 @@
 -- Tables are read with a header without names, and replace those in memory together with their pointers.
-use Rattle.qcow2_image.proofs.Common.{◌≡◌, ◌∙◌, ◌<◌, ◌≤◌, Bool, false, true, ℕ, IsTrue, inl, inr, List, Option, Some, None, Result, Ok, Err, refl, sym, ap, subst, cases_lt, IfSome, OnErr, BackingView, StorageView, EntryTableView, HeaderView, has_data_file, with_fields, with_tables_of, HeaderFields, Pending, view_in, HasReftable, IsAllocatorOf, Allocator, MetadataCaches, ImageError, ImageFile, KeepsTablesBehind, NamesTablesBehind, TablesBehindHeader, CountsImageFaults, ReportsEach, HasL1Table, ImageInvariant, KeepsTables, ReadsTables, ReplacesTables, reftable_in, InternalStep, Qcow2, Prepared}
+use Rattle.std.proofs.Common.{◌≡◌, ◌<◌, ◌≤◌, ◌∙◌, Bool, false, true, ℕ, IsTrue, inl, inr, List, Option, Some, None, Result, Ok, Err, refl, sym, ap, subst}
+use Rattle.qcow2_image.proofs.Common.{cases_lt, IfSome, OnErr, BackingView, StorageView, EntryTableView, HeaderView, has_data_file, with_fields, with_tables_of, HeaderFields, Pending, view_in, HasReftable, IsAllocatorOf, Allocator, MetadataCaches, ImageError, ImageFile, KeepsTablesBehind, NamesTablesBehind, TablesBehindHeader, CountsImageFaults, ReportsEach, HasL1Table, ImageInvariant, KeepsTables, ReadsTables, ReplacesTables, reftable_in, InternalStep, Qcow2, Prepared}
 use Rattle.qcow2_image.proofs.Invalidate.Reading.{behind_silent, stays_over, takes_over}
 
 -- the image with this header in memory

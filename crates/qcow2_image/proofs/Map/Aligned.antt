@@ -1,5 +1,6 @@
 -- A cached table of a sound file is readable: the host clusters that its entries name are aligned.
-use Rattle.qcow2_image.proofs.Common.{◌≡◌, ℕ, ◌+◌, ◌*◌, ◌/◌, ◌%◌, ◌^◌, ◌<◌, Some, None, sym, ap, ◌∙◌, subst, div-mul-add, mod-mul-add, mod_below, StorageView, CoverIsAligned, HeaderFields, L2Mapping, entries_per_cluster, HasAlignedHost, L2TableView, entries_of, Pending, Sizes-from, ImageFile, FileInvariant, contents_in, known_in, IsEntryAt, ShowsKnown, mapping_of}
+use Rattle.std.proofs.Common.{◌≡◌, ◌+◌, ◌*◌, ◌/◌, ◌%◌, ◌^◌, ◌<◌, ℕ, Some, None, sym, ap, ◌∙◌, subst}
+use Rattle.qcow2_image.proofs.Common.{div-mul-add, mod-mul-add, mod_below, StorageView, CoverIsAligned, HeaderFields, L2Mapping, entries_per_cluster, HasAlignedHost, L2TableView, entries_of, Pending, Sizes-from, ImageFile, FileInvariant, contents_in, known_in, IsEntryAt, ShowsKnown, mapping_of}
 use Rattle.qcow2_metadata.specs.declared.l2_mapping.L2Mapping.TheVariants as M
 use Rattle.qcow2_metadata.specs.L2Table.{cover_at}
 use Rattle.qcow2_image.proofs.Map.Looked.{cached_says}

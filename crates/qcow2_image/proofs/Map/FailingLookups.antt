@@ -1,5 +1,6 @@
 -- Why a lookup in a sound image is refused: its L1 table names aligned clusters, and if the cache has no room for an L2 table, a mapping is prepared.
-use Rattle.qcow2_image.proofs.Common.{◌≡◌, ◌≢◌, inl, inr, ℕ, ◌/◌, ◌%◌, false, true, List, Option, Some, Result, Ok, Err, sym, ap, ◌∙◌, subst, IfErr, IsOk, mod_below, BackingView, StorageView, host_offset, cluster_size, entries_per_cluster, HeaderFields, entry_at, Pending, table_at, Sizes-from, has_table, AreAllPinned, IsInUseOrFault, contents_in, known_in, IsEntryAt, ImageError, HasPinnedMapping, NamesL2Table, l1_index_of, l2_index_of, ImageInvariant, IsBegun, IsCacheHeld, MayFailLooking, Qcow2, Prepared}
+use Rattle.std.proofs.Common.{◌≡◌, ◌≢◌, ◌/◌, ◌%◌, inl, inr, ℕ, false, true, List, Option, Some, Result, Ok, Err, sym, ap, ◌∙◌, subst, IfErr}
+use Rattle.qcow2_image.proofs.Common.{IsOk, mod_below, BackingView, StorageView, host_offset, cluster_size, entries_per_cluster, HeaderFields, entry_at, Pending, table_at, Sizes-from, has_table, AreAllPinned, IsInUseOrFault, contents_in, known_in, IsEntryAt, ImageError, HasPinnedMapping, NamesL2Table, l1_index_of, l2_index_of, ImageInvariant, IsBegun, IsCacheHeld, MayFailLooking, Qcow2, Prepared}
 use Rattle.qcow2_image.proofs.Prepare.MissingL2Table.{pinned_prepared}
 
 -- what answers is refused for nothing

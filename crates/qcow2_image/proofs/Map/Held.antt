@@ -1,5 +1,6 @@
 -- What a lookup finds in the tables in memory, of an image in any state.
-use Rattle.qcow2_image.proofs.Common.{◌≡◌, ⊎_elim, inl, inr, ℕ, ◌+◌, ◌-◌, ◌*◌, ◌/◌, ◌%◌, ◌^◌, ◌<◌, ◌≤◌, Bool, Some, Result, Ok, Err, is_some, min, sym, ap, ◌∙◌, subst, arith, cases_lt, EntryTableView, HeaderView, cluster_size, L2TableView, HeaderFields, Uncovered, kind_at, rest_of_table, l2_at, MetadataCaches, ImageError, OutdatedMapping, ImageStorage, Qcow2, MappingKind, found_kind, mapping_of, IsRunBehind, FitsTables, IsHeldAs, IsLongestSo, IsMappedBy, IsMappedSo, KeepsHeld, named_place}
+use Rattle.std.proofs.Common.{◌≡◌, ◌+◌, ◌-◌, ◌*◌, ◌/◌, ◌%◌, ◌^◌, ◌<◌, ◌≤◌, ⊎_elim, inl, inr, ℕ, Bool, Some, Result, Ok, Err, is_some, min, sym, ap, ◌∙◌, subst, arith}
+use Rattle.qcow2_image.proofs.Common.{cases_lt, EntryTableView, HeaderView, cluster_size, L2TableView, HeaderFields, Uncovered, kind_at, rest_of_table, l2_at, MetadataCaches, ImageError, OutdatedMapping, ImageStorage, Qcow2, MappingKind, found_kind, mapping_of, IsRunBehind, FitsTables, IsHeldAs, IsLongestSo, IsMappedBy, IsMappedSo, KeepsHeld, named_place}
 use Rattle.qcow2_image.specs.declared.mapping.MappingKind.TheVariants as M
 use Rattle.qcow2_image.proofs.Map.Looked.{kind_within, product_le, same_kind}
 

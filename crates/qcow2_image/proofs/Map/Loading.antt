@@ -1,5 +1,6 @@
 -- Tables are loaded, written and evicted, and bytes are read, which guests don't see.
-use Rattle.qcow2_image.proofs.Common.{◌≡◌, ℕ, ◌+◌, List, [], refl, sym, ap, ◌∙◌, subst, arith, Option, IfSome, Result, Ok, Err, IfOk, BackingView, StorageView, IsLeftBy, QuietCalls, EachMomentSince, ContentsStay, Bytes, byte_at, l1_entry, reftable_entry, count, cover, append-nil, Pending, DriverState, StateInvariant, StopOkEverywhere, unseen_known, MetadataCaches, ImageStorage, Allocator, l2_pins, CachesHaveRoom, SameTables, storage_of, HeaderFields, cluster_size, CachedTable, known, AreNamedBlocks, StorageError, l2_tables, refblocks, known_of, AreAllWritten, CacheInvariant, InternalCacheStep, state_in, view_in, contents_in, known_in, IsAllocatorOf, allocator_kept, Qcow2, Prepared, cluster_of, ImageInvariant, InternalStep, cached_safe_throughout, safe_none, safe_keep, file_invariant_of}
+use Rattle.std.proofs.Common.{◌≡◌, ◌+◌, ℕ, List, [], refl, sym, ap, ◌∙◌, subst, arith, Option, Result, Ok, Err, IfOk}
+use Rattle.qcow2_image.proofs.Common.{IfSome, BackingView, StorageView, IsLeftBy, QuietCalls, EachMomentSince, ContentsStay, Bytes, byte_at, l1_entry, reftable_entry, count, cover, append-nil, Pending, DriverState, StateInvariant, StopOkEverywhere, unseen_known, MetadataCaches, ImageStorage, Allocator, l2_pins, CachesHaveRoom, SameTables, storage_of, HeaderFields, cluster_size, CachedTable, known, AreNamedBlocks, StorageError, l2_tables, refblocks, known_of, AreAllWritten, CacheInvariant, InternalCacheStep, state_in, view_in, contents_in, known_in, IsAllocatorOf, allocator_kept, Qcow2, Prepared, cluster_of, ImageInvariant, InternalStep, cached_safe_throughout, safe_none, safe_keep, file_invariant_of}
 use Rattle.qcow2_laws.proofs.Lists.{clean_known}
 use Rattle.qcow2_image.proofs.Images.Ready.{still_ready}
 

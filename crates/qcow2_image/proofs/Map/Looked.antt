@@ -1,5 +1,6 @@
 -- What a lookup finds: the longest run of clusters that are mapped alike, within one L2 table.
-use Rattle.qcow2_image.proofs.Common.{◌≡◌, ⊎_elim, ℕ, zero, suc, ◌+◌, ◌-◌, ◌*◌, ◌/◌, ◌%◌, ◌^◌, ◌<◌, ◌≤◌, ◌≢◌, refl, sym, ap, ◌∙◌, arith, subst, min, Bool, true, false, is_some, List, Option, fun_ext, div-add-mod', div-mul-add, mod_below, ◌==◌, if◌then◌else◌, div-div-eq-div-mul, div-mul-le_self, pow_mono, shr_mono, common_steps, Bytes, HeaderFields, cluster_size, entries_per_cluster, with_reftable, l2_entry, entry_at, cover, cover_of, entry_cover, L2TableView, L2Mapping, Data, Zero, Compressed, Uncovered, AreDataAt, IsAlike, IsAlikeAt, IsAlikeRun, IsDataAt, IsLongestRun, table_at, Sizes, cover_none, cover_in, Sizes-from, IsTableOf, run_first, run_less, run_begins, clusters_on, clusters_end, run_longest, cases_lt, BackingView, StorageView, contents_in, known_in, FileInvariant, ImageFile, IsEntryAt, ShowsKnown, Pending, SameCovers, cover_with, IsTop-top, Qcow2, MappingKind, size_of, Kind, raw, indirect, zeros, special, eof, kind_at, rest_of_table, IsCompressed, Image, DataFile, Prepared, IsSpecial, InternalStep, found_kind, mapping_of, l1_index_of, AreAlikeBehind, IsAlikeTo, IsRunBehind, IsFoundInImage, IsFoundWhole, IsMappedAs}
+use Rattle.std.proofs.Common.{◌≡◌, ◌+◌, ◌-◌, ◌*◌, ◌/◌, ◌%◌, ◌^◌, ◌<◌, ◌≤◌, ◌≢◌, ◌==◌, if◌then◌else◌, ⊎_elim, ℕ, zero, suc, refl, sym, ap, ◌∙◌, arith, subst, min, Bool, true, false, is_some, List, Option}
+use Rattle.qcow2_image.proofs.Common.{fun_ext, div-add-mod', div-mul-add, mod_below, div-div-eq-div-mul, div-mul-le_self, pow_mono, shr_mono, common_steps, Bytes, HeaderFields, cluster_size, entries_per_cluster, with_reftable, l2_entry, entry_at, cover, cover_of, entry_cover, L2TableView, L2Mapping, Data, Zero, Compressed, Uncovered, AreDataAt, IsAlike, IsAlikeAt, IsAlikeRun, IsDataAt, IsLongestRun, table_at, Sizes, cover_none, cover_in, Sizes-from, IsTableOf, run_first, run_less, run_begins, clusters_on, clusters_end, run_longest, cases_lt, BackingView, StorageView, contents_in, known_in, FileInvariant, ImageFile, IsEntryAt, ShowsKnown, Pending, SameCovers, cover_with, IsTop-top, Qcow2, MappingKind, size_of, Kind, raw, indirect, zeros, special, eof, kind_at, rest_of_table, IsCompressed, Image, DataFile, Prepared, IsSpecial, InternalStep, found_kind, mapping_of, l1_index_of, AreAlikeBehind, IsAlikeTo, IsRunBehind, IsFoundInImage, IsFoundWhole, IsMappedAs}
 use Rattle.qcow2_image.specs.declared.mapping.MappingKind.TheVariants as M
 use Rattle.qcow2_disk.specs.Found.{IsFound as IsFoundOf}
 

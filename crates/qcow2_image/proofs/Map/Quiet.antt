@@ -1,5 +1,6 @@
 -- Tables are loaded and evicted, and bytes are read, in an image without modified cached tables: nothing is written, whatever the image contains.
-use Rattle.qcow2_image.proofs.Common.{◌≡◌, Bool, Result, sym, ap, subst, ◌∙◌, StorageView, ContentsStay, EachMomentSince, IsLeftBy, QuietCalls, passes_if, StorageError, ImageFile, ImageStorage, storage_of, AreAllWritten, IsQuiet, KeepAllWritten, written_none, written_then, Qcow2, IsBegun, ContentsStayThroughout, ReadsQuietly}
+use Rattle.std.proofs.Common.{◌≡◌, Bool, Result, sym, ap, subst, ◌∙◌}
+use Rattle.qcow2_image.proofs.Common.{StorageView, ContentsStay, EachMomentSince, IsLeftBy, QuietCalls, passes_if, StorageError, ImageFile, ImageStorage, storage_of, AreAllWritten, IsQuiet, KeepAllWritten, written_none, written_then, Qcow2, IsBegun, ContentsStayThroughout, ReadsQuietly}
 use Rattle.qcow2_alloc.proofs.KeptTables.Quiet.{quiet_none, quiet_read}
 
 -- a call of the storage that leaves its contents: it had them at each moment

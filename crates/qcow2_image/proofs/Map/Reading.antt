@@ -1,5 +1,6 @@
 -- The bytes that a guest sees in a run of clusters that are mapped alike.
-use Rattle.qcow2_image.proofs.Common.{◌≡◌, ℕ, ◌+◌, ◌/◌, ◌%◌, ◌<◌, Bool, true, false, refl, sym, ap, ◌∙◌, is_some, Option, Some, None, if◌then◌else◌, BackingView, StorageView, Bytes, cluster_size, known_byte, cover, L2Mapping, Data, Zero, Compressed, Uncovered, disk, DriverState, StateInvariant, raw, indirect, zeros, kind_at, IsAlikeRun, run_shows_data, run_shows_zero, run_shows_uncovered, backing_bytes}
+use Rattle.std.proofs.Common.{◌≡◌, ◌+◌, ◌/◌, ◌%◌, ◌<◌, if◌then◌else◌, ℕ, Bool, true, false, refl, sym, ap, ◌∙◌, is_some, Option, Some, None}
+use Rattle.qcow2_image.proofs.Common.{BackingView, StorageView, Bytes, cluster_size, known_byte, cover, L2Mapping, Data, Zero, Compressed, Uncovered, disk, DriverState, StateInvariant, raw, indirect, zeros, kind_at, IsAlikeRun, run_shows_data, run_shows_zero, run_shows_uncovered, backing_bytes}
 
 -- without a disk below all is zero there
 pub none_below : {S F : Type 0} (view : S → StorageView) (backing : F → BackingView) (below : Option F) → is_some below ≡ false → (o : ℕ) → backing_bytes view backing below o ≡ 0

@@ -1,5 +1,6 @@
 -- Tables are loaded and evicted, and bytes are read, in an image without modified tables: the contents of its storage stay the same.
-use Rattle.qcow2_image.proofs.Common.{◌≡◌, StorageView, EachMomentSince, IsLeftBy, IsQuiet}
+use Rattle.std.proofs.Common.{◌≡◌}
+use Rattle.qcow2_image.proofs.Common.{StorageView, EachMomentSince, IsLeftBy, IsQuiet}
 
 -- ---- moments of a storage whose bytes stay: each is built here
 

@@ -1,5 +1,6 @@
 -- The autoclear bits are cleared while no cached table is modified: the file is as sound as before, and has the same tables.
-use Rattle.qcow2_image.proofs.Common.{◌≡◌, ◌≢◌, inl, inr, ℕ, List, [], Result, sym, ap, ◌∙◌, subst, cases_eq, BackingView, StorageError, StorageView, Calls, Changes, Bytes, byte_at, HeaderFields, HeaderView, header, with_fields, without_autoclear, IsHeaderIn, autoclear_cleared, l1_entry, reftable_entry, CacheInvariantOver, AreNamedBlocks, Pending, CrashInvariant, StopOkEverywhere, WritesHeader, resized_places, safe_throughout_none, safe_throughout_write, header_is_written, ImageFile, ImageStorage, nothing_given, view_in, contents_in, known_in, state_in, storage_of, order_of, l2_tables, refblocks, known_of, CacheInvariant, file_invariant_of, IsFresh, StaysFresh, IsKeptSince}
+use Rattle.std.proofs.Common.{◌≡◌, ◌≢◌, inl, inr, ℕ, List, [], Result, sym, ap, ◌∙◌, subst}
+use Rattle.qcow2_image.proofs.Common.{cases_eq, BackingView, StorageError, StorageView, Calls, Changes, Bytes, byte_at, HeaderFields, HeaderView, header, with_fields, without_autoclear, IsHeaderIn, autoclear_cleared, l1_entry, reftable_entry, CacheInvariantOver, AreNamedBlocks, Pending, CrashInvariant, StopOkEverywhere, WritesHeader, resized_places, safe_throughout_none, safe_throughout_write, header_is_written, ImageFile, ImageStorage, nothing_given, view_in, contents_in, known_in, state_in, storage_of, order_of, l2_tables, refblocks, known_of, CacheInvariant, file_invariant_of, IsFresh, StaysFresh, IsKeptSince}
 use Rattle.qcow2_laws.proofs.HeaderWrites.{autoclear_beside}
 use Rattle.qcow2_image.proofs.Open.HeaderKept.{resized_l1, resized_reftable, placed_named_blocks, placed_sound}
 

@@ -1,5 +1,6 @@
 -- Header numbers are written while all entries of the L1 table and the reftable stay the same: the file is as sound as before, with the new header.
-use Rattle.qcow2_image.proofs.Common.{◌≡◌, ◌⊎◌, inl, ℕ, refl, sym, StorageView, Bytes, HeaderFields, cluster_size, l1_entry, reftable_entry, HasBlock, AreNamedBlocks, Pending, CrashInvariant, Places, WritesHeader, with_places, resized_places, header_l1, header_reftable, ImageFile, contents_in, known_in, FileInvariant, order_of, refblocks, known_of, CacheInvariant, AreCurrentIn}
+use Rattle.std.proofs.Common.{◌≡◌, ◌⊎◌, inl, ℕ, refl, sym}
+use Rattle.qcow2_image.proofs.Common.{StorageView, Bytes, HeaderFields, cluster_size, l1_entry, reftable_entry, HasBlock, AreNamedBlocks, Pending, CrashInvariant, Places, WritesHeader, with_places, resized_places, header_l1, header_reftable, ImageFile, contents_in, known_in, FileInvariant, order_of, refblocks, known_of, CacheInvariant, AreCurrentIn}
 use Rattle.qcow2_alloc.proofs.HeaderKept.{same_block, header_named_blocks, header_sound}
 
 module _ {S : Type 0} (view : S → StorageView) (p p' : Pending) (file : ImageFile S) (sound : FileInvariant view p file) (a : Places) (on_storage' : Bytes)

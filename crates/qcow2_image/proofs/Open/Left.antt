@@ -1,5 +1,6 @@
 -- What opening leaves of a storage, part by part.
-use Rattle.qcow2_image.proofs.Common.{◌≡◌, ◌≢◌, ◌⊎◌, inl, inr, ℕ, ◌≤◌, Bool, true, false, List, Result, Ok, Err, refl, sym, ap, ◌∙◌, subst, ◌&&◌, ◌==◌, not, if◌then◌else◌, IsOk, cases_eq, ne_eqb, Calls, Changes, ContentsBecome, ContentsStay, EachMomentSince, HasCause, StorageView, IsLeftBy, StorageError, passes_if, passes_on, rose_since, whole_or_nothing, byte_at, HeaderView, header, with_fields, without_autoclear, IsHeaderIn, autoclear_cleared, OnlyReads, MetadataError, autoclear_still, of_storage, view_in, storage_of, ImageError, ImageFile, ImageStorage, Qcow2, LeavesFile, LeavesStorage, OpensAtOnce, StandsOpened, StandsRefused, opened_contents}
+use Rattle.std.proofs.Common.{◌≡◌, ◌≢◌, ◌⊎◌, ◌≤◌, ◌&&◌, ◌==◌, if◌then◌else◌, inl, inr, ℕ, Bool, true, false, List, Result, Ok, Err, refl, sym, ap, ◌∙◌, subst}
+use Rattle.qcow2_image.proofs.Common.{not, IsOk, cases_eq, ne_eqb, Calls, Changes, ContentsBecome, ContentsStay, EachMomentSince, HasCause, StorageView, IsLeftBy, StorageError, passes_if, passes_on, rose_since, whole_or_nothing, byte_at, HeaderView, header, with_fields, without_autoclear, IsHeaderIn, autoclear_cleared, OnlyReads, MetadataError, autoclear_still, of_storage, view_in, storage_of, ImageError, ImageFile, ImageStorage, Qcow2, LeavesFile, LeavesStorage, OpensAtOnce, StandsOpened, StandsRefused, opened_contents}
 use Rattle.image_access.specs.declared.error.StorageError.TheVariants.{Fault, Memory}
 
 cleared_if : (n : ℕ) → n ≡ 0 → (c d : List ℕ) → (if true && not (n == 0) then c else d) ≡ d

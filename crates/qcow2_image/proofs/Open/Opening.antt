@@ -1,5 +1,6 @@
 -- The header and the tables are loaded from the storage, and the autoclear bits are cleared: the file is as sound as before.
-use Rattle.qcow2_image.proofs.Common.{◌≡◌, ℕ, ◌*◌, ◌/◌, ◌^◌, [], List, Result, length, refl, sym, ap, ◌∙◌, subst, arith, Some, None, false, BackingView, StorageView, EachMomentSince, IsLeftBy, passes_if, Bytes, byte_at, HeaderView, cluster_size, HeaderFields, Consistent, IsConsistent, l1_entry, reftable_entry, EntryTableView, entry_table, NamesL1Table, IsL1TableOf, IsHeaderIn, entry_at, OnlyReads, MetadataError, AreNamedBlocks, Neither, Pending, CrashInvariant, nothing_pending, surplus_of, IsOpened, l1_entry-past, keep_safe_throughout, safe_throughout_then, ImageFile, ImageStorage, view_in, contents_in, nothing_given, storage_of, refblocks, known_of, CacheInvariant, own_cluster, file_invariant_of, Qcow2, is_failed, IsFresh, StaysFresh, IsLoaded, IsKeptSince, SameNames, HasNamesIn, HasL1Table, IsHonestBacking, ImageInvariant, of_data, of_tables, to_free, pending_in, abstract_of}
+use Rattle.std.proofs.Common.{◌≡◌, ◌*◌, ◌/◌, ◌^◌, ℕ, [], List, Result, length, refl, sym, ap, ◌∙◌, subst, arith, Some, None, false}
+use Rattle.qcow2_image.proofs.Common.{BackingView, StorageView, EachMomentSince, IsLeftBy, passes_if, Bytes, byte_at, HeaderView, cluster_size, HeaderFields, Consistent, IsConsistent, l1_entry, reftable_entry, EntryTableView, entry_table, NamesL1Table, IsL1TableOf, IsHeaderIn, entry_at, OnlyReads, MetadataError, AreNamedBlocks, Neither, Pending, CrashInvariant, nothing_pending, surplus_of, IsOpened, l1_entry-past, keep_safe_throughout, safe_throughout_then, ImageFile, ImageStorage, view_in, contents_in, nothing_given, storage_of, refblocks, known_of, CacheInvariant, own_cluster, file_invariant_of, Qcow2, is_failed, IsFresh, StaysFresh, IsLoaded, IsKeptSince, SameNames, HasNamesIn, HasL1Table, IsHonestBacking, ImageInvariant, of_data, of_tables, to_free, pending_in, abstract_of}
 use Rattle.qcow2_laws.proofs.Opened.{opened_crash_invariant}
 use Rattle.qcow2_alloc.specs.ImageFile.{l2_pins, CachesHaveRoom}
 use Rattle.qcow2_image.proofs.Images.Sound.{pending_is}

@@ -1,5 +1,6 @@
 -- The first eight bytes of a storage, as two numbers.
-use Rattle.qcow2_image.proofs.Common.{◌≡◌, ◌≢◌, ℕ, ◌+◌, ◌*◌, ◌<◌, Bool, List, get_or, sym, ap, ◌∙◌, arith, lit<, eq-eqb, ne_eqb, ◌==◌, ◌&&◌, ◌||◌, bytes_at, byte_at-bytes_at, byte_at, number_at, begins_image}
+use Rattle.std.proofs.Common.{◌≡◌, ◌≢◌, ◌+◌, ◌*◌, ◌<◌, ◌==◌, ◌&&◌, ◌||◌, ℕ, Bool, List, get_or, sym, ap, ◌∙◌, arith, lit<}
+use Rattle.qcow2_image.proofs.Common.{eq-eqb, ne_eqb, bytes_at, byte_at-bytes_at, byte_at, number_at, begins_image}
 
 module _ (contents buf : List ℕ) (read : buf ≡ bytes_at contents 0 8) where
   at : (i : ℕ) → i < 8 → get_or buf i 0 ≡ byte_at contents i

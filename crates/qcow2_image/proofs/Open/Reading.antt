@@ -1,5 +1,6 @@
 -- An image opens if its contents are readable, and otherwise is refused for that.
-use Rattle.qcow2_image.proofs.Common.{◌≡◌, ℕ, Bool, true, false, List, Result, subst, inl, inr, arith, StorageView, StorageError, Bytes, byte_at, HeaderView, header, HeaderFields, HasAlignedTables, IsHeaderIn, IsReasonToRefuse, OnlyReads, MetadataError, ImageError, of_metadata, of_storage, contents_in, view_in, ImageFile, IsReasonAgainstReftable, L1TableReads, needs_missing, HeaderSuits, IsReadable, IsReasonAgainstTables, IsJustifiedRefusal, NeededTablesRead, Missing}
+use Rattle.std.proofs.Common.{◌≡◌, ℕ, Bool, true, false, List, Result, subst, inl, inr, arith}
+use Rattle.qcow2_image.proofs.Common.{StorageView, StorageError, Bytes, byte_at, HeaderView, header, HeaderFields, HasAlignedTables, IsHeaderIn, IsReasonToRefuse, OnlyReads, MetadataError, ImageError, of_metadata, of_storage, contents_in, view_in, ImageFile, IsReasonAgainstReftable, L1TableReads, needs_missing, HeaderSuits, IsReadable, IsReasonAgainstTables, IsJustifiedRefusal, NeededTablesRead, Missing}
 use Rattle.image_access.specs.declared.error.StorageError.TheVariants as S
 use Rattle.qcow2_metadata.specs.declared.error.MetadataError.TheVariants as M
 use Rattle.qcow2_alloc.specs.declared.error.ImageError.TheVariants as I

@@ -1,5 +1,6 @@
 -- The allocator still belongs to its file if no refcount and no reftable entry changes.
-use Rattle.qcow2_image.proofs.Common.{◌≡◌, ◌/◌, Option, Some, sym, ap, ◌∙◌, ℕ, arith, IfSome, StorageView, count, reftable_entry, EntryTableView, cluster_size, reftable_entries, HeaderFields, Pending, Allocator, ImageFile, contents_in, known_in, HasReftable, InternalFileStep, IsAllocatorOf, allocator_kept}
+use Rattle.std.proofs.Common.{◌≡◌, ◌/◌, Option, Some, sym, ap, ◌∙◌, ℕ, arith}
+use Rattle.qcow2_image.proofs.Common.{IfSome, StorageView, count, reftable_entry, EntryTableView, cluster_size, reftable_entries, HeaderFields, Pending, Allocator, ImageFile, contents_in, known_in, HasReftable, InternalFileStep, IsAllocatorOf, allocator_kept}
 
 module _ {S : Type 0} (view : S → StorageView) (old new : ImageFile S) where
   -- the same header and the same bytes on the storage

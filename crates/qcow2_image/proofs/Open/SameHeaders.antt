@@ -1,5 +1,6 @@
 -- The bytes of an image hold only one header, and an image that needs another file is refused for that.
-use Rattle.qcow2_image.proofs.Common.{◌≡◌, ◌≢◌, ◌⊎◌, Result, ◌/◌, ◌%◌, ℕ, is_some, List, true, false, Bool, refl, sym, ap, ◌∙◌, subst, inl, inr, ◌||◌, ◌==◌, StorageView, Bytes, byte_at, IsConsistent, KeepsHeaderRest, header_rest_back, header, HeaderView, HeaderReads, has_data_file, HeaderFields, IsHeaderIn, IsReasonToRefuse, OnlyReads, MetadataError, ImageError, Dependency, UnalignedTable, of_metadata, IsFault, needs_missing, needs_another, NeedsAnother, NeedsMissing, Missing, MayFail, ContentsStayThroughout}
+use Rattle.std.proofs.Common.{◌≡◌, ◌≢◌, ◌⊎◌, ◌/◌, ◌%◌, ◌||◌, ◌==◌, Result, ℕ, is_some, List, true, false, Bool, refl, sym, ap, ◌∙◌, subst, inl, inr}
+use Rattle.qcow2_image.proofs.Common.{StorageView, Bytes, byte_at, IsConsistent, KeepsHeaderRest, header_rest_back, header, HeaderView, HeaderReads, has_data_file, HeaderFields, IsHeaderIn, IsReasonToRefuse, OnlyReads, MetadataError, ImageError, Dependency, UnalignedTable, of_metadata, IsFault, needs_missing, needs_another, NeedsAnother, NeedsMissing, Missing, MayFail, ContentsStayThroughout}
 use Rattle.qcow2_disk.proofs.HeaderNames.{names_stay}
 use Rattle.qcow2_metadata.specs.declared.error.MetadataError.TheVariants as M
 use Rattle.image_access.specs.declared.error.StorageError.TheVariants as T

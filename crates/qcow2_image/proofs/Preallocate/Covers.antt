@@ -1,5 +1,6 @@
 -- The mappings of guest clusters after parts of a range are filled.
-use Rattle.qcow2_image.proofs.Common.{◌≡◌, ◌⊎◌, inl, inr, ℕ, ◌+◌, ◌-◌, ◌*◌, ◌/◌, ◌%◌, ◌<◌, ◌≤◌, true, false, Option, Some, None, refl, sym, ap, ◌∙◌, arith, and_from, and_left, and_right, cases_lt, cond-false, cond-true, le-leb, le-ltb, lt-leb, lt-ltb, div-add-mod', mod-mul-add, mod_below, pow_pos, Bytes, HeaderFields, L2Mapping, cover, cluster_size, copied_host, zero_cover, is_copied_data, ClearsImageCovers, cover_once_cleared, is_between, KeptZeros, CoversStay, FilledCovers}
+use Rattle.std.proofs.Common.{◌≡◌, ◌⊎◌, ◌+◌, ◌-◌, ◌*◌, ◌/◌, ◌%◌, ◌<◌, ◌≤◌, inl, inr, ℕ, true, false, Option, Some, None, refl, sym, ap, ◌∙◌, arith}
+use Rattle.qcow2_image.proofs.Common.{and_from, and_left, and_right, cases_lt, cond-false, cond-true, le-leb, le-ltb, lt-leb, lt-ltb, div-add-mod', mod-mul-add, mod_below, pow_pos, Bytes, HeaderFields, L2Mapping, cover, cluster_size, copied_host, zero_cover, is_copied_data, ClearsImageCovers, cover_once_cleared, is_between, KeptZeros, CoversStay, FilledCovers}
 use Rattle.qcow2_image.specs.Preallocation.{Touches}
 
 -- ---- numbers

@@ -1,5 +1,6 @@
 -- A range is filled step by step.
-use Rattle.qcow2_image.proofs.Common.{◌≡◌, ℕ, ◌%◌, ◌<◌, ◌≤◌, max, List, Option, refl, sym, ap, ◌∙◌, subst, arith, BackingView, StorageView, HeaderFields, cluster_size, ImageError, Qcow2, Prepared, ImageStays, ImageInvariant, abstract_of, pending_in, MovesTables, PreservesHeaderCluster, FillsPart, IsWholeRange, RefusedFill}
+use Rattle.std.proofs.Common.{◌≡◌, ◌%◌, ◌<◌, ◌≤◌, ℕ, max, List, Option, refl, sym, ap, ◌∙◌, subst, arith}
+use Rattle.qcow2_image.proofs.Common.{BackingView, StorageView, HeaderFields, cluster_size, ImageError, Qcow2, Prepared, ImageStays, ImageInvariant, abstract_of, pending_in, MovesTables, PreservesHeaderCluster, FillsPart, IsWholeRange, RefusedFill}
 use Rattle.qcow2_image.proofs.Call.Called.{works_none}
 use Rattle.qcow2_image.proofs.Preallocate.Filled.{fills_none, fills_then, refused_after}
 use Rattle.qcow2_image.proofs.Call.ImageSteps.{stays_then}

@@ -1,5 +1,6 @@
 -- Parts of preallocation, one after another.
-use Rattle.qcow2_image.proofs.Common.{GoesTo, ◌≡◌, ◌⊎◌, ⊎_elim, inl, inr, ℕ, ◌+◌, ◌-◌, ◌%◌, ◌^◌, ◌<◌, ◌≤◌, min, true, false, List, [], ◌∷◌, refl, sym, ap, ◌∙◌, subst, arith, IsTrue, Option, Result, Ok, Err, BackingView, StorageView, HeaderFields, cluster_size, entries_per_cluster, rest_of_table, cases_lt, Guest, guest_of, EffectOnSound, with_disk, Disk, zeroed_between, GivenBytes, works_less, works_then, stops_as, known_in, ImageError, has_noted_change, RefusedCall, InternalCall, ClearsPart, IsUnderMapping, KeptZeros, Qcow2, Prepared, ImageInvariant, abstract_of, disk_of, pending_in, l1_index_of, KeepsL1Place, MovesTables, ChangesFree, FilledCovers, FillsOrRefuses, FillsPart, FillsSome, InterruptedGiving, IsUnderMappingIn, MayBeZero, RefusedFill, given_by_zeros, MayFail, IsUnlimited, pow_pos}
+use Rattle.std.proofs.Common.{◌≡◌, ◌⊎◌, ◌+◌, ◌-◌, ◌%◌, ◌^◌, ◌<◌, ◌≤◌, ◌∷◌, ⊎_elim, inl, inr, ℕ, min, true, false, List, [], refl, sym, ap, ◌∙◌, subst, arith, IsTrue, Option, Result, Ok, Err}
+use Rattle.qcow2_image.proofs.Common.{GoesTo, BackingView, StorageView, HeaderFields, cluster_size, entries_per_cluster, rest_of_table, cases_lt, Guest, guest_of, EffectOnSound, with_disk, Disk, zeroed_between, GivenBytes, works_less, works_then, stops_as, known_in, ImageError, has_noted_change, RefusedCall, InternalCall, ClearsPart, IsUnderMapping, KeptZeros, Qcow2, Prepared, ImageInvariant, abstract_of, disk_of, pending_in, l1_index_of, KeepsL1Place, MovesTables, ChangesFree, FilledCovers, FillsOrRefuses, FillsPart, FillsSome, InterruptedGiving, IsUnderMappingIn, MayBeZero, RefusedFill, given_by_zeros, MayFail, IsUnlimited, pow_pos}
 use Rattle.qcow2_alloc.specs.ImageError.{IsFault as FaultOfTables}
 use Rattle.qcow2_alloc.specs.declared.error.ImageError.TheVariants as I
 use Rattle.qcow2_image.proofs.Call.Called.{works_none}

@@ -1,5 +1,6 @@
 -- Zeros past the end of a disk, before its size grows.
-use Rattle.qcow2_image.proofs.Common.{◌≡◌, ⊎_elim, inl, inr, ℕ, ◌+◌, ◌-◌, ◌*◌, ◌/◌, ◌%◌, ◌<◌, ◌≤◌, true, false, List, [], ◌∷◌, Option, refl, sym, ap, ◌∙◌, subst, arith, Result, Ok, Err, ◌||◌, cases_lt, cond-false, lt-leb, div-add-mod', mod-mul-add, mod_below, BackingView, StorageView, PreallocateMode, Value, known_byte, cluster_size, rounded_up, guest_of, shows_old, with_disk, Disk, zeroed_between, given_shown, GivenBytes, IsGiven, works_less, TouchesLess, known_in, ImageError, Qcow2, Prepared, size_of, ImageInvariant, abstract_of, disk_of, pending_in, ChangesFree, FilledCovers, FillsGrown, FillsGrownInPart, FillsGrownOrRefuses, FillsOrRefuses, FillsPart, FillsSome, InterruptedGiving, IsUnderMappingIn, RefusedFill, RefusedGrown, filled_to, given_by_zeros, all_given_by_growing, MayFail, IsUnlimited}
+use Rattle.std.proofs.Common.{◌≡◌, ◌+◌, ◌-◌, ◌*◌, ◌/◌, ◌%◌, ◌<◌, ◌≤◌, ◌∷◌, ◌||◌, ⊎_elim, inl, inr, ℕ, true, false, List, [], Option, refl, sym, ap, ◌∙◌, subst, arith, Result, Ok, Err}
+use Rattle.qcow2_image.proofs.Common.{cases_lt, cond-false, lt-leb, div-add-mod', mod-mul-add, mod_below, BackingView, StorageView, PreallocateMode, Value, known_byte, cluster_size, rounded_up, guest_of, shows_old, with_disk, Disk, zeroed_between, given_shown, GivenBytes, IsGiven, works_less, TouchesLess, known_in, ImageError, Qcow2, Prepared, size_of, ImageInvariant, abstract_of, disk_of, pending_in, ChangesFree, FilledCovers, FillsGrown, FillsGrownInPart, FillsGrownOrRefuses, FillsOrRefuses, FillsPart, FillsSome, InterruptedGiving, IsUnderMappingIn, RefusedFill, RefusedGrown, filled_to, given_by_zeros, all_given_by_growing, MayFail, IsUnlimited}
 use Rattle.image_access.specs.declared.storage.PreallocateMode.TheVariants as Mode
 use Rattle.qcow2_image.specs.Preallocation.{first_zeros}
 use Rattle.qcow2_image.proofs.Call.Called.{works_none}

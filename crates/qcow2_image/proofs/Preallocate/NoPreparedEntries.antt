@@ -1,5 +1,6 @@
 -- A range is filled part by part, and no entry that has to change lies in an L2 table that a prepared mapping pins.
-use Rattle.qcow2_image.proofs.Common.{◌≡◌, ◌⊎◌, inl, inr, ℕ, suc, ◌+◌, ◌-◌, ◌*◌, ◌/◌, ◌<◌, ◌≤◌, true, false, List, ◌∷◌, Option, Some, None, refl, sym, ap, ◌∙◌, subst, arith, IsSome, slice_get, cases_lt, div-mul-add, pow_pos, BackingView, StorageView, PreallocateMode, Bytes, cluster_size, entries_per_cluster, rounded_up, HeaderFields, rest_of_table, is_copied_data, table_at, Sizes, own_cluster, contents_in, known_in, Qcow2, Prepared, InternalCall, IsUnderMapping, l1_index_of, size_of, ImageInvariant, IsPending, IsReadyWith, pending_in, pins_by, CoversStay, MovesTables, ChangesFree, FilledCovers, GrownFree}
+use Rattle.std.proofs.Common.{◌≡◌, ◌⊎◌, ◌+◌, ◌-◌, ◌*◌, ◌/◌, ◌<◌, ◌≤◌, ◌∷◌, inl, inr, ℕ, suc, true, false, List, Option, Some, None, refl, sym, ap, ◌∙◌, subst, arith, IsSome}
+use Rattle.qcow2_image.proofs.Common.{slice_get, cases_lt, div-mul-add, pow_pos, BackingView, StorageView, PreallocateMode, Bytes, cluster_size, entries_per_cluster, rounded_up, HeaderFields, rest_of_table, is_copied_data, table_at, Sizes, own_cluster, contents_in, known_in, Qcow2, Prepared, InternalCall, IsUnderMapping, l1_index_of, size_of, ImageInvariant, IsPending, IsReadyWith, pending_in, pins_by, CoversStay, MovesTables, ChangesFree, FilledCovers, GrownFree}
 use Rattle.qcow2_image.specs.Preallocation.{Touches, first_zeros}
 use Rattle.qcow2_image.proofs.Images.Apart.{pins_own}
 use Rattle.qcow2_image.proofs.Call.Slots.{over_all_two}

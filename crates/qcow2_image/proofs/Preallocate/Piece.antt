@@ -1,6 +1,6 @@
 -- The first bytes of a range are filled: a mapping is prepared, zeros are written into it, and it is committed.
-use Rattle.qcow2_image.proofs.Common.{◌≡◌, ◌⊎◌, ⊎_elim, inl, inr, ℕ, ◌+◌, ◌-◌, ◌*◌, ◌/◌, ◌%◌, ◌^◌, ◌<◌, ◌≤◌, min, true, false, Bool, List, [], ◌∷◌, length, refl, sym, ap, ◌∙◌, subst, arith, IsNone, IsSome, replicate, Option, Some, None, Result, Ok, Err, slice_get, slice_set, cases_lt, length-replicate, div-add-mod', div-mul-add, mod_below, pow_pos, BackingView, overwritten, StorageView, EachMomentSince, IsLeftBy, entry_count, Bytes, HeaderFields, cover, cluster_size, Setting, guest_of, AreDataAt, IsDataAt, EffectOnSound, with_slot, given_by_commit, is_copied_data, works_then, ImageError, ImageStorage, contents_in, known_in, view_in, storage_of, Qcow2, Prepared, AreCopied, EntersAll, IsEntered, IsReadied, IsWriteOutcome, PutsPart, RefusedCall, StaysBeside, WritesBytes, Discards, ReleasesOneMapping, InPlace, ImageInvariant, IsPending, IsReadyWith, cluster_of, abstract_of, disk_of, image_abstraction, meaning, pending_in, ReachingStays, KeepsL1Place, MovesTables, ChangesFree, FilledCovers, CommitsWhole, FillsPart, FillsSome, InterruptedGiving, given_by_zeros, file_sizes, IsUnderMapping, l1_index_of, IsAnswered}
-use Rattle.std.proofs.Common.{pow_mono}
+use Rattle.qcow2_image.proofs.Common.{IsNone, slice_get, slice_set, cases_lt, length-replicate, div-add-mod', div-mul-add, mod_below, pow_pos, BackingView, overwritten, StorageView, EachMomentSince, IsLeftBy, entry_count, Bytes, HeaderFields, cover, cluster_size, Setting, guest_of, AreDataAt, IsDataAt, EffectOnSound, with_slot, given_by_commit, is_copied_data, works_then, ImageError, ImageStorage, contents_in, known_in, view_in, storage_of, Qcow2, Prepared, AreCopied, EntersAll, IsEntered, IsReadied, IsWriteOutcome, PutsPart, RefusedCall, StaysBeside, WritesBytes, Discards, ReleasesOneMapping, InPlace, ImageInvariant, IsPending, IsReadyWith, cluster_of, abstract_of, disk_of, image_abstraction, meaning, pending_in, ReachingStays, KeepsL1Place, MovesTables, ChangesFree, FilledCovers, CommitsWhole, FillsPart, FillsSome, InterruptedGiving, given_by_zeros, file_sizes, IsUnderMapping, l1_index_of, IsAnswered}
+use Rattle.std.proofs.Common.{◌≡◌, ◌⊎◌, ◌+◌, ◌-◌, ◌*◌, ◌/◌, ◌%◌, ◌^◌, ◌<◌, ◌≤◌, ◌∷◌, ⊎_elim, inl, inr, ℕ, min, true, false, Bool, List, [], length, refl, sym, ap, ◌∙◌, subst, arith, IsSome, replicate, Option, Some, None, Result, Ok, Err, pow_mono}
 use Rattle.qcow2_alloc.specs.declared.error.ImageError.TheVariants as I
 use Rattle.qcow2_alloc.specs.ImageError.{IsFault as FaultOfTables}
 use Rattle.qcow2_image.specs.Preallocation.{Touches}

@@ -1,5 +1,6 @@
 -- Zeros are put into a mapping that is prepared in a slot of its own, and the mapping is committed.
-use Rattle.qcow2_image.proofs.Common.{◌≡◌, ◌⊎◌, ⊎_elim, inl, inr, ℕ, suc, eqb, ◌+◌, ◌≤◌, ◌<◌, length, List, [], ◌∷◌, Option, Some, None, true, refl, sym, ap, ◌∙◌, subst, arith, length-replicate, cond-false, ne_eqb, fun_ext, Value, Disk, disk, zeroed_between, PreparedMapping, IsPrepared, committed, given_by_commit, given_by_put, put_disk, put_mapping, GivenBytes, IsGiven, Abstraction, AbstractImage, Guest, HasFreePlaces, abstract_image, guest_of, EffectOnSound, with_disk, with_slot, TouchesLess, shown_is, works_less, works_then, stops_none, given_by_zeros}
+use Rattle.std.proofs.Common.{◌≡◌, ◌⊎◌, ◌+◌, ◌≤◌, ◌<◌, ◌∷◌, ⊎_elim, inl, inr, ℕ, suc, eqb, length, List, [], Option, Some, None, true, refl, sym, ap, ◌∙◌, subst, arith}
+use Rattle.qcow2_image.proofs.Common.{length-replicate, cond-false, ne_eqb, fun_ext, Value, Disk, disk, zeroed_between, PreparedMapping, IsPrepared, committed, given_by_commit, given_by_put, put_disk, put_mapping, GivenBytes, IsGiven, Abstraction, AbstractImage, Guest, HasFreePlaces, abstract_image, guest_of, EffectOnSound, with_disk, with_slot, TouchesLess, shown_is, works_less, works_then, stops_none, given_by_zeros}
 use Rattle.qcow2_image.proofs.Preallocate.Zeros.{commit_within, filled, put_within, zeros_of}
 use Rattle.qcow2_image.proofs.Images.UngivenCovers.{touches_part}
 use Rattle.qcow2_image.proofs.Images.WholeClusters.{commit_touches}

@@ -1,5 +1,6 @@
 -- Zeros on a disk, in parts, and through a mapping that is prepared, written and committed.
-use Rattle.qcow2_image.proofs.Common.{◌≡◌, ◌⊎◌, ⊎_elim, inl, inr, ℕ, ◌+◌, ◌-◌, ◌<◌, ◌≤◌, List, [], ◌∷◌, length, true, false, refl, sym, ap, ◌∙◌, subst, arith, min, replicate, cases_lt, cases_Bool, cond-true, cond-false, get_or-replicate, length-replicate, fun_ext, byte_at, is_within, Value, known_byte, rounded_down, Disk, with_bytes, zeroed_between, PreparedMapping, IsPrepared, committed, given_by_commit, given_by_put, given_shown, put_disk, put_mapping, IsGiven, laid_inside, laid_outside, put_given, within_is, MayBeZero, given_by_zeros, TouchesLess}
+use Rattle.std.proofs.Common.{◌≡◌, ◌⊎◌, ◌+◌, ◌-◌, ◌<◌, ◌≤◌, ◌∷◌, ⊎_elim, inl, inr, ℕ, List, [], length, true, false, refl, sym, ap, ◌∙◌, subst, arith, min, replicate}
+use Rattle.qcow2_image.proofs.Common.{cases_lt, cases_Bool, cond-true, cond-false, get_or-replicate, length-replicate, fun_ext, byte_at, is_within, Value, known_byte, rounded_down, Disk, with_bytes, zeroed_between, PreparedMapping, IsPrepared, committed, given_by_commit, given_by_put, given_shown, put_disk, put_mapping, IsGiven, laid_inside, laid_outside, put_given, within_is, MayBeZero, given_by_zeros, TouchesLess}
 use Rattle.qcow2_image.proofs.Images.UngivenCovers.{touches_less}
 
 -- where an offset lies

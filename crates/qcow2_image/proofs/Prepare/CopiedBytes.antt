@@ -1,5 +1,6 @@
 -- What is copied into a new cluster: all bytes that the caller did not promise to overwrite.
-use Rattle.qcow2_image.proofs.Common.{◌≡◌, ◌⊎◌, inl, inr, ℕ, ◌+◌, ◌-◌, ◌*◌, ◌/◌, ◌%◌, ◌<◌, ◌≤◌, Bool, true, false, Option, Some, None, sym, ◌∙◌, subst, arith, min, nat_lt, ◌&&◌, ◌==◌, cases_lt, cases_eq, cond-true, cond-false, eq-eqb, ne_eqb, and_from, le-leb, lt-ltb, div-add-mod', mod_below, div-mul-le_self, is_within, CopyRange, HasByte, announced_range_of, copy_range_of, uncut_copy_range}
+use Rattle.std.proofs.Common.{◌≡◌, ◌⊎◌, ◌+◌, ◌-◌, ◌*◌, ◌/◌, ◌%◌, ◌<◌, ◌≤◌, ◌&&◌, ◌==◌, inl, inr, ℕ, Bool, true, false, Option, Some, None, sym, ◌∙◌, subst, arith, min, nat_lt}
+use Rattle.qcow2_image.proofs.Common.{cases_lt, cases_eq, cond-true, cond-false, eq-eqb, ne_eqb, and_from, le-leb, lt-ltb, div-add-mod', mod_below, div-mul-le_self, is_within, CopyRange, HasByte, announced_range_of, copy_range_of, uncut_copy_range}
 
 -- a byte lies in a range
 pub record IsInside (r : CopyRange) (i : ℕ) : Type 0 where

@@ -1,5 +1,6 @@
 -- Why a call that allocates is refused, whatever is prepared, from the refusals of its parts.
-use Rattle.qcow2_image.proofs.Common.{◌≡◌, inl, inr, Result, Ok, Err, IfErr, ImageError, MayFailLooking, MayFailAllocating}
+use Rattle.std.proofs.Common.{◌≡◌, inl, inr, Result, Ok, Err, IfErr}
+use Rattle.qcow2_image.proofs.Common.{ImageError, MayFailLooking, MayFailAllocating}
 use Rattle.qcow2_alloc.specs.declared.error.ImageError.TheVariants as I
 use Rattle.qcow2_image.proofs.Prepare.FailingRanges.{alone_as}
 

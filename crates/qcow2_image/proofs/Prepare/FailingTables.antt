@@ -1,5 +1,6 @@
 -- Why finding or making an L2 table, and clearing entries in one, is refused on a sound image.
-use Rattle.qcow2_image.proofs.Common.{◌≡◌, inl, inr, ℕ, ◌+◌, ◌-◌, ◌*◌, ◌/◌, ◌%◌, ◌^◌, ◌<◌, ◌≤◌, List, length, Option, Some, Result, Ok, Err, false, refl, sym, ap, ◌∙◌, subst, ◌⊎◌, IfErr, IfSome, IsErr, IsErrAnd, IsSome, BackingView, overwritten, StorageView, Changes, Calls, StorageError, cluster_size, entries_per_cluster, L2TableView, Pending, IsInUseOrFault, IsFault, FileInvariant, known_in, storage_of, IsEntryAt, PutRefusesBy, l2_at, IsTableOf, ImageError, ImageStorage, handed_on, HasPinnedMapping, RefusedCall, InternalCall, IsClearable, ClearMode, Qcow2, Prepared, l1_index_of, ImageInvariant, pending_in, NeedsOverflowingL1Entry, MayFailAlone, MayFailLooking, IsStored, HoldsTable}
+use Rattle.std.proofs.Common.{◌≡◌, ◌+◌, ◌-◌, ◌*◌, ◌/◌, ◌%◌, ◌^◌, ◌<◌, ◌≤◌, ◌⊎◌, inl, inr, ℕ, List, length, Option, Some, Result, Ok, Err, false, refl, sym, ap, ◌∙◌, subst, IfErr, IsErr, IsErrAnd, IsSome}
+use Rattle.qcow2_image.proofs.Common.{IfSome, BackingView, overwritten, StorageView, Changes, Calls, StorageError, cluster_size, entries_per_cluster, L2TableView, Pending, IsInUseOrFault, IsFault, FileInvariant, known_in, storage_of, IsEntryAt, PutRefusesBy, l2_at, IsTableOf, ImageError, ImageStorage, handed_on, HasPinnedMapping, RefusedCall, InternalCall, IsClearable, ClearMode, Qcow2, Prepared, l1_index_of, ImageInvariant, pending_in, NeedsOverflowingL1Entry, MayFailAlone, MayFailLooking, IsStored, HoldsTable}
 use Rattle.qcow2_image.proofs.Clear.Between.{fits_table}
 use Rattle.qcow2_image.proofs.Prepare.MissingL2Table.{loads_looking}
 use Rattle.qcow2_image.proofs.Prepare.NewL2Table.{holds, keeps_placed, keeps_stored, stands_there}

@@ -1,5 +1,6 @@
 -- A cluster is allocated for data, and what a refusal leaves.
-use Rattle.qcow2_image.proofs.Common.{◌≡◌, inl, inr, ℕ, ◌+◌, ◌-◌, ◌*◌, ◌%◌, ◌<◌, Bool, false, List, [], ◌∷◌, ◌++◌, Option, Some, refl, sym, ap, ◌∙◌, subst, arith, Result, Ok, Err, IfOk, IsNone, None, ◌⊎◌, BackingView, StorageView, HeaderFields, cluster_size, with_new_data, new_data_to_old_data, Pending, SafeStep, Disk, known_byte, KeepsFormat, pending_safe_throughout, pending_is_changed, IsPastLimits, run_at, Allocates, AllocatesAt, RefusedGrowth, KeepsPinsAndNotes, Allocator, ClustersToFreeEntry, ImageError, ImageFile, ListsTables, state_in, view_in, contents_in, nothing_given, KeepsHeader, InternalFileGrowth, pending_same, header_format, run_in, IsAllocatorOf, refused_kept, Qcow2, Prepared, IsUsed, NoFreeBelowHint, KeepsNoFreeBelowHint, BrokeOff, file_invariant_of, AllocatesDataAt, pending_with_listed, is_announced, IsFilled, InternalFillingStep, RefusedFillingStep, HoldsAll, ListGrows, AllocatesData, run_of, of_data, of_tables, to_free, new_data_by, over_all, disk_of, ImageInvariant, leaked_by, leaked_in, run_few}
+use Rattle.std.proofs.Common.{◌≡◌, ◌+◌, ◌-◌, ◌*◌, ◌%◌, ◌<◌, ◌∷◌, ◌++◌, ◌⊎◌, inl, inr, ℕ, Bool, false, List, [], Option, Some, refl, sym, ap, ◌∙◌, subst, arith, Result, Ok, Err, IfOk, None}
+use Rattle.qcow2_image.proofs.Common.{IsNone, BackingView, StorageView, HeaderFields, cluster_size, with_new_data, new_data_to_old_data, Pending, SafeStep, Disk, known_byte, KeepsFormat, pending_safe_throughout, pending_is_changed, IsPastLimits, run_at, Allocates, AllocatesAt, RefusedGrowth, KeepsPinsAndNotes, Allocator, ClustersToFreeEntry, ImageError, ImageFile, ListsTables, state_in, view_in, contents_in, nothing_given, KeepsHeader, InternalFileGrowth, pending_same, header_format, run_in, IsAllocatorOf, refused_kept, Qcow2, Prepared, IsUsed, NoFreeBelowHint, KeepsNoFreeBelowHint, BrokeOff, file_invariant_of, AllocatesDataAt, pending_with_listed, is_announced, IsFilled, InternalFillingStep, RefusedFillingStep, HoldsAll, ListGrows, AllocatesData, run_of, of_data, of_tables, to_free, new_data_by, over_all, disk_of, ImageInvariant, leaked_by, leaked_in, run_few}
 use Rattle.qcow2_alloc.specs.declared.clusters_to_free.ClusterKind.TheVariants as Kind
 use Rattle.qcow2_alloc.specs.FreeList.{pending_then as since_listed}
 use Rattle.qcow2_alloc.proofs.ListedAfter.{listed_after_same as same_list}

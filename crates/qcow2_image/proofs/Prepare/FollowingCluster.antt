@@ -1,5 +1,6 @@
 -- What can come after a prepared mapping: copied data in place, or a new cluster that was filled.
-use Rattle.qcow2_image.proofs.Common.{◌≡◌, ◌⊎◌, inl, inr, ℕ, ◌+◌, ◌-◌, ◌*◌, ◌/◌, ◌%◌, ◌<◌, Bool, true, false, List, length, [], ◌∷◌, Option, Some, None, refl, sym, ap, ◌∙◌, subst, arith, min, Result, Ok, Err, slice_get, ◌&&◌, ◌≢◌, div-add-mod', div-mul-add, mod-mul-add, mod_below, pow_pos, BackingView, StorageView, is_within, HeaderFields, L2Mapping, Data, Zero, cover, known_byte, cluster_size, entries_per_cluster, IsHostCluster, IsInReach, named_run, with_new_data, is_copied_data, cover_format, size_format, IsPastLimits, ClustersToFreeEntry, ImageError, IsEntryAt, contents_in, known_in, Qcow2, Prepared, ClusterMapping, InPlace, New, run_of, of_data, of_tables, to_free, listed_run, disk_of, pending_in, cluster_of, host_begin_of, IsNewAt, IsPending, IsReadyWith, ImageInvariant, InternalCall, Ends, FindsBehind, IsSharedAt, MayGoOn, ClusterMappingsAt, StandsBehind, is_announced, pending_with_listed, IsFilled, InternalFillingStep}
+use Rattle.std.proofs.Common.{◌≡◌, ◌⊎◌, ◌+◌, ◌-◌, ◌*◌, ◌/◌, ◌%◌, ◌<◌, ◌∷◌, ◌&&◌, ◌≢◌, inl, inr, ℕ, Bool, true, false, List, length, [], Option, Some, None, refl, sym, ap, ◌∙◌, subst, arith, min, Result, Ok, Err}
+use Rattle.qcow2_image.proofs.Common.{slice_get, div-add-mod', div-mul-add, mod-mul-add, mod_below, pow_pos, BackingView, StorageView, is_within, HeaderFields, L2Mapping, Data, Zero, cover, known_byte, cluster_size, entries_per_cluster, IsHostCluster, IsInReach, named_run, with_new_data, is_copied_data, cover_format, size_format, IsPastLimits, ClustersToFreeEntry, ImageError, IsEntryAt, contents_in, known_in, Qcow2, Prepared, ClusterMapping, InPlace, New, run_of, of_data, of_tables, to_free, listed_run, disk_of, pending_in, cluster_of, host_begin_of, IsNewAt, IsPending, IsReadyWith, ImageInvariant, InternalCall, Ends, FindsBehind, IsSharedAt, MayGoOn, ClusterMappingsAt, StandsBehind, is_announced, pending_with_listed, IsFilled, InternalFillingStep}
 use Rattle.qcow2_metadata.specs.Entries.{count as count_of}
 use Rattle.qcow2_image.proofs.Call.Refused.{back_refused, image_step_stays}
 use Rattle.qcow2_image.proofs.Prepare.FirstCluster.{listed_after_same}

@@ -1,5 +1,6 @@
 -- Parts of a call that guests don't see: what is pending may change, and clusters may be written that no mapping has.
-use Rattle.qcow2_image.proofs.Common.{◌≡◌, ◌≢◌, ◌⊎◌, ⊎_elim, inl, inr, ℕ, ◌+◌, ◌-◌, ◌/◌, ◌%◌, ◌<◌, ◌≤◌, List, length, [], ◌++◌, refl, sym, ap, ◌∙◌, subst, arith, Bool, ◌*◌, Option, Some, Result, Ok, Err, IfOk, slice_get, cases_lt, mod_below, pow_pos, append_assoc, append-nil, fun_ext, BackingView, overwritten, StorageView, EachMomentSince, IsLeftBy, byte_at-overwritten, byte_at, Bytes, HeaderFields, cluster_size, named_for_tables, disk, over_guests, names, Pending, WritesAt, IsUnnamed, covers_format, format_then, size_format, safe_step_none, safe_step_then, safe_throughout_none, steps_safe_throughout, kept_aligned, tied, in_one, private_written, ImageError, ImageStorage, storage_of, order_of, state_in, view_in, contents_in, known_in, nothing_given, Qcow2, Prepared, IsWriteOutcome, WritesBytes, AreThere, InternalStep, InternalFillingStep, HoldsAll, IsInHeldCluster, SameHeld, cover, L2Mapping, Data, Zero, Compressed, Uncovered, IsAlike, IsAlikeRun, unseen_disk, new_data_by, place_of, backing_bytes, disk_of, ImageInvariant}
+use Rattle.std.proofs.Common.{◌≡◌, ◌≢◌, ◌⊎◌, ◌+◌, ◌-◌, ◌/◌, ◌%◌, ◌<◌, ◌≤◌, ◌++◌, ◌*◌, ⊎_elim, inl, inr, ℕ, List, length, [], refl, sym, ap, ◌∙◌, subst, arith, Bool, Option, Some, Result, Ok, Err, IfOk}
+use Rattle.qcow2_image.proofs.Common.{slice_get, cases_lt, mod_below, pow_pos, append_assoc, append-nil, fun_ext, BackingView, overwritten, StorageView, EachMomentSince, IsLeftBy, byte_at-overwritten, byte_at, Bytes, HeaderFields, cluster_size, named_for_tables, disk, over_guests, names, Pending, WritesAt, IsUnnamed, covers_format, format_then, size_format, safe_step_none, safe_step_then, safe_throughout_none, steps_safe_throughout, kept_aligned, tied, in_one, private_written, ImageError, ImageStorage, storage_of, order_of, state_in, view_in, contents_in, known_in, nothing_given, Qcow2, Prepared, IsWriteOutcome, WritesBytes, AreThere, InternalStep, InternalFillingStep, HoldsAll, IsInHeldCluster, SameHeld, cover, L2Mapping, Data, Zero, Compressed, Uncovered, IsAlike, IsAlikeRun, unseen_disk, new_data_by, place_of, backing_bytes, disk_of, ImageInvariant}
 use Rattle.qcow2_laws.proofs.Shown.{Writes}
 use Rattle.qcow2_laws.proofs.Writes.{new_data_is_unnamed}
 use Rattle.qcow2_alloc.specs.declared.error.ImageError.TheVariants as I

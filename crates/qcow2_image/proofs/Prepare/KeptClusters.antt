@@ -1,5 +1,6 @@
 -- The host cluster that a zero entry keeps is filled with zeros, which guests don't see and no stop shows.
-use Rattle.qcow2_image.proofs.Common.{◌≡◌, ◌≢◌, ⊎_elim, ℕ, ◌+◌, ◌-◌, ◌*◌, ◌/◌, ◌%◌, ◌<◌, ◌≤◌, Bool, true, false, List, length, [], ◌∷◌, Option, Some, None, refl, sym, ap, ◌∙◌, subst, arith, Result, IfOk, IsTrue, slice_get, replicate, slice_get_within, append-nil, length-replicate, get_or-replicate, div-add-mod', div-mul-add, mod-mul-add, mod_below, pow_pos, fun_ext, BackingView, overwritten, StorageView, EachMomentSince, IsLeftBy, Bytes, byte_at, HeaderFields, cluster_size, entries_per_cluster, cover, known_byte, in_cluster, named_by_cover, named_for_tables, Zero, Pending, IsHostedAt, WritesRun, names, table_at, given_of, DriverState, StateInvariant, SafeStep, WritesAt, in_own, kept_aligned, kept_unlaid, kept_written, kept_zeroed, in_one, beside_tables, ImageError, ImageStorage, storage_of, state_in, view_in, contents_in, known_in, nothing_given, CopyRange, Qcow2, Prepared, ClusterMapping, WritesBytes, HasByte, l1_index_of, backing_bytes, cluster_of, new_data_by, is_private, place_of, mapping_of_cluster, ImageInvariant, HoldsAll, IsFilled, IsKeptAlone, InternalFillingStep, is_announced, IfOk-weaker}
+use Rattle.std.proofs.Common.{◌≡◌, ◌≢◌, ◌+◌, ◌-◌, ◌*◌, ◌/◌, ◌%◌, ◌<◌, ◌≤◌, ◌∷◌, ⊎_elim, ℕ, Bool, true, false, List, length, [], Option, Some, None, refl, sym, ap, ◌∙◌, subst, arith, Result, IfOk, IsTrue, replicate}
+use Rattle.qcow2_image.proofs.Common.{slice_get, slice_get_within, append-nil, length-replicate, get_or-replicate, div-add-mod', div-mul-add, mod-mul-add, mod_below, pow_pos, fun_ext, BackingView, overwritten, StorageView, EachMomentSince, IsLeftBy, Bytes, byte_at, HeaderFields, cluster_size, entries_per_cluster, cover, known_byte, in_cluster, named_by_cover, named_for_tables, Zero, Pending, IsHostedAt, WritesRun, names, table_at, given_of, DriverState, StateInvariant, SafeStep, WritesAt, in_own, kept_aligned, kept_unlaid, kept_written, kept_zeroed, in_one, beside_tables, ImageError, ImageStorage, storage_of, state_in, view_in, contents_in, known_in, nothing_given, CopyRange, Qcow2, Prepared, ClusterMapping, WritesBytes, HasByte, l1_index_of, backing_bytes, cluster_of, new_data_by, is_private, place_of, mapping_of_cluster, ImageInvariant, HoldsAll, IsFilled, IsKeptAlone, InternalFillingStep, is_announced, IfOk-weaker}
 use Rattle.qcow2_laws.specs.GuestLaws.{Kept as HostedKept}
 use Rattle.qcow2_laws.proofs.Shown.{shown_zero}
 use Rattle.qcow2_image.proofs.Images.Apart.{same_row}

@@ -1,5 +1,6 @@
 -- A guest cluster whose zero entry keeps a host cluster is prepared there, as the first one of a range or after others.
-use Rattle.qcow2_image.proofs.Common.{◌≡◌, inl, inr, ℕ, ◌+◌, ◌-◌, ◌*◌, ◌/◌, ◌%◌, ◌≤◌, Bool, true, false, List, length, [], ◌∷◌, Option, Some, None, refl, sym, ap, ◌∙◌, subst, arith, IsSome, IsTrue, min, slice_get, ◌&&◌, cases_eq, cond-true, BackingView, StorageView, is_within, HeaderFields, cluster_size, entries_per_cluster, cover, known_byte, greatest_offset, L2Mapping, Data, Zero, Pending, guest_of, table_at, cover_format, size_format, ClustersToFreeEntry, MetadataCaches, l2_pins, l2_at, contents_in, known_in, Qcow2, Prepared, ClusterMapping, Kept, number_of, IsReadied, abstract_of, cluster_of, new_data_in, host_begin_of, is_private, meaning, of_data, of_tables, pending_in, pins_by, place_of, mapping_of_cluster, to_free, IsKeptAt, IsPending, IsReadyWith, ImageInvariant, BeginsInKept, MayGoOn, StandsBehind, HoldsTable, IsFilled, IsKeptAlone, Pins, InternalFillingStep}
+use Rattle.std.proofs.Common.{◌≡◌, ◌+◌, ◌-◌, ◌*◌, ◌/◌, ◌%◌, ◌≤◌, ◌∷◌, ◌&&◌, inl, inr, ℕ, Bool, true, false, List, length, [], Option, Some, None, refl, sym, ap, ◌∙◌, subst, arith, IsSome, IsTrue, min}
+use Rattle.qcow2_image.proofs.Common.{slice_get, cases_eq, cond-true, BackingView, StorageView, is_within, HeaderFields, cluster_size, entries_per_cluster, cover, known_byte, greatest_offset, L2Mapping, Data, Zero, Pending, guest_of, table_at, cover_format, size_format, ClustersToFreeEntry, MetadataCaches, l2_pins, l2_at, contents_in, known_in, Qcow2, Prepared, ClusterMapping, Kept, number_of, IsReadied, abstract_of, cluster_of, new_data_in, host_begin_of, is_private, meaning, of_data, of_tables, pending_in, pins_by, place_of, mapping_of_cluster, to_free, IsKeptAt, IsPending, IsReadyWith, ImageInvariant, BeginsInKept, MayGoOn, StandsBehind, HoldsTable, IsFilled, IsKeptAlone, Pins, InternalFillingStep}
 use Rattle.qcow2_image.proofs.Images.Apart.{pins_own}
 use Rattle.qcow2_image.proofs.Call.Slots.{over_all_two}
 use Rattle.qcow2_image.proofs.Prepare.FollowingCluster.{filled_there, host_is, next_cluster, table_is}

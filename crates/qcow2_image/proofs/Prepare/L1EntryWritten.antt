@@ -1,5 +1,6 @@
 -- An L1 entry is written for a new L2 table that is in its cluster.
-use Rattle.qcow2_image.proofs.Common.{◌≡◌, ◌≢◌, ◌⊎◌, inl, inr, ℕ, ◌+◌, ◌*◌, ◌/◌, ◌%◌, ◌^◌, ◌<◌, ◌≤◌, true, List, [], length, Option, Result, Ok, refl, sym, ap, ◌∙◌, subst, arith, cases_eq, eq-eqb, ne_eqb, cond-true, cond-false, append-nil, mod_below, div-add-mod', IfSome, w64, to_be_bytes, BackingView, overwritten, StorageView, EachMomentSince, Changes, Calls, IsLeftBy, StorageError, Bytes, byte_at, HeaderFields, cluster_size, entries_per_cluster, counts_per_block, l1_entry, l2_entry, reftable_entry, block_offset, host_offset, is_copied, L1EntryReads, count, cover, entry_cover, EntryTableView, IsL1TableOf, entry_count, L2TableView, copied_entry, IsHostCluster, table_in, in_cluster, named_for_tables, named_by_l1_table, named_by_reftable, entry_at, ChangesEntry, SafeThroughout, one_at, with_new_tables, renamed, Pending, SameIn, table_at, HasL2, HasOwnL2, HasBlock, SafeStep, IsSameBut, IsSameOutside, WritesL1Entry, IsNewTable, IsInternal, overwritten_but, l1_entry_beside, table_once, clean_counts, shared_covers, Sizes, cover_none, shares, in_l1, l1_has, l1_reftable, table_has, block_has, count_stays, table_is_named, unseen_l2_table, done_safe_throughout, write_safe_throughout, Allocator, ImageStorage, nothing_given, view_in, contents_in, known_in, state_in, storage_of, order_of, l2_tables, refblocks, CacheInvariant, one_here, pending_same, cluster_aligned, AreCurrentIn, current_entry, loaded_named, own_cluster, IsFree, covers_written, file_sizes, known_there, IsAllocatorOf, allocator_kept, file_invariant_of, Qcow2, Prepared, SaysKnown, StandsReady, MayName, NamesCopied, replacing, NamesOwn, KeepsCopied, InternalStep, cluster_of, IsReadyWith, ImageInvariant, HasL1Table}
+use Rattle.std.proofs.Common.{◌≡◌, ◌≢◌, ◌⊎◌, ◌+◌, ◌*◌, ◌/◌, ◌%◌, ◌^◌, ◌<◌, ◌≤◌, inl, inr, ℕ, true, List, [], length, Option, Result, Ok, refl, sym, ap, ◌∙◌, subst, arith}
+use Rattle.qcow2_image.proofs.Common.{cases_eq, eq-eqb, ne_eqb, cond-true, cond-false, append-nil, mod_below, div-add-mod', IfSome, w64, to_be_bytes, BackingView, overwritten, StorageView, EachMomentSince, Changes, Calls, IsLeftBy, StorageError, Bytes, byte_at, HeaderFields, cluster_size, entries_per_cluster, counts_per_block, l1_entry, l2_entry, reftable_entry, block_offset, host_offset, is_copied, L1EntryReads, count, cover, entry_cover, EntryTableView, IsL1TableOf, entry_count, L2TableView, copied_entry, IsHostCluster, table_in, in_cluster, named_for_tables, named_by_l1_table, named_by_reftable, entry_at, ChangesEntry, SafeThroughout, one_at, with_new_tables, renamed, Pending, SameIn, table_at, HasL2, HasOwnL2, HasBlock, SafeStep, IsSameBut, IsSameOutside, WritesL1Entry, IsNewTable, IsInternal, overwritten_but, l1_entry_beside, table_once, clean_counts, shared_covers, Sizes, cover_none, shares, in_l1, l1_has, l1_reftable, table_has, block_has, count_stays, table_is_named, unseen_l2_table, done_safe_throughout, write_safe_throughout, Allocator, ImageStorage, nothing_given, view_in, contents_in, known_in, state_in, storage_of, order_of, l2_tables, refblocks, CacheInvariant, one_here, pending_same, cluster_aligned, AreCurrentIn, current_entry, loaded_named, own_cluster, IsFree, covers_written, file_sizes, known_there, IsAllocatorOf, allocator_kept, file_invariant_of, Qcow2, Prepared, SaysKnown, StandsReady, MayName, NamesCopied, replacing, NamesOwn, KeepsCopied, InternalStep, cluster_of, IsReadyWith, ImageInvariant, HasL1Table}
 use Rattle.qcow2_metadata.proofs.EntryTables.{on_sector}
 use Rattle.qcow2_metadata.proofs.TablesAt.{entry_stands}
 use Rattle.qcow2_metadata.proofs.WrittenTables.{IsL1TableOf-written_entry}

@@ -1,5 +1,6 @@
 -- Why a part of a call was refused for a limit: the cause still holds together with the parts before and after it.
-use Rattle.qcow2_image.proofs.Common.{ImageStays, IsBegun, ImageStep, AllocatesDataAt, RefusedFillingStep, AllocatesData, InternalFillingStep, pending_with_listed, GoesTo, IfLimit, IsLimited, IsLimitedAmong, IsLimitedIn, IsLimitedTaking, IsLimitedInternal, IsLimitedWith, LacksPlace, l1_clusters, ◌≡◌, ◌⊎◌, inl, inr, ℕ, ◌+◌, ◌<◌, ◌≤◌, List, [], ◌∷◌, ◌++◌, Option, Some, Result, Ok, Err, refl, sym, ap, ◌∙◌, subst, arith, cases_lt, le-div, pow_pos, IfErr, IsErr, IsErrAnd, IsSome, None, OnOk, max, length, ◌-◌, ◌*◌, ◌/◌, ◌^◌, BackingView, StorageView, EntryTableView, HasRoomIfPlaced, entry_count, IsHostCluster, HeaderView, cluster_size, Pending, ClustersToFreeEntry, ImageError, IsFault, KeepsHeader, IsFaultOr, EffectOnSound, Value, GivenBytes, IsGiven, TouchesLess, works_less, works_then, RefusedCall, InternalCall, Qcow2, Prepared, ImageInvariant, abstract_of, image_abstraction, pending_in, IsLongerL1, clusters_of, l1_index_of, L1EntryOverflows, EndsBefore, HasNearEntry, IsPlacedNear, IsFaultOrLimit, IsUnlimited, handed_on}
+use Rattle.std.proofs.Common.{◌≡◌, ◌⊎◌, ◌+◌, ◌<◌, ◌≤◌, ◌∷◌, ◌++◌, ◌-◌, ◌*◌, ◌/◌, ◌^◌, inl, inr, ℕ, List, [], Option, Some, Result, Ok, Err, refl, sym, ap, ◌∙◌, subst, arith, IfErr, IsErr, IsErrAnd, IsSome, None, max, length}
+use Rattle.qcow2_image.proofs.Common.{ImageStays, IsBegun, ImageStep, AllocatesDataAt, RefusedFillingStep, AllocatesData, InternalFillingStep, pending_with_listed, GoesTo, IfLimit, IsLimited, IsLimitedAmong, IsLimitedIn, IsLimitedTaking, IsLimitedInternal, IsLimitedWith, LacksPlace, l1_clusters, cases_lt, le-div, pow_pos, OnOk, BackingView, StorageView, EntryTableView, HasRoomIfPlaced, entry_count, IsHostCluster, HeaderView, cluster_size, Pending, ClustersToFreeEntry, ImageError, IsFault, KeepsHeader, IsFaultOr, EffectOnSound, Value, GivenBytes, IsGiven, TouchesLess, works_less, works_then, RefusedCall, InternalCall, Qcow2, Prepared, ImageInvariant, abstract_of, image_abstraction, pending_in, IsLongerL1, clusters_of, l1_index_of, L1EntryOverflows, EndsBefore, HasNearEntry, IsPlacedNear, IsFaultOrLimit, IsUnlimited, handed_on}
 use Rattle.qcow2_image.proofs.Call.BehindHeader.{behind_begun, behind_then}
 use Rattle.qcow2_alloc.specs.declared.error.ImageError.TheVariants as I
 use Rattle.qcow2_image.proofs.Call.Refused.{image_step_stays, stays_kept}

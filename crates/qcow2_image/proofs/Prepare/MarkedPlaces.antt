@@ -1,5 +1,6 @@
 -- Host clusters of a sound file that may be written in place lie past cluster 0.
-use Rattle.qcow2_image.proofs.Common.{◌≡◌, ℕ, ◌+◌, ◌*◌, ◌/◌, ◌%◌, ◌<◌, ◌≤◌, Option, Some, None, refl, ap, ◌∙◌, arith, IfSome, mod-mul-add, pow_pos, StorageView, Bytes, cover, cluster_size, HeaderFields, L2Mapping, Data, Zero, Compressed, Uncovered, Pending, Hosting, IsHostedAt, DriverState, beside_tables, contents_in, known_in, state_in, FileInvariant, ImageFile, own_cluster, MarkedIsBehind, IsPlaceOf}
+use Rattle.std.proofs.Common.{◌≡◌, ◌+◌, ◌*◌, ◌/◌, ◌%◌, ◌<◌, ◌≤◌, ℕ, Option, Some, None, refl, ap, ◌∙◌, arith}
+use Rattle.qcow2_image.proofs.Common.{IfSome, mod-mul-add, pow_pos, StorageView, Bytes, cover, cluster_size, HeaderFields, L2Mapping, Data, Zero, Compressed, Uncovered, Pending, Hosting, IsHostedAt, DriverState, beside_tables, contents_in, known_in, state_in, FileInvariant, ImageFile, own_cluster, MarkedIsBehind, IsPlaceOf}
 use Rattle.qcow2_laws.specs.GuestLaws.{InPlace, Kept}
 use Rattle.qcow2_image.proofs.Write.Hosted.{behind_tables}
 

@@ -1,5 +1,6 @@
 -- The bytes of a new L2 table are written to its cluster, and then the table is inserted into the cache.
-use Rattle.qcow2_image.proofs.Common.{◌≡◌, ℕ, ◌+◌, ◌*◌, ◌^◌, ◌<◌, List, length, Option, Result, Ok, refl, sym, ap, ◌∙◌, subst, arith, Err, IfSome, OnOk, Some, ImageError, BackingView, overwritten, StorageView, Changes, Calls, StorageError, byte_at-overwritten, Bytes, byte_at, HeaderFields, cluster_size, L2TableView, Pending, data_is_written, Allocator, ImageStorage, view_in, contents_in, state_in, storage_of, order_of, l2_tables, refblocks, l2_at, HoldsKnown, InternalCacheStep, HasBytesAt, l2_pins, CachesHaveRoom, MetadataCaches, AreClean, BlocksMayGo, IsFree, covers_written, known_there, file_step_rewritten, reftable_rewritten, IsAllocatorOf, Qcow2, Prepared, IsStored, PlacesNewTable, StandsReady, InternalStep, ImageInvariant}
+use Rattle.std.proofs.Common.{◌≡◌, ◌+◌, ◌*◌, ◌^◌, ◌<◌, ℕ, List, length, Option, Result, Ok, refl, sym, ap, ◌∙◌, subst, arith, Err, Some}
+use Rattle.qcow2_image.proofs.Common.{IfSome, OnOk, ImageError, BackingView, overwritten, StorageView, Changes, Calls, StorageError, byte_at-overwritten, Bytes, byte_at, HeaderFields, cluster_size, L2TableView, Pending, data_is_written, Allocator, ImageStorage, view_in, contents_in, state_in, storage_of, order_of, l2_tables, refblocks, l2_at, HoldsKnown, InternalCacheStep, HasBytesAt, l2_pins, CachesHaveRoom, MetadataCaches, AreClean, BlocksMayGo, IsFree, covers_written, known_there, file_step_rewritten, reftable_rewritten, IsAllocatorOf, Qcow2, Prepared, IsStored, PlacesNewTable, StandsReady, InternalStep, ImageInvariant}
 use Rattle.qcow2_alloc.proofs.PlacedBlocks.{in_own}
 use Rattle.qcow2_image.proofs.Open.Reftables.{allocator_moved}
 use Rattle.qcow2_image.proofs.Map.Loading.{caches_moved, with_caches}

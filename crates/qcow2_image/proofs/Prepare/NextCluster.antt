@@ -1,5 +1,6 @@
 -- A prepared mapping is extended by the next cluster.
-use Rattle.qcow2_image.proofs.Common.{◌≡◌, ◌⊎◌, ⊎_elim, inl, inr, ℕ, zero, suc, ◌+◌, ◌-◌, ◌*◌, ◌/◌, ◌%◌, ◌<◌, ◌≤◌, Bool, true, false, List, length, [], ◌∷◌, ◌++◌, Option, Some, refl, sym, ap, ◌∙◌, subst, arith, min, IsTrue, nat_le, nat_lt, slice_get, slice_set, ◌&&◌, fun_ext, cases_lt, cond-true, le-leb, lt-ltb, le-ltb, div-add-mod', div-mul-add, mod_below, pow_pos, slice_get_within, BackingView, StorageView, Bytes, is_within, HeaderFields, known_byte, cluster_size, entries_per_cluster, rounded_up, Guest, guest_of, meaning_at, with_slot, PreparedMapping, IsPrepared, contents_in, known_in, nothing_given, state_in, Qcow2, Prepared, ClusterMapping, InPlace, Kept, New, new_data_in, new_data_by, pins_by, over_all, abstract_of, meaning, is_private, cluster_of, is_entered, IsReady, IsReadyWith, IsClusterMappingAt, IsPending, pending_in, IsExtended, MayGoOn, StandsBehind, StateInvariant, length_push, and_right}
+use Rattle.std.proofs.Common.{◌≡◌, ◌⊎◌, ◌+◌, ◌-◌, ◌*◌, ◌/◌, ◌%◌, ◌<◌, ◌≤◌, ◌∷◌, ◌++◌, ◌&&◌, ⊎_elim, inl, inr, ℕ, zero, suc, Bool, true, false, List, length, [], Option, Some, refl, sym, ap, ◌∙◌, subst, arith, min, IsTrue, nat_le, nat_lt}
+use Rattle.qcow2_image.proofs.Common.{slice_get, slice_set, fun_ext, cases_lt, cond-true, le-leb, lt-ltb, le-ltb, div-add-mod', div-mul-add, mod_below, pow_pos, slice_get_within, BackingView, StorageView, Bytes, is_within, HeaderFields, known_byte, cluster_size, entries_per_cluster, rounded_up, Guest, guest_of, meaning_at, with_slot, PreparedMapping, IsPrepared, contents_in, known_in, nothing_given, state_in, Qcow2, Prepared, ClusterMapping, InPlace, Kept, New, new_data_in, new_data_by, pins_by, over_all, abstract_of, meaning, is_private, cluster_of, is_entered, IsReady, IsReadyWith, IsClusterMappingAt, IsPending, pending_in, IsExtended, MayGoOn, StandsBehind, StateInvariant, length_push, and_right}
 use Rattle.qcow2_image.proofs.Call.Answered.{same_guest}
 use Rattle.qcow2_image.proofs.Call.Slots.{get_set, over_all_set, slot_set}
 use Rattle.qcow2_image.proofs.Call.Stepped.{Steps, stepped_sound, stepped_works}

@@ -1,5 +1,6 @@
 -- Preparing as a call: it succeeds, or is refused and perhaps marked as failed.
-use Rattle.qcow2_image.proofs.Common.{◌≡◌, ℕ, Bool, false, List, [], Option, Some, refl, sym, subst, Result, Ok, Err, IfErr, IsTrue, slice_set, BackingView, StorageView, AnsweredEffect, with_slot, IsPrepared, guest_of, ImageError, Qcow2, Prepared, Prepares, number_of, is_failed, has_noted_change, IsExisting, IsReadied, PreparesRange, pending_in, abstract_of, meaning, ImageInvariant}
+use Rattle.std.proofs.Common.{◌≡◌, ℕ, Bool, false, List, [], Option, Some, refl, sym, subst, Result, Ok, Err, IfErr, IsTrue}
+use Rattle.qcow2_image.proofs.Common.{slice_set, BackingView, StorageView, AnsweredEffect, with_slot, IsPrepared, guest_of, ImageError, Qcow2, Prepared, Prepares, number_of, is_failed, has_noted_change, IsExisting, IsReadied, PreparesRange, pending_in, abstract_of, meaning, ImageInvariant}
 use Rattle.qcow2_alloc.specs.declared.error.ImageError.TheVariants as I
 use Rattle.qcow2_image.proofs.Call.Marked.{MayMarkBy}
 use Rattle.qcow2_image.proofs.Prepare.Preparing.{readied_existing}

@@ -1,5 +1,6 @@
 -- Why a range is refused 9 (table prepared).
-use Rattle.qcow2_image.proofs.Common.{◌≡◌, inl, inr, ℕ, suc, ◌/◌, ◌%◌, ◌<◌, Bool, true, false, List, [], ◌∷◌, Option, Some, None, refl, sym, ap, ◌∙◌, subst, arith, is_some, slice_get, ◌==◌, cases_eq, cases_lt, eqb-true, BackingView, StorageView, Bytes, one_if, HeaderFields, cluster_size, entries_per_cluster, host_offset, table_at, table_once, shares, two_tables, own_cluster, Pending, l2_pins, order_of, IsEntryAt, contents_in, known_in, Qcow2, Prepared, l1_index_of, IsPlaceOf, IsTaken, HoldsTable, over_all, pins_by, pins_of, IsPending, IsReadyWith, ImageInvariant}
+use Rattle.std.proofs.Common.{◌≡◌, ◌/◌, ◌%◌, ◌<◌, ◌∷◌, ◌==◌, inl, inr, ℕ, suc, Bool, true, false, List, [], Option, Some, None, refl, sym, ap, ◌∙◌, subst, arith, is_some}
+use Rattle.qcow2_image.proofs.Common.{slice_get, cases_eq, cases_lt, eqb-true, BackingView, StorageView, Bytes, one_if, HeaderFields, cluster_size, entries_per_cluster, host_offset, table_at, table_once, shares, two_tables, own_cluster, Pending, l2_pins, order_of, IsEntryAt, contents_in, known_in, Qcow2, Prepared, l1_index_of, IsPlaceOf, IsTaken, HoldsTable, over_all, pins_by, pins_of, IsPending, IsReadyWith, ImageInvariant}
 
 -- a pin that is counted is one of a mapping
 pinned_by : (pinned : Option ℕ) (table : ℕ) → 0 < pins_of pinned table → pinned ≡ Some table

@@ -1,5 +1,6 @@
 -- A mapping of the rest of a cluster is prepared: its table is pinned, and the mapping is put into an empty slot.
-use Rattle.qcow2_image.proofs.Common.{◌≡◌, ⊎_elim, inl, inr, ℕ, zero, suc, ◌+◌, ◌-◌, ◌*◌, ◌/◌, ◌%◌, ◌<◌, ◌≤◌, Bool, true, false, List, length, [], ◌∷◌, Option, Some, None, refl, sym, ap, ◌∙◌, subst, arith, cond, IsTrue, min, slice_get, slice_set, ◌&&◌, ◌==◌, fun_ext, cases_eq, cond-false, ne_eqb, div-add-mod', div-mul-add, mod_below, pow_pos, BackingView, StorageView, Bytes, is_within, HeaderFields, cluster_size, rounded_up, CachedTable, AreNamedBlocks, with_slot, disk, Pending, SameCovers, SafeStep, StateInvariant, IsPrepared, Guest, guest_of, l2_pins, SameTables, MetadataCaches, state_in, contents_in, known_in, nothing_given, count, file_invariant_of, Qcow2, Image, Prepared, ClusterMapping, number_of, IsReadied, InternalFillingStep, HoldsTable, to_free, of_data, of_tables, new_data_by, pins_by, pins_of, over_all, pending_in, abstract_of, meaning, is_private, backing_bytes, IsClusterMappingAt, IsPending, IsReadyWith, ImageInvariant}
+use Rattle.std.proofs.Common.{◌≡◌, ◌+◌, ◌-◌, ◌*◌, ◌/◌, ◌%◌, ◌<◌, ◌≤◌, ◌∷◌, ◌&&◌, ◌==◌, ⊎_elim, inl, inr, ℕ, zero, suc, Bool, true, false, List, length, [], Option, Some, None, refl, sym, ap, ◌∙◌, subst, arith, cond, IsTrue, min}
+use Rattle.qcow2_image.proofs.Common.{slice_get, slice_set, fun_ext, cases_eq, cond-false, ne_eqb, div-add-mod', div-mul-add, mod_below, pow_pos, BackingView, StorageView, Bytes, is_within, HeaderFields, cluster_size, rounded_up, CachedTable, AreNamedBlocks, with_slot, disk, Pending, SameCovers, SafeStep, StateInvariant, IsPrepared, Guest, guest_of, l2_pins, SameTables, MetadataCaches, state_in, contents_in, known_in, nothing_given, count, file_invariant_of, Qcow2, Image, Prepared, ClusterMapping, number_of, IsReadied, InternalFillingStep, HoldsTable, to_free, of_data, of_tables, new_data_by, pins_by, pins_of, over_all, pending_in, abstract_of, meaning, is_private, backing_bytes, IsClusterMappingAt, IsPending, IsReadyWith, ImageInvariant}
 use Rattle.qcow2_image.proofs.Call.Answered.{same_guest}
 use Rattle.qcow2_image.proofs.Images.Moved.{format_file_step, format_stay}
 use Rattle.qcow2_image.proofs.Images.ClusterMappings.{private_shared}

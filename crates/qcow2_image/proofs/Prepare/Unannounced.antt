@@ -1,5 +1,6 @@
 -- Bytes of a cluster that the caller did not promise to overwrite are copied into the new one. So a compressed cluster is refused only if it has such a byte.
-use Rattle.qcow2_image.proofs.Common.{◌≡◌, ◌⊎◌, inl, inr, ℕ, ◌+◌, ◌-◌, ◌*◌, ◌/◌, ◌%◌, ◌<◌, ◌≤◌, Bool, true, false, Option, Some, None, refl, sym, ◌∙◌, subst, arith, min, IfSome, nat_lt, ◌&&◌, ◌==◌, and_from, and_left, and_right, cases_eq, cases_lt, cond-false, cond-true, eq-eqb, le-leb, le-ltb, lt-leb, lt-ltb, div-add-mod', div-mul-add, mod_below, pow_pos, Bytes, is_within, cover, cluster_size, HeaderFields, L2Mapping, IsCompressed, Touches, within_is, announced_range_of, copy_range_of, uncut_copy_range, CopiesCompressed, HasCompressedIn, HasUnannounced, IsCopiedCompressed, CoversStay, CopyRange}
+use Rattle.std.proofs.Common.{◌≡◌, ◌⊎◌, ◌+◌, ◌-◌, ◌*◌, ◌/◌, ◌%◌, ◌<◌, ◌≤◌, ◌&&◌, ◌==◌, inl, inr, ℕ, Bool, true, false, Option, Some, None, refl, sym, ◌∙◌, subst, arith, min, nat_lt}
+use Rattle.qcow2_image.proofs.Common.{IfSome, and_from, and_left, and_right, cases_eq, cases_lt, cond-false, cond-true, eq-eqb, le-leb, le-ltb, lt-leb, lt-ltb, div-add-mod', div-mul-add, mod_below, pow_pos, Bytes, is_within, cover, cluster_size, HeaderFields, L2Mapping, IsCompressed, Touches, within_is, announced_range_of, copy_range_of, uncut_copy_range, CopiesCompressed, HasCompressedIn, HasUnannounced, IsCopiedCompressed, CoversStay, CopyRange}
 
 -- ---- a part to copy
 

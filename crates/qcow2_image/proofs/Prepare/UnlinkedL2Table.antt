@@ -1,5 +1,6 @@
 -- An image whose new L2 table has its L1 entry, or doesn't: what is pending, and what waits to be freed.
-use Rattle.qcow2_image.proofs.Common.{◌≡◌, inl, inr, ℕ, ◌+◌, false, List, [], ◌∷◌, ◌++◌, Option, Result, Ok, Err, refl, sym, ap, ◌∙◌, subst, arith, ◌⊎◌, Some, cases_lt, BackingView, StorageView, passes_none, HeaderFields, l1_entry, host_offset, EntryTableView, L2TableView, table_in, entry_at, one_at, with_new_tables, new_tables_to_old_tables, Pending, SafeStep, KeepsFormat, pending_safe_throughout, pending_is_changed, unseen_known, run_at, taken_as, InternalAllocatorGrowth, RefusedGrowth, Allocator, KeepsPinsAndNotes, ImageFile, ClustersToFreeEntry, ClusterKind, ImageError, ListsTables, nothing_given, view_in, contents_in, known_in, state_in, one_few, one_here, pending_same, run_before, run_after, run_last, refused_kept, NoFreeBelowHint, BrokeOff, file_invariant_of, Qcow2, Prepared, SaysKnown, MayName, replacing, NamesNew, WritesNew, EntersTable, InterruptedPart, NamesOwn, InternalStep, RefusedStep, ListGrows, pending_with_listed, of_data, of_tables, to_free, ImageInvariant, leaked_by, leaked_in}
+use Rattle.std.proofs.Common.{◌≡◌, ◌+◌, ◌∷◌, ◌++◌, ◌⊎◌, inl, inr, ℕ, false, List, [], Option, Result, Ok, Err, refl, sym, ap, ◌∙◌, subst, arith, Some}
+use Rattle.qcow2_image.proofs.Common.{cases_lt, BackingView, StorageView, passes_none, HeaderFields, l1_entry, host_offset, EntryTableView, L2TableView, table_in, entry_at, one_at, with_new_tables, new_tables_to_old_tables, Pending, SafeStep, KeepsFormat, pending_safe_throughout, pending_is_changed, unseen_known, run_at, taken_as, InternalAllocatorGrowth, RefusedGrowth, Allocator, KeepsPinsAndNotes, ImageFile, ClustersToFreeEntry, ClusterKind, ImageError, ListsTables, nothing_given, view_in, contents_in, known_in, state_in, one_few, one_here, pending_same, run_before, run_after, run_last, refused_kept, NoFreeBelowHint, BrokeOff, file_invariant_of, Qcow2, Prepared, SaysKnown, MayName, replacing, NamesNew, WritesNew, EntersTable, InterruptedPart, NamesOwn, InternalStep, RefusedStep, ListGrows, pending_with_listed, of_data, of_tables, to_free, ImageInvariant, leaked_by, leaked_in}
 use Rattle.qcow2_alloc.specs.declared.clusters_to_free.ClusterKind.TheVariants as Kind
 use Rattle.qcow2_alloc.proofs.FileSteps.{safe_throughout_then}
 use Rattle.qcow2_image.proofs.Open.Reftables.{reftable_still}

@@ -1,5 +1,6 @@
 -- Where a range may be written in place.
-use Rattle.qcow2_image.proofs.Common.{◌≡◌, ℕ, ◌+◌, ◌/◌, ◌<◌, ◌≤◌, Bool, true, false, refl, sym, ap, ◌∙◌, arith, min, Bytes, HeaderFields, cluster_size, cover, L2Mapping, Data, Zero, Compressed, Uncovered, IsLongestRun, are_alike, longest_is, run_data, run_less, kind_at, rest_of_table, writable_place, IsPlaceOf, IsWritableAt}
+use Rattle.std.proofs.Common.{◌≡◌, ◌+◌, ◌/◌, ◌<◌, ◌≤◌, ℕ, Bool, true, false, refl, sym, ap, ◌∙◌, arith, min}
+use Rattle.qcow2_image.proofs.Common.{Bytes, HeaderFields, cluster_size, cover, L2Mapping, Data, Zero, Compressed, Uncovered, IsLongestRun, are_alike, longest_is, run_data, run_less, kind_at, rest_of_table, writable_place, IsPlaceOf, IsWritableAt}
 
 module _ (h : HeaderFields) (known : Bytes) (offset n found : ℕ) (some : 0 < n) (longest : IsLongestRun h known offset (min n (rest_of_table h offset)) found) where
   -- what ends before the range does isn't all in place

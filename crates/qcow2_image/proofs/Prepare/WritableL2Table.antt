@@ -1,5 +1,6 @@
 -- An L1 entry gets an L2 table of its own: a new one, a copy, or the one that it had.
-use Rattle.qcow2_image.proofs.Common.{◌≡◌, inl, inr, ℕ, ◌*◌, ◌/◌, ◌%◌, ◌<◌, List, [], ◌∷◌, ◌++◌, Option, None, Result, Ok, Err, true, refl, sym, ap, ◌∙◌, subst, arith, ◌==◌, IsErr, IsSome, cond-true, eq-eqb, mod_below, BackingView, StorageView, Bytes, HeaderFields, cluster_size, entries_per_cluster, has_data_file, l2_entry, host_offset, is_copied, entry_cover, L2TableView, l2_table, table_in, entry_at, cover_of-0, Pending, table_at, safe_step_none, Sizes, Sizes-from, cover_none, cover_in, IsTop-top, MetadataCaches, ClustersToFreeEntry, metadata_entry, ImageError, ImageStorage, l2_pins, CachesHaveRoom, view_in, contents_in, known_in, state_in, storage_of, l2_at, IsEntryAt, ShowsKnown, InternalCacheStep, pending_same, Qcow2, Prepared, SaysKnown, MayName, NamesShared, NamesCopied, replacing, EntersTable, OwnsTable, NamesOwn, InternalStep, RefusedStep, pending_with_listed, HoldsTable, l1_index_of, ImageInvariant}
+use Rattle.std.proofs.Common.{◌≡◌, ◌*◌, ◌/◌, ◌%◌, ◌<◌, ◌∷◌, ◌++◌, ◌==◌, inl, inr, ℕ, List, [], Option, None, Result, Ok, Err, true, refl, sym, ap, ◌∙◌, subst, arith, IsErr, IsSome}
+use Rattle.qcow2_image.proofs.Common.{cond-true, eq-eqb, mod_below, BackingView, StorageView, Bytes, HeaderFields, cluster_size, entries_per_cluster, has_data_file, l2_entry, host_offset, is_copied, entry_cover, L2TableView, l2_table, table_in, entry_at, cover_of-0, Pending, table_at, safe_step_none, Sizes, Sizes-from, cover_none, cover_in, IsTop-top, MetadataCaches, ClustersToFreeEntry, metadata_entry, ImageError, ImageStorage, l2_pins, CachesHaveRoom, view_in, contents_in, known_in, state_in, storage_of, l2_at, IsEntryAt, ShowsKnown, InternalCacheStep, pending_same, Qcow2, Prepared, SaysKnown, MayName, NamesShared, NamesCopied, replacing, EntersTable, OwnsTable, NamesOwn, InternalStep, RefusedStep, pending_with_listed, HoldsTable, l1_index_of, ImageInvariant}
 use Rattle.qcow2_image.proofs.Call.Called.{keeps_then}
 use Rattle.qcow2_image.proofs.Prepare.UnlinkedL2Table.{keeps_none, as_listed_after, interrupted_on, same_l1, keeps_listed, given_up, freed_table}
 use Rattle.qcow2_image.proofs.Map.Loading.{caches_moved, with_caches}

@@ -1,5 +1,6 @@
 -- Steps of a shrink that pass a cluster boundary change something, and the change is counted.
-use Rattle.qcow2_image.proofs.Common.{◌≡◌, inl, inr, ℕ, ◌<◌, ap, arith, cases_lt, pow_pos, cluster_size, rounded_up, Qcow2, ChangesRose, NoFewerChanges, boundary_in}
+use Rattle.std.proofs.Common.{◌≡◌, ◌<◌, inl, inr, ℕ, ap, arith}
+use Rattle.qcow2_image.proofs.Common.{cases_lt, pow_pos, cluster_size, rounded_up, Qcow2, ChangesRose, NoFewerChanges, boundary_in}
 use Rattle.qcow2_image.proofs.Call.OnceWritten.{changes_before, changes_later}
 use Rattle.qcow2_image.proofs.Resize.TailSteps.{none_between}
 

@@ -1,5 +1,6 @@
 -- The guest clusters of a tail after it is discarded: they are unmapped. Adjacent ranges are one range.
-use Rattle.qcow2_image.proofs.Common.{◌≡◌, ◌⊎◌, inl, inr, ℕ, ◌-◌, ◌*◌, ◌<◌, ◌≤◌, true, false, sym, ap, ◌∙◌, arith, nat_le, nat_lt, and_from, and_left, and_right, cases_lt, cond-true, cond-false, le-leb, le-ltb, lt-leb, lt-ltb, Bytes, cover, HeaderFields, cluster_size, ClearsImageCovers, is_between, CoversStay}
+use Rattle.std.proofs.Common.{◌≡◌, ◌⊎◌, ◌-◌, ◌*◌, ◌<◌, ◌≤◌, inl, inr, ℕ, true, false, sym, ap, ◌∙◌, arith, nat_le, nat_lt}
+use Rattle.qcow2_image.proofs.Common.{and_from, and_left, and_right, cases_lt, cond-true, cond-false, le-leb, le-ltb, lt-leb, lt-ltb, Bytes, cover, HeaderFields, cluster_size, ClearsImageCovers, is_between, CoversStay}
 use Rattle.qcow2_metadata.specs.declared.l2_mapping.L2Mapping.TheVariants as M
 use Rattle.qcow2_image.specs.declared.discarding.ClearMode.TheVariants.{Uncovered}
 

@@ -1,5 +1,6 @@
 -- A growth: a longer L1 table, which guests don't see, then zeros past the end as the mode asks, and then the size.
-use Rattle.qcow2_image.proofs.Common.{◌≡◌, ◌⊎◌, inl, inr, ℕ, ◌-◌, ◌<◌, Bool, true, false, List, [], ◌∷◌, refl, sym, ap, ◌∙◌, subst, arith, IfErr, IsTrue, Option, Result, Ok, Err, cond-false, lt-leb, BackingView, StorageView, EachMomentSince, IsLeftBy, PreallocateMode, passes_if, passes_on, byte_at, HeaderFields, entry_count, cluster_size, header, with_size, Guest, Setting, guest_of, IsRefusalByFault, IsSame, MayGrow, RefusedEffect, EffectOnSound, given_by_grow, with_disk, Disk, GivenBytes, works_less, works_then, stops_as, size_stays_in_calls, ImageError, state_in, view_in, RefusedCall, InternalCall, refusal_of, setting_of, file_sizes, Qcow2, Prepared, l1_index_of, ReachesSize, is_failed, number_of, size_of, has_noted_change, ImageInvariant, abstract_of, disk_of, pending_in, FillsGrown, RefusedGrown, filled_to, all_given_by_growing, GrowsTo, RefusesUnchanged, SetsSize, WritesSize, WritesSizeLast, all_given_by_grow}
+use Rattle.std.proofs.Common.{◌≡◌, ◌⊎◌, ◌-◌, ◌<◌, ◌∷◌, inl, inr, ℕ, Bool, true, false, List, [], refl, sym, ap, ◌∙◌, subst, arith, IfErr, IsTrue, Option, Result, Ok, Err}
+use Rattle.qcow2_image.proofs.Common.{cond-false, lt-leb, BackingView, StorageView, EachMomentSince, IsLeftBy, PreallocateMode, passes_if, passes_on, byte_at, HeaderFields, entry_count, cluster_size, header, with_size, Guest, Setting, guest_of, IsRefusalByFault, IsSame, MayGrow, RefusedEffect, EffectOnSound, given_by_grow, with_disk, Disk, GivenBytes, works_less, works_then, stops_as, size_stays_in_calls, ImageError, state_in, view_in, RefusedCall, InternalCall, refusal_of, setting_of, file_sizes, Qcow2, Prepared, l1_index_of, ReachesSize, is_failed, number_of, size_of, has_noted_change, ImageInvariant, abstract_of, disk_of, pending_in, FillsGrown, RefusedGrown, filled_to, all_given_by_growing, GrowsTo, RefusesUnchanged, SetsSize, WritesSize, WritesSizeLast, all_given_by_grow}
 use Rattle.qcow2_alloc.specs.declared.error.ImageError.TheVariants as I
 use Rattle.qcow2_alloc.specs.ImageError.{IsFault as IsFaultOfTables}
 use Rattle.qcow2_image.proofs.Call.Marked.{MayMark, MayMarkBy}

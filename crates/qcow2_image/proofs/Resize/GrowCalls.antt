@@ -1,5 +1,6 @@
 -- A growth as a call: it is refused, or has nothing to do, before any work.
-use Rattle.qcow2_image.proofs.Common.{◌≡◌, inl, inr, ◌≤◌, ℕ, true, false, [], ◌∷◌, refl, sym, ap, ◌∙◌, arith, Some, Result, Ok, Err, not, cond-true, le-leb, BackingView, StorageView, PreallocateMode, passes_none, guest_of, shows_old, storage, with_disk, grown, works_less, ImageError, view_in, refusal_of, setting_of, Qcow2, is_external, is_failed, is_writable, size_of, abstract_of, disk_of, GrowsLast, GrowsTo, all_given_by_grow, refuses_to_resize}
+use Rattle.std.proofs.Common.{◌≡◌, ◌≤◌, ◌∷◌, inl, inr, ℕ, true, false, [], refl, sym, ap, ◌∙◌, arith, Some, Result, Ok, Err}
+use Rattle.qcow2_image.proofs.Common.{not, cond-true, le-leb, BackingView, StorageView, PreallocateMode, passes_none, guest_of, shows_old, storage, with_disk, grown, works_less, ImageError, view_in, refusal_of, setting_of, Qcow2, is_external, is_failed, is_writable, size_of, abstract_of, disk_of, GrowsLast, GrowsTo, all_given_by_grow, refuses_to_resize}
 use Rattle.qcow2_alloc.specs.declared.error.ImageError.TheVariants as I
 use Rattle.qcow2_image.proofs.Call.Called.{refuses_early, works_none}
 use Rattle.qcow2_image.proofs.Grow.GrownByParts.{call_none}

@@ -1,5 +1,6 @@
 -- The tables after a growth: the L1 table covers the last byte, and a pinned L2 table refuses the growth only past the old end.
-use Rattle.qcow2_image.proofs.Common.{◌≡◌, ℕ, ◌+◌, ◌*◌, ◌-◌, ◌/◌, ◌%◌, ◌<◌, ◌≤◌, Bool, true, false, List, Option, refl, sym, ap, ◌∙◌, subst, arith, inl, inr, IfErr, OnOk, Result, Ok, Err, None, Some, cases_lt, div-add-mod', mod_below, pow_pos, BackingView, StorageView, PreallocateMode, Bytes, cover, copied_host, zero_cover, HeaderFields, L2Mapping, Uncovered, HeaderView, cluster_size, rounded_up, with_fields, with_size, with_tables_of, shows_old, GrownCovers, first_zeros, is_copied_data, guests, places_of, with_places, past_guests, Sizes, ImageError, known_in, file_sizes, InternalCall, Qcow2, Prepared, ReachesSize, SameFormat, HasNothingToFree, is_failed, number_of, size_of, ImageInvariant, disk_of, pending_in, ReachesOffset, CoversStay, MovesTables, FillsGrown, GrownFree, IsUnderMappingIn, RefusedGrown, GrowsTables, LacksZeros, RefusesUnchanged, WritesSize, boundary_in}
+use Rattle.std.proofs.Common.{◌≡◌, ◌+◌, ◌*◌, ◌-◌, ◌/◌, ◌%◌, ◌<◌, ◌≤◌, ℕ, Bool, true, false, List, Option, refl, sym, ap, ◌∙◌, subst, arith, inl, inr, IfErr, Result, Ok, Err, None, Some}
+use Rattle.qcow2_image.proofs.Common.{OnOk, cases_lt, div-add-mod', mod_below, pow_pos, BackingView, StorageView, PreallocateMode, Bytes, cover, copied_host, zero_cover, HeaderFields, L2Mapping, Uncovered, HeaderView, cluster_size, rounded_up, with_fields, with_size, with_tables_of, shows_old, GrownCovers, first_zeros, is_copied_data, guests, places_of, with_places, past_guests, Sizes, ImageError, known_in, file_sizes, InternalCall, Qcow2, Prepared, ReachesSize, SameFormat, HasNothingToFree, is_failed, number_of, size_of, ImageInvariant, disk_of, pending_in, ReachesOffset, CoversStay, MovesTables, FillsGrown, GrownFree, IsUnderMappingIn, RefusedGrown, GrowsTables, LacksZeros, RefusesUnchanged, WritesSize, boundary_in}
 use Rattle.image_access.specs.declared.storage.PreallocateMode.TheVariants as Mode
 use Rattle.qcow2_disk.specs.GrownCovers.{FilledCovers}
 use Rattle.qcow2_alloc.specs.declared.error.ImageError.TheVariants as I

@@ -1,5 +1,6 @@
 -- Guests don't see which changes are recorded: a call does the same to the image with other marks.
-use Rattle.qcow2_image.proofs.Common.{◌≡◌, Bool, Option, Some, None, List, ℕ, inl, inr, refl, sym, subst, IfSome, Result, Ok, Err, BackingView, StorageView, PreallocateMode, AbstractImage, CallEffect, AnsweredEffect, Refusal, RefusedEffect, EffectOnSound, GivenBytes, Allocator, ImageError, IsAllocatorOf, is_changed_of, file_invariant_of, Qcow2, Prepared, CountsImageFaults, SameFaults, is_failed, with_marks, ImageInvariant, abstract_of, pending_in, GrowsTables, GrowsTo, RefusesUnchanged, Shrinks}
+use Rattle.std.proofs.Common.{◌≡◌, Bool, Option, Some, None, List, ℕ, inl, inr, refl, sym, subst, Result, Ok, Err}
+use Rattle.qcow2_image.proofs.Common.{IfSome, BackingView, StorageView, PreallocateMode, AbstractImage, CallEffect, AnsweredEffect, Refusal, RefusedEffect, EffectOnSound, GivenBytes, Allocator, ImageError, IsAllocatorOf, is_changed_of, file_invariant_of, Qcow2, Prepared, CountsImageFaults, SameFaults, is_failed, with_marks, ImageInvariant, abstract_of, pending_in, GrowsTables, GrowsTo, RefusesUnchanged, Shrinks}
 use Rattle.qcow2_image.proofs.Call.FaultCounts.{counted_since, counted_still}
 
 module _ {S F : Type 0} (view : S → StorageView) (backing : F → BackingView) where

@@ -1,5 +1,6 @@
 -- What a refused growth leaves waiting to be freed.
-use Rattle.qcow2_image.proofs.Common.{◌≡◌, [], ◌∙◌, ◌⊎◌, ◌++◌, inl, inr, ap, Bool, Err, StorageView, PreallocateMode, IsFault, IsFaultOrLimit, ImageError, Qcow2, Lasts, LastsPart, ListGrows}
+use Rattle.std.proofs.Common.{◌≡◌, ◌⊎◌, ◌++◌, [], ◌∙◌, inl, inr, ap, Bool, Err}
+use Rattle.qcow2_image.proofs.Common.{StorageView, PreallocateMode, IsFault, IsFaultOrLimit, ImageError, Qcow2, Lasts, LastsPart, ListGrows}
 use Rattle.qcow2_alloc.specs.declared.error.ImageError.TheVariants.{Limit}
 use Rattle.qcow2_image.specs.ListedClusters.{LeavesListed}
 

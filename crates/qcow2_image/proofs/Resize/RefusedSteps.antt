@@ -1,5 +1,6 @@
 -- A refused step of a shrink, after which clusters are freed.
-use Rattle.qcow2_image.proofs.Common.{◌≡◌, ◌⊎◌, ◌<◌, ℕ, arith, inl, inr, Bool, true, false, List, [], refl, sym, ap, ◌∙◌, IsTrue, Option, Err, BackingView, StorageView, cluster_size, rounded_up, AbstractImage, Setting, EffectOnSound, IsRefusalByFault, IsSame, RefusedEffect, works_then, ImageError, InternalCall, refusal_of, Qcow2, Prepared, HasNothingToFree, is_failed, number_of, size_of, ImageInvariant, abstract_of, pending_in, MarksRefused, failed_after, DiscardsNext, boundary_in}
+use Rattle.std.proofs.Common.{◌≡◌, ◌⊎◌, ◌<◌, ℕ, arith, inl, inr, Bool, true, false, List, [], refl, sym, ap, ◌∙◌, IsTrue, Option, Err}
+use Rattle.qcow2_image.proofs.Common.{BackingView, StorageView, cluster_size, rounded_up, AbstractImage, Setting, EffectOnSound, IsRefusalByFault, IsSame, RefusedEffect, works_then, ImageError, InternalCall, refusal_of, Qcow2, Prepared, HasNothingToFree, is_failed, number_of, size_of, ImageInvariant, abstract_of, pending_in, MarksRefused, failed_after, DiscardsNext, boundary_in}
 use Rattle.qcow2_alloc.specs.declared.error.ImageError.TheVariants as I
 use Rattle.qcow2_alloc.specs.ImageError.{IsFault as IsFaultOfTables}
 use Rattle.qcow2_image.proofs.Call.CallOutcomes.{is_fault, outcome}

@@ -1,5 +1,6 @@
 -- A shrink as a call: it is refused, or has nothing to do, before any work.
-use Rattle.qcow2_image.proofs.Common.{◌≡◌, inl, inr, Result, subst, ℕ, ◌<◌, ◌≤◌, Bool, true, false, [], ◌∷◌, refl, sym, ap, ◌∙◌, arith, Some, None, Ok, Err, IfErr, IsTrue, not, option_or, BackingView, StorageView, another, storage, works_less, ImageError, IsFault, refusal_of, Qcow2, is_external, is_failed, is_writable, size_of, abstract_of, disk_of, refuse_if, MayFailShrinking, Shrinks, all_given_by_shrink, all_given_by_shrunk, refuses_to_resize}
+use Rattle.std.proofs.Common.{◌≡◌, ◌<◌, ◌≤◌, ◌∷◌, inl, inr, Result, subst, ℕ, Bool, true, false, [], refl, sym, ap, ◌∙◌, arith, Some, None, Ok, Err, IfErr, IsTrue}
+use Rattle.qcow2_image.proofs.Common.{not, option_or, BackingView, StorageView, another, storage, works_less, ImageError, IsFault, refusal_of, Qcow2, is_external, is_failed, is_writable, size_of, abstract_of, disk_of, refuse_if, MayFailShrinking, Shrinks, all_given_by_shrink, all_given_by_shrunk, refuses_to_resize}
 use Rattle.qcow2_alloc.specs.declared.error.ImageError.TheVariants as I
 use Rattle.qcow2_alloc.specs.ImageFile.{l2_pins}
 use Rattle.qcow2_image.proofs.Images.Backings.{some_prepared}

@@ -1,5 +1,6 @@
 -- One step unmaps whole clusters up to the end of an L2 table, or is refused.
-use Rattle.qcow2_image.proofs.Common.{◌≡◌, ◌⊎◌, inl, inr, refl, Bool, true, false, None, ℕ, ◌+◌, ◌-◌, ◌^◌, ◌<◌, ◌≤◌, List, [], sym, ap, ◌∙◌, subst, arith, min, ◌||◌, ◌&&◌, ◌==◌, IfSome, Option, Some, Result, Ok, Err, nat_le, nat_lt, not, option_or, cases_lt, le-ltb, leb-true, pow_pos, BackingView, StorageView, Value, HeaderFields, cluster_size, entries_per_cluster, rounded_up, AbstractImage, Setting, guest_of, Refusal, RefusedEffect, EffectOnSound, with_disk, Disk, answered, touched_from, touched_to, GivenBytes, IsGiven, works_less, TouchesLess, Sizes-from, ImageError, contents_in, known_in, HasPinnedMapping, refusal_of, Clears, ClearsImageCovers, RefusesClearing, RefusesUngiven, rounds_past, setting_of, Qcow2, Prepared, HasNothingToFree, is_external, is_failed, is_writable, size_of, ImageInvariant, abstract_of, disk_of, pending_in, LacksTable, passes, refuse_if, IsFaultOrCantDiscard, IsTurnEnd, DiscardsNext, DiscardsPart, boundary_in, refuses_to_resize}
+use Rattle.std.proofs.Common.{◌≡◌, ◌⊎◌, ◌+◌, ◌-◌, ◌^◌, ◌<◌, ◌≤◌, ◌||◌, ◌&&◌, ◌==◌, inl, inr, refl, Bool, true, false, None, ℕ, List, [], sym, ap, ◌∙◌, subst, arith, min, Option, Some, Result, Ok, Err, nat_le, nat_lt}
+use Rattle.qcow2_image.proofs.Common.{IfSome, not, option_or, cases_lt, le-ltb, leb-true, pow_pos, BackingView, StorageView, Value, HeaderFields, cluster_size, entries_per_cluster, rounded_up, AbstractImage, Setting, guest_of, Refusal, RefusedEffect, EffectOnSound, with_disk, Disk, answered, touched_from, touched_to, GivenBytes, IsGiven, works_less, TouchesLess, Sizes-from, ImageError, contents_in, known_in, HasPinnedMapping, refusal_of, Clears, ClearsImageCovers, RefusesClearing, RefusesUngiven, rounds_past, setting_of, Qcow2, Prepared, HasNothingToFree, is_external, is_failed, is_writable, size_of, ImageInvariant, abstract_of, disk_of, pending_in, LacksTable, passes, refuse_if, IsFaultOrCantDiscard, IsTurnEnd, DiscardsNext, DiscardsPart, boundary_in, refuses_to_resize}
 use Rattle.qcow2_alloc.specs.declared.error.ImageError.TheVariants as I
 use Rattle.qcow2_image.specs.declared.discarding.ClearMode.TheVariants.{Uncovered}
 use Rattle.qcow2_image.proofs.Images.Sizes.{disk_size}

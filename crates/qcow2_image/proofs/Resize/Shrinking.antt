@@ -1,5 +1,6 @@
 -- A shrink: steps one after another, and then the size.
-use Rattle.qcow2_image.proofs.Common.{◌≡◌, ◌⊎◌, inl, inr, ℕ, ◌-◌, ◌^◌, ◌<◌, ◌≤◌, Bool, true, false, List, [], ◌∷◌, refl, sym, ap, ◌∙◌, subst, arith, cond, ◌==◌, IfSome, IsTrue, Option, Some, None, Ok, Err, nat_lt, not, option_or, cases_lt, cond-true, cond-false, eq-eqb, ne_eqb, lt-ltb, pow_pos, BackingView, IsLeftBy, StorageView, EachMomentSince, passes_if, passes_on, byte_at, Value, known_byte, HeaderView, header, cluster_size, rounded_up, with_fields, with_size, AbstractImage, Guest, Setting, guest_of, IsRefusalByFault, IsSame, IsShrinkEnd, IsShrunk, EffectOnSound, with_disk, Disk, shrunk, GivenBytes, IsGiven, works_less, works_then, stops_as, size_stays_in_calls, ImageError, state_in, view_in, HasPinnedMapping, InternalCall, refusal_of, setting_of, Qcow2, Prepared, l1_index_of, IsSameImage, is_external, is_failed, is_writable, number_of, size_of, ImageInvariant, abstract_of, disk_of, pending_in, MayName, refuse_if, CantDiscard, IsFaultOrCantDiscard, IsTurnEnd, SetsSize, ShowsBelow, Shrinks, DiscardsNext, DiscardsPart, DiscardsTail, WritesSize, WritesSizeLast, boundary_in, all_given_by_shrink, all_given_by_shrunk, refuses_to_resize}
+use Rattle.std.proofs.Common.{◌≡◌, ◌⊎◌, ◌-◌, ◌^◌, ◌<◌, ◌≤◌, ◌∷◌, ◌==◌, inl, inr, ℕ, Bool, true, false, List, [], refl, sym, ap, ◌∙◌, subst, arith, cond, IsTrue, Option, Some, None, Ok, Err, nat_lt}
+use Rattle.qcow2_image.proofs.Common.{IfSome, not, option_or, cases_lt, cond-true, cond-false, eq-eqb, ne_eqb, lt-ltb, pow_pos, BackingView, IsLeftBy, StorageView, EachMomentSince, passes_if, passes_on, byte_at, Value, known_byte, HeaderView, header, cluster_size, rounded_up, with_fields, with_size, AbstractImage, Guest, Setting, guest_of, IsRefusalByFault, IsSame, IsShrinkEnd, IsShrunk, EffectOnSound, with_disk, Disk, shrunk, GivenBytes, IsGiven, works_less, works_then, stops_as, size_stays_in_calls, ImageError, state_in, view_in, HasPinnedMapping, InternalCall, refusal_of, setting_of, Qcow2, Prepared, l1_index_of, IsSameImage, is_external, is_failed, is_writable, number_of, size_of, ImageInvariant, abstract_of, disk_of, pending_in, MayName, refuse_if, CantDiscard, IsFaultOrCantDiscard, IsTurnEnd, SetsSize, ShowsBelow, Shrinks, DiscardsNext, DiscardsPart, DiscardsTail, WritesSize, WritesSizeLast, boundary_in, all_given_by_shrink, all_given_by_shrunk, refuses_to_resize}
 use Rattle.qcow2_alloc.specs.declared.error.ImageError.TheVariants as I
 use Rattle.qcow2_alloc.specs.ImageError.{IsFault as IsFaultOfTables}
 use Rattle.qcow2_image.proofs.Call.Marked.{MayMark}

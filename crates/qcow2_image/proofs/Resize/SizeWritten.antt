@@ -1,5 +1,6 @@
 -- The size of the disk is written: the image is as sound as before, whatever mappings are prepared, and shows the same bytes.
-use Rattle.qcow2_image.proofs.Common.{◌≡◌, inl, inr, ℕ, ◌+◌, ◌/◌, ◌^◌, ◌<◌, ◌≢◌, Bool, true, false, List, [], ◌∷◌, Option, Some, None, Result, Ok, Err, refl, sym, ap, ◌∙◌, subst, arith, IfSome, IsTrue, slice_get, cond-true, cond-false, fun_ext, BackingView, StorageView, Calls, Changes, EachMomentSince, IsLeftBy, StorageError, Bytes, byte_at, cover, cover_under, HeaderFields, l1_entry, count, count_under, reftable_entry, guest_value, known_byte, cluster_size, with_fields, with_size, size_written, guest_of, meaning_at, with_disk, disk, disk_with, SafeThroughout, Pending, SafeStep, WritesHeader, resized_places, SameUsedBytes, used_by_guests, own_data_of, header_elsewhere, header_fixed, header_l1, header_known_l1, header_known_covers, header_known_counts, tied, step_safe_throughout, header_is_written, known_header, named_some, table_bytes, Allocator, ImageStorage, of_storage, nothing_given, view_in, contents_in, known_in, state_in, storage_of, known_of, order_of, IsAllocatorOf, allocator_kept, InternalCall, Qcow2, Prepared, ClusterMapping, InPlace, Kept, New, LastsKnown, ImageInvariant, IsReadyWith, IsClusterMappingAt, abstract_of, backing_bytes, cluster_of, disk_of, is_private, meaning, pending_in, place_of, CoversStay, MayStand, SetsSize, WritesSize, HoldsAll, stops_of, file_invariant_of}
+use Rattle.std.proofs.Common.{◌≡◌, ◌+◌, ◌/◌, ◌^◌, ◌<◌, ◌≢◌, ◌∷◌, inl, inr, ℕ, Bool, true, false, List, [], Option, Some, None, Result, Ok, Err, refl, sym, ap, ◌∙◌, subst, arith, IsTrue}
+use Rattle.qcow2_image.proofs.Common.{IfSome, slice_get, cond-true, cond-false, fun_ext, BackingView, StorageView, Calls, Changes, EachMomentSince, IsLeftBy, StorageError, Bytes, byte_at, cover, cover_under, HeaderFields, l1_entry, count, count_under, reftable_entry, guest_value, known_byte, cluster_size, with_fields, with_size, size_written, guest_of, meaning_at, with_disk, disk, disk_with, SafeThroughout, Pending, SafeStep, WritesHeader, resized_places, SameUsedBytes, used_by_guests, own_data_of, header_elsewhere, header_fixed, header_l1, header_known_l1, header_known_covers, header_known_counts, tied, step_safe_throughout, header_is_written, known_header, named_some, table_bytes, Allocator, ImageStorage, of_storage, nothing_given, view_in, contents_in, known_in, state_in, storage_of, known_of, order_of, IsAllocatorOf, allocator_kept, InternalCall, Qcow2, Prepared, ClusterMapping, InPlace, Kept, New, LastsKnown, ImageInvariant, IsReadyWith, IsClusterMappingAt, abstract_of, backing_bytes, cluster_of, disk_of, is_private, meaning, pending_in, place_of, CoversStay, MayStand, SetsSize, WritesSize, HoldsAll, stops_of, file_invariant_of}
 use Rattle.image_access.specs.declared.error.StorageError.TheVariants as SE
 use Rattle.qcow2_laws.proofs.Values.{guest_value-same, size_is, value_is}
 use Rattle.qcow2_alloc.specs.declared.error.ImageError.TheVariants as I

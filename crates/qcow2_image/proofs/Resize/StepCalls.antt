@@ -1,5 +1,6 @@
 -- A step of a shrink is a call that clears a range, whatever the image contains.
-use Rattle.qcow2_image.proofs.Common.{◌≡◌, ℕ, Some, None, Result, Ok, Err, IsErr, IsErrAnd, BackingView, StorageView, handed_on, ImageError, ClearsStep, TurnStep, Qcow2}
+use Rattle.std.proofs.Common.{◌≡◌, ℕ, Some, None, Result, Ok, Err, IsErr, IsErrAnd}
+use Rattle.qcow2_image.proofs.Common.{BackingView, StorageView, handed_on, ImageError, ClearsStep, TurnStep, Qcow2}
 use Rattle.qcow2_image.proofs.Call.FaultCounts.{counted_of, counted_ok}
 
 -- a refusal is there, or none

@@ -1,5 +1,6 @@
 -- The tail of a disk is unmapped step by step: where the steps end, and one part after another.
-use Rattle.qcow2_image.proofs.Common.{◌≡◌, ◌⊎◌, inl, inr, ℕ, ◌+◌, ◌-◌, ◌*◌, ◌/◌, ◌%◌, ◌^◌, ◌<◌, ◌≤◌, List, [], ◌∷◌, refl, sym, ap, ◌∙◌, subst, arith, cond, min, ◌==◌, Option, nat_lt, if◌then◌else◌, cases_lt, cond-true, cond-false, eq-eqb, lt-ltb, le-ltb, div-add-mod', mod-mul-add, mod_below, fun_ext, BackingView, StorageView, Bytes, Value, known_byte, HeaderFields, cluster_size, entries_per_cluster, rounded_up, rounded_down, AbstractImage, Guest, Setting, guest_of, IsShrinkEnd, EffectOnSound, with_disk, Disk, with_values, answered, touched_to, Checkpoint, GivenBytes, IsGiven, StopOkEverywhere, checkpoint_with, works_less, works_then, stops_less, laid_inside, laid_outside, div_mono, known_in, InternalCall, Qcow2, Prepared, ClearsImageCovers, setting_of, ImageInvariant, abstract_of, disk_of, pending_in, IsTurnEnd, DiscardsPart, boundary_in}
+use Rattle.std.proofs.Common.{◌≡◌, ◌⊎◌, ◌+◌, ◌-◌, ◌*◌, ◌/◌, ◌%◌, ◌^◌, ◌<◌, ◌≤◌, ◌∷◌, ◌==◌, if◌then◌else◌, inl, inr, ℕ, List, [], refl, sym, ap, ◌∙◌, subst, arith, cond, min, Option, nat_lt}
+use Rattle.qcow2_image.proofs.Common.{cases_lt, cond-true, cond-false, eq-eqb, lt-ltb, le-ltb, div-add-mod', mod-mul-add, mod_below, fun_ext, BackingView, StorageView, Bytes, Value, known_byte, HeaderFields, cluster_size, entries_per_cluster, rounded_up, rounded_down, AbstractImage, Guest, Setting, guest_of, IsShrinkEnd, EffectOnSound, with_disk, Disk, with_values, answered, touched_to, Checkpoint, GivenBytes, IsGiven, StopOkEverywhere, checkpoint_with, works_less, works_then, stops_less, laid_inside, laid_outside, div_mono, known_in, InternalCall, Qcow2, Prepared, ClearsImageCovers, setting_of, ImageInvariant, abstract_of, disk_of, pending_in, IsTurnEnd, DiscardsPart, boundary_in}
 use Rattle.qcow2_disk.proofs.Stops.{asked_more}
 use Rattle.qcow2_image.specs.declared.discarding.ClearMode.TheVariants.{Uncovered}
 use Rattle.qcow2_image.proofs.Clear.ClearCalls.{covers_after}

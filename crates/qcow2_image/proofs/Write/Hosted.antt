@@ -1,5 +1,6 @@
 -- Where the bytes of a prepared mapping lie: each has an offset of its own in the file, outside of cluster 0.
-use Rattle.qcow2_image.proofs.Common.{◌≡◌, inl, inr, ℕ, ◌+◌, ◌/◌, ◌%◌, ◌<◌, ◌≤◌, true, List, refl, sym, ap, ◌∙◌, subst, arith, Option, Some, None, slice_get, get_or, div-eq_of_lt, cases_lt, pow_pos, slice_get-get_or, BackingView, StorageView, Bytes, HeaderFields, cluster_size, cover, in_cluster, named_for_tables, AreDataAt, Pending, Hosting, IsHostedAt, IsHeld, DriverState, in_own, beside_tables, shares, ClustersToFreeEntry, state_in, contents_in, known_in, Qcow2, Prepared, ClusterMapping, InPlace, Kept, New, to_free, of_data, new_data_by, pending_in, cluster_of, mapping_of_cluster, host_begin_of, IsNewAt, IsClusterMappingAt, IsPending, IsReadyWith, ImageInvariant}
+use Rattle.std.proofs.Common.{◌≡◌, ◌+◌, ◌/◌, ◌%◌, ◌<◌, ◌≤◌, inl, inr, ℕ, true, List, refl, sym, ap, ◌∙◌, subst, arith, Option, Some, None, get_or}
+use Rattle.qcow2_image.proofs.Common.{slice_get, div-eq_of_lt, cases_lt, pow_pos, slice_get-get_or, BackingView, StorageView, Bytes, HeaderFields, cluster_size, cover, in_cluster, named_for_tables, AreDataAt, Pending, Hosting, IsHostedAt, IsHeld, DriverState, in_own, beside_tables, shares, ClustersToFreeEntry, state_in, contents_in, known_in, Qcow2, Prepared, ClusterMapping, InPlace, Kept, New, to_free, of_data, new_data_by, pending_in, cluster_of, mapping_of_cluster, host_begin_of, IsNewAt, IsClusterMappingAt, IsPending, IsReadyWith, ImageInvariant}
 use Rattle.qcow2_laws.specs.GuestLaws.{InPlace as HostedInPlace, Kept as HostedKept, Held as HostedHeld}
 use Rattle.qcow2_image.proofs.Images.ClusterMappings.{byte_cluster, byte_place, byte_of_mapping, new_data_at, new_data_once, host_cluster, no_cluster_mapping, over_all_at, mapping_here}
 

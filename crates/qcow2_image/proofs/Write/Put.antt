@@ -1,5 +1,6 @@
 -- Bytes are put into a prepared mapping by one write, over bytes in place and private ones.
-use Rattle.qcow2_image.proofs.Common.{◌≡◌, ◌≢◌, inl, inr, ℕ, ◌+◌, ◌-◌, ◌*◌, ◌/◌, ◌%◌, ◌<◌, ◌≤◌, Bool, true, false, List, length, [], ◌∷◌, refl, sym, ap, ◌∙◌, subst, arith, cond, eqb, Option, Some, None, IsTrue, slice_get, if◌then◌else◌, option_map_or, cases_lt, cases_eq, cond-true, cond-false, eq-eqb, ne_eqb, div-add-mod', mod_below, pow_pos, slice_get_within, fun_ext, BackingView, overwritten, StorageView, EachMomentSince, IsLeftBy, byte_at, is_within, laid_over, HeaderFields, cluster_size, cover, known_byte, in_cluster, named_by_cover, named_for_tables, Data, Zero, AreDataAt, EffectOnSound, Disk, disk, with_bytes, Pending, names, Hosting, IsHostedAt, IsHeld, IsGivenAt, WritesRun, PreparedMapping, given_by_put, put_mapping, put_disk, guest_of, meaning_at, DriverState, GivenBytes, IsGiven, in_own, laid_inside, laid_outside, kept_aligned, kept_unlaid, in_one, run_written, ImageStorage, storage_of, state_in, view_in, contents_in, known_in, Qcow2, Prepared, ClusterMapping, InPlace, Kept, New, put_guest, new_data_by, pending_in, abstract_of, meaning, is_entered, is_new, is_private, cluster_of, place_of, mapping_of_cluster, backing_bytes, IsReadyWith, ImageInvariant}
+use Rattle.std.proofs.Common.{◌≡◌, ◌≢◌, ◌+◌, ◌-◌, ◌*◌, ◌/◌, ◌%◌, ◌<◌, ◌≤◌, ◌∷◌, if◌then◌else◌, inl, inr, ℕ, Bool, true, false, List, length, [], refl, sym, ap, ◌∙◌, subst, arith, cond, eqb, Option, Some, None, IsTrue}
+use Rattle.qcow2_image.proofs.Common.{slice_get, option_map_or, cases_lt, cases_eq, cond-true, cond-false, eq-eqb, ne_eqb, div-add-mod', mod_below, pow_pos, slice_get_within, fun_ext, BackingView, overwritten, StorageView, EachMomentSince, IsLeftBy, byte_at, is_within, laid_over, HeaderFields, cluster_size, cover, known_byte, in_cluster, named_by_cover, named_for_tables, Data, Zero, AreDataAt, EffectOnSound, Disk, disk, with_bytes, Pending, names, Hosting, IsHostedAt, IsHeld, IsGivenAt, WritesRun, PreparedMapping, given_by_put, put_mapping, put_disk, guest_of, meaning_at, DriverState, GivenBytes, IsGiven, in_own, laid_inside, laid_outside, kept_aligned, kept_unlaid, in_one, run_written, ImageStorage, storage_of, state_in, view_in, contents_in, known_in, Qcow2, Prepared, ClusterMapping, InPlace, Kept, New, put_guest, new_data_by, pending_in, abstract_of, meaning, is_entered, is_new, is_private, cluster_of, place_of, mapping_of_cluster, backing_bytes, IsReadyWith, ImageInvariant}
 use Rattle.qcow2_laws.specs.GuestLaws.{is_private_hosting as is_hosted_privately}
 use Rattle.qcow2_image.proofs.Images.Inside.{names_inside}
 use Rattle.qcow2_image.proofs.Images.Apart.{apart_guests}

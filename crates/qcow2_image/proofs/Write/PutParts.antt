@@ -1,5 +1,6 @@
 -- What a write into a prepared mapping does, from its parts.
-use Rattle.qcow2_image.proofs.Common.{◌≡◌, ⊎_elim, inl, inr, ℕ, ◌+◌, ◌/◌, ◌%◌, ◌≤◌, Bool, true, false, List, length, [], ◌∷◌, refl, sym, ap, ◌∙◌, subst, arith, is_some, cond, Option, Some, None, Result, Ok, Err, slice_get, BackingView, overwritten, StorageView, EachMomentSince, IsLeftBy, Bytes, byte_at, laid_over, HeaderFields, cluster_size, cover, L2Mapping, Data, Zero, Compressed, Uncovered, AreDataAt, EffectOnSound, AnsweredEffect, storage, given_by_put, PreparedMapping, put_mapping, put_disk, GivenBytes, Guest, guest_of, meaning_at, run_data, works_less, works_then, ImageError, ImageStorage, storage_of, view_in, known_in, Qcow2, Image, Prepared, raw, kind_at, IsMappedAs, put_guest, IsPut, IsWriteOutcome, PutsPart, ImageInvariant, pending_in, abstract_of, meaning, Puts, all_given_by_put, refusal_of, number_of, is_failed, cases_lt, cases_eq, cond-true, cond-false, eq-eqb, ne_eqb, known_byte, with_bytes, laid_outside, fun_ext}
+use Rattle.std.proofs.Common.{◌≡◌, ◌+◌, ◌/◌, ◌%◌, ◌≤◌, ◌∷◌, ⊎_elim, inl, inr, ℕ, Bool, true, false, List, length, [], refl, sym, ap, ◌∙◌, subst, arith, is_some, cond, Option, Some, None, Result, Ok, Err}
+use Rattle.qcow2_image.proofs.Common.{slice_get, BackingView, overwritten, StorageView, EachMomentSince, IsLeftBy, Bytes, byte_at, laid_over, HeaderFields, cluster_size, cover, L2Mapping, Data, Zero, Compressed, Uncovered, AreDataAt, EffectOnSound, AnsweredEffect, storage, given_by_put, PreparedMapping, put_mapping, put_disk, GivenBytes, Guest, guest_of, meaning_at, run_data, works_less, works_then, ImageError, ImageStorage, storage_of, view_in, known_in, Qcow2, Image, Prepared, raw, kind_at, IsMappedAs, put_guest, IsPut, IsWriteOutcome, PutsPart, ImageInvariant, pending_in, abstract_of, meaning, Puts, all_given_by_put, refusal_of, number_of, is_failed, cases_lt, cases_eq, cond-true, cond-false, eq-eqb, ne_eqb, known_byte, with_bytes, laid_outside, fun_ext}
 use Rattle.qcow2_alloc.specs.declared.error.ImageError.TheVariants as I
 use Rattle.qcow2_image.specs.declared.mapping.MappingKind.TheVariants as Kind
 use Rattle.qcow2_image.proofs.Call.Called.{Quietly, quiet_works, quiet_sound, quiet_same, works_none}

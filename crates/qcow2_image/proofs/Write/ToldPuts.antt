@@ -1,5 +1,6 @@
 -- The single write of a put, and what the put leaves before it.
-use Rattle.qcow2_image.proofs.Common.{◌≡◌, ℕ, ◌+◌, Bool, List, [], Option, IsSome, Result, Ok, Err, inl, refl, sym, ap, ◌∙◌, subst, BackingView, overwritten, StorageView, passes_none, ImageError, view_in, changes_of, Qcow2, Prepared, IsWriteOutcome, InternalCall, IsBegun, storage_of_image, ImageInvariant, abstract_of, pending_in, PutsOnce, offset_of, table_of, InternalFillingStep, InternalStep, Pending}
+use Rattle.std.proofs.Common.{◌≡◌, ◌+◌, ℕ, Bool, List, [], Option, IsSome, Result, Ok, Err, inl, refl, sym, ap, ◌∙◌, subst}
+use Rattle.qcow2_image.proofs.Common.{BackingView, overwritten, StorageView, passes_none, ImageError, view_in, changes_of, Qcow2, Prepared, IsWriteOutcome, InternalCall, IsBegun, storage_of_image, ImageInvariant, abstract_of, pending_in, PutsOnce, offset_of, table_of, InternalFillingStep, InternalStep, Pending}
 use Rattle.qcow2_alloc.specs.declared.error.ImageError.TheVariants as I
 use Rattle.qcow2_image.proofs.Call.Called.{Quietly, listed}
 use Rattle.qcow2_image.proofs.Call.Refused.{image_step_stays, stays_kept, stays_then}

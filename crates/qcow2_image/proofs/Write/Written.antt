@@ -1,5 +1,6 @@
 -- Bytes are written where no table lies: in place over data, or to the private cluster of a prepared mapping.
-use Rattle.qcow2_image.proofs.Common.{◌≡◌, ◌⊎◌, inl, inr, ℕ, ◌+◌, ◌-◌, ◌/◌, ◌<◌, List, length, [], refl, sym, ap, ◌∙◌, subst, arith, Option, IfSome, cases_lt, BackingView, overwritten, StorageView, EachMomentSince, IsLeftBy, byte_at-overwritten, Bytes, byte_at, HeaderFields, cluster_size, named_for_tables, Pending, SameIn, SameCovers, SafeStep, SafeThroughout, GivenBytes, l1_entry, IsSameBut, WritesAt, overwritten_but, unnamed_free_l2, unnamed_free_rb, data_safe_throughout, Allocator, ImageStorage, storage_of, order_of, l2_tables, refblocks, state_in, view_in, contents_in, known_in, IsAllocatorOf, allocator_kept, file_invariant_of, Qcow2, Prepared, cluster_of, pending_in, ImageInvariant, backing_bytes}
+use Rattle.std.proofs.Common.{◌≡◌, ◌⊎◌, ◌+◌, ◌-◌, ◌/◌, ◌<◌, inl, inr, ℕ, List, length, [], refl, sym, ap, ◌∙◌, subst, arith, Option}
+use Rattle.qcow2_image.proofs.Common.{IfSome, cases_lt, BackingView, overwritten, StorageView, EachMomentSince, IsLeftBy, byte_at-overwritten, Bytes, byte_at, HeaderFields, cluster_size, named_for_tables, Pending, SameIn, SameCovers, SafeStep, SafeThroughout, GivenBytes, l1_entry, IsSameBut, WritesAt, overwritten_but, unnamed_free_l2, unnamed_free_rb, data_safe_throughout, Allocator, ImageStorage, storage_of, order_of, l2_tables, refblocks, state_in, view_in, contents_in, known_in, IsAllocatorOf, allocator_kept, file_invariant_of, Qcow2, Prepared, cluster_of, pending_in, ImageInvariant, backing_bytes}
 use Rattle.qcow2_laws.proofs.KeptSteps.{known_beside, still_agree}
 use Rattle.qcow2_alloc.proofs.KeptTables.Beside.{top_beside, named_blocks_beside_write, sound_beside}
 use Rattle.qcow2_alloc.proofs.CountsStay.{counts_follow, fixed_more}

@@ -1,4 +1,5 @@
-use Rattle.nbd_protocol.proofs.Common.{◌≡◌, ◌+◌, ◌∙◌, ap, inl, length, ℕ, List, sym, subst, Command, Does, MayDo, end_of, Acts, Fails, MayWrite, RefusesToChange, Writes}
+use Rattle.std.proofs.Common.{◌≡◌, ◌+◌, ◌∙◌, ap, inl, length, ℕ, List, sym, subst}
+use Rattle.nbd_protocol.proofs.Common.{Command, Does, MayDo, end_of, Acts, Fails, MayWrite, RefusesToChange, Writes}
 use Rattle.nbd_protocol.proofs.Does.{may_do_nothing}
 use Rattle.nbd_protocol.proofs.Refusals.{change_of_call}
 use Rattle.nbd_protocol.proofs.Ranges.{stays_start}

@@ -1,4 +1,4 @@
-use Rattle.nbd_protocol.proofs.Common.{◌∙◌, ◌<◌, ap, inl, inr, length, length-append, sym, rules, arith, Err}
+use Rattle.std.proofs.Common.{◌<◌, ◌∙◌, ap, inl, inr, length, length-append, sym, rules, arith, Err}
 use Rattle.nbd_protocol.specs.declared.device.Errno.TheVariants as E
 use Rattle.nbd_protocol.proofs.Acts.{acts_refused}
 use Rattle.nbd_protocol.proofs.Extents.{pushed_runs, pushed_total}

@@ -1,4 +1,5 @@
-use Rattle.nbd_protocol.proofs.Common.{◌≡◌, ◌≤◌, [], length, IsTrue, AreExtents, total, IsSameDevice, Stays}
+use Rattle.std.proofs.Common.{◌≡◌, ◌≤◌, [], length}
+use Rattle.nbd_protocol.proofs.Common.{IsTrue, AreExtents, total, IsSameDevice, Stays}
 use Rattle.nbd_protocol.proofs.commands.extents.Given as goal
 
 abbrev pub invariant-loop : goal.invariant-loop

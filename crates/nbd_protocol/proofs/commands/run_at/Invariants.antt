@@ -1,4 +1,5 @@
-use Rattle.nbd_protocol.proofs.Common.{◌≤◌, IsTrue, IsSameDevice, Stays, Tells}
+use Rattle.std.proofs.Common.{◌≤◌}
+use Rattle.nbd_protocol.proofs.Common.{IsTrue, IsSameDevice, Stays, Tells}
 use Rattle.nbd_protocol.proofs.commands.run_at.Given as goal
 
 abbrev pub invariant-loop : goal.invariant-loop

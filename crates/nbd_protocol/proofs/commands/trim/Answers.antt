@@ -1,4 +1,4 @@
-use Rattle.nbd_protocol.proofs.Common.{◌+◌, ◌<◌, ◌≤◌, inl, inr, arith}
+use Rattle.std.proofs.Common.{◌+◌, ◌<◌, ◌≤◌, inl, inr, arith}
 use Rattle.nbd_protocol.proofs.Acts.{acts_refused}
 use Rattle.nbd_protocol.proofs.Refusals.{change_fails_later, change_of_call, same_start, same_then}
 use Rattle.nbd_protocol.proofs.Trims.{trims_of_clears, trims_of_stays, trims_start, trims_then, trims_wider}

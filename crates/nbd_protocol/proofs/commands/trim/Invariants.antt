@@ -1,4 +1,5 @@
-use Rattle.nbd_protocol.proofs.Common.{◌≡◌, ◌+◌, ◌≤◌, IsSameDevice, Trims}
+use Rattle.std.proofs.Common.{◌≡◌, ◌+◌, ◌≤◌}
+use Rattle.nbd_protocol.proofs.Common.{IsSameDevice, Trims}
 use Rattle.nbd_protocol.proofs.commands.trim.Given as goal
 
 abbrev pub invariant-loop : goal.invariant-loop

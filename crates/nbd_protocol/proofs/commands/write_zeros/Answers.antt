@@ -1,4 +1,5 @@
-use Rattle.nbd_protocol.proofs.Common.{◌≡◌, ◌+◌, ◌≤◌, inl, inr, length, take, arith, length-take-le}
+use Rattle.std.proofs.Common.{◌≡◌, ◌+◌, ◌≤◌, inl, inr, length, take, arith}
+use Rattle.nbd_protocol.proofs.Common.{length-take-le}
 use Rattle.nbd_protocol.proofs.Acts.{acts_refused}
 use Rattle.nbd_protocol.proofs.Refusals.{change_fails_later, change_of_call, same_start, same_then}
 use Rattle.nbd_protocol.proofs.Ranges.{may_of_front, may_so_far, may_then, zeroes_join, zeroes_of_front, zeroes_start}

@@ -1,4 +1,5 @@
-use Rattle.nbd_protocol.proofs.Common.{◌≡◌, ◌+◌, ◌≤◌, IsSameDevice, Zeroes}
+use Rattle.std.proofs.Common.{◌≡◌, ◌+◌, ◌≤◌}
+use Rattle.nbd_protocol.proofs.Common.{IsSameDevice, Zeroes}
 use Rattle.nbd_protocol.proofs.commands.write_zeros.Given as goal
 
 abbrev pub invariant-loop-rest : goal.invariant-loop-rest

@@ -1,4 +1,5 @@
-use Rattle.nbd_protocol.proofs.Common.{◌≡◌, ◌+◌, ◌-◌, ◌≤◌, ℕ, subst, arith, MayZero, Zeroes}
+use Rattle.std.proofs.Common.{◌≡◌, ◌+◌, ◌-◌, ◌≤◌, ℕ, subst, arith}
+use Rattle.nbd_protocol.proofs.Common.{MayZero, Zeroes}
 use Rattle.nbd_protocol.proofs.Acts.{acts_then}
 use Rattle.nbd_protocol.proofs.Ranges.{may_so_far, may_then, zeroes_join}
 use Rattle.nbd_protocol.proofs.Refusals.{change_fails_last, same_then}

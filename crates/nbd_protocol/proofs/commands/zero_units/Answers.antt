@@ -1,4 +1,4 @@
-use Rattle.nbd_protocol.proofs.Common.{◌∙◌, ◌+◌, ◌<◌, ◌≤◌, inl, inr, arith}
+use Rattle.std.proofs.Common.{◌+◌, ◌<◌, ◌≤◌, ◌∙◌, inl, inr, arith}
 use Rattle.nbd_protocol.proofs.Acts.{acts_refused}
 use Rattle.nbd_protocol.proofs.Ranges.{may_of_stays, may_of_zeroes, may_so_far, may_then, zeroes_start, zeroes_units}
 use Rattle.nbd_protocol.proofs.Refusals.{change_fails_later, same_start, same_then}

@@ -1,4 +1,5 @@
-use Rattle.nbd_protocol.proofs.Common.{◌≡◌, ◌+◌, ◌≤◌, IsSameDevice, Zeroes}
+use Rattle.std.proofs.Common.{◌≡◌, ◌+◌, ◌≤◌}
+use Rattle.nbd_protocol.proofs.Common.{IsSameDevice, Zeroes}
 use Rattle.nbd_protocol.proofs.commands.zero_units.Given as goal
 
 abbrev pub invariant-loop : goal.invariant-loop

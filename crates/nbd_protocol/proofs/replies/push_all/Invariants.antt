@@ -1,4 +1,5 @@
-use Rattle.nbd_protocol.proofs.Common.{◌≡◌, ◌++◌, take, extent_bytes}
+use Rattle.std.proofs.Common.{◌≡◌, ◌++◌, take}
+use Rattle.nbd_protocol.proofs.Common.{extent_bytes}
 use Rattle.std.specs.List.{flat_map}
 use Rattle.nbd_protocol.proofs.replies.push_all.Given as goal
 

@@ -1,4 +1,5 @@
-use Rattle.nbd_protocol.proofs.Common.{◌≤◌, ap, Bool, true, false, List, ℕ, Ok, Err, length, refl, subst, arith, OnOk, if◌then◌else◌, Appends, Extent, lookup_reply, extents_reply}
+use Rattle.std.proofs.Common.{◌≤◌, if◌then◌else◌, ap, Bool, true, false, List, ℕ, Ok, Err, length, refl, subst, arith}
+use Rattle.nbd_protocol.proofs.Common.{OnOk, Appends, Extent, lookup_reply, extents_reply}
 use Rattle.nbd_protocol.proofs.serving.answer_lookup.Goals as goal
 
 few : (b : Bool) (n : ℕ) → n ≤ (if b then 1 else 1024) → n ≤ 1024

@@ -1,4 +1,5 @@
-use Rattle.nbd_protocol.proofs.Common.{◌≡◌, ◌∙◌, [], inl, sym, subst, true, Consumes-nil, Way, Deals, way_of}
+use Rattle.std.proofs.Common.{◌≡◌, ◌∙◌, [], inl, sym, subst, true}
+use Rattle.nbd_protocol.proofs.Common.{Consumes-nil, Way, Deals, way_of}
 use Rattle.nbd_protocol.specs.declared.way.Way.TheVariants as W
 use Rattle.nbd_protocol.proofs.Talks.{is_write, lookup_as, not_write, nothing_sent, status_any}
 use Rattle.nbd_protocol.proofs.serving.deal.Goals as goal

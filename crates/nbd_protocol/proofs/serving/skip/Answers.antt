@@ -1,4 +1,5 @@
-use Rattle.nbd_protocol.proofs.Common.{◌≡◌, ◌++◌, [], length, length-append, rules, arith, Consumes-nil, Consumes-trans}
+use Rattle.std.proofs.Common.{◌≡◌, ◌++◌, [], length, length-append, rules, arith}
+use Rattle.nbd_protocol.proofs.Common.{Consumes-nil, Consumes-trans}
 use Rattle.std.proofs.lemmas.Grind.{common_steps}
 use Rattle.nbd_protocol.proofs.serving.skip.Goals as goal
 

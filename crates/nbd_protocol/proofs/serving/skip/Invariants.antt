@@ -1,4 +1,5 @@
-use Rattle.nbd_protocol.proofs.Common.{◌≡◌, ◌+◌, ℕ, List, length, Consumes}
+use Rattle.std.proofs.Common.{◌≡◌, ◌+◌, ℕ, List, length}
+use Rattle.nbd_protocol.proofs.Common.{Consumes}
 use Rattle.nbd_protocol.proofs.serving.skip.Given as goal
 
 abbrev pub invariant-loop-rest : goal.invariant-loop-rest

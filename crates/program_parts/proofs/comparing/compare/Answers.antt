@@ -1,4 +1,5 @@
-use Rattle.program_parts.proofs.Common.{◌≡◌, ◌∙◌, ap, sym, IsSeenAs}
+use Rattle.std.proofs.Common.{◌≡◌, ◌∙◌, ap, sym}
+use Rattle.program_parts.proofs.Common.{IsSeenAs}
 use Rattle.program_parts.proofs.Compared.{all_compared_as, if_ok, on_ok}
 use Rattle.program_parts.proofs.OnlyRead.{reads_more}
 use Rattle.program_parts.proofs.comparing.compare.Goals as goal

@@ -1,4 +1,5 @@
-use Rattle.program_parts.proofs.Common.{◌≡◌, ◌+◌, ◌≤◌, arith, length, subst, take, common_steps, AreSameBelow}
+use Rattle.std.proofs.Common.{◌≡◌, ◌+◌, ◌≤◌, arith, length, subst, take}
+use Rattle.program_parts.proofs.Common.{common_steps, AreSameBelow}
 use Rattle.program_parts.proofs.Compared.{then_none, then_one, then_other, then_some}
 use Rattle.program_parts.proofs.OnlyRead.{reads_more}
 use Rattle.program_parts.proofs.comparing.compare_all.Goals as goal

@@ -1,4 +1,5 @@
-use Rattle.program_parts.proofs.Common.{◌≡◌, ◌-◌, ◌≤◌, AreSameBelow, IsOnlyRead, IsSeenAs}
+use Rattle.std.proofs.Common.{◌≡◌, ◌-◌, ◌≤◌}
+use Rattle.program_parts.proofs.Common.{AreSameBelow, IsOnlyRead, IsSeenAs}
 use Rattle.program_parts.proofs.comparing.compare_all.Given as goal
 
 abbrev pub invariant-loop-at : goal.invariant-loop-at

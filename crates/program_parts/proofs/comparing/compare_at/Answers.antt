@@ -1,4 +1,5 @@
-use Rattle.program_parts.proofs.Common.{◌≡◌, ◌+◌, arith, length, subst, common_steps, None, Some, Shows, IsFoundBetween, IsSeenAs}
+use Rattle.std.proofs.Common.{◌≡◌, ◌+◌, arith, length, subst, None, Some}
+use Rattle.program_parts.proofs.Common.{common_steps, Shows, IsFoundBetween, IsSeenAs}
 use Rattle.program_parts.proofs.Compared.{found_none, found_some, on_ok}
 use Rattle.program_parts.proofs.comparing.compare_at.Goals as goal
 

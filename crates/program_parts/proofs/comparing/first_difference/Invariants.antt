@@ -1,4 +1,5 @@
-use Rattle.program_parts.proofs.Common.{◌≡◌, ◌<◌, ℕ, slice_index}
+use Rattle.std.proofs.Common.{◌≡◌, ◌<◌, ℕ}
+use Rattle.program_parts.proofs.Common.{slice_index}
 use Rattle.program_parts.proofs.comparing.first_difference.Given as goal
 
 abbrev pub invariant-loop-i : goal.invariant-loop-i

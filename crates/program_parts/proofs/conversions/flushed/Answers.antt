@@ -1,4 +1,5 @@
-use Rattle.program_parts.proofs.Common.{◌≡◌, ◌⊎◌, Err, inl, inr, IsFault, of_storage, fault_of_storage, given_err}
+use Rattle.std.proofs.Common.{◌≡◌, ◌⊎◌, Err, inl, inr}
+use Rattle.program_parts.proofs.Common.{IsFault, of_storage, fault_of_storage, given_err}
 use Rattle.program_parts.proofs.Counted.{both_as, both_then_ok, both_then_raw}
 use Rattle.program_parts.proofs.conversions.flushed.Goals as goal
 

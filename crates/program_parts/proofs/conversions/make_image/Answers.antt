@@ -1,4 +1,5 @@
-use Rattle.program_parts.proofs.Common.{◌≡◌, ℕ, Result, Ok, Err, refl, sym, ap, ◌∙◌, subst, length, ◌<◌, inl, inr, IfOk, FaultsReported, ImageError, told_opening, fault_reason, byte_at, header, Qcow2CreateBuilder, storage_of_image, new_disk_consistent, CountsBoth, IsImageMade, IsImageOf, IsImageOfSize, IsStopOfMaking, MayFailOnceCreated, asked_for, HeaderFields, EachMomentSince, fault_of_storage, IsFault, InvalidOption, Limit, IsReasonNotToCreate, IsReasonNotToCreateOpen, longest_disk}
+use Rattle.std.proofs.Common.{◌≡◌, ◌<◌, ℕ, Result, Ok, Err, refl, sym, ap, ◌∙◌, subst, length, inl, inr, IfOk}
+use Rattle.program_parts.proofs.Common.{FaultsReported, ImageError, told_opening, fault_reason, byte_at, header, Qcow2CreateBuilder, storage_of_image, new_disk_consistent, CountsBoth, IsImageMade, IsImageOf, IsImageOfSize, IsStopOfMaking, MayFailOnceCreated, asked_for, HeaderFields, EachMomentSince, fault_of_storage, IsFault, InvalidOption, Limit, IsReasonNotToCreate, IsReasonNotToCreateOpen, longest_disk}
 use Rattle.program_parts.proofs.Counted.{both_of, both_retold, both_since, image_refused, raw_refused}
 use Rattle.program_parts.proofs.Imported.{of_ok, ok_both, ok_then, has_image, made_of}
 use Rattle.program_parts.proofs.Making.{counts_imported, counts_opened, new_image, once_opened, then_opened, while_created, while_opened}

@@ -1,4 +1,5 @@
-use Rattle.program_parts.proofs.Common.{◌≡◌, ◌<◌, arith, length, take, common_steps}
+use Rattle.std.proofs.Common.{◌≡◌, ◌<◌, arith, length, take}
+use Rattle.program_parts.proofs.Common.{common_steps}
 use Rattle.program_parts.proofs.Copied.{copied_piece, keeps_more}
 use Rattle.program_parts.proofs.copying.copy_all.Goals as goal
 

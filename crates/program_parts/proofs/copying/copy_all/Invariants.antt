@@ -1,4 +1,5 @@
-use Rattle.program_parts.proofs.Common.{◌≡◌, ◌-◌, ◌≤◌, length, IsCopiedUpTo, KeepsBoth}
+use Rattle.std.proofs.Common.{◌≡◌, ◌-◌, ◌≤◌, length}
+use Rattle.program_parts.proofs.Common.{IsCopiedUpTo, KeepsBoth}
 use Rattle.program_parts.proofs.copying.copy_all.Given as goal
 
 abbrev pub invariant-pieces : goal.invariant-pieces

@@ -1,4 +1,5 @@
-use Rattle.program_parts.proofs.Common.{ℕ, List, ◌∷◌, ◌++◌, [], OnOk, codes, sym, subst, append_assoc, Appends}
+use Rattle.std.proofs.Common.{◌∷◌, ◌++◌, ℕ, List, [], OnOk, codes, sym, subst, append_assoc}
+use Rattle.program_parts.proofs.Common.{Appends}
 use Rattle.std.specs.Fmt.{decimal}
 use Rattle.program_parts.proofs.report.print_consistent.Goals as goal
 

@@ -1,4 +1,5 @@
-use Rattle.program_parts.proofs.Common.{◌≡◌, ◌≤◌, ◌^◌, ◌++◌, length, Appends, leak_line, text_of_lines}
+use Rattle.std.proofs.Common.{◌≡◌, ◌≤◌, ◌^◌, ◌++◌, length}
+use Rattle.program_parts.proofs.Common.{Appends, leak_line, text_of_lines}
 use Rattle.program_parts.proofs.report.print_leaks.Given as goal
 
 abbrev pub invariant-loop-leak : goal.invariant-loop-leak

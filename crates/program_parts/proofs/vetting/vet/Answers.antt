@@ -1,4 +1,5 @@
-use Rattle.program_parts.proofs.Common.{◌≡◌, ◌↔◌, [], ap, subst, byte_at, IsConsistent, header, breach_lines, leak_lines}
+use Rattle.std.proofs.Common.{◌≡◌, ◌↔◌, [], ap, subst}
+use Rattle.program_parts.proofs.Common.{byte_at, IsConsistent, header, breach_lines, leak_lines}
 use Rattle.program_parts.proofs.TakenIn.{vetted}
 use Rattle.program_parts.proofs.vetting.vet.Goals as goal
 

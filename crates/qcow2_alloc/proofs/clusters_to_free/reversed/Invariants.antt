@@ -1,4 +1,5 @@
-use Rattle.qcow2_alloc.proofs.Common.{◌≡◌, ◌++◌, reverse, entries_at}
+use Rattle.std.proofs.Common.{◌≡◌, ◌++◌, reverse}
+use Rattle.qcow2_alloc.proofs.Common.{entries_at}
 use Rattle.qcow2_alloc.proofs.clusters_to_free.reversed.Given as goal
 
 abbrev pub invariant-loop-rest : goal.invariant-loop-rest

@@ -1,4 +1,5 @@
-use Rattle.qcow2_alloc.proofs.Common.{◌∙◌, ◌^◌, ap, rb_at, OthersStayHeld, CachesBlock}
+use Rattle.std.proofs.Common.{◌^◌, ◌∙◌, ap}
+use Rattle.qcow2_alloc.proofs.Common.{rb_at, OthersStayHeld, CachesBlock}
 use Rattle.qcow2_alloc.proofs.AllocationSteps.{handed_on}
 use Rattle.qcow2_alloc.proofs.KeptMarks.{marks_of_caches}
 use Rattle.qcow2_alloc.proofs.KeptTables.Places.{put_places}

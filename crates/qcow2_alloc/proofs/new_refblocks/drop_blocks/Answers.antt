@@ -1,4 +1,5 @@
-use Rattle.qcow2_alloc.proofs.Common.{◌≡◌, ℕ, ◌+◌, ◌-◌, ◌<◌, ◌≤◌, None, refl, sym, ap, ◌∙◌, subst, arith, Bytes, IsUnnamed, ImageFile, run_at, contents_in, rb_at, room_length}
+use Rattle.std.proofs.Common.{◌≡◌, ◌+◌, ◌-◌, ◌<◌, ◌≤◌, ℕ, None, refl, sym, ap, ◌∙◌, subst, arith}
+use Rattle.qcow2_alloc.proofs.Common.{Bytes, IsUnnamed, ImageFile, run_at, contents_in, rb_at, room_length}
 use Rattle.qcow2_alloc.proofs.AllocationSteps.{allocator_step_none, allocator_step_then}
 use Rattle.qcow2_alloc.proofs.CachePins.{marks_then}
 use Rattle.qcow2_alloc.proofs.CacheSteps.{held_none}

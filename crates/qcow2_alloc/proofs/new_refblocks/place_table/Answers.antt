@@ -1,4 +1,5 @@
-use Rattle.qcow2_alloc.proofs.Common.{◌*◌, ◌^◌, ◌<◌, subst, refl, sym, IsSome, ◌∙◌, IfSome, overwritten, Changes, EntryTableView, with_run, of_storage, KeepsHeaderCluster, storage_of, WritesTable}
+use Rattle.std.proofs.Common.{◌*◌, ◌^◌, ◌<◌, subst, refl, sym, IsSome, ◌∙◌, IfSome}
+use Rattle.qcow2_alloc.proofs.Common.{overwritten, Changes, EntryTableView, with_run, of_storage, KeepsHeaderCluster, storage_of, WritesTable}
 use Rattle.qcow2_alloc.proofs.AllocationSteps.{handed_on}
 use Rattle.qcow2_alloc.proofs.RoomWrites.{table_refused, table_stands}
 use Rattle.qcow2_alloc.proofs.KeptMarks.{placed_kept, marks_of_storage}

@@ -1,4 +1,5 @@
-use Rattle.qcow2_alloc.proofs.Common.{◌+◌, ◌-◌, ◌*◌, ◌/◌, ◌^◌, ◌≤◌, min, inl, ap, ◌∙◌, sym, arith, count_at}
+use Rattle.std.proofs.Common.{◌+◌, ◌-◌, ◌*◌, ◌/◌, ◌^◌, ◌≤◌, min, inl, ap, ◌∙◌, sym, arith}
+use Rattle.qcow2_alloc.proofs.Common.{count_at}
 use Rattle.qcow2_alloc.proofs.RunBlocks.{raised_kept, raised_modified, counts_next}
 use Rattle.qcow2_alloc.proofs.new_refblocks.run_block.Goals as goal
 

@@ -1,4 +1,5 @@
-use Rattle.qcow2_alloc.proofs.Common.{◌≡◌, ◌⊎◌, ℕ, ◌+◌, ◌-◌, ◌≤◌, max, min, true, Some, IsRefBlock, count_at, counts_of, run_at}
+use Rattle.std.proofs.Common.{◌≡◌, ◌⊎◌, ◌+◌, ◌-◌, ◌≤◌, ℕ, max, min, true, Some}
+use Rattle.qcow2_alloc.proofs.Common.{IsRefBlock, count_at, counts_of, run_at}
 use Rattle.qcow2_alloc.proofs.new_refblocks.run_block.Given as goal
 
 -- the clusters before this one are counted

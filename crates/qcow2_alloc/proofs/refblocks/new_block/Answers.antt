@@ -1,4 +1,5 @@
-use Rattle.qcow2_alloc.proofs.Common.{◌≡◌, inl, inr, ℕ, ◌+◌, ◌-◌, ◌^◌, ◌<◌, Bool, true, false, IsTrue, IsFalse, refl, sym, ap, ◌∙◌, subst, arith, cases_eq, cond-false, ne_eqb, pow_pos, RefBlockView, IsRefBlock, ChangesCount, count_at, count_limit, counts_of, one_at, first_counts}
+use Rattle.std.proofs.Common.{◌≡◌, ◌+◌, ◌-◌, ◌^◌, ◌<◌, inl, inr, ℕ, Bool, true, false, IsTrue, IsFalse, refl, sym, ap, ◌∙◌, subst, arith}
+use Rattle.qcow2_alloc.proofs.Common.{cases_eq, cond-false, ne_eqb, pow_pos, RefBlockView, IsRefBlock, ChangesCount, count_at, count_limit, counts_of, one_at, first_counts}
 use Rattle.qcow2_metadata.proofs.Sizes.{counts_in_block}
 use Rattle.qcow2_alloc.proofs.FileSteps.{one_here}
 use Rattle.qcow2_alloc.proofs.refblocks.new_block.Goals.{then-counts_itself+then-counts-gt0, else-counts_itself, else-counts_itself-via-then-counts_itself+else-counts-gt0, else-counts_itself-via-else-counts_itself}

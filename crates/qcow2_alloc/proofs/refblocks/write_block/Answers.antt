@@ -1,4 +1,5 @@
-use Rattle.qcow2_alloc.proofs.Common.{◌≡◌, inl, ℕ, Bool, Some, None, Result, Ok, length, IsFalse, IsSome, refl, sym, ap, ◌∙◌, ◌+◌, ◌*◌, ◌^◌, subst, ◌<◌, IfSome, overwritten, StorageView, Changes, Calls, StorageError, byte_at-overwritten, HeaderFields, byte_at, cluster_size, RefBlockView, BlocksMayGo, Pending, placing, HasPlaceFor, HasBytesAt, InternalAllocatorStep, WritesBlock, of_storage, MetadataCaches, ImageStorage, KeepsPinsAndNotes, Allocator, ImageFile, contents_in, AllocatorInvariant, storage_of, order_of, l2_tables, rb_at, KeepSound, IsBlockOf, KeepsHeaderCluster}
+use Rattle.std.proofs.Common.{◌≡◌, ◌+◌, ◌*◌, ◌^◌, ◌<◌, inl, ℕ, Bool, Some, None, Result, Ok, length, IsFalse, IsSome, refl, sym, ap, ◌∙◌, subst, IfSome}
+use Rattle.qcow2_alloc.proofs.Common.{overwritten, StorageView, Changes, Calls, StorageError, byte_at-overwritten, HeaderFields, byte_at, cluster_size, RefBlockView, BlocksMayGo, Pending, placing, HasPlaceFor, HasBytesAt, InternalAllocatorStep, WritesBlock, of_storage, MetadataCaches, ImageStorage, KeepsPinsAndNotes, Allocator, ImageFile, contents_in, AllocatorInvariant, storage_of, order_of, l2_tables, rb_at, KeepSound, IsBlockOf, KeepsHeaderCluster}
 use Rattle.qcow2_alloc.specs.CacheSteps.{RemovesBlock}
 use Rattle.qcow2_alloc.proofs.FileSteps.{file_step_then}
 use Rattle.qcow2_alloc.proofs.AllocationSteps.{handed_on, fault_of_storage, allocator_step_then, allocator_step_cached}

@@ -1,4 +1,4 @@
-use Rattle.qcow2_alloc.proofs.Common.{◌^◌}
+use Rattle.std.proofs.Common.{◌^◌}
 use Rattle.qcow2_alloc.proofs.Lengths.{clusters_least, length_least, length_none}
 use Rattle.qcow2_alloc.proofs.reftable_length.grown_length.Goals as goal
 

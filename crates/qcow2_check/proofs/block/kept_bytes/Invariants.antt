@@ -1,4 +1,5 @@
-use Rattle.qcow2_check.proofs.Common.{ℕ, ◌≡◌, ◌<◌, byte_at}
+use Rattle.std.proofs.Common.{◌≡◌, ◌<◌, ℕ}
+use Rattle.qcow2_check.proofs.Common.{byte_at}
 use Rattle.qcow2_check.proofs.block.kept_bytes.Given as goal
 
 abbrev pub invariant-loop-byte : goal.invariant-loop-byte

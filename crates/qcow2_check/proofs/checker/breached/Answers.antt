@@ -1,4 +1,4 @@
-use Rattle.qcow2_check.proofs.Common.{◌^◌, ◌∙◌}
+use Rattle.std.proofs.Common.{◌^◌, ◌∙◌}
 use Rattle.qcow2_check.proofs.Breached.{breached_lines}
 use Rattle.qcow2_check.proofs.checker.breached.Goals as goal
 

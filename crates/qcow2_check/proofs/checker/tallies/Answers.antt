@@ -1,4 +1,5 @@
-use Rattle.qcow2_check.proofs.Common.{ℕ, ◌≡◌, ◌/◌, List, length, ap, sym, subst, ◌∙◌, arith, err_from_is_err_and, byte_at, l1_entry, reftable_entry, count, L1EntryReads, ReftableEntryReads, entry_at, TalliesGrow, count_in, tables_off, blocks_off, off_l2_tables, off_refblocks, data_off_below, named_below, tables_below, marked_below, reftable_entries, IsReasonNotToCount}
+use Rattle.std.proofs.Common.{◌≡◌, ◌/◌, ℕ, List, length, ap, sym, subst, ◌∙◌, arith}
+use Rattle.qcow2_check.proofs.Common.{err_from_is_err_and, byte_at, l1_entry, reftable_entry, count, L1EntryReads, ReftableEntryReads, entry_at, TalliesGrow, count_in, tables_off, blocks_off, off_l2_tables, off_refblocks, data_off_below, named_below, tables_below, marked_below, reftable_entries, IsReasonNotToCount}
 use Rattle.qcow2_check.proofs.OffsetSteps.{counted_off, all_tables_off, all_blocks_off}
 use Rattle.qcow2_check.proofs.Refusals.{l1_unread, reftable_unread, uncounted}
 use Rattle.qcow2_check.proofs.Totals.{few_reftable_clusters, all_tallies}

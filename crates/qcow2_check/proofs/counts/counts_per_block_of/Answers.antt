@@ -1,4 +1,5 @@
-use Rattle.qcow2_check.proofs.Common.{◌≡◌, ◌*◌, ◌%◌, ◌^◌, ◌≤◌, arith, one_shl, le-div, pow_pos, pow_mono, div-le_self}
+use Rattle.std.proofs.Common.{◌≡◌, ◌*◌, ◌%◌, ◌^◌, ◌≤◌, arith}
+use Rattle.qcow2_check.proofs.Common.{one_shl, le-div, pow_pos, pow_mono, div-le_self}
 use Rattle.qcow2_check.proofs.counts.counts_per_block_of.Goals as goal
 
 pub returns-clause-some : goal.returns-clause-some

@@ -1,4 +1,5 @@
-use Rattle.qcow2_check.proofs.Common.{◌≡◌, ◌^◌, ◌%◌, ◌≤◌, length, ap, sym, ◌∙◌, arith, refl, pow_mono, option_copied, byte_at, cluster_size, stand_at-loaded}
+use Rattle.std.proofs.Common.{◌≡◌, ◌^◌, ◌%◌, ◌≤◌, length, ap, sym, ◌∙◌, arith, refl}
+use Rattle.qcow2_check.proofs.Common.{pow_mono, option_copied, byte_at, cluster_size, stand_at-loaded}
 use Rattle.qcow2_check.proofs.CountSteps.{whole_cluster, read_counts}
 use Rattle.qcow2_check.proofs.KeptBlocks.{keeps_placeless, keeps_known, keeps_read}
 use Rattle.qcow2_check.proofs.counts.number_of_block.Goals as goal

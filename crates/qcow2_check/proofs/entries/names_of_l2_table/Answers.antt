@@ -1,4 +1,5 @@
-use Rattle.qcow2_check.proofs.Common.{◌≡◌, ◌==◌, ◌*◌, ◌^◌, ◌≤◌, ap, ◌∙◌, arith, pow_mono, byte_at, l2_entry, cover_of, entry_cover}
+use Rattle.std.proofs.Common.{◌≡◌, ◌==◌, ◌*◌, ◌^◌, ◌≤◌, ap, ◌∙◌, arith}
+use Rattle.qcow2_check.proofs.Common.{pow_mono, byte_at, l2_entry, cover_of, entry_cover}
 use Rattle.qcow2_check.proofs.Grow.{l2_table_none, l2_table_more}
 use Rattle.qcow2_check.proofs.Ranges.{times_le}
 use Rattle.qcow2_check.proofs.entries.names_of_l2_table.Goals as goal

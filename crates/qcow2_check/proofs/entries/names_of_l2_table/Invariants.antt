@@ -1,4 +1,5 @@
-use Rattle.qcow2_check.proofs.Common.{◌+◌, ◌*◌, ◌^◌, ◌≤◌, byte_at, TalliesGrow, named_by_entries, marked_by_entries}
+use Rattle.std.proofs.Common.{◌+◌, ◌*◌, ◌^◌, ◌≤◌}
+use Rattle.qcow2_check.proofs.Common.{byte_at, TalliesGrow, named_by_entries, marked_by_entries}
 use Rattle.qcow2_check.proofs.entries.names_of_l2_table.Given as goal
 
 abbrev pub invariant-loop-j : goal.invariant-loop-j

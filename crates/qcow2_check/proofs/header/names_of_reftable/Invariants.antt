@@ -1,4 +1,5 @@
-use Rattle.qcow2_check.proofs.Common.{◌+◌, ◌≤◌, TalliesGrow, blocks_among}
+use Rattle.std.proofs.Common.{◌+◌, ◌≤◌}
+use Rattle.qcow2_check.proofs.Common.{TalliesGrow, blocks_among}
 use Rattle.qcow2_check.proofs.header.names_of_reftable.Given as goal
 
 abbrev pub invariant-loop-k : goal.invariant-loop-k

@@ -1,4 +1,5 @@
-use Rattle.qcow2_check.proofs.Common.{◌+◌, ◌≤◌, TalliesGrow, tables_among, marks_among}
+use Rattle.std.proofs.Common.{◌+◌, ◌≤◌}
+use Rattle.qcow2_check.proofs.Common.{TalliesGrow, tables_among, marks_among}
 use Rattle.qcow2_check.proofs.l1.names_of_l1_entries.Given as goal
 
 abbrev pub invariant-loop-i : goal.invariant-loop-i

@@ -1,4 +1,5 @@
-use Rattle.qcow2_check.proofs.Common.{◌≡◌, ◌/◌, length, ℕ, ap, ◌∙◌, sum_by, byte_at, sum_below, host_offset, entry_at}
+use Rattle.std.proofs.Common.{◌≡◌, ◌/◌, length, ℕ, ap, ◌∙◌}
+use Rattle.qcow2_check.proofs.Common.{sum_by, byte_at, sum_below, host_offset, entry_at}
 use Rattle.qcow2_check.proofs.WholeL1.{whole_l1, whole_data}
 use Rattle.qcow2_check.proofs.l1.names_of_l1_table.Goals as goal
 

@@ -1,4 +1,5 @@
-use Rattle.qcow2_check.proofs.Common.{◌≡◌, ◌/◌, length, ap, sym, ◌∙◌, arith, length-append, sum_by, sum_below, host_offset, entry_at}
+use Rattle.std.proofs.Common.{◌≡◌, ◌/◌, length, ap, sym, ◌∙◌, arith, length-append}
+use Rattle.qcow2_check.proofs.Common.{sum_by, sum_below, host_offset, entry_at}
 use Rattle.std.proofs.lemmas.List.Sums.{sum_by_push}
 use Rattle.std.proofs.lemmas.List.Sorted.{sum_by-IsPermutation}
 use Rattle.qcow2_check.proofs.Sums.{sum_below_none, sum_below_more}

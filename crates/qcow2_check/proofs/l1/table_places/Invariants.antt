@@ -1,4 +1,5 @@
-use Rattle.qcow2_check.proofs.Common.{ℕ, ◌≡◌, length, sum_by, sum_below, host_offset, entry_at}
+use Rattle.std.proofs.Common.{◌≡◌, ℕ, length}
+use Rattle.qcow2_check.proofs.Common.{sum_by, sum_below, host_offset, entry_at}
 use Rattle.qcow2_check.proofs.l1.table_places.Given as goal
 
 abbrev pub invariant-loop-i : goal.invariant-loop-i

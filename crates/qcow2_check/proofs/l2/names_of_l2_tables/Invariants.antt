@@ -1,4 +1,5 @@
-use Rattle.qcow2_check.proofs.Common.{◌+◌, ◌*◌, ◌^◌, ◌≤◌, Ok, take, byte_at, named_by_l2_table, OnlyReads, data_off_at, data_off_by_tables, marked_by_l2_table, named_by_tables, marked_by_tables}
+use Rattle.std.proofs.Common.{◌+◌, ◌*◌, ◌^◌, ◌≤◌, Ok, take}
+use Rattle.qcow2_check.proofs.Common.{byte_at, named_by_l2_table, OnlyReads, data_off_at, data_off_by_tables, marked_by_l2_table, named_by_tables, marked_by_tables}
 use Rattle.qcow2_check.proofs.Repeats.{IsBehind}
 use Rattle.qcow2_check.proofs.l2.names_of_l2_tables.Given as goal
 

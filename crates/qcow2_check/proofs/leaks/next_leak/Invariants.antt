@@ -1,4 +1,5 @@
-use Rattle.qcow2_check.proofs.Common.{◌≡◌, ◌-◌, leaks_from}
+use Rattle.std.proofs.Common.{◌≡◌, ◌-◌}
+use Rattle.qcow2_check.proofs.Common.{leaks_from}
 use Rattle.qcow2_check.proofs.leaks.next_leak.Given as goal
 
 abbrev pub invariant-loop-at : goal.invariant-loop-at

@@ -1,4 +1,5 @@
-use Rattle.qcow2_check.proofs.Common.{◌++◌, ◌^◌, ap, ◌∙◌, tally_in, is_named, unaligned_line}
+use Rattle.std.proofs.Common.{◌++◌, ◌^◌, ap, ◌∙◌}
+use Rattle.qcow2_check.proofs.Common.{tally_in, is_named, unaligned_line}
 use Rattle.qcow2_check.proofs.Rising.{lines_of_list}
 use Rattle.qcow2_check.proofs.lines.add_offset_lines.Goals as goal
 

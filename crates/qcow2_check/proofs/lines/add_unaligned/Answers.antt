@@ -1,4 +1,5 @@
-use Rattle.qcow2_check.proofs.Common.{◌++◌, List, L1, Reftable, L2, Refblock, Breach, tally_in, table_offset_lines, offset_lines}
+use Rattle.std.proofs.Common.{◌++◌, List}
+use Rattle.qcow2_check.proofs.Common.{L1, Reftable, L2, Refblock, Breach, tally_in, table_offset_lines, offset_lines}
 use Rattle.qcow2_check.specs.declared.report.Kind.TheVariants.{Data}
 use Rattle.qcow2_check.proofs.Rising.{before}
 use Rattle.qcow2_check.proofs.lines.add_unaligned.Goals as goal

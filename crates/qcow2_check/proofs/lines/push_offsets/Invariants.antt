@@ -1,4 +1,5 @@
-use Rattle.qcow2_check.proofs.Common.{◌≡◌, ◌++◌, drop, lines_of, is_named, unaligned_line}
+use Rattle.std.proofs.Common.{◌≡◌, ◌++◌, drop}
+use Rattle.qcow2_check.proofs.Common.{lines_of, is_named, unaligned_line}
 use Rattle.qcow2_check.proofs.lines.push_offsets.Given as goal
 
 abbrev pub invariant-loop-offset : goal.invariant-loop-offset

@@ -1,4 +1,5 @@
-use Rattle.qcow2_check.proofs.Common.{◌+◌, ◌≤◌, TalliesGrow, tables_off}
+use Rattle.std.proofs.Common.{◌+◌, ◌≤◌}
+use Rattle.qcow2_check.proofs.Common.{TalliesGrow, tables_off}
 use Rattle.qcow2_check.proofs.offsets.offsets_of_l1_table.Given as goal
 
 abbrev pub invariant-loop-i : goal.invariant-loop-i

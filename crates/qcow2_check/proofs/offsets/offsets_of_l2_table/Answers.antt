@@ -1,4 +1,5 @@
-use Rattle.qcow2_check.proofs.Common.{◌≡◌, ◌==◌, ◌^◌, ◌≤◌, arith, ap, ◌∙◌, pow_mono, byte_at, l2_entry, cover_of, entry_cover, host_of, off_cluster_if}
+use Rattle.std.proofs.Common.{◌≡◌, ◌==◌, ◌^◌, ◌≤◌, arith, ap, ◌∙◌}
+use Rattle.qcow2_check.proofs.Common.{pow_mono, byte_at, l2_entry, cover_of, entry_cover, host_of, off_cluster_if}
 use Rattle.qcow2_check.proofs.OffsetSteps.{times_terms_none, times_terms_more}
 use Rattle.qcow2_check.proofs.Ranges.{times_le}
 use Rattle.qcow2_check.proofs.offsets.offsets_of_l2_table.Goals as goal

@@ -1,4 +1,5 @@
-use Rattle.qcow2_check.proofs.Common.{◌+◌, ◌*◌, ◌≤◌, byte_at, TalliesGrow, data_off}
+use Rattle.std.proofs.Common.{◌+◌, ◌*◌, ◌≤◌}
+use Rattle.qcow2_check.proofs.Common.{byte_at, TalliesGrow, data_off}
 use Rattle.qcow2_check.proofs.offsets.offsets_of_l2_table.Given as goal
 
 abbrev pub invariant-loop-j : goal.invariant-loop-j

@@ -1,4 +1,5 @@
-use Rattle.qcow2_image.proofs.Common.{[], ◌<◌, refl, inl, inr, Err, Ok, cases_lt, size_of, view_in, handed_on, Enlarges}
+use Rattle.std.proofs.Common.{◌<◌, [], refl, inl, inr, Err, Ok}
+use Rattle.qcow2_image.proofs.Common.{cases_lt, size_of, view_in, handed_on, Enlarges}
 use Rattle.qcow2_image.proofs.Call.FaultCounts.{counted_on, counted_since, untouched}
 use Rattle.qcow2_image.proofs.Create.Causes.{usable_opened}
 use Rattle.qcow2_image.proofs.Create.Faults.{grown_fault}

@@ -1,4 +1,5 @@
-use Rattle.qcow2_image.proofs.Common.{◌≡◌, ◌∙◌, ℕ, ap, subst, sym, true, OnOk, byte_at, header, view_in, storage_of, Enlarges, HasNoLeaks}
+use Rattle.std.proofs.Common.{◌≡◌, ◌∙◌, ℕ, ap, subst, sym, true}
+use Rattle.qcow2_image.proofs.Common.{OnOk, byte_at, header, view_in, storage_of, Enlarges, HasNoLeaks}
 use Rattle.qcow2_image.proofs.Create.Causes.{opening_unlimited, told_closed, told_opening, usable_opened}
 use Rattle.qcow2_image.proofs.Create.Faults.{opening_fault, unmapped_opened}
 use Rattle.qcow2_image.proofs.Create.Creating.{flushed_enlarges, opening_stops, opens_unwritten, enlarged_so, unwritten_mid}

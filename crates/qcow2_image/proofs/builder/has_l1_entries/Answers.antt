@@ -1,5 +1,5 @@
-use Rattle.qcow2_image.proofs.Common.{◌≡◌, ℕ, ◌-◌, ◌*◌, ◌/◌, ◌^◌, ◌<◌, ◌≤◌, ◌↔◌, nat_lt, true, mul-pos, ◌∙◌, ap, sym, subst, arith, nat_tests, div-lt_iff_lt-mul}
-use Rattle.std.proofs.Common.{pow_mono}
+use Rattle.qcow2_image.proofs.Common.{nat_tests, div-lt_iff_lt-mul}
+use Rattle.std.proofs.Common.{◌≡◌, ◌-◌, ◌*◌, ◌/◌, ◌^◌, ◌<◌, ◌≤◌, ◌↔◌, ℕ, nat_lt, true, mul-pos, ◌∙◌, ap, sym, subst, arith, pow_mono}
 use Rattle.qcow2_image.proofs.builder.has_l1_entries.Goals as goal
 
 -- the last byte before a size lies in a cluster that so many entries cover

@@ -1,4 +1,5 @@
-use Rattle.qcow2_image.proofs.Common.{◌≡◌, [], Ok, inr, subst, sym, option_flatten, IsHonestBacking, Opens, IsNewlyOpened, OpeningStep, files_missing, Qcow2OpenBuilder}
+use Rattle.std.proofs.Common.{◌≡◌, [], Ok, inr, subst, sym}
+use Rattle.qcow2_image.proofs.Common.{option_flatten, IsHonestBacking, Opens, IsNewlyOpened, OpeningStep, files_missing, Qcow2OpenBuilder}
 use Rattle.qcow2_image.proofs.builder.open_grown.Goals as goal
 
 pub returns-in-Ok-resize_grow-clause-opens : goal.returns-in-Ok-resize_grow-clause-opens

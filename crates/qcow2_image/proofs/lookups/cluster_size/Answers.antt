@@ -1,4 +1,4 @@
-use Rattle.qcow2_image.proofs.Common.{lit<, ◌≤◌, subst, sym}
+use Rattle.std.proofs.Common.{◌≤◌, lit<, subst, sym}
 use Rattle.qcow2_metadata.proofs.Sizes.{shift_high}
 use Rattle.qcow2_image.proofs.lookups.cluster_size.Goals as goal
 

@@ -1,4 +1,5 @@
-use Rattle.qcow2_metadata.proofs.Common.{ℕ, ◌<◌, entry_at, IsClear}
+use Rattle.std.proofs.Common.{◌<◌, ℕ}
+use Rattle.qcow2_metadata.proofs.Common.{entry_at, IsClear}
 use Rattle.qcow2_metadata.proofs.entry_table.is_clear.Given as goal
 
 abbrev pub invariant-loop-i : goal.invariant-loop-i

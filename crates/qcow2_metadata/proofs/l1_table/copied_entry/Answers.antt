@@ -1,4 +1,5 @@
-use Rattle.qcow2_metadata.proofs.Common.{◌^◌, arith, ◌∙◌, ap, bit_or, eq-eqb, or_shifted}
+use Rattle.std.proofs.Common.{◌^◌, arith, ◌∙◌, ap}
+use Rattle.qcow2_metadata.proofs.Common.{bit_or, eq-eqb, or_shifted}
 use Rattle.qcow2_metadata.proofs.l1_table.copied_entry.Goals as goal
 
 pub returns : goal.returns

@@ -1,4 +1,4 @@
-use Rattle.qcow2_metadata.proofs.Common.{◌+◌, ◌-◌, arith, ap}
+use Rattle.std.proofs.Common.{◌+◌, ◌-◌, arith, ap}
 use Rattle.qcow2_metadata.proofs.Masks.{low_mask, middle_bits, low_mask_below, middle_bits_below}
 use Rattle.qcow2_metadata.proofs.l2_mapping.compressed_range.Goals as goal
 

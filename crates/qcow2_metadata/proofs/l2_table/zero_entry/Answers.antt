@@ -1,4 +1,5 @@
-use Rattle.qcow2_metadata.proofs.Common.{◌+◌, ap, sym, ◌∙◌, arith, zero_entry}
+use Rattle.std.proofs.Common.{◌+◌, ap, sym, ◌∙◌, arith}
+use Rattle.qcow2_metadata.proofs.Common.{zero_entry}
 use Rattle.std.proofs.lemmas.Option.{MatchOption-at_some}
 use Rattle.qcow2_metadata.proofs.MadeEntries.{or_lowest}
 use Rattle.qcow2_metadata.proofs.l2_table.zero_entry.Goals as goal

@@ -1,4 +1,5 @@
-use Rattle.qcow2_metadata.proofs.Common.{◌/◌, ap, arith, one_shl}
+use Rattle.std.proofs.Common.{◌/◌, ap, arith}
+use Rattle.qcow2_metadata.proofs.Common.{one_shl}
 use Rattle.qcow2_metadata.proofs.Quotients.{eighth_pos}
 use Rattle.qcow2_metadata.proofs.numbers.entries_per_cluster.Goals as goal
 

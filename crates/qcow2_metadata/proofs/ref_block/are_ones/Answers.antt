@@ -1,4 +1,4 @@
-use Rattle.qcow2_metadata.proofs.Common.{◌≡◌, ◌==◌, ℕ, ◌-◌, ◌^◌, true, arith, sym, ◌∙◌}
+use Rattle.std.proofs.Common.{◌≡◌, ◌==◌, ◌-◌, ◌^◌, ℕ, true, arith, sym, ◌∙◌}
 use Rattle.std.proofs.lemmas.Bool.Decides.{nat_tests}
 use Rattle.qcow2_metadata.proofs.FirstZero.{ones_counted}
 use Rattle.qcow2_metadata.proofs.ref_block.are_ones.Goals as goal

@@ -1,4 +1,5 @@
-use Rattle.qcow2_metadata.proofs.Common.{◌≡◌, ◌*◌, ◌/◌, ◌%◌, ◌^◌, ◌∙◌, ap, sym, arith, one_shl, byte_at, count_in}
+use Rattle.std.proofs.Common.{◌≡◌, ◌*◌, ◌/◌, ◌%◌, ◌^◌, ◌∙◌, ap, sym, arith}
+use Rattle.qcow2_metadata.proofs.Common.{one_shl, byte_at, count_in}
 use Rattle.qcow2_metadata.proofs.RefCounts.{narrow_count, count_of_16, count_of_32, count_of_64, pair_of_bytes}
 use Rattle.qcow2_metadata.proofs.ref_block.read_count.Goals as goal
 

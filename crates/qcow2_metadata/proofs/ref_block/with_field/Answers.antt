@@ -1,4 +1,4 @@
-use Rattle.qcow2_metadata.proofs.Common.{arith, ◌*◌, ◌/◌, ◌%◌, ◌^◌, ◌∙◌, ap}
+use Rattle.std.proofs.Common.{◌*◌, ◌/◌, ◌%◌, ◌^◌, arith, ◌∙◌, ap}
 use Rattle.qcow2_metadata.proofs.RefCounts.{shifted, field_fits, set_byte_fits}
 use Rattle.qcow2_metadata.proofs.ref_block.with_field.Goals as goal
 

@@ -1,4 +1,5 @@
-use Rattle.qcow2_metadata.proofs.Common.{◌*◌, ◌∙◌, ap, arith, one_shl, overwritten}
+use Rattle.std.proofs.Common.{◌*◌, ◌∙◌, ap, arith}
+use Rattle.qcow2_metadata.proofs.Common.{one_shl, overwritten}
 use Rattle.qcow2_metadata.proofs.RefCounts.{set_narrow_changes, wide_changes_16, wide_changes_32, wide_changes_64}
 use Rattle.qcow2_metadata.proofs.ref_block.write_count.Goals as goal
 

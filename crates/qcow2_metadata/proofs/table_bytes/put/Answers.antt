@@ -1,4 +1,5 @@
-use Rattle.qcow2_metadata.proofs.Common.{◌≡◌, ◌+◌, ◌-◌, ℕ, List, ◌++◌, length, take, drop, ap, ◌∙◌, arith, put_mid-overwritten}
+use Rattle.std.proofs.Common.{◌≡◌, ◌+◌, ◌-◌, ◌++◌, ℕ, List, length, take, drop, ap, ◌∙◌, arith}
+use Rattle.qcow2_metadata.proofs.Common.{put_mid-overwritten}
 use Rattle.qcow2_metadata.proofs.table_bytes.put.Goals as goal
 
 pub returns : goal.returns

@@ -1,4 +1,5 @@
-use Rattle.qcow2_metadata.proofs.Common.{◌*◌, ap, ◌∙◌, arith, overwritten}
+use Rattle.std.proofs.Common.{◌*◌, ap, ◌∙◌, arith}
+use Rattle.qcow2_metadata.proofs.Common.{overwritten}
 use Rattle.qcow2_metadata.proofs.TableEntries.{set_entry_changes}
 use Rattle.qcow2_metadata.proofs.table_bytes.set_entry.Goals as goal
 

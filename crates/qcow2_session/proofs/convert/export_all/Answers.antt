@@ -1,4 +1,5 @@
-use Rattle.qcow2_session.proofs.Common.{◌≡◌, ◌∙◌, ◌+◌, ◌-◌, ◌≤◌, refl, sym, [], subst, arith, rules, abstract_of, Fills, IfErr, known_in, MayFailReadingRange, behind_none, behind_then, reads_none, written_then, same_image_then}
+use Rattle.std.proofs.Common.{◌≡◌, ◌+◌, ◌-◌, ◌≤◌, ◌∙◌, refl, sym, [], subst, arith, rules, IfErr}
+use Rattle.qcow2_session.proofs.Common.{abstract_of, Fills, known_in, MayFailReadingRange, behind_none, behind_then, reads_none, written_then, same_image_then}
 use Rattle.qcow2_session.proofs.Counting.{converted, converting_part, so_far_none, so_far_part, so_far_then}
 use Rattle.qcow2_session.proofs.Converting.{does_nothing, interrupted_if, interrupted_then}
 use Rattle.qcow2_session.proofs.FailingOnSound.{reads_part}

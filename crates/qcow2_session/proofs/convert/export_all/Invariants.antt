@@ -1,4 +1,5 @@
-use Rattle.qcow2_session.proofs.Common.{◌≡◌, ◌-◌, ◌≤◌, [], List, Option, AnsweredEffect, guest_of, PreservesHeaderCluster, IsSameImage, abstract_of, Prepared, Fills, ReadsQuietly}
+use Rattle.std.proofs.Common.{◌≡◌, ◌-◌, ◌≤◌, [], List, Option}
+use Rattle.qcow2_session.proofs.Common.{AnsweredEffect, guest_of, PreservesHeaderCluster, IsSameImage, abstract_of, Prepared, Fills, ReadsQuietly}
 use Rattle.qcow2_session.proofs.Counting.{IsSoFar}
 use Rattle.qcow2_session.proofs.convert.export_all.Given as goal
 

@@ -1,4 +1,5 @@
-use Rattle.qcow2_session.proofs.Common.{◌≡◌, ◌+◌, ◌∙◌, inl, length, sym, subst, arith, refl, rules, common_steps, overwritten, of_storage, guest_of, refusal_of, abstract_of, IfErr, fault_of_storage, known_in, MayFailReadingRange, IsFilledUpTo}
+use Rattle.std.proofs.Common.{◌≡◌, ◌+◌, ◌∙◌, inl, length, sym, subst, arith, refl, rules, IfErr}
+use Rattle.qcow2_session.proofs.Common.{common_steps, overwritten, of_storage, guest_of, refusal_of, abstract_of, fault_of_storage, known_in, MayFailReadingRange, IsFilledUpTo}
 use Rattle.qcow2_session.proofs.Converting.{interrupted, interrupted_here}
 use Rattle.qcow2_session.proofs.Counting.{converted, converting_image, converting_raw, so_far_call, so_far_none}
 use Rattle.qcow2_session.proofs.Exporting.{filled_same, filled_more, unchanged_refused}

@@ -1,4 +1,5 @@
-use Rattle.qcow2_session.proofs.Common.{◌≡◌, ◌+◌, ◌≤◌, ◌∙◌, [], length, take, replicate, refl, sym, subst, arith, rules, common_steps, IfErr, known_in, written_then, guest_of, abstract_of, MayFailReadingRange, behind_then, same_image_then}
+use Rattle.std.proofs.Common.{◌≡◌, ◌+◌, ◌≤◌, ◌∙◌, [], length, take, replicate, refl, sym, subst, arith, rules, IfErr}
+use Rattle.qcow2_session.proofs.Common.{common_steps, known_in, written_then, guest_of, abstract_of, MayFailReadingRange, behind_then, same_image_then}
 use Rattle.qcow2_session.proofs.Converting.{interrupted, interrupted_if, interrupted_then}
 use Rattle.qcow2_session.proofs.Counting.{converted, converting_image, converting_part, so_far_call, so_far_none, so_far_part, so_far_then}
 use Rattle.qcow2_session.proofs.Exporting.{fills_more, filled_same, unchanged_refused}

@@ -1,4 +1,5 @@
-use Rattle.qcow2_session.proofs.Common.{limited_joined, sym, ◌≡◌, ◌+◌, ◌-◌, ◌%◌, ◌<◌, ◌≤◌, ◌++◌, drop, length, take, refl, ap, ◌∙◌, subst, arith, min, ℕ, rules, zero-mod, add-mod_right, common_steps, bytes_at, with_disk, with_bytes, guest_of, Setting, abstract_of, IfErr, Ok, ImportsAnyOf, MayFailImporting, IsReasonNotToWrite, behind_none, behind_then, written_then, same_image_then}
+use Rattle.std.proofs.Common.{◌≡◌, ◌+◌, ◌-◌, ◌%◌, ◌<◌, ◌≤◌, ◌++◌, sym, drop, length, take, refl, ap, ◌∙◌, subst, arith, min, ℕ, rules, IfErr, Ok}
+use Rattle.qcow2_session.proofs.Common.{limited_joined, zero-mod, add-mod_right, common_steps, bytes_at, with_disk, with_bytes, guest_of, Setting, abstract_of, ImportsAnyOf, MayFailImporting, IsReasonNotToWrite, behind_none, behind_then, written_then, same_image_then}
 use Rattle.qcow2_session.proofs.convert.import_all.Goals as goal
 use Rattle.qcow2_session.proofs.Counting.{converted, converting_part, so_far_none, so_far_part, so_far_then}
 use Rattle.qcow2_session.proofs.Differing.{part_kept}

@@ -1,4 +1,5 @@
-use Rattle.qcow2_session.proofs.Common.{◌≡◌, ◌-◌, ◌%◌, ◌<◌, ◌≤◌, length, [], ◌∷◌, take, List, Ok, Option, AnsweredEffect, with_disk, with_bytes, given_of, guest_of, PreservesHeaderCluster, IsSameImage, abstract_of, Prepared, ImportsAnyOf, IsLeft, StaysQuiet}
+use Rattle.std.proofs.Common.{◌≡◌, ◌-◌, ◌%◌, ◌<◌, ◌≤◌, ◌∷◌, length, [], take, List, Ok, Option}
+use Rattle.qcow2_session.proofs.Common.{AnsweredEffect, with_disk, with_bytes, given_of, guest_of, PreservesHeaderCluster, IsSameImage, abstract_of, Prepared, ImportsAnyOf, IsLeft, StaysQuiet}
 use Rattle.qcow2_session.proofs.Counting.{IsSoFar}
 use Rattle.qcow2_session.proofs.convert.import_all.Given as goal
 

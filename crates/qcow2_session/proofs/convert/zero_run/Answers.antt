@@ -1,4 +1,5 @@
-use Rattle.qcow2_session.proofs.Common.{◌≡◌, ◌+◌, [], ap, inl, is_some, replicate, rules, sym, subst, arith, IfErr, known_in, Guest, Shows, Disk, Kind, IsFoundIn, AnswersCall, found_kind, MayFailReadingRange, tables_met, IsOfReading}
+use Rattle.std.proofs.Common.{◌≡◌, ◌+◌, [], ap, inl, is_some, replicate, rules, sym, subst, arith, IfErr}
+use Rattle.qcow2_session.proofs.Common.{known_in, Guest, Shows, Disk, Kind, IsFoundIn, AnswersCall, found_kind, MayFailReadingRange, tables_met, IsOfReading}
 use Rattle.qcow2_session.proofs.Causing.{mapping_reading}
 use Rattle.qcow2_session.proofs.Exporting.{zeros_there}
 use Rattle.qcow2_session.proofs.Marking.{in_parts, parts_answered, parts_handed, refused_at_once}

@@ -1,4 +1,5 @@
-use Rattle.qcow2_session.proofs.Common.{◌≡◌, ◌∙◌, ⊎_elim, inl, inr, refl, sym, ap, subst, Option, Some, None, is_some, map, [], BackingView, StorageView, Bytes, byte_at, cluster_size, setting_in, shown_below, IsHeadline, RefinesDisk, started, begins, abstract_of, backing_bytes, image_abstraction, whole, IsKeptSince, storage_of_image, command_of, reply_of, bytes_below, missing_beside, IsUntouched}
+use Rattle.std.proofs.Common.{◌≡◌, ◌∙◌, ⊎_elim, inl, inr, refl, sym, ap, subst, Option, Some, None, is_some, map, []}
+use Rattle.qcow2_session.proofs.Common.{BackingView, StorageView, Bytes, byte_at, cluster_size, setting_in, shown_below, IsHeadline, RefinesDisk, started, begins, abstract_of, backing_bytes, image_abstraction, whole, IsKeptSince, storage_of_image, command_of, reply_of, bytes_below, missing_beside, IsUntouched}
 use Rattle.qcow2_disk.proofs.Headline.{from_bytes, stop_consistent}
 use Rattle.qcow2_session.proofs.Opening.{refused_consistent, kept_opens_again, opens_again}
 use Rattle.qcow2_session.proofs.headline.open_and_run.Goals as goal

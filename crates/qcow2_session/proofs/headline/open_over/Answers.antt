@@ -1,4 +1,5 @@
-use Rattle.qcow2_session.proofs.Common.{◌≡◌, ◌∙◌, ap, refl, subst, ℕ, None, Option, Some, true, Err, IfOk, Ok, Result, false, option_map, option_flatten, BackingView, StorageView, ImageError, Missing, Qcow2, IsHonestBacking, Opens, missing_beside}
+use Rattle.std.proofs.Common.{◌≡◌, ◌∙◌, ap, refl, subst, ℕ, None, Option, Some, true, Err, Ok, Result, false}
+use Rattle.qcow2_session.proofs.Common.{IfOk, option_map, option_flatten, BackingView, StorageView, ImageError, Missing, Qcow2, IsHonestBacking, Opens, missing_beside}
 use Rattle.qcow2_image.specs.declared.opening.Qcow2OpenBuilder.{Qcow2OpenBuilder}
 use Rattle.qcow2_image.specs.Readable.{IsNewlyOpened, OpeningStep, files_missing}
 use Rattle.std.proofs.lemmas.Result.{IfOk-weaker}

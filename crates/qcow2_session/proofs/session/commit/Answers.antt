@@ -1,4 +1,5 @@
-use Rattle.qcow2_session.proofs.Common.{MarksAtOnce, ◌≡◌, inl, inr, refl, sym, ap, subst, ◌∙◌, List, Option, Some, None, Err, rules, slice_get, slice_set, IsNone, RefinesCommand, commit, done, misuse, refused, done_as, refused_as, none_as, image_abstraction, abstract_image, refusal_of, Commits, reason_of, fault_of, AreExisting, is_failed, table_of, IsOfTables, behind_none, reads_none, get_set_same, set_set, set_same}
+use Rattle.std.proofs.Common.{◌≡◌, inl, inr, refl, sym, ap, subst, ◌∙◌, List, Option, Some, None, Err, rules}
+use Rattle.qcow2_session.proofs.Common.{MarksAtOnce, slice_get, slice_set, IsNone, RefinesCommand, commit, done, misuse, refused, done_as, refused_as, none_as, image_abstraction, abstract_image, refusal_of, Commits, reason_of, fault_of, AreExisting, is_failed, table_of, IsOfTables, behind_none, reads_none, get_set_same, set_set, set_same}
 use Rattle.qcow2_session.proofs.Marking.{at_rest, commit_at_once}
 use Rattle.qcow2_session.proofs.Places.{set_again}
 use Rattle.qcow2_session.proofs.Meanings.{found_at, none_at, does_commit, refuses_commit}

@@ -1,4 +1,5 @@
-use Rattle.qcow2_session.proofs.Common.{◌≡◌, ℕ, vec_len, Some, slice_get, PreservesHeaderCluster, SameFaults, IsSameImage, is_failed, number_of, image_of, Prepared, ReleasesMappings, ReadsQuietly}
+use Rattle.std.proofs.Common.{◌≡◌, ℕ, vec_len, Some}
+use Rattle.qcow2_session.proofs.Common.{slice_get, PreservesHeaderCluster, SameFaults, IsSameImage, is_failed, number_of, image_of, Prepared, ReleasesMappings, ReadsQuietly}
 use Rattle.qcow2_session.proofs.session.discard_all.Given as goal
 
 abbrev pub invariant-loop-slot : goal.invariant-loop-slot

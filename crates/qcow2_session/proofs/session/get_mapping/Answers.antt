@@ -1,5 +1,6 @@
 use Rattle.qcow2_session.proofs.Marking.{answered_at_once, refused_at_once}
-use Rattle.qcow2_session.proofs.Common.{◌≡◌, refl, sym, ap, subst, ◌∙◌, Some, is_some, arith, rules, ⊎_elim, slice_set, IsFoundIn, done_as, refused_as, known_in, found_kind, mappings_in, unusable, Mapping, get_set}
+use Rattle.std.proofs.Common.{◌≡◌, refl, sym, ap, subst, ◌∙◌, Some, is_some, arith, rules, ⊎_elim}
+use Rattle.qcow2_session.proofs.Common.{slice_set, IsFoundIn, done_as, refused_as, known_in, found_kind, mappings_in, unusable, Mapping, get_set}
 use Rattle.qcow2_session.proofs.Turns.{does_if}
 use Rattle.qcow2_session.proofs.Meanings.{found_set}
 use Rattle.qcow2_session.proofs.Answering.{unusable_first, error_is, not_both, lookup_answer}

@@ -1,5 +1,6 @@
 use Rattle.qcow2_session.proofs.Marking.{answered_at_once, at_rest, refused_at_once}
-use Rattle.qcow2_session.proofs.Common.{◌≡◌, inl, inr, refl, sym, ap, subst, ◌∙◌, List, Option, arith, rules, cases_lt, RefinesCommand, prepare, prepared_is, misuse, done_as, refused_as, none_as, image_abstraction, meaning, abstract_image, Setting, slice_get, slice_set, Some, None, header, HeaderFields, IsPrivateIn, IsHiddenIn, known_in, header_is, hidden_in, refuses_to_prepare, is_writable, AreExisting, behind_none, reads_none, get_set_same}
+use Rattle.std.proofs.Common.{◌≡◌, inl, inr, refl, sym, ap, subst, ◌∙◌, List, Option, arith, rules, Some, None}
+use Rattle.qcow2_session.proofs.Common.{cases_lt, RefinesCommand, prepare, prepared_is, misuse, done_as, refused_as, none_as, image_abstraction, meaning, abstract_image, Setting, slice_get, slice_set, header, HeaderFields, IsPrivateIn, IsHiddenIn, known_in, header_is, hidden_in, refuses_to_prepare, is_writable, AreExisting, behind_none, reads_none, get_set_same}
 use Rattle.qcow2_session.proofs.Meanings.{taken, untaken, none_at, found_at, so_in_slot, host_at, prepared_at, does_prepare}
 use Rattle.qcow2_session.proofs.Answering.{preparing_first, prepares_answer, error_is, not_both}
 use Rattle.qcow2_session.proofs.Told.{none_refused}

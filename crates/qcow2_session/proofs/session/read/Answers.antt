@@ -1,4 +1,5 @@
-use Rattle.qcow2_session.proofs.Common.{Memory, Some, arith, drop, length, refl, subst, sym, take, ◌++◌, ◌<◌, ◌≡◌, rules, inl, ◌+◌, common_steps, Shows, guest_of, abstract_of, Reads, IfErr, MayFail, refuses_to_read, behind_none, MayFailReadingRange, known_in}
+use Rattle.std.proofs.Common.{◌++◌, ◌<◌, ◌≡◌, ◌+◌, Some, arith, drop, length, refl, subst, sym, take, rules, inl, IfErr}
+use Rattle.qcow2_session.proofs.Common.{Memory, common_steps, Shows, guest_of, abstract_of, Reads, MayFail, refuses_to_read, behind_none, MayFailReadingRange, known_in}
 use Rattle.qcow2_session.proofs.Turns.{refused_is, does_if}
 use Rattle.qcow2_session.proofs.Marking.{at_rest, in_parts, memory_marks, parts_handed, unmarked, refused_none}
 use Rattle.qcow2_session.proofs.FailingOnSound.{memory_looking}

@@ -1,4 +1,5 @@
-use Rattle.qcow2_session.proofs.Common.{counts_on, counts_still, ◌≡◌, ◌<◌, ◌∙◌, ◌+◌, ◌-◌, refl, length, IfErr, sym, subst, ap, [], take, drop, arith, rules, Some, ◌≤◌, common_steps, another, Shows, Guest, guest_of, abstract_of, IsRightlyBeyond, behind_none, behind_then, counted_on, faults_then, MayFail, refuses_to_read, written_none, written_then, MayFailReadingRange, known_in, same_image_then}
+use Rattle.std.proofs.Common.{◌≡◌, ◌<◌, ◌+◌, ◌-◌, ◌≤◌, ◌∙◌, refl, length, IfErr, sym, subst, ap, [], take, drop, arith, rules, Some}
+use Rattle.qcow2_session.proofs.Common.{counts_on, counts_still, common_steps, another, Shows, Guest, guest_of, abstract_of, IsRightlyBeyond, behind_none, behind_then, counted_on, faults_then, MayFail, refuses_to_read, written_none, written_then, MayFailReadingRange, known_in, same_image_then}
 use Rattle.qcow2_session.proofs.Bytes.{shows_as, shows_both, first_two}
 use Rattle.qcow2_session.proofs.Beyond.{part_refused}
 use Rattle.qcow2_session.proofs.Reading.{reads_refused}

@@ -1,4 +1,5 @@
-use Rattle.qcow2_session.proofs.Common.{◌≡◌, ◌-◌, ◌≤◌, length, ◌+◌, ◌^◌, ◌<◌, [], take, List, AnsweredEffect, Shows, guest_of, Option, PreservesHeaderCluster, IsSameImage, is_failed, abstract_of, CountsImageChanges, Prepared, ReadsQuietly, SameFaults}
+use Rattle.std.proofs.Common.{◌≡◌, ◌-◌, ◌≤◌, ◌+◌, ◌^◌, ◌<◌, length, [], take, List, Option}
+use Rattle.qcow2_session.proofs.Common.{AnsweredEffect, Shows, guest_of, PreservesHeaderCluster, IsSameImage, is_failed, abstract_of, CountsImageChanges, Prepared, ReadsQuietly, SameFaults}
 use Rattle.qcow2_session.proofs.session.read_into.Given as goal
 
 abbrev pub invariant-loop-done : goal.invariant-loop-done

@@ -1,5 +1,6 @@
 use Rattle.qcow2_session.proofs.Marking.{at_rest}
-use Rattle.qcow2_session.proofs.Common.{reads_none, refl, ap, ◌∙◌, Some, None, Err, arith, rules, ◌≡◌, ◌+◌, ◌<◌, ◌≤◌, subst, done_as, refused_as, none_as, mapping_at, range_of, guest_of, Found, misuse, abstract_of, get_or, length, slice_get_read, disk_size, MayFail, unusable, behind_none}
+use Rattle.std.proofs.Common.{◌≡◌, ◌+◌, ◌<◌, ◌≤◌, refl, ap, ◌∙◌, Some, None, Err, arith, rules, subst, get_or, length}
+use Rattle.qcow2_session.proofs.Common.{reads_none, done_as, refused_as, none_as, mapping_at, range_of, guest_of, Found, misuse, abstract_of, slice_get_read, disk_size, MayFail, unusable, behind_none}
 use Rattle.qcow2_session.proofs.Turns.{does_if, does_why}
 use Rattle.qcow2_session.proofs.session.read_mapped.Goals.{then-at-mapping-via-then-at-mapping, then-at-mapping-via-else-at-mapping+then-length-mapping}
 use Rattle.qcow2_session.proofs.Meanings.{found_fits, isnt_beyond, is_beyond, live, mapped_here, passes_mapped}

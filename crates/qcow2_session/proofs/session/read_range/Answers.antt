@@ -1,4 +1,5 @@
-use Rattle.qcow2_session.proofs.Common.{refl, ap, ◌≡◌, ◌∙◌, ◌<◌, Err, ◌+◌, ◌++◌, take, drop, length, sym, subst, arith, Some, rules, inl, common_steps, Shows, guest_of, abstract_of, Reads, IfErr, MayFail, unusable, IsFoundWhole, further_by, Memory, OutdatedMapping, sound_is_usable, behind_none, IsCacheHeld, MayFailMapped}
+use Rattle.std.proofs.Common.{◌≡◌, ◌<◌, ◌+◌, ◌++◌, refl, ap, ◌∙◌, Err, take, drop, length, sym, subst, arith, Some, rules, inl, IfErr}
+use Rattle.qcow2_session.proofs.Common.{common_steps, Shows, guest_of, abstract_of, Reads, MayFail, unusable, IsFoundWhole, further_by, Memory, OutdatedMapping, sound_is_usable, behind_none, IsCacheHeld, MayFailMapped}
 use Rattle.qcow2_session.proofs.Turns.{refused_is, refused_some, does_if}
 use Rattle.qcow2_session.proofs.Marking.{answered_at_once, at_rest, memory_marks, none_answered, once_handed, refused_at_once, unchecked, unmarked}
 use Rattle.qcow2_session.proofs.Causing.{same_error}

@@ -1,4 +1,5 @@
-use Rattle.qcow2_session.proofs.Common.{counts_on, ◌≡◌, ◌∙◌, ◌+◌, ◌++◌, Some, sym, subst, ap, [], take, drop, arith, rules, inl, ◌<◌, Err, common_steps, another, Guest, abstract_of, IsOfReading, ReadsFirst, IfErr, length, size_of, MayFail, unusable, passes, BeyondSize, tables_met, behind_then, written_then, counted_on, IsFoundWhole, further_by, MayFailReadingRange, known_in}
+use Rattle.std.proofs.Common.{◌≡◌, ◌+◌, ◌++◌, ◌<◌, ◌∙◌, Some, sym, subst, ap, [], take, drop, arith, rules, inl, Err, IfErr, length}
+use Rattle.qcow2_session.proofs.Common.{counts_on, common_steps, another, Guest, abstract_of, IsOfReading, ReadsFirst, size_of, MayFail, unusable, passes, BeyondSize, tables_met, behind_then, written_then, counted_on, IsFoundWhole, further_by, MayFailReadingRange, known_in}
 use Rattle.qcow2_session.proofs.Marking.{in_parts, parts_answered, parts_behind, parts_beyond, parts_handed, refused_at_once}
 use Rattle.qcow2_session.proofs.Bytes.{shows_as}
 use Rattle.qcow2_session.proofs.Turns.{refused_is, refuses_here, none_within, does_if, refuses_if, does_then, refuses_then}

@@ -1,4 +1,5 @@
-use Rattle.qcow2_session.proofs.Common.{sym, subst, [], ◌∷◌, ◌++◌, Option, rules, image_abstraction, ReleasesMappings, free_places, behind_none}
+use Rattle.std.proofs.Common.{◌∷◌, ◌++◌, sym, subst, [], Option, rules}
+use Rattle.qcow2_session.proofs.Common.{image_abstraction, ReleasesMappings, free_places, behind_none}
 use Rattle.qcow2_session.proofs.Places.{last_none, last_release}
 use Rattle.qcow2_session.proofs.Quiet.{quiet_release}
 use Rattle.qcow2_session.proofs.session.release_slot.Goals as goal

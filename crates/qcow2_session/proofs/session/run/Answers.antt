@@ -1,4 +1,5 @@
-use Rattle.qcow2_session.proofs.Common.{rules, ◌≡◌, ◌+◌, ◌∙◌, refl, sym, ap, inl, inr, ⊎_elim, subst, arith, [], ◌∷◌, ◌++◌, None, take, map, is_some, replicate, common_steps, take_more, take_all, map-append, abstract_of, image_abstraction, HasNoInvalidation, RefinesWholeRun, begun, started, begins, completes, refines_the_disk, command_of, reply_of, free_places, nothing_since, whole, contents_in, IsReportedRun, RunPoint, first_point, mappings_in, range_of, IsUntouched, RunCounts, behind_none, behind_then, written_then}
+use Rattle.std.proofs.Common.{◌≡◌, ◌+◌, ◌∷◌, ◌++◌, rules, ◌∙◌, refl, sym, ap, inl, inr, ⊎_elim, subst, arith, [], None, take, map, is_some, replicate}
+use Rattle.qcow2_session.proofs.Common.{common_steps, take_more, take_all, map-append, abstract_of, image_abstraction, HasNoInvalidation, RefinesWholeRun, begun, started, begins, completes, refines_the_disk, command_of, reply_of, free_places, nothing_since, whole, contents_in, IsReportedRun, RunPoint, first_point, mappings_in, range_of, IsUntouched, RunCounts, behind_none, behind_then, written_then}
 use Rattle.qcow2_session.proofs.LookingUp.{looked_up, none_said}
 use Rattle.qcow2_session.proofs.Meanings.{ranges_after}
 use Rattle.qcow2_session.proofs.Places.{surplus_none}

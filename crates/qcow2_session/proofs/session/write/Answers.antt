@@ -1,4 +1,5 @@
-use Rattle.qcow2_session.proofs.Common.{counts_on, rules, ◌≡◌, ℕ, ◌∙◌, subst, take, drop, length, [], ◌∷◌, ◌<◌, ap, arith, ◌+◌, ◌≤◌, refl, ◌%◌, ◌-◌, IfSome, Option, Some, None, Result, Err, Ok, common_steps, take_rest, another, Setting, given_of, works_less, abstract_of, refusal_of, LeavesCopied, Writes, cluster_size_of, NeedsOverflowingL1Entry, limited_from, limited_giving, IsTaken, IsUnderMappingIn, TablePrepared, refuses_to_prepare, faults_then, behind_then, written_then, known_in, taking_kept, same_image_then}
+use Rattle.std.proofs.Common.{◌≡◌, ◌∷◌, ◌<◌, ◌+◌, ◌≤◌, ◌%◌, ◌-◌, rules, ℕ, ◌∙◌, subst, take, drop, length, [], ap, arith, refl, Option, Some, None, Result, Err, Ok}
+use Rattle.qcow2_session.proofs.Common.{counts_on, IfSome, common_steps, take_rest, another, Setting, given_of, works_less, abstract_of, refusal_of, LeavesCopied, Writes, cluster_size_of, NeedsOverflowingL1Entry, limited_from, limited_giving, IsTaken, IsUnderMappingIn, TablePrepared, refuses_to_prepare, faults_then, behind_then, written_then, known_in, taking_kept, same_image_then}
 use Rattle.qcow2_session.proofs.Marking.{parts_answered, parts_behind, parts_beyond}
 use Rattle.qcow2_session.proofs.session.write.Goals as goal
 use Rattle.qcow2_session.proofs.Writing.{ends_on, write_refused}

@@ -1,5 +1,6 @@
 use Rattle.qcow2_session.proofs.session.write.Given as goal
-use Rattle.qcow2_session.proofs.Common.{◌≡◌, ◌+◌, ◌-◌, ◌^◌, ◌<◌, ◌≤◌, length, [], ◌∷◌, take, List, ℕ, Option, None, AnsweredEffect, with_disk, with_bytes, given_of, guest_of, PreservesHeaderCluster, IsSameImage, is_failed, abstract_of, ListsNoMore, refuses_to_prepare, CountsImageChanges, Prepared, EndsCluster, LeavesCopied, IsRespectedAt, StaysQuiet, SameFaults}
+use Rattle.std.proofs.Common.{◌≡◌, ◌+◌, ◌-◌, ◌^◌, ◌<◌, ◌≤◌, ◌∷◌, length, [], take, List, ℕ, Option, None}
+use Rattle.qcow2_session.proofs.Common.{AnsweredEffect, with_disk, with_bytes, given_of, guest_of, PreservesHeaderCluster, IsSameImage, is_failed, abstract_of, ListsNoMore, refuses_to_prepare, CountsImageChanges, Prepared, EndsCluster, LeavesCopied, IsRespectedAt, StaysQuiet, SameFaults}
 
 abbrev pub invariant-loop-done : goal.invariant-loop-done
 invariant-loop-done g l = record {

@@ -1,6 +1,7 @@
 use Rattle.qcow2_session.proofs.Marking.{answered_at_once, at_rest, refused_at_once}
 use Rattle.qcow2_session.proofs.Quiet.{quiet_left}
-use Rattle.qcow2_session.proofs.Common.{reads_none, refl, length, arith, rules, ◌≡◌, ◌⊎◌, ◌+◌, ◌<◌, ◌≤◌, ◌∙◌, inl, inr, ℕ, ap, subst, List, Option, Some, None, Err, done_as, refused_as, none_as, image_abstraction, misuse, image_of, length_of, table_of, refuses_mapping, unusable, ◌&&◌, not, nat_lt, slice_get, IfSome, Result, Ok, cases_lt, ImageError, ReadOnly, is_writable, Prepared, behind_none}
+use Rattle.std.proofs.Common.{◌≡◌, ◌⊎◌, ◌+◌, ◌<◌, ◌≤◌, ◌&&◌, refl, length, arith, rules, ◌∙◌, inl, inr, ℕ, ap, subst, List, Option, Some, None, Err, not, Result, Ok}
+use Rattle.qcow2_session.proofs.Common.{reads_none, done_as, refused_as, none_as, image_abstraction, misuse, image_of, length_of, table_of, refuses_mapping, unusable, nat_lt, slice_get, IfSome, cases_lt, ImageError, ReadOnly, is_writable, Prepared, behind_none}
 use Rattle.qcow2_session.proofs.Meanings.{found_at, none_at, does_put, refuses_put, is_past}
 use Rattle.qcow2_session.proofs.Answering.{mapping_first, error_is, not_both}
 use Rattle.qcow2_session.proofs.Unwritten.{put_same}

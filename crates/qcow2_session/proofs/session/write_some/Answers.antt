@@ -1,4 +1,5 @@
-use Rattle.qcow2_session.proofs.Common.{MarksAtOnce, counts_on, counts_released, IsUnderMapping, ◌≡◌, sym, subst, ap, ◌∙◌, Err, [], ◌∷◌, Some, None, min, length, refl, arith, ℕ, ◌+◌, ◌<◌, ◌≤◌, ⊎_elim, List, inl, inr, take, true, false, rules, IfSome, IfOk, IsOk, Ok, Option, Result, IfErr, is_some, given_of, Setting, guest_of, refusal_of, Commits, reason_of, CountsImageFaults, is_writable, number_of, size_of, IsHandedBackBy, image_of, length_of, guest_offset_of, offset_of, table_of, refuses_mapping, refuses_to_prepare, MayFail, MayFailPreparing, Kept, abstract_of, image_abstraction, meaning, AreDataAt, cluster_size_of, LeavesCopied, WritesFirst, RespectsFirst, free_places, Qcow2, cases_Bool, cases_lt, pow_pos, IsOfNothing, Prepared, common_steps, ImageError, counted_still, faults_then, IsOfTables, tables_met, behind_then, written_then, known_in, fault_unlimited, limited_upto, other_limit, fault_of, NeedsOverflowingL1Entry, IfLimit, IsLimited, CopiesCompressed, IsCacheHeld, MayFailAllocating, HasPinnedMapping, taking_as}
+use Rattle.std.proofs.Common.{◌≡◌, ◌∷◌, ◌+◌, ◌<◌, ◌≤◌, sym, subst, ap, ◌∙◌, Err, [], Some, None, min, length, refl, arith, ℕ, ⊎_elim, List, inl, inr, take, true, false, rules, Ok, Option, Result, IfErr, is_some}
+use Rattle.qcow2_session.proofs.Common.{MarksAtOnce, counts_on, counts_released, IsUnderMapping, IfSome, IfOk, IsOk, given_of, Setting, guest_of, refusal_of, Commits, reason_of, CountsImageFaults, is_writable, number_of, size_of, IsHandedBackBy, image_of, length_of, guest_offset_of, offset_of, table_of, refuses_mapping, refuses_to_prepare, MayFail, MayFailPreparing, Kept, abstract_of, image_abstraction, meaning, AreDataAt, cluster_size_of, LeavesCopied, WritesFirst, RespectsFirst, free_places, Qcow2, cases_Bool, cases_lt, pow_pos, IsOfNothing, Prepared, common_steps, ImageError, counted_still, faults_then, IsOfTables, tables_met, behind_then, written_then, known_in, fault_unlimited, limited_upto, other_limit, fault_of, NeedsOverflowingL1Entry, IfLimit, IsLimited, CopiesCompressed, IsCacheHeld, MayFailAllocating, HasPinnedMapping, taking_as}
 use Rattle.qcow2_session.proofs.Marking.{commit_at_once, in_parts, parts_answered, parts_before, parts_behind, parts_handed, refused_at_once}
 use Rattle.qcow2_session.proofs.session.write_some.Goals as goal
 use Rattle.qcow2_session.proofs.Bytes.{cut_long, cut_part, cut_short}

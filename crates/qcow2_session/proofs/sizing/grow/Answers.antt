@@ -1,6 +1,7 @@
 use Rattle.qcow2_session.proofs.Marking.{answered_at_once, refused_at_once}
 use Rattle.qcow2_session.proofs.Quiet.{quiet_left}
-use Rattle.qcow2_session.proofs.Common.{inl, inr, ap, arith, refl, rules, cases_lt, size_of, refuses_to_resize, takes_over, ◌&&◌, nat_lt, Preallocation}
+use Rattle.std.proofs.Common.{◌&&◌, inl, inr, ap, arith, refl, rules}
+use Rattle.qcow2_session.proofs.Common.{cases_lt, size_of, refuses_to_resize, takes_over, nat_lt, Preallocation}
 use Rattle.qcow2_session.proofs.Resized.{none_early, grow_done, grow_refused}
 use Rattle.qcow2_session.proofs.Unwritten.{resizes_failed, resized_itself, resizes_reading, same_early}
 use Rattle.qcow2_session.specs.declared.session.Command.TheVariants as C

@@ -1,4 +1,5 @@
-use Rattle.qcow2_session.proofs.Common.{Some, arith, length, refl, subst, sym, ◌<◌, ◌∙◌, ◌≡◌, ◌⊎◌, rules, inl, common_steps, known_in, sound_is_usable, NotCompressed, MayFail, unusable, behind_none, IfErr, IsCacheHeld, MayFailSpecial}
+use Rattle.std.proofs.Common.{◌<◌, ◌≡◌, ◌⊎◌, Some, arith, length, refl, subst, sym, ◌∙◌, rules, inl, IfErr}
+use Rattle.qcow2_session.proofs.Common.{common_steps, known_in, sound_is_usable, NotCompressed, MayFail, unusable, behind_none, IsCacheHeld, MayFailSpecial}
 use Rattle.qcow2_session.proofs.Turns.{refused_is, refused_some}
 use Rattle.qcow2_session.proofs.SpecialReads.{told_specially}
 use Rattle.qcow2_session.proofs.Marking.{at_rest, call_at_once, memory_marks, once_handed, unchecked, unmarked}

@@ -1,4 +1,5 @@
-use Rattle.program_parts.proofs.Common.{rules, ◌≡◌, ◌∙◌, Some, None, ap, sym, subst, length, Stack, storage_at}
+use Rattle.std.proofs.Common.{◌≡◌, rules, ◌∙◌, Some, None, ap, sym, subst, length}
+use Rattle.program_parts.proofs.Common.{Stack, storage_at}
 use Rattle.program_parts.proofs.Layered.{image_there, none_there}
 use Rattle.program_parts.proofs.layers.Layers.into_last_read.Goals as goal
 

@@ -1,4 +1,4 @@
-use Rattle.program_parts.proofs.Common.{◌≡◌, ◌<◌, ◌≤◌, length}
+use Rattle.std.proofs.Common.{◌≡◌, ◌<◌, ◌≤◌, length}
 use Rattle.program_parts.proofs.layers.Layers.read_some.Given as goal
 
 abbrev pub invariant-loop-place : goal.invariant-loop-place

@@ -1,4 +1,4 @@
-use Rattle.program_parts.proofs.Common.{◌-◌, ◌≤◌, length}
+use Rattle.std.proofs.Common.{◌-◌, ◌≤◌, length}
 use Rattle.program_parts.proofs.layers.LayersDiskReader.read_bytes.Given as goal
 
 abbrev pub invariant-loop-done : goal.invariant-loop-done

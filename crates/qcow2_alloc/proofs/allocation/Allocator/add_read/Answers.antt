@@ -1,4 +1,4 @@
-use Rattle.qcow2_alloc.proofs.Common.{◌-◌, arith}
+use Rattle.std.proofs.Common.{◌-◌, arith}
 use Rattle.qcow2_alloc.proofs.KeptRuns.{adds_joined}
 use Rattle.qcow2_alloc.proofs.allocation.Allocator.add_read.Goals as goal
 

@@ -1,4 +1,5 @@
-use Rattle.qcow2_alloc.proofs.Common.{sym, ap, ◌∙◌, inl, inr, refl, subst, ◌<◌, ClustersToFreeEntry, run_at, taken_as, is_data, InternalAllocatorGrowth, pending_then, IsLowestRun, IsUsed, IsFaultOr, HasNoPlace, Pending}
+use Rattle.std.proofs.Common.{◌<◌, sym, ap, ◌∙◌, inl, inr, refl, subst}
+use Rattle.qcow2_alloc.proofs.Common.{ClustersToFreeEntry, run_at, taken_as, is_data, InternalAllocatorGrowth, pending_then, IsLowestRun, IsUsed, IsFaultOr, HasNoPlace, Pending}
 use Rattle.qcow2_alloc.proofs.AllocationSteps.{of_equal, on_none}
 use Rattle.qcow2_alloc.specs.declared.error.ImageError.TheVariants as I
 use Rattle.qcow2_alloc.proofs.Steps.{fails_by, fails_ok, memory_other, step_none}

@@ -1,4 +1,5 @@
-use Rattle.qcow2_alloc.proofs.Common.{Pending, counts_per_block, Allocator, RefusedGrowth, AllocatesCluster, pending_then, ◌≡◌, ◌∙◌, Ok, ap, refl, sym, subst, inl, inr, IsUsed, NoFreeBelowHint, AllocatesClusterSoundly}
+use Rattle.std.proofs.Common.{◌≡◌, ◌∙◌, Ok, ap, refl, sym, subst, inl, inr}
+use Rattle.qcow2_alloc.proofs.Common.{Pending, counts_per_block, Allocator, RefusedGrowth, AllocatesCluster, pending_then, IsUsed, NoFreeBelowHint, AllocatesClusterSoundly}
 use Rattle.qcow2_alloc.proofs.Hints.{passed_same, hint_more, hint_raised, hint_refused, raised_used, range_as, uses_raised, uses_refused}
 use Rattle.qcow2_alloc.proofs.AllocationSteps.{handed_on, leaves_as, leaves_on, may_still, is_sound_on, takes_on}
 use Rattle.qcow2_alloc.proofs.allocation.Allocator.allocate_cluster.Goals.{then-cluster-self, else-cluster-self}

@@ -1,4 +1,5 @@
-use Rattle.qcow2_alloc.proofs.Common.{◌≡◌, ◌≢◌, ◌⊎◌, inl, refl, sym, subst, Result, ◌∙◌, Pending, Data, ImageFile, InternalAllocatorGrowth, Allocates, pending_then, run_of, KeepsNoFreeBelowHint, IsUsed, StaysUsed, IfErr, ImageError, ClustersToFreeEntry, IsFaultOr, HasNoPlace, IsMadeInTurn, AllocatesOnly, count}
+use Rattle.std.proofs.Common.{◌≡◌, ◌≢◌, ◌⊎◌, inl, refl, sym, subst, Result, ◌∙◌, IfErr}
+use Rattle.qcow2_alloc.proofs.Common.{Pending, Data, ImageFile, InternalAllocatorGrowth, Allocates, pending_then, run_of, KeepsNoFreeBelowHint, IsUsed, StaysUsed, ImageError, ClustersToFreeEntry, IsFaultOr, HasNoPlace, IsMadeInTurn, AllocatesOnly, count}
 use Rattle.qcow2_alloc.proofs.Hints.{hint_stays, ok_as, passed_still}
 use Rattle.qcow2_alloc.proofs.AllocationSteps.{handed_on, on_of, allocator_step_cached, is_sound_now, allocates_then}
 use Rattle.qcow2_alloc.proofs.ListedAfter.{listed_after_same}

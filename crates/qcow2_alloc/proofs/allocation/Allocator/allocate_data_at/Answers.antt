@@ -1,4 +1,5 @@
-use Rattle.qcow2_alloc.proofs.Common.{◌≡◌, ◌≢◌, ◌/◌, ◌^◌, ◌<◌, ◌≤◌, arith, ℕ, inl, inr, Ok, Err, Some, None, true, refl, sym, ap, ◌∙◌, subst, Result, Option, ◌⊎◌, false, rules, count, one_at, Pending, ClustersToFreeEntry, ImageFile, taken_as, InternalAllocatorGrowth, AllocatesAt, pending_then, IsUsed, KeepsNoFreeBelowHint, StaysUsed, counts_per_block, IfErr, ImageError, IsFault, IsFaultOr, CantCount, IsHostCluster, run_in, IsAllocatedMetadata, AllocatesOnly}
+use Rattle.std.proofs.Common.{◌≡◌, ◌≢◌, ◌/◌, ◌^◌, ◌<◌, ◌≤◌, ◌⊎◌, arith, ℕ, inl, inr, Ok, Err, Some, None, true, refl, sym, ap, ◌∙◌, subst, Result, Option, false, rules, IfErr}
+use Rattle.qcow2_alloc.proofs.Common.{count, one_at, Pending, ClustersToFreeEntry, ImageFile, taken_as, InternalAllocatorGrowth, AllocatesAt, pending_then, IsUsed, KeepsNoFreeBelowHint, StaysUsed, counts_per_block, ImageError, IsFault, IsFaultOr, CantCount, IsHostCluster, run_in, IsAllocatedMetadata, AllocatesOnly}
 use Rattle.qcow2_alloc.proofs.AllocationSteps.{handed_on, on_of, allocator_step_on, allocator_step_cached, is_sound_now, leaves_on, of_equal}
 use Rattle.qcow2_alloc.proofs.ListedAfter.{listed_after_same}
 use Rattle.qcow2_alloc.proofs.Hints.{header_used, hint_stays, passed_still}

@@ -1,4 +1,5 @@
-use Rattle.qcow2_alloc.proofs.Common.{eq-eqb, block_offset, counts_per_block, entry_at, Pending, InternalAllocatorStep, lacks, inl, inr, ◌≡◌, true, false, ◌/◌, ap, sym, ◌∙◌, subst}
+use Rattle.std.proofs.Common.{◌≡◌, ◌/◌, inl, inr, true, false, ap, sym, ◌∙◌, subst}
+use Rattle.qcow2_alloc.proofs.Common.{eq-eqb, block_offset, counts_per_block, entry_at, Pending, InternalAllocatorStep, lacks}
 use Rattle.qcow2_alloc.proofs.AllocationSteps.{allocator_step_none, still_sound}
 use Rattle.qcow2_alloc.proofs.Rooms.{one_none, free_taken}
 use Rattle.qcow2_alloc.proofs.Outcomes.{not_both}

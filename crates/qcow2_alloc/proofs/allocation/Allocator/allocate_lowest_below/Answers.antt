@@ -1,4 +1,5 @@
-use Rattle.qcow2_alloc.proofs.Common.{◌≡◌, ◌*◌, ◌≤◌, false, refl, sym, ap, subst, ◌∙◌, arith, EntryTableView, counts_per_block, one_at, KeepsEntries, AllocatesLowest, IsUsed, KeepsNoFreeBelowHint, TableStep, Allocator}
+use Rattle.std.proofs.Common.{◌≡◌, ◌*◌, ◌≤◌, false, refl, sym, ap, subst, ◌∙◌, arith}
+use Rattle.qcow2_alloc.proofs.Common.{EntryTableView, counts_per_block, one_at, KeepsEntries, AllocatesLowest, IsUsed, KeepsNoFreeBelowHint, TableStep, Allocator}
 use Rattle.qcow2_alloc.proofs.AllocationSteps.{handed_on, allocator_step_as}
 use Rattle.qcow2_alloc.proofs.FileSteps.{one_here}
 use Rattle.qcow2_alloc.proofs.Hints.{taken_used}

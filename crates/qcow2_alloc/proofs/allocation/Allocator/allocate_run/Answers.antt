@@ -1,4 +1,5 @@
-use Rattle.qcow2_alloc.proofs.Common.{◌≡◌, inl, inr, ℕ, ◌+◌, ◌<◌, Bool, IsTrue, refl, sym, ap, ◌∙◌, subst, arith, Err, Some, cases_eq, cases_lt, StorageView, Pending, Allocator, ImageError, ImageFile, run_at, taken_as, InternalAllocatorGrowth, RefusedGrowth, GivesBackAs, SameLeaks, pending_then, ListsTables, IsHostCluster, CantCount, CantCountRun, NoFreeBelowHint, IsUsed, KeepsNoFreeBelowHint, KeepsUsedBut, faults_of, IsOfTables, FailsFor, TakenSoFar, AllocatesRunSoundly}
+use Rattle.std.proofs.Common.{◌≡◌, ◌+◌, ◌<◌, inl, inr, ℕ, Bool, IsTrue, refl, sym, ap, ◌∙◌, subst, arith, Err, Some}
+use Rattle.qcow2_alloc.proofs.Common.{cases_eq, cases_lt, StorageView, Pending, Allocator, ImageError, ImageFile, run_at, taken_as, InternalAllocatorGrowth, RefusedGrowth, GivesBackAs, SameLeaks, pending_then, ListsTables, IsHostCluster, CantCount, CantCountRun, NoFreeBelowHint, IsUsed, KeepsNoFreeBelowHint, KeepsUsedBut, faults_of, IsOfTables, FailsFor, TakenSoFar, AllocatesRunSoundly}
 use Rattle.qcow2_alloc.specs.ImageFile.{IsFault}
 use Rattle.qcow2_alloc.proofs.AllocationSteps.{handed_on, of_equal, may_still, on_none, is_sound_on, still_as}
 use Rattle.qcow2_alloc.proofs.Hints.{kept_then, not_broken}

@@ -1,4 +1,5 @@
-use Rattle.qcow2_alloc.proofs.Common.{◌≡◌, ◌<◌, Bool, IsTrue, Pending, MayAllocate, faults_of, AllocatorInvariant, FileStep, TakenSoFar}
+use Rattle.std.proofs.Common.{◌≡◌, ◌<◌, Bool, IsTrue}
+use Rattle.qcow2_alloc.proofs.Common.{Pending, MayAllocate, faults_of, AllocatorInvariant, FileStep, TakenSoFar}
 use Rattle.qcow2_alloc.proofs.allocation.Allocator.allocate_run.Given as goal
 
 -- so many clusters are taken

@@ -1,4 +1,5 @@
-use Rattle.qcow2_alloc.proofs.Common.{refl, ◌^◌, FetchesBlock}
+use Rattle.std.proofs.Common.{◌^◌, refl}
+use Rattle.qcow2_alloc.proofs.Common.{FetchesBlock}
 use Rattle.qcow2_alloc.proofs.AllocationSteps.{handed_on, place_fits}
 use Rattle.qcow2_alloc.proofs.KeptTables.Places.{put_places}
 use Rattle.qcow2_alloc.proofs.NewRefblocks.{new_blocks_kept}

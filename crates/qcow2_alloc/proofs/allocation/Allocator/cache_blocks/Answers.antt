@@ -1,4 +1,5 @@
-use Rattle.qcow2_alloc.proofs.Common.{◌≡◌, inl, inr, ℕ, ◌+◌, ◌-◌, ◌*◌, ◌/◌, ◌%◌, ◌^◌, ◌<◌, ◌≤◌, length, refl, sym, ap, ◌∙◌, subst, arith, div-add-mod', div-le_self, mul-le-mul_left, greatest_offset, IsHostCluster, EntryTableView, entry_count, HeaderFields, HeaderView, cluster_size, counts_per_block, IsSameOutside, Bytes, one_if, ChangesEntry, HasPlace, run_at, NamesLacking, HasBytesAt, with_run, contents_in, known_in, HavePlaces, opens, opened, room_length, CachesBlocks, InternalNewBlocks, IsBlockOf, faults_of}
+use Rattle.std.proofs.Common.{◌≡◌, ◌+◌, ◌-◌, ◌*◌, ◌/◌, ◌%◌, ◌^◌, ◌<◌, ◌≤◌, inl, inr, ℕ, length, refl, sym, ap, ◌∙◌, subst, arith}
+use Rattle.qcow2_alloc.proofs.Common.{div-add-mod', div-le_self, mul-le-mul_left, greatest_offset, IsHostCluster, EntryTableView, entry_count, HeaderFields, HeaderView, cluster_size, counts_per_block, IsSameOutside, Bytes, one_if, ChangesEntry, HasPlace, run_at, NamesLacking, HasBytesAt, with_run, contents_in, known_in, HavePlaces, opens, opened, room_length, CachesBlocks, InternalNewBlocks, IsBlockOf, faults_of}
 use Rattle.qcow2_alloc.proofs.AllocationSteps.{handed_on, lacking_none, lacking_more, entries_entered}
 use Rattle.qcow2_alloc.proofs.KeptTables.Places.{named_have_places}
 use Rattle.qcow2_alloc.proofs.NewRefblocks.{new_blocks_none}

@@ -1,4 +1,5 @@
-use Rattle.qcow2_alloc.proofs.Common.{◌≡◌, ◌==◌, ◌/◌, ◌%◌, ◌^◌, ℕ, true, Option, Some, None, Ok, refl, ap, ◌∙◌, sym, IfSome, IsSome, unwrap_or, one_at, owed_as, DecrementsOne, KeepsNoFreeBelowHint, contents_in, ReportsCount, counts_per_block}
+use Rattle.std.proofs.Common.{◌≡◌, ◌==◌, ◌/◌, ◌%◌, ◌^◌, ℕ, true, Option, Some, None, Ok, refl, ap, ◌∙◌, sym, IfSome, IsSome}
+use Rattle.qcow2_alloc.proofs.Common.{unwrap_or, one_at, owed_as, DecrementsOne, KeepsNoFreeBelowHint, contents_in, ReportsCount, counts_per_block}
 use Rattle.qcow2_alloc.proofs.Hints.{hint_lowered, is_zero, lowered_so, passed_still, stands_still, hint_refused}
 use Rattle.qcow2_alloc.proofs.AllocationSteps.{handed_on, of_equal, allocator_step_as, may_lower_still, counted_at, given_one, owed_counted, owed_has_block}
 use Rattle.qcow2_alloc.proofs.Leaks.{tried}

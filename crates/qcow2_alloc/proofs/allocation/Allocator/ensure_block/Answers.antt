@@ -1,4 +1,5 @@
-use Rattle.qcow2_alloc.proofs.Common.{Option, Some, None, Ok, Err, true, ◌≡◌, mul-pos, ◌≤◌, ◌<◌, inl, inr, ◌*◌, ◌/◌, ◌%◌, ◌^◌, false, sym, ap, ◌∙◌, refl, arith, Result, IsTrue, subst, ℕ, block_offset, counts_per_block, one_at, LacksFirst, taken_as, HasNone, GetsBlock, IsUnaligned, IsFault, KeepsNoFreeBelowHint, IfErr, IsSome, div-eq_of_lt, div-mul-le_self, pow_pos, ImageError, EntryTableView, HeaderFields, IsHostCluster, is_some, IsBlockOf}
+use Rattle.std.proofs.Common.{◌≡◌, ◌≤◌, ◌<◌, ◌*◌, ◌/◌, ◌%◌, ◌^◌, Option, Some, None, Ok, Err, true, mul-pos, inl, inr, false, sym, ap, ◌∙◌, refl, arith, Result, IsTrue, subst, ℕ, IfErr, IsSome, is_some}
+use Rattle.qcow2_alloc.proofs.Common.{block_offset, counts_per_block, one_at, LacksFirst, taken_as, HasNone, GetsBlock, IsUnaligned, IsFault, KeepsNoFreeBelowHint, div-eq_of_lt, div-mul-le_self, pow_pos, ImageError, EntryTableView, HeaderFields, IsHostCluster, IsBlockOf}
 use Rattle.qcow2_alloc.proofs.FileSteps.{leaves_then}
 use Rattle.qcow2_alloc.proofs.Hints.{lacking_above, hint_got, hint_placed, hint_refused, hint_stays, ok_as, passed_same, passed_still, range_as, not_broken}
 use Rattle.qcow2_alloc.proofs.AllocationSteps.{named_then, named_covered, none_named, handed_on, allocator_step_then, gets_then, gets_taken, is_sound_now, none_in_memory, stands_none, still_sound}

@@ -1,4 +1,5 @@
-use Rattle.qcow2_alloc.proofs.Common.{sym, ap, subst, ◌/◌, arith, ◌^◌, ◌∙◌, Result, refl, Ok, Pending, counts_per_block, GrowsTable, pending_then, KeepsNoFreeBelowHint, KeepsUsed, IsUsed, CantCount, IsFaultOr, IfErr, IsHostCluster, entry_count, ImageError}
+use Rattle.std.proofs.Common.{◌/◌, ◌^◌, sym, ap, subst, arith, ◌∙◌, Result, refl, Ok, IfErr}
+use Rattle.qcow2_alloc.proofs.Common.{Pending, counts_per_block, GrowsTable, pending_then, KeepsNoFreeBelowHint, KeepsUsed, IsUsed, CantCount, IsFaultOr, IsHostCluster, entry_count, ImageError}
 use Rattle.qcow2_alloc.proofs.PlacedRooms.{has_some}
 use Rattle.qcow2_alloc.proofs.AllocationSteps.{handed_on, is_sound_on, on_none}
 use Rattle.qcow2_alloc.proofs.ListedAfter.{listed_after_same, grows_none, grows_on, header_counts, header_bits}

@@ -1,4 +1,5 @@
-use Rattle.qcow2_alloc.proofs.Common.{◌≡◌, mul-pos, inl, inr, true, false, ◌*◌, ◌<◌, ◌^◌, sym, ap, ◌∙◌, arith, Result, IsTrue, refl, subst, counts_per_block, GetsBlock, IfErr, IsFault, pow_pos, ImageError, IsHostCluster}
+use Rattle.std.proofs.Common.{◌≡◌, ◌*◌, ◌<◌, ◌^◌, mul-pos, inl, inr, true, false, sym, ap, ◌∙◌, arith, Result, IsTrue, refl, subst, IfErr}
+use Rattle.qcow2_alloc.proofs.Common.{counts_per_block, GetsBlock, IsFault, pow_pos, ImageError, IsHostCluster}
 use Rattle.qcow2_alloc.proofs.Hints.{lacking_above, search_by, search_same}
 use Rattle.qcow2_alloc.proofs.AllocationSteps.{named_covered, none_named, handed_on, gets_placed, gets_then, is_sound_now, none_in_memory, stands_none}
 use Rattle.qcow2_alloc.proofs.Limits.{placed_fault, host_below, is_able}

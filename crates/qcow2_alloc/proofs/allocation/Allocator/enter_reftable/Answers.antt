@@ -1,4 +1,5 @@
-use Rattle.qcow2_alloc.proofs.Common.{refl, Option, Some, Ok, Err, ◌≡◌, ℕ, ◌+◌, ◌*◌, ◌/◌, ◌%◌, ◌^◌, ◌<◌, ◌≤◌, min, Result, ◌∙◌, sym, ap, subst, arith, mul-le-mul_left, pow_mono, IfSome, IfErr, OnOk, HeaderView, counts_per_block, entries_per_cluster, EntryTableView, entry_count, greatest_offset, Pending, ImageError, ImageFile, NamesLacking, InternalAllocatorStep, IsCloneOf, with_run, EntersReftable, NamesReftable, AllocatorInvariant, KeepsHeader, IsFaultOr, nameable_clusters, HasNoRoomBelow, HasNoRoomFor, LiesLowest, KeepsUsed, IsUsed, IsLonger, room_length, opened, EntersRoom, EntersTable, Allocator, Room, HeaderFields}
+use Rattle.std.proofs.Common.{◌≡◌, ◌+◌, ◌*◌, ◌/◌, ◌%◌, ◌^◌, ◌<◌, ◌≤◌, refl, Option, Some, Ok, Err, ℕ, min, Result, ◌∙◌, sym, ap, subst, arith, IfSome, IfErr, OnOk}
+use Rattle.qcow2_alloc.proofs.Common.{mul-le-mul_left, pow_mono, HeaderView, counts_per_block, entries_per_cluster, EntryTableView, entry_count, greatest_offset, Pending, ImageError, ImageFile, NamesLacking, InternalAllocatorStep, IsCloneOf, with_run, EntersReftable, NamesReftable, AllocatorInvariant, KeepsHeader, IsFaultOr, nameable_clusters, HasNoRoomBelow, HasNoRoomFor, LiesLowest, KeepsUsed, IsUsed, IsLonger, room_length, opened, EntersRoom, EntersTable, Allocator, Room, HeaderFields}
 use Rattle.qcow2_alloc.proofs.AllocationSteps.{handed_on, is_sound_now, leaves_as}
 use Rattle.qcow2_alloc.proofs.FullRooms.{no_room_for, lies_lowest, lowest_entered}
 use Rattle.qcow2_alloc.proofs.Limits.{cause_as}

@@ -1,4 +1,5 @@
-use Rattle.qcow2_alloc.proofs.Common.{IsUsed, ◌≡◌, ℕ, Result, inl, inr, ◌+◌, refl, sym, ap, ◌∙◌, subst, arith, IfErr, EntryTableView, HeaderView, counts_per_block, Pending, InternalAllocatorStep, with_run, ImageError, Room, IsFaultOr, HasNoRoomBelow, opened, AllocatesRoom, Allocator}
+use Rattle.std.proofs.Common.{◌≡◌, ◌+◌, ℕ, Result, inl, inr, refl, sym, ap, ◌∙◌, subst, arith, IfErr}
+use Rattle.qcow2_alloc.proofs.Common.{IsUsed, EntryTableView, HeaderView, counts_per_block, Pending, InternalAllocatorStep, with_run, ImageError, Room, IsFaultOr, HasNoRoomBelow, opened, AllocatesRoom, Allocator}
 use Rattle.qcow2_alloc.proofs.FileSteps.{leaves_then}
 use Rattle.qcow2_alloc.proofs.AllocationSteps.{handed_on, allocator_step_none, allocator_step_then, is_sound_now}
 use Rattle.qcow2_alloc.proofs.Runs.{run_after}

@@ -1,4 +1,5 @@
-use Rattle.qcow2_alloc.proofs.Common.{◌≡◌, ◌-◌, ◌<◌, ◌≤◌, counts_per_block, Pending, SameLeaks, InternalAllocatorStep, faults_of, AllocatorInvariant, NoFreeBelowHint, SearchStays, TableStep}
+use Rattle.std.proofs.Common.{◌≡◌, ◌-◌, ◌<◌, ◌≤◌}
+use Rattle.qcow2_alloc.proofs.Common.{counts_per_block, Pending, SameLeaks, InternalAllocatorStep, faults_of, AllocatorInvariant, NoFreeBelowHint, SearchStays, TableStep}
 use Rattle.qcow2_alloc.proofs.FullRooms.{IsFullBelow}
 use Rattle.qcow2_alloc.proofs.allocation.Allocator.find_room.Given as goal
 

@@ -1,4 +1,4 @@
-use Rattle.qcow2_alloc.proofs.Common.{◌++◌, ◌∷◌, [], refl, sym, ap, ◌∙◌}
+use Rattle.std.proofs.Common.{◌++◌, ◌∷◌, [], refl, sym, ap, ◌∙◌}
 use Rattle.qcow2_alloc.proofs.FreedLists.{listed_as_well, listed_done}
 use Rattle.qcow2_alloc.proofs.allocation.Allocator.free_entry.Goals as goal
 

@@ -1,4 +1,5 @@
-use Rattle.qcow2_alloc.proofs.Common.{◌-◌, true, inl, inr, sym, ap, ◌∙◌, subst, arith, cases_eq, option_copied, ReportsZero}
+use Rattle.std.proofs.Common.{◌-◌, true, inl, inr, sym, ap, ◌∙◌, subst, arith}
+use Rattle.qcow2_alloc.proofs.Common.{cases_eq, option_copied, ReportsZero}
 use Rattle.qcow2_alloc.proofs.KeptTables.Counting.{zero_told}
 use Rattle.qcow2_alloc.proofs.allocation.Allocator.free_from.Goals as goal
 

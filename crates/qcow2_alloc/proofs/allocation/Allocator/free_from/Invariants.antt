@@ -1,4 +1,5 @@
-use Rattle.qcow2_alloc.proofs.Common.{◌-◌, ◌≤◌, AreFoundFree}
+use Rattle.std.proofs.Common.{◌-◌, ◌≤◌}
+use Rattle.qcow2_alloc.proofs.Common.{AreFoundFree}
 use Rattle.qcow2_alloc.proofs.allocation.Allocator.free_from.Given as goal
 
 -- the counts up to here are 0

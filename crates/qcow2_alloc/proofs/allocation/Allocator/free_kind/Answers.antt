@@ -1,4 +1,4 @@
-use Rattle.qcow2_alloc.proofs.Common.{◌++◌, sym, ap, ◌∙◌}
+use Rattle.std.proofs.Common.{◌++◌, sym, ap, ◌∙◌}
 use Rattle.qcow2_alloc.proofs.FreedLists.{listed_as_well}
 use Rattle.qcow2_alloc.proofs.allocation.Allocator.free_kind.Goals as goal
 

@@ -1,4 +1,5 @@
-use Rattle.qcow2_alloc.proofs.Common.{◌≡◌, ◌++◌, ◌∷◌, [], sym, subst, rules, refl, ClusterKind, FreesListed}
+use Rattle.std.proofs.Common.{◌≡◌, ◌++◌, ◌∷◌, [], sym, subst, rules, refl}
+use Rattle.qcow2_alloc.proofs.Common.{ClusterKind, FreesListed}
 use Rattle.qcow2_alloc.proofs.FreedLists.{listed_as_well, listed_stay}
 use Rattle.qcow2_alloc.proofs.allocation.Allocator.free_or_list.Goals as goal
 

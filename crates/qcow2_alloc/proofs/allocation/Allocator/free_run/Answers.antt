@@ -1,4 +1,5 @@
-use Rattle.qcow2_alloc.proofs.Common.{refl, subst, [], ◌∷◌, ◌++◌, ◌<◌, ◌∙◌, Ok, Err, arith, ClusterKind, FreesListed}
+use Rattle.std.proofs.Common.{◌∷◌, ◌++◌, ◌<◌, refl, subst, [], ◌∙◌, Ok, Err, arith}
+use Rattle.qcow2_alloc.proofs.Common.{ClusterKind, FreesListed}
 use Rattle.qcow2_alloc.proofs.AllocationSteps.{handed_on}
 use Rattle.qcow2_alloc.proofs.FreedLists.{listed_stay, listed_then, run_lowered, run_stays}
 use Rattle.qcow2_alloc.proofs.allocation.Allocator.free_run.Goals as goal

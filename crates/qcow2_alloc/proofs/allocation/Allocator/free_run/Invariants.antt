@@ -1,4 +1,5 @@
-use Rattle.qcow2_alloc.proofs.Common.{◌≡◌, ◌++◌, ◌∷◌, [], Ok, FreesListed}
+use Rattle.std.proofs.Common.{◌≡◌, ◌++◌, ◌∷◌, [], Ok}
+use Rattle.qcow2_alloc.proofs.Common.{FreesListed}
 use Rattle.qcow2_alloc.proofs.allocation.Allocator.free_run.Given as goal
 
 -- what the run says is still to be freed

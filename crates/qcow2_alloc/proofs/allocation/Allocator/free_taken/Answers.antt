@@ -1,4 +1,5 @@
-use Rattle.qcow2_alloc.proofs.Common.{◌≡◌, ◌++◌, ◌∷◌, [], refl, sym, ap, ◌∙◌, append_assoc, but, FreesListed}
+use Rattle.std.proofs.Common.{◌≡◌, ◌++◌, ◌∷◌, [], refl, sym, ap, ◌∙◌, append_assoc}
+use Rattle.qcow2_alloc.proofs.Common.{but, FreesListed}
 use Rattle.qcow2_alloc.proofs.AllocationSteps.{handed_on}
 use Rattle.qcow2_alloc.proofs.Freeing.{but_first}
 use Rattle.qcow2_alloc.proofs.FreedLists.{listed_as_well, listed_first, listed_stay, listed_then}

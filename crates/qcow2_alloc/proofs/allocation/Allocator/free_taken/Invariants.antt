@@ -1,4 +1,5 @@
-use Rattle.qcow2_alloc.proofs.Common.{◌≡◌, ◌++◌, length, Ok, but, FreesListed}
+use Rattle.std.proofs.Common.{◌≡◌, ◌++◌, length, Ok}
+use Rattle.qcow2_alloc.proofs.Common.{but, FreesListed}
 use Rattle.qcow2_alloc.proofs.allocation.Allocator.free_taken.Given as goal
 
 -- what is listed, and what is taken and not looked at yet, is pending

@@ -1,4 +1,5 @@
-use Rattle.qcow2_alloc.proofs.Common.{◌≡◌, ◌+◌, ◌-◌, ◌<◌, inr, refl, sym, ◌∙◌, subst, arith, one_at, Pending, run_at, taken_as, Taken, InternalAllocatorGrowth, GivesBackAs, AllocatorInvariant, InternalFileGrowth, KeepsNoFreeBelowHint, KeepsUsedBut}
+use Rattle.std.proofs.Common.{◌≡◌, ◌+◌, ◌-◌, ◌<◌, inr, refl, sym, ◌∙◌, subst, arith}
+use Rattle.qcow2_alloc.proofs.Common.{one_at, Pending, run_at, taken_as, Taken, InternalAllocatorGrowth, GivesBackAs, AllocatorInvariant, InternalFileGrowth, KeepsNoFreeBelowHint, KeepsUsedBut}
 use Rattle.qcow2_alloc.proofs.FileSteps.{file_step_on, on_then, on_interrupted_after}
 use Rattle.qcow2_alloc.proofs.AllocationSteps.{handed_on, is_sound_now}
 use Rattle.qcow2_alloc.proofs.Hints.{kept_refused, not_in_run, taken_pending, used_stays}

@@ -1,4 +1,5 @@
-use Rattle.qcow2_alloc.proofs.Common.{◌≡◌, ℕ, ◌+◌, ◌-◌, ◌<◌, Bool, Pending, run_at, taken_as, SameLeaks, InternalAllocatorGrowth, faults_of, ImageFile, AllocatorInvariant, NoFreeBelowHint, IsUsed, TableStep}
+use Rattle.std.proofs.Common.{◌≡◌, ◌+◌, ◌-◌, ◌<◌, ℕ, Bool}
+use Rattle.qcow2_alloc.proofs.Common.{Pending, run_at, taken_as, SameLeaks, InternalAllocatorGrowth, faults_of, ImageFile, AllocatorInvariant, NoFreeBelowHint, IsUsed, TableStep}
 use Rattle.qcow2_alloc.proofs.allocation.Allocator.give_back.Given as goal
 
 -- the clusters before this one are given back

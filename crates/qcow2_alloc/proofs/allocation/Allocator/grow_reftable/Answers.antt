@@ -1,4 +1,5 @@
-use Rattle.qcow2_alloc.proofs.Common.{◌≡◌, ℕ, ◌^◌, ◌≤◌, IsSome, inl, inr, Result, refl, ◌∙◌, ◌++◌, ◌∷◌, [], List, sym, ap, subst, arith, Err, IsUsed, KeepsUsed, IfErr, entry_count, HeaderView, counts_per_block, entries_per_cluster, Pending, ClustersToFreeEntry, InternalAllocatorGrowth, RefusedGrowth, GrowsTable, ImageError, pending_then, IsLeastLength, IsLongEnough, IsFaultOr, HasNoRoomFor, CantGrow, IsAllocatedMetadata, AllocatesOnly}
+use Rattle.std.proofs.Common.{◌≡◌, ◌^◌, ◌≤◌, ◌++◌, ◌∷◌, ℕ, IsSome, inl, inr, Result, refl, ◌∙◌, [], List, sym, ap, subst, arith, Err, IfErr}
+use Rattle.qcow2_alloc.proofs.Common.{IsUsed, KeepsUsed, entry_count, HeaderView, counts_per_block, entries_per_cluster, Pending, ClustersToFreeEntry, InternalAllocatorGrowth, RefusedGrowth, GrowsTable, ImageError, pending_then, IsLeastLength, IsLongEnough, IsFaultOr, HasNoRoomFor, CantGrow, IsAllocatedMetadata, AllocatesOnly}
 use Rattle.qcow2_alloc.proofs.SparedHeaders.{spares_listed}
 use Rattle.qcow2_alloc.proofs.AllocationSteps.{handed_on, lacking_clone, on_none}
 use Rattle.qcow2_alloc.proofs.FullRooms.{cant_grow}

@@ -1,4 +1,5 @@
-use Rattle.qcow2_alloc.proofs.Common.{inl, ◌≡◌, inr, Bool, ◌==◌, ◌/◌, ◌%◌, ◌^◌, true, false, Ok, refl, sym, ap, ◌∙◌, arith, nat_tests, block_offset, count, entry_at, known_in, contents_in, AllocatesGivenSoundly}
+use Rattle.std.proofs.Common.{◌≡◌, ◌==◌, ◌/◌, ◌%◌, ◌^◌, inl, inr, Bool, true, false, Ok, refl, sym, ap, ◌∙◌, arith}
+use Rattle.qcow2_alloc.proofs.Common.{nat_tests, block_offset, count, entry_at, known_in, contents_in, AllocatesGivenSoundly}
 use Rattle.qcow2_alloc.proofs.AllocationSteps.{allocator_step_none, handed_on, of_equal, counted_at, none_in_memory, taken_one}
 use Rattle.qcow2_alloc.proofs.Hints.{is_zero, used_stays}
 use Rattle.qcow2_alloc.proofs.KeptMarks.{marks_of_caches}

@@ -1,4 +1,5 @@
-use Rattle.qcow2_alloc.proofs.Common.{◌≡◌, ℕ, ◌+◌, ◌-◌, ◌*◌, ◌/◌, ◌%◌, ◌^◌, ◌<◌, ◌≤◌, inl, inr, refl, sym, ap, ◌∙◌, arith, div-mul-add, mod-mul-add, contents_in, KeepsNoFreeBelowHint, IsFoundUsed, StaysSound, Allocator}
+use Rattle.std.proofs.Common.{◌≡◌, ◌+◌, ◌-◌, ◌*◌, ◌/◌, ◌%◌, ◌^◌, ◌<◌, ◌≤◌, ℕ, inl, inr, refl, sym, ap, ◌∙◌, arith}
+use Rattle.qcow2_alloc.proofs.Common.{div-mul-add, mod-mul-add, contents_in, KeepsNoFreeBelowHint, IsFoundUsed, StaysSound, Allocator}
 use Rattle.qcow2_alloc.proofs.AllocationSteps.{handed_on, allocator_step_as, counted_at}
 use Rattle.qcow2_alloc.proofs.Hints.{hint_refused, hint_stays, passed_still}
 use Rattle.qcow2_alloc.proofs.KeptRuns.{hint_kept}

@@ -1,4 +1,5 @@
-use Rattle.qcow2_alloc.proofs.Common.{◌≡◌, inl, inr, ◌+◌, ◌-◌, ◌/◌, ◌^◌, false, true, refl, sym, ap, ◌∙◌, subst, arith, counts_per_block, one_at, Pending, Taken, taken_as, InternalAllocatorStep, GivesBack, IsUsed, with_run, lacks, faults_of}
+use Rattle.std.proofs.Common.{◌≡◌, ◌+◌, ◌-◌, ◌/◌, ◌^◌, inl, inr, false, true, refl, sym, ap, ◌∙◌, subst, arith}
+use Rattle.qcow2_alloc.proofs.Common.{counts_per_block, one_at, Pending, Taken, taken_as, InternalAllocatorStep, GivesBack, IsUsed, with_run, lacks, faults_of}
 use Rattle.qcow2_alloc.proofs.AllocationSteps.{handed_on, of_equal}
 use Rattle.qcow2_alloc.proofs.Hints.{not_in_run, search_as, search_same, search_then, taken_pending, used_stays}
 use Rattle.qcow2_alloc.proofs.Rooms.{run_past, left_none, left_one, left_fault, owed_now}

@@ -1,4 +1,5 @@
-use Rattle.qcow2_alloc.proofs.Common.{◌≡◌, ℕ, ◌+◌, ◌-◌, ◌^◌, counts_per_block, Pending, run_at, SameLeaks, InternalAllocatorStep, faults_of, with_run, ImageFile, IsUsed, SearchStays, TableStep}
+use Rattle.std.proofs.Common.{◌≡◌, ◌+◌, ◌-◌, ◌^◌, ℕ}
+use Rattle.qcow2_alloc.proofs.Common.{counts_per_block, Pending, run_at, SameLeaks, InternalAllocatorStep, faults_of, with_run, ImageFile, IsUsed, SearchStays, TableStep}
 use Rattle.qcow2_alloc.proofs.allocation.Allocator.leave_run.Given as goal
 
 -- the clusters before this one are given back

@@ -1,4 +1,5 @@
-use Rattle.qcow2_alloc.proofs.Common.{◌≡◌, ◌⊎◌, ◌-◌, ◌<◌, ◌≤◌, ℕ, IsIn, NoneIn, IsFoundUsed, AddsFree}
+use Rattle.std.proofs.Common.{◌≡◌, ◌⊎◌, ◌-◌, ◌<◌, ◌≤◌, ℕ}
+use Rattle.qcow2_alloc.proofs.Common.{IsIn, NoneIn, IsFoundUsed, AddsFree}
 use Rattle.qcow2_alloc.proofs.allocation.Allocator.list_free.Given as goal
 
 -- the clusters up to here are listed, or not free

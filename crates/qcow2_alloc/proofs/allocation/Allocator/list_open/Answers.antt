@@ -1,4 +1,5 @@
-use Rattle.qcow2_alloc.proofs.Common.{◌+◌, inl, inr, arith, refl, cases_lt}
+use Rattle.std.proofs.Common.{◌+◌, inl, inr, arith, refl}
+use Rattle.qcow2_alloc.proofs.Common.{cases_lt}
 use Rattle.qcow2_alloc.proofs.KeptRuns.{adds_none}
 use Rattle.qcow2_alloc.proofs.allocation.Allocator.list_open.Goals as goal
 

@@ -1,4 +1,5 @@
-use Rattle.qcow2_alloc.proofs.Common.{refl, inl, ◌^◌, LoadsBlock, contents_in}
+use Rattle.std.proofs.Common.{◌^◌, refl, inl}
+use Rattle.qcow2_alloc.proofs.Common.{LoadsBlock, contents_in}
 use Rattle.qcow2_alloc.proofs.FileSteps.{file_step_cached, reftable_cached}
 use Rattle.qcow2_alloc.proofs.AllocationSteps.{handed_on, place_fits, names_refblock}
 use Rattle.qcow2_alloc.proofs.KeptTables.Places.{named_have_places}

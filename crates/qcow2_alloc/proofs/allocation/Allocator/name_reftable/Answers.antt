@@ -1,4 +1,5 @@
-use Rattle.qcow2_alloc.proofs.Common.{inr, ◌+◌, ◌*◌, ◌^◌, sym, ap, ◌∙◌, refl, subst, with_run, NamesReftable, of_storage, of_metadata, storage_of, KeepsUsed, KeepsHeader, ImageFile, PreservesHeaderButPointer, HeaderView}
+use Rattle.std.proofs.Common.{◌+◌, ◌*◌, ◌^◌, inr, sym, ap, ◌∙◌, refl, subst}
+use Rattle.qcow2_alloc.proofs.Common.{with_run, NamesReftable, of_storage, of_metadata, storage_of, KeepsUsed, KeepsHeader, ImageFile, PreservesHeaderButPointer, HeaderView}
 use Rattle.qcow2_alloc.proofs.AllocationSteps.{handed_on, fault_of_storage}
 use Rattle.qcow2_alloc.proofs.NamedReftables.{within_limit, interrupted_named, allocator_step_named, keeps_used}
 use Rattle.qcow2_alloc.proofs.ListedAfter.{header_same}

@@ -1,4 +1,5 @@
-use Rattle.qcow2_alloc.proofs.Common.{◌≡◌, ℕ, ◌/◌, refl, ap, subst, sym, ◌∙◌, HeaderView, KeepsNoFreeBelowHint, NoFreeBelowHint, SearchContinuesIn, PassesKnown, Allocator}
+use Rattle.std.proofs.Common.{◌≡◌, ◌/◌, ℕ, refl, ap, subst, sym, ◌∙◌}
+use Rattle.qcow2_alloc.proofs.Common.{HeaderView, KeepsNoFreeBelowHint, NoFreeBelowHint, SearchContinuesIn, PassesKnown, Allocator}
 use Rattle.qcow2_alloc.proofs.AllocationSteps.{handed_on, allocator_step_as, allocator_step_then, is_sound_now}
 use Rattle.qcow2_alloc.proofs.FileSteps.{leaves_then}
 use Rattle.qcow2_alloc.proofs.Hints.{hint_passed, hint_refused, hint_stays, passed_still}

@@ -1,4 +1,5 @@
-use Rattle.qcow2_alloc.proofs.Common.{◌≡◌, ℕ, ◌+◌, ◌-◌, ◌*◌, ◌/◌, ◌%◌, ◌^◌, ◌<◌, ◌≤◌, min, Some, IsSome, inl, inr, refl, sym, ap, subst, ◌∙◌, arith, is_some, cases_lt, one_shl, mod_below, pow_pos, div-add-mod', div-mul-add, mod-mul-add, HeaderFields, EntryTableView, IsFirstZero, counts_per_block, count_at, counts_of, HasNone, NamesBlock, rb_at, PassesKnown, ReportsFirstFree, SearchContinuesAt, MetadataCaches, contents_in}
+use Rattle.std.proofs.Common.{◌≡◌, ◌+◌, ◌-◌, ◌*◌, ◌/◌, ◌%◌, ◌^◌, ◌<◌, ◌≤◌, ℕ, min, Some, IsSome, inl, inr, refl, sym, ap, subst, ◌∙◌, arith, is_some}
+use Rattle.qcow2_alloc.proofs.Common.{cases_lt, one_shl, mod_below, pow_pos, div-add-mod', div-mul-add, mod-mul-add, HeaderFields, EntryTableView, IsFirstZero, counts_per_block, count_at, counts_of, HasNone, NamesBlock, rb_at, PassesKnown, ReportsFirstFree, SearchContinuesAt, MetadataCaches, contents_in}
 use Rattle.qcow2_alloc.proofs.AllocationSteps.{handed_on, counted_at, none_named}
 use Rattle.qcow2_alloc.proofs.CachedEntries.Putting.{some_of}
 use Rattle.qcow2_alloc.proofs.Outcomes.{if_no_ok}

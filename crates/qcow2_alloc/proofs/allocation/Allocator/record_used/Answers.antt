@@ -1,4 +1,5 @@
-use Rattle.qcow2_alloc.proofs.Common.{◌≡◌, inl, inr, refl, subst, arith, IsCovered}
+use Rattle.std.proofs.Common.{◌≡◌, inl, inr, refl, subst, arith}
+use Rattle.qcow2_alloc.proofs.Common.{IsCovered}
 use Rattle.qcow2_alloc.proofs.KeptRuns.{covered_but, kept_more}
 use Rattle.qcow2_alloc.proofs.allocation.Allocator.record_used.Goals as goal
 

@@ -1,4 +1,5 @@
-use Rattle.qcow2_alloc.proofs.Common.{false, ◌≡◌, inl, ◌+◌, ◌/◌, ◌^◌, refl, sym, ap, ◌∙◌, subst, arith, counts_per_block, Pending, InternalAllocatorStep, counted_run, with_run, lacks, opens, ReachesRoom}
+use Rattle.std.proofs.Common.{◌≡◌, ◌+◌, ◌/◌, ◌^◌, false, inl, refl, sym, ap, ◌∙◌, subst, arith}
+use Rattle.qcow2_alloc.proofs.Common.{counts_per_block, Pending, InternalAllocatorStep, counted_run, with_run, lacks, opens, ReachesRoom}
 use Rattle.qcow2_alloc.proofs.AllocationSteps.{handed_on, allocator_step_none, is_sound_now}
 use Rattle.qcow2_alloc.proofs.Rooms.{counted_few, run_none, run_taken, run_not_taken, ends_room, opened_none, opened_more, more_short, is_flag, flag_few, noted_more, still_noted}
 use Rattle.qcow2_alloc.proofs.allocation.Allocator.reserve_room.Goals.{then-reaching-test+else-taken-end, else-reaching-test}

@@ -1,4 +1,5 @@
-use Rattle.qcow2_alloc.proofs.Common.{◌≡◌, ◌⊎◌, ℕ, ◌+◌, ◌-◌, ◌^◌, ◌<◌, ◌≤◌, IsTrue, counts_per_block, Pending, InternalAllocatorStep, faults_of, counted_run, with_run, AllocatorInvariant, opened, TableStep}
+use Rattle.std.proofs.Common.{◌≡◌, ◌⊎◌, ◌+◌, ◌-◌, ◌^◌, ◌<◌, ◌≤◌, ℕ, IsTrue}
+use Rattle.qcow2_alloc.proofs.Common.{counts_per_block, Pending, InternalAllocatorStep, faults_of, counted_run, with_run, AllocatorInvariant, opened, TableStep}
 use Rattle.qcow2_alloc.proofs.allocation.Allocator.reserve_room.Given as goal
 
 -- so many clusters are taken

@@ -1,4 +1,5 @@
-use Rattle.qcow2_alloc.proofs.Common.{ℕ, ap, ◌+◌, arith, ◌*◌, ◌^◌, ◌≤◌, false, refl, sym, ◌∙◌, subst, ◌<◌, ◌/◌, ◌≡◌, counts_per_block, one_at, taken_as, KeepsEntries, AllocatesLowest, Allocator, KeepsNoFreeBelowHint, ◌≢◌, EntryTableView}
+use Rattle.std.proofs.Common.{◌+◌, ◌*◌, ◌^◌, ◌≤◌, ◌<◌, ◌/◌, ◌≡◌, ◌≢◌, ℕ, ap, arith, false, refl, sym, ◌∙◌, subst}
+use Rattle.qcow2_alloc.proofs.Common.{counts_per_block, one_at, taken_as, KeepsEntries, AllocatesLowest, Allocator, KeepsNoFreeBelowHint, EntryTableView}
 use Rattle.qcow2_alloc.proofs.FileSteps.{one_here, leaves_then}
 use Rattle.qcow2_alloc.proofs.Hints.{hint_header, hint_stays, hint_taken, hint_more, hint_passed, hint_refused, passed_same, passed_still, range_as, taken_used}
 use Rattle.qcow2_alloc.proofs.AllocationSteps.{allocator_step_none, behind_none, handed_on, entries_then, entries_less, other_range, allocator_step_as, allocator_step_then, is_sound_now}

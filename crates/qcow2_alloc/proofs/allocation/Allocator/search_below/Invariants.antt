@@ -1,4 +1,5 @@
-use Rattle.qcow2_alloc.proofs.Common.{◌≡◌, ◌-◌, ◌*◌, ◌<◌, ◌≤◌, counts_per_block, Pending, KeepsEntries, SameLeaks, InternalAllocatorStep, faults_of, AllocatorInvariant, NoFreeBelowHint, TableStep}
+use Rattle.std.proofs.Common.{◌≡◌, ◌-◌, ◌*◌, ◌<◌, ◌≤◌}
+use Rattle.qcow2_alloc.proofs.Common.{counts_per_block, Pending, KeepsEntries, SameLeaks, InternalAllocatorStep, faults_of, AllocatorInvariant, NoFreeBelowHint, TableStep}
 use Rattle.qcow2_alloc.proofs.allocation.Allocator.search_below.Given as goal
 
 -- nothing is taken yet, and no refblock was placed for the ranges from the end on

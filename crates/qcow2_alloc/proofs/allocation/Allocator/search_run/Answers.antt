@@ -1,4 +1,5 @@
-use Rattle.qcow2_alloc.proofs.Common.{◌≡◌, inl, false, refl, sym, ap, ◌+◌, ◌/◌, ◌^◌, ◌∙◌, subst, arith, inr, Result, ℕ, ◌≤◌, ◌<◌, greatest_offset, div-le_self, Pending, KeepsNoFreeBelowHint, IsUsed, Allocator, run_at, InternalAllocatorGrowth, AllocatesSomeRun, RefusedGrowth, pending_then, IfErr, ImageError, IsFaultOr, HasNoPlace, nameable_clusters}
+use Rattle.std.proofs.Common.{◌≡◌, ◌+◌, ◌/◌, ◌^◌, ◌≤◌, ◌<◌, inl, false, refl, sym, ap, ◌∙◌, subst, arith, inr, Result, ℕ, IfErr}
+use Rattle.qcow2_alloc.proofs.Common.{greatest_offset, div-le_self, Pending, KeepsNoFreeBelowHint, IsUsed, Allocator, run_at, InternalAllocatorGrowth, AllocatesSomeRun, RefusedGrowth, pending_then, ImageError, IsFaultOr, HasNoPlace, nameable_clusters}
 use Rattle.qcow2_alloc.proofs.Hints.{hint_header, lowest_behind, lowest_first, lowest_passed, lowest_stays, not_broken, used_stays}
 use Rattle.qcow2_alloc.proofs.AllocationSteps.{handed_on, may_still, on_none, on_of, leaves_as, is_sound_on}
 use Rattle.qcow2_alloc.proofs.ListedAfter.{lists_same, lists_then, listed_after_same, then_none, then_taken, then_leaves, header_bits}

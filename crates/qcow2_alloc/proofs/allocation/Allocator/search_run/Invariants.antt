@@ -1,4 +1,5 @@
-use Rattle.qcow2_alloc.proofs.Common.{max, ◌≡◌, ◌+◌, ◌-◌, ◌/◌, ◌^◌, ◌<◌, ◌≤◌, Bool, greatest_offset, Pending, InternalAllocatorGrowth, MayAllocate, SameLeaks, faults_of, AllocatorInvariant, pending_then, NoFreeBelowHint, IsLowestRun, IsUsed, StaysUsed, FileStep}
+use Rattle.std.proofs.Common.{◌≡◌, ◌+◌, ◌-◌, ◌/◌, ◌^◌, ◌<◌, ◌≤◌, max, Bool}
+use Rattle.qcow2_alloc.proofs.Common.{greatest_offset, Pending, InternalAllocatorGrowth, MayAllocate, SameLeaks, faults_of, AllocatorInvariant, pending_then, NoFreeBelowHint, IsLowestRun, IsUsed, StaysUsed, FileStep}
 use Rattle.qcow2_alloc.proofs.allocation.Allocator.search_run.Given as goal
 
 -- nothing is taken yet

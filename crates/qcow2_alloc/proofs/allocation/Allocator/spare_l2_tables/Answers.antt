@@ -1,4 +1,5 @@
-use Rattle.qcow2_alloc.proofs.Common.{◌≡◌, ◌≢◌, ◌+◌, ◌/◌, ◌^◌, true, false, ap, sym, subst, refl, ◌∙◌, arith, host_offset, entry_count, entry_at, NamesTableIn, Spares, Allocator}
+use Rattle.std.proofs.Common.{◌≡◌, ◌≢◌, ◌+◌, ◌/◌, ◌^◌, true, false, ap, sym, subst, refl, ◌∙◌, arith}
+use Rattle.qcow2_alloc.proofs.Common.{host_offset, entry_count, entry_at, NamesTableIn, Spares, Allocator}
 use Rattle.qcow2_alloc.proofs.SparedClusters.{table_more, table_none, named_rest, spares_none}
 use Rattle.qcow2_alloc.proofs.allocation.Allocator.spare_l2_tables.Goals.{in-Some+else-not-spare, in_default}
 use Rattle.qcow2_alloc.proofs.allocation.Allocator.spare_l2_tables.Goals as goal

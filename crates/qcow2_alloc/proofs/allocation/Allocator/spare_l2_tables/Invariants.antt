@@ -1,4 +1,5 @@
-use Rattle.qcow2_alloc.proofs.Common.{◌≡◌, ◌^◌, ◌≤◌, true, entry_count, NamesTableIn, Spares}
+use Rattle.std.proofs.Common.{◌≡◌, ◌^◌, ◌≤◌, true}
+use Rattle.qcow2_alloc.proofs.Common.{entry_count, NamesTableIn, Spares}
 use Rattle.qcow2_alloc.proofs.allocation.Allocator.spare_l2_tables.Given as goal
 
 -- the tables that the entries before this one name are spared

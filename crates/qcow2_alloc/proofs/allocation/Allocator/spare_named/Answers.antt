@@ -1,4 +1,5 @@
-use Rattle.qcow2_alloc.proofs.Common.{◌⊎◌, ◌^◌, true, false, ap, entry_count, cluster_size, NamesBlockIn, NamesTableIn, Allocator}
+use Rattle.std.proofs.Common.{◌⊎◌, ◌^◌, true, false, ap}
+use Rattle.qcow2_alloc.proofs.Common.{entry_count, cluster_size, NamesBlockIn, NamesTableIn, Allocator}
 use Rattle.qcow2_alloc.specs.SparedClusters.{IsOfTables}
 use Rattle.qcow2_alloc.proofs.SparedClusters.{blocks_as, named_rest, spared_used, spares_both, spares_first, tables_as}
 use Rattle.qcow2_alloc.proofs.allocation.Allocator.spare_named.Goals as goal

@@ -1,4 +1,5 @@
-use Rattle.qcow2_alloc.proofs.Common.{◌≡◌, ◌≢◌, ◌+◌, ◌/◌, ◌^◌, true, false, ap, sym, subst, refl, ◌∙◌, arith, block_offset, EntryTableView, entry_count, entry_at, NamesBlockIn, Spares, Allocator}
+use Rattle.std.proofs.Common.{◌≡◌, ◌≢◌, ◌+◌, ◌/◌, ◌^◌, true, false, ap, sym, subst, refl, ◌∙◌, arith}
+use Rattle.qcow2_alloc.proofs.Common.{block_offset, EntryTableView, entry_count, entry_at, NamesBlockIn, Spares, Allocator}
 use Rattle.qcow2_alloc.proofs.SparedClusters.{block_more, block_none, named_rest, spares_none}
 use Rattle.qcow2_alloc.proofs.allocation.Allocator.spare_refblocks.Goals.{in-Some+else-not-spare, in_default}
 use Rattle.qcow2_alloc.proofs.allocation.Allocator.spare_refblocks.Goals as goal

@@ -1,4 +1,5 @@
-use Rattle.qcow2_alloc.proofs.Common.{◌≡◌, ◌^◌, ◌≤◌, true, entry_count, NamesBlockIn, Spares}
+use Rattle.std.proofs.Common.{◌≡◌, ◌^◌, ◌≤◌, true}
+use Rattle.qcow2_alloc.proofs.Common.{entry_count, NamesBlockIn, Spares}
 use Rattle.qcow2_alloc.proofs.allocation.Allocator.spare_refblocks.Given as goal
 
 -- the refblocks of the ranges before this one are spared

@@ -1,4 +1,5 @@
-use Rattle.qcow2_alloc.proofs.Common.{◌+◌, refl, arith, IsWithin}
+use Rattle.std.proofs.Common.{◌+◌, refl, arith}
+use Rattle.qcow2_alloc.proofs.Common.{IsWithin}
 use Rattle.qcow2_alloc.proofs.SparedClusters.{named_rest, run_all, run_ends, run_more, spares_none}
 use Rattle.qcow2_alloc.proofs.allocation.Allocator.spare_run.Goals as goal
 

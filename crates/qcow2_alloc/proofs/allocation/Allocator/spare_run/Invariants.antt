@@ -1,4 +1,5 @@
-use Rattle.qcow2_alloc.proofs.Common.{◌≡◌, ◌+◌, ◌≤◌, true, IsWithin, Spares}
+use Rattle.std.proofs.Common.{◌≡◌, ◌+◌, ◌≤◌, true}
+use Rattle.qcow2_alloc.proofs.Common.{IsWithin, Spares}
 use Rattle.qcow2_alloc.proofs.allocation.Allocator.spare_run.Given as goal
 
 -- the clusters before this one are spared

@@ -1,4 +1,5 @@
-use Rattle.qcow2_alloc.proofs.Common.{◌+◌, ◌-◌, ◌*◌, ◌/◌, ◌^◌, ◌≤◌, true, false, ◌∙◌, arith, div-le_self, pow_mono, cluster_size, IsWithin}
+use Rattle.std.proofs.Common.{◌+◌, ◌-◌, ◌*◌, ◌/◌, ◌^◌, ◌≤◌, true, false, ◌∙◌, arith}
+use Rattle.qcow2_alloc.proofs.Common.{div-le_self, pow_mono, cluster_size, IsWithin}
 use Rattle.qcow2_alloc.proofs.SparedClusters.{first_near, l1_within, reftable_within, spares_both, spares_first}
 use Rattle.qcow2_alloc.proofs.allocation.Allocator.spare_tables.Goals as goal
 

@@ -1,4 +1,5 @@
-use Rattle.qcow2_alloc.proofs.Common.{◌+◌, inr, refl, sym, subst, arith, Pending, InternalAllocatorGrowth}
+use Rattle.std.proofs.Common.{◌+◌, inr, refl, sym, subst, arith}
+use Rattle.qcow2_alloc.proofs.Common.{Pending, InternalAllocatorGrowth}
 use Rattle.qcow2_alloc.proofs.AllocationSteps.{on_none}
 use Rattle.qcow2_alloc.proofs.ListedAfter.{listed_after_same}
 use Rattle.qcow2_alloc.proofs.Steps.{step_none}

@@ -1,4 +1,5 @@
-use Rattle.qcow2_alloc.proofs.Common.{◌≡◌, ℕ, ◌+◌, ◌*◌, ◌/◌, ◌<◌, ◌≤◌, sym, ap, ◌∙◌, subst, arith, Some, refl, inl, HeaderFields, EntryTableView, entry_count, cluster_size, HeaderView, AreClean, ImageFile, MetadataCaches, run_at, NamesLacking, HasBytesAt, faults_of, with_run, NamesReftable, StandsGrown, contents_in, AllocatorInvariant, KeepsUsed, order_of, l2_tables, refblocks, rb_at, room_length, placed_at, EntersRoom, or_left, is_changed_of, IfSome}
+use Rattle.std.proofs.Common.{◌≡◌, ◌+◌, ◌*◌, ◌/◌, ◌<◌, ◌≤◌, ℕ, sym, ap, ◌∙◌, subst, arith, Some, refl, inl, IfSome}
+use Rattle.qcow2_alloc.proofs.Common.{HeaderFields, EntryTableView, entry_count, cluster_size, HeaderView, AreClean, ImageFile, MetadataCaches, run_at, NamesLacking, HasBytesAt, faults_of, with_run, NamesReftable, StandsGrown, contents_in, AllocatorInvariant, KeepsUsed, order_of, l2_tables, refblocks, rb_at, room_length, placed_at, EntersRoom, or_left, is_changed_of}
 use Rattle.qcow2_alloc.proofs.AllocationSteps.{handed_on, allocator_step_cached, allocator_step_then, is_sound_now}
 use Rattle.qcow2_alloc.proofs.FileSteps.{leaves_then}
 use Rattle.qcow2_alloc.proofs.PlacedBlocks.{file_sizes}

@@ -1,4 +1,5 @@
-use Rattle.qcow2_alloc.proofs.Common.{◌≡◌, None, refl, sym, ap, ◌∙◌, arith, lookup, LruCache, Slot}
+use Rattle.std.proofs.Common.{◌≡◌, None, refl, sym, ap, ◌∙◌, arith}
+use Rattle.qcow2_alloc.proofs.Common.{lookup, LruCache, Slot}
 use Rattle.qcow2_alloc.proofs.CachedEntries.Evictions.{front-promoted, hit_eviction, gets_eviction}
 use Rattle.qcow2_alloc.proofs.CachedEntries.Knowing.{hit_keeps, gets_keeps}
 use Rattle.qcow2_alloc.proofs.CachedEntries.Lists.{length-promoted, none_of, promoted_none}

@@ -1,4 +1,5 @@
-use Rattle.qcow2_alloc.proofs.Common.{◌≡◌, None, not, refl, sym, ap, ◌∙◌, lookup}
+use Rattle.std.proofs.Common.{◌≡◌, None, not, refl, sym, ap, ◌∙◌}
+use Rattle.qcow2_alloc.proofs.Common.{lookup}
 use Rattle.qcow2_alloc.proofs.CachedEntries.Knowing.{inserted, replaced}
 use Rattle.qcow2_alloc.proofs.CachedEntries.Lists.{none_of, entry_none}
 use Rattle.qcow2_alloc.proofs.CachedEntries.Pins.{pins_same, inserts_keep_pins, replaces_keep_pins}

@@ -1,4 +1,5 @@
-use Rattle.qcow2_alloc.proofs.Common.{◌≡◌, false, is_pinned}
+use Rattle.std.proofs.Common.{◌≡◌, false}
+use Rattle.qcow2_alloc.proofs.Common.{is_pinned}
 use Rattle.qcow2_alloc.proofs.CachedEntries.Turns.{IsAround, IsEvicting}
 use Rattle.qcow2_alloc.proofs.async_lru_cache.entries.evict_free.Given as goal
 

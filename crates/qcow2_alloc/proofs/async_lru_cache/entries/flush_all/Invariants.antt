@@ -1,4 +1,4 @@
-use Rattle.qcow2_alloc.proofs.Common.{◌≡◌}
+use Rattle.std.proofs.Common.{◌≡◌}
 use Rattle.qcow2_alloc.proofs.CachedEntries.Turns.{IsFlushing}
 use Rattle.qcow2_alloc.proofs.async_lru_cache.entries.flush_all.Given as goal
 

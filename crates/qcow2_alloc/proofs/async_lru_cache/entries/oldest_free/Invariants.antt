@@ -1,4 +1,5 @@
-use Rattle.qcow2_alloc.proofs.Common.{◌≡◌, length, oldest_free}
+use Rattle.std.proofs.Common.{◌≡◌, length}
+use Rattle.qcow2_alloc.proofs.Common.{oldest_free}
 use Rattle.qcow2_alloc.proofs.async_lru_cache.entries.oldest_free.Given as goal
 
 abbrev pub invariant-loop-key : goal.invariant-loop-key

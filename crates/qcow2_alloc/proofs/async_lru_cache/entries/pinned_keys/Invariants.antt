@@ -1,4 +1,5 @@
-use Rattle.qcow2_alloc.proofs.Common.{◌≡◌, ◌++◌, keys_of, pinned}
+use Rattle.std.proofs.Common.{◌≡◌, ◌++◌}
+use Rattle.qcow2_alloc.proofs.Common.{keys_of, pinned}
 use Rattle.qcow2_alloc.proofs.async_lru_cache.entries.pinned_keys.Given as goal
 
 abbrev pub invariant-loop-key : goal.invariant-loop-key

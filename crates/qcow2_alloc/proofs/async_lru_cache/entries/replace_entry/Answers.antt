@@ -1,4 +1,5 @@
-use Rattle.qcow2_alloc.proofs.Common.{◌≡◌, ◌∷◌, Some, None, refl, sym, ap, ◌∙◌, remove_entry, length-set_value, same_Some, slot_of}
+use Rattle.std.proofs.Common.{◌≡◌, ◌∷◌, Some, None, refl, sym, ap, ◌∙◌}
+use Rattle.qcow2_alloc.proofs.Common.{remove_entry, length-set_value, same_Some, slot_of}
 use Rattle.qcow2_alloc.proofs.CachedEntries.Putting.{is_promoted, flushed_in_front, some_of, is_some_mapped}
 use Rattle.qcow2_alloc.proofs.async_lru_cache.entries.replace_entry.Goals as goal
 

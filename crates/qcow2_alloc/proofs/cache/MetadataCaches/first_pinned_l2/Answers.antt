@@ -1,4 +1,4 @@
-use Rattle.qcow2_alloc.proofs.Common.{◌==◌}
+use Rattle.std.proofs.Common.{◌==◌}
 use Rattle.qcow2_alloc.proofs.CachedEntries.FirstPinned.{none_pinned}
 use Rattle.qcow2_alloc.proofs.cache.MetadataCaches.first_pinned_l2.Goals as goal
 

@@ -1,4 +1,5 @@
-use Rattle.qcow2_alloc.proofs.Common.{◌≤◌, ℕ, Option, eqb, refl, subst, arith, IfSome, L2TableView, entries_of, value_at, SetsTableEntry}
+use Rattle.std.proofs.Common.{◌≤◌, ℕ, Option, eqb, refl, subst, arith, IfSome}
+use Rattle.qcow2_alloc.proofs.Common.{L2TableView, entries_of, value_at, SetsTableEntry}
 use Rattle.qcow2_alloc.proofs.CacheSteps.{held_none}
 use Rattle.qcow2_alloc.proofs.ChangedTables.{changed_by, entry_apart, entry_made_so, entry_set, entry_step, entry_there, if_some_then, stays, table_stays_apart}
 use Rattle.qcow2_alloc.proofs.KeptTables.Inserting.{if_some}

@@ -1,4 +1,5 @@
-use Rattle.qcow2_alloc.proofs.Common.{◌≡◌, Bool, true, false, inr, Some, Result, Ok, Err, refl, sym, ap, ◌∙◌, ◌+◌, ◌*◌, eqb, cluster_size, of_cache, Bytes, byte_at, storage_of, IsInUseOrFault, with_entries, l2_steps, laid_at}
+use Rattle.std.proofs.Common.{◌≡◌, ◌+◌, ◌*◌, Bool, true, false, inr, Some, Result, Ok, Err, refl, sym, ap, ◌∙◌, eqb}
+use Rattle.qcow2_alloc.proofs.Common.{cluster_size, of_cache, Bytes, byte_at, storage_of, IsInUseOrFault, with_entries, l2_steps, laid_at}
 use Rattle.qcow2_alloc.proofs.KeptTables.Inserting.{table_put, l2_taken, taken_at_last, if_some}
 use Rattle.qcow2_alloc.proofs.KeptTables.Switching.{stay_then}
 use Rattle.qcow2_alloc.specs.declared.error.ImageError.TheVariants as I

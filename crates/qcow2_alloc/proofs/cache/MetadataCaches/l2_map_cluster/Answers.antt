@@ -1,4 +1,5 @@
-use Rattle.qcow2_alloc.proofs.Common.{◌*◌, ◌^◌, ℕ, Option, eqb, refl, sym, ap, subst, IfSome, IsHostCluster, L2TableView, copied_entry, value_at, CantMap, SetsTableEntry}
+use Rattle.std.proofs.Common.{◌*◌, ◌^◌, ℕ, Option, eqb, refl, sym, ap, subst, IfSome}
+use Rattle.qcow2_alloc.proofs.Common.{IsHostCluster, L2TableView, copied_entry, value_at, CantMap, SetsTableEntry}
 use Rattle.qcow2_alloc.proofs.CacheSteps.{held_none}
 use Rattle.qcow2_alloc.proofs.ChangedTables.{changed_by, entry_apart, entry_made_so, entry_set, entry_step, entry_there, if_some_then, stays, table_stays_apart}
 use Rattle.qcow2_alloc.proofs.KeptTables.Inserting.{if_some}

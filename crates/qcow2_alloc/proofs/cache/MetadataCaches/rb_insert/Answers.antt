@@ -1,4 +1,5 @@
-use Rattle.qcow2_alloc.proofs.Common.{inr, ◌≡◌, Bool, true, false, Some, Result, Ok, Err, refl, sym, ap, ◌∙◌, ◌+◌, ◌*◌, eqb, cluster_size, of_cache, IsFault, Bytes, byte_at, storage_of, laid_at}
+use Rattle.std.proofs.Common.{◌≡◌, ◌+◌, ◌*◌, inr, Bool, true, false, Some, Result, Ok, Err, refl, sym, ap, ◌∙◌, eqb}
+use Rattle.qcow2_alloc.proofs.Common.{cluster_size, of_cache, IsFault, Bytes, byte_at, storage_of, laid_at}
 use Rattle.qcow2_alloc.proofs.KeptTables.Inserting.{block_put, rb_taken, taken_at_last, if_some}
 use Rattle.qcow2_alloc.proofs.KeptTables.Switching.{stay_then}
 use Rattle.qcow2_alloc.proofs.CachePins.{marks_blocks, marks_then}

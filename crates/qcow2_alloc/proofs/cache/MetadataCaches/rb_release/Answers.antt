@@ -1,4 +1,5 @@
-use Rattle.qcow2_alloc.proofs.Common.{◌≡◌, ℕ, Option, ◌+◌, ◌<◌, eqb, refl, ap, ◌∙◌, subst, IsNone, RefBlockView, ChangesCount, count_at, counts_of, value_at, changed_block, SetsTableCount}
+use Rattle.std.proofs.Common.{◌≡◌, ◌+◌, ◌<◌, ℕ, Option, eqb, refl, ap, ◌∙◌, subst}
+use Rattle.qcow2_alloc.proofs.Common.{IsNone, RefBlockView, ChangesCount, count_at, counts_of, value_at, changed_block, SetsTableCount}
 use Rattle.qcow2_alloc.proofs.CacheSteps.{held_none}
 use Rattle.qcow2_alloc.proofs.ChangedTables.{block_stays_apart, changed_by, count_after, count_apart, count_set, count_step, count_there, stays}
 use Rattle.qcow2_alloc.proofs.KeptTables.Changing.{still_new_data}

@@ -1,4 +1,5 @@
-use Rattle.qcow2_alloc.proofs.Common.{◌≡◌, ◌+◌, ◌<◌, ℕ, arith, refl, sym, subst, ◌∙◌, eqb, IsFirstZero, RefBlockView, counts_of, value_at}
+use Rattle.std.proofs.Common.{◌≡◌, ◌+◌, ◌<◌, ℕ, arith, refl, sym, subst, ◌∙◌, eqb}
+use Rattle.qcow2_alloc.proofs.Common.{IsFirstZero, RefBlockView, counts_of, value_at}
 use Rattle.qcow2_alloc.proofs.ChangedTables.{changed_by, if_some_then, stays, unchanged_by}
 use Rattle.qcow2_alloc.proofs.KeptTables.Counting.{count_is}
 use Rattle.qcow2_alloc.proofs.KeptTables.Inserting.{if_some}

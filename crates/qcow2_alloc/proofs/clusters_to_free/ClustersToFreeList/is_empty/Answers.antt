@@ -1,4 +1,4 @@
-use Rattle.qcow2_alloc.proofs.Common.{◌<◌, length, arith, rules}
+use Rattle.std.proofs.Common.{◌<◌, length, arith, rules}
 use Rattle.std.proofs.lemmas.List.{length-reverse}
 use Rattle.qcow2_alloc.specs.declared.clusters_to_free.Node.{Node, Node'}
 use Rattle.qcow2_alloc.specs.ClusterChain.{chain_entries_of}

@@ -1,4 +1,4 @@
-use Rattle.qcow2_alloc.proofs.Common.{◌≡◌, ◌++◌, length}
+use Rattle.std.proofs.Common.{◌≡◌, ◌++◌, length}
 use Rattle.qcow2_alloc.proofs.clusters_to_free.TakenClusters.hand_back.Given as goal
 
 -- those that are handed back, and then the others, follow on what the list had

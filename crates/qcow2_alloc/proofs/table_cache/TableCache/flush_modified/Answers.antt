@@ -1,4 +1,5 @@
-use Rattle.qcow2_alloc.proofs.Common.{◌≡◌, ◌+◌, ◌<◌, ◌≤◌, ℕ, refl, ap, ◌∙◌, subst, arith, length, lookup, option_map_or, option_or, IfSome, FlushesAt, Cache, with_entries, behind}
+use Rattle.std.proofs.Common.{◌≡◌, ◌+◌, ◌<◌, ◌≤◌, ℕ, refl, ap, ◌∙◌, subst, arith, length, IfSome}
+use Rattle.qcow2_alloc.proofs.Common.{lookup, option_map_or, option_or, FlushesAt, Cache, with_entries, behind}
 use Rattle.qcow2_alloc.proofs.FlushedMarks.{IsWalking, walk_begins, walk_ends, is_held, walks_on, left_to_walk}
 use Rattle.qcow2_alloc.proofs.table_cache.TableCache.flush_modified.Goals as goal
 

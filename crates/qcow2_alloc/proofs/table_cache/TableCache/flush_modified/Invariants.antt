@@ -1,4 +1,5 @@
-use Rattle.qcow2_alloc.proofs.Common.{◌≡◌, ◌+◌, length, IsDistinct, keys_of, option_map_or, with_entries, behind}
+use Rattle.std.proofs.Common.{◌≡◌, ◌+◌, length}
+use Rattle.qcow2_alloc.proofs.Common.{IsDistinct, keys_of, option_map_or, with_entries, behind}
 use Rattle.qcow2_alloc.proofs.FlushedMarks.{IsWalking}
 use Rattle.qcow2_alloc.proofs.table_cache.TableCache.flush_modified.Given as goal
 

@@ -1,4 +1,5 @@
-use Rattle.qcow2_alloc.proofs.Common.{◌≡◌, false, None, refl, ap, ◌∙◌, lookup, Cache, placed}
+use Rattle.std.proofs.Common.{◌≡◌, false, None, refl, ap, ◌∙◌}
+use Rattle.qcow2_alloc.proofs.Common.{lookup, Cache, placed}
 use Rattle.qcow2_alloc.proofs.TableMarks.{kept_same, new_settled, got_new}
 use Rattle.qcow2_alloc.proofs.table_cache.TableCache.get_new.Goals as goal
 

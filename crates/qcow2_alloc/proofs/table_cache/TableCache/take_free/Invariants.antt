@@ -1,4 +1,5 @@
-use Rattle.qcow2_alloc.proofs.Common.{◌≡◌, length, pinned, with_entries}
+use Rattle.std.proofs.Common.{◌≡◌, length}
+use Rattle.qcow2_alloc.proofs.Common.{pinned, with_entries}
 use Rattle.qcow2_alloc.proofs.table_cache.TableCache.take_free.Given as goal
 
 abbrev pub invariant-taking : goal.invariant-taking

@@ -1,4 +1,5 @@
-use Rattle.qcow2_check.proofs.Common.{ℕ, ◌≡◌, ◌<◌, ◌≤◌, count_of}
+use Rattle.std.proofs.Common.{◌≡◌, ◌<◌, ◌≤◌, ℕ}
+use Rattle.qcow2_check.proofs.Common.{count_of}
 use Rattle.qcow2_check.proofs.kept.Block.next_counted.Given as goal
 
 abbrev pub invariant-loop-i : goal.invariant-loop-i

@@ -1,4 +1,5 @@
-use Rattle.qcow2_check.proofs.Common.{◌-◌, ◌<◌, ap, sym, ◌∙◌, arith, slice_get, block_numbered}
+use Rattle.std.proofs.Common.{◌-◌, ◌<◌, ap, sym, ◌∙◌, arith}
+use Rattle.qcow2_check.proofs.Common.{slice_get, block_numbered}
 use Rattle.qcow2_check.proofs.KeptBlocks.{lent_at, numbered_some}
 use Rattle.qcow2_check.proofs.kept.Counts.block.Goals as goal
 

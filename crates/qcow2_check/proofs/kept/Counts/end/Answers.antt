@@ -1,4 +1,4 @@
-use Rattle.qcow2_check.proofs.Common.{◌*◌, ◌≡◌, length, ap, arith}
+use Rattle.std.proofs.Common.{◌*◌, ◌≡◌, length, ap, arith}
 use Rattle.qcow2_check.proofs.KeptBlocks.{count_past_end}
 use Rattle.qcow2_check.proofs.kept.Counts.end.Goals as goal
 

@@ -1,4 +1,5 @@
-use Rattle.qcow2_check.proofs.Common.{ℕ, ◌≡◌, ◌<◌, ◌/◌, List, length, get_or, ap, sym, subst, ◌∙◌, arith, inl, inr, length-append, cases_lt, byte_at, block_offset, entry_at, HasBlock, KeepsBlocks, KeepsMore}
+use Rattle.std.proofs.Common.{◌≡◌, ◌<◌, ◌/◌, ℕ, List, length, get_or, ap, sym, subst, ◌∙◌, arith, inl, inr, length-append}
+use Rattle.qcow2_check.proofs.Common.{cases_lt, byte_at, block_offset, entry_at, HasBlock, KeepsBlocks, KeepsMore}
 use Rattle.qcow2_check.proofs.KeptBlocks.{placed_before, placed_last, all_kept}
 use Rattle.qcow2_check.proofs.Reading.{reads_another, reads_more}
 use Rattle.qcow2_check.proofs.kept.Counts.load.Goals as goal

@@ -1,4 +1,5 @@
-use Rattle.qcow2_check.proofs.Common.{ℕ, ◌≡◌, ◌<◌, Ok, length, get_or, byte_at, block_offset, entry_at, OnlyReads, HasBlock, KeepsBlocks}
+use Rattle.std.proofs.Common.{◌≡◌, ◌<◌, ℕ, Ok, length, get_or}
+use Rattle.qcow2_check.proofs.Common.{byte_at, block_offset, entry_at, OnlyReads, HasBlock, KeepsBlocks}
 use Rattle.qcow2_check.proofs.kept.Counts.load.Given as goal
 
 abbrev pub invariant-loop-k : goal.invariant-loop-k

@@ -1,4 +1,5 @@
-use Rattle.qcow2_check.proofs.Common.{◌+◌, ◌-◌, ◌*◌, ◌/◌, refl, sym, ap, ◌∙◌, arith, option_copied, div-add-mod', mod_below}
+use Rattle.std.proofs.Common.{◌+◌, ◌-◌, ◌*◌, ◌/◌, refl, sym, ap, ◌∙◌, arith}
+use Rattle.qcow2_check.proofs.Common.{option_copied, div-add-mod', mod_below}
 use Rattle.qcow2_check.proofs.KeptBlocks.{count_under_block, zeros_in_block, zeros_to_end, zeros_without_block}
 use Rattle.qcow2_check.proofs.kept.Counts.next_counted.Goals as goal
 use Rattle.qcow2_check.proofs.kept.Counts.next_counted.Goals.{in-Some+else-j-min, in_default}

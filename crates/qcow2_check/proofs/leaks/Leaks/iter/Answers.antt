@@ -1,4 +1,5 @@
-use Rattle.qcow2_check.proofs.Common.{◌≤◌, ◌^◌, List, length, subst, ◌∙◌, Leak}
+use Rattle.std.proofs.Common.{◌≤◌, ◌^◌, List, length, subst, ◌∙◌}
+use Rattle.qcow2_check.proofs.Common.{Leak}
 use Rattle.qcow2_check.proofs.LeakLists.{leaks_all, few_leaks}
 use Rattle.qcow2_check.proofs.leaks.Leaks.iter.Goals as goal
 

@@ -1,4 +1,5 @@
-use Rattle.qcow2_check.proofs.Common.{◌≡◌, ◌+◌, ◌-◌, ◌*◌, ◌&&◌, nat_le, nat_lt, one_if, TalliesGrow}
+use Rattle.std.proofs.Common.{◌≡◌, ◌+◌, ◌-◌, ◌*◌, ◌&&◌}
+use Rattle.qcow2_check.proofs.Common.{nat_le, nat_lt, one_if, TalliesGrow}
 use Rattle.qcow2_check.proofs.names.Names.add_range.Given as goal
 
 abbrev pub invariant-loop-cluster : goal.invariant-loop-cluster

@@ -1,4 +1,5 @@
-use Rattle.qcow2_check.proofs.Common.{◌≡◌, ◌++◌, takes, shown_entries, entries_past}
+use Rattle.std.proofs.Common.{◌≡◌, ◌++◌}
+use Rattle.qcow2_check.proofs.Common.{takes, shown_entries, entries_past}
 use Rattle.qcow2_check.proofs.tally_map.TallyMap.add_chosen_of_map.Given as goal
 
 abbrev pub invariant-loop-cluster : goal.invariant-loop-cluster

@@ -1,4 +1,5 @@
-use Rattle.qcow2_check.proofs.Common.{ℕ, ◌≡◌, ◌^◌, ◌++◌, List, length, false, refl, sym, ap, subst, ◌∙◌, arith, IsStrictlySortedBy, nat_cmp, Tally, no_tally, tally_in, takes, shown, shown_entries, entries_past}
+use Rattle.std.proofs.Common.{◌≡◌, ◌^◌, ◌++◌, ℕ, List, length, false, refl, sym, ap, subst, ◌∙◌, arith}
+use Rattle.qcow2_check.proofs.Common.{IsStrictlySortedBy, nat_cmp, Tally, no_tally, tally_in, takes, shown, shown_entries, entries_past}
 use Rattle.qcow2_check.specs.declared.told.Choice.{Choice}
 use Rattle.qcow2_check.specs.declared.told.Choice.TheVariants.{Breached, Named}
 use Rattle.qcow2_check.proofs.Rising.{lines_joined, keys_of-others, tally_of-others}

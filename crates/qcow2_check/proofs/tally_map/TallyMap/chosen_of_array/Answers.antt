@@ -1,4 +1,5 @@
-use Rattle.qcow2_check.proofs.Common.{ℕ, ◌≡◌, List, [], ◌∷◌, ◌++◌, sym, ap, ◌∙◌, Tally, tally_in, lines, takes, shown, numbered}
+use Rattle.std.proofs.Common.{◌≡◌, ◌∷◌, ◌++◌, ℕ, List, [], sym, ap, ◌∙◌}
+use Rattle.qcow2_check.proofs.Common.{Tally, tally_in, lines, takes, shown, numbered}
 use Rattle.qcow2_check.proofs.Rising.{lines-none, lines-passed, lines-failed}
 use Rattle.qcow2_check.proofs.tally_map.TallyMap.chosen_of_array.Goals as goal
 use Rattle.qcow2_check.proofs.tally_map.TallyMap.chosen_of_array.Goals.{then-takes+in_ok-push, else-takes}

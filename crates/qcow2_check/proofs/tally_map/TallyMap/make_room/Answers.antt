@@ -1,4 +1,5 @@
-use Rattle.qcow2_check.proofs.Common.{◌+◌, get_or, refl, ap, arith, blank}
+use Rattle.std.proofs.Common.{◌+◌, get_or, refl, ap, arith}
+use Rattle.qcow2_check.proofs.Common.{blank}
 use Rattle.qcow2_check.proofs.TallyMaps.{tally-same, blanks_more}
 use Rattle.qcow2_check.proofs.tally_map.TallyMap.make_room.Goals as goal
 

@@ -1,4 +1,5 @@
-use Rattle.qcow2_image.proofs.Common.{◌≡◌, [], length, replicate, sym, ◌∙◌, arith, bytes_at_past}
+use Rattle.std.proofs.Common.{◌≡◌, [], length, replicate, sym, ◌∙◌, arith}
+use Rattle.qcow2_image.proofs.Common.{bytes_at_past}
 use Rattle.qcow2_image.proofs.builder.NoBackingBackingDisk.read.Goals as goal
 
 pub returns-clause-read : goal.returns-clause-read

@@ -1,4 +1,5 @@
-use Rattle.qcow2_image.proofs.Common.{◌≡◌, ◌∙◌, None, false, rules, sym, true, IsTrue, ◌↔◌, CanBeNew, backing_format_in, backing_name_in}
+use Rattle.std.proofs.Common.{◌≡◌, ◌↔◌, ◌∙◌, None, false, rules, sym, true, IsTrue}
+use Rattle.qcow2_image.proofs.Common.{CanBeNew, backing_format_in, backing_name_in}
 use Rattle.qcow2_image.proofs.Create.Causes.{is_allowed, no_such_header, too_long}
 use Rattle.qcow2_image.proofs.builder.Qcow2CreateBuilder.check.Goals as goal
 

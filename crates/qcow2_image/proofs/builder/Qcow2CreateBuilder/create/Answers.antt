@@ -1,4 +1,5 @@
-use Rattle.qcow2_image.proofs.Common.{◌≡◌, ◌∙◌, Err, Ok, Result, ap, refl, subst, sym, IfErr, IfOk, FaultsReported, storage_of, ImageError, IsMade, IsReasonNotToCreate, StopsCreating, IfErr-weaker}
+use Rattle.std.proofs.Common.{◌≡◌, ◌∙◌, Err, Ok, Result, ap, refl, subst, sym, IfErr, IfOk}
+use Rattle.qcow2_image.proofs.Common.{FaultsReported, storage_of, ImageError, IsMade, IsReasonNotToCreate, StopsCreating, IfErr-weaker}
 use Rattle.image_access.specs.declared.storage.PreallocateMode.TheVariants as Mode
 use Rattle.qcow2_image.proofs.Create.Causes.{reasons_made, reasons_of}
 use Rattle.qcow2_image.proofs.Create.Creating.{created_then, creating_stops, grew_then, stops_at_none}

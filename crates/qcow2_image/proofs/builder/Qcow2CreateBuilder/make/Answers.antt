@@ -1,4 +1,5 @@
-use Rattle.qcow2_image.proofs.Common.{◌≡◌, Err, Ok, Result, ap, refl, subst, sym, IfOk, passes_none, FaultsReported, storage_of, ImageError, IsMade, StopsCreating, backing_format_in, backing_name_in}
+use Rattle.std.proofs.Common.{◌≡◌, Err, Ok, Result, ap, refl, subst, sym, IfOk}
+use Rattle.qcow2_image.proofs.Common.{passes_none, FaultsReported, storage_of, ImageError, IsMade, StopsCreating, backing_format_in, backing_name_in}
 use Rattle.image_access.specs.declared.storage.PreallocateMode.TheVariants as Mode
 use Rattle.qcow2_image.proofs.Create.Causes.{is_allowed}
 use Rattle.qcow2_image.proofs.Create.Creating.{made_by, new_header_is, three_stops}

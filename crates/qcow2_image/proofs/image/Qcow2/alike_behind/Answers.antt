@@ -1,4 +1,5 @@
-use Rattle.qcow2_image.proofs.Common.{◌≡◌, ⊎_elim, ℕ, ◌+◌, ◌*◌, ◌<◌, ◌≤◌, ap, ◌∙◌, subst, arith, false, true, cases_lt, L2TableView, IsAlike, mapping_of, IsAlikeTo, AreAlikeBehind}
+use Rattle.std.proofs.Common.{◌≡◌, ◌+◌, ◌*◌, ◌<◌, ◌≤◌, ⊎_elim, ℕ, ap, ◌∙◌, subst, arith, false, true}
+use Rattle.qcow2_image.proofs.Common.{cases_lt, L2TableView, IsAlike, mapping_of, IsAlikeTo, AreAlikeBehind}
 use Rattle.qcow2_image.proofs.image.Qcow2.alike_behind.Goals as goal
 
 one_more : (n size : ℕ) → (n + 1) * size ≡ n * size + size

@@ -1,4 +1,5 @@
-use Rattle.qcow2_image.proofs.Common.{ℕ, ◌-◌, ◌+◌, ◌*◌, ◌<◌, L2TableView, AreAlikeBehind}
+use Rattle.std.proofs.Common.{◌-◌, ◌+◌, ◌*◌, ◌<◌, ℕ}
+use Rattle.qcow2_image.proofs.Common.{L2TableView, AreAlikeBehind}
 use Rattle.qcow2_image.proofs.image.Qcow2.alike_behind.Given as goal
 
 -- so many clusters after are alike

@@ -1,5 +1,6 @@
 use Rattle.qcow2_image.proofs.Prepare.LimitCauses.{limits_left, left_taken}
-use Rattle.qcow2_image.proofs.Common.{InternalFillingStep, pending_with_listed, ◌≡◌, subst, refl, rules, arith, inl, IfSome, Some, IfErr, Allocates, pending_then, IsAllocatorOf, notes_of_both, IsUsed, HasNoPlace, IsFaultOr, IsFaultOrLimit}
+use Rattle.std.proofs.Common.{◌≡◌, subst, refl, rules, arith, inl, Some, IfErr}
+use Rattle.qcow2_image.proofs.Common.{InternalFillingStep, pending_with_listed, IfSome, Allocates, pending_then, IsAllocatorOf, notes_of_both, IsUsed, HasNoPlace, IsFaultOr, IsFaultOrLimit}
 use Rattle.qcow2_alloc.specs.declared.clusters_to_free.ClusterKind.TheVariants as Kind
 use Rattle.qcow2_image.proofs.Images.Formats.{lists_grow}
 use Rattle.qcow2_image.proofs.Images.Moving.{leaked_still}

@@ -1,5 +1,6 @@
 use Rattle.qcow2_image.proofs.Prepare.LimitCauses.{limits_left, left_taken_at, cause_within}
-use Rattle.qcow2_image.proofs.Common.{InternalFillingStep, pending_with_listed, counts_per_block, HeaderView, ap, sym, subst, refl, rules, ◌/◌, ◌<◌, inr, IfSome, Some, ◌^◌, IsAllocatorOf, notes_of_both, CantCount, IsFaultOr, IsUsed, IsFaultOrLimit}
+use Rattle.std.proofs.Common.{◌/◌, ◌<◌, ◌^◌, ap, sym, subst, refl, rules, inr, Some}
+use Rattle.qcow2_image.proofs.Common.{InternalFillingStep, pending_with_listed, counts_per_block, HeaderView, IfSome, IsAllocatorOf, notes_of_both, CantCount, IsFaultOr, IsUsed, IsFaultOrLimit}
 use Rattle.qcow2_alloc.proofs.MadeClusters.{none_used}
 use Rattle.qcow2_image.proofs.Images.Formats.{lists_grow}
 use Rattle.qcow2_image.proofs.Images.Moving.{leaked_still}

@@ -1,4 +1,5 @@
-use Rattle.qcow2_image.proofs.Common.{◌≡◌, ◌≤◌, ◌%◌, ◌∙◌, ap, arith, refl, subst, sym, pow_pos, cluster_size, rounded_up, Overflow, FillsOrRefuses, IfErr, known_in, pending_in, HasCompressedIn, HasNearEntries, MayFailAllocating, HasPinnedMapping}
+use Rattle.std.proofs.Common.{◌≡◌, ◌≤◌, ◌%◌, ◌∙◌, ap, arith, refl, subst, sym, IfErr}
+use Rattle.qcow2_image.proofs.Common.{pow_pos, cluster_size, rounded_up, Overflow, FillsOrRefuses, known_in, pending_in, HasCompressedIn, HasNearEntries, MayFailAllocating, HasPinnedMapping}
 use Rattle.qcow2_image.proofs.Preallocate.Filled.{refused_here}
 use Rattle.qcow2_image.proofs.Preallocate.FilledGrowth.{up_to_end, up_whole}
 use Rattle.qcow2_image.proofs.Preallocate.FailingFills.{never_past}

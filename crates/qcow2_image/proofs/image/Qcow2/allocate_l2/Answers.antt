@@ -1,5 +1,6 @@
 use Rattle.qcow2_image.proofs.Call.Unlimited.{looking_unlimited}
-use Rattle.qcow2_image.proofs.Common.{told_of, refl, sym, ◌∙◌, subst, ◌<◌, inl, inr, ap, arith, rules, Err, IfSome, Some, false, run_at, taken_as, InternalAllocatorGrowth, pending_then, IsAllocatorOf, handed_on, EntersTable, notes_then, notes_of_marks, HeaderView, IsHostCluster, HasNoPlace, IsFaultOr, IsUsed, one_at, with_new_tables, HasPinnedMapping, MayFailAllocating}
+use Rattle.std.proofs.Common.{◌<◌, refl, sym, ◌∙◌, subst, inl, inr, ap, arith, rules, Err, Some, false}
+use Rattle.qcow2_image.proofs.Common.{told_of, IfSome, run_at, taken_as, InternalAllocatorGrowth, pending_then, IsAllocatorOf, handed_on, EntersTable, notes_then, notes_of_marks, HeaderView, IsHostCluster, HasNoPlace, IsFaultOr, IsUsed, one_at, with_new_tables, HasPinnedMapping, MayFailAllocating}
 use Rattle.qcow2_image.proofs.image.Qcow2.allocate_l2.Goals as goal
 use Rattle.qcow2_image.proofs.Images.Moving.{leaked_still}
 use Rattle.qcow2_image.proofs.Prepare.UnlinkedL2Table.{none_taken, table_entered, table_refused, keeps_taken, says_still}

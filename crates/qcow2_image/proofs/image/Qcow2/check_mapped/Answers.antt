@@ -1,4 +1,5 @@
-use Rattle.qcow2_image.proofs.Common.{◌≡◌, ◌≤◌, IsTrue, true, false, sym, subst, arith, ◌<◌, ⊎_elim, inl, inr, refl, rules, IsFoundInImage, IsFoundWhole, IsMappedAs, handed_on, IsCacheHeld, MayFailLookingAgain, Result, is_some, cases_lt, IsOfTables, FitsTables, IsHeldAs, size_of}
+use Rattle.std.proofs.Common.{◌≡◌, ◌≤◌, ◌<◌, IsTrue, true, false, sym, subst, arith, ⊎_elim, inl, inr, refl, rules, Result, is_some}
+use Rattle.qcow2_image.proofs.Common.{IsFoundInImage, IsFoundWhole, IsMappedAs, handed_on, IsCacheHeld, MayFailLookingAgain, cases_lt, IsOfTables, FitsTables, IsHeldAs, size_of}
 use Rattle.qcow2_image.proofs.Map.Looked.{found_after, found_before, found_whole, mapped_as}
 use Rattle.qcow2_image.proofs.image.Qcow2.check_mapped.Goals.{else-found-length-via-then-found-length+else-is, else-found-length-via-else-found-length}
 use Rattle.qcow2_image.proofs.Prepare.FailingCopies.{hands_met}

@@ -1,4 +1,5 @@
-use Rattle.qcow2_image.proofs.Common.{◌≡◌, ◌⊎◌, inl, sym, ◌∙◌, subst, is_some, rules, IsCompressedAt, ◌/◌, cluster_size, cover, kind_at, known_header, known_in, state_in, found_kind, IsCacheHeld, MayFailLooking}
+use Rattle.std.proofs.Common.{◌≡◌, ◌⊎◌, ◌/◌, inl, sym, ◌∙◌, subst, is_some, rules}
+use Rattle.qcow2_image.proofs.Common.{IsCompressedAt, cluster_size, cover, kind_at, known_header, known_in, state_in, found_kind, IsCacheHeld, MayFailLooking}
 use Rattle.qcow2_image.proofs.Map.Special.{found_special, found_plain}
 use Rattle.qcow2_alloc.specs.declared.error.ImageError.TheVariants.{Compressed}
 use Rattle.qcow2_image.proofs.Prepare.FailingCopies.{hands_met}

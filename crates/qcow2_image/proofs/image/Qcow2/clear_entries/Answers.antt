@@ -1,4 +1,5 @@
-use Rattle.qcow2_image.proofs.Common.{◌≡◌, ◌+◌, suc, subst, arith, ClearsEntry, ClearsTable}
+use Rattle.std.proofs.Common.{◌≡◌, ◌+◌, suc, subst, arith}
+use Rattle.qcow2_image.proofs.Common.{ClearsEntry, ClearsTable}
 use Rattle.qcow2_image.proofs.Clear.Cleared.{first_next, first_none}
 use Rattle.qcow2_image.proofs.image.Qcow2.clear_entries.Goals as goal
 

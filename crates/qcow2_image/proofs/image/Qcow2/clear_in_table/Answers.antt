@@ -1,5 +1,6 @@
 use Rattle.qcow2_image.proofs.image.Qcow2.clear_in_table.Goals as goal
-use Rattle.qcow2_image.proofs.Common.{◌≡◌, ◌<◌, inl, ◌-◌, ◌/◌, ◌%◌, ◌^◌, ◌++◌, ap, ◌∙◌, subst, arith, ◌+◌, sym, inr, refl, handed_on, cluster_size, l2_pins, Qcow2, ClearsTable, ReadsAll, ClearsInTable, l2_index_of, ImageFails, MayFailPreparing, notes_then, TablePrepared}
+use Rattle.std.proofs.Common.{◌≡◌, ◌<◌, ◌-◌, ◌/◌, ◌%◌, ◌^◌, ◌++◌, ◌+◌, inl, ap, ◌∙◌, subst, arith, sym, inr, refl}
+use Rattle.qcow2_image.proofs.Common.{handed_on, cluster_size, l2_pins, Qcow2, ClearsTable, ReadsAll, ClearsInTable, l2_index_of, ImageFails, MayFailPreparing, notes_then, TablePrepared}
 use Rattle.qcow2_image.proofs.Clear.Between.{clears_between, no_pins, pinned_under, under_pinned}
 use Rattle.qcow2_image.proofs.Images.Backings.{some_prepared}
 use Rattle.qcow2_image.proofs.Call.Notes.{table_kept}

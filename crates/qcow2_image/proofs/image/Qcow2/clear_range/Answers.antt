@@ -1,4 +1,5 @@
-use Rattle.qcow2_image.proofs.Common.{IfLimit, IsLimited, is_changed_of, or_right, ◌≡◌, ◌<◌, ◌+◌, ◌-◌, [], ℕ, min, sym, ap, ◌∙◌, subst, arith, inl, refl, Ok, Err, IfErr, IfOk, IsTrue, Result, Memory, TablePrepared, HasPinnedMapping, IsFaultOrLacksTable, RefusedCall, EndsFreeing, InternalCall, Clears, ClearsOrRefuses, IsUnderMapping, RefusesClearing, from_in, to_in, Qcow2, is_failed, has_noted_change, ImageInvariant, pending_in, NeedsOverflowingL1Entry, HasOwnTable, MayFailPreparing, MarksFailed, FreesRefused, notes_then, handed_on, err_as, RespectsPins, ImageError, MayFailAllocating, ClearsSoundly, ClearsStep, FailsToClear, IsFault}
+use Rattle.std.proofs.Common.{◌≡◌, ◌<◌, ◌+◌, ◌-◌, [], ℕ, min, sym, ap, ◌∙◌, subst, arith, inl, refl, Ok, Err, IfErr, IfOk, IsTrue, Result}
+use Rattle.qcow2_image.proofs.Common.{IfLimit, IsLimited, is_changed_of, or_right, Memory, TablePrepared, HasPinnedMapping, IsFaultOrLacksTable, RefusedCall, EndsFreeing, InternalCall, Clears, ClearsOrRefuses, IsUnderMapping, RefusesClearing, from_in, to_in, Qcow2, is_failed, has_noted_change, ImageInvariant, pending_in, NeedsOverflowingL1Entry, HasOwnTable, MayFailPreparing, MarksFailed, FreesRefused, notes_then, handed_on, err_as, RespectsPins, ImageError, MayFailAllocating, ClearsSoundly, ClearsStep, FailsToClear, IsFault}
 use Rattle.qcow2_image.proofs.image.Qcow2.clear_range.Goals as goal
 use Rattle.qcow2_image.proofs.Call.OnceWritten.{answered_counts, counts_begun, fails_marked, fails_once, kept_noted, notes_begun, notes_part, notes_since}
 use Rattle.qcow2_image.proofs.Call.Marked.{refused_since, MayMarkBy, marks_memory, may_mark, may_mark_refused}

@@ -1,6 +1,7 @@
 use Rattle.qcow2_image.proofs.Call.WriteSteps.{taking_none}
 use Rattle.qcow2_image.proofs.Call.Unlimited.{fault_unlimited}
-use Rattle.qcow2_image.proofs.Common.{rules, ◌≡◌, ◌⊎◌, ◌≢◌, ◌*◌, ◌/◌, ◌^◌, ◌++◌, [], ◌∷◌, sym, ap, ◌∙◌, subst, is_some, inl, ◌%◌, Ok, count, cluster_size, IsHostCluster, IsPastLimits, known_in, UnalignedTable, handed_on, own_cluster, New, GainsAt, ClusterMappingsAt, IsCopiedCompressed}
+use Rattle.std.proofs.Common.{◌≡◌, ◌⊎◌, ◌≢◌, ◌*◌, ◌/◌, ◌^◌, ◌++◌, ◌∷◌, ◌%◌, rules, [], sym, ap, ◌∙◌, subst, is_some, inl, Ok}
+use Rattle.qcow2_image.proofs.Common.{count, cluster_size, IsHostCluster, IsPastLimits, known_in, UnalignedTable, handed_on, own_cluster, New, GainsAt, ClusterMappingsAt, IsCopiedCompressed}
 use Rattle.qcow2_image.proofs.Prepare.WritableL2Table.{refused as any_refusal}
 use Rattle.qcow2_image.proofs.Prepare.NewCluster.{back_none}
 use Rattle.qcow2_image.proofs.Prepare.LimitCauses.{hands_limit, other_limit}

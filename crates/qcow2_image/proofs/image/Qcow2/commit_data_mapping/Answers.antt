@@ -1,5 +1,6 @@
 use Rattle.qcow2_image.proofs.image.Qcow2.commit_data_mapping.Goals as goal
-use Rattle.qcow2_image.proofs.Common.{◌≡◌, ℕ, inl, inr, ◌++◌, [], None, Err, refl, sym, ap, ◌∙◌, subst, rules, Option, false, true, IsTrue, IsSome, storage, storage_of, Qcow2, CommitRefused, Commits, refusal_of, is_failed, append-nil, contents_in, known_in, freed_by, IsReadyWith, abstract_of, pending_in, CountsImageFaults, notes_then, rests_none, cases_Bool}
+use Rattle.std.proofs.Common.{◌≡◌, ◌++◌, ℕ, inl, inr, [], None, Err, refl, sym, ap, ◌∙◌, subst, rules, Option, false, true, IsTrue, IsSome}
+use Rattle.qcow2_image.proofs.Common.{storage, storage_of, Qcow2, CommitRefused, Commits, refusal_of, is_failed, append-nil, contents_in, known_in, freed_by, IsReadyWith, abstract_of, pending_in, CountsImageFaults, notes_then, rests_none, cases_Bool}
 use Rattle.qcow2_image.specs.declared.prepared.CommitRefused.TheVariants.{Kept}
 use Rattle.qcow2_image.proofs.Call.Marked.{may_mark_refused}
 use Rattle.qcow2_image.proofs.Call.CallOutcomes.{is_fault, outcome}

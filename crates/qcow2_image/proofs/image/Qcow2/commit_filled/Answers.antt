@@ -1,4 +1,5 @@
-use Rattle.qcow2_image.proofs.Common.{◌≡◌, None, ap, rules, IsSome, Qcow2}
+use Rattle.std.proofs.Common.{◌≡◌, None, ap, rules, IsSome}
+use Rattle.qcow2_image.proofs.Common.{Qcow2}
 use Rattle.qcow2_image.proofs.Preallocate.Piece.{commits_entered, commits_existing}
 use Rattle.qcow2_image.proofs.Call.ImageSteps.{step_then}
 use Rattle.qcow2_image.proofs.image.Qcow2.commit_filled.Goals as goal

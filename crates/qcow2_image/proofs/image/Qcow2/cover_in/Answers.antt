@@ -1,4 +1,5 @@
-use Rattle.qcow2_image.proofs.Common.{◌≡◌, ℕ, Bool, sym, ◌∙◌, subst, false, true, IsTrue, cover, cluster_size, L2Mapping, known_in, MarkedIsBehind}
+use Rattle.std.proofs.Common.{◌≡◌, ℕ, Bool, sym, ◌∙◌, subst, false, true, IsTrue}
+use Rattle.qcow2_image.proofs.Common.{cover, cluster_size, L2Mapping, known_in, MarkedIsBehind}
 use Rattle.qcow2_image.proofs.Prepare.MarkedPlaces.{marked_behind}
 use Rattle.qcow2_image.proofs.Map.Looked.{cached_says}
 use Rattle.qcow2_image.proofs.Map.Aligned.{cached_aligned}

@@ -1,5 +1,6 @@
 use Rattle.qcow2_image.proofs.Call.OnceWritten.{notes_part, parts_then}
-use Rattle.qcow2_image.proofs.Common.{◌∙◌, ◌⊎◌, inl, inr, Err, IfErr, Result, handed_on, not_both, IsFault, HasNothingToFree, has_noted_change, is_failed, size_of, TurnStep, DiscardsStep}
+use Rattle.std.proofs.Common.{◌⊎◌, ◌∙◌, inl, inr, Err, IfErr, Result}
+use Rattle.qcow2_image.proofs.Common.{handed_on, not_both, IsFault, HasNothingToFree, has_noted_change, is_failed, size_of, TurnStep, DiscardsStep}
 use Rattle.qcow2_image.proofs.Call.FaultCounts.{counted_as, counted_still}
 use Rattle.qcow2_image.proofs.Call.Marked.{refused_since}
 use Rattle.qcow2_image.proofs.Clear.ClearedCalls.{same_image_then}

@@ -1,4 +1,5 @@
-use Rattle.qcow2_image.proofs.Common.{◌-◌, ◌<◌, ◌≤◌, inl, inr, refl, sym, subst, arith, Result, handed_on, DiscardsStep, refuses_to_clear}
+use Rattle.std.proofs.Common.{◌-◌, ◌<◌, ◌≤◌, inl, inr, refl, sym, subst, arith, Result}
+use Rattle.qcow2_image.proofs.Common.{handed_on, DiscardsStep, refuses_to_clear}
 use Rattle.qcow2_image.proofs.Resize.StepCalls.{step_answered, step_refused}
 use Rattle.qcow2_image.proofs.Resize.ShrinkSteps.{none_early, turn_answered, turn_frees, turn_refused, turn_stops, turn_touches}
 use Rattle.qcow2_image.specs.declared.discarding.ClearMode.TheVariants.{Uncovered}

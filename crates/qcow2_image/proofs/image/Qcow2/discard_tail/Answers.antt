@@ -1,5 +1,6 @@
 use Rattle.qcow2_image.proofs.Call.OnceWritten.{call_then, changes_later, notes_begun, part_none}
-use Rattle.qcow2_image.proofs.Common.{◌∙◌, ◌-◌, arith, inl, inr, refl, sym, subst, Some, None, Err, IsTrue, not_both, IsFault, pending_in, CountsImageFaults, pow_pos, cluster_size}
+use Rattle.std.proofs.Common.{◌-◌, ◌∙◌, arith, inl, inr, refl, sym, subst, Some, None, Err, IsTrue}
+use Rattle.qcow2_image.proofs.Common.{not_both, IsFault, pending_in, CountsImageFaults, pow_pos, cluster_size}
 use Rattle.qcow2_image.proofs.Resize.RefusedSteps.{frees_next, not_marked}
 use Rattle.qcow2_image.proofs.Resize.Shrinking.{next_so_far, none_so_far, same_size, tail_refused, tail_stops}
 use Rattle.qcow2_image.proofs.Call.FaultCounts.{fewer_of, counted_as, faults_then}

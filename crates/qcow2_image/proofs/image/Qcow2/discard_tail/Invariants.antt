@@ -1,4 +1,5 @@
-use Rattle.qcow2_image.proofs.Common.{◌-◌, ◌<◌, ◌≡◌, ◌⊎◌, List, Option, IsTrue, PreservesHeaderCluster, Prepared, HasNothingToFree, is_writable, ImageInvariant, pending_in, boundary_in, ChangesRose, RecordsChanges, SameFaults}
+use Rattle.std.proofs.Common.{◌-◌, ◌<◌, ◌≡◌, ◌⊎◌, List, Option, IsTrue}
+use Rattle.qcow2_image.proofs.Common.{PreservesHeaderCluster, Prepared, HasNothingToFree, is_writable, ImageInvariant, pending_in, boundary_in, ChangesRose, RecordsChanges, SameFaults}
 use Rattle.qcow2_image.proofs.Resize.Shrinking.{IsDiscardedSoFar}
 use Rattle.qcow2_image.proofs.image.Qcow2.discard_tail.Given as goal
 

@@ -1,4 +1,5 @@
-use Rattle.qcow2_image.proofs.Common.{IsPlacedNear, ◌≡◌, ◌+◌, ◌/◌, ◌^◌, max, sym, ap, ◌∙◌, subst, ◌≤◌, arith, rules, entry_count, Pending, handed_on, always_ok, l1_index_of, ImageInvariant, pending_in, MakesEntry, IfErr, IsFaultOrLacksTable}
+use Rattle.std.proofs.Common.{◌≡◌, ◌+◌, ◌/◌, ◌^◌, ◌≤◌, max, sym, ap, ◌∙◌, subst, arith, rules, IfErr}
+use Rattle.qcow2_image.proofs.Common.{IsPlacedNear, entry_count, Pending, handed_on, always_ok, l1_index_of, ImageInvariant, pending_in, MakesEntry, IsFaultOrLacksTable}
 use Rattle.qcow2_image.proofs.Call.ImageSteps.{step_none, step_then}
 use Rattle.qcow2_image.proofs.image.Qcow2.ensure_l1_entry.Goals as goal
 use Rattle.qcow2_image.proofs.Flush.Freeing.{all_listed, beside}

@@ -1,4 +1,5 @@
-use Rattle.qcow2_image.proofs.Common.{◌≡◌, refl, subst, MapsCachedEntry, RecordsEntry}
+use Rattle.std.proofs.Common.{◌≡◌, refl, subst}
+use Rattle.qcow2_image.proofs.Common.{MapsCachedEntry, RecordsEntry}
 use Rattle.qcow2_image.proofs.image.Qcow2.enter_cluster.Goals as goal
 
 pub returns-in-Some : goal.returns-in-Some

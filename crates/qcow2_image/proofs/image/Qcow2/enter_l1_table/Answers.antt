@@ -1,4 +1,5 @@
-use Rattle.qcow2_image.proofs.Common.{HeaderFields, header_format, l1_index_of, entries_reaching, l1_clusters, told_of, never, on_no_ok, on_ok, refl, ◌∙◌, subst, ◌≡◌, ap, inl, inr, ◌+◌, sym, arith, rules, IfSome, IsTrue, Some, is_some, max, pending_then, IsAllocatorOf, handed_on, AllocatesTable, notes_then, notes_of_marks, entry_count}
+use Rattle.std.proofs.Common.{◌≡◌, ◌+◌, refl, ◌∙◌, subst, ap, inl, inr, sym, arith, rules, IsTrue, Some, is_some, max}
+use Rattle.qcow2_image.proofs.Common.{HeaderFields, header_format, l1_index_of, entries_reaching, l1_clusters, told_of, never, on_no_ok, on_ok, IfSome, pending_then, IsAllocatorOf, handed_on, AllocatesTable, notes_then, notes_of_marks, entry_count}
 use Rattle.qcow2_image.proofs.image.Qcow2.enter_l1_table.Goals as goal
 use Rattle.qcow2_image.proofs.Images.Moving.{leaked_still}
 use Rattle.qcow2_image.proofs.Grow.ReplacedL1Table.{none_taken_for_table, refused_none, table_named_blocks, keeps_taken, longer_taken}

@@ -1,4 +1,5 @@
-use Rattle.qcow2_image.proofs.Common.{◌≡◌, ◌+◌, ◌-◌, ◌/◌, ◌%◌, ◌^◌, Some, get_or, length, min, refl, sym, ap, ◌∙◌, subst, rules, slice_get, slice_get_read, cluster_size, l2_index_of, is_entered, EntersCluster}
+use Rattle.std.proofs.Common.{◌≡◌, ◌+◌, ◌-◌, ◌/◌, ◌%◌, ◌^◌, Some, get_or, length, min, refl, sym, ap, ◌∙◌, subst, rules}
+use Rattle.qcow2_image.proofs.Common.{slice_get, slice_get_read, cluster_size, l2_index_of, is_entered, EntersCluster}
 use Rattle.qcow2_image.proofs.image.Qcow2.enter_mapping.Goals as goal
 
 pub returns-clause-enters : goal.returns-clause-enters

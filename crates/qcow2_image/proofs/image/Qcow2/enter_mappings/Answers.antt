@@ -1,4 +1,5 @@
-use Rattle.qcow2_image.proofs.Common.{◌≡◌, ◌+◌, length, sym, ap, subst, arith, rules, Qcow2}
+use Rattle.std.proofs.Common.{◌≡◌, ◌+◌, length, sym, ap, subst, arith, rules}
+use Rattle.qcow2_image.proofs.Common.{Qcow2}
 use Rattle.qcow2_image.proofs.Images.ClusterMappings.{freed_none}
 use Rattle.qcow2_image.proofs.Commit.Entered.{EntersFirst, entered_whole, enters_all, first_false, first_none, first_true}
 use Rattle.qcow2_image.proofs.Call.FaultCounts.{untouched}

@@ -1,4 +1,5 @@
-use Rattle.qcow2_image.proofs.Common.{◌≡◌, ◌≤◌, sym, ap, ◌∙◌, subst, arith, min, is_some, false, true, IfSome, IsLongestRun, known_in, rest_of_table, writable_place, IsPlaceOf}
+use Rattle.std.proofs.Common.{◌≡◌, ◌≤◌, sym, ap, ◌∙◌, subst, arith, min, is_some, false, true}
+use Rattle.qcow2_image.proofs.Common.{IfSome, IsLongestRun, known_in, rest_of_table, writable_place, IsPlaceOf}
 use Rattle.qcow2_image.proofs.Prepare.WritableInPlace.{place_found, short_of}
 use Rattle.qcow2_image.proofs.Prepare.LimitCauses.{hands_unlimited}
 use Rattle.qcow2_image.proofs.Prepare.MarkedPlaces.{place_behind}

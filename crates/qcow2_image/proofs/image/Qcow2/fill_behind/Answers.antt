@@ -1,5 +1,6 @@
 use Rattle.qcow2_image.proofs.Call.Unlimited.{fault_unlimited}
-use Rattle.qcow2_image.proofs.Common.{◌<◌, inl, inr, ap, refl, subst, sym, arith, shows_old, handed_on, cluster_size, rounded_up, FillsGrownOrRefuses, IfErr, Result, cases_lt, known_in, MayFailGrowing, PreallocateMode, IfErr-weaker}
+use Rattle.std.proofs.Common.{◌<◌, inl, inr, ap, refl, subst, sym, arith, IfErr, Result}
+use Rattle.qcow2_image.proofs.Common.{shows_old, handed_on, cluster_size, rounded_up, FillsGrownOrRefuses, cases_lt, known_in, MayFailGrowing, PreallocateMode, IfErr-weaker}
 use Rattle.qcow2_image.specs.Preallocation.{first_zeros}
 use Rattle.qcow2_image.proofs.Preallocate.FilledGrowth.{early_refused, grown_none, grown_or_refused}
 use Rattle.qcow2_image.proofs.Call.ImageSteps.{step_none}

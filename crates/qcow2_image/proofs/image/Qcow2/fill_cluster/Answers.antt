@@ -1,4 +1,5 @@
-use Rattle.qcow2_image.proofs.Common.{◌≡◌, ◌+◌, ◌-◌, ◌*◌, ◌/◌, ◌%◌, ◌^◌, ◌<◌, ℕ, sym, ap, ◌∙◌, arith, is_some, ◌⊎◌, ◌≤◌, inl, inr, rules, div-mul-add, div-add-mod', cluster_size, contents_in, known_in, IsMappedAs, disk_of, cover, known_byte, kind_at, IsFault, IsCopiedCompressed, MayFailReading, IfOk-weaker}
+use Rattle.std.proofs.Common.{◌≡◌, ◌+◌, ◌-◌, ◌*◌, ◌/◌, ◌%◌, ◌^◌, ◌<◌, ◌⊎◌, ◌≤◌, ℕ, sym, ap, ◌∙◌, arith, is_some, inl, inr, rules}
+use Rattle.qcow2_image.proofs.Common.{div-mul-add, div-add-mod', cluster_size, contents_in, known_in, IsMappedAs, disk_of, cover, known_byte, kind_at, IsFault, IsCopiedCompressed, MayFailReading, IfOk-weaker}
 use Rattle.qcow2_image.proofs.Prepare.CopiedBytes.{none_has, some_has}
 use Rattle.qcow2_image.proofs.Prepare.InternalWrites.{alike_within, image_step_none}
 use Rattle.qcow2_image.proofs.Prepare.FailingCopies.{behind_start, met_as, reading_met, told_sum, within_cluster}

@@ -1,6 +1,7 @@
 use Rattle.qcow2_image.proofs.Call.ImageSteps.{step_then, step_none}
 use Rattle.qcow2_image.proofs.image.Qcow2.fill_first.Goals as goal
-use Rattle.qcow2_image.proofs.Common.{Err, ◌≡◌, ◌∙◌, ◌+◌, ◌^◌, ◌≤◌, ◌<◌, ◌∷◌, [], None, true, inl, min, refl, sym, ap, subst, arith, rules, inr, Pending, handed_on, ImageInvariant, abstract_of, pending_in, FillsFirst, FillsPart, given_by_zeros, CountsImageFaults, IsFault, known_in, ImageError, HasCompressedIn, MayFailAllocating, HasPinnedMapping}
+use Rattle.std.proofs.Common.{◌≡◌, ◌+◌, ◌^◌, ◌≤◌, ◌<◌, ◌∷◌, Err, ◌∙◌, [], None, true, inl, min, refl, sym, ap, subst, arith, rules, inr}
+use Rattle.qcow2_image.proofs.Common.{Pending, handed_on, ImageInvariant, abstract_of, pending_in, FillsFirst, FillsPart, given_by_zeros, CountsImageFaults, IsFault, known_in, ImageError, HasCompressedIn, MayFailAllocating, HasPinnedMapping}
 use Rattle.qcow2_image.proofs.Call.Called.{works_none}
 use Rattle.qcow2_image.proofs.Flush.Freeing.{all_listed, beside, freed_refused, tidy_stays}
 use Rattle.qcow2_image.proofs.Images.Free.{free_places}

@@ -1,4 +1,4 @@
-use Rattle.qcow2_image.proofs.Common.{◌-◌, arith}
+use Rattle.std.proofs.Common.{◌-◌, arith}
 use Rattle.qcow2_image.proofs.Prepare.CopiedBytes.{none_has, some_has}
 use Rattle.qcow2_image.proofs.Prepare.InternalWrites.{image_step_none}
 use Rattle.qcow2_image.proofs.Prepare.KeptClusters.{filled_by_none, filled_with_zeros, image_step_filled}

@@ -1,4 +1,5 @@
-use Rattle.qcow2_image.proofs.Common.{notes_none, notes_then, ◌≡◌, refl, subst, arith, rules, handed_on, FillsOrRefuses, FillsPart, known_in, HasCompressedIn, MayFailAllocating, HasPinnedMapping}
+use Rattle.std.proofs.Common.{◌≡◌, refl, subst, arith, rules}
+use Rattle.qcow2_image.proofs.Common.{notes_none, notes_then, handed_on, FillsOrRefuses, FillsPart, known_in, HasCompressedIn, MayFailAllocating, HasPinnedMapping}
 use Rattle.qcow2_image.proofs.Preallocate.FillSteps.{filled_first, filled_next, filled_refused, still_at}
 use Rattle.qcow2_image.proofs.Call.FaultCounts.{counted_ok, counted_on, faults_then, untouched}
 use Rattle.qcow2_image.proofs.Call.BehindHeader.{behind_none, behind_then}

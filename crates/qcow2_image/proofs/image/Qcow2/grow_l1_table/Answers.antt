@@ -1,6 +1,7 @@
 use Rattle.qcow2_image.proofs.Call.ImageSteps.{step_none}
 use Rattle.qcow2_image.proofs.image.Qcow2.grow_l1_table.Goals as goal
-use Rattle.qcow2_image.proofs.Common.{◌≤◌, arith, refl, ap, ◌≡◌, ◌<◌, ◌+◌, max, inl, ◌∙◌, subst, rules, entry_count, EntryTableView, handed_on, Lengthens, nat_tests, of_metadata}
+use Rattle.std.proofs.Common.{◌≤◌, ◌≡◌, ◌<◌, ◌+◌, arith, refl, ap, max, inl, ◌∙◌, subst, rules}
+use Rattle.qcow2_image.proofs.Common.{entry_count, EntryTableView, handed_on, Lengthens, nat_tests, of_metadata}
 use Rattle.qcow2_image.proofs.Grow.ReplacedL1Table.{is_longer, lengthened, refused_none}
 use Rattle.qcow2_image.proofs.Prepare.UnlinkedL2Table.{as_listed_after, keeps_none}
 use Rattle.qcow2_image.proofs.Prepare.WritableL2Table.{refused}

@@ -1,4 +1,5 @@
-use Rattle.qcow2_image.proofs.Common.{◌≡◌, ◌∙◌, true, false, [], Result, sym, ap, subst, IfErr, IsErrAnd, OnErr, IfErr-weaker, IsSame, IsFault, AnswersCall, is_failed, pending_in, RespectsPrepared, IsOfPrepared, IsReasonAgainstReading, IsStillInUse, KeepsTables, reftable_in, MayFail, Qcow2, HasPinnedMapping}
+use Rattle.std.proofs.Common.{◌≡◌, ◌∙◌, true, false, [], Result, sym, ap, subst, IfErr, IsErrAnd}
+use Rattle.qcow2_image.proofs.Common.{OnErr, IfErr-weaker, IsSame, IsFault, AnswersCall, is_failed, pending_in, RespectsPrepared, IsOfPrepared, IsReasonAgainstReading, IsStillInUse, KeepsTables, reftable_in, MayFail, Qcow2, HasPinnedMapping}
 use Rattle.qcow2_image.proofs.Images.Backings.{some_prepared, table_prepared}
 use Rattle.qcow2_image.proofs.Call.Called.{keeps_then, told_answers, tells_quietly}
 use Rattle.qcow2_image.proofs.Call.Marked.{may_mark}

@@ -1,4 +1,5 @@
-use Rattle.qcow2_image.proofs.Common.{IfErr-weaker, IsPlacedNear, ◌≡◌, ◌+◌, ◌/◌, ◌^◌, max, ap, ◌∙◌, sym, subst, entry_count, Pending, handed_on, always_ok, l1_index_of, ImageInvariant, pending_in, MakesEntry, on_no_ok, on_ok, pending_with_listed, LastsPart, IsFault, ListGrows, inl, ◌⊎◌, IsTrue}
+use Rattle.std.proofs.Common.{◌≡◌, ◌+◌, ◌/◌, ◌^◌, ◌⊎◌, max, ap, ◌∙◌, sym, subst, inl, IsTrue}
+use Rattle.qcow2_image.proofs.Common.{IfErr-weaker, IsPlacedNear, entry_count, Pending, handed_on, always_ok, l1_index_of, ImageInvariant, pending_in, MakesEntry, on_no_ok, on_ok, pending_with_listed, LastsPart, IsFault, ListGrows}
 use Rattle.qcow2_image.proofs.Flush.Freeing.{all_listed, beside}
 use Rattle.qcow2_image.proofs.Grow.ReplacedL1Table.{freed_then, listed_moved, refused_moved, stays_moved}
 use Rattle.qcow2_image.proofs.Prepare.FailingCopies.{hands_met}

@@ -1,4 +1,5 @@
-use Rattle.qcow2_image.proofs.Common.{[], ◌∷◌, ◌++◌, sym, ap, ◌∙◌, append_assoc, Qcow2, freed_by}
+use Rattle.std.proofs.Common.{◌∷◌, ◌++◌, [], sym, ap, ◌∙◌}
+use Rattle.qcow2_image.proofs.Common.{append_assoc, Qcow2, freed_by}
 use Rattle.qcow2_image.proofs.Images.ClusterMappings.{freed_behind}
 use Rattle.qcow2_image.proofs.image.Qcow2.list_new_clusters.Goals as goal
 

@@ -1,4 +1,5 @@
-use Rattle.qcow2_image.proofs.Common.{◌≡◌, ◌++◌, sym, ap, ◌∙◌, subst, cover, IsInReach, old_data_run, L2Mapping, known_in, cover_once_cleared, listed_run, on_ok_weaker}
+use Rattle.std.proofs.Common.{◌≡◌, ◌++◌, sym, ap, ◌∙◌, subst}
+use Rattle.qcow2_image.proofs.Common.{cover, IsInReach, old_data_run, L2Mapping, known_in, cover_once_cleared, listed_run, on_ok_weaker}
 use Rattle.qcow2_image.proofs.image.Qcow2.list_old_data.Goals as goal
 
 pub returns-clause-reads : goal.returns-clause-reads

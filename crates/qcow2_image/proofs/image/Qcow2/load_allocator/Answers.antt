@@ -1,4 +1,5 @@
-use Rattle.qcow2_image.proofs.Common.{Result, true, sym, ap, subst, ◌≡◌, ◌∙◌, refl, MatchResult, ImageError, of_storage, contents_in, IsReasonAgainstReftable, ReftableReads, handed_on, if_no_ok, LeavesFile, autoclear_still, HeaderView, without_autoclear, ImageFile}
+use Rattle.std.proofs.Common.{◌≡◌, Result, true, sym, ap, subst, ◌∙◌, refl}
+use Rattle.qcow2_image.proofs.Common.{MatchResult, ImageError, of_storage, contents_in, IsReasonAgainstReftable, ReftableReads, handed_on, if_no_ok, LeavesFile, autoclear_still, HeaderView, without_autoclear, ImageFile}
 use Rattle.qcow2_image.proofs.Open.Reading.{against_storage}
 use Rattle.qcow2_image.proofs.Open.Left.{file_cleared, file_not_cleared, file_refused, file_then, file_then_refused}
 use Rattle.qcow2_image.proofs.Open.Opening.{new_tables_read, new_tables_then, kept_read, stays_then, told_new_tables, kept_then}

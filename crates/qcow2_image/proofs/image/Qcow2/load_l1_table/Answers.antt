@@ -1,4 +1,5 @@
-use Rattle.qcow2_image.proofs.Common.{◌≡◌, ℕ, ◌*◌, ◌<◌, ◌^◌, Result, refl, sym, ap, ◌∙◌, subst, arith, inl, inr, MatchResult, bytes_at, byte_at, SomeUnread, entry_at, l1_entry, L1EntryReads, cluster_size, ImageError, of_metadata, contents_in, view_in, HasUnreadEntry, IsReasonAgainstL1Table, L1TableReads, handed_on}
+use Rattle.std.proofs.Common.{◌≡◌, ◌*◌, ◌<◌, ◌^◌, ℕ, Result, refl, sym, ap, ◌∙◌, subst, arith, inl, inr}
+use Rattle.qcow2_image.proofs.Common.{MatchResult, bytes_at, byte_at, SomeUnread, entry_at, l1_entry, L1EntryReads, cluster_size, ImageError, of_metadata, contents_in, view_in, HasUnreadEntry, IsReasonAgainstL1Table, L1TableReads, handed_on}
 use Rattle.qcow2_metadata.proofs.EntryTables.{l1_entries-loaded}
 use Rattle.qcow2_alloc.specs.LoadedTables.{IsReasonAgainst}
 use Rattle.qcow2_alloc.proofs.LoadedTables.{entries_read, not_loaded}

@@ -1,4 +1,5 @@
-use Rattle.qcow2_image.proofs.Common.{◌≡◌, ◌∙◌, Bool, Result, Ok, Err, true, false, inl, inr, subst, sym, refl, None, ap, MatchResult, Allocator, ImageError, contents_in, IsReasonAgainstReftable, ReftableReads, StandsBehindHeader, handed_on, if_no_ok, spared_kept, IsReasonAgainstTables, NeededTablesRead, LeavesFile, ImageFile, LeaveHeaderCluster, TablesBehindHeader, IsL1TableBehind, NamesTablesBehind, HeaderFields}
+use Rattle.std.proofs.Common.{◌≡◌, ◌∙◌, Bool, Result, Ok, Err, true, false, inl, inr, subst, sym, refl, None, ap}
+use Rattle.qcow2_image.proofs.Common.{MatchResult, Allocator, ImageError, contents_in, IsReasonAgainstReftable, ReftableReads, StandsBehindHeader, handed_on, if_no_ok, spared_kept, IsReasonAgainstTables, NeededTablesRead, LeavesFile, ImageFile, LeaveHeaderCluster, TablesBehindHeader, IsL1TableBehind, NamesTablesBehind, HeaderFields}
 use Rattle.qcow2_image.proofs.Open.Left.{file_read, file_refused, file_then, file_then_refused}
 use Rattle.qcow2_image.proofs.Open.Reading.{so_before}
 use Rattle.qcow2_image.proofs.Open.Opening.{new_tables_then, kept_read, kept_then}

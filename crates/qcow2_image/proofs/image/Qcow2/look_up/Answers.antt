@@ -1,4 +1,5 @@
-use Rattle.qcow2_image.proofs.Common.{IfOk-weaker, ◌≡◌, ◌-◌, ap, arith, min, refl, rules, subst, rest_of_table, IsRunFrom}
+use Rattle.std.proofs.Common.{◌≡◌, ◌-◌, ap, arith, min, refl, rules, subst}
+use Rattle.qcow2_image.proofs.Common.{IfOk-weaker, rest_of_table, IsRunFrom}
 use Rattle.qcow2_image.proofs.image.Qcow2.look_up.Goals as goal
 
 pub returns-clause-sound : goal.returns-clause-sound

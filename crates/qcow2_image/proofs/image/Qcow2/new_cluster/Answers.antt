@@ -1,4 +1,5 @@
-use Rattle.qcow2_image.proofs.Common.{handed_on, ◌≡◌, ◌/◌, ◌<◌, inl, sym, ap, ◌∙◌, subst, rules, cover, cluster_size, Guest, with_new_data, cover_format, size_format, known_in, Qcow2, InternalFillingStep, RefusedFillingStep, pending_with_listed, Gains, run_of, new_data_by, over_all, IsCopiedCompressed, MayFailAlone}
+use Rattle.std.proofs.Common.{◌≡◌, ◌/◌, ◌<◌, inl, sym, ap, ◌∙◌, subst, rules}
+use Rattle.qcow2_image.proofs.Common.{handed_on, cover, cluster_size, Guest, with_new_data, cover_format, size_format, known_in, Qcow2, InternalFillingStep, RefusedFillingStep, pending_with_listed, Gains, run_of, new_data_by, over_all, IsCopiedCompressed, MayFailAlone}
 use Rattle.qcow2_image.proofs.Call.WriteSteps.{taking_listed, taking_of_filling, taking_then}
 use Rattle.qcow2_image.proofs.image.Qcow2.new_cluster.Goals as goal
 use Rattle.qcow2_image.proofs.Prepare.FirstCluster.{listed_after_on, image_step_left, taken_new_data, taken_unused, still_holds, filled_as}

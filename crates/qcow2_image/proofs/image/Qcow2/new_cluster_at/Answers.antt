@@ -1,4 +1,5 @@
-use Rattle.qcow2_image.proofs.Common.{handed_on, ◌≡◌, ◌/◌, ◌<◌, inl, sym, ap, ◌∙◌, subst, rules, Ok, cover, cluster_size, Guest, with_new_data, cover_format, size_format, known_in, Qcow2, AllocatesDataAt, GainsAt, InternalFillingStep, RefusedFillingStep, IsGained, pending_with_listed, run_of, new_data_by, over_all, IsCopiedCompressed}
+use Rattle.std.proofs.Common.{◌≡◌, ◌/◌, ◌<◌, inl, sym, ap, ◌∙◌, subst, rules, Ok}
+use Rattle.qcow2_image.proofs.Common.{handed_on, cover, cluster_size, Guest, with_new_data, cover_format, size_format, known_in, Qcow2, AllocatesDataAt, GainsAt, InternalFillingStep, RefusedFillingStep, IsGained, pending_with_listed, run_of, new_data_by, over_all, IsCopiedCompressed}
 use Rattle.qcow2_image.proofs.Prepare.FirstCluster.{listed_after_on, image_step_left, taken_new_data, taken_unused, still_holds, filled_as}
 use Rattle.qcow2_image.proofs.Prepare.InternalWrites.{image_step_then}
 use Rattle.qcow2_image.proofs.Prepare.LimitCauses.{hands_limit, other_limit}

@@ -1,4 +1,5 @@
-use Rattle.qcow2_image.proofs.Common.{◌≡◌, ◌+◌, suc, ap, ◌∙◌, subst, arith, ◌/◌, ◌%◌, sym, ReadsAll, ReadsDropped, IfErr, entries_per_cluster, IsFault, known_in, IsEntryAt, handed_on}
+use Rattle.std.proofs.Common.{◌≡◌, ◌+◌, ◌/◌, ◌%◌, suc, ap, ◌∙◌, subst, arith, sym, IfErr}
+use Rattle.qcow2_image.proofs.Common.{ReadsAll, ReadsDropped, entries_per_cluster, IsFault, known_in, IsEntryAt, handed_on}
 use Rattle.qcow2_image.proofs.Clear.Between.{reads_next, entry_behind}
 use Rattle.qcow2_image.proofs.image.Qcow2.old_data_in.Goals as goal
 

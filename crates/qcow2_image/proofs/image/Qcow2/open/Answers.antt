@@ -1,4 +1,5 @@
-use Rattle.qcow2_image.proofs.Common.{◌≡◌, ◌⊎◌, sym, refl, arith, subst, ap, inl, inr, ◌∙◌, rules, None, false, byte_at, nothing_pending, surplus_of, ImageFile, Qcow2, IsKeptSince, HeaderReads, header, HeaderFields, SameFormat, ImageError, Dependency, UnalignedTable, of_metadata, IsFault, IsJustifiedRefusal, AreAllWritten}
+use Rattle.std.proofs.Common.{◌≡◌, ◌⊎◌, sym, refl, arith, subst, ap, inl, inr, ◌∙◌, rules, None, false}
+use Rattle.qcow2_image.proofs.Common.{byte_at, nothing_pending, surplus_of, ImageFile, Qcow2, IsKeptSince, HeaderReads, header, HeaderFields, SameFormat, ImageError, Dependency, UnalignedTable, of_metadata, IsFault, IsJustifiedRefusal, AreAllWritten}
 use Rattle.qcow2_image.proofs.Open.Left.{left_loaded, left_opened, left_refused}
 use Rattle.qcow2_image.proofs.Open.Opening.{new_tables_new, opened, kept_loaded, kept_opened, named_still}
 use Rattle.qcow2_alloc.specs.declared.error.ImageError.TheVariants as I

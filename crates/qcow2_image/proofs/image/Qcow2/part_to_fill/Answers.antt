@@ -1,4 +1,5 @@
-use Rattle.qcow2_image.proofs.Common.{◌≡◌, ◌%◌, ◌^◌, ap, ◌∙◌, mod_below, pow_pos, cluster_size, announced_range_of, copy_range_of}
+use Rattle.std.proofs.Common.{◌≡◌, ◌%◌, ◌^◌, ap, ◌∙◌}
+use Rattle.qcow2_image.proofs.Common.{mod_below, pow_pos, cluster_size, announced_range_of, copy_range_of}
 use Rattle.qcow2_image.proofs.Prepare.CopiedBytes.{has_copied}
 use Rattle.qcow2_image.proofs.Prepare.Unannounced.{part_left}
 use Rattle.qcow2_image.proofs.image.Qcow2.part_to_fill.Goals as goal

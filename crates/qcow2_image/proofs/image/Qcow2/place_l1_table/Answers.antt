@@ -1,4 +1,5 @@
-use Rattle.qcow2_image.proofs.Common.{refl, subst, sym, IsSome, ap, ◌*◌, ◌^◌, of_storage, storage_of, handed_on, with_table, IsLongerL1, PlacesTable, notes_none, notes_then, notes_of_both, notes_of_storage, placed_kept, EntryTableView, not_both, IsHostCluster, contents_in, named_have_places, fault_of_storage}
+use Rattle.std.proofs.Common.{◌*◌, ◌^◌, refl, subst, sym, IsSome, ap}
+use Rattle.qcow2_image.proofs.Common.{of_storage, storage_of, handed_on, with_table, IsLongerL1, PlacesTable, notes_none, notes_then, notes_of_both, notes_of_storage, placed_kept, EntryTableView, not_both, IsHostCluster, contents_in, named_have_places, fault_of_storage}
 use Rattle.qcow2_image.proofs.Call.Called.{keeps_then}
 use Rattle.qcow2_image.proofs.Map.Loading.{caches_moved, with_caches}
 use Rattle.qcow2_image.proofs.Prepare.UnlinkedL2Table.{keeps_none}

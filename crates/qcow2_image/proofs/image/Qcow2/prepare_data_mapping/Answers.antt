@@ -1,6 +1,7 @@
 use Rattle.qcow2_image.proofs.Call.MarkedCalls.{call_marked}
 use Rattle.qcow2_image.proofs.Prepare.LimitCauses.{goes_begun, limited_since, limits_as}
-use Rattle.qcow2_image.proofs.Common.{IfLimit, IsLimited, ◌≡◌, ◌⊎◌, ◌<◌, [], sym, ◌∙◌, subst, arith, ap, refl, ⊎_elim, inl, inr, ◌≤◌, rules, ◌+◌, IfErr, IfOk, None, Result, Some, IsNone, TablePrepared, known_in, IsAnswered, IsTaken, Qcow2, Prepares, is_failed, ListsNoMore, IsExisting, meaning, pending_in, refuses_to_prepare, FreesRefused, PreparesUnpinned, cluster_size, HeaderFields, NeedsOverflowingL1Entry, CopiesCompressed, MayFailAllocating, length_of, offset_of, table_of, HasPinnedMapping, IfOk-weaker, IfErr-weaker}
+use Rattle.std.proofs.Common.{◌≡◌, ◌⊎◌, ◌<◌, ◌≤◌, ◌+◌, [], sym, ◌∙◌, subst, arith, ap, refl, ⊎_elim, inl, inr, rules, IfErr, IfOk, None, Result, Some}
+use Rattle.qcow2_image.proofs.Common.{IfLimit, IsLimited, IsNone, TablePrepared, known_in, IsAnswered, IsTaken, Qcow2, Prepares, is_failed, ListsNoMore, IsExisting, meaning, pending_in, refuses_to_prepare, FreesRefused, PreparesUnpinned, cluster_size, HeaderFields, NeedsOverflowingL1Entry, CopiesCompressed, MayFailAllocating, length_of, offset_of, table_of, HasPinnedMapping, IfOk-weaker, IfErr-weaker}
 use Rattle.qcow2_image.proofs.image.Qcow2.prepare_data_mapping.Goals as goal
 use Rattle.qcow2_image.proofs.Prepare.PreparedAnswers.{answered_before, taken_before}
 use Rattle.qcow2_image.proofs.Call.Called.{listed}

@@ -1,5 +1,6 @@
 use Rattle.qcow2_image.proofs.Call.WriteSteps.{filling_pinned, taking_none, taking_of_filling, taking_where}
-use Rattle.qcow2_image.proofs.Common.{BeginsSoundly, rules, refl, ◌/◌, sym, ap, ◌∙◌, subst, List, length, ◌≡◌, ◌≤◌, true, false, inr, arith, MarkedIsBehind, cover, vec_capacity, ClusterMapping, cluster_size, L2Mapping, known_in, handed_on, Prepared, l1_index_of, IsReadied, Readies, pending_in, IsFirst, always_ok, l2_pins, IfOk-weaker, IfErr-weaker}
+use Rattle.std.proofs.Common.{◌/◌, ◌≡◌, ◌≤◌, rules, refl, sym, ap, ◌∙◌, subst, List, length, true, false, inr, arith}
+use Rattle.qcow2_image.proofs.Common.{BeginsSoundly, MarkedIsBehind, cover, vec_capacity, ClusterMapping, cluster_size, L2Mapping, known_in, handed_on, Prepared, l1_index_of, IsReadied, Readies, pending_in, IsFirst, always_ok, l2_pins, IfOk-weaker, IfErr-weaker}
 use Rattle.qcow2_image.proofs.image.Qcow2.prepare_first.Goals as goal
 use Rattle.qcow2_image.proofs.Prepare.KeptMappings.{data_keep_none}
 use Rattle.qcow2_image.proofs.Prepare.RangeByParts.{room_as}

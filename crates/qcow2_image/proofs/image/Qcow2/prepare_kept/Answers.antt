@@ -1,5 +1,6 @@
 use Rattle.qcow2_image.proofs.Call.WriteSteps.{filling_pinned, filling_then, filling_written}
-use Rattle.qcow2_image.proofs.Common.{HasPinnedMapping, IsCopiedCompressed, MayFailAllocating, keeping, ◌≤◌, ◌-◌, ◌%◌, List, length, inl, refl, sym, ap, subst, arith, ◌/◌, rules, cluster_size, handed_on, Qcow2, Prepared, ClusterMapping, IsReadied, Readies, pending_in, IsFirst, InternalFillingStep}
+use Rattle.std.proofs.Common.{◌≤◌, ◌-◌, ◌%◌, ◌/◌, List, length, inl, refl, sym, ap, subst, arith, rules}
+use Rattle.qcow2_image.proofs.Common.{HasPinnedMapping, IsCopiedCompressed, MayFailAllocating, keeping, cluster_size, handed_on, Qcow2, Prepared, ClusterMapping, IsReadied, Readies, pending_in, IsFirst, InternalFillingStep}
 use Rattle.qcow2_image.proofs.Prepare.FirstCluster.{listed_after_same}
 use Rattle.qcow2_image.proofs.Prepare.KeptMappings.{first_alone, readied_kept}
 use Rattle.qcow2_image.proofs.Prepare.LimitCauses.{hands_limit, hands_unlimited, other_limit}

@@ -1,7 +1,8 @@
 use Rattle.qcow2_image.proofs.Call.WriteSteps.{filling_pinned, taking_listed, taking_none, taking_of_filling, taking_where, where_then, where_with}
 use Rattle.qcow2_image.proofs.Call.Unlimited.{looking_unlimited, fault_unlimited}
 use Rattle.qcow2_image.proofs.image.Qcow2.prepare_new.Goals as goal
-use Rattle.qcow2_image.proofs.Common.{rules, ◌≡◌, ◌≤◌, ◌-◌, ◌*◌, ◌%◌, ◌^◌, ◌++◌, [], ◌∷◌, inl, refl, sym, ap, ◌∙◌, subst, arith, List, length, ◌+◌, HeaderFields, cluster_size, HeaderView, KeepsFormat, header_format, with_new_data, handed_on, Qcow2, Prepared, Readies, IsReadied, ClusterMapping, IsFirst, RefusedFillingStep, InternalFillingStep, HoldsAll, pending_with_listed, run_of, pending_in, HasPlace, known_in, l1_index_of, IsCopiedCompressed, MayFailAllocating, HasPinnedMapping}
+use Rattle.std.proofs.Common.{◌≡◌, ◌≤◌, ◌-◌, ◌*◌, ◌%◌, ◌^◌, ◌++◌, ◌∷◌, ◌+◌, rules, [], inl, refl, sym, ap, ◌∙◌, subst, arith, List, length}
+use Rattle.qcow2_image.proofs.Common.{HeaderFields, cluster_size, HeaderView, KeepsFormat, header_format, with_new_data, handed_on, Qcow2, Prepared, Readies, IsReadied, ClusterMapping, IsFirst, RefusedFillingStep, InternalFillingStep, HoldsAll, pending_with_listed, run_of, pending_in, HasPlace, known_in, l1_index_of, IsCopiedCompressed, MayFailAllocating, HasPinnedMapping}
 use Rattle.qcow2_image.proofs.Prepare.FirstCluster.{listed_after_on, image_step_left, still_holds}
 use Rattle.qcow2_image.proofs.Prepare.InternalWrites.{image_step_kept, image_step_then}
 use Rattle.qcow2_image.proofs.Prepare.WritableL2Table.{refused as any_refusal}

@@ -1,4 +1,5 @@
-use Rattle.qcow2_image.proofs.Common.{◌≡◌, ◌+◌, ◌-◌, min, sym, ap, ◌∙◌, subst, arith, ◌/◌, rules, Ok, cluster_size, HeaderFields, header_format, Prepared, FindsBehind, IsExtended, cover, IsCopiedCompressed, known_in}
+use Rattle.std.proofs.Common.{◌≡◌, ◌+◌, ◌-◌, ◌/◌, min, sym, ap, ◌∙◌, subst, arith, rules, Ok}
+use Rattle.qcow2_image.proofs.Common.{cluster_size, HeaderFields, header_format, Prepared, FindsBehind, IsExtended, cover, IsCopiedCompressed, known_in}
 use Rattle.qcow2_image.proofs.Prepare.NextCluster.{extended}
 use Rattle.qcow2_image.proofs.Prepare.LimitCauses.{hands_limit}
 use Rattle.qcow2_image.proofs.Prepare.FailingTables.{hands_alone}

@@ -1,5 +1,6 @@
 use Rattle.qcow2_image.proofs.image.Qcow2.prepare_range.Goals as goal
-use Rattle.qcow2_image.proofs.Common.{◌≡◌, true, false, inl, refl, sym, subst, None, Option, [], ◌∷◌, ap, ◌<◌, ◌≤◌, ℕ, rules, arith, known_in, handed_on, PreparesRange, IsPlaceOf, IsWritableAt, IsTaken, meaning, pending_in, on_ok, IfSome, notes_then, cluster_size, HeaderFields, NeedsOverflowingL1Entry, CopiesCompressed, MayFailAllocating, HasPinnedMapping, IfOk-weaker, IfErr-weaker}
+use Rattle.std.proofs.Common.{◌≡◌, ◌∷◌, ◌<◌, ◌≤◌, true, false, inl, refl, sym, subst, None, Option, [], ap, ℕ, rules, arith}
+use Rattle.qcow2_image.proofs.Common.{known_in, handed_on, PreparesRange, IsPlaceOf, IsWritableAt, IsTaken, meaning, pending_in, on_ok, IfSome, notes_then, cluster_size, HeaderFields, NeedsOverflowingL1Entry, CopiesCompressed, MayFailAllocating, HasPinnedMapping, IfOk-weaker, IfErr-weaker}
 use Rattle.qcow2_image.proofs.Prepare.PreparedAnswers.{answered_before, answered_existing, answered_range, nowhere_before, taken_before}
 use Rattle.qcow2_image.proofs.Images.Free.{free_places}
 use Rattle.qcow2_image.proofs.Prepare.Preparing.{readied_existing}

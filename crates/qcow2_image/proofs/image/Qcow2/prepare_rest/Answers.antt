@@ -1,5 +1,6 @@
 use Rattle.qcow2_image.proofs.Call.WriteSteps.{taking_none, taking_then}
-use Rattle.qcow2_image.proofs.Common.{◌≡◌, ◌-◌, ◌*◌, ◌%◌, ◌<◌, ◌≤◌, length, true, false, inr, refl, sym, ap, ◌∙◌, subst, arith, min, ◌+◌, rules, Ok, Err, Some, None, slice_set, vec_capacity, cluster_size, handed_on, header_same, header_format, Prepared, IsReadied, GoesTo, BreaksOff, Ends, GoesNext, GoesOn, HeaderFields, known_in, CopiesCompressed}
+use Rattle.std.proofs.Common.{◌≡◌, ◌-◌, ◌*◌, ◌%◌, ◌<◌, ◌≤◌, ◌+◌, length, true, false, inr, refl, sym, ap, ◌∙◌, subst, arith, min, rules, Ok, Err, Some, None}
+use Rattle.qcow2_image.proofs.Common.{slice_set, vec_capacity, cluster_size, handed_on, header_same, header_format, Prepared, IsReadied, GoesTo, BreaksOff, Ends, GoesNext, GoesOn, HeaderFields, known_in, CopiesCompressed}
 use Rattle.qcow2_image.proofs.Call.Slots.{get_set_same, length_set}
 use Rattle.qcow2_image.proofs.Prepare.RangeByParts.{may_go_on, so_far_all, so_far_ends, so_far_next}
 use Rattle.qcow2_image.proofs.Call.FaultCounts.{counted_ok, counted_on, faults_then}

@@ -1,4 +1,5 @@
-use Rattle.qcow2_image.proofs.Common.{◌-◌, AllocatingStep, SameFaults}
+use Rattle.std.proofs.Common.{◌-◌}
+use Rattle.qcow2_image.proofs.Common.{AllocatingStep, SameFaults}
 use Rattle.qcow2_image.proofs.Prepare.RangeByParts.{IsSoFar}
 use Rattle.qcow2_image.proofs.image.Qcow2.prepare_rest.Given as goal
 

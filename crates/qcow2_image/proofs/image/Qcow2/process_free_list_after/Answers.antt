@@ -1,4 +1,5 @@
-use Rattle.qcow2_image.proofs.Common.{not_both, ◌≡◌, inl, inr, refl, sym, ◌∙◌, subst, Ok, Err, rules, [], Pending, ImageInvariant}
+use Rattle.std.proofs.Common.{◌≡◌, inl, inr, refl, sym, ◌∙◌, subst, Ok, Err, rules, []}
+use Rattle.qcow2_image.proofs.Common.{not_both, Pending, ImageInvariant}
 use Rattle.qcow2_image.proofs.Flush.Freeing.{all_listed, beside, freed_refused, tidy_stays}
 use Rattle.qcow2_image.proofs.Call.FaultCounts.{counted_as, counted_still}
 use Rattle.qcow2_image.proofs.Call.ImageSteps.{step_none}

@@ -1,4 +1,5 @@
-use Rattle.qcow2_image.proofs.Common.{◌≡◌, ℕ, ◌+◌, ◌<◌, List, length, sym, ap, ◌∙◌, subst, bytes_at, byte_at-bytes_at, length-bytes_at, byte_at, IsHonestBacking, backing_bytes}
+use Rattle.std.proofs.Common.{◌≡◌, ◌+◌, ◌<◌, ℕ, List, length, sym, ap, ◌∙◌, subst}
+use Rattle.qcow2_image.proofs.Common.{bytes_at, byte_at-bytes_at, length-bytes_at, byte_at, IsHonestBacking, backing_bytes}
 use Rattle.qcow2_image.proofs.image.Qcow2.read_backing.Goals as goal
 
 pub returns-clause-reads : goal.returns-clause-reads

@@ -1,4 +1,5 @@
-use Rattle.qcow2_image.proofs.Common.{◌≡◌, ◌+◌, ◌∙◌, inl, inr, length, Err, subst, sym, arith, IfOk, rules, Shows, OutdatedMapping, handed_on, always_ok, IsFoundWhole, further_by, disk_of, IsCacheHeld, MayFailMapped, MayFailReading, IfErr, Result, is_some, written_then, FitsTables, IsHeldAs}
+use Rattle.std.proofs.Common.{◌≡◌, ◌+◌, ◌∙◌, inl, inr, length, Err, subst, sym, arith, IfOk, rules, IfErr, Result, is_some}
+use Rattle.qcow2_image.proofs.Common.{Shows, OutdatedMapping, handed_on, always_ok, IsFoundWhole, further_by, disk_of, IsCacheHeld, MayFailMapped, MayFailReading, written_then, FitsTables, IsHeldAs}
 use Rattle.qcow2_image.proofs.Call.Called.{keeps_then}
 use Rattle.qcow2_image.proofs.Map.Looked.{none_past}
 use Rattle.qcow2_image.proofs.Prepare.FailingCopies.{hands_met, mapped_met, met_as}

@@ -1,4 +1,5 @@
-use Rattle.qcow2_image.proofs.Common.{◌≡◌, ◌∙◌, ◌⊎◌, inl, inr, [], IfErr, length, subst, arith, rules, cases_lt, not_compressed, storage, known_in, handed_on, NotCompressed, Memory, MayFail, FailsOnceWritten, err_as, IsCacheHeld, MayFailLooking}
+use Rattle.std.proofs.Common.{◌≡◌, ◌⊎◌, ◌∙◌, inl, inr, [], IfErr, length, subst, arith, rules}
+use Rattle.qcow2_image.proofs.Common.{cases_lt, not_compressed, storage, known_in, handed_on, NotCompressed, Memory, MayFail, FailsOnceWritten, err_as, IsCacheHeld, MayFailLooking}
 use Rattle.qcow2_alloc.specs.declared.error.ImageError.TheVariants.{Compressed}
 use Rattle.qcow2_image.specs.SpecialReads.{ReportsCompressed}
 use Rattle.qcow2_image.proofs.Call.Answers.{answers_err}

@@ -1,5 +1,6 @@
 use Rattle.qcow2_image.proofs.Call.Unlimited.{looking_unlimited}
-use Rattle.qcow2_image.proofs.Common.{table_at, inl, refl, rules, ◌≡◌, sym, GoesTo, OwnsTable, notes_then, notes_of_both, contents_in, HasPinnedMapping, MayFailAllocating}
+use Rattle.std.proofs.Common.{◌≡◌, inl, refl, rules, sym}
+use Rattle.qcow2_image.proofs.Common.{table_at, GoesTo, OwnsTable, notes_then, notes_of_both, contents_in, HasPinnedMapping, MayFailAllocating}
 use Rattle.qcow2_image.proofs.image.Qcow2.replace_l2.Goals as goal
 use Rattle.qcow2_image.proofs.Prepare.UnlinkedL2Table.{as_listed_after}
 use Rattle.qcow2_image.proofs.Map.Loading.{caches_moved, with_caches}

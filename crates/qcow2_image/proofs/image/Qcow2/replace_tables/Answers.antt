@@ -1,4 +1,5 @@
-use Rattle.qcow2_image.proofs.Common.{◌≡◌, ◌∙◌, ◌*◌, ◌≤◌, Result, sym, ap, subst, IfErr, HeaderView, entries_per_cluster, with_fields, with_tables_of, contents_in, ImageError, handed_on, is_writable, ImageFails, KeepsTables, ReplacesTables, IsReasonAgainstTables, MayFail}
+use Rattle.std.proofs.Common.{◌≡◌, ◌*◌, ◌≤◌, ◌∙◌, Result, sym, ap, subst, IfErr}
+use Rattle.qcow2_image.proofs.Common.{HeaderView, entries_per_cluster, with_fields, with_tables_of, contents_in, ImageError, handed_on, is_writable, ImageFails, KeepsTables, ReplacesTables, IsReasonAgainstTables, MayFail}
 use Rattle.qcow2_image.proofs.Invalidate.TakenOver.{all_taken, counts_named, header_stays, none_taken, on_refused, places_taken, sound_named, step_over, tables_kept, tables_named, with_header}
 use Rattle.qcow2_image.proofs.image.Qcow2.replace_tables.Goals as goal
 

@@ -1,5 +1,6 @@
 use Rattle.qcow2_image.proofs.Call.OnceWritten.{fails_none}
-use Rattle.qcow2_image.proofs.Common.{◌≡◌, ◌-◌, ◌≤◌, ◌∙◌, refl, sym, subst, arith, rules, None, Ok, Result, Some, passes_none, handed_on, known_in, view_in, size_of, Shrinks, ShrinksSoundly, DiscardsClusters, boundary_in, refuses_to_resize, pow_pos, cluster_size}
+use Rattle.std.proofs.Common.{◌≡◌, ◌-◌, ◌≤◌, ◌∙◌, refl, sym, subst, arith, rules, None, Ok, Result, Some}
+use Rattle.qcow2_image.proofs.Common.{passes_none, handed_on, known_in, view_in, size_of, Shrinks, ShrinksSoundly, DiscardsClusters, boundary_in, refuses_to_resize, pow_pos, cluster_size}
 use Rattle.qcow2_alloc.specs.ImageFile.{l2_pins}
 use Rattle.qcow2_image.proofs.Images.Backings.{found_pinned, none_prepared}
 use Rattle.qcow2_image.proofs.Clear.Touched.{rounded_from}

@@ -1,4 +1,5 @@
-use Rattle.qcow2_image.proofs.Common.{IfOk-weaker, ◌≡◌, ◌-◌, ◌/◌, ◌<◌, sym, ap, ◌∙◌, subst, arith, min, is_some, Some, None, false, true, rules, cluster_size, host_offset, IsLongestRun, table_at, Sizes-from, cover_none, IsTop-top, contents_in, known_in, kind_at, rest_of_table, l1_index_of, l2_index_of, NamesL2Table, IsRunFrom, IfSome, MatchOption, IsEntryAt, IsCacheHeld, MayFailLooking, own_table}
+use Rattle.std.proofs.Common.{◌≡◌, ◌-◌, ◌/◌, ◌<◌, sym, ap, ◌∙◌, subst, arith, min, is_some, Some, None, false, true, rules}
+use Rattle.qcow2_image.proofs.Common.{IfOk-weaker, cluster_size, host_offset, IsLongestRun, table_at, Sizes-from, cover_none, IsTop-top, contents_in, known_in, kind_at, rest_of_table, l1_index_of, l2_index_of, NamesL2Table, IsRunFrom, IfSome, MatchOption, IsEntryAt, IsCacheHeld, MayFailLooking, own_table}
 use Rattle.qcow2_image.proofs.Map.Loading.{caches_moved, with_caches}
 use Rattle.qcow2_image.proofs.Map.Looked.{none_found}
 use Rattle.qcow2_image.proofs.Call.BehindHeader.{behind_caches}

@@ -1,4 +1,4 @@
-use Rattle.qcow2_image.proofs.Common.{◌≡◌, ◌∙◌, true, false, refl, sym}
+use Rattle.std.proofs.Common.{◌≡◌, ◌∙◌, true, false, refl, sym}
 use Rattle.qcow2_alloc.specs.ImageFile.{l2_pins}
 use Rattle.qcow2_image.proofs.Images.Backings.{found_pinned, none_prepared, some_prepared}
 use Rattle.qcow2_image.proofs.image.Qcow2.set_backing.Goals as goal

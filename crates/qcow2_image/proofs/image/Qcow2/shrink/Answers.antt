@@ -1,4 +1,5 @@
-use Rattle.qcow2_image.proofs.Common.{◌≡◌, ◌∙◌, ◌-◌, inl, inr, sym, ap, subst, rules, Err, IfSome, MatchOption, passes_none, cluster_size, rounded_up, HaveRisen, ltb-true, IsFault, view_in, is_changed_of, Qcow2, is_failed, size_of, MarksRefused, Shrinks, DiscardsTail, WritesSizeLast, boundary_in, ReportsEachIn, ReportsFault}
+use Rattle.std.proofs.Common.{◌≡◌, ◌-◌, ◌∙◌, inl, inr, sym, ap, subst, rules, Err}
+use Rattle.qcow2_image.proofs.Common.{IfSome, MatchOption, passes_none, cluster_size, rounded_up, HaveRisen, ltb-true, IsFault, view_in, is_changed_of, Qcow2, is_failed, size_of, MarksRefused, Shrinks, DiscardsTail, WritesSizeLast, boundary_in, ReportsEachIn, ReportsFault}
 use Rattle.qcow2_image.specs.declared.discarding.ClearMode.TheVariants.{Uncovered}
 use Rattle.qcow2_image.proofs.Clear.ClearCalls.{covers_after}
 use Rattle.qcow2_image.proofs.Resize.RecordedChanges.{same_noted, shrinks_noted}

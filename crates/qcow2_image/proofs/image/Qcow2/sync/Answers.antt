@@ -1,4 +1,5 @@
-use Rattle.qcow2_image.proofs.Common.{◌≡◌, [], sym, ◌∙◌, subst, rules, Result, IsSame, view_in, AnswersCall, Qcow2, is_failed, ContentsStayThroughout}
+use Rattle.std.proofs.Common.{◌≡◌, [], sym, ◌∙◌, subst, rules, Result}
+use Rattle.qcow2_image.proofs.Common.{IsSame, view_in, AnswersCall, Qcow2, is_failed, ContentsStayThroughout}
 use Rattle.qcow2_image.proofs.Call.BehindHeader.{behind_call}
 use Rattle.qcow2_image.proofs.Call.Called.{told_answers, tells_quietly, quietly_then}
 use Rattle.qcow2_image.proofs.Call.FaultCounts.{counted_marked}

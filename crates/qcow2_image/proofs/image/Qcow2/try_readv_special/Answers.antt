@@ -1,5 +1,6 @@
 use Rattle.qcow2_image.proofs.Call.MarkedCalls.{reading_marked}
-use Rattle.qcow2_image.proofs.Common.{◌≡◌, ◌⊎◌, [], sym, ◌∙◌, subst, rules, Result, IfErr, None, Some, IsSame, AnswersCall, Qcow2, known_in, is_failed, pending_in, IsCacheHeld, MayFailLooking, unusable, IfOk-weaker}
+use Rattle.std.proofs.Common.{◌≡◌, ◌⊎◌, [], sym, ◌∙◌, subst, rules, Result, IfErr, None, Some}
+use Rattle.qcow2_image.proofs.Common.{IsSame, AnswersCall, Qcow2, known_in, is_failed, pending_in, IsCacheHeld, MayFailLooking, unusable, IfOk-weaker}
 use Rattle.qcow2_image.specs.SpecialReads.{ReportsWhether}
 use Rattle.qcow2_image.proofs.Call.Answers.{usable_works}
 use Rattle.qcow2_image.proofs.Call.Called.{told_answers, tells_quietly, quietly_then}

@@ -1,4 +1,5 @@
-use Rattle.qcow2_image.proofs.Common.{HasNearEntry, HasOwnTable, ◌≡◌, ◌⊎◌, ◌*◌, ◌/◌, ◌^◌, Ok, arith, sym, ap, ◌∙◌, subst, ◌≤◌, inr, inl, rules, host_offset, is_copied, l1_index_of, OwnsTable, MayName, entry_count, entry_at, NamesOwn}
+use Rattle.std.proofs.Common.{◌≡◌, ◌⊎◌, ◌*◌, ◌/◌, ◌^◌, ◌≤◌, Ok, arith, sym, ap, ◌∙◌, subst, inr, inl, rules}
+use Rattle.qcow2_image.proofs.Common.{HasNearEntry, HasOwnTable, host_offset, is_copied, l1_index_of, OwnsTable, MayName, entry_count, entry_at, NamesOwn}
 use Rattle.qcow2_image.proofs.Call.ImageSteps.{step_none}
 use Rattle.qcow2_image.proofs.image.Qcow2.writable_l2_cluster.Goals as goal
 use Rattle.qcow2_image.proofs.Prepare.WritableL2Table.{refused, left_alone, may_none, says_none, entered_owns, owns_already}

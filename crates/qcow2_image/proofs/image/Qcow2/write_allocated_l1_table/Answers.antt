@@ -1,5 +1,6 @@
 use Rattle.qcow2_image.proofs.image.Qcow2.write_allocated_l1_table.Goals as goal
-use Rattle.qcow2_image.proofs.Common.{refl, sym, subst, ◌<◌, ◌≡◌, ImageInvariant, with_table, NamesTable, IfErr, OnOk, Result, Some, IsFault}
+use Rattle.std.proofs.Common.{◌<◌, ◌≡◌, refl, sym, subst, IfErr, Result, Some}
+use Rattle.qcow2_image.proofs.Common.{ImageInvariant, with_table, NamesTable, OnOk, IsFault}
 
 pub returns-clause-names : goal.returns-clause-names
 returns-clause-names g c = λ p out sound recorded longer.

@@ -1,5 +1,6 @@
 use Rattle.qcow2_image.proofs.image.Qcow2.write_l2_bytes.Goals as goal
-use Rattle.qcow2_image.proofs.Common.{inl, arith, ◌≡◌, ◌^◌, false, length, refl, ap, ◌∙◌, subst, sym, IsSome, ◌<◌, ◌*◌, rules, Some, IfSome, OnOk, L2TableView, of_storage, storage_of, l2_at, InsertKeeps, IsTableOf, handed_on, PlacesNewTable, notes_none, notes_then, notes_of_both, notes_of_storage, placed_kept, CachesSpareHeader, not_both, IsHostCluster, HasPinnedMapping, MayFailLooking, IfOk-weaker, fault_of_storage}
+use Rattle.std.proofs.Common.{◌≡◌, ◌^◌, ◌<◌, ◌*◌, inl, arith, false, length, refl, ap, ◌∙◌, subst, sym, IsSome, rules, Some}
+use Rattle.qcow2_image.proofs.Common.{IfSome, OnOk, L2TableView, of_storage, storage_of, l2_at, InsertKeeps, IsTableOf, handed_on, PlacesNewTable, notes_none, notes_then, notes_of_both, notes_of_storage, placed_kept, CachesSpareHeader, not_both, IsHostCluster, HasPinnedMapping, MayFailLooking, IfOk-weaker, fault_of_storage}
 use Rattle.qcow2_image.proofs.Call.Called.{keeps_then}
 use Rattle.qcow2_image.proofs.Prepare.NewL2Table.{holds, keeps_placed, keeps_put, keeps_stored, places_when, stands_ready, stands_there}
 use Rattle.qcow2_image.proofs.Call.BehindHeader.{behind_caches, behind_none, behind_placed, behind_then, table_behind}

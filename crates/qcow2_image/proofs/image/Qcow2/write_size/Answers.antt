@@ -1,5 +1,6 @@
 use Rattle.qcow2_image.proofs.image.Qcow2.write_size.Goals as goal
-use Rattle.qcow2_image.proofs.Common.{◌≡◌, ◌∙◌, sym, ap, subst, Err, HeaderView, with_fields, with_size, size_written, Changes, storage_of, Qcow2, WritesSize, told_kept, notes_of_storage}
+use Rattle.std.proofs.Common.{◌≡◌, ◌∙◌, sym, ap, subst, Err}
+use Rattle.qcow2_image.proofs.Common.{HeaderView, with_fields, with_size, size_written, Changes, storage_of, Qcow2, WritesSize, told_kept, notes_of_storage}
 use Rattle.qcow2_image.proofs.Resize.SizeWritten.{lasts_resized, lasts_sized, size_is_refused, size_is_set}
 use Rattle.qcow2_image.proofs.Call.BehindHeader.{behind_bits, behind_size, behind_then}
 

@@ -1,7 +1,8 @@
 use Rattle.qcow2_image.proofs.Call.ImageSteps.{step_then, step_none}
 use Rattle.qcow2_image.proofs.Prepare.LimitCauses.{goes_step}
 use Rattle.qcow2_image.proofs.image.Qcow2.zero_between.Goals as goal
-use Rattle.qcow2_image.proofs.Common.{◌≤◌, subst, sym, arith, handed_on, abstract_of, FillsOrRefuses, known_in, HasCompressedIn, MayFailAllocating, HasPinnedMapping, IfErr-weaker}
+use Rattle.std.proofs.Common.{◌≤◌, subst, sym, arith}
+use Rattle.qcow2_image.proofs.Common.{handed_on, abstract_of, FillsOrRefuses, known_in, HasCompressedIn, MayFailAllocating, HasPinnedMapping, IfErr-weaker}
 use Rattle.qcow2_image.proofs.Call.Called.{works_none}
 use Rattle.qcow2_image.proofs.Preallocate.Filled.{fills_before, fills_none, fills_or_refuses, refused_after, zeros_from}
 use Rattle.qcow2_image.proofs.Preallocate.FillSteps.{same_version, still_at}

@@ -1,4 +1,5 @@
-use Rattle.qcow2_image.proofs.Common.{◌≡◌, ◌∙◌, ◌+◌, ◌-◌, ◌^◌, ◌<◌, [], ◌∷◌, inl, min, ap, subst, arith, rules, rest_of_table, entry_count, Pending, Sizes-from, handed_on, contents_in, known_in, IsClearable, KeptZeros, ImageInvariant, abstract_of, pending_in, FillsFirst, given_by_zeros, HasPinnedMapping, MayFailAllocating}
+use Rattle.std.proofs.Common.{◌≡◌, ◌+◌, ◌-◌, ◌^◌, ◌<◌, ◌∷◌, ◌∙◌, [], inl, min, ap, subst, arith, rules}
+use Rattle.qcow2_image.proofs.Common.{rest_of_table, entry_count, Pending, Sizes-from, handed_on, contents_in, known_in, IsClearable, KeptZeros, ImageInvariant, abstract_of, pending_in, FillsFirst, given_by_zeros, HasPinnedMapping, MayFailAllocating}
 use Rattle.qcow2_image.proofs.Call.Called.{works_none}
 use Rattle.qcow2_image.proofs.Flush.Freeing.{all_listed, beside, freed_refused, tidy_stays}
 use Rattle.qcow2_image.proofs.Preallocate.Filled.{cleared_fills, fill_unseen, fills_none, fills_refused, fills_stays, next_whole, next_within, taken_here}

@@ -1,4 +1,5 @@
-use Rattle.qcow2_image.proofs.Common.{notes_none, notes_then, ◌≡◌, ◌≤◌, refl, subst, sym, arith, rules, handed_on, FillsOrRefuses, FillsPart, HasPinnedMapping, MayFailAllocating}
+use Rattle.std.proofs.Common.{◌≡◌, ◌≤◌, refl, subst, sym, arith, rules}
+use Rattle.qcow2_image.proofs.Common.{notes_none, notes_then, handed_on, FillsOrRefuses, FillsPart, HasPinnedMapping, MayFailAllocating}
 use Rattle.qcow2_image.proofs.Preallocate.FillSteps.{same_version, still_at, zeroed_first, zeroed_next, zeroed_refused}
 use Rattle.qcow2_image.proofs.Call.FaultCounts.{counted_ok, counted_on, faults_then, untouched}
 use Rattle.qcow2_image.proofs.Call.BehindHeader.{behind_none, behind_then}

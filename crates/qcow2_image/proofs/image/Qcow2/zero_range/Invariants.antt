@@ -1,4 +1,5 @@
-use Rattle.qcow2_image.proofs.Common.{KeepsFileNotes, ◌-◌, PreservesHeaderCluster, SameFaults, HasNothingToFree}
+use Rattle.std.proofs.Common.{◌-◌}
+use Rattle.qcow2_image.proofs.Common.{KeepsFileNotes, PreservesHeaderCluster, SameFaults, HasNothingToFree}
 use Rattle.qcow2_image.proofs.Preallocate.FillSteps.{ZeroedTo}
 use Rattle.qcow2_image.proofs.image.Qcow2.zero_range.Given as goal
 

@@ -1,4 +1,5 @@
-use Rattle.qcow2_image.proofs.Common.{ℕ, List, ◌≡◌, ◌≤◌, ◌∙◌, ap, length, replicate, subst, take, take-replicate, overwritten, ContentsBecome, storage_of, AreZeros, most_of}
+use Rattle.std.proofs.Common.{◌≡◌, ◌≤◌, ℕ, List, ◌∙◌, ap, length, replicate, subst, take}
+use Rattle.qcow2_image.proofs.Common.{take-replicate, overwritten, ContentsBecome, storage_of, AreZeros, most_of}
 use Rattle.qcow2_image.specs.declared.preallocation.ZeroWrites.{ZeroWrites}
 use Rattle.qcow2_image.proofs.preallocation.ZeroWrites.write.Goals as goal
 

@@ -1,4 +1,5 @@
-use Rattle.qcow2_metadata.proofs.Common.{◌≡◌, ◌-◌, ◌*◌, ◌++◌, List, ℕ, length, take, drop, replicate, ap, sym, ◌∙◌, arith, overwritten, whole, EntryTableView}
+use Rattle.std.proofs.Common.{◌≡◌, ◌-◌, ◌*◌, ◌++◌, List, ℕ, length, take, drop, replicate, ap, sym, ◌∙◌, arith}
+use Rattle.qcow2_metadata.proofs.Common.{overwritten, whole, EntryTableView}
 use Rattle.qcow2_metadata.proofs.EntryTables.{overwritten-zeros, same_table}
 use Rattle.qcow2_metadata.proofs.entry_table.EntryTable.clone_and_grow.Goals as goal
 

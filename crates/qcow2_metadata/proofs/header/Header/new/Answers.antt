@@ -1,4 +1,5 @@
-use Rattle.qcow2_metadata.proofs.Common.{◌≡◌, option_map, rules, new_fields}
+use Rattle.std.proofs.Common.{◌≡◌, option_map, rules}
+use Rattle.qcow2_metadata.proofs.Common.{new_fields}
 use Rattle.std.specs.String.{string_bytes}
 use Rattle.qcow2_metadata.proofs.NewHeader.{new_kept}
 use Rattle.qcow2_metadata.proofs.header.Header.new.Goals as goal

@@ -1,4 +1,4 @@
-use Rattle.qcow2_metadata.proofs.Common.{◌*◌, ◌/◌, ◌^◌, sym, ap, ◌∙◌, arith}
+use Rattle.std.proofs.Common.{◌*◌, ◌/◌, ◌^◌, sym, ap, ◌∙◌, arith}
 use Rattle.qcow2_metadata.proofs.Sizes.{counts_in_block}
 use Rattle.qcow2_metadata.proofs.header.Header.rb_bits.Goals as goal
 

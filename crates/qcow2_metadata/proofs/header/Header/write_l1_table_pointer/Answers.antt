@@ -1,4 +1,5 @@
-use Rattle.qcow2_metadata.proofs.Common.{◌^◌, ◌<◌, rules, subst, IsWithinLimits}
+use Rattle.std.proofs.Common.{◌^◌, ◌<◌, rules, subst}
+use Rattle.qcow2_metadata.proofs.Common.{IsWithinLimits}
 use Rattle.qcow2_metadata.proofs.StillHeader.{l1_table_still}
 use Rattle.qcow2_metadata.proofs.header.Header.write_l1_table_pointer.Goals as goal
 

@@ -1,4 +1,5 @@
-use Rattle.qcow2_metadata.proofs.Common.{◌^◌, ◌<◌, rules, subst, IsWithinLimits}
+use Rattle.std.proofs.Common.{◌^◌, ◌<◌, rules, subst}
+use Rattle.qcow2_metadata.proofs.Common.{IsWithinLimits}
 use Rattle.qcow2_metadata.proofs.StillHeader.{size_still}
 use Rattle.qcow2_metadata.proofs.header.Header.write_size.Goals as goal
 

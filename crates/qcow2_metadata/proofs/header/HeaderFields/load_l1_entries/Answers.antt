@@ -1,4 +1,5 @@
-use Rattle.qcow2_metadata.proofs.Common.{◌+◌, ◌*◌, ◌≤◌, ◌^◌, err_from_is_err_and, bytes_at, L1EntryReads, IsClear}
+use Rattle.std.proofs.Common.{◌+◌, ◌*◌, ◌≤◌, ◌^◌}
+use Rattle.qcow2_metadata.proofs.Common.{err_from_is_err_and, bytes_at, L1EntryReads, IsClear}
 use Rattle.qcow2_metadata.proofs.EntryTables.{l1_entries-loaded, IsReasonNotToLoad-reads, clear_l1_reads, l1_reads_clear}
 use Rattle.qcow2_metadata.proofs.header.HeaderFields.load_l1_entries.Goals as goal
 

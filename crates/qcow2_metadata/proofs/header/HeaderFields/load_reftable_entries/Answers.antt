@@ -1,4 +1,5 @@
-use Rattle.qcow2_metadata.proofs.Common.{◌+◌, ◌*◌, ◌≤◌, ◌^◌, err_from_is_err_and, bytes_at, ReftableEntryReads, IsClear}
+use Rattle.std.proofs.Common.{◌+◌, ◌*◌, ◌≤◌, ◌^◌}
+use Rattle.qcow2_metadata.proofs.Common.{err_from_is_err_and, bytes_at, ReftableEntryReads, IsClear}
 use Rattle.qcow2_metadata.proofs.EntryTables.{reftable_entries-loaded, IsReasonNotToLoad-reads, clear_reftable_reads, reftable_reads_clear}
 use Rattle.qcow2_metadata.proofs.header.HeaderFields.load_reftable_entries.Goals as goal
 

@@ -1,4 +1,5 @@
-use Rattle.qcow2_metadata.proofs.Common.{◌+◌, ◌-◌, ◌≤◌, length, option_copied, byte_at}
+use Rattle.std.proofs.Common.{◌+◌, ◌-◌, ◌≤◌, length, option_copied}
+use Rattle.qcow2_metadata.proofs.Common.{byte_at}
 use Rattle.qcow2_metadata.proofs.Extensions.{IsReadSoFar}
 use Rattle.qcow2_metadata.proofs.header.extensions.read_extensions.Given as goal
 

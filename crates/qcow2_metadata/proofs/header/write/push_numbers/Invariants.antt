@@ -1,4 +1,5 @@
-use Rattle.qcow2_metadata.proofs.Common.{◌≡◌, ◌++◌, take, bytes_of_numbers}
+use Rattle.std.proofs.Common.{◌≡◌, ◌++◌, take}
+use Rattle.qcow2_metadata.proofs.Common.{bytes_of_numbers}
 use Rattle.qcow2_metadata.proofs.header.write.push_numbers.Given as goal
 
 abbrev pub invariant-loop-number : goal.invariant-loop-number

@@ -1,4 +1,5 @@
-use Rattle.qcow2_metadata.proofs.Common.{◌*◌, ◌^◌, err_from_is_err_and, bytes_at, L1EntryReads, IsClear, PassesLimit}
+use Rattle.std.proofs.Common.{◌*◌, ◌^◌}
+use Rattle.qcow2_metadata.proofs.Common.{err_from_is_err_and, bytes_at, L1EntryReads, IsClear, PassesLimit}
 use Rattle.qcow2_metadata.proofs.EntryTables.{IsL1TableOf-loaded, IsReasonNotToLoad-reads, clear_l1_reads, l1_reads_clear}
 use Rattle.qcow2_metadata.proofs.l1_table.L1Table.load.Goals as goal
 

@@ -1,4 +1,5 @@
-use Rattle.qcow2_metadata.proofs.Common.{◌*◌, ◌^◌, List, ℕ, overwritten, byte_at, entry_count, IsL1TableOf, NamesL1Table}
+use Rattle.std.proofs.Common.{◌*◌, ◌^◌, List, ℕ}
+use Rattle.qcow2_metadata.proofs.Common.{overwritten, byte_at, entry_count, IsL1TableOf, NamesL1Table}
 use Rattle.qcow2_metadata.proofs.WrittenTables.{after_write, IsL1TableOf-written}
 use Rattle.qcow2_metadata.proofs.l1_table.L1Table.write.Goals as goal
 

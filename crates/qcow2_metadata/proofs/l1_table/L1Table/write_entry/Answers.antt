@@ -1,4 +1,5 @@
-use Rattle.qcow2_metadata.proofs.Common.{◌+◌, ◌*◌, ◌^◌, ◌<◌, List, ℕ, w64, to_be_bytes, overwritten, byte_at, entry_at, entry_count, IsL1TableOf, IsL1TableBut, NamesL1Table}
+use Rattle.std.proofs.Common.{◌+◌, ◌*◌, ◌^◌, ◌<◌, List, ℕ}
+use Rattle.qcow2_metadata.proofs.Common.{w64, to_be_bytes, overwritten, byte_at, entry_at, entry_count, IsL1TableOf, IsL1TableBut, NamesL1Table}
 use Rattle.qcow2_metadata.proofs.WrittenTables.{after_write, IsL1TableOf-written_entry}
 use Rattle.qcow2_metadata.proofs.l1_table.L1Table.write_entry.Goals as goal
 

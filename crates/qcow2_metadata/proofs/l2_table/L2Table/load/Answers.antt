@@ -1,4 +1,5 @@
-use Rattle.qcow2_metadata.proofs.Common.{◌*◌, ◌^◌, sym, ap, ◌∙◌, arith, byte_at}
+use Rattle.std.proofs.Common.{◌*◌, ◌^◌, sym, ap, ◌∙◌, arith}
+use Rattle.qcow2_metadata.proofs.Common.{byte_at}
 use Rattle.qcow2_metadata.proofs.TablesAt.{entry_stands, stand_at-loaded}
 use Rattle.qcow2_metadata.proofs.l2_table.L2Table.load.Goals as goal
 

@@ -1,4 +1,5 @@
-use Rattle.qcow2_metadata.proofs.Common.{◌≡◌, ◌∙◌, ◌*◌, ◌^◌, ap, arith, cover_of, copied_entry}
+use Rattle.std.proofs.Common.{◌≡◌, ◌*◌, ◌^◌, ◌∙◌, ap, arith}
+use Rattle.qcow2_metadata.proofs.Common.{cover_of, copied_entry}
 use Rattle.qcow2_metadata.proofs.MadeEntries.{cover_at-changed, cover_of-copied_entry, cluster_is_host}
 use Rattle.qcow2_metadata.proofs.l2_table.L2Table.map_cluster.Goals as goal
 

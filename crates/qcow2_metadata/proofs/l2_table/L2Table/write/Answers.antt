@@ -1,4 +1,5 @@
-use Rattle.qcow2_metadata.proofs.Common.{◌≡◌, ◌*◌, ◌^◌, Some, sym, ap, ◌∙◌, subst, IsL2Table, IsL2TableAt}
+use Rattle.std.proofs.Common.{◌≡◌, ◌*◌, ◌^◌, Some, sym, ap, ◌∙◌, subst}
+use Rattle.qcow2_metadata.proofs.Common.{IsL2Table, IsL2TableAt}
 use Rattle.qcow2_metadata.proofs.TablesAt.{l2_table_at, written_stands}
 use Rattle.qcow2_metadata.proofs.l2_table.L2Table.write.Goals as goal
 

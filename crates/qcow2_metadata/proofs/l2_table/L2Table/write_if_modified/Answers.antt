@@ -1,4 +1,5 @@
-use Rattle.qcow2_metadata.proofs.Common.{◌*◌, ◌^◌, ap, ◌∙◌, subst, byte_at, IsL2Table}
+use Rattle.std.proofs.Common.{◌*◌, ◌^◌, ap, ◌∙◌, subst}
+use Rattle.qcow2_metadata.proofs.Common.{byte_at, IsL2Table}
 use Rattle.qcow2_metadata.proofs.TablesAt.{l2_table_at, stand_at-written}
 use Rattle.qcow2_metadata.proofs.l2_table.L2Table.write_if_modified.Goals as goal
 

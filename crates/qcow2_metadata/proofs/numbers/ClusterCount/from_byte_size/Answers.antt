@@ -1,4 +1,5 @@
-use Rattle.qcow2_metadata.proofs.Common.{◌∙◌, ◌%◌, ◌/◌, ◌+◌, min, ap, arith, one_shl}
+use Rattle.std.proofs.Common.{◌%◌, ◌/◌, ◌+◌, ◌∙◌, min, ap, arith}
+use Rattle.qcow2_metadata.proofs.Common.{one_shl}
 use Rattle.qcow2_metadata.proofs.Quotients.{div_ceil_is}
 use Rattle.qcow2_metadata.proofs.numbers.ClusterCount.from_byte_size.Goals as goal
 

@@ -1,4 +1,5 @@
-use Rattle.qcow2_metadata.proofs.Common.{◌+◌, ◌-◌, ◌/◌, ◌^◌, ap, ◌∙◌, arith, one_shl, count_limit}
+use Rattle.std.proofs.Common.{◌+◌, ◌-◌, ◌/◌, ◌^◌, ap, ◌∙◌, arith}
+use Rattle.qcow2_metadata.proofs.Common.{one_shl, count_limit}
 use Rattle.qcow2_metadata.proofs.Quotients.{pow_within, greatest_of}
 use Rattle.qcow2_metadata.proofs.ref_block.RefBlock.greatest_count.Goals as goal
 

@@ -1,4 +1,5 @@
-use Rattle.qcow2_metadata.proofs.Common.{◌≡◌, ◌*◌, ◌^◌, Some, sym, ap, ◌∙◌, subst, IsRefBlock, IsRefBlockAt}
+use Rattle.std.proofs.Common.{◌≡◌, ◌*◌, ◌^◌, Some, sym, ap, ◌∙◌, subst}
+use Rattle.qcow2_metadata.proofs.Common.{IsRefBlock, IsRefBlockAt}
 use Rattle.qcow2_metadata.proofs.TablesAt.{ref_block_at, written_stands}
 use Rattle.qcow2_metadata.proofs.ref_block.RefBlock.write.Goals as goal
 

@@ -1,4 +1,5 @@
-use Rattle.qcow2_metadata.proofs.Common.{◌*◌, ◌^◌, ap, ◌∙◌, subst, byte_at, IsRefBlock}
+use Rattle.std.proofs.Common.{◌*◌, ◌^◌, ap, ◌∙◌, subst}
+use Rattle.qcow2_metadata.proofs.Common.{byte_at, IsRefBlock}
 use Rattle.qcow2_metadata.proofs.TablesAt.{ref_block_at, stand_at-written}
 use Rattle.qcow2_metadata.proofs.ref_block.RefBlock.write_if_modified.Goals as goal
 

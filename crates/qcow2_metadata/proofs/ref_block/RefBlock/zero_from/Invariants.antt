@@ -1,4 +1,5 @@
-use Rattle.qcow2_metadata.proofs.Common.{◌-◌, ◌≤◌, counts_of}
+use Rattle.std.proofs.Common.{◌-◌, ◌≤◌}
+use Rattle.qcow2_metadata.proofs.Common.{counts_of}
 use Rattle.qcow2_metadata.specs.FirstZero.{AreAboveZero}
 use Rattle.qcow2_metadata.proofs.ref_block.RefBlock.zero_from.Given as goal
 

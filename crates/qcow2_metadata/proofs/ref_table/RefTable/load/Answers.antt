@@ -1,4 +1,5 @@
-use Rattle.qcow2_metadata.proofs.Common.{◌*◌, ◌^◌, Some, ap, err_from_is_err_and, bytes_at, ReftableEntryReads, EntryTableView, IsClear, PassesLimit}
+use Rattle.std.proofs.Common.{◌*◌, ◌^◌, Some, ap}
+use Rattle.qcow2_metadata.proofs.Common.{err_from_is_err_and, bytes_at, ReftableEntryReads, EntryTableView, IsClear, PassesLimit}
 use Rattle.qcow2_metadata.proofs.EntryTables.{IsRefTableOf-loaded, IsReasonNotToLoad-reads, clear_reftable_reads, passes_further, reftable_reads_clear, room_as}
 use Rattle.qcow2_metadata.proofs.ref_table.RefTable.load.Goals as goal
 

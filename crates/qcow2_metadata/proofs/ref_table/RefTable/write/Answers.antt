@@ -1,4 +1,5 @@
-use Rattle.qcow2_metadata.proofs.Common.{◌*◌, ◌^◌, List, ℕ, overwritten, byte_at, entry_count, IsRefTableOf, NamesRefTable}
+use Rattle.std.proofs.Common.{◌*◌, ◌^◌, List, ℕ}
+use Rattle.qcow2_metadata.proofs.Common.{overwritten, byte_at, entry_count, IsRefTableOf, NamesRefTable}
 use Rattle.qcow2_metadata.proofs.WrittenTables.{after_write, IsRefTableOf-written}
 use Rattle.qcow2_metadata.proofs.ref_table.RefTable.write.Goals as goal
 

@@ -1,4 +1,5 @@
-use Rattle.qcow2_metadata.proofs.Common.{◌+◌, ◌*◌, ◌^◌, ◌<◌, List, ℕ, w64, to_be_bytes, overwritten, byte_at, entry_at, entry_count, IsRefTableOf, IsRefTableBut, NamesRefTable}
+use Rattle.std.proofs.Common.{◌+◌, ◌*◌, ◌^◌, ◌<◌, List, ℕ}
+use Rattle.qcow2_metadata.proofs.Common.{w64, to_be_bytes, overwritten, byte_at, entry_at, entry_count, IsRefTableOf, IsRefTableBut, NamesRefTable}
 use Rattle.qcow2_metadata.proofs.WrittenTables.{after_write, IsRefTableOf-written_entry}
 use Rattle.qcow2_metadata.proofs.ref_table.RefTable.write_entry.Goals as goal
 

@@ -1,4 +1,4 @@
-use Rattle.qcow2_session.proofs.Common.{◌≡◌, vec_capacity, None, replicate}
+use Rattle.std.proofs.Common.{◌≡◌, vec_capacity, None, replicate}
 use Rattle.qcow2_session.proofs.slots.Slots.new.Given as goal
 
 abbrev pub invariant-loop : goal.invariant-loop

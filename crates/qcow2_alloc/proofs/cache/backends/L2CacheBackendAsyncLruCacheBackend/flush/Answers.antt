@@ -1,4 +1,5 @@
-use Rattle.qcow2_alloc.proofs.Common.{◌≡◌, ◌^◌, true, ap, sym, ◌∙◌, L2TableView, storage_of, cleared_l2, IsTableOf}
+use Rattle.std.proofs.Common.{◌≡◌, ◌^◌, true, ap, sym, ◌∙◌}
+use Rattle.qcow2_alloc.proofs.Common.{L2TableView, storage_of, cleared_l2, IsTableOf}
 use Rattle.qcow2_alloc.proofs.TableFlush.{write_fails}
 use Rattle.qcow2_alloc.proofs.KeptNotes.{kept_told, write_kept}
 use Rattle.qcow2_alloc.proofs.RecordedFaults.{met_written}

@@ -1,4 +1,5 @@
-use Rattle.qcow2_alloc.proofs.Common.{ℕ, ◌≡◌, ◌-◌, ◌∙◌, ap, sym, arith, Some, slice_get, same_Some}
+use Rattle.std.proofs.Common.{◌≡◌, ◌-◌, ℕ, ◌∙◌, ap, sym, arith, Some, slice_get}
+use Rattle.qcow2_alloc.proofs.Common.{same_Some}
 use Rattle.qcow2_alloc.proofs.Marks.{last_is, last_below, got_at, below_most}
 use Rattle.qcow2_alloc.proofs.table_cache.marks.Marks.below.Goals as goal
 

@@ -1,4 +1,4 @@
-use Rattle.qcow2_alloc.proofs.Common.{ℕ, ◌≤◌, arith}
+use Rattle.std.proofs.Common.{◌≤◌, ℕ, arith}
 use Rattle.qcow2_alloc.proofs.Marks.{put_here, put_beside, put_rise, below_most}
 use Rattle.qcow2_alloc.proofs.table_cache.marks.Marks.put.Goals as goal
 

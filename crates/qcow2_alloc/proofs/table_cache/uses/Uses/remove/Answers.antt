@@ -1,4 +1,5 @@
-use Rattle.qcow2_alloc.proofs.Common.{lookup, ◌≡◌, ◌≢◌, ℕ, ◌+◌, Some, None, is_some, length, sym, ◌∙◌, subst, IfSome, option_map_or, number_at}
+use Rattle.std.proofs.Common.{◌≡◌, ◌≢◌, ◌+◌, ℕ, Some, None, is_some, length, sym, ◌∙◌, subst, IfSome}
+use Rattle.qcow2_alloc.proofs.Common.{lookup, option_map_or, number_at}
 use Rattle.qcow2_alloc.proofs.Marks.{bit}
 use Rattle.qcow2_alloc.proofs.Uses.{removed_numbered, removed_is, room_removed}
 use Rattle.qcow2_alloc.proofs.table_cache.uses.Uses.remove.Goals as goal

@@ -1,4 +1,5 @@
-use Rattle.qcow2_alloc.proofs.Common.{◌≡◌, ◌≢◌, ℕ, false, is_some, refl, sym, ap, arith, same_Some, number_at}
+use Rattle.std.proofs.Common.{◌≡◌, ◌≢◌, ℕ, false, is_some, refl, sym, ap, arith}
+use Rattle.qcow2_alloc.proofs.Common.{same_Some, number_at}
 use Rattle.qcow2_alloc.proofs.Uses.{set_none, lookup_none-marks, mark_is, unmarked_numbered, room_set}
 use Rattle.qcow2_alloc.proofs.table_cache.uses.Uses.unmark.Goals as goal
 
