@@ -2,12 +2,8 @@
 use Rattle.std.proofs.Common.{◌≡◌, ◌+◌, ◌*◌, ◌/◌, ◌<◌, ◌≤◌, ◌⊎◌, ℕ, inl, inr, List, length, refl, sym, ap, ◌∙◌, arith}
 use Rattle.qcow2_laws.proofs.Common.{cases_lt, div-mul-add, overwritten, Bytes, byte_at, HeaderFields, header, HeaderReads, cluster_size, reftable_entries, l1_entry, reftable_entry, in_cluster, CachedTable, IsOfHeaderRest, GivenBytes, Direction, Pending, SameIn, IsUnnamed, MayChange, IsWritten, Places, with_places, IsSameBut, WritesL1Entry, WritesReftableEntry, WritesHeader, known_bytes, IsFreeOf, CacheInvariantOver, AreNamedBlocks}
 use Rattle.image_access.proofs.Bytes.{byte_at-overwritten_outside}
-use Rattle.qcow2_laws.proofs.Places.{Sizes, l1-same, reftable-same}
-use Rattle.qcow2_laws.proofs.Consistency.{in_own}
-use Rattle.qcow2_laws.proofs.Shares.{in_l1, in_reftable, l1_has, reftable_has}
-use Rattle.qcow2_laws.proofs.Caches.{kept_sizes, rbs_free, l2s_free, unnamed_free_l2, unnamed_free_rb}
+use Rattle.qcow2_laws.proofs.Lemmas.{Sizes, l1-same, reftable-same, in_own, in_l1, in_reftable, l1_has, reftable_has, kept_sizes, rbs_free, l2s_free, unnamed_free_l2, unnamed_free_rb, writes_header}
 use Rattle.qcow2_laws.proofs.KeptSteps.{known_beside, known_is_on_storage, still_agree}
-use Rattle.qcow2_laws.proofs.Headers.{writes_header}
 
 -- a write to the storage, by the value at each offset
 pub overwritten_but : (contents : List ℕ) (at : ℕ) (bytes : List ℕ) → IsSameBut at (length bytes) (byte_at contents) (byte_at (overwritten contents at bytes))

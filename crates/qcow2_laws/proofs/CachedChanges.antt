@@ -4,9 +4,8 @@ use Rattle.qcow2_laws.proofs.Common.{cases_eq, cases_lt, eq-eqb, ne_eqb, cond-tr
 use Rattle.qcow2_metadata.specs.TableBytes.{entry_at, ChangesEntry}
 use Rattle.qcow2_metadata.specs.RefBlock.{count_in, ChangesCount}
 use Rattle.qcow2_metadata.specs.L2Table.{copied_host}
-use Rattle.qcow2_laws.proofs.Places.{Sizes, Sizes-from, count_in as count_found, cover_at}
-use Rattle.qcow2_laws.proofs.Guests.{uncovered_names, uncovered_marks, own_names, own_marks, own_data_of, guest_le, names_within}
-use Rattle.qcow2_laws.proofs.Writes.{new_data_is_unnamed}
+use Rattle.qcow2_laws.proofs.Lemmas.{Sizes, Sizes-from, cover_at, uncovered_names, uncovered_marks, own_names, own_marks, own_data_of, guest_le, names_within, new_data_is_unnamed}
+use Rattle.qcow2_laws.proofs.Places.{count_in as count_found}
 
 one_here : (i : ℕ) → one_at i i ≡ 1
 one_here i = cond-true {A = ℕ} _ 1 0 (eq-eqb i i refl)

@@ -3,14 +3,8 @@ use Rattle.std.proofs.Common.{◌≡◌, ◌+◌, ◌-◌, ◌*◌, ◌/◌, ◌
 use Rattle.qcow2_laws.proofs.Common.{cases_lt, pow_pos, le-div, passes_if, Bytes, byte_at, header, cluster_size, known_byte, guest_value, value_under, disk, disk_with, GivenBytes, Checkpoint, checkpoint_with, StopOkEverywhere, given_shown, guests, DriverState, StateInvariant, LongerL1TableKeepsGuests, SizeStaysUnlessAsked, HasSizeSince}
 use Rattle.qcow2_disk.specs.AbstractImages.{AbstractImage, stored_bytes}
 use Rattle.qcow2_disk.specs.Calls.{EffectOnSound, StartsAt}
-use Rattle.qcow2_laws.proofs.Places.{Sizes-from}
-use Rattle.qcow2_laws.proofs.Guests.{past_guests}
-use Rattle.qcow2_laws.proofs.Consistency.{crash_invariant_consistent, known_consistent}
-use Rattle.qcow2_laws.proofs.Values.{value_is, size_is}
-use Rattle.qcow2_laws.proofs.Tops.{first_keeps_rest}
-use Rattle.qcow2_laws.proofs.Internal.{known_header}
+use Rattle.qcow2_laws.proofs.Lemmas.{Sizes-from, past_guests, crash_invariant_consistent, known_consistent, value_is, size_is, first_keeps_rest, known_header, guests_kept}
 use Rattle.qcow2_disk.proofs.HeaderRest.{header_rest_same}
-use Rattle.qcow2_laws.proofs.L1Moves.{guests_kept}
 
 pub longer_l1_table_keeps_guests : LongerL1TableKeepsGuests
 longer_l1_table_keeps_guests s on_storage' known' offset entries sound writes new = guests_kept s.header offset entries s.direction s.pending s.on_storage s.known on_storage' known' sound writes new

@@ -1,8 +1,7 @@
 -- The invariant of the caches, after their tables or the bytes under them changed.
 use Rattle.std.proofs.Common.{◌≡◌, ◌/◌, ◌%◌, ◌≢◌, ◌⊎◌, ◌∷◌, ◌++◌, ℕ, inl, inr, List, [], false, sym, ap, subst, ◌∙◌, max}
 use Rattle.qcow2_laws.proofs.Common.{cases_eq, Bytes, HeaderFields, cluster_size, CachedTable, known, overlays, named_by_guest, Direction, names, Pending, CrashInvariant, SameCovers, IsUnnamed, known_bytes, IsFreeAt, IsFreeOf, AreApart, HasOwnL2, HasBlock, CacheInvariantOver, AreNamedBlocks}
-use Rattle.qcow2_laws.proofs.Guests.{over_guests-same}
-use Rattle.qcow2_laws.proofs.Lists.{known-at, known-none, no_overlay, overlays_within, within_cluster}
+use Rattle.qcow2_laws.proofs.Lemmas.{over_guests-same, known-at, known-none, no_overlay, overlays_within, within_cluster}
 
 -- where another table was changed, none lies where none lay
 free_changed : (size : ℕ) (front back : List CachedTable) (t t' : CachedTable) (o : ℕ) → overlays size t' o ≡ false → IsFreeAt size (front ++ t ∷ back) o → IsFreeAt size (front ++ t' ∷ back) o

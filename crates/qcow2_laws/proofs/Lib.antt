@@ -1,4 +1,5 @@
 pub mod Common
+pub mod Lemmas
 pub mod Clusters
 pub mod Sums
 pub mod Places

@@ -1,9 +1,7 @@
 -- Mapping guest clusters one after another is mapping the range.
 use Rattle.std.proofs.Common.{◌≡◌, ◌+◌, ◌-◌, ◌*◌, ◌/◌, ◌%◌, ◌<◌, ◌≤◌, ◌⊎◌, ◌∷◌, ℕ, zero, suc, [], refl, sym, ap, ◌∙◌, arith, inl, inr, subst}
 use Rattle.qcow2_laws.proofs.Common.{fun_ext, cases_lt, cond-true, cond-false, eq-eqb, ne_eqb, div-add-mod', div-mul-add, mod_below, pow_pos, Bytes, laid_over, HeaderFields, cluster_size, cover, named_by_guest, Value, known_byte, L2Mapping, Data, Zero, Compressed, Uncovered, Disk, disk, with_values, IsIn, IsGiven, given_shown, names, guest_at, EntryChanges, DriverState, StateInvariant, SafeStep, used_by_guests, with_cluster, MapsEntry, MapsInTurn, IsZeros, ClustersInTurnAreARange, laid_inside, laid_outside}
-use Rattle.qcow2_laws.proofs.Guests.{over_guests-change}
-use Rattle.qcow2_laws.proofs.Blocks.{guest_within}
-use Rattle.qcow2_laws.proofs.SafeSteps.{safe_step_none, safe_step_then, safe_step_less}
+use Rattle.qcow2_laws.proofs.Lemmas.{over_guests-change, guest_within, safe_step_none, safe_step_then, safe_step_less}
 use Rattle.qcow2_laws.proofs.MappedAnew.{Maps, pending_after, entry_unseen, entry_zeroed, entry_uncovered}
 
 -- what they do together: the range shows these values over each backing disk

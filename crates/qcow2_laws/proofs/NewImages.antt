@@ -3,9 +3,7 @@ use Rattle.std.proofs.Common.{◌≡◌, ◌+◌, ◌-◌, ◌*◌, ◌/◌, ◌
 use Rattle.qcow2_laws.proofs.Common.{cases_eq, cases_lt, eq-eqb, ne_eqb, cond-true, cond-false, lt-ltb, le-ltb, nat_le, nat_lt, nat_tests, div-mul-add, mod-mul-add, pow-add, pow_pos, le-div, pow_mono, Bytes, one_if, HeaderFields, ReftableFits, cluster_size, entries_per_cluster, reftable_entries, count_width, counts_per_block, reftable_entry, count, block_count, block_offset, ReftableEntryReads, in_cluster, table_in, named, named_for_tables, named_by_reftable, named_by_l1_table, named_by_l2_tables, Consistent, IsConsistent, IsAligned, one_at, HasNoLeaks, surplus_of}
 use Rattle.std.proofs.Math.Nat.{mod-eq_of_lt, div-one}
 use Rattle.qcow2_laws.specs.NewImages.{IsNewImage}
-use Rattle.qcow2_laws.proofs.Sums.{sum_below-change, sum_below-zero}
-use Rattle.qcow2_laws.proofs.Places.{Sizes, Sizes-from, count_in, count_none}
-use Rattle.qcow2_laws.proofs.Shares.{shares, in_l1, in_reftable}
+use Rattle.qcow2_laws.proofs.Lemmas.{sum_below-change, sum_below-zero, Sizes, Sizes-from, count_in, count_none, shares, in_l1, in_reftable}
 
 -- where a number lies in a cluster of its own
 at_multiple : (n cs : ℕ) → 0 < cs → n * cs / cs ≡ n

@@ -1,15 +1,8 @@
 -- One storage write over a run of clusters: in place, into clusters that zero entries keep, and into new data.
 use Rattle.std.proofs.Common.{◌≡◌, ◌+◌, ◌-◌, ◌*◌, ◌/◌, ◌%◌, ◌<◌, ◌≤◌, ◌≢◌, ◌⊎◌, ◌∷◌, ℕ, zero, suc, Bool, true, false, cond, List, [], length, refl, sym, ap, ◌∙◌, arith, inl, inr, subst, Some}
 use Rattle.qcow2_laws.proofs.Common.{fun_ext, cases_eq, cases_lt, div-add-mod', div-mul-add, mod_below, pow_pos, Bytes, byte_at, laid_over, cluster_size, cover, known_byte, in_cluster, named_for_tables, named_by_guest, CoverIsAligned, Data, Zero, disk, with_values, GivenBytes, IsGiven, given_of, names, marks, marked_by_guest, named_in_either, SameCovers, SameIn, IsSameOutside, WritesAt, IsWritten, DriverState, StateInvariant, SafeStep, SameL1Table, IsDataAt, Hosting, InPlace, Kept, Held, IsHostedAt, IsHeld, is_private_hosting, IsGivenAt, WritesRun, RunIsWritten, laid_inside, laid_outside}
-use Rattle.qcow2_laws.proofs.Guests.{own_names, own_marks, own_data_of}
-use Rattle.qcow2_laws.proofs.Places.{in_one}
-use Rattle.qcow2_laws.proofs.Mixes.{tied}
-use Rattle.qcow2_laws.proofs.Consistency.{in_own}
-use Rattle.qcow2_laws.proofs.Writes.{new_data_is_unnamed, marked_alone, storage_stays, known_covers, its_own}
-use Rattle.qcow2_laws.proofs.Shares.{top_stays}
-use Rattle.qcow2_laws.proofs.Steps.{data_is_written}
+use Rattle.qcow2_laws.proofs.Lemmas.{own_names, own_marks, own_data_of, in_one, tied, in_own, new_data_is_unnamed, marked_alone, storage_stays, known_covers, its_own, top_stays, data_is_written, named_some, size_stays, value_stays}
 use Rattle.qcow2_laws.proofs.Shown.{Writes, shown_zero}
-use Rattle.qcow2_laws.proofs.Internal.{named_some, size_stays, value_stays}
 use Rattle.qcow2_laws.proofs.Alike.{at_shown}
 
 -- ---- a place lies outside of a range, or is one of its places

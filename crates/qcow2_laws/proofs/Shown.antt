@@ -1,12 +1,7 @@
 -- What guests read, and what they see of bytes that are written to a cluster of new data.
 use Rattle.std.proofs.Common.{◌≡◌, ◌+◌, ◌/◌, ◌%◌, ◌<◌, ℕ, Bool, List, [], sym, ap, ◌∙◌, arith, subst}
 use Rattle.qcow2_laws.proofs.Common.{Option, mod_below, pow_pos, Bytes, cluster_size, cover, known_byte, guest_value, value_under, named_by_guest, CoverIsAligned, L2Mapping, Data, Zero, Uncovered, Disk, disk, GivenBytes, names, named_in_either, DriverState, StateInvariant, SafeStep, IsInternalBut, SameL1Table}
-use Rattle.qcow2_laws.proofs.Guests.{own_names, own_data_of}
-use Rattle.qcow2_laws.proofs.Places.{in_one}
-use Rattle.qcow2_laws.proofs.Mixes.{tied}
-use Rattle.qcow2_laws.proofs.Consistency.{in_own}
-use Rattle.qcow2_laws.proofs.Values.{value_is, size_is}
-use Rattle.qcow2_laws.proofs.Internal.{known_header, named_some}
+use Rattle.qcow2_laws.proofs.Lemmas.{own_names, own_data_of, in_one, tied, in_own, value_is, size_is, known_header, named_some}
 
 -- ---- what is read
 module _ (s : DriverState) (sound : StateInvariant s) where
