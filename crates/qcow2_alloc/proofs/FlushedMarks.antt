@@ -1,9 +1,7 @@
 -- Flushing only the modified entries is flushing all.
 use Rattle.std.proofs.Common.{◌≡◌, ◌+◌, ◌≤◌, ◌∷◌, ◌++◌, Bool, true, false, cond, List, [], length, Option, Some, None, Result, Ok, Err, refl, sym, ap, ◌∙◌, subst, append_assoc, arith, length-append, IfSome, IsSome}
 use Rattle.qcow2_alloc.proofs.Common.{set_value_same, none-some, same_Some, IsEquivalence, IsDistinct, AllByRecursion, keys_of, lookup, set_value, option_map_or, option_or, Slot, CacheError, InUse, StillInUse, Memory, Backend, Cache, with_entries, slot_of, Steps, FlushesAll, FlushesKey, first_marked, behind, IsFoundAs, marks_in, settled, failure_of, FlushesAt}
-use Rattle.qcow2_alloc.proofs.CachedEntries.Flushing.{Flushing, flushing_more, flushing_all}
-use Rattle.qcow2_alloc.proofs.CachedEntries.Lists.{option_or-none}
-use Rattle.qcow2_alloc.proofs.TableMarks.{marks_set, settled_right, mark_looked}
+use Rattle.qcow2_alloc.proofs.Lemmas.{Flushing, flushing_more, flushing_all, option_or-none, marks_set, settled_right, mark_looked}
 
 module _ {K V : Type 0} (is_modified : V → Bool) where
   -- no value is modified

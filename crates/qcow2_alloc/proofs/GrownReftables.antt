@@ -1,15 +1,9 @@
 -- Replacing the reftable by a longer one: in memory, then at a place with room, and the old one is listed to be freed.
 use Rattle.std.proofs.Common.{◌≡◌, ◌⊎◌, ◌+◌, ◌-◌, ◌*◌, ◌/◌, ◌%◌, ◌^◌, ◌==◌, ◌∷◌, ◌++◌, inl, IsTrue, ℕ, List, length, [], Some, Result, Ok, Err, refl, sym, ap, ◌∙◌, subst, arith, IfErr}
 use Rattle.qcow2_alloc.proofs.Common.{KeepsUsed, cond-true, eq-eqb, div-add-mod', StorageView, sum_below, HeaderFields, HeaderView, cluster_size, entries_per_cluster, block_offset, EntryTableView, IsRefTable, entry_count, in_cluster, table_in, entry_at, Pending, Sizes, sum_below-same, sum_below-longer, Allocator, ClustersToFreeEntry, ImageError, ImageFile, InternalAllocatorStep, InternalAllocatorGrowth, metadata_entry, of_data, of_tables, to_free, pending_then, IsCloneOf, named_by_reftable_entries, counted_run, with_run, without_reftable, NamesReftable, EntersReftable, FileInvariant, HasReftable, RefusedFileStep, IsFaultOr, IsLonger}
-use Rattle.qcow2_alloc.proofs.AllocationSteps.{on_of, allocator_step_on, leaves_as}
-use Rattle.qcow2_alloc.proofs.FileSteps.{pending_same}
-use Rattle.qcow2_alloc.proofs.Freeing.{free_more}
+use Rattle.qcow2_alloc.proofs.Lemmas.{on_of, allocator_step_on, leaves_as, pending_same, free_more, used_stays, uses_then, file_sizes, ends_room, file_invariant_of}
 use Rattle.qcow2_alloc.proofs.GrownTables.{whole_clusters}
-use Rattle.qcow2_alloc.proofs.Hints.{used_stays, uses_then}
 use Rattle.qcow2_alloc.proofs.NamedReftables.{reftable_run}
-use Rattle.qcow2_alloc.proofs.PlacedBlocks.{file_sizes}
-use Rattle.qcow2_alloc.proofs.Rooms.{ends_room}
-use Rattle.qcow2_alloc.proofs.FileInvariants.{file_invariant_of}
 
 -- ---- in memory: the entries that it has more name nothing
 none_named : (h : HeaderFields) (c e : ℕ) → e ≡ 0 → table_in h c (block_offset e) ≡ 0

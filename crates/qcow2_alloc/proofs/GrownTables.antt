@@ -2,11 +2,7 @@
 use Rattle.std.proofs.Common.{◌≡◌, ◌≢◌, ◌+◌, ◌-◌, ◌*◌, ◌/◌, ◌%◌, ◌^◌, ◌<◌, ◌≤◌, ◌==◌, inl, inr, ℕ, cond, nat_lt, List, length, Option, Some, refl, sym, ap, ◌∙◌, subst, arith}
 use Rattle.qcow2_alloc.proofs.Common.{cases_eq, cases_lt, eq-eqb, ne_eqb, cond-true, cond-false, lt-ltb, le-ltb, div-mul-add, mod_below, StorageView, Bytes, byte_at, sum_below, HeaderFields, cluster_size, counts_per_block, count_width, reftable_entries, entries_per_cluster, with_reftable, reftable_entry, l2_entry, block_offset, block_count, count, ReftableEntryReads, EntryTableView, HasRoomIfPlaced, IsRefTable, IsRefTableOf, NamesRefTable, entry_count, in_run, table_in, named_by_reftable, entry_at, entry_at_past, number_at-moved, Pending, SameIn, IsNewReftable, with_places, with_reftable_at, clean_counts, Sizes, reftable-same, block_count-moved, in_one, reftable_has, sum_below-same, ImageFile, run_at, HasBytesAt, HasNone, counted_run, with_run, named_by_reftable_entries, StandsGrown, contents_in, known_in, FileInvariant, HasReftable, order_of, l2_tables, refblocks}
 use Rattle.qcow2_metadata.specs.Bytes.{number_at}
-use Rattle.qcow2_alloc.proofs.KeptTables.Getting.{cluster_aligned}
-use Rattle.qcow2_alloc.proofs.KeptTables.Standing.{own_cluster}
-use Rattle.qcow2_alloc.proofs.PlacedBlocks.{IsFree, file_sizes, covers_written, known_there}
-use Rattle.qcow2_alloc.proofs.RoomWrites.{free_in_run}
-use Rattle.qcow2_alloc.proofs.Runs.{run_in, run_before, run_after}
+use Rattle.qcow2_alloc.proofs.Lemmas.{cluster_aligned, own_cluster, IsFree, file_sizes, covers_written, known_there, free_in_run, run_in, run_before, run_after}
 
 -- ---- runs
 

@@ -1,8 +1,7 @@
 -- Header numbers are written, whatever tables are cached: the caches' invariant holds with the new header.
 use Rattle.std.proofs.Common.{◌≡◌, ◌≢◌, ◌⊎◌, ◌+◌, ◌/◌, ◌<◌, inl, inr, ℕ, refl, sym, ap, ◌∙◌, subst, arith}
 use Rattle.qcow2_alloc.proofs.Common.{StorageView, Bytes, HeaderFields, cluster_size, is_copied, l1_entry, reftable_entry, host_offset, block_offset, in_cluster, named_for_tables, named_by_l1_table, named_by_reftable, CacheInvariantOver, HasL2, HasOwnL2, HasBlock, AreNamedBlocks, Pending, CrashInvariant, SameIn, Places, WritesHeader, with_places, table_once, in_own, header_sizes, header_fixed, header_same, kept_beside, shares, table_has, block_has, ImageFile, contents_in, known_in, FileInvariant, HasFormat, order_of, l2_tables, refblocks, known_of, CacheInvariant}
-use Rattle.qcow2_alloc.proofs.KeptTables.Loaded.{loaded_beside}
-use Rattle.qcow2_alloc.proofs.KeptTables.Named.{AreCurrentIn, loaded_named}
+use Rattle.qcow2_alloc.proofs.Lemmas.{loaded_beside, AreCurrentIn, loaded_named}
 
 -- the format isn't told by these numbers
 format_placed : (g h : HeaderFields) (a : Places) → HasFormat g h → HasFormat g (with_places h a)

@@ -1,4 +1,5 @@
 pub mod Common
+pub mod Lemmas
 pub mod CachedEntries
 pub mod CacheFaults
 pub mod CachePins

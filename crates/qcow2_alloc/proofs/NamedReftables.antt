@@ -3,14 +3,10 @@ use Rattle.std.proofs.Common.{◌≡◌, ◌≢◌, ◌⊎◌, ◌+◌, ◌-◌,
 use Rattle.qcow2_alloc.proofs.Common.{mul-le-mul_left, cases_eq, or_left, StorageView, Changes, Calls, StorageError, Bytes, byte_at, HeaderFields, HeaderView, cluster_size, entries_per_cluster, with_fields, with_reftable, reftable_pointer_written, l1_entry, reftable_entry, block_offset, EntryTableView, IsRefTable, entry_count, entry_at, HasBlock, Pending, SafeStep, SafeThroughout, WritesHeader, with_reftable_at, IsNewReftable, IsInternal, header_fixed, header_l1, header_known_covers, step_safe_throughout, header_is_written, table_bytes, Allocator, ImageFile, ImageStorage, ImageError, run_at, InternalAllocatorGrowth, reftable_at, with_run, without_reftable, StandsGrown, nothing_given, view_in, contents_in, known_in, state_in, FileInvariant, AllocatorInvariant, HasReftable, InternalFileGrowth, InterruptedFileStep, storage_of, is_changed_of, AreLoaded, IsUsed, order_of, refblocks, known_of}
 use Rattle.qcow2_laws.proofs.ReftableMoves.{now_l1, now_reftable, known_counts}
 use Rattle.qcow2_alloc.specs.ImageFile.{IsFault}
-use Rattle.qcow2_alloc.proofs.FileSteps.{pending_same}
+use Rattle.qcow2_alloc.proofs.Lemmas.{pending_same, AreCurrentIn, current_none, own_cluster, file_sizes, file_invariant_of}
 use Rattle.qcow2_alloc.proofs.GrownTables.{counted_anew, clusters_of_run, run_counted, whole_clusters, new_entries, few_entries, ends, new_reftable}
 use Rattle.qcow2_alloc.proofs.HeaderKept.{same_block, header_named_blocks, header_sound}
-use Rattle.qcow2_alloc.proofs.KeptTables.Named.{AreCurrentIn, current_none}
-use Rattle.qcow2_alloc.proofs.KeptTables.Standing.{own_cluster}
 use Rattle.qcow2_alloc.proofs.Numbers.{reftable_pointer_writes}
-use Rattle.qcow2_alloc.proofs.PlacedBlocks.{file_sizes}
-use Rattle.qcow2_alloc.proofs.FileInvariants.{file_invariant_of}
 
 -- the clusters of the reftable in memory are those that the header names
 pub reftable_run : {S : Type 0} (view : S → StorageView) (q : Pending) (file : ImageFile S) (t : EntryTableView) (cluster : ℕ) → FileInvariant view q file → HasReftable view file t → IsRefTable t → t.cluster ≡ Some cluster

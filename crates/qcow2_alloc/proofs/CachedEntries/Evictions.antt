@@ -1,8 +1,7 @@
 -- Which entry moves to the front, and which is evicted.
 use Rattle.std.proofs.Common.{◌≡◌, ◌∷◌, ℕ, Bool, true, false, cond, inl, inr, List, Option, Some, None, Result, Ok, Err, refl, ap, ◌∙◌, is_some, IsSome}
 use Rattle.qcow2_alloc.proofs.Common.{IsEquivalence, IsNone, option_map, option_map_or, lookup, lookup_entry, remove_entry, promoted, Contains-lookup_entry, Slot, CacheError, InUse, StillInUse, Memory, Backend, slot_of, IsInFront, OnlyOldestGoes, Steps, HasRoomForEntry, HasNoRoom, GetsNew}
-use Rattle.qcow2_alloc.proofs.CachedEntries.Lists.{lookup-from_entry}
-use Rattle.qcow2_alloc.proofs.CachedEntries.Knowing.{lookup-promoted, removed_apart}
+use Rattle.qcow2_alloc.proofs.Lemmas.{lookup-from_entry, lookup-promoted, removed_apart}
 
 some_or_none : {X : Type 0} (o : Option X) → IsSome o → IsNone o → ⊥
 some_or_none None h g = cc

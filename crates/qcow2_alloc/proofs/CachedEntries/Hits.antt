@@ -1,8 +1,7 @@
 -- Calls for a key that is in the cache already.
 use Rattle.std.proofs.Common.{◌≡◌, ◌∷◌, inl, inr, ℕ, Bool, true, false, eqb, List, [], Option, Some, None, Result, Ok, IsSome, refl, sym, ap, ◌∙◌}
 use Rattle.qcow2_alloc.proofs.Common.{IsEquivalence, option_map, IsNone, lookup, eq-eqb, eqb-true, promoted, Slot, CacheError, value_at, IsInFront, Steps, GetsNew}
-use Rattle.qcow2_alloc.proofs.CachedEntries.Knowing.{lookup-promoted}
-use Rattle.qcow2_alloc.proofs.KeptTables.Fetching.{none_or_some}
+use Rattle.qcow2_alloc.proofs.Lemmas.{lookup-promoted, none_or_some}
 
 slot_there : {V : Type 0} (o : Option (Slot V)) → IsSome (option_map (λ s. s.value) o) → IsSome o
 slot_there None there = absurd (cc)

@@ -2,8 +2,7 @@
 use Rattle.std.proofs.Common.{◌≡◌, ◌+◌, ◌<◌, ◌≤◌, ◌∷◌, ◌++◌, ℕ, Bool, true, false, List, [], length, All, Option, Some, None, refl, sym, ap, ◌∙◌, subst, arith, append_assoc, append-nil, slice_get, IsSome, IfSome}
 use Rattle.qcow2_alloc.proofs.Common.{IsEquivalence, option_map, option_or, lookup, remove_entry, set_value, same_Some, none-some, LruCache, lru_cache, demoted, Slot, pinned, is_pinned, Steps, FlushesAll, FlushesFound}
 use Rattle.std.proofs.lemmas.List.Elements.{All-cons}
-use Rattle.qcow2_alloc.proofs.CachedEntries.Lists.{pinned_kept, pinned_gone, demoted_front, removed_front, set_front, lookup_front}
-use Rattle.qcow2_alloc.proofs.CachedEntries.Flushing.{Flushing, flushing_more, flushing_all}
+use Rattle.qcow2_alloc.proofs.Lemmas.{pinned_kept, pinned_gone, demoted_front, removed_front, set_front, lookup_front, Flushing, flushing_more, flushing_all}
 
 module _ {X : Type 0} (all : List X) (P : List X → List X → Type 0) where
   -- after so many turns the list is what is left and then what was kept, and P holds of these

@@ -1,11 +1,6 @@
 use Rattle.std.proofs.Common.{◌^◌, ◌∙◌, ap}
 use Rattle.qcow2_alloc.proofs.Common.{rb_at, OthersStayHeld, CachesBlock}
-use Rattle.qcow2_alloc.proofs.AllocationSteps.{handed_on}
-use Rattle.qcow2_alloc.proofs.KeptMarks.{marks_of_caches}
-use Rattle.qcow2_alloc.proofs.KeptTables.Places.{put_places}
-use Rattle.qcow2_alloc.proofs.NewRefblocks.{has_cached_block, new_blocks_kept, of_place, overlay_of}
-use Rattle.qcow2_alloc.proofs.SparedHeaders.{at_place}
-use Rattle.qcow2_alloc.proofs.Steps.{fails_ok, fails_on, table_step_cached, table_step_tables, table_step_then}
+use Rattle.qcow2_alloc.proofs.Lemmas.{handed_on, marks_of_caches, put_places, has_cached_block, new_blocks_kept, of_place, overlay_of, at_place, fails_ok, fails_on, table_step_cached, table_step_tables, table_step_then}
 use Rattle.qcow2_alloc.proofs.new_refblocks.cache_new_block.Goals as goal
 
 pub returns-in_err-rb_insert-clause-sound : goal.returns-in_err-rb_insert-clause-sound

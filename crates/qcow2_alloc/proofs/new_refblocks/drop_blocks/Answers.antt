@@ -1,13 +1,6 @@
 use Rattle.std.proofs.Common.{◌≡◌, ◌+◌, ◌-◌, ◌<◌, ◌≤◌, ℕ, None, refl, sym, ap, ◌∙◌, subst, arith}
 use Rattle.qcow2_alloc.proofs.Common.{Bytes, IsUnnamed, ImageFile, run_at, contents_in, rb_at, room_length}
-use Rattle.qcow2_alloc.proofs.AllocationSteps.{allocator_step_none, allocator_step_then}
-use Rattle.qcow2_alloc.proofs.CachePins.{marks_then}
-use Rattle.qcow2_alloc.proofs.CacheSteps.{held_none}
-use Rattle.qcow2_alloc.proofs.NewRefblocks.{uncached_next}
-use Rattle.qcow2_alloc.proofs.PlacedBlocks.{IsFree}
-use Rattle.qcow2_alloc.proofs.Rooms.{empty_run}
-use Rattle.qcow2_alloc.proofs.RoomWrites.{allocator_step_removed, removed_stays}
-use Rattle.qcow2_alloc.proofs.Runs.{run_in}
+use Rattle.qcow2_alloc.proofs.Lemmas.{allocator_step_none, allocator_step_then, marks_then, held_none, uncached_next, IsFree, empty_run, allocator_step_removed, removed_stays, run_in}
 use Rattle.qcow2_alloc.proofs.new_refblocks.drop_blocks.Goals as goal
 
 pub dropping-init : goal.dropping-init

@@ -1,10 +1,6 @@
 use Rattle.std.proofs.Common.{◌*◌, ◌^◌, ◌<◌, subst, refl, sym, IsSome, ◌∙◌, IfSome}
 use Rattle.qcow2_alloc.proofs.Common.{overwritten, Changes, EntryTableView, with_run, of_storage, KeepsHeaderCluster, storage_of, WritesTable}
-use Rattle.qcow2_alloc.proofs.AllocationSteps.{handed_on}
-use Rattle.qcow2_alloc.proofs.RoomWrites.{table_refused, table_stands}
-use Rattle.qcow2_alloc.proofs.KeptMarks.{placed_kept, marks_of_storage}
-use Rattle.qcow2_alloc.proofs.Steps.{fails_ok, fails_since, fails_storage, same_faults}
-use Rattle.qcow2_alloc.proofs.HeaderClusters.{placed_elsewhere}
+use Rattle.qcow2_alloc.proofs.Lemmas.{handed_on, table_refused, table_stands, placed_kept, marks_of_storage, fails_ok, fails_since, fails_storage, same_faults, placed_elsewhere}
 use Rattle.qcow2_alloc.proofs.new_refblocks.place_table.Goals as goal
 
 pub returns-in_err-write_reftable-clause-sound : goal.returns-in_err-write_reftable-clause-sound

@@ -1,15 +1,7 @@
 use Rattle.std.proofs.Common.{◌≡◌, ◌+◌, ◌*◌, ◌^◌, ◌<◌, inl, ℕ, Bool, Some, None, Result, Ok, length, IsFalse, IsSome, refl, sym, ap, ◌∙◌, subst, IfSome}
 use Rattle.qcow2_alloc.proofs.Common.{overwritten, StorageView, Changes, Calls, StorageError, byte_at-overwritten, HeaderFields, byte_at, cluster_size, RefBlockView, BlocksMayGo, Pending, placing, HasPlaceFor, HasBytesAt, InternalAllocatorStep, WritesBlock, of_storage, MetadataCaches, ImageStorage, KeepsPinsAndNotes, Allocator, ImageFile, contents_in, AllocatorInvariant, storage_of, order_of, l2_tables, rb_at, KeepSound, IsBlockOf, KeepsHeaderCluster}
 use Rattle.qcow2_alloc.specs.CacheSteps.{RemovesBlock}
-use Rattle.qcow2_alloc.proofs.FileSteps.{file_step_then}
-use Rattle.qcow2_alloc.proofs.AllocationSteps.{handed_on, fault_of_storage, allocator_step_then, allocator_step_cached}
-use Rattle.qcow2_alloc.proofs.PlacedBlocks.{IsFree, is_free, file_step_rewritten, reftable_rewritten, write_as}
-use Rattle.qcow2_alloc.proofs.RoomWrites.{allocator_step_removed}
-use Rattle.qcow2_alloc.proofs.SparedHeaders.{spares_cached, spares_tables, spares_then, spares_written}
-use Rattle.qcow2_alloc.proofs.KeptMarks.{kept_marks_then, placed_kept, marks_of_caches, marks_of_storage}
-use Rattle.qcow2_alloc.proofs.Steps.{fails_on, fails_ok, fails_since, fails_storage, same_faults}
-use Rattle.qcow2_alloc.proofs.HeaderClusters.{placed_elsewhere}
-use Rattle.qcow2_alloc.proofs.KeptTables.Places.{named_have_places}
+use Rattle.qcow2_alloc.proofs.Lemmas.{file_step_then, handed_on, fault_of_storage, allocator_step_then, allocator_step_cached, IsFree, is_free, file_step_rewritten, reftable_rewritten, write_as, allocator_step_removed, spares_cached, spares_tables, spares_then, spares_written, kept_marks_then, placed_kept, marks_of_caches, marks_of_storage, fails_on, fails_ok, fails_since, fails_storage, same_faults, placed_elsewhere, named_have_places}
 use Rattle.qcow2_alloc.proofs.refblocks.write_block.Goals as goal
 
 -- all counts are written, no refblock is cached for the cluster, and then the block's bytes are written, or they are not

@@ -1,9 +1,7 @@
 use Rattle.std.proofs.Common.{◌<◌, sym, ap, ◌∙◌, inl, inr, refl, subst}
 use Rattle.qcow2_alloc.proofs.Common.{ClustersToFreeEntry, run_at, taken_as, is_data, InternalAllocatorGrowth, pending_then, IsLowestRun, IsUsed, IsFaultOr, HasNoPlace, Pending}
-use Rattle.qcow2_alloc.proofs.AllocationSteps.{of_equal, on_none}
+use Rattle.qcow2_alloc.proofs.Lemmas.{of_equal, on_none, fails_by, fails_ok, memory_other, step_none, listed_after_same}
 use Rattle.qcow2_alloc.specs.declared.error.ImageError.TheVariants as I
-use Rattle.qcow2_alloc.proofs.Steps.{fails_by, fails_ok, memory_other, step_none}
-use Rattle.qcow2_alloc.proofs.ListedAfter.{listed_after_same}
 use Rattle.qcow2_alloc.proofs.allocation.Allocator.allocate.Goals as goal
 
 pub returns-in-Ok-lowest_run-clause-sound : goal.returns-in-Ok-lowest_run-clause-sound

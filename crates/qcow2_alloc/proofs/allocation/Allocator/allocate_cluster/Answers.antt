@@ -1,12 +1,7 @@
 use Rattle.std.proofs.Common.{◌≡◌, ◌∙◌, Ok, ap, refl, sym, subst, inl, inr}
 use Rattle.qcow2_alloc.proofs.Common.{Pending, counts_per_block, Allocator, RefusedGrowth, AllocatesCluster, pending_then, IsUsed, NoFreeBelowHint, AllocatesClusterSoundly}
-use Rattle.qcow2_alloc.proofs.Hints.{passed_same, hint_more, hint_raised, hint_refused, raised_used, range_as, uses_raised, uses_refused}
-use Rattle.qcow2_alloc.proofs.AllocationSteps.{handed_on, leaves_as, leaves_on, may_still, is_sound_on, takes_on}
+use Rattle.qcow2_alloc.proofs.Lemmas.{passed_same, hint_more, hint_raised, hint_refused, raised_used, range_as, uses_raised, uses_refused, handed_on, leaves_as, leaves_on, may_still, is_sound_on, takes_on, lists_used_still, hint_kept, header_counts, fails_ok, fails_on, fails_since, step_as, step_on, step_then}
 use Rattle.qcow2_alloc.proofs.allocation.Allocator.allocate_cluster.Goals.{then-cluster-self, else-cluster-self}
-use Rattle.qcow2_alloc.proofs.MadeClusters.{lists_used_still}
-use Rattle.qcow2_alloc.proofs.KeptRuns.{hint_kept}
-use Rattle.qcow2_alloc.proofs.ListedAfter.{header_counts}
-use Rattle.qcow2_alloc.proofs.Steps.{fails_ok, fails_on, fails_since, step_as, step_on, step_then}
 use Rattle.qcow2_alloc.proofs.allocation.Allocator.allocate_cluster.Goals as goal
 
 pub returns-in_err-ensure_refblock-clause-step : goal.returns-in_err-ensure_refblock-clause-step

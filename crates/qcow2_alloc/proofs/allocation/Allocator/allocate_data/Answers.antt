@@ -1,11 +1,6 @@
 use Rattle.std.proofs.Common.{◌≡◌, ◌≢◌, ◌⊎◌, inl, refl, sym, subst, Result, ◌∙◌, IfErr}
 use Rattle.qcow2_alloc.proofs.Common.{Pending, Data, ImageFile, InternalAllocatorGrowth, Allocates, pending_then, run_of, KeepsNoFreeBelowHint, IsUsed, StaysUsed, ImageError, ClustersToFreeEntry, IsFaultOr, HasNoPlace, IsMadeInTurn, AllocatesOnly, count}
-use Rattle.qcow2_alloc.proofs.Hints.{hint_stays, ok_as, passed_still}
-use Rattle.qcow2_alloc.proofs.AllocationSteps.{handed_on, on_of, allocator_step_cached, is_sound_now, allocates_then}
-use Rattle.qcow2_alloc.proofs.ListedAfter.{listed_after_same}
-use Rattle.qcow2_alloc.proofs.Outcomes.{on_no_ok, if_no_ok, on_ok}
-use Rattle.qcow2_alloc.proofs.MadeClusters.{alone_none, alone_since, made_run}
-use Rattle.qcow2_alloc.proofs.Steps.{data_then, fails_on, fails_since, data_cached}
+use Rattle.qcow2_alloc.proofs.Lemmas.{hint_stays, ok_as, passed_still, handed_on, on_of, allocator_step_cached, is_sound_now, allocates_then, listed_after_same, on_no_ok, if_no_ok, on_ok, alone_none, alone_since, made_run, data_then, fails_on, fails_since, data_cached}
 use Rattle.qcow2_alloc.proofs.allocation.Allocator.allocate_data.Goals as goal
 
 pub returns-in_err-l2_depends_on_rb-clause-step : goal.returns-in_err-l2_depends_on_rb-clause-step

@@ -1,13 +1,7 @@
 use Rattle.std.proofs.Common.{◌≡◌, ◌≢◌, ◌/◌, ◌^◌, ◌<◌, ◌≤◌, ◌⊎◌, arith, ℕ, inl, inr, Ok, Err, Some, None, true, refl, sym, ap, ◌∙◌, subst, Result, Option, false, rules, IfErr}
 use Rattle.qcow2_alloc.proofs.Common.{count, one_at, Pending, ClustersToFreeEntry, ImageFile, taken_as, InternalAllocatorGrowth, AllocatesAt, pending_then, IsUsed, KeepsNoFreeBelowHint, StaysUsed, counts_per_block, ImageError, IsFault, IsFaultOr, CantCount, IsHostCluster, run_in, IsAllocatedMetadata, AllocatesOnly}
-use Rattle.qcow2_alloc.proofs.AllocationSteps.{handed_on, on_of, allocator_step_on, allocator_step_cached, is_sound_now, leaves_on, of_equal}
-use Rattle.qcow2_alloc.proofs.ListedAfter.{listed_after_same}
-use Rattle.qcow2_alloc.proofs.Hints.{header_used, hint_stays, passed_still}
-use Rattle.qcow2_alloc.proofs.Runs.{taken_alone}
-use Rattle.qcow2_alloc.proofs.Outcomes.{on_no_ok, if_no_ok}
+use Rattle.qcow2_alloc.proofs.Lemmas.{handed_on, on_of, allocator_step_on, allocator_step_cached, is_sound_now, leaves_on, of_equal, listed_after_same, header_used, hint_stays, passed_still, taken_alone, on_no_ok, if_no_ok, alone_none, alone_since, lists_used_none, made_before, made_one, made_refused, made_untaken, data_then, fails_by, fails_ok, fails_on, fails_since, memory_other, data_cached}
 use Rattle.qcow2_alloc.specs.declared.error.ImageError.TheVariants as I
-use Rattle.qcow2_alloc.proofs.MadeClusters.{alone_none, alone_since, lists_used_none, made_before, made_one, made_refused, made_untaken}
-use Rattle.qcow2_alloc.proofs.Steps.{data_then, fails_by, fails_ok, fails_on, fails_since, memory_other, data_cached}
 use Rattle.qcow2_alloc.proofs.allocation.Allocator.allocate_data_at.Goals as goal
 
 -- the range of a cluster, as its number says it, beside the most entries of a reftable

@@ -1,9 +1,6 @@
 use Rattle.std.proofs.Common.{◌≡◌, ◌/◌, inl, inr, true, false, ap, sym, ◌∙◌, subst}
 use Rattle.qcow2_alloc.proofs.Common.{eq-eqb, block_offset, counts_per_block, entry_at, Pending, InternalAllocatorStep, lacks}
-use Rattle.qcow2_alloc.proofs.AllocationSteps.{allocator_step_none, still_sound}
-use Rattle.qcow2_alloc.proofs.Rooms.{one_none, free_taken}
-use Rattle.qcow2_alloc.proofs.Outcomes.{not_both}
-use Rattle.qcow2_alloc.proofs.Steps.{fails_ok, table_step_none}
+use Rattle.qcow2_alloc.proofs.Lemmas.{allocator_step_none, still_sound, one_none, free_taken, not_both, fails_ok, table_step_none}
 use Rattle.qcow2_alloc.proofs.allocation.Allocator.allocate_if_free.Goals as goal
 
 pub returns-then-lacks_block-clause-sound : goal.returns-then-lacks_block-clause-sound

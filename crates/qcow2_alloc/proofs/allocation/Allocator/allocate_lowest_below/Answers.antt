@@ -1,10 +1,6 @@
 use Rattle.std.proofs.Common.{◌≡◌, ◌*◌, ◌≤◌, false, refl, sym, ap, subst, ◌∙◌, arith}
 use Rattle.qcow2_alloc.proofs.Common.{EntryTableView, counts_per_block, one_at, KeepsEntries, AllocatesLowest, IsUsed, KeepsNoFreeBelowHint, TableStep, Allocator}
-use Rattle.qcow2_alloc.proofs.AllocationSteps.{handed_on, allocator_step_as}
-use Rattle.qcow2_alloc.proofs.FileSteps.{one_here}
-use Rattle.qcow2_alloc.proofs.Hints.{taken_used}
-use Rattle.qcow2_alloc.proofs.KeptRuns.{hint_kept, invariant_for}
-use Rattle.qcow2_alloc.proofs.Steps.{fails_ok, fails_on, table_step_as}
+use Rattle.qcow2_alloc.proofs.Lemmas.{handed_on, allocator_step_as, one_here, taken_used, hint_kept, invariant_for, fails_ok, fails_on, table_step_as}
 use Rattle.qcow2_alloc.proofs.allocation.Allocator.allocate_lowest_below.Goals as goal
 
 pub returns-in_err-cluster-clause-step : goal.returns-in_err-cluster-clause-step

@@ -1,8 +1,5 @@
 use Rattle.qcow2_alloc.proofs.Common.{refl, ap, ◌∙◌, AllocatesRoomSoundly, Allocator}
-use Rattle.qcow2_alloc.proofs.AllocationSteps.{handed_on, allocator_step_as}
-use Rattle.qcow2_alloc.proofs.Hints.{search_then}
-use Rattle.qcow2_alloc.proofs.KeptRuns.{search_kept}
-use Rattle.qcow2_alloc.proofs.Steps.{fails_ok, fails_on, table_step_as}
+use Rattle.qcow2_alloc.proofs.Lemmas.{handed_on, allocator_step_as, search_then, search_kept, fails_ok, fails_on, table_step_as}
 use Rattle.qcow2_alloc.proofs.allocation.Allocator.allocate_room.Goals as goal
 
 pub returns-in_err-room-clause-fails : goal.returns-in_err-room-clause-fails

@@ -1,14 +1,8 @@
 use Rattle.std.proofs.Common.{◌≡◌, ◌+◌, ◌<◌, inl, inr, ℕ, Bool, IsTrue, refl, sym, ap, ◌∙◌, subst, arith, Err, Some}
 use Rattle.qcow2_alloc.proofs.Common.{cases_eq, cases_lt, StorageView, Pending, Allocator, ImageError, ImageFile, run_at, taken_as, InternalAllocatorGrowth, RefusedGrowth, GivesBackAs, SameLeaks, pending_then, ListsTables, IsHostCluster, CantCount, CantCountRun, NoFreeBelowHint, IsUsed, KeepsNoFreeBelowHint, KeepsUsedBut, faults_of, IsOfTables, FailsFor, TakenSoFar, AllocatesRunSoundly}
 use Rattle.qcow2_alloc.specs.ImageFile.{IsFault}
-use Rattle.qcow2_alloc.proofs.AllocationSteps.{handed_on, of_equal, may_still, on_none, is_sound_on, still_as}
-use Rattle.qcow2_alloc.proofs.Hints.{kept_then, not_broken}
-use Rattle.qcow2_alloc.proofs.Runs.{none_there, run_after, run_last, run_none, taken_none}
+use Rattle.qcow2_alloc.proofs.Lemmas.{handed_on, of_equal, may_still, on_none, is_sound_on, still_as, kept_then, not_broken, none_there, run_after, run_last, run_none, taken_none, cause_as, count_back, host_of_few, not_both, listed_after_same, more_taken, ends_taken, then_leaves, header_bits, still_taken, fails_ok, fails_on, fails_since, fails_still, step_as, step_none, step_on, step_then}
 use Rattle.qcow2_alloc.proofs.allocation.Allocator.allocate_run.Goals.{then-not-is_fault+in_ok-give_back-in-Err, else-not-is_fault}
-use Rattle.qcow2_alloc.proofs.Limits.{cause_as, count_back, host_of_few}
-use Rattle.qcow2_alloc.proofs.Outcomes.{not_both}
-use Rattle.qcow2_alloc.proofs.ListedAfter.{listed_after_same, more_taken, ends_taken, then_leaves, header_bits, still_taken}
-use Rattle.qcow2_alloc.proofs.Steps.{fails_ok, fails_on, fails_since, fails_still, step_as, step_none, step_on, step_then}
 use Rattle.qcow2_alloc.proofs.allocation.Allocator.allocate_run.Goals as goal
 
 -- none, where there aren't some

@@ -1,10 +1,6 @@
 use Rattle.std.proofs.Common.{◌^◌, refl}
 use Rattle.qcow2_alloc.proofs.Common.{FetchesBlock}
-use Rattle.qcow2_alloc.proofs.AllocationSteps.{handed_on, place_fits}
-use Rattle.qcow2_alloc.proofs.KeptTables.Places.{put_places}
-use Rattle.qcow2_alloc.proofs.NewRefblocks.{new_blocks_kept}
-use Rattle.qcow2_alloc.proofs.SparedHeaders.{not_first}
-use Rattle.qcow2_alloc.proofs.Steps.{fails_ok, fails_on, table_step_cached, table_step_none}
+use Rattle.qcow2_alloc.proofs.Lemmas.{handed_on, place_fits, put_places, new_blocks_kept, not_first, fails_ok, fails_on, table_step_cached, table_step_none}
 use Rattle.qcow2_alloc.proofs.allocation.Allocator.bring_to_front.Goals as goal
 
 pub returns-in_default-clause-sound : goal.returns-in_default-clause-sound

@@ -1,13 +1,9 @@
 use Rattle.std.proofs.Common.{◌≡◌, ◌==◌, ◌/◌, ◌%◌, ◌^◌, ℕ, true, Option, Some, None, Ok, refl, ap, ◌∙◌, sym, IfSome, IsSome}
 use Rattle.qcow2_alloc.proofs.Common.{unwrap_or, one_at, owed_as, DecrementsOne, KeepsNoFreeBelowHint, contents_in, ReportsCount, counts_per_block}
-use Rattle.qcow2_alloc.proofs.Hints.{hint_lowered, is_zero, lowered_so, passed_still, stands_still, hint_refused}
-use Rattle.qcow2_alloc.proofs.AllocationSteps.{handed_on, of_equal, allocator_step_as, may_lower_still, counted_at, given_one, owed_counted, owed_has_block}
+use Rattle.qcow2_alloc.proofs.Lemmas.{hint_lowered, is_zero, lowered_so, passed_still, stands_still, hint_refused, handed_on, of_equal, allocator_step_as, may_lower_still, counted_at, given_one, owed_counted, owed_has_block, marks_of_caches, handed_unaligned, ok_no_err, fails_ok, fails_on, table_step_as, table_step_tables, table_step_then}
 use Rattle.qcow2_alloc.proofs.Leaks.{tried}
-use Rattle.qcow2_alloc.proofs.KeptMarks.{marks_of_caches}
 use Rattle.qcow2_alloc.specs.declared.error.ImageError.TheVariants as I
 use Rattle.qcow2_alloc.proofs.AlignedBlocks.{unaligned_as}
-use Rattle.qcow2_alloc.proofs.Outcomes.{handed_unaligned, ok_no_err}
-use Rattle.qcow2_alloc.proofs.Steps.{fails_ok, fails_on, table_step_as, table_step_tables, table_step_then}
 use Rattle.qcow2_alloc.proofs.allocation.Allocator.decrement_refcount.Goals as goal
 
 -- a number that is left is 0

@@ -1,14 +1,7 @@
 use Rattle.std.proofs.Common.{◌≡◌, ◌≤◌, ◌<◌, ◌*◌, ◌/◌, ◌%◌, ◌^◌, Option, Some, None, Ok, Err, true, mul-pos, inl, inr, false, sym, ap, ◌∙◌, refl, arith, Result, IsTrue, subst, ℕ, IfErr, IsSome, is_some}
 use Rattle.qcow2_alloc.proofs.Common.{block_offset, counts_per_block, one_at, LacksFirst, taken_as, HasNone, GetsBlock, IsUnaligned, IsFault, KeepsNoFreeBelowHint, div-eq_of_lt, div-mul-le_self, pow_pos, ImageError, EntryTableView, HeaderFields, IsHostCluster, IsBlockOf}
-use Rattle.qcow2_alloc.proofs.FileSteps.{leaves_then}
-use Rattle.qcow2_alloc.proofs.Hints.{lacking_above, hint_got, hint_placed, hint_refused, hint_stays, ok_as, passed_same, passed_still, range_as, not_broken}
-use Rattle.qcow2_alloc.proofs.AllocationSteps.{named_then, named_covered, none_named, handed_on, allocator_step_then, gets_then, gets_taken, is_sound_now, none_in_memory, stands_none, still_sound}
-use Rattle.qcow2_alloc.proofs.Limits.{host_below, is_able, placed_fault, range_near}
-use Rattle.qcow2_alloc.proofs.Outcomes.{not_both, on_no_ok}
+use Rattle.qcow2_alloc.proofs.Lemmas.{leaves_then, lacking_above, hint_got, hint_placed, hint_refused, hint_stays, ok_as, passed_same, passed_still, range_as, not_broken, named_then, named_covered, none_named, handed_on, allocator_step_then, gets_then, gets_taken, is_sound_now, none_in_memory, stands_none, still_sound, host_below, is_able, placed_fault, range_near, not_both, on_no_ok, spares_then, kept_marks_then, limit_other, memory_other, other_as, fails_by, fails_ok, fails_on, fails_since, table_step_then}
 use Rattle.qcow2_alloc.specs.declared.error.ImageError.TheVariants as I
-use Rattle.qcow2_alloc.proofs.SparedHeaders.{spares_then}
-use Rattle.qcow2_alloc.proofs.KeptMarks.{kept_marks_then}
-use Rattle.qcow2_alloc.proofs.Steps.{limit_other, memory_other, other_as, fails_by, fails_ok, fails_on, fails_since, table_step_then}
 use Rattle.qcow2_alloc.proofs.allocation.Allocator.ensure_block.Goals as goal
 
 pub returns-in_err-load_block-clause-step : goal.returns-in_err-load_block-clause-step

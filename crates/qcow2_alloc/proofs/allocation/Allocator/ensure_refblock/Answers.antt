@@ -1,15 +1,7 @@
 use Rattle.std.proofs.Common.{◌/◌, ◌^◌, sym, ap, subst, arith, ◌∙◌, Result, refl, Ok, IfErr}
 use Rattle.qcow2_alloc.proofs.Common.{Pending, counts_per_block, GrowsTable, pending_then, KeepsNoFreeBelowHint, KeepsUsed, IsUsed, CantCount, IsFaultOr, IsHostCluster, entry_count, ImageError}
-use Rattle.qcow2_alloc.proofs.PlacedRooms.{has_some}
-use Rattle.qcow2_alloc.proofs.AllocationSteps.{handed_on, is_sound_on, on_none}
-use Rattle.qcow2_alloc.proofs.ListedAfter.{listed_after_same, grows_none, grows_on, header_counts, header_bits}
-use Rattle.qcow2_alloc.proofs.Hints.{has_entries, hint_used, ok_as, range_as, uses_got, uses_then, hint_or_interruption}
-use Rattle.qcow2_alloc.proofs.Limits.{fault_or, grown_why, not_below}
+use Rattle.qcow2_alloc.proofs.Lemmas.{has_some, handed_on, is_sound_on, on_none, listed_after_same, grows_none, grows_on, header_counts, header_bits, has_entries, hint_used, ok_as, range_as, uses_got, uses_then, hint_or_interruption, fault_or, grown_why, not_below, entries_none, lists_used_none, lists_used_one, lists_used_still, fails_on, fails_since, step_on, step_then, step_grown, step_none, fails_by, limit_other, former_none, former_one, former_still}
 use Rattle.qcow2_alloc.specs.declared.error.ImageError.TheVariants as I
-use Rattle.qcow2_alloc.proofs.Outcomes.{entries_none}
-use Rattle.qcow2_alloc.proofs.MadeClusters.{lists_used_none, lists_used_one, lists_used_still}
-use Rattle.qcow2_alloc.proofs.Steps.{fails_on, fails_since, step_on, step_then, step_grown, step_none, fails_by, limit_other}
-use Rattle.qcow2_alloc.proofs.FormerReftables.{former_none, former_one, former_still}
 use Rattle.qcow2_alloc.proofs.allocation.Allocator.ensure_refblock.Goals as goal
 
 pub returns-then-in_bounds-clause-step : goal.returns-then-in_bounds-clause-step

@@ -1,12 +1,6 @@
 use Rattle.std.proofs.Common.{◌≡◌, ◌*◌, ◌<◌, ◌^◌, mul-pos, inl, inr, true, false, sym, ap, ◌∙◌, arith, Result, IsTrue, refl, subst, IfErr}
 use Rattle.qcow2_alloc.proofs.Common.{counts_per_block, GetsBlock, IsFault, pow_pos, ImageError, IsHostCluster}
-use Rattle.qcow2_alloc.proofs.Hints.{lacking_above, search_by, search_same}
-use Rattle.qcow2_alloc.proofs.AllocationSteps.{named_covered, none_named, handed_on, gets_placed, gets_then, is_sound_now, none_in_memory, stands_none}
-use Rattle.qcow2_alloc.proofs.Limits.{placed_fault, host_below, is_able}
-use Rattle.qcow2_alloc.proofs.Outcomes.{entries_none, on_no_ok}
-use Rattle.qcow2_alloc.proofs.SparedHeaders.{spares_then}
-use Rattle.qcow2_alloc.proofs.KeptMarks.{kept_marks_then}
-use Rattle.qcow2_alloc.proofs.Steps.{limit_other, memory_other, other_as, fails_by, fails_ok, fails_on, fails_since}
+use Rattle.qcow2_alloc.proofs.Lemmas.{lacking_above, search_by, search_same, named_covered, none_named, handed_on, gets_placed, gets_then, is_sound_now, none_in_memory, stands_none, placed_fault, host_below, is_able, entries_none, on_no_ok, spares_then, kept_marks_then, limit_other, memory_other, other_as, fails_by, fails_ok, fails_on, fails_since}
 use Rattle.qcow2_alloc.specs.declared.error.ImageError.TheVariants as I
 use Rattle.qcow2_alloc.proofs.allocation.Allocator.ensure_self_counting_refblock.Goals as goal
 

@@ -1,13 +1,8 @@
 use Rattle.std.proofs.Common.{◌≡◌, ◌+◌, ◌*◌, ◌/◌, ◌%◌, ◌^◌, ◌<◌, ◌≤◌, refl, Option, Some, Ok, Err, ℕ, min, Result, ◌∙◌, sym, ap, subst, arith, IfSome, IfErr, OnOk}
 use Rattle.qcow2_alloc.proofs.Common.{mul-le-mul_left, pow_mono, HeaderView, counts_per_block, entries_per_cluster, EntryTableView, entry_count, greatest_offset, Pending, ImageError, ImageFile, NamesLacking, InternalAllocatorStep, IsCloneOf, with_run, EntersReftable, NamesReftable, AllocatorInvariant, KeepsHeader, IsFaultOr, nameable_clusters, HasNoRoomBelow, HasNoRoomFor, LiesLowest, KeepsUsed, IsUsed, IsLonger, room_length, opened, EntersRoom, EntersTable, Allocator, Room, HeaderFields}
-use Rattle.qcow2_alloc.proofs.AllocationSteps.{handed_on, is_sound_now, leaves_as}
+use Rattle.qcow2_alloc.proofs.Lemmas.{handed_on, is_sound_now, leaves_as, cause_as, search_by, search_then, uses_refused, header_same, header_then, header_counts, still_noted, fails_on, fails_since, pointer_step_on, pointer_step_then}
 use Rattle.qcow2_alloc.proofs.FullRooms.{no_room_for, lies_lowest, lowest_entered}
-use Rattle.qcow2_alloc.proofs.Limits.{cause_as}
 use Rattle.qcow2_alloc.proofs.GrownReftables.{clone_clusters, clone_is_longer, entered, uses_entered, names_fault, room_now}
-use Rattle.qcow2_alloc.proofs.Hints.{search_by, search_then, uses_refused}
-use Rattle.qcow2_alloc.proofs.ListedAfter.{header_same, header_then, header_counts}
-use Rattle.qcow2_alloc.proofs.Rooms.{still_noted}
-use Rattle.qcow2_alloc.proofs.Steps.{fails_on, fails_since, pointer_step_on, pointer_step_then}
 use Rattle.qcow2_alloc.proofs.allocation.Allocator.enter_reftable.Goals as goal
 
 -- the clusters that a reftable has entries for, as 64 bits hold them

@@ -1,13 +1,7 @@
 use Rattle.std.proofs.Common.{◌≡◌, ◌+◌, ℕ, Result, inl, inr, refl, sym, ap, ◌∙◌, subst, arith, IfErr}
 use Rattle.qcow2_alloc.proofs.Common.{IsUsed, EntryTableView, HeaderView, counts_per_block, Pending, InternalAllocatorStep, with_run, ImageError, Room, IsFaultOr, HasNoRoomBelow, opened, AllocatesRoom, Allocator}
-use Rattle.qcow2_alloc.proofs.FileSteps.{leaves_then}
-use Rattle.qcow2_alloc.proofs.AllocationSteps.{handed_on, allocator_step_none, allocator_step_then, is_sound_now}
-use Rattle.qcow2_alloc.proofs.Runs.{run_after}
-use Rattle.qcow2_alloc.proofs.Hints.{hint_stays, passed_still, search_after, search_as, search_same, search_then, used_stays}
+use Rattle.qcow2_alloc.proofs.Lemmas.{leaves_then, handed_on, allocator_step_none, allocator_step_then, is_sound_now, run_after, hint_stays, passed_still, search_after, search_as, search_same, search_then, used_stays, run_of_same, noted_of_same, noted_of_room, if_no_ok, fails_by, fails_ok, fails_on, fails_since, limit_other, table_step_none, table_step_then}
 use Rattle.qcow2_alloc.proofs.FullRooms.{full_behind, full_passed, full_stays, IsFullBelow}
-use Rattle.qcow2_alloc.proofs.Rooms.{run_of_same, noted_of_same, noted_of_room}
-use Rattle.qcow2_alloc.proofs.Outcomes.{if_no_ok}
-use Rattle.qcow2_alloc.proofs.Steps.{fails_by, fails_ok, fails_on, fails_since, limit_other, table_step_none, table_step_then}
 use Rattle.qcow2_alloc.specs.declared.error.ImageError.TheVariants as I
 use Rattle.qcow2_alloc.proofs.allocation.Allocator.find_room.Goals as goal
 

@@ -1,9 +1,6 @@
 use Rattle.qcow2_alloc.proofs.Common.{refl, inl, ap, ◌∙◌, Pending, Data, ImageFile, Frees, with_listed, but, KeepsNoFreeBelowHint, HeaderView}
-use Rattle.qcow2_alloc.proofs.AllocationSteps.{handed_on, is_sound_now, allocator_step_cached}
-use Rattle.qcow2_alloc.proofs.Hints.{hint_stays, passed_still}
-use Rattle.qcow2_alloc.proofs.Freeing.{but_both, on_ok, allocator_step_on, frees_then}
-use Rattle.qcow2_alloc.proofs.UnalignedLeaks.{leaks_as, leaks_then}
-use Rattle.qcow2_alloc.proofs.Steps.{fails_ok, fails_on, fails_since, free_in_turn, turn_cached, turn_then}
+use Rattle.qcow2_alloc.proofs.Lemmas.{handed_on, is_sound_now, allocator_step_cached, hint_stays, passed_still, but_both, frees_then, leaks_as, leaks_then, fails_ok, fails_on, fails_since, free_in_turn, turn_cached, turn_then}
+use Rattle.qcow2_alloc.proofs.Freeing.{on_ok, allocator_step_on}
 use Rattle.qcow2_alloc.proofs.allocation.Allocator.free.Goals as goal
 
 pub returns-clause-emptied : goal.returns-clause-emptied

@@ -1,7 +1,6 @@
 use Rattle.std.proofs.Common.{◌∷◌, ◌++◌, ◌<◌, refl, subst, [], ◌∙◌, Ok, Err, arith}
 use Rattle.qcow2_alloc.proofs.Common.{ClusterKind, FreesListed}
-use Rattle.qcow2_alloc.proofs.AllocationSteps.{handed_on}
-use Rattle.qcow2_alloc.proofs.FreedLists.{listed_stay, listed_then, run_lowered, run_stays}
+use Rattle.qcow2_alloc.proofs.Lemmas.{handed_on, listed_stay, listed_then, run_lowered, run_stays}
 use Rattle.qcow2_alloc.proofs.allocation.Allocator.free_run.Goals as goal
 
 pub freeing-init : goal.freeing-init

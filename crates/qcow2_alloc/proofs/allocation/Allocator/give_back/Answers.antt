@@ -1,10 +1,6 @@
 use Rattle.std.proofs.Common.{◌≡◌, ◌+◌, ◌-◌, ◌<◌, inr, refl, sym, ◌∙◌, subst, arith}
 use Rattle.qcow2_alloc.proofs.Common.{one_at, Pending, run_at, taken_as, Taken, InternalAllocatorGrowth, GivesBackAs, AllocatorInvariant, InternalFileGrowth, KeepsNoFreeBelowHint, KeepsUsedBut}
-use Rattle.qcow2_alloc.proofs.FileSteps.{file_step_on, on_then, on_interrupted_after}
-use Rattle.qcow2_alloc.proofs.AllocationSteps.{handed_on, is_sound_now}
-use Rattle.qcow2_alloc.proofs.Hints.{kept_refused, not_in_run, taken_pending, used_stays}
-use Rattle.qcow2_alloc.proofs.Runs.{taken_first, taken_none, new_data_more}
-use Rattle.qcow2_alloc.proofs.Steps.{fails_ok, fails_on, fails_since, table_step_none, table_step_then}
+use Rattle.qcow2_alloc.proofs.Lemmas.{file_step_on, on_then, on_interrupted_after, handed_on, is_sound_now, kept_refused, not_in_run, taken_pending, used_stays, taken_first, taken_none, new_data_more, fails_ok, fails_on, fails_since, table_step_none, table_step_then}
 use Rattle.qcow2_alloc.proofs.allocation.Allocator.give_back.Goals as goal
 
 pub returns-then-n-eq0-clause-sound : goal.returns-then-n-eq0-clause-sound

@@ -1,14 +1,8 @@
 use Rattle.std.proofs.Common.{◌≡◌, ◌^◌, ◌≤◌, ◌++◌, ◌∷◌, ℕ, IsSome, inl, inr, Result, refl, ◌∙◌, [], List, sym, ap, subst, arith, Err, IfErr}
 use Rattle.qcow2_alloc.proofs.Common.{IsUsed, KeepsUsed, entry_count, HeaderView, counts_per_block, entries_per_cluster, Pending, ClustersToFreeEntry, InternalAllocatorGrowth, RefusedGrowth, GrowsTable, ImageError, pending_then, IsLeastLength, IsLongEnough, IsFaultOr, HasNoRoomFor, CantGrow, IsAllocatedMetadata, AllocatesOnly}
-use Rattle.qcow2_alloc.proofs.SparedHeaders.{spares_listed}
-use Rattle.qcow2_alloc.proofs.AllocationSteps.{handed_on, lacking_clone, on_none}
+use Rattle.qcow2_alloc.proofs.Lemmas.{spares_listed, handed_on, lacking_clone, on_none, cause_as, listed_after_same, on_no_ok, made_entered, made_unentered, growth_step_none, growth_step_on, fails_by, fails_ok, fails_on}
 use Rattle.qcow2_alloc.proofs.FullRooms.{cant_grow}
-use Rattle.qcow2_alloc.proofs.Limits.{cause_as}
-use Rattle.qcow2_alloc.proofs.ListedAfter.{listed_after_same}
 use Rattle.qcow2_alloc.proofs.GrownReftables.{grown}
-use Rattle.qcow2_alloc.proofs.Outcomes.{on_no_ok}
-use Rattle.qcow2_alloc.proofs.MadeClusters.{made_entered, made_unentered}
-use Rattle.qcow2_alloc.proofs.Steps.{growth_step_none, growth_step_on, fails_by, fails_ok, fails_on}
 use Rattle.qcow2_alloc.proofs.allocation.Allocator.grow_reftable.Goals as goal
 
 pub returns-in_err-table-clause-step : goal.returns-in_err-table-clause-step

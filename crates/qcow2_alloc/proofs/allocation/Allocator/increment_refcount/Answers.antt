@@ -1,9 +1,6 @@
 use Rattle.std.proofs.Common.{◌≡◌, ◌==◌, ◌/◌, ◌%◌, ◌^◌, inl, inr, Bool, true, false, Ok, refl, sym, ap, ◌∙◌, arith}
 use Rattle.qcow2_alloc.proofs.Common.{nat_tests, block_offset, count, entry_at, known_in, contents_in, AllocatesGivenSoundly}
-use Rattle.qcow2_alloc.proofs.AllocationSteps.{allocator_step_none, handed_on, of_equal, counted_at, none_in_memory, taken_one}
-use Rattle.qcow2_alloc.proofs.Hints.{is_zero, used_stays}
-use Rattle.qcow2_alloc.proofs.KeptMarks.{marks_of_caches}
-use Rattle.qcow2_alloc.proofs.Steps.{fails_on, table_step_none, table_step_tables, table_step_then}
+use Rattle.qcow2_alloc.proofs.Lemmas.{allocator_step_none, handed_on, of_equal, counted_at, none_in_memory, taken_one, is_zero, used_stays, marks_of_caches, fails_on, table_step_none, table_step_tables, table_step_then}
 use Rattle.qcow2_alloc.proofs.allocation.Allocator.increment_refcount.Goals as goal
 
 zero_of : (n : _) → (n == 0) ≡ true → n ≡ 0

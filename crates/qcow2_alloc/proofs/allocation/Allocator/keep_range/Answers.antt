@@ -1,9 +1,6 @@
 use Rattle.std.proofs.Common.{◌≡◌, ◌+◌, ◌-◌, ◌*◌, ◌/◌, ◌%◌, ◌^◌, ◌<◌, ◌≤◌, ℕ, inl, inr, refl, sym, ap, ◌∙◌, arith}
 use Rattle.qcow2_alloc.proofs.Common.{div-mul-add, mod-mul-add, contents_in, KeepsNoFreeBelowHint, IsFoundUsed, StaysSound, Allocator}
-use Rattle.qcow2_alloc.proofs.AllocationSteps.{handed_on, allocator_step_as, counted_at}
-use Rattle.qcow2_alloc.proofs.Hints.{hint_refused, hint_stays, passed_still}
-use Rattle.qcow2_alloc.proofs.KeptRuns.{hint_kept}
-use Rattle.qcow2_alloc.proofs.Steps.{fails_ok, fails_on, table_step_as}
+use Rattle.qcow2_alloc.proofs.Lemmas.{handed_on, allocator_step_as, counted_at, hint_refused, hint_stays, passed_still, hint_kept, fails_ok, fails_on, table_step_as}
 use Rattle.qcow2_alloc.proofs.allocation.Allocator.keep_range.Goals as goal
 
 -- a cluster of a range, from its first one on

@@ -1,11 +1,7 @@
 use Rattle.std.proofs.Common.{◌≡◌, ◌+◌, ◌-◌, ◌/◌, ◌^◌, inl, inr, false, true, refl, sym, ap, ◌∙◌, subst, arith}
 use Rattle.qcow2_alloc.proofs.Common.{counts_per_block, one_at, Pending, Taken, taken_as, InternalAllocatorStep, GivesBack, IsUsed, with_run, lacks, faults_of}
-use Rattle.qcow2_alloc.proofs.AllocationSteps.{handed_on, of_equal}
-use Rattle.qcow2_alloc.proofs.Hints.{not_in_run, search_as, search_same, search_then, taken_pending, used_stays}
-use Rattle.qcow2_alloc.proofs.Rooms.{run_past, left_none, left_one, left_fault, owed_now}
+use Rattle.qcow2_alloc.proofs.Lemmas.{handed_on, of_equal, not_in_run, search_as, search_same, search_then, taken_pending, used_stays, run_past, left_none, left_one, left_fault, owed_now, fails_ok, fails_on, fails_since, table_step_none, table_step_then, table_step_as, on_no_ok}
 use Rattle.qcow2_alloc.proofs.allocation.Allocator.leave_run.Goals.{then-not-lacks_block+in_ok-decrement_or_leak, else-not-lacks_block}
-use Rattle.qcow2_alloc.proofs.Steps.{fails_ok, fails_on, fails_since, table_step_none, table_step_then, table_step_as}
-use Rattle.qcow2_alloc.proofs.Outcomes.{on_no_ok}
 use Rattle.qcow2_alloc.proofs.allocation.Allocator.leave_run.Goals as goal
 
 pub leaving-init : goal.leaving-init

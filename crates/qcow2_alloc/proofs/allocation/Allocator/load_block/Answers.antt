@@ -1,11 +1,7 @@
 use Rattle.std.proofs.Common.{◌^◌, refl, inl}
 use Rattle.qcow2_alloc.proofs.Common.{LoadsBlock, contents_in}
-use Rattle.qcow2_alloc.proofs.FileSteps.{file_step_cached, reftable_cached}
-use Rattle.qcow2_alloc.proofs.AllocationSteps.{handed_on, place_fits, names_refblock}
-use Rattle.qcow2_alloc.proofs.KeptTables.Places.{named_have_places}
+use Rattle.qcow2_alloc.proofs.Lemmas.{file_step_cached, reftable_cached, handed_on, place_fits, names_refblock, named_have_places, not_first, fails_ok, fails_on, table_step_cached, table_step_none}
 use Rattle.qcow2_alloc.proofs.AlignedBlocks.{not_off}
-use Rattle.qcow2_alloc.proofs.SparedHeaders.{not_first}
-use Rattle.qcow2_alloc.proofs.Steps.{fails_ok, fails_on, table_step_cached, table_step_none}
 use Rattle.qcow2_alloc.proofs.allocation.Allocator.load_block.Goals as goal
 
 pub returns-in_err-rb_get_or_insert-clause-sound : goal.returns-in_err-rb_get_or_insert-clause-sound

@@ -1,14 +1,9 @@
 use Rattle.std.proofs.Common.{◌+◌, ◌*◌, ◌^◌, inr, sym, ap, ◌∙◌, refl, subst}
 use Rattle.qcow2_alloc.proofs.Common.{with_run, NamesReftable, of_storage, of_metadata, storage_of, KeepsUsed, KeepsHeader, ImageFile, PreservesHeaderButPointer, HeaderView}
-use Rattle.qcow2_alloc.proofs.AllocationSteps.{handed_on, fault_of_storage}
+use Rattle.qcow2_alloc.proofs.Lemmas.{handed_on, fault_of_storage, header_same, note_kept, spares_pointer, placed_above, kept_marks_none, told_kept, marks_of_storage, fails_by, limit_other, fails_ok, fails_on, fails_since, fails_storage, other_as, same_faults, metadata_of_tables}
 use Rattle.qcow2_alloc.proofs.NamedReftables.{within_limit, interrupted_named, allocator_step_named, keeps_used}
-use Rattle.qcow2_alloc.proofs.ListedAfter.{header_same}
-use Rattle.qcow2_alloc.proofs.KeptNotes.{note_kept}
-use Rattle.qcow2_alloc.proofs.SparedHeaders.{spares_none, spares_pointer, placed_above}
-use Rattle.qcow2_alloc.proofs.KeptMarks.{kept_marks_none, told_kept, marks_of_storage}
-use Rattle.qcow2_alloc.proofs.Steps.{fails_by, limit_other, fails_ok, fails_on, fails_since, fails_storage, other_as, same_faults}
+use Rattle.qcow2_alloc.proofs.SparedHeaders.{spares_none}
 use Rattle.qcow2_alloc.specs.declared.error.ImageError.TheVariants as I
-use Rattle.qcow2_alloc.proofs.TableErrors.{metadata_of_tables}
 use Rattle.qcow2_alloc.proofs.allocation.Allocator.name_reftable.Goals as goal
 
 pub returns-in_err-set_reftable-clause-sound : goal.returns-in_err-set_reftable-clause-sound

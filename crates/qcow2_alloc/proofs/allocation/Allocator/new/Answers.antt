@@ -1,9 +1,7 @@
-use Rattle.qcow2_alloc.proofs.AllocationSteps.{table_loaded, handed_on}
+use Rattle.qcow2_alloc.proofs.Lemmas.{table_loaded, handed_on, not_first, placed_above, fails_by, fails_loaded, fails_ok}
 use Rattle.std.proofs.Common.{◌≡◌, ◌+◌, ◌*◌, ◌<◌, ◌≤◌, ◌^◌, inl, inr, ℕ, Ok, Result, Some, sym, ap, ◌∙◌, subst, refl, arith, rules}
 use Rattle.qcow2_alloc.proofs.Common.{MatchResult, bytes_at, byte_at, SomeUnread, EntryTableView, entry_count, entry_at, reftable_entry, ReftableEntryReads, reftable_entries, cluster_size, entries_per_cluster, reftable_entries-loaded, Allocator, ImageError, of_metadata, contents_in, view_in, HasUnreadEntry, IsReasonAgainst, IsReasonAgainstReftable, ReftableReads}
 use Rattle.qcow2_alloc.proofs.LoadedTables.{entries_read, fits_so, not_loaded}
-use Rattle.qcow2_alloc.proofs.SparedHeaders.{not_first, placed_above}
-use Rattle.qcow2_alloc.proofs.Steps.{fails_by, fails_loaded, fails_ok}
 use Rattle.qcow2_alloc.specs.declared.error.ImageError.TheVariants as I
 use Rattle.qcow2_alloc.proofs.allocation.Allocator.new.Goals as goal
 

@@ -1,9 +1,7 @@
 use Rattle.std.proofs.Common.{◌≡◌, ◌+◌, ◌-◌, ◌*◌, ◌/◌, ◌%◌, ◌^◌, ◌<◌, ◌≤◌, ℕ, min, Some, IsSome, inl, inr, refl, sym, ap, subst, ◌∙◌, arith, is_some}
 use Rattle.qcow2_alloc.proofs.Common.{cases_lt, one_shl, mod_below, pow_pos, div-add-mod', div-mul-add, mod-mul-add, HeaderFields, EntryTableView, IsFirstZero, counts_per_block, count_at, counts_of, HasNone, NamesBlock, rb_at, PassesKnown, ReportsFirstFree, SearchContinuesAt, MetadataCaches, contents_in}
-use Rattle.qcow2_alloc.proofs.AllocationSteps.{handed_on, counted_at, none_named}
+use Rattle.qcow2_alloc.proofs.Lemmas.{handed_on, counted_at, none_named, if_no_ok, fails_ok, fails_on}
 use Rattle.qcow2_alloc.proofs.CachedEntries.Putting.{some_of}
-use Rattle.qcow2_alloc.proofs.Outcomes.{if_no_ok}
-use Rattle.qcow2_alloc.proofs.Steps.{fails_ok, fails_on}
 use Rattle.qcow2_alloc.proofs.allocation.Allocator.next_open.Goals as goal
 
 -- a cluster behind another one in its range

@@ -1,13 +1,6 @@
 use Rattle.std.proofs.Common.{◌≡◌, ◌+◌, ◌*◌, ◌/◌, ◌^◌, ◌<◌, ◌≤◌, inr, ℕ, Bool, IsTrue, Some, Result, Ok, Err, refl, sym, ap, ◌∙◌, subst, arith, IsSome, IfSome}
 use Rattle.qcow2_alloc.proofs.Common.{div-add-mod', w64, to_be_bytes, overwritten, StorageView, Changes, Calls, StorageError, HeaderFields, EntryTableView, entry_count, cluster_size, RefBlockView, IsRefBlock, count_at, IsHostCluster, entry_at, ChangesEntry, HasPlace, block_offset, Pending, AreClean, BlocksMayGo, Allocator, ImageError, ImageStorage, ImageFile, placing, first_counts, HasPlaceFor, NamesRefblock, InternalAllocatorStep, HoldsBlock, PlacesBlock, WritesBlock, of_storage, IsFault, view_in, AllocatorInvariant, storage_of, is_changed_of, order_of, l2_tables, refblocks, IsBlockOf, or_left}
-use Rattle.qcow2_alloc.proofs.FileSteps.{file_step_then, interrupted_then}
-use Rattle.qcow2_alloc.proofs.AllocationSteps.{entered_has, handed_on, entries_entered, fault_of_storage, is_sound_now, names_refblock}
-use Rattle.qcow2_alloc.proofs.NamedBlocks.{entry_write_as, real, safe_throughout_named, named_so}
-use Rattle.qcow2_alloc.proofs.Outcomes.{on_no_ok, entries_none}
-use Rattle.qcow2_alloc.proofs.SparedHeaders.{spares_then, spares_entry}
-use Rattle.qcow2_alloc.proofs.KeptMarks.{kept_marks_then, placed_kept, marks_of_storage}
-use Rattle.qcow2_alloc.proofs.KeptNotes.{note_kept}
-use Rattle.qcow2_alloc.proofs.Steps.{fails_on, fails_ok, fails_since, fails_storage, same_faults}
+use Rattle.qcow2_alloc.proofs.Lemmas.{file_step_then, interrupted_then, entered_has, handed_on, entries_entered, fault_of_storage, is_sound_now, names_refblock, entry_write_as, real, safe_throughout_named, named_so, on_no_ok, entries_none, spares_then, spares_entry, kept_marks_then, placed_kept, marks_of_storage, note_kept, fails_on, fails_ok, fails_since, fails_storage, same_faults}
 use Rattle.qcow2_alloc.proofs.allocation.Allocator.place_block.Goals as goal
 
 -- ---- the block in its place

@@ -1,7 +1,5 @@
 use Rattle.qcow2_alloc.proofs.Common.{ap, with_run, room_length, PlacesBlocks}
-use Rattle.qcow2_alloc.proofs.AllocationSteps.{handed_on}
-use Rattle.qcow2_alloc.proofs.NewRefblocks.{new_blocks_flushed}
-use Rattle.qcow2_alloc.proofs.Steps.{fails_on, fails_since, table_step_cached, table_step_then}
+use Rattle.qcow2_alloc.proofs.Lemmas.{handed_on, new_blocks_flushed, fails_on, fails_since, table_step_cached, table_step_then}
 use Rattle.qcow2_alloc.proofs.allocation.Allocator.place_blocks.Goals as goal
 
 pub returns-in_err-cache_blocks-clause-sound : goal.returns-in_err-cache_blocks-clause-sound

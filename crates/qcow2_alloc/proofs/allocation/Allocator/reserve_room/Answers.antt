@@ -1,11 +1,8 @@
 use Rattle.std.proofs.Common.{◌≡◌, ◌+◌, ◌/◌, ◌^◌, false, inl, refl, sym, ap, ◌∙◌, subst, arith}
 use Rattle.qcow2_alloc.proofs.Common.{counts_per_block, Pending, InternalAllocatorStep, counted_run, with_run, lacks, opens, ReachesRoom}
-use Rattle.qcow2_alloc.proofs.AllocationSteps.{handed_on, allocator_step_none, is_sound_now}
-use Rattle.qcow2_alloc.proofs.Rooms.{counted_few, run_none, run_taken, run_not_taken, ends_room, opened_none, opened_more, more_short, is_flag, flag_few, noted_more, still_noted}
+use Rattle.qcow2_alloc.proofs.Lemmas.{handed_on, allocator_step_none, is_sound_now, counted_few, run_taken, run_not_taken, ends_room, opened_none, opened_more, more_short, is_flag, flag_few, noted_more, still_noted, if_no_ok, fails_ok, fails_on, fails_since, table_step_none, table_step_then, hint_taken, passed_same}
+use Rattle.qcow2_alloc.proofs.Rooms.{run_none}
 use Rattle.qcow2_alloc.proofs.allocation.Allocator.reserve_room.Goals.{then-reaching-test+else-taken-end, else-reaching-test}
-use Rattle.qcow2_alloc.proofs.Outcomes.{if_no_ok}
-use Rattle.qcow2_alloc.proofs.Steps.{fails_ok, fails_on, fails_since, table_step_none, table_step_then}
-use Rattle.qcow2_alloc.proofs.Hints.{hint_taken, passed_same}
 use Rattle.qcow2_alloc.proofs.allocation.Allocator.reserve_room.Goals as goal
 
 pub reaching-init : goal.reaching-init

@@ -1,9 +1,6 @@
 use Rattle.std.proofs.Common.{◌+◌, ◌*◌, ◌^◌, ◌≤◌, ◌<◌, ◌/◌, ◌≡◌, ◌≢◌, ℕ, ap, arith, false, refl, sym, ◌∙◌, subst}
 use Rattle.qcow2_alloc.proofs.Common.{counts_per_block, one_at, taken_as, KeepsEntries, AllocatesLowest, Allocator, KeepsNoFreeBelowHint, EntryTableView}
-use Rattle.qcow2_alloc.proofs.FileSteps.{one_here, leaves_then}
-use Rattle.qcow2_alloc.proofs.Hints.{hint_header, hint_stays, hint_taken, hint_more, hint_passed, hint_refused, passed_same, passed_still, range_as, taken_used}
-use Rattle.qcow2_alloc.proofs.AllocationSteps.{allocator_step_none, behind_none, handed_on, entries_then, entries_less, other_range, allocator_step_as, allocator_step_then, is_sound_now}
-use Rattle.qcow2_alloc.proofs.Steps.{fails_ok, fails_on, fails_since, table_step_none, table_step_then}
+use Rattle.qcow2_alloc.proofs.Lemmas.{one_here, leaves_then, hint_header, hint_stays, hint_taken, hint_more, hint_passed, hint_refused, passed_same, passed_still, range_as, taken_used, allocator_step_none, behind_none, handed_on, entries_then, entries_less, other_range, allocator_step_as, allocator_step_then, is_sound_now, fails_ok, fails_on, fails_since, table_step_none, table_step_then}
 use Rattle.qcow2_alloc.proofs.allocation.Allocator.search_below.Goals as goal
 
 -- the entries from an end on stay while the range of a cluster below it gets its refblock

@@ -1,8 +1,6 @@
 use Rattle.std.proofs.Common.{◌+◌, inr, refl, sym, subst, arith}
 use Rattle.qcow2_alloc.proofs.Common.{Pending, InternalAllocatorGrowth}
-use Rattle.qcow2_alloc.proofs.AllocationSteps.{on_none}
-use Rattle.qcow2_alloc.proofs.ListedAfter.{listed_after_same}
-use Rattle.qcow2_alloc.proofs.Steps.{step_none}
+use Rattle.qcow2_alloc.proofs.Lemmas.{on_none, listed_after_same, step_none}
 use Rattle.qcow2_alloc.proofs.allocation.Allocator.try_run.Goals as goal
 
 pub returns-then-room-n-clause-step : goal.returns-then-room-n-clause-step

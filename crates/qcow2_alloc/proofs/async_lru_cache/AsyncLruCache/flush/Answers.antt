@@ -1,7 +1,5 @@
 use Rattle.qcow2_alloc.proofs.Common.{◌∙◌, arith}
-use Rattle.qcow2_alloc.proofs.CachedEntries.Flushing.{length_flushed}
-use Rattle.qcow2_alloc.proofs.CachedEntries.Knowing.{all_keeps}
-use Rattle.qcow2_alloc.proofs.CachedEntries.Pins.{all_keep_pins}
+use Rattle.qcow2_alloc.proofs.Lemmas.{length_flushed, all_keeps, all_keep_pins}
 use Rattle.qcow2_alloc.proofs.async_lru_cache.AsyncLruCache.flush.Goals as goal
 
 pub invariant_of-self : goal.invariant_of-self

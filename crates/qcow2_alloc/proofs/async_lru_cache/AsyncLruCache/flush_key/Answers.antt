@@ -1,6 +1,5 @@
 use Rattle.qcow2_alloc.proofs.Common.{sym, ◌∙◌, arith}
-use Rattle.qcow2_alloc.proofs.CachedEntries.Flushing.{flushed_at, failed_at}
-use Rattle.qcow2_alloc.proofs.CachedEntries.Knowing.{flushed_entry_keeps, failed_entry_keeps}
+use Rattle.qcow2_alloc.proofs.Lemmas.{flushed_at, failed_at, flushed_entry_keeps, failed_entry_keeps}
 use Rattle.qcow2_alloc.proofs.async_lru_cache.AsyncLruCache.flush_key.Goals as goal
 
 pub invariant_of-self : goal.invariant_of-self

@@ -1,10 +1,7 @@
 use Rattle.std.proofs.Common.{◌≡◌, None, refl, sym, ap, ◌∙◌, arith}
 use Rattle.qcow2_alloc.proofs.Common.{lookup, LruCache, Slot}
 use Rattle.qcow2_alloc.proofs.CachedEntries.Evictions.{front-promoted, hit_eviction, gets_eviction}
-use Rattle.qcow2_alloc.proofs.CachedEntries.Knowing.{hit_keeps, gets_keeps}
-use Rattle.qcow2_alloc.proofs.CachedEntries.Lists.{length-promoted, none_of, promoted_none}
-use Rattle.qcow2_alloc.proofs.CachedEntries.Pins.{pins_promoted, gets_keep_pins}
-use Rattle.qcow2_alloc.proofs.CachedEntries.Staying.{stays_promoted, gets_stay}
+use Rattle.qcow2_alloc.proofs.Lemmas.{hit_keeps, gets_keeps, length-promoted, none_of, promoted_none, pins_promoted, gets_keep_pins, stays_promoted, gets_stay}
 use Rattle.qcow2_alloc.proofs.async_lru_cache.AsyncLruCache.get_or_insert.Goals as goal
 
 pub invariant_of-self : goal.invariant_of-self

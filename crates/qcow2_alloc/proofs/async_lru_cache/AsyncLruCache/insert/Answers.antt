@@ -1,9 +1,6 @@
 use Rattle.std.proofs.Common.{◌≡◌, None, not, refl, sym, ap, ◌∙◌}
 use Rattle.qcow2_alloc.proofs.Common.{lookup}
-use Rattle.qcow2_alloc.proofs.CachedEntries.Knowing.{inserted, replaced}
-use Rattle.qcow2_alloc.proofs.CachedEntries.Lists.{none_of, entry_none}
-use Rattle.qcow2_alloc.proofs.CachedEntries.Pins.{pins_same, inserts_keep_pins, replaces_keep_pins}
-use Rattle.qcow2_alloc.proofs.CachedEntries.Staying.{stays_same, inserts_stay, replaces_stay}
+use Rattle.qcow2_alloc.proofs.Lemmas.{inserted, replaced, none_of, entry_none, pins_same, inserts_keep_pins, replaces_keep_pins, stays_same, inserts_stay, replaces_stay}
 use Rattle.qcow2_alloc.proofs.async_lru_cache.AsyncLruCache.insert.Goals as goal
 
 pub returns-clause-there : goal.returns-clause-there

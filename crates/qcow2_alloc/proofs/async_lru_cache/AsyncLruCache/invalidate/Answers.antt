@@ -1,6 +1,5 @@
 use Rattle.qcow2_alloc.proofs.Common.{arith}
-use Rattle.qcow2_alloc.proofs.CachedEntries.Lists.{length-pinned}
-use Rattle.qcow2_alloc.proofs.CachedEntries.Pins.{pins_pinned}
+use Rattle.qcow2_alloc.proofs.Lemmas.{length-pinned, pins_pinned}
 use Rattle.qcow2_alloc.proofs.async_lru_cache.AsyncLruCache.invalidate.Goals as goal
 
 pub invariant_of-self : goal.invariant_of-self

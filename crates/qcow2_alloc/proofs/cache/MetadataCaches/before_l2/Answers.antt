@@ -1,8 +1,5 @@
 use Rattle.qcow2_alloc.proofs.Common.{inr, refl, sym, ap, ◌∙◌, subst, OnOk, byte_at, TablesMayGo, Direction, storage_of, order, refblocks}
-use Rattle.qcow2_alloc.proofs.CacheSteps.{cache_step_none, soundly_none}
-use Rattle.qcow2_alloc.proofs.KeptTables.Quiet.{quiet_none}
-use Rattle.qcow2_alloc.proofs.KeptTables.Switching.{tables_free, blocks_free}
-use Rattle.qcow2_alloc.proofs.KeptTables.Places.{named_have_places}
+use Rattle.qcow2_alloc.proofs.Lemmas.{cache_step_none, soundly_none, quiet_none, tables_free, blocks_free, named_have_places}
 use Rattle.qcow2_alloc.proofs.cache.MetadataCaches.before_l2.Goals as goal
 
 pub returns-in-L2DependsOnRb-clause-faults : goal.returns-in-L2DependsOnRb-clause-faults

@@ -1,7 +1,5 @@
 use Rattle.qcow2_alloc.proofs.Common.{inr, refl, sym, ap, ◌∙◌, subst, OnOk, BlocksMayGo, Direction, order, l2_tables}
-use Rattle.qcow2_alloc.proofs.CacheSteps.{cache_step_none, soundly_none}
-use Rattle.qcow2_alloc.proofs.KeptTables.Quiet.{quiet_none}
-use Rattle.qcow2_alloc.proofs.KeptTables.Switching.{tables_free, blocks_free}
+use Rattle.qcow2_alloc.proofs.Lemmas.{cache_step_none, soundly_none, quiet_none, tables_free, blocks_free}
 use Rattle.qcow2_alloc.proofs.cache.MetadataCaches.before_rb.Goals as goal
 
 pub returns-in-RbDependsOnL2-clause-sound : goal.returns-in-RbDependsOnL2-clause-sound

@@ -1,9 +1,5 @@
 use Rattle.qcow2_alloc.proofs.Common.{inr, ◌∙◌, IsFault, byte_at, storage_of}
-use Rattle.qcow2_alloc.proofs.CacheSteps.{cache_step_then, soundly_then}
-use Rattle.qcow2_alloc.proofs.KeptTables.Causes.{given_err}
-use Rattle.qcow2_alloc.proofs.KeptTables.Switching.{tables_free, blocks_free, tables_clean, blocks_either, both_written}
-use Rattle.qcow2_alloc.proofs.Steps.{fails_on, fails_since}
-use Rattle.qcow2_alloc.proofs.KeptTables.Places.{named_have_places}
+use Rattle.qcow2_alloc.proofs.Lemmas.{cache_step_then, soundly_then, given_err, tables_free, blocks_free, tables_clean, blocks_either, both_written, fails_on, fails_since, named_have_places}
 use Rattle.qcow2_alloc.proofs.cache.MetadataCaches.flush_all.Goals as goal
 
 pub returns-in_err-write_tables-in-None-clause-fails : goal.returns-in_err-write_tables-in-None-clause-fails

@@ -1,12 +1,6 @@
 use Rattle.qcow2_alloc.proofs.Common.{inr, eqb, ap, ◌∙◌, subst, option_map, BlocksMayGo, Direction, value_at, IsFault, storage_of, order, l2_tables}
-use Rattle.qcow2_alloc.proofs.CacheSteps.{cache_step_then, soundly_then}
-use Rattle.qcow2_alloc.proofs.KeptTables.Causes.{given_err}
-use Rattle.qcow2_alloc.proofs.KeptTables.Clean.{blocks_as, tables_as}
-use Rattle.qcow2_alloc.proofs.KeptTables.Quiet.{quiet_then}
-use Rattle.qcow2_alloc.proofs.KeptTables.Switching.{tables_free, blocks_free, blocks_clean, blocks_still, always_ok}
-use Rattle.qcow2_alloc.proofs.Outcomes.{on_no_ok}
-use Rattle.qcow2_alloc.proofs.Steps.{fails_on, fails_since}
-use Rattle.qcow2_alloc.proofs.KeptTables.Places.{places_as}
+use Rattle.qcow2_alloc.proofs.Lemmas.{cache_step_then, soundly_then, given_err, tables_as, quiet_then, tables_free, blocks_free, blocks_clean, blocks_still, always_ok, on_no_ok, fails_on, fails_since, places_as}
+use Rattle.qcow2_alloc.proofs.KeptTables.Clean.{blocks_as}
 use Rattle.qcow2_alloc.proofs.cache.MetadataCaches.flush_rb.Goals as goal
 
 pub returns-in-None-clause-sound : goal.returns-in-None-clause-sound

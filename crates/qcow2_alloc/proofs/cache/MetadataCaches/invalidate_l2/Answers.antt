@@ -1,8 +1,5 @@
 use Rattle.qcow2_alloc.proofs.Common.{refl}
-use Rattle.qcow2_alloc.proofs.KeptTables.Off.{left_of, left_err, tables_taken}
-use Rattle.qcow2_alloc.proofs.KeptTables.BehindHeader.{tables_left_behind}
-use Rattle.qcow2_alloc.proofs.KeptTables.ApartOff.{tables_taken_apart}
-use Rattle.qcow2_alloc.proofs.CachePins.{marks_tables}
+use Rattle.qcow2_alloc.proofs.Lemmas.{left_of, left_err, tables_taken, tables_left_behind, tables_taken_apart, marks_tables}
 use Rattle.qcow2_alloc.proofs.cache.MetadataCaches.invalidate_l2.Goals as goal
 
 pub returns-in_err-invalidate-clause-left : goal.returns-in_err-invalidate-clause-left

@@ -1,8 +1,5 @@
 use Rattle.qcow2_alloc.proofs.Common.{refl}
-use Rattle.qcow2_alloc.proofs.KeptTables.Off.{left_of, left_err, blocks_taken}
-use Rattle.qcow2_alloc.proofs.KeptTables.BehindHeader.{blocks_left_behind}
-use Rattle.qcow2_alloc.proofs.KeptTables.ApartOff.{blocks_taken_apart}
-use Rattle.qcow2_alloc.proofs.CachePins.{marks_blocks}
+use Rattle.qcow2_alloc.proofs.Lemmas.{left_of, left_err, blocks_taken, blocks_left_behind, blocks_taken_apart, marks_blocks}
 use Rattle.qcow2_alloc.proofs.cache.MetadataCaches.invalidate_rb.Goals as goal
 
 pub returns-in_err-invalidate-clause-left : goal.returns-in_err-invalidate-clause-left

@@ -1,11 +1,6 @@
 use Rattle.qcow2_alloc.proofs.Common.{inl, inr, refl, ap, ◌∙◌, subst, BlocksMayGo, Direction, IsFault, order, l2_tables}
 use Rattle.qcow2_alloc.specs.declared.cache.Direction.TheVariants as D
-use Rattle.qcow2_alloc.proofs.CacheSteps.{cache_step_none, step_in_turn, step_turned, soundly_none, soundly_turned, differ, l2_not_rb, neither_rb}
-use Rattle.qcow2_alloc.proofs.KeptTables.Causes.{given_err}
-use Rattle.qcow2_alloc.proofs.KeptTables.Quiet.{quiet_none}
-use Rattle.qcow2_alloc.proofs.KeptTables.Switching.{tables_free, may_l2_depend}
-use Rattle.qcow2_alloc.proofs.Outcomes.{on_err, on_no_ok}
-use Rattle.qcow2_alloc.proofs.Steps.{fails_ok, fails_on}
+use Rattle.qcow2_alloc.proofs.Lemmas.{cache_step_none, step_in_turn, step_turned, soundly_none, soundly_turned, differ, l2_not_rb, neither_rb, given_err, quiet_none, tables_free, may_l2_depend, on_err, on_no_ok, fails_ok, fails_on}
 use Rattle.qcow2_alloc.proofs.cache.MetadataCaches.l2_depends_on_rb.Goals.{in-L2DependsOnRb, in-None, in-RbDependsOnL2+in_ok-write_tables-in-RbDependsOnL2}
 use Rattle.qcow2_alloc.proofs.cache.MetadataCaches.l2_depends_on_rb.Goals as goal
 

@@ -1,8 +1,6 @@
 use Rattle.std.proofs.Common.{◌≤◌, ℕ, Option, eqb, refl, subst, arith, IfSome}
 use Rattle.qcow2_alloc.proofs.Common.{L2TableView, entries_of, value_at, SetsTableEntry}
-use Rattle.qcow2_alloc.proofs.CacheSteps.{held_none}
-use Rattle.qcow2_alloc.proofs.ChangedTables.{changed_by, entry_apart, entry_made_so, entry_set, entry_step, entry_there, if_some_then, stays, table_stays_apart}
-use Rattle.qcow2_alloc.proofs.KeptTables.Inserting.{if_some}
+use Rattle.qcow2_alloc.proofs.Lemmas.{held_none, changed_by, entry_apart, entry_made_so, entry_set, entry_step, entry_there, if_some_then, stays, table_stays_apart, if_some}
 use Rattle.qcow2_alloc.proofs.cache.MetadataCaches.l2_discard_cluster.Goals as goal
 
 abbrev Past : ℕ → L2TableView → Type 0

@@ -1,13 +1,6 @@
 use Rattle.qcow2_alloc.proofs.Common.{refl, true, false, inr, Ok, ap, ◌∙◌, eqb, of_cache, byte_at, storage_of, IsInUseOrFault, with_entries, l2_steps}
 use Rattle.qcow2_alloc.proofs.CachedEntries.Hits.{got_at_last, held_in_front}
-use Rattle.qcow2_alloc.proofs.KeptTables.Fetching.{table_got}
-use Rattle.qcow2_alloc.proofs.KeptTables.Causes.{given_err, in_use_as, not_fetched, table_load_refused}
-use Rattle.qcow2_alloc.proofs.KeptTables.Quiet.{quiet_then, next_table, table_got_quietly, table_waits, table_got_same}
-use Rattle.qcow2_alloc.proofs.CachedEntries.Staying.{stays_same, stays_then, values_stay}
-use Rattle.qcow2_alloc.proofs.Outcomes.{never, on_no_ok}
-use Rattle.qcow2_alloc.proofs.Faults.{l2_get_tells}
-use Rattle.qcow2_alloc.proofs.Steps.{fails_ok, fails_on, fails_since}
-use Rattle.qcow2_alloc.proofs.CacheSteps.{load_step_on, load_step_then, soundly_none, soundly_then, fails_cache, l2_got_step, l2_got_soundly}
+use Rattle.qcow2_alloc.proofs.Lemmas.{table_got, given_err, in_use_as, not_fetched, table_load_refused, quiet_then, next_table, table_got_quietly, table_waits, table_got_same, stays_same, stays_then, values_stay, never, on_no_ok, l2_get_tells, fails_ok, fails_on, fails_since, load_step_on, load_step_then, soundly_none, soundly_then, fails_cache, l2_got_step, l2_got_soundly}
 use Rattle.qcow2_alloc.proofs.cache.MetadataCaches.l2_get_or_insert.Goals as goal
 
 pub returns-in_err-branch-clause-step : goal.returns-in_err-branch-clause-step

@@ -1,19 +1,7 @@
 use Rattle.std.proofs.Common.{◌≡◌, ◌+◌, ◌*◌, Bool, true, false, inr, Some, Result, Ok, Err, refl, sym, ap, ◌∙◌, eqb}
 use Rattle.qcow2_alloc.proofs.Common.{cluster_size, of_cache, Bytes, byte_at, storage_of, IsInUseOrFault, with_entries, l2_steps, laid_at}
-use Rattle.qcow2_alloc.proofs.KeptTables.Inserting.{table_put, l2_taken, taken_at_last, if_some}
-use Rattle.qcow2_alloc.proofs.KeptTables.Switching.{stay_then}
+use Rattle.qcow2_alloc.proofs.Lemmas.{table_put, l2_taken, taken_at_last, if_some, stay_then, given_err, in_use_as, not_put, table_put_refused, put_at_last, laid_then, table_kept, table_laid, tables_as, table_put_clean, order_then, table_put_in_order, quiet_none, quiet_then, table_eviction, table_put_quietly, table_put_waits, table_put_same, stays_same, stays_then, values_stay, never, on_no_ok, apart_then, table_kept_apart, table_put_apart, tables_under_then, l2_put_tells, fails_by, fails_ok, fails_on, fails_since, memory_other, cache_step_none, put_step_as, put_step_on, put_step_then, soundly_none, soundly_then, fails_cache, puts_refused, keeps_written, l2_put_step, l2_kept_soundly}
 use Rattle.qcow2_alloc.specs.declared.error.ImageError.TheVariants as I
-use Rattle.qcow2_alloc.proofs.KeptTables.Causes.{given_err, in_use_as, not_put, table_put_refused}
-use Rattle.qcow2_alloc.proofs.KeptTables.Putting.{put_at_last, laid_then, table_kept, table_laid}
-use Rattle.qcow2_alloc.proofs.KeptTables.Clean.{tables_as, table_put_clean}
-use Rattle.qcow2_alloc.proofs.KeptTables.InOrder.{order_then, table_put_in_order}
-use Rattle.qcow2_alloc.proofs.KeptTables.Quiet.{quiet_none, quiet_then, table_eviction, table_put_quietly, table_put_waits, table_put_same}
-use Rattle.qcow2_alloc.proofs.CachedEntries.Staying.{stays_same, stays_then, values_stay}
-use Rattle.qcow2_alloc.proofs.Outcomes.{never, on_no_ok}
-use Rattle.qcow2_alloc.proofs.KeptTables.ApartCalls.{apart_then, table_kept_apart, table_put_apart, tables_under_then}
-use Rattle.qcow2_alloc.proofs.Faults.{l2_put_tells}
-use Rattle.qcow2_alloc.proofs.Steps.{fails_by, fails_ok, fails_on, fails_since, memory_other}
-use Rattle.qcow2_alloc.proofs.CacheSteps.{cache_step_none, put_step_as, put_step_on, put_step_then, soundly_none, soundly_then, fails_cache, puts_refused, keeps_written, l2_put_step, l2_kept_soundly}
 use Rattle.qcow2_alloc.proofs.cache.MetadataCaches.l2_insert.Goals as goal
 
 ok_false : {E : Type 0} {r : Result Bool E} → r ≡ Ok false → r ≡ Ok true → ⊥

@@ -1,9 +1,6 @@
 use Rattle.std.proofs.Common.{◌*◌, ◌^◌, ℕ, Option, eqb, refl, sym, ap, subst, IfSome}
 use Rattle.qcow2_alloc.proofs.Common.{IsHostCluster, L2TableView, copied_entry, value_at, CantMap, SetsTableEntry}
-use Rattle.qcow2_alloc.proofs.CacheSteps.{held_none}
-use Rattle.qcow2_alloc.proofs.ChangedTables.{changed_by, entry_apart, entry_made_so, entry_set, entry_step, entry_there, if_some_then, stays, table_stays_apart}
-use Rattle.qcow2_alloc.proofs.KeptTables.Inserting.{if_some}
-use Rattle.qcow2_alloc.proofs.KeptTables.Mapping.{bits_is}
+use Rattle.qcow2_alloc.proofs.Lemmas.{held_none, changed_by, entry_apart, entry_made_so, entry_set, entry_step, entry_there, if_some_then, stays, table_stays_apart, if_some, bits_is}
 use Rattle.qcow2_alloc.proofs.cache.MetadataCaches.l2_map_cluster.Goals as goal
 
 abbrev Sets : ℕ → ℕ → L2TableView → Option (ℕ × ℕ) → L2TableView → Type 0

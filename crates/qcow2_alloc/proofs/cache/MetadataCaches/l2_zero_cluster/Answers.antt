@@ -1,9 +1,6 @@
 use Rattle.std.proofs.Common.{◌≤◌, if◌then◌else◌, ℕ, Option, None, Bool, eqb, refl, ap, subst, arith, IfSome}
 use Rattle.qcow2_alloc.proofs.Common.{L2Mapping, L2TableView, copied_host, cover_at, entries_of, zero_entry, value_at, SetsTableEntry}
-use Rattle.qcow2_alloc.proofs.CacheSteps.{held_none}
-use Rattle.qcow2_alloc.proofs.ChangedTables.{changed_by, entry_apart, entry_made_so, entry_set, entry_step, entry_there, if_some_then, stays, table_stays_apart}
-use Rattle.qcow2_alloc.proofs.KeptTables.Inserting.{if_some}
-use Rattle.qcow2_alloc.proofs.KeptTables.Mapping.{covers_known}
+use Rattle.qcow2_alloc.proofs.Lemmas.{held_none, changed_by, entry_apart, entry_made_so, entry_set, entry_step, entry_there, if_some_then, stays, table_stays_apart, if_some, covers_known}
 use Rattle.qcow2_alloc.proofs.cache.MetadataCaches.l2_zero_cluster.Goals as goal
 
 abbrev Past : ℕ → L2TableView → Type 0

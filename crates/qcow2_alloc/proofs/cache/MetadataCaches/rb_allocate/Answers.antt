@@ -1,10 +1,6 @@
 use Rattle.std.proofs.Common.{◌≡◌, ◌+◌, ◌<◌, ℕ, Option, eqb, refl, sym, ap, ◌∙◌, subst, arith}
 use Rattle.qcow2_alloc.proofs.Common.{eq-eqb, ne_eqb, IsNone, count, RefBlockView, ChangesCount, count_at, counts_of, value_at, known_of, SetsTableCount}
-use Rattle.qcow2_alloc.proofs.CacheSteps.{held_none}
-use Rattle.qcow2_alloc.proofs.ChangedTables.{block_stays_apart, changed_by, count_after, count_apart, count_set, count_step, count_there, stays}
-use Rattle.qcow2_alloc.proofs.KeptTables.Counting.{count_is, raised}
-use Rattle.qcow2_alloc.proofs.KeptTables.Inserting.{if_some}
-use Rattle.qcow2_alloc.proofs.Outcomes.{never}
+use Rattle.qcow2_alloc.proofs.Lemmas.{held_none, block_stays_apart, changed_by, count_after, count_apart, count_set, count_step, count_there, stays, count_is, raised, if_some, never}
 use Rattle.qcow2_alloc.proofs.cache.MetadataCaches.rb_allocate.Goals as goal
 
 abbrev Refuses : ℕ → RefBlockView → Type 0

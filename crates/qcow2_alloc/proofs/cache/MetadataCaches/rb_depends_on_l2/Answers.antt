@@ -1,12 +1,6 @@
 use Rattle.qcow2_alloc.proofs.Common.{inl, inr, refl, ap, ◌∙◌, subst, TablesMayGo, Direction, IsFault, order, refblocks, byte_at, storage_of}
 use Rattle.qcow2_alloc.specs.declared.cache.Direction.TheVariants as D
-use Rattle.qcow2_alloc.proofs.CacheSteps.{cache_step_none, step_in_turn, step_turned, soundly_none, soundly_turned, differ, rb_not_l2, neither_l2}
-use Rattle.qcow2_alloc.proofs.KeptTables.Causes.{given_err}
-use Rattle.qcow2_alloc.proofs.KeptTables.Quiet.{quiet_none}
-use Rattle.qcow2_alloc.proofs.KeptTables.Switching.{blocks_free, may_rb_depend}
-use Rattle.qcow2_alloc.proofs.Outcomes.{on_err, on_no_ok}
-use Rattle.qcow2_alloc.proofs.Steps.{fails_ok, fails_on}
-use Rattle.qcow2_alloc.proofs.KeptTables.Places.{named_have_places}
+use Rattle.qcow2_alloc.proofs.Lemmas.{cache_step_none, step_in_turn, step_turned, soundly_none, soundly_turned, differ, rb_not_l2, neither_l2, given_err, quiet_none, blocks_free, may_rb_depend, on_err, on_no_ok, fails_ok, fails_on, named_have_places}
 use Rattle.qcow2_alloc.proofs.cache.MetadataCaches.rb_depends_on_l2.Goals.{in-RbDependsOnL2, in-None, in-L2DependsOnRb+in_ok-write_blocks-in-L2DependsOnRb}
 use Rattle.qcow2_alloc.proofs.cache.MetadataCaches.rb_depends_on_l2.Goals as goal
 

@@ -1,16 +1,7 @@
 use Rattle.qcow2_alloc.proofs.Common.{refl, inr, true, false, Ok, ap, sym, ◌∙◌, eqb, rb_steps, of_cache, IsFault, byte_at, storage_of}
-use Rattle.qcow2_alloc.proofs.KeptTables.Fetching.{block_got}
-use Rattle.qcow2_alloc.proofs.CachePins.{marks_blocks, marks_then}
+use Rattle.qcow2_alloc.proofs.Lemmas.{block_got, marks_blocks, marks_then, given_err, block_load_refused, quiet_then, next_block, block_got_quietly, block_waits, block_got_same, stays_same, stays_then, values_stay, never, on_no_ok, rb_get_tells, fails_ok, fails_on, fails_since, load_step_on, load_step_then, soundly_none, soundly_then, fails_cache, rb_got_step, rb_got_soundly, places_as}
 use Rattle.qcow2_alloc.specs.declared.error.ImageError.TheVariants as I
-use Rattle.qcow2_alloc.proofs.KeptTables.Causes.{given_err, block_load_refused}
-use Rattle.qcow2_alloc.proofs.KeptTables.Quiet.{quiet_then, next_block, block_got_quietly, block_waits, block_got_same}
 use Rattle.qcow2_alloc.proofs.CachedEntries.Hits.{got_at_last, got_there, held_in_front}
-use Rattle.qcow2_alloc.proofs.CachedEntries.Staying.{stays_same, stays_then, values_stay}
-use Rattle.qcow2_alloc.proofs.Outcomes.{never, on_no_ok}
-use Rattle.qcow2_alloc.proofs.Faults.{rb_get_tells}
-use Rattle.qcow2_alloc.proofs.Steps.{fails_ok, fails_on, fails_since}
-use Rattle.qcow2_alloc.proofs.CacheSteps.{load_step_on, load_step_then, soundly_none, soundly_then, fails_cache, rb_got_step, rb_got_soundly}
-use Rattle.qcow2_alloc.proofs.KeptTables.Places.{places_as}
 use Rattle.qcow2_alloc.proofs.cache.MetadataCaches.rb_get_or_insert.Goals as goal
 
 pub returns-in_err-branch-clause-step : goal.returns-in_err-branch-clause-step

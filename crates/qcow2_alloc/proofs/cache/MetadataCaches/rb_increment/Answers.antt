@@ -1,10 +1,6 @@
 use Rattle.std.proofs.Common.{◌≡◌, ◌+◌, ◌^◌, ◌<◌, ℕ, Option, zero, suc, pow-suc, eqb, refl, sym, ap, ◌∙◌, subst, arith}
 use Rattle.qcow2_alloc.proofs.Common.{pow_pos, IsNone, RefBlockView, count_at, count_limit, counts_of, value_at, SetsTableCount}
-use Rattle.qcow2_alloc.proofs.CacheSteps.{held_none}
-use Rattle.qcow2_alloc.proofs.ChangedTables.{block_stays_apart, changed_by, count_after, count_apart, count_set, count_step, count_there, stays}
-use Rattle.qcow2_alloc.proofs.KeptTables.Counting.{raised}
-use Rattle.qcow2_alloc.proofs.KeptTables.Inserting.{if_some}
-use Rattle.qcow2_alloc.proofs.Outcomes.{never}
+use Rattle.qcow2_alloc.proofs.Lemmas.{held_none, block_stays_apart, changed_by, count_after, count_apart, count_set, count_step, count_there, stays, raised, if_some, never}
 use Rattle.qcow2_alloc.proofs.cache.MetadataCaches.rb_increment.Goals as goal
 
 -- a count of 0 is none of the greatest

@@ -1,21 +1,7 @@
 use Rattle.std.proofs.Common.{◌≡◌, ◌+◌, ◌*◌, inr, Bool, true, false, Some, Result, Ok, Err, refl, sym, ap, ◌∙◌, eqb}
 use Rattle.qcow2_alloc.proofs.Common.{cluster_size, of_cache, IsFault, Bytes, byte_at, storage_of, laid_at}
-use Rattle.qcow2_alloc.proofs.KeptTables.Inserting.{block_put, rb_taken, taken_at_last, if_some}
-use Rattle.qcow2_alloc.proofs.KeptTables.Switching.{stay_then}
-use Rattle.qcow2_alloc.proofs.CachePins.{marks_blocks, marks_then}
+use Rattle.qcow2_alloc.proofs.Lemmas.{block_put, rb_taken, taken_at_last, if_some, stay_then, marks_blocks, marks_then, given_err, block_put_refused, put_at_last, laid_then, block_kept, block_laid, order_then, block_put_in_order, quiet_none, quiet_then, block_eviction, block_put_quietly, block_put_waits, block_put_same, stays_same, stays_then, values_stay, never, on_no_ok, apart_then, block_kept_apart, block_put_apart, blocks_under_then, rb_put_tells, fails_by, fails_ok, fails_on, fails_since, memory_other, cache_step_none, put_step_as, put_step_on, put_step_then, soundly_none, soundly_then, fails_cache, puts_refused, rb_put_step, rb_kept_soundly, places_as}
 use Rattle.qcow2_alloc.specs.declared.error.ImageError.TheVariants as I
-use Rattle.qcow2_alloc.proofs.KeptTables.Causes.{given_err, block_put_refused}
-use Rattle.qcow2_alloc.proofs.KeptTables.Putting.{put_at_last, laid_then}
-use Rattle.qcow2_alloc.proofs.KeptTables.PuttingBlocks.{block_kept, block_laid}
-use Rattle.qcow2_alloc.proofs.KeptTables.InOrder.{order_then, block_put_in_order}
-use Rattle.qcow2_alloc.proofs.KeptTables.Quiet.{quiet_none, quiet_then, block_eviction, block_put_quietly, block_put_waits, block_put_same}
-use Rattle.qcow2_alloc.proofs.CachedEntries.Staying.{stays_same, stays_then, values_stay}
-use Rattle.qcow2_alloc.proofs.Outcomes.{never, on_no_ok}
-use Rattle.qcow2_alloc.proofs.KeptTables.ApartCalls.{apart_then, block_kept_apart, block_put_apart, blocks_under_then}
-use Rattle.qcow2_alloc.proofs.Faults.{rb_put_tells}
-use Rattle.qcow2_alloc.proofs.Steps.{fails_by, fails_ok, fails_on, fails_since, memory_other}
-use Rattle.qcow2_alloc.proofs.CacheSteps.{cache_step_none, put_step_as, put_step_on, put_step_then, soundly_none, soundly_then, fails_cache, puts_refused, rb_put_step, rb_kept_soundly}
-use Rattle.qcow2_alloc.proofs.KeptTables.Places.{places_as}
 use Rattle.qcow2_alloc.proofs.cache.MetadataCaches.rb_insert.Goals as goal
 
 ok_false : {E : Type 0} {r : Result Bool E} → r ≡ Ok false → r ≡ Ok true → ⊥

@@ -1,12 +1,7 @@
 use Rattle.std.proofs.Common.{◌≡◌, ◌+◌, ◌<◌, ℕ, Option, eqb, refl, ap, ◌∙◌, subst}
 use Rattle.qcow2_alloc.proofs.Common.{IsNone, RefBlockView, ChangesCount, count_at, counts_of, value_at, changed_block, SetsTableCount}
-use Rattle.qcow2_alloc.proofs.CacheSteps.{held_none}
-use Rattle.qcow2_alloc.proofs.ChangedTables.{block_stays_apart, changed_by, count_after, count_apart, count_set, count_step, count_there, stays}
-use Rattle.qcow2_alloc.proofs.KeptTables.Changing.{still_new_data}
-use Rattle.qcow2_alloc.proofs.KeptTables.Counting.{count_is, lowered}
-use Rattle.qcow2_alloc.proofs.KeptTables.Inserting.{if_some}
+use Rattle.qcow2_alloc.proofs.Lemmas.{held_none, block_stays_apart, changed_by, count_after, count_apart, count_set, count_step, count_there, stays, still_new_data, count_is, lowered, if_some, never}
 use Rattle.qcow2_alloc.proofs.Leaks.{one_above, one_less}
-use Rattle.qcow2_alloc.proofs.Outcomes.{never}
 use Rattle.qcow2_alloc.proofs.cache.MetadataCaches.rb_release.Goals as goal
 
 abbrev Refuses : ℕ → RefBlockView → Type 0

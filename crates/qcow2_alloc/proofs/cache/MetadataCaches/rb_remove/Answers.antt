@@ -1,7 +1,5 @@
 use Rattle.qcow2_alloc.proofs.Common.{refl}
-use Rattle.qcow2_alloc.proofs.KeptTables.Off.{removed_others, removed_marks, removed_takes, removed_clean, removed_gone}
-use Rattle.qcow2_alloc.proofs.KeptTables.BehindHeader.{removed_behind}
-use Rattle.qcow2_alloc.proofs.KeptTables.ApartOff.{removed_apart_block}
+use Rattle.qcow2_alloc.proofs.Lemmas.{removed_others, removed_marks, removed_takes, removed_clean, removed_gone, removed_behind, removed_apart_block}
 use Rattle.qcow2_alloc.proofs.cache.MetadataCaches.rb_remove.Goals as goal
 
 pub returns-clause-step : goal.returns-clause-step

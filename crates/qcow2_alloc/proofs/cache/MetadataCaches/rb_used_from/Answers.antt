@@ -1,8 +1,6 @@
 use Rattle.std.proofs.Common.{◌≡◌, ◌+◌, ◌<◌, ℕ, arith, refl, sym, subst, ◌∙◌, eqb}
 use Rattle.qcow2_alloc.proofs.Common.{IsFirstZero, RefBlockView, counts_of, value_at}
-use Rattle.qcow2_alloc.proofs.ChangedTables.{changed_by, if_some_then, stays, unchanged_by}
-use Rattle.qcow2_alloc.proofs.KeptTables.Counting.{count_is}
-use Rattle.qcow2_alloc.proofs.KeptTables.Inserting.{if_some}
+use Rattle.qcow2_alloc.proofs.Lemmas.{changed_by, if_some_then, stays, unchanged_by, count_is, if_some}
 use Rattle.qcow2_alloc.proofs.cache.MetadataCaches.rb_used_from.Goals as goal
 
 abbrev Past : ℕ → RefBlockView → Type 0

@@ -1,13 +1,6 @@
 use Rattle.qcow2_alloc.proofs.Common.{false, Err, inl, refl, ◌∙◌, ap, of_cache, IsFault, IsOfTables, byte_at, storage_of, met_fault_of, RefBlockView, rb_steps}
-use Rattle.qcow2_alloc.proofs.KeptTables.Flushing.{blocks_written}
+use Rattle.qcow2_alloc.proofs.Lemmas.{blocks_written, blocks_flush_refused, clean_as, flush_clean, blocks_quiet, flush_refused, told_as, rb_flush_tells, cache_of_tables, watched_step, watched_soundly, rb_flushed_step, rb_flushed_soundly, fails_ok, fails_of}
 use Rattle.qcow2_alloc.proofs.KeptTables.Held.{blocks_held}
-use Rattle.qcow2_alloc.proofs.KeptTables.Causes.{blocks_flush_refused}
-use Rattle.qcow2_alloc.proofs.KeptTables.Clean.{clean_as, flush_clean}
-use Rattle.qcow2_alloc.proofs.KeptTables.Quiet.{blocks_quiet}
-use Rattle.qcow2_alloc.proofs.Faults.{flush_refused, told_as, rb_flush_tells}
-use Rattle.qcow2_alloc.proofs.TableErrors.{cache_of_tables}
-use Rattle.qcow2_alloc.proofs.CacheSteps.{watched_step, watched_soundly, rb_flushed_step, rb_flushed_soundly}
-use Rattle.qcow2_alloc.proofs.Steps.{fails_ok, fails_of}
 use Rattle.qcow2_alloc.proofs.cache.MetadataCaches.write_blocks.Goals as goal
 
 pub returns-in-Err-clause-step : goal.returns-in-Err-clause-step

@@ -1,12 +1,5 @@
 use Rattle.qcow2_alloc.proofs.Common.{false, Err, inl, refl, ◌∙◌, ℕ, sym, ap, subst, of_cache, IsFault, IsOfTables, byte_at, storage_of, met_fault_of, L2TableView, IsFreeOf, Cache, cached_tables, L2CacheBackend, l2_steps}
-use Rattle.qcow2_alloc.proofs.KeptTables.Flushing.{tables_written}
-use Rattle.qcow2_alloc.proofs.KeptTables.Causes.{tables_flush_refused}
-use Rattle.qcow2_alloc.proofs.KeptTables.Clean.{flush_free}
-use Rattle.qcow2_alloc.proofs.KeptTables.Quiet.{tables_quiet}
-use Rattle.qcow2_alloc.proofs.Faults.{flush_refused, told_as, l2_flush_tells}
-use Rattle.qcow2_alloc.proofs.TableErrors.{cache_of_tables}
-use Rattle.qcow2_alloc.proofs.CacheSteps.{watched_step, watched_soundly, l2_flushed_step, l2_flushed_soundly}
-use Rattle.qcow2_alloc.proofs.Steps.{fails_ok, fails_of}
+use Rattle.qcow2_alloc.proofs.Lemmas.{tables_written, tables_flush_refused, flush_free, tables_quiet, flush_refused, told_as, l2_flush_tells, cache_of_tables, watched_step, watched_soundly, l2_flushed_step, l2_flushed_soundly, fails_ok, fails_of}
 use Rattle.qcow2_alloc.proofs.cache.MetadataCaches.write_tables.Goals as goal
 
 pub returns-in-Err-clause-step : goal.returns-in-Err-clause-step

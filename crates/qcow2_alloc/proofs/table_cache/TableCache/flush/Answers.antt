@@ -1,5 +1,4 @@
-use Rattle.qcow2_alloc.proofs.CachedEntries.Knowing.{all_keeps}
-use Rattle.qcow2_alloc.proofs.CachedEntries.Pins.{all_keep_pins}
+use Rattle.qcow2_alloc.proofs.Lemmas.{all_keeps, all_keep_pins}
 use Rattle.qcow2_alloc.proofs.table_cache.TableCache.flush.Goals as goal
 
 pub returns-in-None-clause-pins : goal.returns-in-None-clause-pins

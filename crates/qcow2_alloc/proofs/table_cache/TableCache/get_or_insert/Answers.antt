@@ -1,6 +1,5 @@
 use Rattle.qcow2_alloc.proofs.Common.{sym, ap, ◌∙◌, marks_in}
-use Rattle.qcow2_alloc.proofs.CachedEntries.Lists.{none_is_none}
-use Rattle.qcow2_alloc.proofs.TableMarks.{kept_same, is_there, is_missing, touched, touched_none}
+use Rattle.qcow2_alloc.proofs.Lemmas.{none_is_none, kept_same, is_there, is_missing, touched, touched_none}
 use Rattle.qcow2_alloc.proofs.table_cache.TableCache.get_or_insert.Goals as goal
 
 pub invariant_of-self : goal.invariant_of-self

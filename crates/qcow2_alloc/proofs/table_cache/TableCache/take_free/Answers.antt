@@ -1,6 +1,5 @@
 use Rattle.qcow2_alloc.proofs.Common.{sym, ap, ◌∙◌, remove_entry, Cache, with_entries, pinned}
-use Rattle.qcow2_alloc.proofs.CachedEntries.Pins.{all_pinned}
-use Rattle.qcow2_alloc.proofs.TableMarks.{next_out, none_out, removed_next, fewer_without, pinned_without}
+use Rattle.qcow2_alloc.proofs.Lemmas.{all_pinned, next_out, none_out, removed_next, fewer_without, pinned_without}
 use Rattle.qcow2_alloc.proofs.table_cache.TableCache.take_free.Goals as goal
 
 pub taking-preserved : goal.taking-preserved

@@ -1,7 +1,6 @@
 use Rattle.std.proofs.Common.{◌≡◌, ◌≢◌, ◌+◌, ◌<◌, ◌≤◌, ◌^◌, ℕ, cond, is_some, length, Some, None, inl, inr, arith, sym, ap, ◌∙◌, subst, IfSome}
 use Rattle.qcow2_alloc.proofs.Common.{cases_eq, same_Some, option_map_or, number_at}
-use Rattle.qcow2_alloc.proofs.Marks.{bit, count_at_most}
-use Rattle.qcow2_alloc.proofs.Uses.{none_marked, unplaced_is, placed_so, numbered_same, room_placed, room_unplaced, found_below}
+use Rattle.qcow2_alloc.proofs.Lemmas.{bit, count_at_most, none_marked, unplaced_is, placed_so, numbered_same, room_placed, room_unplaced, found_below}
 use Rattle.qcow2_alloc.proofs.table_cache.uses.Uses.place.Goals as goal
 
 here : (n : ℕ) → n ≤ n

@@ -1,7 +1,6 @@
 use Rattle.std.proofs.Common.{◌≡◌, ◌≢◌, ◌+◌, ℕ, Some, None, is_some, length, sym, ◌∙◌, subst, IfSome}
 use Rattle.qcow2_alloc.proofs.Common.{lookup, option_map_or, number_at}
-use Rattle.qcow2_alloc.proofs.Marks.{bit}
-use Rattle.qcow2_alloc.proofs.Uses.{removed_numbered, removed_is, room_removed}
+use Rattle.qcow2_alloc.proofs.Lemmas.{bit, removed_numbered, removed_is, room_removed}
 use Rattle.qcow2_alloc.proofs.table_cache.uses.Uses.remove.Goals as goal
 
 pub invariant_of-self : goal.invariant_of-self
