@@ -1,4 +1,5 @@
 pub mod Common
+pub mod Lemmas
 pub mod Images
 pub mod Open
 pub mod Create

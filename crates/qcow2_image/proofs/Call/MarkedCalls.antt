@@ -1,12 +1,8 @@
 -- A call that begins, does one part, and marks a failure.
 use Rattle.std.proofs.Common.{◌≡◌, sym, ap, ◌∙◌, subst, Result}
 use Rattle.qcow2_image.proofs.Common.{BackingView, StorageView, ImageError, CountsImageFaults, SameFaults, ImageStays, IsBegun, IsSameImage, CallStep, ImageStep, ReadingCall, ReadingStep, MarksFailed, KeepingStep, PuttingCall, Qcow2}
-use Rattle.qcow2_image.proofs.Call.BehindHeader.{behind_call}
-use Rattle.qcow2_image.proofs.Call.FaultCounts.{counted_marked}
+use Rattle.qcow2_image.proofs.Lemmas.{behind_call, counted_marked, marks_since, fails_once, reads_call}
 use Rattle.qcow2_image.proofs.Call.ImageSteps.{stays_then}
-use Rattle.qcow2_image.proofs.Call.Marked.{marks_since}
-use Rattle.qcow2_image.proofs.Call.OnceWritten.{fails_once}
-use Rattle.qcow2_image.proofs.Map.Quiet.{reads_call}
 
 module _ {S F : Type 0} {view : S → StorageView} {backing : F → BackingView} {old begun : Qcow2 S F} (begins : IsBegun old begun) (stays : ImageStays old begun) (first : SameFaults view backing old begun)
     {T : Type 0} {last new : Qcow2 S F} (done result : Result T ImageError) (marks : MarksFailed last new done) (rest : new ≡ record last { is_failed = new.is_failed }) (answer : result ≡ done) where

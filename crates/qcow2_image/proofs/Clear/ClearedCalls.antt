@@ -2,12 +2,7 @@
 use Rattle.std.proofs.Common.{◌≡◌, ◌*◌, ◌<◌, ◌≤◌, ◌&&◌, ◌∙◌, inl, inr, ℕ, Bool, true, false, List, Option, Some, None, Result, Ok, Err, refl, sym, ap, subst, arith, IsErr, IsErrAnd, IsTrue, nat_le, nat_lt}
 use Rattle.qcow2_image.proofs.Common.{IfSome, MatchOption, not, option_or, and_left, and_right, cases_lt, cond-false, le-ltb, lt-leb, BackingView, StorageView, Pending, Bytes, cover, cluster_size, HeaderFields, handed_on, known_in, ImageError, InternalCall, ClearsImageCovers, ClearsOrRefuses, ClearsPart, IsClearable, cover_once_cleared, from_in, is_between, needs_zero_entries, refuses_to_clear, rounds_past, to_in, ClearsSoundly, ClearsStep, FailsToClear, CountsImageFaults, IsNotOfStorage, SameFaults, IsSameImage, has_noted_change, is_external, is_failed, is_writable, size_of, ImageInvariant, pending_in, failed_after, passes, refuse_if, InternalStep, ClearMode, Qcow2, Prepared}
 use Rattle.qcow2_alloc.specs.declared.error.ImageError.TheVariants as I
-use Rattle.qcow2_image.proofs.Call.BehindHeader.{behind_none}
-use Rattle.qcow2_image.proofs.Call.Called.{Quietly}
-use Rattle.qcow2_image.proofs.Call.FaultCounts.{counted_ok, fewer_of, untouched}
-use Rattle.qcow2_image.proofs.Call.OnceWritten.{fails_none, part_none}
-use Rattle.qcow2_image.proofs.Clear.ClearCalls.{begins, clear_works, clears_early, clears_nothing, if_some, not_refused, refused_for, ungiven_early, whole_in}
-use Rattle.qcow2_image.proofs.Clear.Touched.{none_answered}
+use Rattle.qcow2_image.proofs.Lemmas.{behind_none, Quietly, counted_ok, fewer_of, untouched, fails_none, part_none, begins, clear_works, clears_early, clears_nothing, if_some, not_refused, refused_for, ungiven_early, whole_in, none_answered}
 
 -- the same image after two parts of a call
 pub same_image_then : {S F : Type 0} {old mid new : Qcow2 S F} → IsSameImage old mid → IsSameImage mid new → IsSameImage old new

@@ -1,11 +1,7 @@
 -- A commit as a call: its clusters are entered, clusters are freed, and the mapping is released.
 use Rattle.std.proofs.Common.{◌≡◌, ◌∷◌, inl, inr, ℕ, Bool, true, false, List, [], refl, sym, ap, ◌∙◌, subst, eqb, Option, Some, None, IsTrue, IsSome, Result, Ok, Err}
 use Rattle.qcow2_image.proofs.Common.{slice_get, slice_set, cases_eq, cond-true, cond-false, eq-eqb, ne_eqb, fun_ext, BackingView, StorageView, Refusal, storage, IsRefusalByFault, IsSame, EffectOnSound, EffectOnFailed, AnsweredEffect, RefusedEffect, with_disk, with_slot, PreparedMapping, given_by_commit, committed, GivenBytes, AbstractImage, Guest, guest_of, meaning_at, works_less, works_then, stops_as, ImageError, Qcow2, Prepared, number_of, is_failed, Discards, refusal_of, CommitsAll, EndsFreeing, EntersAll, ShowsPart, InternalCall, contents_in, known_in, pending_in, abstract_of, meaning, IsReadyWith, ImageInvariant}
-use Rattle.qcow2_image.proofs.Call.Answered.{same_guest}
-use Rattle.qcow2_image.proofs.Call.Called.{Quietly, quiet_same, quiet_sound, quiet_works}
-use Rattle.qcow2_image.proofs.Call.CallOutcomes.{outcome_answered}
-use Rattle.qcow2_image.proofs.Call.Slots.{get_set_same, set_same, set_set}
-use Rattle.qcow2_image.proofs.Images.ClusterMappings.{never_private}
+use Rattle.qcow2_image.proofs.Lemmas.{same_guest, Quietly, quiet_same, quiet_sound, quiet_works, outcome_answered, get_set_same, set_same, set_set, never_private}
 
 -- of an image that isn't sound nothing more is said
 pub refuses_unsound : (v w : AbstractImage) (given : List GivenBytes) (e : Refusal) (still : Type 0) → w.number ≡ v.number → (v.is_sound → ⊥) → (IsTrue v.is_failed → EffectOnFailed v w) → (e ≡ storage → IsTrue w.is_failed) → RefusedEffect v w given [] e still

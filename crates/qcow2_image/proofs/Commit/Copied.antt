@@ -1,10 +1,7 @@
 -- A committed mapping is copied data, each byte at the host offset that the prepare returned.
 use Rattle.std.proofs.Common.{◌≡◌, ◌+◌, ◌/◌, ◌%◌, ◌<◌, ℕ, Bool, true, false, List, Option, Some, None, length, sym, ap, ◌∙◌, subst, arith, IsSome, Ok, Result}
 use Rattle.qcow2_image.proofs.Common.{slice_get, slice_set, BackingView, StorageView, Bytes, HeaderFields, cluster_size, cover, AreDataAt, IsDataAt, ImageError, contents_in, known_in, Qcow2, Prepared, InPlace, CommitsAll, EndsFreeing, EntersAll, IsEntered, InternalCall, cluster_of, host_begin_of, pending_in, IsPending, IsReadyWith, ImageInvariant, ReleasesOneMapping}
-use Rattle.qcow2_image.proofs.Call.Called.{Quietly, quiet_sound}
-use Rattle.qcow2_image.proofs.Call.Slots.{get_set_same}
-use Rattle.qcow2_image.proofs.Images.Moved.{data_moved}
-use Rattle.qcow2_image.proofs.Images.ClusterMappings.{byte_cluster, byte_place, byte_of_mapping}
+use Rattle.qcow2_image.proofs.Lemmas.{Quietly, quiet_sound, get_set_same, data_moved, byte_cluster, byte_place, byte_of_mapping}
 
 -- a byte of a mapping whose clusters are all in place
 module _ (h : HeaderFields) (p : Prepared) (known on_storage : Bytes) where

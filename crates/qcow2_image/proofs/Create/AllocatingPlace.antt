@@ -4,12 +4,7 @@ use Rattle.qcow2_image.proofs.Common.{not, option_or, cases_lt, BackingView, Sto
 use Rattle.image_access.specs.declared.storage.PreallocateMode.TheVariants as Mode
 use Rattle.qcow2_disk.specs.GrownCovers.{FilledCovers}
 use Rattle.qcow2_alloc.specs.declared.error.ImageError.TheVariants as I
-use Rattle.qcow2_image.proofs.Grow.L1Lengths.{fits_grown}
-use Rattle.qcow2_image.proofs.Create.Creating.{format_stored, grown_rest, grown_unwritten, growing_stops, unwritten_as}
-use Rattle.qcow2_image.proofs.Create.NewDisks.{grow_gives_zeros, kept_either, kept_since, kept_zeros, preallocated_none, preallocated_so, starts_unwritten, unwritten_covers, unwritten_uncovered, zeros_new}
-use Rattle.qcow2_image.proofs.Flush.Freeing.{all_listed, beside}
-use Rattle.qcow2_image.proofs.Grow.GrownByParts.{call_since, lasts_then}
-use Rattle.qcow2_image.proofs.Images.Sizes.{sound_is_usable}
+use Rattle.qcow2_image.proofs.Lemmas.{fits_grown, format_stored, grown_rest, grown_unwritten, growing_stops, unwritten_as, grow_gives_zeros, kept_either, kept_since, kept_zeros, preallocated_none, preallocated_so, starts_unwritten, unwritten_covers, unwritten_uncovered, zeros_new, all_listed, beside, call_since, lasts_then, sound_is_usable}
 
 none_below : {F : Type 0} (backing : F → BackingView) {S : Type 0} (view : S → StorageView) (below : Option F) → is_some below ≡ false → backing_bytes view backing below ≡ (λ i. 0)
 none_below backing view None alone = refl

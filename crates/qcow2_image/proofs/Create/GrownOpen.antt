@@ -3,9 +3,7 @@ use Rattle.std.proofs.Common.{◌≡◌, ◌⊎◌, inl, inr, ℕ, List, [], Opt
 use Rattle.qcow2_image.proofs.Common.{option_flatten, BackingView, StorageView, passes_on, byte_at, header, HeaderFields, shows_old, known_in, view_in, ImageError, TablesBehindHeader, HoldsNewDisk, IsCreated, IsNewDisk, IsStopOfCreating, IsUnwritten, OpensGrown, StopsCreating, empty_of, IsHonestBacking, IsKeptSince, IsOpenedFrom, Opens, IsNewlyOpened, OpeningStep, files_missing, IsFaultOrLimit, takes_over, Qcow2CreateBuilder, Qcow2, Qcow2OpenBuilder}
 use Rattle.image_access.specs.declared.storage.PreallocateMode.TheVariants as Mode
 use Rattle.qcow2_alloc.specs.declared.error.ImageError.TheVariants as I
-use Rattle.qcow2_image.proofs.Create.Causes.{usable_opened}
-use Rattle.qcow2_image.proofs.Create.Creating.{opening_stops, opens_unwritten, stops_at_none}
-use Rattle.qcow2_image.proofs.Create.Faults.{grown_refused, unmapped_opened}
+use Rattle.qcow2_image.proofs.Lemmas.{usable_opened, opening_stops, opens_unwritten, stops_at_none, grown_refused, unmapped_opened}
 use Rattle.qcow2_image.proofs.Create.Leaks.{surplus_taken}
 use Rattle.qcow2_image.proofs.Create.AllocatingPlace.{format_mid, known_covers, known_disk, stops_by}
 use Rattle.qcow2_image.proofs.Open.NamedBehind.{lies_if}

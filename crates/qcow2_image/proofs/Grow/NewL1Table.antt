@@ -3,8 +3,7 @@ use Rattle.std.proofs.Common.{◌≡◌, ◌⊎◌, ◌+◌, ◌-◌, ◌*◌, �
 use Rattle.qcow2_image.proofs.Common.{IfSome, cases_lt, BackingView, overwritten, StorageView, Changes, Calls, StorageError, whole_or_nothing, byte_at, one_if, HeaderFields, cluster_size, l1_entry, EntryTableView, entry_count, in_run, entry_at, AreClean, BlocksMayGo, RbDependsOnL2, Pending, SameCovers, SameIn, with_places, with_l1_at, IsUnnamed, overwritten_but, clean_counts, run_has, data_is_written, Allocator, ImageStorage, run_at, view_in, contents_in, known_in, state_in, FileInvariant, storage_of, order_of, l2_tables, refblocks, cluster_aligned, own_cluster, IsFree, covers_written, file_sizes, IsAllocatorOf, Qcow2, Prepared, with_table, clusters_of, IsLongerL1, StandsWhole, InternalStep, ImageInvariant}
 use Rattle.qcow2_metadata.proofs.WrittenTables.{IsL1TableOf-written}
 use Rattle.qcow2_alloc.proofs.FileWrites.{file_step_written, reftable_written}
-use Rattle.qcow2_image.proofs.Open.Reftables.{allocator_moved}
-use Rattle.qcow2_image.proofs.Images.Moving.{file_moved}
+use Rattle.qcow2_image.proofs.Lemmas.{allocator_moved, file_moved}
 
 -- the clusters of a table, as those that its bytes need
 pub same_run : (h : HeaderFields) (t : EntryTableView) (cluster c : ℕ) → t.cluster_bits ≡ h.cluster_bits → in_run h c (cluster * cluster_size h) (length t.bytes) ≡ run_at cluster (clusters_of t) c

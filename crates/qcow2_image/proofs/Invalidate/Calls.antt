@@ -2,10 +2,8 @@
 use Rattle.std.proofs.Common.{◌≡◌, ◌<◌, ◌≤◌, ◌*◌, ℕ, List, inl, inr, Result, Ok, Err, refl, sym, ap, ◌∙◌, subst, IsErrAnd, IsSome, Option}
 use Rattle.qcow2_image.proofs.Common.{IfSome, OnOk, BackingView, StorageView, byte_at, HeaderView, entries_per_cluster, header, with_fields, with_tables_of, HeaderFields, Pending, l2_pins, CachesHaveRoom, IsFault, contents_in, known_in, view_in, HasReftable, l2_at, rb_at, AreAllWritten, MetadataCaches, ImageError, ImageFile, notes_then, is_writable, leaked_in, IsBegun, HasL1Table, ImageInvariant, ImageStep, ArePlacesFor, DropsCached, RespectsPrepared, HoldsNoTable, IsAsStored, IsAtRest, IsReasonAgainstPlaces, IsReasonAgainstReading, IsOfPrepared, IsReasonNotToRead, IsStillInUse, KeepsTables, ReadsAnew, ReadsPlaces, ReplacesTables, reftable_in, HasPinnedTable, IsReasonAgainstTables, ContentsStayThroughout, Qcow2, Prepared}
 use Rattle.qcow2_alloc.specs.declared.error.ImageError.TheVariants as I
-use Rattle.qcow2_image.proofs.Call.BehindHeader.{behind_then}
-use Rattle.qcow2_image.proofs.Call.ImageSteps.{step_then, stays_then}
-use Rattle.qcow2_image.proofs.Invalidate.Reading.{silent_none, silent_then, stays_over}
-use Rattle.qcow2_image.proofs.Invalidate.TakenOver.{kept_then}
+use Rattle.qcow2_image.proofs.Lemmas.{behind_then, step_then, silent_none, silent_then, stays_over, kept_then}
+use Rattle.qcow2_image.proofs.Call.ImageSteps.{stays_then}
 use Rattle.qcow2_image.proofs.Invalidate.Reasons.{l1_fault, places_fault, reftable_fault}
 
 pub on_both : {A E : Type 0} {P Q R : Type 0} (r : Result A E) → (P → Q → R) → OnOk r P → OnOk r Q → OnOk r R

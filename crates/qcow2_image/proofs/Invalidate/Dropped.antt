@@ -4,9 +4,8 @@ use Rattle.qcow2_image.proofs.Common.{cases_Bool, IfSome, OnOk, fun_ext, Backing
 use Rattle.qcow2_alloc.specs.KeptTables.{cached_tables}
 use Rattle.qcow2_alloc.specs.declared.error.ImageError.TheVariants as I
 use Rattle.qcow2_alloc.proofs.CachedEntries.Pins.{pinned_twice}
-use Rattle.qcow2_image.proofs.Call.Called.{keeps_then}
+use Rattle.qcow2_image.proofs.Lemmas.{keeps_then, caches_moved}
 use Rattle.qcow2_image.proofs.Invalidate.Pinned.{held_pinned, some_pinned}
-use Rattle.qcow2_image.proofs.Map.Loading.{caches_moved}
 use Rattle.qcow2_alloc.proofs.KeptTables.Clean.{clean_as}
 
 module _ {S : Type 0} (h : HeaderFields) (p : Pending) (v : StorageView) (caches caches' : MetadataCaches S) (sound : CacheInvariant h p caches (byte_at v.contents))

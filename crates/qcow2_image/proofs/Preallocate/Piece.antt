@@ -4,19 +4,9 @@ use Rattle.std.proofs.Common.{◌≡◌, ◌⊎◌, ◌+◌, ◌-◌, ◌*◌, �
 use Rattle.qcow2_alloc.specs.declared.error.ImageError.TheVariants as I
 use Rattle.qcow2_alloc.specs.ImageError.{IsFault as FaultOfTables}
 use Rattle.qcow2_image.specs.Preallocation.{Touches}
-use Rattle.qcow2_image.proofs.Clear.ClearCalls.{under_after}
-use Rattle.qcow2_image.proofs.Images.Moved.{data_moved}
-use Rattle.qcow2_image.proofs.Call.Slots.{get_set_same, set_set}
+use Rattle.qcow2_image.proofs.Lemmas.{under_after, data_moved, get_set_same, set_set, free_places, boundary, covers_own, index_moved, place_same, reaching_stays, given_broken, filled_shows, filled_sound, filled_works, gone_same, gone_works, none_of, never_two, same_row, may_none, zeros_of, never_private}
 use Rattle.qcow2_image.proofs.Commit.CommitCalls.{all_shown, commit_existing}
 use Rattle.qcow2_image.proofs.Commit.Copied.{stands_entered, stands_released}
-use Rattle.qcow2_image.proofs.Images.Free.{free_places}
-use Rattle.qcow2_image.proofs.Preallocate.Covers.{boundary, covers_own}
-use Rattle.qcow2_image.proofs.Grow.L1Lengths.{index_moved, place_same, reaching_stays}
-use Rattle.qcow2_image.proofs.Preallocate.Filled.{given_broken}
-use Rattle.qcow2_image.proofs.Preallocate.Pieces.{filled_shows, filled_sound, filled_works, gone_same, gone_works, none_of}
-use Rattle.qcow2_image.proofs.Preallocate.NoPreparedEntries.{never_two, same_row}
-use Rattle.qcow2_image.proofs.Preallocate.Zeros.{may_none, zeros_of}
-use Rattle.qcow2_image.proofs.Images.ClusterMappings.{never_private}
 use Rattle.qcow2_image.proofs.Write.Hosted.{hosts_behind_header}
 use Rattle.qcow2_image.proofs.Write.PutParts.{puts_covers, puts_written}
 

@@ -4,12 +4,7 @@ use Rattle.qcow2_image.proofs.Common.{slice_get, slice_get_within, append-nil, l
 use Rattle.qcow2_laws.specs.GuestLaws.{Kept as HostedKept}
 use Rattle.qcow2_laws.proofs.Shown.{shown_zero}
 use Rattle.qcow2_image.proofs.Images.Apart.{same_row}
-use Rattle.qcow2_image.proofs.Call.Answered.{same_guest, same_slot}
-use Rattle.qcow2_image.proofs.Images.Inside.{names_inside}
-use Rattle.qcow2_image.proofs.Map.Loading.{still_moved}
-use Rattle.qcow2_image.proofs.Prepare.InternalWrites.{image_step_kept, there_written, written_or_not}
-use Rattle.qcow2_image.proofs.Images.ClusterMappings.{Standing, in_new, in_kept, over_all_at, private_shared, private_stands, ready_table, mapping_here, mapping_there}
-use Rattle.qcow2_image.proofs.Write.Written.{written, writes, there, since_written, sound_written, same_l1_written}
+use Rattle.qcow2_image.proofs.Lemmas.{same_guest, same_slot, names_inside, still_moved, image_step_kept, there_written, written_or_not, Standing, in_new, in_kept, over_all_at, private_shared, private_stands, ready_table, mapping_here, mapping_there, written, writes, there, since_written, sound_written, same_l1_written}
 
 module _ {S F : Type 0} (view : S → StorageView) (backing : F → BackingView) (out : List (Option Prepared)) (old : Qcow2 S F) (p : Pending) (sound : ImageInvariant view backing p old out) (holds : HoldsAll view backing p out) (offset host : ℕ)
     (is_kept : IsKeptAlone view backing old out offset host) (at : ℕ) (bytes : List ℕ) (fits : at + length bytes ≤ cluster_size old.file.header.fields) (zeros : (i : ℕ) → i < length bytes → byte_at bytes i ≡ 0) where

@@ -1,13 +1,9 @@
 -- A guest cluster whose zero entry keeps a host cluster is prepared there, as the first one of a range or after others.
 use Rattle.std.proofs.Common.{◌≡◌, ◌+◌, ◌-◌, ◌*◌, ◌/◌, ◌%◌, ◌≤◌, ◌∷◌, ◌&&◌, inl, inr, ℕ, Bool, true, false, List, length, [], Option, Some, None, refl, sym, ap, ◌∙◌, subst, arith, IsSome, IsTrue, min}
 use Rattle.qcow2_image.proofs.Common.{slice_get, cases_eq, cond-true, BackingView, StorageView, is_within, HeaderFields, cluster_size, entries_per_cluster, cover, known_byte, greatest_offset, L2Mapping, Data, Zero, Pending, guest_of, table_at, cover_format, size_format, ClustersToFreeEntry, MetadataCaches, l2_pins, l2_at, contents_in, known_in, Qcow2, Prepared, ClusterMapping, Kept, number_of, IsReadied, abstract_of, cluster_of, new_data_in, host_begin_of, is_private, meaning, of_data, of_tables, pending_in, pins_by, place_of, mapping_of_cluster, to_free, IsKeptAt, IsPending, IsReadyWith, ImageInvariant, BeginsInKept, MayGoOn, StandsBehind, HoldsTable, IsFilled, IsKeptAlone, Pins, InternalFillingStep}
-use Rattle.qcow2_image.proofs.Images.Apart.{pins_own}
-use Rattle.qcow2_image.proofs.Call.Slots.{over_all_two}
-use Rattle.qcow2_image.proofs.Prepare.FollowingCluster.{filled_there, host_is, next_cluster, table_is}
+use Rattle.qcow2_image.proofs.Lemmas.{pins_own, over_all_two, filled_there, host_is, next_cluster, table_is, IsNowPending, mapping_at, prepared_by, private_inside, readied, over_all_at, place_in, mapping_here}
 use Rattle.qcow2_image.proofs.Prepare.KeptClusters.{has_none, host_whole}
-use Rattle.qcow2_image.proofs.Prepare.RestOfCluster.{IsNowPending, mapping_at, prepared_by, private_inside, readied}
 use Rattle.qcow2_image.proofs.Prepare.NewCluster.{filled_byte, holds_still}
-use Rattle.qcow2_image.proofs.Images.ClusterMappings.{over_all_at, place_in, mapping_here}
 
 -- there is no cluster mapping after the last one
 get_past : {X : Type 0} (xs : List X) → slice_get xs (length xs) ≡ None

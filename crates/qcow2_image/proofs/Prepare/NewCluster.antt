@@ -1,12 +1,7 @@
 -- A mapping is prepared in a new cluster, or in place.
 use Rattle.std.proofs.Common.{◌≡◌, ◌+◌, ◌-◌, ◌*◌, ◌/◌, ◌%◌, ◌^◌, ◌<◌, ◌∷◌, ◌↔◌, ◌&&◌, inl, inr, ℕ, Bool, true, false, List, [], Option, Some, None, refl, sym, ap, ◌∙◌, subst, arith, IsSome, IsTrue, min, nat_le, nat_lt}
 use Rattle.qcow2_image.proofs.Common.{ImageError, L2Mapping, IsInReach, named_run, IsHostCluster, is_copied_data, slice_get, cases_lt, cond-true, le-leb, lt-ltb, lt-leb, le-ltb, div-mul-add, div-add-mod', mod_below, pow_pos, BackingView, StorageView, is_within, HeaderFields, cluster_size, entries_per_cluster, l1_entry, host_offset, is_copied, cover, known_byte, Data, with_new_data, Pending, table_at, guest_of, cover_format, l1_format, size_format, l2_pins, IsEntryAt, l2_at, contents_in, known_in, Qcow2, Prepared, ClusterMapping, InPlace, New, ClustersToFreeEntry, l1_index_of, l2_index_of, number_of, IsReadied, is_announced, IsFilled, InternalFillingStep, RefusedFillingStep, HoldsAll, HoldsTable, IsGained, InternalStep, Pins, SameHeld, pending_with_listed, run_of, to_free, of_data, of_tables, new_data_in, listed_run, disk_of, pending_in, abstract_of, meaning, is_entered, is_private, cluster_of, host_begin_of, place_of, IsNewAt, IsClusterMappingAt, ImageInvariant}
-use Rattle.qcow2_image.proofs.Images.ClusterMappings.{place_in, private_shared}
-use Rattle.qcow2_image.proofs.Images.Formats.{entry_at_format, l1_shared}
-use Rattle.qcow2_image.proofs.Prepare.FirstCluster.{listed_after_same, still_holds, taken_new_data}
-use Rattle.qcow2_image.proofs.Prepare.InternalWrites.{image_step_kept, image_step_none, image_step_then}
-use Rattle.qcow2_image.proofs.Images.Sound.{free_more}
-use Rattle.qcow2_image.proofs.Prepare.RestOfCluster.{mapping_at, one_mapping, IsNowPending, readied, prepared_by, private_inside}
+use Rattle.qcow2_image.proofs.Lemmas.{place_in, private_shared, entry_at_format, l1_shared, listed_after_same, still_holds, taken_new_data, image_step_kept, image_step_none, image_step_then, free_more, mapping_at, one_mapping, IsNowPending, readied, prepared_by, private_inside}
 
 -- a place within a range, both so many bytes further on
 le_shift : (g a i : ℕ) → nat_le (g + a) (g + i) ≡ nat_le a i

@@ -2,10 +2,8 @@
 use Rattle.std.proofs.Common.{◌≡◌, ℕ, Bool, false, List, [], Option, Some, refl, sym, subst, Result, Ok, Err, IfErr, IsTrue}
 use Rattle.qcow2_image.proofs.Common.{slice_set, BackingView, StorageView, AnsweredEffect, with_slot, IsPrepared, guest_of, ImageError, Qcow2, Prepared, Prepares, number_of, is_failed, has_noted_change, IsExisting, IsReadied, PreparesRange, pending_in, abstract_of, meaning, ImageInvariant}
 use Rattle.qcow2_alloc.specs.declared.error.ImageError.TheVariants as I
-use Rattle.qcow2_image.proofs.Call.Marked.{MayMarkBy}
+use Rattle.qcow2_image.proofs.Lemmas.{MayMarkBy, outcome_answered, refuses_left}
 use Rattle.qcow2_image.proofs.Prepare.Preparing.{readied_existing}
-use Rattle.qcow2_image.proofs.Call.CallOutcomes.{outcome_answered}
-use Rattle.qcow2_image.proofs.Call.Refused.{refuses_left}
 
 module _ {S F : Type 0} (view : S → StorageView) (backing : F → BackingView) (old : Qcow2 S F) (usable : is_failed old ≡ false) where
   -- of nothing an existing mapping is made

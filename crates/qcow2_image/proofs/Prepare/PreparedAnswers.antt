@@ -1,8 +1,8 @@
 -- What a prepare returns: the whole range in place, or a pinned mapping.
 use Rattle.std.proofs.Common.{◌≡◌, ◌⊎◌, ◌∷◌, ◌+◌, ◌-◌, ◌*◌, ◌/◌, ◌%◌, ◌<◌, ◌≤◌, ⊎_elim, inl, inr, List, ℕ, zero, suc, length, [], Bool, true, false, Option, Some, None, refl, sym, ap, ◌∙◌, subst, arith, is_some, Err, IfOk, IsTrue, Ok, Result}
 use Rattle.qcow2_image.proofs.Common.{common_steps, not, slice_get, slice_set, cases_lt, div-add-mod', div-mul-add, mod-mul-add, mod_below, pow_pos, BackingView, StorageView, Bytes, HeaderFields, Data, Zero, cluster_size, entries_per_cluster, rounded_down, rounded_up, with_tables_of, cover, IsDataAt, PreparedMapping, is_copied_data, DriverState, StateInvariant, named-is, own_data_of, Sizes-from, for_tables-top, IsTop-top, rest_of_table, ImageError, contents_in, known_in, state_in, Qcow2, Prepared, ClusterMapping, InPlace, Kept, New, IsExisting, PreparesRange, offset_of, MovesTables, CoversStay, IsAnswered, IsHeldAlone, IsKeptBy, IsTaken, IsWritableAt, BeginsInKept, Reaches, of_data, to_free, new_data_by, cluster_of, host_begin_of, is_entered, is_private, meaning, pending_in, IsPending, IsReadyWith, IsClusterMappingAt, ImageInvariant}
-use Rattle.qcow2_image.proofs.Call.Slots.{get_set_same}
-use Rattle.qcow2_image.proofs.Images.ClusterMappings.{byte_cluster, byte_place, byte_of_mapping, new_data_at, new_data_once, host_cluster, never_private, over_all_at, private_is as private_mapping}
+use Rattle.qcow2_image.proofs.Lemmas.{get_set_same, byte_cluster, byte_place, byte_of_mapping, new_data_at, new_data_once, host_cluster, never_private, over_all_at}
+use Rattle.qcow2_image.proofs.Images.ClusterMappings.{private_is as private_mapping}
 
 -- ---- the mappings of guest clusters stay the same, though tables may have moved
 module _ (h k : HeaderFields) (b c : Bytes) (same : CoversStay h c (with_tables_of h k) b) (offset : ℕ) where

@@ -2,9 +2,7 @@
 use Rattle.std.proofs.Common.{◌≡◌, ⊎_elim, ℕ, Bool, true, false, List, Option, Some, None, refl, sym, ap, ◌∙◌, subst, arith, IsTrue}
 use Rattle.qcow2_image.proofs.Common.{slice_get, slice_set, fun_ext, BackingView, StorageView, with_slot, guest_of, safe_step_none, safe_throughout_none, state_in, view_in, contents_in, known_in, nothing_given, Qcow2, Prepared, ClusterMapping, number_of, IsExisting, IsReadied, new_data_in, new_data_by, pins_by, pins_of, over_all, pending_in, abstract_of, meaning, is_private, IsReady, IsReadyWith, ImageInvariant}
 use Rattle.qcow2_image.proofs.Images.ClusterMappings.{never_private as no_private}
-use Rattle.qcow2_image.proofs.Call.Answered.{same_guest}
-use Rattle.qcow2_image.proofs.Call.Slots.{get_set, over_all_put, slot_set}
-use Rattle.qcow2_image.proofs.Call.Stepped.{Steps, stepped_sound, stepped_works}
+use Rattle.qcow2_image.proofs.Lemmas.{same_guest, get_set, over_all_put, slot_set, Steps, stepped_sound, stepped_works}
 
 module _ {S F : Type 0} (view : S → StorageView) (backing : F → BackingView) (out : List (Option Prepared)) where
   -- ---- a mapping of which nothing is kept

@@ -1,10 +1,7 @@
 -- A range is prepared part by part, and released if a part is refused.
 use Rattle.std.proofs.Common.{◌≡◌, ◌++◌, ◌+◌, ◌-◌, ◌*◌, ◌/◌, ◌%◌, ◌<◌, ◌≤◌, ◌∷◌, ◌==◌, ◌||◌, inl, inr, ℕ, suc, Bool, true, false, List, length, [], Option, Some, None, refl, sym, ap, ◌∙◌, subst, arith, min}
 use Rattle.qcow2_image.proofs.Common.{slice_get, slice_set, vec_capacity, common_steps, div-add-mod', mod-mul-add, mod_below, pow_pos, fun_ext, cases_eq, cases_lt, cond-true, cond-false, eq-eqb, ne_eqb, BackingView, StorageView, HeaderFields, cluster_size, entries_per_cluster, Guest, guest_of, meaning_at, EffectOnSound, with_slot, Disk, rest_of_table, PreparedMapping, IsPrepared, KeepsFormat, works_then, stops_as, contents_in, known_in, state_in, KeepsHeader, header_format, header_then, ImageError, Qcow2, Prepared, ClusterMapping, ImageStays, Discards, IsReadied, RefusedCall, InternalCall, cluster_of, pending_in, abstract_of, meaning, IsPending, IsReadyWith, ImageInvariant, BreaksOff, Ends, HasRoomForRange, IsExtended, IsLongerMapping, IsNext, EndsWithCluster, ReleasesOneMapping, MayGoOn, MovesTables, CoversStay, length_push}
-use Rattle.qcow2_image.proofs.Call.Answered.{same_guest}
-use Rattle.qcow2_image.proofs.Call.Slots.{get_set_same, set_same, set_set}
-use Rattle.qcow2_image.proofs.Images.Moved.{file_step_then, format_file_step, stay_then, format_stay}
-use Rattle.qcow2_image.proofs.Images.Free.{free_places}
+use Rattle.qcow2_image.proofs.Lemmas.{same_guest, get_set_same, set_same, set_set, file_step_then, format_file_step, stay_then, format_stay, free_places}
 use Rattle.qcow2_image.proofs.Prepare.PreparedAnswers.{entries_some, rest_as}
 
 -- ---- slots

@@ -3,13 +3,7 @@ use Rattle.std.proofs.Common.{◌≡◌, ◌⊎◌, ◌-◌, ◌<◌, ◌∷◌,
 use Rattle.qcow2_image.proofs.Common.{cond-false, lt-leb, BackingView, StorageView, EachMomentSince, IsLeftBy, PreallocateMode, passes_if, passes_on, byte_at, HeaderFields, entry_count, cluster_size, header, with_size, Guest, Setting, guest_of, IsRefusalByFault, IsSame, MayGrow, RefusedEffect, EffectOnSound, given_by_grow, with_disk, Disk, GivenBytes, works_less, works_then, stops_as, size_stays_in_calls, ImageError, state_in, view_in, RefusedCall, InternalCall, refusal_of, setting_of, file_sizes, Qcow2, Prepared, l1_index_of, ReachesSize, is_failed, number_of, size_of, has_noted_change, ImageInvariant, abstract_of, disk_of, pending_in, FillsGrown, RefusedGrown, filled_to, all_given_by_growing, GrowsTo, RefusesUnchanged, SetsSize, WritesSize, WritesSizeLast, all_given_by_grow}
 use Rattle.qcow2_alloc.specs.declared.error.ImageError.TheVariants as I
 use Rattle.qcow2_alloc.specs.ImageError.{IsFault as IsFaultOfTables}
-use Rattle.qcow2_image.proofs.Call.Marked.{MayMark, MayMarkBy}
-use Rattle.qcow2_image.proofs.Call.Refused.{refused_then, refuses_left}
-use Rattle.qcow2_image.proofs.Call.CallOutcomes.{is_fault, outcome}
-use Rattle.qcow2_image.proofs.Grow.GrownByParts.{reaches_so}
-use Rattle.qcow2_image.proofs.Images.Sizes.{disk_size}
-use Rattle.qcow2_image.proofs.Resize.Shrinking.{of_fault}
-use Rattle.qcow2_image.proofs.Resize.TailSteps.{works_asking}
+use Rattle.qcow2_image.proofs.Lemmas.{MayMark, MayMarkBy, refused_then, refuses_left, is_fault, outcome, reaches_so, disk_size, of_fault, works_asking}
 
 -- after a part that no guest sees, what is given past the end is the same
 pub given_growing : {S F : Type 0} (view : S → StorageView) (backing : F → BackingView) (out : List (Option Prepared)) (old mid : Qcow2 S F) (size : ℕ) (mode : PreallocateMode) → InternalCall view backing old mid out

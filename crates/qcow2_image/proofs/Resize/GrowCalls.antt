@@ -2,11 +2,8 @@
 use Rattle.std.proofs.Common.{◌≡◌, ◌≤◌, ◌∷◌, inl, inr, ℕ, true, false, [], refl, sym, ap, ◌∙◌, arith, Some, Result, Ok, Err}
 use Rattle.qcow2_image.proofs.Common.{not, cond-true, le-leb, BackingView, StorageView, PreallocateMode, passes_none, guest_of, shows_old, storage, with_disk, grown, works_less, ImageError, view_in, refusal_of, setting_of, Qcow2, is_external, is_failed, is_writable, size_of, abstract_of, disk_of, GrowsLast, GrowsTo, all_given_by_grow, refuses_to_resize}
 use Rattle.qcow2_alloc.specs.declared.error.ImageError.TheVariants as I
-use Rattle.qcow2_image.proofs.Call.Called.{refuses_early, works_none}
-use Rattle.qcow2_image.proofs.Grow.GrownByParts.{call_none}
-use Rattle.qcow2_image.proofs.Images.Sizes.{disk_size}
+use Rattle.qcow2_image.proofs.Lemmas.{refuses_early, works_none, call_none, disk_size, works_asking}
 use Rattle.qcow2_image.proofs.Resize.ShrinkCalls.{none_fails}
-use Rattle.qcow2_image.proofs.Resize.TailSteps.{works_asking}
 
 module _ {S F : Type 0} (view : S → StorageView) (backing : F → BackingView) (old : Qcow2 S F) (size : ℕ) (mode : PreallocateMode) where
   refused_unasked : (e : ImageError) → (refusal_of e ≡ storage → ⊥) → GrowsTo view backing old old size mode (Err e)

@@ -5,13 +5,7 @@ use Rattle.image_access.specs.declared.storage.PreallocateMode.TheVariants as Mo
 use Rattle.qcow2_disk.specs.GrownCovers.{FilledCovers}
 use Rattle.qcow2_alloc.specs.declared.error.ImageError.TheVariants as I
 use Rattle.qcow2_alloc.specs.ImageError.{IsFault as IsFaultOfTables}
-use Rattle.qcow2_image.proofs.Call.Marked.{MayMark}
-use Rattle.qcow2_image.proofs.Call.Refused.{refuses_left}
-use Rattle.qcow2_image.proofs.Preallocate.Covers.{covers_stay, stay_covers}
-use Rattle.qcow2_image.proofs.Preallocate.Filled.{taken_wider}
-use Rattle.qcow2_image.proofs.Preallocate.FilledGrowth.{up_least}
-use Rattle.qcow2_image.proofs.Preallocate.FillSteps.{same_size}
-use Rattle.qcow2_image.proofs.Images.Sizes.{disk_size}
+use Rattle.qcow2_image.proofs.Lemmas.{MayMark, refuses_left, covers_stay, stay_covers, taken_wider, up_least, same_size, disk_size}
 
 -- ---- the mapping of a filled cluster is that of an L1 entry's table
 copied_stands : (v : L2Mapping) → v ≡ Uncovered → is_copied_data v ≡ true → ⊥

@@ -3,9 +3,7 @@ use Rattle.std.proofs.Common.{◌≡◌, ◌⊎◌, ◌<◌, ℕ, arith, inl, in
 use Rattle.qcow2_image.proofs.Common.{BackingView, StorageView, cluster_size, rounded_up, AbstractImage, Setting, EffectOnSound, IsRefusalByFault, IsSame, RefusedEffect, works_then, ImageError, InternalCall, refusal_of, Qcow2, Prepared, HasNothingToFree, is_failed, number_of, size_of, ImageInvariant, abstract_of, pending_in, MarksRefused, failed_after, DiscardsNext, boundary_in}
 use Rattle.qcow2_alloc.specs.declared.error.ImageError.TheVariants as I
 use Rattle.qcow2_alloc.specs.ImageError.{IsFault as IsFaultOfTables}
-use Rattle.qcow2_image.proofs.Call.CallOutcomes.{is_fault, outcome}
-use Rattle.qcow2_image.proofs.Call.Marked.{may_mark_refused}
-use Rattle.qcow2_image.proofs.Resize.Shrinking.{IsDiscardedSoFar, fault_of, marks_nothing}
+use Rattle.qcow2_image.proofs.Lemmas.{is_fault, outcome, may_mark_refused, IsDiscardedSoFar, fault_of, marks_nothing}
 use Rattle.qcow2_image.proofs.Resize.ShrinkSteps.{refuses_giving}
 
 -- what is no fault marks nothing, whatever is recorded

@@ -3,11 +3,7 @@ use Rattle.std.proofs.Common.{◌≡◌, ◌<◌, ◌≤◌, ◌∷◌, inl, inr
 use Rattle.qcow2_image.proofs.Common.{not, option_or, BackingView, StorageView, another, storage, works_less, ImageError, IsFault, refusal_of, Qcow2, is_external, is_failed, is_writable, size_of, abstract_of, disk_of, refuse_if, MayFailShrinking, Shrinks, all_given_by_shrink, all_given_by_shrunk, refuses_to_resize}
 use Rattle.qcow2_alloc.specs.declared.error.ImageError.TheVariants as I
 use Rattle.qcow2_alloc.specs.ImageFile.{l2_pins}
-use Rattle.qcow2_image.proofs.Images.Backings.{some_prepared}
-use Rattle.qcow2_image.proofs.Call.Called.{refuses_early, works_none}
-use Rattle.qcow2_image.proofs.Clear.ClearCalls.{works_if}
-use Rattle.qcow2_image.proofs.Images.Sizes.{disk_size}
-use Rattle.qcow2_image.proofs.Resize.TailSteps.{works_asking}
+use Rattle.qcow2_image.proofs.Lemmas.{some_prepared, refuses_early, works_none, works_if, disk_size, works_asking}
 
 -- none of them is that the storage failed
 pub none_fails : (a b c : Bool) (x : ImageError) → option_or (option_or (refuse_if a I.Failed) (refuse_if b I.Dependency)) (refuse_if c I.ReadOnly) ≡ Some x → refusal_of x ≡ storage → ⊥

@@ -3,10 +3,7 @@ use Rattle.std.proofs.Common.{◌≡◌, ◌⊎◌, ◌+◌, ◌-◌, ◌^◌, �
 use Rattle.qcow2_image.proofs.Common.{IfSome, not, option_or, cases_lt, le-ltb, leb-true, pow_pos, BackingView, StorageView, Value, HeaderFields, cluster_size, entries_per_cluster, rounded_up, AbstractImage, Setting, guest_of, Refusal, RefusedEffect, EffectOnSound, with_disk, Disk, answered, touched_from, touched_to, GivenBytes, IsGiven, works_less, TouchesLess, Sizes-from, ImageError, contents_in, known_in, HasPinnedMapping, refusal_of, Clears, ClearsImageCovers, RefusesClearing, RefusesUngiven, rounds_past, setting_of, Qcow2, Prepared, HasNothingToFree, is_external, is_failed, is_writable, size_of, ImageInvariant, abstract_of, disk_of, pending_in, LacksTable, passes, refuse_if, IsFaultOrCantDiscard, IsTurnEnd, DiscardsNext, DiscardsPart, boundary_in, refuses_to_resize}
 use Rattle.qcow2_alloc.specs.declared.error.ImageError.TheVariants as I
 use Rattle.qcow2_image.specs.declared.discarding.ClearMode.TheVariants.{Uncovered}
-use Rattle.qcow2_image.proofs.Images.Sizes.{disk_size}
-use Rattle.qcow2_image.proofs.Resize.TailSteps.{given_as, given_below, given_is, mono_up, shown_below, to_at_most, touches_before, turn_numbers}
-use Rattle.qcow2_image.proofs.Resize.DiscardedTails.{uncovers_as_many}
-use Rattle.qcow2_image.proofs.Images.UngivenCovers.{touches_less}
+use Rattle.qcow2_image.proofs.Lemmas.{disk_size, given_as, given_below, given_is, mono_up, shown_below, to_at_most, touches_before, turn_numbers, uncovers_as_many, touches_less}
 
 -- a call that gives fewer bytes gives these too
 pub refuses_giving : (v w : AbstractImage) (gs more : List GivenBytes) (e : Refusal) (still : Type 0) → (v.is_sound → (o : ℕ) (x : Value) → IsGiven gs o x → IsGiven more o x) → (v.is_sound → TouchesLess v.setting.cluster_size gs more) → RefusedEffect v w gs [] e still → RefusedEffect v w more [] e still

@@ -5,15 +5,8 @@ use Rattle.image_access.specs.declared.error.StorageError.TheVariants as SE
 use Rattle.qcow2_laws.proofs.Values.{guest_value-same, size_is, value_is}
 use Rattle.qcow2_alloc.specs.declared.error.ImageError.TheVariants as I
 use Rattle.qcow2_alloc.proofs.Numbers.{size_writes}
-use Rattle.qcow2_image.proofs.Call.Answered.{same_guest, same_mapping}
-use Rattle.qcow2_image.proofs.Call.Called.{listed}
-use Rattle.qcow2_image.proofs.Call.Refused.{stays_kept}
-use Rattle.qcow2_image.proofs.Map.Loading.{still_moved}
+use Rattle.qcow2_image.proofs.Lemmas.{same_guest, same_mapping, listed, stays_kept, still_moved, still_ready, private_used, pending_is, all_stay}
 use Rattle.qcow2_image.proofs.Open.HeaderKept.{resized_l1, resized_reftable, placed_named_blocks, placed_sound}
-use Rattle.qcow2_image.proofs.Images.Ready.{still_ready}
-use Rattle.qcow2_image.proofs.Images.ClusterMappings.{private_used}
-use Rattle.qcow2_image.proofs.Images.Sound.{pending_is}
-use Rattle.qcow2_image.proofs.Images.UngivenCovers.{all_stay}
 
 -- ---- what is read with a header of another size
 module _ (h : HeaderFields) (size : ℕ) where

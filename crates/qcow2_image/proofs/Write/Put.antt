@@ -2,14 +2,8 @@
 use Rattle.std.proofs.Common.{◌≡◌, ◌≢◌, ◌+◌, ◌-◌, ◌*◌, ◌/◌, ◌%◌, ◌<◌, ◌≤◌, ◌∷◌, if◌then◌else◌, inl, inr, ℕ, Bool, true, false, List, length, [], refl, sym, ap, ◌∙◌, subst, arith, cond, eqb, Option, Some, None, IsTrue}
 use Rattle.qcow2_image.proofs.Common.{slice_get, option_map_or, cases_lt, cases_eq, cond-true, cond-false, eq-eqb, ne_eqb, div-add-mod', mod_below, pow_pos, slice_get_within, fun_ext, BackingView, overwritten, StorageView, EachMomentSince, IsLeftBy, byte_at, is_within, laid_over, HeaderFields, cluster_size, cover, known_byte, in_cluster, named_by_cover, named_for_tables, Data, Zero, AreDataAt, EffectOnSound, Disk, disk, with_bytes, Pending, names, Hosting, IsHostedAt, IsHeld, IsGivenAt, WritesRun, PreparedMapping, given_by_put, put_mapping, put_disk, guest_of, meaning_at, DriverState, GivenBytes, IsGiven, in_own, laid_inside, laid_outside, kept_aligned, kept_unlaid, in_one, run_written, ImageStorage, storage_of, state_in, view_in, contents_in, known_in, Qcow2, Prepared, ClusterMapping, InPlace, Kept, New, put_guest, new_data_by, pending_in, abstract_of, meaning, is_entered, is_new, is_private, cluster_of, place_of, mapping_of_cluster, backing_bytes, IsReadyWith, ImageInvariant}
 use Rattle.qcow2_laws.specs.GuestLaws.{is_private_hosting as is_hosted_privately}
-use Rattle.qcow2_image.proofs.Images.Inside.{names_inside}
-use Rattle.qcow2_image.proofs.Images.Apart.{apart_guests}
-use Rattle.qcow2_image.proofs.Call.Answered.{same_guest, same_mapping, same_meaning}
-use Rattle.qcow2_image.proofs.Call.Slots.{over_all_two}
-use Rattle.qcow2_image.proofs.Call.Stepped.{Steps, stepped_works, stepped_sound}
-use Rattle.qcow2_image.proofs.Images.ClusterMappings.{Standing, in_new, in_kept, byte_cluster, byte_of_mapping, over_all_at, private_shared, private_stands, ready_table}
+use Rattle.qcow2_image.proofs.Lemmas.{names_inside, apart_guests, same_guest, same_mapping, same_meaning, over_all_two, Steps, stepped_works, stepped_sound, Standing, in_new, in_kept, byte_cluster, byte_of_mapping, over_all_at, private_shared, private_stands, ready_table, written, writes, but, there, steps_written}
 use Rattle.qcow2_image.proofs.Write.Hosted.{all_hosted, hosted_as, hosted_with, hosting_in, hosts_no_table}
-use Rattle.qcow2_image.proofs.Write.Written.{written, writes, but, there, steps_written}
 
 -- what lies over counts alone where it lies
 laid_same : {A : Type 0} (place n : ℕ) (top under under' : ℕ → A) (o : ℕ) → under o ≡ under' o → laid_over place n top under o ≡ laid_over place n top under' o

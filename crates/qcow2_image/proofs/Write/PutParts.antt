@@ -3,12 +3,8 @@ use Rattle.std.proofs.Common.{◌≡◌, ◌+◌, ◌/◌, ◌%◌, ◌≤◌, �
 use Rattle.qcow2_image.proofs.Common.{slice_get, BackingView, overwritten, StorageView, EachMomentSince, IsLeftBy, Bytes, byte_at, laid_over, HeaderFields, cluster_size, cover, L2Mapping, Data, Zero, Compressed, Uncovered, AreDataAt, EffectOnSound, AnsweredEffect, storage, given_by_put, PreparedMapping, put_mapping, put_disk, GivenBytes, Guest, guest_of, meaning_at, run_data, works_less, works_then, ImageError, ImageStorage, storage_of, view_in, known_in, Qcow2, Image, Prepared, raw, kind_at, IsMappedAs, put_guest, IsPut, IsWriteOutcome, PutsPart, ImageInvariant, pending_in, abstract_of, meaning, Puts, all_given_by_put, refusal_of, number_of, is_failed, cases_lt, cases_eq, cond-true, cond-false, eq-eqb, ne_eqb, known_byte, with_bytes, laid_outside, fun_ext}
 use Rattle.qcow2_alloc.specs.declared.error.ImageError.TheVariants as I
 use Rattle.qcow2_image.specs.declared.mapping.MappingKind.TheVariants as Kind
-use Rattle.qcow2_image.proofs.Call.Called.{Quietly, quiet_works, quiet_sound, quiet_same, works_none}
-use Rattle.qcow2_image.proofs.Call.CallOutcomes.{outcome_answered, outcome_refused}
-use Rattle.qcow2_image.proofs.Call.Answered.{same_guest}
+use Rattle.qcow2_image.proofs.Lemmas.{Quietly, quiet_works, quiet_sound, quiet_same, works_none, outcome_answered, outcome_refused, same_guest, MayMarkBy, still_moved}
 use Rattle.qcow2_disk.proofs.RunSteps.{acts_none}
-use Rattle.qcow2_image.proofs.Call.Marked.{MayMarkBy}
-use Rattle.qcow2_image.proofs.Map.Loading.{still_moved}
 use Rattle.qcow2_image.proofs.Write.Put.{put_covers, put_works, put_sound, put_seen}
 
 -- what is mapped in place is contiguous

@@ -2,10 +2,7 @@
 use Rattle.std.proofs.Common.{◌≡◌, ◌+◌, ℕ, Bool, List, [], Option, IsSome, Result, Ok, Err, inl, refl, sym, ap, ◌∙◌, subst}
 use Rattle.qcow2_image.proofs.Common.{BackingView, overwritten, StorageView, passes_none, ImageError, view_in, changes_of, Qcow2, Prepared, IsWriteOutcome, InternalCall, IsBegun, storage_of_image, ImageInvariant, abstract_of, pending_in, PutsOnce, offset_of, table_of, InternalFillingStep, InternalStep, Pending}
 use Rattle.qcow2_alloc.specs.declared.error.ImageError.TheVariants as I
-use Rattle.qcow2_image.proofs.Call.Called.{Quietly, listed}
-use Rattle.qcow2_image.proofs.Call.Refused.{image_step_stays, stays_kept, stays_then}
-use Rattle.qcow2_image.proofs.Prepare.InternalWrites.{image_step_none}
-use Rattle.qcow2_image.proofs.Prepare.FirstCluster.{listed_after_same}
+use Rattle.qcow2_image.proofs.Lemmas.{Quietly, listed, image_step_stays, stays_kept, stays_then, image_step_none, listed_after_same}
 
 -- a call that changes nothing
 pub unseen_none : {S F : Type 0} (view : S → StorageView) (backing : F → BackingView) (image : Qcow2 S F) (out : List (Option Prepared)) → ImageInvariant view backing (pending_in view backing image out) image out → InternalCall view backing image image out

@@ -1,7 +1,6 @@
 use Rattle.qcow2_image.proofs.Common.{sym, subst, arith, of_metadata}
 use Rattle.qcow2_image.proofs.Create.FirstBlocks.{Counts, many_counts, counts_next}
-use Rattle.qcow2_image.proofs.Create.Faults.{memory_fault}
-use Rattle.qcow2_image.proofs.Prepare.LimitCauses.{hands_fault}
+use Rattle.qcow2_image.proofs.Lemmas.{memory_fault, hands_fault}
 use Rattle.qcow2_image.proofs.builder.first_refblock.Goals.{then-index-counts, else-index-counts}
 use Rattle.qcow2_image.proofs.builder.first_refblock.Goals as goal
 

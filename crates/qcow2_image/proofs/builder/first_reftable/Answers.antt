@@ -1,6 +1,5 @@
 use Rattle.qcow2_image.proofs.Common.{arith, of_metadata}
-use Rattle.qcow2_image.proofs.Call.Unlimited.{short_fault}
-use Rattle.qcow2_image.proofs.Prepare.LimitCauses.{hands_fault}
+use Rattle.qcow2_image.proofs.Lemmas.{short_fault, hands_fault}
 use Rattle.qcow2_image.proofs.builder.first_reftable.Goals as goal
 
 pub returns-in_err-reftable-clause-fault : goal.returns-in_err-reftable-clause-fault

@@ -1,11 +1,8 @@
 use Rattle.std.proofs.Common.{◌<◌, [], refl, inl, inr, Err, Ok}
 use Rattle.qcow2_image.proofs.Common.{cases_lt, size_of, view_in, handed_on, Enlarges}
-use Rattle.qcow2_image.proofs.Call.FaultCounts.{counted_on, counted_since, untouched}
-use Rattle.qcow2_image.proofs.Create.Causes.{usable_opened}
-use Rattle.qcow2_image.proofs.Create.Faults.{grown_fault}
+use Rattle.qcow2_image.proofs.Lemmas.{counted_on, counted_since, untouched, usable_opened, grown_fault, faults_or_limit, faults_unlimited, hands_either, hands_limit, unlimited_all}
 use Rattle.qcow2_image.proofs.Create.Leaks.{left_taking, no_leaks_flushed, surplus_taken}
 use Rattle.qcow2_image.proofs.Create.AllocatingPlace.{grown_by, stops_by}
-use Rattle.qcow2_image.proofs.Prepare.LimitCauses.{faults_or_limit, faults_unlimited, hands_either, hands_limit, unlimited_all}
 use Rattle.qcow2_image.proofs.builder.grow_and_flush.Goals as goal
 
 pub returns-in_err-resize_grow-clause-enlarges : goal.returns-in_err-resize_grow-clause-enlarges

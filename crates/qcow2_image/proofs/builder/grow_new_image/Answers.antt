@@ -1,10 +1,7 @@
 use Rattle.std.proofs.Common.{◌≡◌, ◌∙◌, ℕ, ap, subst, sym, true}
 use Rattle.qcow2_image.proofs.Common.{OnOk, byte_at, header, view_in, storage_of, Enlarges, HasNoLeaks}
-use Rattle.qcow2_image.proofs.Create.Causes.{opening_unlimited, told_closed, told_opening, usable_opened}
-use Rattle.qcow2_image.proofs.Create.Faults.{opening_fault, unmapped_opened}
-use Rattle.qcow2_image.proofs.Create.Creating.{flushed_enlarges, opening_stops, opens_unwritten, enlarged_so, unwritten_mid}
+use Rattle.qcow2_image.proofs.Lemmas.{opening_unlimited, told_closed, told_opening, usable_opened, opening_fault, unmapped_opened, flushed_enlarges, opening_stops, opens_unwritten, enlarged_so, unwritten_mid, limits_as, other_limit}
 use Rattle.qcow2_image.proofs.Open.Left.{opened_none}
-use Rattle.qcow2_image.proofs.Prepare.LimitCauses.{limits_as, other_limit}
 use Rattle.qcow2_image.proofs.builder.grow_new_image.Goals as goal
 
 pub returns-then-size-eq0-clause-enlarges : goal.returns-then-size-eq0-clause-enlarges

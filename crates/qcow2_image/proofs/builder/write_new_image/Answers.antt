@@ -1,6 +1,5 @@
 use Rattle.qcow2_image.proofs.Common.{storage_of, handed_on, WritesThree}
-use Rattle.qcow2_image.proofs.Create.ThreeWrites.{stops_cleared, writes_then}
-use Rattle.qcow2_image.proofs.Prepare.LimitCauses.{hands_fault}
+use Rattle.qcow2_image.proofs.Lemmas.{stops_cleared, writes_then, hands_fault}
 use Rattle.qcow2_image.proofs.builder.write_new_image.Goals as goal
 
 pub returns-in_err-clear-clause-fault : goal.returns-in_err-clear-clause-fault

@@ -1,7 +1,6 @@
 use Rattle.std.proofs.Common.{◌≡◌, subst, sym, List, ℕ}
 use Rattle.qcow2_image.proofs.Common.{IsHeaderIn, header_written, of_storage, storage_of, handed_on, WritesThree, fault_of_storage}
-use Rattle.qcow2_image.proofs.Prepare.LimitCauses.{hands_fault}
-use Rattle.qcow2_image.proofs.Create.ThreeWrites.{stops_first, stops_second, stops_third, new_stands, three_there}
+use Rattle.qcow2_image.proofs.Lemmas.{hands_fault, stops_first, stops_second, stops_third, new_stands, three_there}
 use Rattle.qcow2_image.proofs.builder.write_three.Goals as goal
 
 pub returns-in_err-write_new_refblock-clause-writes : goal.returns-in_err-write_new_refblock-clause-writes

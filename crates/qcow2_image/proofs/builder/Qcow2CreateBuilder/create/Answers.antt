@@ -1,9 +1,7 @@
 use Rattle.std.proofs.Common.{◌≡◌, ◌∙◌, Err, Ok, Result, ap, refl, subst, sym, IfErr, IfOk}
 use Rattle.qcow2_image.proofs.Common.{FaultsReported, storage_of, ImageError, IsMade, IsReasonNotToCreate, StopsCreating, IfErr-weaker}
 use Rattle.image_access.specs.declared.storage.PreallocateMode.TheVariants as Mode
-use Rattle.qcow2_image.proofs.Create.Causes.{reasons_made, reasons_of}
-use Rattle.qcow2_image.proofs.Create.Creating.{created_then, creating_stops, grew_then, stops_at_none}
-use Rattle.qcow2_image.proofs.Prepare.LimitCauses.{limits_as}
+use Rattle.qcow2_image.proofs.Lemmas.{reasons_made, reasons_of, created_then, creating_stops, grew_then, stops_at_none, limits_as}
 use Rattle.qcow2_image.proofs.builder.Qcow2CreateBuilder.create.Goals as goal
 
 -- what was answered wasn't refused

@@ -1,8 +1,7 @@
 use Rattle.std.proofs.Common.{◌≡◌, Err, Ok, Result, ap, refl, subst, sym, IfOk}
 use Rattle.qcow2_image.proofs.Common.{passes_none, FaultsReported, storage_of, ImageError, IsMade, StopsCreating, backing_format_in, backing_name_in}
 use Rattle.image_access.specs.declared.storage.PreallocateMode.TheVariants as Mode
-use Rattle.qcow2_image.proofs.Create.Causes.{is_allowed}
-use Rattle.qcow2_image.proofs.Create.Creating.{made_by, new_header_is, three_stops}
+use Rattle.qcow2_image.proofs.Lemmas.{is_allowed, made_by, new_header_is, three_stops}
 use Rattle.qcow2_image.proofs.builder.Qcow2CreateBuilder.make.Goals as goal
 
 same_error : {A : Type 0} {e f : ImageError} → (◌≡◌ {A = Result A ImageError} (Err e) (Err f)) → e ≡ f

@@ -1,12 +1,7 @@
-use Rattle.qcow2_image.proofs.Prepare.LimitCauses.{limits_left, left_taken}
+use Rattle.qcow2_image.proofs.Lemmas.{limits_left, left_taken, lists_grow, leaked_still, takes_data, behind_allocated, limit_alone, met_as}
 use Rattle.std.proofs.Common.{◌≡◌, subst, refl, rules, arith, inl, Some, IfErr}
 use Rattle.qcow2_image.proofs.Common.{InternalFillingStep, pending_with_listed, IfSome, Allocates, pending_then, IsAllocatorOf, notes_of_both, IsUsed, HasNoPlace, IsFaultOr, IsFaultOrLimit}
 use Rattle.qcow2_alloc.specs.declared.clusters_to_free.ClusterKind.TheVariants as Kind
-use Rattle.qcow2_image.proofs.Images.Formats.{lists_grow}
-use Rattle.qcow2_image.proofs.Images.Moving.{leaked_still}
-use Rattle.qcow2_image.proofs.Prepare.FirstCluster.{takes_data}
-use Rattle.qcow2_image.proofs.Call.BehindHeader.{behind_allocated}
-use Rattle.qcow2_image.proofs.Prepare.FailingCopies.{limit_alone, met_as}
 use Rattle.qcow2_image.proofs.image.Qcow2.allocate_data_cluster.Goals as goal
 
 pub returns-clause-step : goal.returns-clause-step

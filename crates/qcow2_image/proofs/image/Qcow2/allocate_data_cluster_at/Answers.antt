@@ -1,12 +1,7 @@
-use Rattle.qcow2_image.proofs.Prepare.LimitCauses.{limits_left, left_taken_at, cause_within}
+use Rattle.qcow2_image.proofs.Lemmas.{limits_left, left_taken_at, cause_within, lists_grow, leaked_still, takes_data_at, behind_allocated, limit_alone, met_as}
 use Rattle.std.proofs.Common.{◌/◌, ◌<◌, ◌^◌, ap, sym, subst, refl, rules, inr, Some}
 use Rattle.qcow2_image.proofs.Common.{InternalFillingStep, pending_with_listed, counts_per_block, HeaderView, IfSome, IsAllocatorOf, notes_of_both, CantCount, IsFaultOr, IsUsed, IsFaultOrLimit}
 use Rattle.qcow2_alloc.proofs.MadeClusters.{none_used}
-use Rattle.qcow2_image.proofs.Images.Formats.{lists_grow}
-use Rattle.qcow2_image.proofs.Images.Moving.{leaked_still}
-use Rattle.qcow2_image.proofs.Prepare.FirstCluster.{takes_data_at}
-use Rattle.qcow2_image.proofs.Call.BehindHeader.{behind_allocated}
-use Rattle.qcow2_image.proofs.Prepare.FailingCopies.{limit_alone, met_as}
 use Rattle.qcow2_image.proofs.image.Qcow2.allocate_data_cluster_at.Goals as goal
 
 pub returns-clause-step : goal.returns-clause-step

@@ -1,9 +1,6 @@
 use Rattle.std.proofs.Common.{◌≡◌, ◌≤◌, ◌%◌, ◌∙◌, ap, arith, refl, subst, sym, IfErr}
 use Rattle.qcow2_image.proofs.Common.{pow_pos, cluster_size, rounded_up, Overflow, FillsOrRefuses, known_in, pending_in, HasCompressedIn, HasNearEntries, MayFailAllocating, HasPinnedMapping}
-use Rattle.qcow2_image.proofs.Preallocate.Filled.{refused_here}
-use Rattle.qcow2_image.proofs.Preallocate.FilledGrowth.{up_to_end, up_whole}
-use Rattle.qcow2_image.proofs.Preallocate.FailingFills.{never_past}
-use Rattle.qcow2_image.proofs.Call.ImageSteps.{step_none}
+use Rattle.qcow2_image.proofs.Lemmas.{refused_here, up_to_end, up_whole, never_past, step_none}
 use Rattle.qcow2_image.proofs.image.Qcow2.allocate_grown.Goals as goal
 
 pub returns-in_default-clause-step : goal.returns-in_default-clause-step

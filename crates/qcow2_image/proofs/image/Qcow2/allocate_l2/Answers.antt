@@ -1,14 +1,7 @@
-use Rattle.qcow2_image.proofs.Call.Unlimited.{looking_unlimited}
+use Rattle.qcow2_image.proofs.Lemmas.{looking_unlimited, leaked_still, none_taken, table_entered, table_refused, keeps_taken, says_still, behind_allocated, behind_then, hands_limit, other_limit, goes_step, limited_left, counted_as, counted_still, same_told, untouched, hands_met, looking_taking}
 use Rattle.std.proofs.Common.{◌<◌, refl, sym, ◌∙◌, subst, inl, inr, ap, arith, rules, Err, Some, false}
 use Rattle.qcow2_image.proofs.Common.{told_of, IfSome, run_at, taken_as, InternalAllocatorGrowth, pending_then, IsAllocatorOf, handed_on, EntersTable, notes_then, notes_of_marks, HeaderView, IsHostCluster, HasNoPlace, IsFaultOr, IsUsed, one_at, with_new_tables, HasPinnedMapping, MayFailAllocating}
 use Rattle.qcow2_image.proofs.image.Qcow2.allocate_l2.Goals as goal
-use Rattle.qcow2_image.proofs.Images.Moving.{leaked_still}
-use Rattle.qcow2_image.proofs.Prepare.UnlinkedL2Table.{none_taken, table_entered, table_refused, keeps_taken, says_still}
-use Rattle.qcow2_image.proofs.Call.BehindHeader.{behind_allocated, behind_then}
-use Rattle.qcow2_image.proofs.Prepare.LimitCauses.{hands_limit, other_limit, goes_step, limited_left}
-use Rattle.qcow2_image.proofs.Call.FaultCounts.{counted_as, counted_still, same_told, untouched}
-use Rattle.qcow2_image.proofs.Prepare.FailingCopies.{hands_met}
-use Rattle.qcow2_image.proofs.Prepare.FailingAllocations.{looking_taking}
 
 pub returns-in-Ok-clause-sound : goal.returns-in-Ok-clause-sound
 returns-in-Ok-clause-sound g c = λ p out sound may says.

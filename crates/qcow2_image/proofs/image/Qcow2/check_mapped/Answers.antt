@@ -1,9 +1,7 @@
 use Rattle.std.proofs.Common.{◌≡◌, ◌≤◌, ◌<◌, IsTrue, true, false, sym, subst, arith, ⊎_elim, inl, inr, refl, rules, Result, is_some}
 use Rattle.qcow2_image.proofs.Common.{IsFoundInImage, IsFoundWhole, IsMappedAs, handed_on, IsCacheHeld, MayFailLookingAgain, cases_lt, IsOfTables, FitsTables, IsHeldAs, size_of}
-use Rattle.qcow2_image.proofs.Map.Looked.{found_after, found_before, found_whole, mapped_as}
+use Rattle.qcow2_image.proofs.Lemmas.{found_after, found_before, found_whole, mapped_as, hands_met, held_whole, heeds_else, same_found}
 use Rattle.qcow2_image.proofs.image.Qcow2.check_mapped.Goals.{else-found-length-via-then-found-length+else-is, else-found-length-via-else-found-length}
-use Rattle.qcow2_image.proofs.Prepare.FailingCopies.{hands_met}
-use Rattle.qcow2_image.proofs.Map.Held.{held_whole, heeds_else, same_found}
 use Rattle.qcow2_image.proofs.image.Qcow2.check_mapped.Goals as goal
 
 pub returns-then-is-clause-sound : goal.returns-then-is-clause-sound

@@ -2,10 +2,7 @@ use Rattle.qcow2_image.proofs.image.Qcow2.clear_between.Goals as goal
 use Rattle.qcow2_image.proofs.Common.{subst, sym, inl, IsTrue, NeedsOverflowingL1Entry, HasPinnedMapping, MayFailAllocating, IsUnderMapping}
 use Rattle.qcow2_image.proofs.Call.Fails.{fails_freed}
 use Rattle.qcow2_image.proofs.Call.FreedBehind.{lacking_freed, refused_freed}
-use Rattle.qcow2_image.proofs.Call.ImageSteps.{step_then}
-use Rattle.qcow2_image.proofs.Call.Refused.{back_then_freed}
-use Rattle.qcow2_image.proofs.Prepare.LimitCauses.{limited_frees}
-use Rattle.qcow2_image.proofs.Prepare.FailingTables.{met_freed}
+use Rattle.qcow2_image.proofs.Lemmas.{step_then, back_then_freed, limited_frees, met_freed}
 
 pub returns-in-Err-clause-step : goal.returns-in-Err-clause-step
 returns-in-Err-clause-step g c = step_then c.clear_in_table.ensures.step c.process_free_list_after.ensures.step

@@ -1,16 +1,7 @@
 use Rattle.qcow2_image.proofs.image.Qcow2.clear_in_table.Goals as goal
 use Rattle.std.proofs.Common.{◌≡◌, ◌<◌, ◌-◌, ◌/◌, ◌%◌, ◌^◌, ◌++◌, ◌+◌, inl, ap, ◌∙◌, subst, arith, sym, inr, refl}
 use Rattle.qcow2_image.proofs.Common.{handed_on, cluster_size, l2_pins, Qcow2, ClearsTable, ReadsAll, ClearsInTable, l2_index_of, ImageFails, MayFailPreparing, notes_then, TablePrepared}
-use Rattle.qcow2_image.proofs.Clear.Between.{clears_between, no_pins, pinned_under, under_pinned}
-use Rattle.qcow2_image.proofs.Images.Backings.{some_prepared}
-use Rattle.qcow2_image.proofs.Call.Notes.{table_kept}
-use Rattle.qcow2_image.proofs.Call.BehindHeader.{behind_by, behind_tables, behind_then}
-use Rattle.qcow2_image.proofs.Prepare.PinnedL2Tables.{found_pins, heeds_refused, met_untaken}
-use Rattle.qcow2_image.proofs.Prepare.LimitCauses.{other_limit}
-use Rattle.qcow2_image.proofs.Call.Unlimited.{fault_unlimited}
-use Rattle.qcow2_image.proofs.Prepare.FailingTables.{reading_fault}
-use Rattle.qcow2_image.proofs.Prepare.FailingAllocations.{taking_as}
-use Rattle.qcow2_image.proofs.Call.FaultCounts.{counted_ok, faults_then, untouched}
+use Rattle.qcow2_image.proofs.Lemmas.{clears_between, no_pins, pinned_under, under_pinned, some_prepared, table_kept, behind_by, behind_tables, behind_then, found_pins, heeds_refused, met_untaken, other_limit, fault_unlimited, reading_fault, taking_as, counted_ok, faults_then, untouched}
 use Rattle.qcow2_image.proofs.Call.Fails.{fails_on}
 use Rattle.qcow2_image.proofs.Clear.ClearedCalls.{counted_other}
 

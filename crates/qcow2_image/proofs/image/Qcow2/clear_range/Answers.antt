@@ -1,20 +1,7 @@
 use Rattle.std.proofs.Common.{◌≡◌, ◌<◌, ◌+◌, ◌-◌, [], ℕ, min, sym, ap, ◌∙◌, subst, arith, inl, refl, Ok, Err, IfErr, IfOk, IsTrue, Result}
 use Rattle.qcow2_image.proofs.Common.{IfLimit, IsLimited, is_changed_of, or_right, Memory, TablePrepared, HasPinnedMapping, IsFaultOrLacksTable, RefusedCall, EndsFreeing, InternalCall, Clears, ClearsOrRefuses, IsUnderMapping, RefusesClearing, from_in, to_in, Qcow2, is_failed, has_noted_change, ImageInvariant, pending_in, NeedsOverflowingL1Entry, HasOwnTable, MayFailPreparing, MarksFailed, FreesRefused, notes_then, handed_on, err_as, RespectsPins, ImageError, MayFailAllocating, ClearsSoundly, ClearsStep, FailsToClear, IsFault}
 use Rattle.qcow2_image.proofs.image.Qcow2.clear_range.Goals as goal
-use Rattle.qcow2_image.proofs.Call.OnceWritten.{answered_counts, counts_begun, fails_marked, fails_once, kept_noted, notes_begun, notes_part, notes_since}
-use Rattle.qcow2_image.proofs.Call.Marked.{refused_since, MayMarkBy, marks_memory, may_mark, may_mark_refused}
-use Rattle.qcow2_image.proofs.Call.CallOutcomes.{is_fault, outcome}
-use Rattle.qcow2_image.proofs.Resize.Shrinking.{fault_of}
-use Rattle.qcow2_image.proofs.Clear.ClearCalls.{clear_interruption, clear_covers, clear_done, clear_refused, fault_interruption, under_after, under_before, ungiven_interruption, ungiven_refused}
-use Rattle.qcow2_image.proofs.Call.FaultCounts.{counted_as, same_of, counted_marked, counted_ok, faults_then, untouched}
-use Rattle.qcow2_image.proofs.Call.Notes.{same_kept}
-use Rattle.qcow2_image.proofs.Clear.Touched.{some_answered}
-use Rattle.qcow2_image.proofs.Call.BehindHeader.{behind_call, behind_then}
-use Rattle.qcow2_image.proofs.Prepare.PinnedL2Tables.{begun_own, heeds_begun, of_tables_untaken}
-use Rattle.qcow2_image.proofs.Prepare.LimitCauses.{other_limit, goes_begun, limited_since}
-use Rattle.qcow2_image.proofs.Call.Unlimited.{fault_unlimited}
-use Rattle.qcow2_image.proofs.Prepare.FailingTables.{far_before}
-use Rattle.qcow2_image.proofs.Prepare.FailingAllocations.{taking_as}
+use Rattle.qcow2_image.proofs.Lemmas.{answered_counts, counts_begun, fails_marked, fails_once, kept_noted, notes_begun, notes_part, notes_since, refused_since, MayMarkBy, marks_memory, may_mark, may_mark_refused, is_fault, outcome, fault_of, clear_interruption, clear_covers, clear_done, clear_refused, fault_interruption, under_after, under_before, ungiven_interruption, ungiven_refused, counted_as, same_of, counted_marked, counted_ok, faults_then, untouched, same_kept, some_answered, behind_call, behind_then, begun_own, heeds_begun, of_tables_untaken, other_limit, goes_begun, limited_since, fault_unlimited, far_before, taking_as}
 use Rattle.qcow2_image.proofs.Clear.ClearedCalls.{begins_clearing, early_fails, early_sound, early_step, idle_fails, idle_sound, idle_step, not_early, parts_cleared, same_image_then}
 use Rattle.qcow2_image.proofs.Call.FailingErrors.{tables_met}
 

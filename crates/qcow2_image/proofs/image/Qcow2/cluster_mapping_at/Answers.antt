@@ -1,11 +1,8 @@
-use Rattle.qcow2_image.proofs.Call.WriteSteps.{taking_none}
-use Rattle.qcow2_image.proofs.Call.Unlimited.{fault_unlimited}
+use Rattle.qcow2_image.proofs.Lemmas.{taking_none, fault_unlimited, hands_limit, other_limit, hands_alone}
 use Rattle.std.proofs.Common.{◌≡◌, ◌⊎◌, ◌≢◌, ◌*◌, ◌/◌, ◌^◌, ◌++◌, ◌∷◌, ◌%◌, rules, [], sym, ap, ◌∙◌, subst, is_some, inl, Ok}
 use Rattle.qcow2_image.proofs.Common.{count, cluster_size, IsHostCluster, IsPastLimits, known_in, UnalignedTable, handed_on, own_cluster, New, GainsAt, ClusterMappingsAt, IsCopiedCompressed}
 use Rattle.qcow2_image.proofs.Prepare.WritableL2Table.{refused as any_refusal}
 use Rattle.qcow2_image.proofs.Prepare.NewCluster.{back_none}
-use Rattle.qcow2_image.proofs.Prepare.LimitCauses.{hands_limit, other_limit}
-use Rattle.qcow2_image.proofs.Prepare.FailingTables.{hands_alone}
 use Rattle.qcow2_image.proofs.image.Qcow2.cluster_mapping_at.Goals as goal
 
 pub returns-in_default-clause-sound : goal.returns-in_default-clause-sound

@@ -1,14 +1,7 @@
-use Rattle.qcow2_image.proofs.Call.WriteSteps.{filling_written, taking_none, taking_of_filling}
+use Rattle.qcow2_image.proofs.Lemmas.{filling_written, taking_none, taking_of_filling, back_refused, listed_after_same, behind_in_place, ends_elsewhere, finds_shared, next_cluster, next_says, hands_limit, limited_taking, limits_as, other_limit, kept_behind, hands_alone, alone_as, guest_fits, next_reads, place_aligned, place_fits}
 use Rattle.std.proofs.Common.{◌≡◌, ◌+◌, ◌-◌, ◌/◌, ◌^◌, ◌%◌, Some, true, false, arith, inl, refl, sym, ap, ◌∙◌, subst, rules}
 use Rattle.qcow2_image.proofs.Common.{cluster_size, Data, Zero, pending_in, l1_index_of, cover, handed_on, known_in, Qcow2, FindsBehind, ClusterMappingsAt, IsFilled, IsKeptAlone, InternalFillingStep, IsCompressed, HasUnannounced, IsCopiedCompressed, IfErr-weaker}
-use Rattle.qcow2_image.proofs.Call.Refused.{back_refused}
-use Rattle.qcow2_image.proofs.Prepare.FirstCluster.{listed_after_same}
 use Rattle.qcow2_image.proofs.Prepare.KeptMappings.{behind_alone, behind_kept}
-use Rattle.qcow2_image.proofs.Prepare.FollowingCluster.{behind_in_place, ends_elsewhere, finds_shared, next_cluster, next_says}
-use Rattle.qcow2_image.proofs.Prepare.LimitCauses.{hands_limit, limited_taking, limits_as, other_limit}
-use Rattle.qcow2_image.proofs.Prepare.FailingCopies.{kept_behind}
-use Rattle.qcow2_image.proofs.Prepare.FailingTables.{hands_alone}
-use Rattle.qcow2_image.proofs.Prepare.FailingRanges.{alone_as, guest_fits, next_reads, place_aligned, place_fits}
 use Rattle.qcow2_image.proofs.image.Qcow2.cluster_mapping_behind.Goals as goal
 
 pub returns-in-Some-copied_offset-clause-step : goal.returns-in-Some-copied_offset-clause-step

@@ -2,12 +2,8 @@ use Rattle.qcow2_image.proofs.image.Qcow2.commit_data_mapping.Goals as goal
 use Rattle.std.proofs.Common.{◌≡◌, ◌++◌, ℕ, inl, inr, [], None, Err, refl, sym, ap, ◌∙◌, subst, rules, Option, false, true, IsTrue, IsSome}
 use Rattle.qcow2_image.proofs.Common.{storage, storage_of, Qcow2, CommitRefused, Commits, refusal_of, is_failed, append-nil, contents_in, known_in, freed_by, IsReadyWith, abstract_of, pending_in, CountsImageFaults, notes_then, rests_none, cases_Bool}
 use Rattle.qcow2_image.specs.declared.prepared.CommitRefused.TheVariants.{Kept}
-use Rattle.qcow2_image.proofs.Call.Marked.{may_mark_refused}
-use Rattle.qcow2_image.proofs.Call.CallOutcomes.{is_fault, outcome}
+use Rattle.qcow2_image.proofs.Lemmas.{may_mark_refused, is_fault, outcome, fewer_of, counted_as, faults_then, once_marked, commit_fails_none, counts_begun, counts_on, counts_released, behind_begun, behind_then}
 use Rattle.qcow2_image.proofs.Commit.CommitCalls.{commit_interruption, commit_break_off, commit_done, commit_existing, commit_kept, refuses_unsound}
-use Rattle.qcow2_image.proofs.Call.FaultCounts.{fewer_of, counted_as, faults_then}
-use Rattle.qcow2_image.proofs.Call.OnceWritten.{once_marked, commit_fails_none, counts_begun, counts_on, counts_released}
-use Rattle.qcow2_image.proofs.Call.BehindHeader.{behind_begun, behind_then}
 use Rattle.qcow2_image.proofs.Commit.Copied.{stands_copied}
 use Rattle.qcow2_image.proofs.image.Qcow2.commit_data_mapping.Goals.{then-entered, else-entered}
 

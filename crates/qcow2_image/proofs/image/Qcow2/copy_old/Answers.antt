@@ -1,10 +1,7 @@
 use Rattle.std.proofs.Common.{◌≡◌, ◌+◌, ◌/◌, ◌≤◌, ℕ, List, length, replicate, refl, sym, ap, ◌∙◌, subst, arith, rules, is_some, inl}
 use Rattle.qcow2_image.proofs.Common.{length-replicate, get_or-replicate, cover, known_byte, cluster_size, HeaderView, Disk, known_in, state_in, found_kind, IsMappedAs, backing_bytes, MayFailReading, IsFault, IfOk-weaker}
 use Rattle.qcow2_image.proofs.Map.Reading.{none_below, zero_shown}
-use Rattle.qcow2_image.proofs.Prepare.InternalWrites.{disk_kept, image_step_data, image_step_kept, image_step_then, own_of, there_written}
-use Rattle.qcow2_image.proofs.Prepare.LimitCauses.{hands_unlimited}
-use Rattle.qcow2_image.proofs.Prepare.FailingCopies.{hands_met, met_as}
-use Rattle.qcow2_image.proofs.Call.WriteSteps.{filling_of_read, filling_then, filling_written}
+use Rattle.qcow2_image.proofs.Lemmas.{disk_kept, image_step_data, image_step_kept, image_step_then, own_of, there_written, hands_unlimited, hands_met, met_as, filling_of_read, filling_then, filling_written}
 use Rattle.qcow2_image.proofs.image.Qcow2.copy_old.Goals as goal
 
 pub returns-in-Zero-clause-image_step : goal.returns-in-Zero-clause-image_step

@@ -1,12 +1,8 @@
-use Rattle.qcow2_image.proofs.Call.OnceWritten.{notes_part, parts_then}
+use Rattle.qcow2_image.proofs.Lemmas.{notes_part, parts_then, counted_as, counted_still, refused_since, fault_of, written_stops, behind_then}
 use Rattle.std.proofs.Common.{◌⊎◌, ◌∙◌, inl, inr, Err, IfErr, Result}
 use Rattle.qcow2_image.proofs.Common.{handed_on, not_both, IsFault, HasNothingToFree, has_noted_change, is_failed, size_of, TurnStep, DiscardsStep}
-use Rattle.qcow2_image.proofs.Call.FaultCounts.{counted_as, counted_still}
-use Rattle.qcow2_image.proofs.Call.Marked.{refused_since}
 use Rattle.qcow2_image.proofs.Clear.ClearedCalls.{same_image_then}
 use Rattle.qcow2_image.proofs.Resize.RefusedSteps.{failed_other, not_marked, turn_ended, turn_still}
-use Rattle.qcow2_image.proofs.Resize.Shrinking.{fault_of, written_stops}
-use Rattle.qcow2_image.proofs.Call.BehindHeader.{behind_then}
 use Rattle.qcow2_image.proofs.image.Qcow2.discard_in_table.Goals as goal
 
 pub returns-in_err-process_free_list_at_end-in-Err-clause-step : goal.returns-in_err-process_free_list_at_end-in-Err-clause-step

@@ -1,15 +1,11 @@
-use Rattle.qcow2_image.proofs.Call.OnceWritten.{call_then, changes_later, notes_begun, part_none}
+use Rattle.qcow2_image.proofs.Lemmas.{call_then, changes_later, notes_begun, part_none, next_so_far, none_so_far, tail_refused, tail_stops, fewer_of, counted_as, faults_then, refused_since, rounded_from, behind_begun, behind_then}
 use Rattle.std.proofs.Common.{◌-◌, ◌∙◌, arith, inl, inr, refl, sym, subst, Some, None, Err, IsTrue}
 use Rattle.qcow2_image.proofs.Common.{not_both, IsFault, pending_in, CountsImageFaults, pow_pos, cluster_size}
 use Rattle.qcow2_image.proofs.Resize.RefusedSteps.{frees_next, not_marked}
-use Rattle.qcow2_image.proofs.Resize.Shrinking.{next_so_far, none_so_far, same_size, tail_refused, tail_stops}
-use Rattle.qcow2_image.proofs.Call.FaultCounts.{fewer_of, counted_as, faults_then}
-use Rattle.qcow2_image.proofs.Call.Marked.{refused_since}
+use Rattle.qcow2_image.proofs.Resize.Shrinking.{same_size}
 use Rattle.qcow2_image.proofs.Clear.ClearedCalls.{same_image_then}
 use Rattle.qcow2_image.proofs.Resize.StepCalls.{some_none}
 use Rattle.qcow2_image.proofs.Resize.CountedSteps.{turns_counted}
-use Rattle.qcow2_image.proofs.Clear.Touched.{rounded_from}
-use Rattle.qcow2_image.proofs.Call.BehindHeader.{behind_begun, behind_then}
 use Rattle.qcow2_image.proofs.image.Qcow2.discard_tail.Goals as goal
 
 pub loop-at-init : goal.loop-at-init

@@ -1,9 +1,6 @@
 use Rattle.qcow2_image.proofs.Common.{Bool, ◌∙◌, List, ℕ, Result, sym, ap, subst, IfErr, IfErr-weaker, byte_at, header, with_tables_of, HeaderFields, contents_in, ImageError, handed_on, is_writable, IsReasonAgainstPlaces, IsReasonAgainstReading, IsReasonAgainstTables, Qcow2, always_ok}
-use Rattle.qcow2_image.proofs.Call.Called.{keeps_then}
-use Rattle.qcow2_image.proofs.Call.FaultCounts.{counted_since, faults_then}
+use Rattle.qcow2_image.proofs.Lemmas.{keeps_then, counted_since, faults_then, same_places, kept_then, on_refused, on_refused_map}
 use Rattle.qcow2_image.proofs.Invalidate.Calls.{anew_then, as_stored, honest_places, anew_dropped, anew_places, kept_dropped, kept_places, none_held_then, on_both, places_for, places_reason, silent_places, tables_reason}
-use Rattle.qcow2_image.proofs.Invalidate.Reading.{same_places}
-use Rattle.qcow2_image.proofs.Invalidate.TakenOver.{kept_then, on_refused, on_refused_map}
 use Rattle.qcow2_image.proofs.image.Qcow2.drop_and_read.Goals as goal
 
 pub returns-in_err-places-clause-why : goal.returns-in_err-places-clause-why

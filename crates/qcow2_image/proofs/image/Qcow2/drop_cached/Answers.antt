@@ -1,6 +1,5 @@
 use Rattle.qcow2_image.proofs.Common.{◌∙◌, List, Option, Result, Some, refl, sym, ap, subst, rules, IfErr, option_map, LeavesPinned, kept_same, EntryTableView, Allocator, ClustersToFreeEntry, ImageError, ImageFile, handed_on, notes_of_marks, notes_then, leaked_by, IsReasonAgainstReading, InternalStep, Qcow2}
-use Rattle.qcow2_image.proofs.Call.BehindHeader.{behind_by, behind_tables, behind_then}
-use Rattle.qcow2_image.proofs.Call.Called.{keeps_then}
+use Rattle.qcow2_image.proofs.Lemmas.{behind_by, behind_tables, behind_then, keeps_then}
 use Rattle.qcow2_image.proofs.Invalidate.Dropped.{anew_moved, behind_dropped, dropped_moved, holds_none, left_none, no_entries, rests_there, unmodified_l2, unmodified_rb, why_blocks, why_left}
 use Rattle.qcow2_image.proofs.image.Qcow2.drop_cached.Goals as goal
 

@@ -1,13 +1,6 @@
-use Rattle.qcow2_image.proofs.Prepare.LimitCauses.{other_limit, hands_limit}
+use Rattle.qcow2_image.proofs.Lemmas.{other_limit, hands_limit, with_caches, refused, keeps_loaded, holds_table, fault_alone, named_place, loads_looking, behind_caches, behind_then, in_use_unlimited, hands_met, looking_taking}
 use Rattle.qcow2_image.proofs.image.Qcow2.ensure_cached_l2.Goals as goal
 use Rattle.qcow2_image.proofs.Common.{ap, inl, ◌∙◌, sym, rules, handed_on, Qcow2, Ensures, pending_with_listed, IfErr, IsFaultOrLacksTable, contents_in, l1_index_of, notes_then, notes_of_both, l2_pins, FindsOwn, HasPinnedMapping, MayFailAllocating}
-use Rattle.qcow2_image.proofs.Map.Loading.{with_caches}
-use Rattle.qcow2_image.proofs.Prepare.WritableL2Table.{refused, keeps_loaded, holds_table}
-use Rattle.qcow2_image.proofs.Prepare.MissingL2Table.{fault_alone, named_place, loads_looking}
-use Rattle.qcow2_image.proofs.Call.BehindHeader.{behind_caches, behind_then}
-use Rattle.qcow2_image.proofs.Call.Unlimited.{in_use_unlimited}
-use Rattle.qcow2_image.proofs.Prepare.FailingCopies.{hands_met}
-use Rattle.qcow2_image.proofs.Prepare.FailingAllocations.{looking_taking}
 
 pub returns-in_err-cluster-clause-own : goal.returns-in_err-cluster-clause-own
 returns-in_err-cluster-clause-own g c = λ own.

@@ -1,11 +1,7 @@
 use Rattle.std.proofs.Common.{◌≡◌, ◌+◌, ◌/◌, ◌^◌, ◌≤◌, max, sym, ap, ◌∙◌, subst, arith, rules, IfErr}
 use Rattle.qcow2_image.proofs.Common.{IsPlacedNear, entry_count, Pending, handed_on, always_ok, l1_index_of, ImageInvariant, pending_in, MakesEntry, IsFaultOrLacksTable}
-use Rattle.qcow2_image.proofs.Call.ImageSteps.{step_none, step_then}
+use Rattle.qcow2_image.proofs.Lemmas.{step_none, step_then, all_listed, beside, freed_then, makes_none, refused_moved, stays_moved, fault_or_lacking, not_within, short_lacking, faults_unlimited, hands_limit, limited_more, limited_unseen, unlimited_all, faults_or_limit, hands_either}
 use Rattle.qcow2_image.proofs.image.Qcow2.ensure_l1_entry.Goals as goal
-use Rattle.qcow2_image.proofs.Flush.Freeing.{all_listed, beside}
-use Rattle.qcow2_image.proofs.Grow.ReplacedL1Table.{freed_then, makes_none, refused_moved, stays_moved}
-use Rattle.qcow2_image.proofs.Prepare.MissingL2Table.{fault_or_lacking, not_within, short_lacking}
-use Rattle.qcow2_image.proofs.Prepare.LimitCauses.{faults_unlimited, hands_limit, limited_more, limited_unseen, unlimited_all, faults_or_limit, hands_either}
 
 pub returns-then-in_bounds-clause-length : goal.returns-then-in_bounds-clause-length
 returns-then-in_bounds-clause-length g c =

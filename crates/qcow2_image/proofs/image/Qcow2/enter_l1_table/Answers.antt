@@ -1,12 +1,8 @@
 use Rattle.std.proofs.Common.{◌≡◌, ◌+◌, refl, ◌∙◌, subst, ap, inl, inr, sym, arith, rules, IsTrue, Some, is_some, max}
 use Rattle.qcow2_image.proofs.Common.{HeaderFields, header_format, l1_index_of, entries_reaching, l1_clusters, told_of, never, on_no_ok, on_ok, IfSome, pending_then, IsAllocatorOf, handed_on, AllocatesTable, notes_then, notes_of_marks, entry_count}
 use Rattle.qcow2_image.proofs.image.Qcow2.enter_l1_table.Goals as goal
-use Rattle.qcow2_image.proofs.Images.Moving.{leaked_still}
-use Rattle.qcow2_image.proofs.Grow.ReplacedL1Table.{none_taken_for_table, refused_none, table_named_blocks, keeps_taken, longer_taken}
-use Rattle.qcow2_image.proofs.Call.BehindHeader.{behind_allocated, behind_then}
-use Rattle.qcow2_image.proofs.Prepare.LimitCauses.{faults_or_limit, faults_unlimited, hands_either, hands_limit, placed_near, table_clusters, unlimited_all, limited_left}
-use Rattle.qcow2_image.proofs.Call.FaultCounts.{counted_since, same_told}
-use Rattle.qcow2_image.proofs.Call.ImageSteps.{step_none, step_where}
+use Rattle.qcow2_image.proofs.Lemmas.{leaked_still, none_taken_for_table, refused_none, table_named_blocks, longer_taken, behind_allocated, behind_then, faults_or_limit, faults_unlimited, hands_either, hands_limit, placed_near, table_clusters, unlimited_all, limited_left, counted_since, same_told, step_none, step_where}
+use Rattle.qcow2_image.proofs.Grow.ReplacedL1Table.{keeps_taken}
 
 pub returns-in_err-pending-clause-recorded : goal.returns-in_err-pending-clause-recorded
 returns-in_err-pending-clause-recorded g c = on_no_ok _ c.from_residual.result c.in_err-pending.field-0.0 c.from_residual.ensures

@@ -1,8 +1,7 @@
 use Rattle.std.proofs.Common.{◌≡◌, ◌+◌, length, sym, ap, subst, arith, rules}
 use Rattle.qcow2_image.proofs.Common.{Qcow2}
-use Rattle.qcow2_image.proofs.Images.ClusterMappings.{freed_none}
-use Rattle.qcow2_image.proofs.Commit.Entered.{EntersFirst, entered_whole, enters_all, first_false, first_none, first_true}
-use Rattle.qcow2_image.proofs.Call.FaultCounts.{untouched}
+use Rattle.qcow2_image.proofs.Lemmas.{freed_none, EntersFirst, entered_whole, enters_all, first_false, first_true, untouched}
+use Rattle.qcow2_image.proofs.Commit.Entered.{first_none}
 use Rattle.qcow2_image.proofs.image.Qcow2.enter_mappings.Goals.{then-enter_mapping, else-enter_mapping}
 use Rattle.qcow2_image.proofs.image.Qcow2.enter_mappings.Goals as goal
 

@@ -1,10 +1,7 @@
-use Rattle.qcow2_image.proofs.Call.Unlimited.{fault_unlimited}
+use Rattle.qcow2_image.proofs.Lemmas.{fault_unlimited, early_refused, grown_none, grown_or_refused, step_none, hands_met}
 use Rattle.std.proofs.Common.{◌<◌, inl, inr, ap, refl, subst, sym, arith, IfErr, Result}
 use Rattle.qcow2_image.proofs.Common.{shows_old, handed_on, cluster_size, rounded_up, FillsGrownOrRefuses, cases_lt, known_in, MayFailGrowing, PreallocateMode, IfErr-weaker}
 use Rattle.qcow2_image.specs.Preallocation.{first_zeros}
-use Rattle.qcow2_image.proofs.Preallocate.FilledGrowth.{early_refused, grown_none, grown_or_refused}
-use Rattle.qcow2_image.proofs.Call.ImageSteps.{step_none}
-use Rattle.qcow2_image.proofs.Prepare.FailingCopies.{hands_met}
 use Rattle.qcow2_image.proofs.image.Qcow2.fill_behind.Goals as goal
 
 pub returns-in-None-clause-step : goal.returns-in-None-clause-step

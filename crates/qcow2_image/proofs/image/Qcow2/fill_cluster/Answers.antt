@@ -1,10 +1,8 @@
 use Rattle.std.proofs.Common.{◌≡◌, ◌+◌, ◌-◌, ◌*◌, ◌/◌, ◌%◌, ◌^◌, ◌<◌, ◌⊎◌, ◌≤◌, ℕ, sym, ap, ◌∙◌, arith, is_some, inl, inr, rules}
 use Rattle.qcow2_image.proofs.Common.{div-mul-add, div-add-mod', cluster_size, contents_in, known_in, IsMappedAs, disk_of, cover, known_byte, kind_at, IsFault, IsCopiedCompressed, MayFailReading, IfOk-weaker}
 use Rattle.qcow2_image.proofs.Prepare.CopiedBytes.{none_has, some_has}
-use Rattle.qcow2_image.proofs.Prepare.InternalWrites.{alike_within, image_step_none}
-use Rattle.qcow2_image.proofs.Prepare.FailingCopies.{behind_start, met_as, reading_met, told_sum, within_cluster}
+use Rattle.qcow2_image.proofs.Lemmas.{alike_within, image_step_none, behind_start, met_as, reading_met, told_sum, within_cluster, filling_none}
 use Rattle.qcow2_alloc.specs.declared.error.ImageError.TheVariants as I
-use Rattle.qcow2_image.proofs.Call.WriteSteps.{filling_none}
 use Rattle.qcow2_image.proofs.image.Qcow2.fill_cluster.Goals as goal
 
 pub returns-in_default-checked_add-clause-sound : goal.returns-in_default-checked_add-clause-sound

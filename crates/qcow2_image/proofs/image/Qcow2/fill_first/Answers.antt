@@ -1,18 +1,9 @@
-use Rattle.qcow2_image.proofs.Call.ImageSteps.{step_then, step_none}
+use Rattle.qcow2_image.proofs.Lemmas.{step_then, step_none, works_none, all_listed, beside, freed_refused, tidy_stays, free_places, fill_unseen, fills_none, fills_refused, fills_stays, met_taken, refused_after, taken_here, counted_as, counted_of, counted_still, fault_unlimited, goes_step, limited_giving, limited_upto, other_limit, met_piece, hands_met}
 use Rattle.qcow2_image.proofs.image.Qcow2.fill_first.Goals as goal
 use Rattle.std.proofs.Common.{◌≡◌, ◌+◌, ◌^◌, ◌≤◌, ◌<◌, ◌∷◌, Err, ◌∙◌, [], None, true, inl, min, refl, sym, ap, subst, arith, rules, inr}
 use Rattle.qcow2_image.proofs.Common.{Pending, handed_on, ImageInvariant, abstract_of, pending_in, FillsFirst, FillsPart, given_by_zeros, CountsImageFaults, IsFault, known_in, ImageError, HasCompressedIn, MayFailAllocating, HasPinnedMapping}
-use Rattle.qcow2_image.proofs.Call.Called.{works_none}
-use Rattle.qcow2_image.proofs.Flush.Freeing.{all_listed, beside, freed_refused, tidy_stays}
-use Rattle.qcow2_image.proofs.Images.Free.{free_places}
-use Rattle.qcow2_image.proofs.Preallocate.Filled.{fill_unseen, fills_none, fills_refused, fills_stays, met_taken, refused_after, taken_here}
 use Rattle.qcow2_image.proofs.Preallocate.Piece.{all_behind, all_filled, all_fits, all_next, all_put, all_within, piece_gone, sound_now}
-use Rattle.qcow2_image.proofs.Call.FaultCounts.{counted_as, counted_of, counted_still}
 use Rattle.qcow2_image.proofs.Call.FailingErrors.{tables_met}
-use Rattle.qcow2_image.proofs.Call.Unlimited.{fault_unlimited}
-use Rattle.qcow2_image.proofs.Prepare.LimitCauses.{goes_step, limited_giving, limited_upto, other_limit}
-use Rattle.qcow2_image.proofs.Preallocate.FailingFills.{met_piece}
-use Rattle.qcow2_image.proofs.Prepare.FailingCopies.{hands_met}
 
 pub returns-in-Err-clause-step : goal.returns-in-Err-clause-step
 returns-in-Err-clause-step g c = step_then (step_then (step_then c.prepare.ensures.step c.put_zeros.ensures.step) c.release_prepared.ensures.step) c.process_free_list_after.ensures.step

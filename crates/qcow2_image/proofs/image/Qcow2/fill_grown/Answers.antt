@@ -1,11 +1,8 @@
-use Rattle.qcow2_image.proofs.Prepare.LimitCauses.{other_limit}
-use Rattle.qcow2_image.proofs.Call.Unlimited.{fault_unlimited}
-use Rattle.qcow2_image.proofs.Call.ImageSteps.{step_then}
+use Rattle.qcow2_image.proofs.Lemmas.{other_limit, fault_unlimited, step_then, met_filling_freed}
 use Rattle.qcow2_image.proofs.image.Qcow2.fill_grown.Goals as goal
 use Rattle.qcow2_image.proofs.Common.{◌∙◌, ap, subst, sym, Err, inl, inr, IsTrue, Version, cluster_size, rounded_up, Qcow2, known_in}
 use Rattle.qcow2_image.proofs.Call.Fails.{fails_freed}
 use Rattle.qcow2_image.proofs.Preallocate.FreedBehind.{grown_freed, grown_left, grown_told, same_refusal}
-use Rattle.qcow2_image.proofs.Preallocate.FailingFills.{met_filling_freed}
 
 pub returns-in-Err-clause-version : goal.returns-in-Err-clause-version
 returns-in-Err-clause-version g c = λ none zero low.

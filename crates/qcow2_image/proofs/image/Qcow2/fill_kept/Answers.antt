@@ -1,8 +1,7 @@
 use Rattle.std.proofs.Common.{◌-◌, arith}
 use Rattle.qcow2_image.proofs.Prepare.CopiedBytes.{none_has, some_has}
-use Rattle.qcow2_image.proofs.Prepare.InternalWrites.{image_step_none}
+use Rattle.qcow2_image.proofs.Lemmas.{image_step_none, step_none}
 use Rattle.qcow2_image.proofs.Prepare.KeptClusters.{filled_by_none, filled_with_zeros, image_step_filled}
-use Rattle.qcow2_image.proofs.Call.ImageSteps.{step_none}
 use Rattle.qcow2_image.proofs.image.Qcow2.fill_kept.Goals as goal
 
 pub returns-in-None-clause-image_step : goal.returns-in-None-clause-image_step

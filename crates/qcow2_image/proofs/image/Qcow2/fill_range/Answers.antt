@@ -1,10 +1,6 @@
 use Rattle.std.proofs.Common.{◌≡◌, refl, subst, arith, rules}
 use Rattle.qcow2_image.proofs.Common.{notes_none, notes_then, handed_on, FillsOrRefuses, FillsPart, known_in, HasCompressedIn, MayFailAllocating, HasPinnedMapping}
-use Rattle.qcow2_image.proofs.Preallocate.FillSteps.{filled_first, filled_next, filled_refused, still_at}
-use Rattle.qcow2_image.proofs.Call.FaultCounts.{counted_ok, counted_on, faults_then, untouched}
-use Rattle.qcow2_image.proofs.Call.BehindHeader.{behind_none, behind_then}
-use Rattle.qcow2_image.proofs.Preallocate.FailingFills.{met_before, near_behind}
-use Rattle.qcow2_image.proofs.Prepare.FailingCopies.{hands_met}
+use Rattle.qcow2_image.proofs.Lemmas.{filled_first, filled_next, filled_refused, still_at, counted_ok, counted_on, faults_then, untouched, behind_none, behind_then, met_before, near_behind, hands_met}
 use Rattle.qcow2_image.proofs.image.Qcow2.fill_range.Goals as goal
 
 pub loop-at-init : goal.loop-at-init

@@ -1,12 +1,5 @@
 use Rattle.qcow2_image.proofs.Common.{false, [], sym, ◌∙◌, subst, ap, rules, Result, IfErr, Pending, with_listed, FlushesImage, Qcow2, is_failed, ImageInvariant, pending_in, IsFault, IsOfTables}
-use Rattle.qcow2_image.proofs.Grow.GrownByParts.{written_back}
-use Rattle.qcow2_image.proofs.Flush.Freeing.{all_listed, beside, flushes_with_outcome, frees_on}
-use Rattle.qcow2_image.proofs.Call.FaultCounts.{counted_marked}
-use Rattle.qcow2_image.proofs.Call.Marked.{marks_memory, may_mark}
-use Rattle.qcow2_image.proofs.Call.OnceWritten.{fails_none, fails_once}
-use Rattle.qcow2_image.proofs.Call.BehindHeader.{behind_call}
-use Rattle.qcow2_image.proofs.Call.Called.{quiet_sound}
-use Rattle.qcow2_image.proofs.Map.Quiet.{reads_call}
+use Rattle.qcow2_image.proofs.Lemmas.{written_back, all_listed, beside, flushes_with_outcome, frees_on, counted_marked, marks_memory, may_mark, fails_none, fails_once, behind_call, quiet_sound, reads_call}
 use Rattle.qcow2_image.proofs.image.Qcow2.flush.Goals as goal
 
 pub returns-clause-sees : goal.returns-clause-sees

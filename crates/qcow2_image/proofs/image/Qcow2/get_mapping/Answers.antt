@@ -1,16 +1,8 @@
 use Rattle.std.proofs.Common.{◌≡◌, ◌<◌, [], sym, ap, ◌∙◌, subst, IfOk, is_some, rules, Err, IfErr, None, Some}
 use Rattle.qcow2_image.proofs.Common.{AnsweredEffect, RefusedEffect, IsSame, guest_of, Qcow2, IsFoundIn, known_header, known_in, state_in, IsFoundInImage, found_kind, is_failed, size_of, abstract_of, pending_in, refusal_of, FailsOnceWritten, handed_on, err_as, Memory, IsCacheHeld, MayFailLooking, unusable, IsHeldRun}
 use Rattle.qcow2_disk.specs.Found.{IsFound as IsFoundOf}
-use Rattle.qcow2_image.proofs.Call.Marked.{MayMarkBy, may_mark}
+use Rattle.qcow2_image.proofs.Lemmas.{MayMarkBy, may_mark, quietly_then, quiet_does, quiet_refuses, answered_once, fails_none, fails_once, behind_call, held_since, hands_met, sound_is_usable, refused_for, reads_call}
 use Rattle.qcow2_image.proofs.Call.Answers.{answers_err, usable_works}
-use Rattle.qcow2_image.proofs.Call.Called.{quietly_then, quiet_does, quiet_refuses}
-use Rattle.qcow2_image.proofs.Call.OnceWritten.{answered_once, fails_none, fails_once}
-use Rattle.qcow2_image.proofs.Call.BehindHeader.{behind_call}
-use Rattle.qcow2_image.proofs.Map.FailingLookups.{held_since}
-use Rattle.qcow2_image.proofs.Prepare.FailingCopies.{hands_met}
-use Rattle.qcow2_image.proofs.Images.Sizes.{sound_is_usable}
-use Rattle.qcow2_image.proofs.Clear.ClearCalls.{refused_for}
-use Rattle.qcow2_image.proofs.Map.Quiet.{reads_call}
 use Rattle.qcow2_image.proofs.image.Qcow2.get_mapping.Goals as goal
 
 pub returns-clause-sound : goal.returns-clause-sound

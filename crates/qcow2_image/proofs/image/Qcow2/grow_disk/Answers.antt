@@ -1,31 +1,14 @@
 use Rattle.std.proofs.Common.{◌∷◌, ◌≡◌, ◌+◌, ◌-◌, ◌<◌, ◌⊎◌, [], inl, inr, ◌∙◌, max, sym, ap, subst, arith, refl, rules, Err, IfErr, IsTrue, Ok, Result}
 use Rattle.qcow2_image.proofs.Common.{GoesTo, IfLimit, IsLimited, or_right, ImageFile, has_noted, known_in, notes_then, OnOk, HeaderFields, entry_count, with_size, cluster_size, rounded_up, Memory, Version, IsFault, is_changed_of, InternalCall, Qcow2, l1_index_of, Lasts, LastsCall, ReachesSize, HasNothingToFree, is_failed, size_of, with_marks, has_noted_change, ImageInvariant, pending_in, MakesEntry, ReachesOffset, IsPlacedNear, FillsGrown, FillsGrownOrRefuses, FreesRefused, IsFaultOrLimit, MayFail, IsUnlimited, GrowsTables, GrowsTo, LacksZeros, RefusesUnchanged, WritesSizeLast, all_given_by_grow, handed_on, err_as, FailsOnceWritten, pow_pos, MayFailGrowing, IfErr-weaker, ImageError, LastsPart, ListGrows}
 use Rattle.qcow2_image.proofs.image.Qcow2.grow_disk.Goals as goal
-use Rattle.qcow2_image.proofs.Call.Notes.{same_kept}
-use Rattle.qcow2_image.proofs.Grow.GrownByParts.{call_marked, call_then, known_then, lasts_asking, lasts_step, lasts_then, shown_none}
-use Rattle.qcow2_image.proofs.Call.Marked.{MayMarkBy, marks_memory, may_mark}
+use Rattle.qcow2_image.proofs.Lemmas.{same_kept, call_marked, known_then, lasts_asking, lasts_step, lasts_then, shown_none, MayMarkBy, marks_memory, may_mark, stays_then, err_is, reaches_begun, reaches_on, reaches_told, file_step_then, met_taken, same_version, untaken_grown, begun_call, same_of, counted_marked, counted_on, untouched, kept_noted, fails_marked, fails_once, behind_by, behind_call, behind_none, behind_then, faults_unlimited, goes_begun, goes_step, goes_then, hands_limit, limited_giving, limited_since, unlimited_all, up_least, same_size, met_behind, near_longer_ends, hands_met}
+use Rattle.qcow2_image.proofs.Grow.GrownByParts.{call_then}
 use Rattle.image_access.specs.declared.storage.PreallocateMode.TheVariants.{Zero}
-use Rattle.qcow2_image.proofs.Call.Refused.{stays_then}
-use Rattle.qcow2_image.proofs.Clear.ClearCalls.{err_is}
-use Rattle.qcow2_image.proofs.Grow.L1Lengths.{reaches_begun, reaches_on, reaches_told}
-use Rattle.qcow2_image.proofs.Images.Moved.{file_step_then}
-use Rattle.qcow2_image.proofs.Preallocate.Filled.{met_taken}
-use Rattle.qcow2_image.proofs.Preallocate.FillSteps.{same_version}
-use Rattle.qcow2_image.proofs.Preallocate.NoPreparedEntries.{untaken_grown}
 use Rattle.qcow2_image.proofs.Resize.GrowByParts.{given_growing, grows_in_part, grows_not, grows_sized, last_in_part, last_not, last_sized, reaches_lengthened, unchanged_not}
 use Rattle.qcow2_image.proofs.Resize.GrownTables.{leaves_sized, reaches_filled, refuses_version, tables_sized, taken_behind}
 use Rattle.qcow2_image.proofs.Resize.RecordedChanges.{counted_noted, grows_noted, tables_noted, unchanged_noted}
-use Rattle.qcow2_image.proofs.Resize.Shrinking.{begun_call}
-use Rattle.qcow2_image.proofs.Call.FaultCounts.{same_of, counted_marked, counted_on, untouched}
-use Rattle.qcow2_image.proofs.Call.OnceWritten.{kept_noted, fails_marked, fails_once}
-use Rattle.qcow2_image.proofs.Call.BehindHeader.{behind_by, behind_call, behind_none, behind_then}
-use Rattle.qcow2_image.proofs.Prepare.LimitCauses.{faults_unlimited, goes_begun, goes_step, goes_then, hands_limit, limited_giving, limited_since, unlimited_all}
-use Rattle.qcow2_image.proofs.Preallocate.FilledGrowth.{up_least}
 use Rattle.qcow2_image.proofs.Resize.RefusedGrowths.{fault_listed, limit_listed, part_lasts}
 use Rattle.qcow2_image.specs.ListedClusters.{LeavesListed}
-use Rattle.qcow2_image.proofs.Preallocate.FillSteps.{same_size}
-use Rattle.qcow2_image.proofs.Preallocate.FailingFills.{met_behind, near_longer_ends}
-use Rattle.qcow2_image.proofs.Prepare.FailingCopies.{hands_met}
 
 pub returns-in_err-mark_failure-clause-sees : goal.returns-in_err-mark_failure-clause-sees
 returns-in_err-mark_failure-clause-sees g c =

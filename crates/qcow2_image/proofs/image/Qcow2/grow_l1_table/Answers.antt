@@ -1,12 +1,7 @@
-use Rattle.qcow2_image.proofs.Call.ImageSteps.{step_none}
+use Rattle.qcow2_image.proofs.Lemmas.{step_none, is_longer, lengthened, refused_none, as_listed_after, keeps_none, refused, hands_either, hands_limit, other_limit, goes_step, fault_unlimited, short_fault, short_unlimited}
 use Rattle.qcow2_image.proofs.image.Qcow2.grow_l1_table.Goals as goal
 use Rattle.std.proofs.Common.{◌≤◌, ◌≡◌, ◌<◌, ◌+◌, arith, refl, ap, max, inl, ◌∙◌, subst, rules}
 use Rattle.qcow2_image.proofs.Common.{entry_count, EntryTableView, handed_on, Lengthens, nat_tests, of_metadata}
-use Rattle.qcow2_image.proofs.Grow.ReplacedL1Table.{is_longer, lengthened, refused_none}
-use Rattle.qcow2_image.proofs.Prepare.UnlinkedL2Table.{as_listed_after, keeps_none}
-use Rattle.qcow2_image.proofs.Prepare.WritableL2Table.{refused}
-use Rattle.qcow2_image.proofs.Prepare.LimitCauses.{hands_either, hands_limit, other_limit, goes_step}
-use Rattle.qcow2_image.proofs.Call.Unlimited.{fault_unlimited, short_fault, short_unlimited}
 
 pub returns-then-index-ge-MAX_L1_ENTRIES-clause-lengthens : goal.returns-then-index-ge-MAX_L1_ENTRIES-clause-lengthens
 returns-then-index-ge-MAX_L1_ENTRIES-clause-lengthens g c = λ p out sound. refused_none g.S.Storage.view g.F.BackingDisk.backing out p c.args.self.now _ sound

@@ -1,11 +1,7 @@
 use Rattle.std.proofs.Common.{◌≡◌, ◌∙◌, true, false, [], Result, sym, ap, subst, IfErr, IsErrAnd}
 use Rattle.qcow2_image.proofs.Common.{OnErr, IfErr-weaker, IsSame, IsFault, AnswersCall, is_failed, pending_in, RespectsPrepared, IsOfPrepared, IsReasonAgainstReading, IsStillInUse, KeepsTables, reftable_in, MayFail, Qcow2, HasPinnedMapping}
-use Rattle.qcow2_image.proofs.Images.Backings.{some_prepared, table_prepared}
-use Rattle.qcow2_image.proofs.Call.Called.{keeps_then, told_answers, tells_quietly}
-use Rattle.qcow2_image.proofs.Call.Marked.{may_mark}
-use Rattle.qcow2_image.proofs.Map.Loading.{if_ok_any}
+use Rattle.qcow2_image.proofs.Lemmas.{some_prepared, table_prepared, keeps_then, told_answers, tells_quietly, may_mark, if_ok_any, on_refused_map}
 use Rattle.qcow2_image.proofs.Invalidate.Calls.{heeds_all, heeds_begun, reading_fault, rests_begun, told_in_use, why_begun}
-use Rattle.qcow2_image.proofs.Invalidate.TakenOver.{on_refused_map}
 use Rattle.qcow2_image.proofs.image.Qcow2.invalidate_cache.Goals as goal
 
 pub returns-clause-fails : goal.returns-clause-fails

@@ -1,7 +1,6 @@
 use Rattle.std.proofs.Common.{◌≡◌, ◌*◌, ◌/◌, ◌%◌, ◌^◌, sym, ap, ◌∙◌, arith}
 use Rattle.qcow2_image.proofs.Common.{host_offset, entry_at, l1_index_of}
-use Rattle.qcow2_image.proofs.Map.FailingLookups.{named_aligned}
-use Rattle.qcow2_image.proofs.Prepare.PinnedL2Tables.{whole_quotient}
+use Rattle.qcow2_image.proofs.Lemmas.{named_aligned, whole_quotient}
 use Rattle.qcow2_image.proofs.image.Qcow2.l2_cluster.Goals as goal
 
 pub returns-in_default-clause-own : goal.returns-in_default-clause-own

@@ -1,8 +1,7 @@
 use Rattle.qcow2_image.proofs.image.Qcow2.link_l2.Goals as goal
 use Rattle.std.proofs.Common.{◌+◌, ◌*◌, ◌^◌, refl, subst, sym, IsSome, ap, rules}
 use Rattle.qcow2_image.proofs.Common.{or_right, of_storage, storage_of, is_changed_of, handed_on, fault_of_storage, NamesNew, placed_kept, notes_of_storage, EntryTableView}
-use Rattle.qcow2_image.proofs.Prepare.L1EntryWritten.{safe_throughout_named, named_so}
-use Rattle.qcow2_image.proofs.Call.BehindHeader.{behind_l1, behind_placed, behind_then, entry_behind, l1_entered}
+use Rattle.qcow2_image.proofs.Lemmas.{safe_throughout_named, named_so, behind_l1, behind_placed, behind_then, entry_behind, l1_entered}
 
 pub returns-in_err-write_l1_entry-clause-names : goal.returns-in_err-write_l1_entry-clause-names
 returns-in_err-write_l1_entry-clause-names g c = λ p out table sound may recorded says whole ready.

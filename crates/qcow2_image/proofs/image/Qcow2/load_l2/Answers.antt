@@ -1,8 +1,5 @@
 use Rattle.qcow2_image.proofs.Common.{rules, notes_of_both}
-use Rattle.qcow2_image.proofs.Prepare.InternalWrites.{same_new_data}
-use Rattle.qcow2_image.proofs.Map.Loading.{caches_moved}
-use Rattle.qcow2_image.proofs.Call.BehindHeader.{behind_caches}
-use Rattle.qcow2_image.proofs.Prepare.FailingTables.{faults_looking}
+use Rattle.qcow2_image.proofs.Lemmas.{same_new_data, caches_moved, behind_caches, faults_looking}
 use Rattle.qcow2_image.proofs.image.Qcow2.load_l2.Goals as goal
 
 pub returns-clause-sound : goal.returns-clause-sound

@@ -2,8 +2,7 @@ use Rattle.qcow2_image.proofs.image.Qcow2.name_l1_table.Goals as goal
 use Rattle.std.proofs.Common.{◌*◌, ◌^◌, ◌≤◌, ap, ◌∙◌, arith, rules}
 use Rattle.qcow2_image.proofs.Common.{entry_count, of_storage, storage_of, handed_on, NamesTable, notes_none, notes_of_storage, told_kept, HeaderView, fault_of_storage}
 use Rattle.qcow2_image.proofs.Grow.NamedL1Table.{named_interruption, named_so}
-use Rattle.qcow2_image.proofs.Call.BehindHeader.{behind_bits, behind_l1, behind_pointer, behind_then}
-use Rattle.qcow2_image.proofs.Prepare.LimitCauses.{hands_fault}
+use Rattle.qcow2_image.proofs.Lemmas.{behind_bits, behind_l1, behind_pointer, behind_then, hands_fault}
 
 pub returns-in_err-write_l1_table_pointer-clause-names : goal.returns-in_err-write_l1_table_pointer-clause-names
 returns-in_err-write_l1_table_pointer-clause-names g c = λ p out sound recorded ready.

@@ -1,12 +1,7 @@
 use Rattle.std.proofs.Common.{◌≡◌, ◌/◌, ◌<◌, inl, sym, ap, ◌∙◌, subst, rules}
 use Rattle.qcow2_image.proofs.Common.{handed_on, cover, cluster_size, Guest, with_new_data, cover_format, size_format, known_in, Qcow2, InternalFillingStep, RefusedFillingStep, pending_with_listed, Gains, run_of, new_data_by, over_all, IsCopiedCompressed, MayFailAlone}
-use Rattle.qcow2_image.proofs.Call.WriteSteps.{taking_listed, taking_of_filling, taking_then}
+use Rattle.qcow2_image.proofs.Lemmas.{taking_listed, taking_of_filling, taking_then, listed_after_on, image_step_left, taken_new_data, taken_unused, still_holds, filled_as, image_step_then, hands_limit, other_limit, filling_met, hands_met, new_behind, copied_as}
 use Rattle.qcow2_image.proofs.image.Qcow2.new_cluster.Goals as goal
-use Rattle.qcow2_image.proofs.Prepare.FirstCluster.{listed_after_on, image_step_left, taken_new_data, taken_unused, still_holds, filled_as}
-use Rattle.qcow2_image.proofs.Prepare.InternalWrites.{image_step_then}
-use Rattle.qcow2_image.proofs.Prepare.LimitCauses.{hands_limit, other_limit}
-use Rattle.qcow2_image.proofs.Prepare.FailingCopies.{filling_met, hands_met, new_behind}
-use Rattle.qcow2_image.proofs.Prepare.Unannounced.{copied_as}
 
 pub returns-in-Ok-clause-sound : goal.returns-in-Ok-clause-sound
 returns-in-Ok-clause-sound g c = λ p out sound holds.

@@ -1,12 +1,6 @@
 use Rattle.std.proofs.Common.{◌≡◌, ◌/◌, ◌<◌, inl, sym, ap, ◌∙◌, subst, rules, Ok}
 use Rattle.qcow2_image.proofs.Common.{handed_on, cover, cluster_size, Guest, with_new_data, cover_format, size_format, known_in, Qcow2, AllocatesDataAt, GainsAt, InternalFillingStep, RefusedFillingStep, IsGained, pending_with_listed, run_of, new_data_by, over_all, IsCopiedCompressed}
-use Rattle.qcow2_image.proofs.Prepare.FirstCluster.{listed_after_on, image_step_left, taken_new_data, taken_unused, still_holds, filled_as}
-use Rattle.qcow2_image.proofs.Prepare.InternalWrites.{image_step_then}
-use Rattle.qcow2_image.proofs.Prepare.LimitCauses.{hands_limit, other_limit}
-use Rattle.qcow2_image.proofs.Prepare.Unannounced.{copied_as}
-use Rattle.qcow2_image.proofs.Prepare.FailingCopies.{filling_met, new_behind}
-use Rattle.qcow2_image.proofs.Prepare.FailingTables.{hands_alone}
-use Rattle.qcow2_image.proofs.Call.WriteSteps.{taking_listed, taking_of_filling, taking_then}
+use Rattle.qcow2_image.proofs.Lemmas.{listed_after_on, image_step_left, taken_new_data, taken_unused, still_holds, filled_as, image_step_then, hands_limit, other_limit, copied_as, filling_met, new_behind, hands_alone, taking_listed, taking_of_filling, taking_then}
 use Rattle.qcow2_image.proofs.image.Qcow2.new_cluster_at.Goals as goal
 
 pub returns-in-Ok-clause-step : goal.returns-in-Ok-clause-step

@@ -1,11 +1,7 @@
 use Rattle.std.proofs.Common.{◌*◌, ◌^◌, refl, subst, sym, IsSome, ap}
 use Rattle.qcow2_image.proofs.Common.{of_storage, storage_of, handed_on, with_table, IsLongerL1, PlacesTable, notes_none, notes_then, notes_of_both, notes_of_storage, placed_kept, EntryTableView, not_both, IsHostCluster, contents_in, named_have_places, fault_of_storage}
-use Rattle.qcow2_image.proofs.Call.Called.{keeps_then}
-use Rattle.qcow2_image.proofs.Map.Loading.{caches_moved, with_caches}
-use Rattle.qcow2_image.proofs.Prepare.UnlinkedL2Table.{keeps_none}
+use Rattle.qcow2_image.proofs.Lemmas.{keeps_then, caches_moved, with_caches, keeps_none, behind_caches, behind_none, begins_behind, behind_placed, behind_then, l1_placed, hands_fault}
 use Rattle.qcow2_image.proofs.Grow.NewL1Table.{table_write_as, keeps_placed, stands_whole}
-use Rattle.qcow2_image.proofs.Call.BehindHeader.{behind_caches, behind_none, begins_behind, behind_placed, behind_then, l1_placed}
-use Rattle.qcow2_image.proofs.Prepare.LimitCauses.{hands_fault}
 use Rattle.qcow2_image.proofs.image.Qcow2.place_l1_table.Goals as goal
 
 pub returns-in_err-flush_rb-clause-places : goal.returns-in_err-flush_rb-clause-places

@@ -1,10 +1,6 @@
-use Rattle.qcow2_image.proofs.Call.ImageSteps.{step_then}
+use Rattle.qcow2_image.proofs.Lemmas.{step_then, back_then_freed, counted_as, counted_of, untouched, limited_frees, met_freed}
 use Rattle.qcow2_image.proofs.image.Qcow2.prepare.Goals as goal
 use Rattle.qcow2_image.proofs.Common.{⊎_elim, inl, refl, sym, subst, rules, IsTrue, IsFault, known_in, NeedsOverflowingL1Entry, CopiesCompressed, MayFailAllocating, HasPinnedMapping, IsTaken}
-use Rattle.qcow2_image.proofs.Call.Refused.{back_then_freed}
-use Rattle.qcow2_image.proofs.Call.FaultCounts.{counted_as, counted_of, untouched}
-use Rattle.qcow2_image.proofs.Prepare.LimitCauses.{limited_frees}
-use Rattle.qcow2_image.proofs.Prepare.FailingTables.{met_freed}
 
 pub returns-in-Err-clause-freed : goal.returns-in-Err-clause-freed
 returns-in-Err-clause-freed g c = λ some out sound. ⊎_elim

@@ -1,21 +1,11 @@
 use Rattle.qcow2_image.proofs.Call.MarkedCalls.{call_marked}
-use Rattle.qcow2_image.proofs.Prepare.LimitCauses.{goes_begun, limited_since, limits_as}
+use Rattle.qcow2_image.proofs.Lemmas.{goes_begun, limited_since, limits_as, listed, refused_for, prepares_after, stays_kept, marks_memory, may_mark, fails_none, behind_none, begun_own, unpinned_begun, compressed_as, far_before, taking_as}
 use Rattle.std.proofs.Common.{◌≡◌, ◌⊎◌, ◌<◌, ◌≤◌, ◌+◌, [], sym, ◌∙◌, subst, arith, ap, refl, ⊎_elim, inl, inr, rules, IfErr, IfOk, None, Result, Some}
 use Rattle.qcow2_image.proofs.Common.{IfLimit, IsLimited, IsNone, TablePrepared, known_in, IsAnswered, IsTaken, Qcow2, Prepares, is_failed, ListsNoMore, IsExisting, meaning, pending_in, refuses_to_prepare, FreesRefused, PreparesUnpinned, cluster_size, HeaderFields, NeedsOverflowingL1Entry, CopiesCompressed, MayFailAllocating, length_of, offset_of, table_of, HasPinnedMapping, IfOk-weaker, IfErr-weaker}
 use Rattle.qcow2_image.proofs.image.Qcow2.prepare_data_mapping.Goals as goal
 use Rattle.qcow2_image.proofs.Prepare.PreparedAnswers.{answered_before, taken_before}
-use Rattle.qcow2_image.proofs.Call.Called.{listed}
-use Rattle.qcow2_image.proofs.Clear.ClearCalls.{refused_for}
 use Rattle.qcow2_image.proofs.Call.Answers.{prepare_usable}
 use Rattle.qcow2_image.proofs.Prepare.PrepareCalls.{prepares_nothing, prepares_with_outcome}
-use Rattle.qcow2_image.proofs.Call.Refused.{prepares_after, stays_kept}
-use Rattle.qcow2_image.proofs.Call.Marked.{marks_memory, may_mark}
-use Rattle.qcow2_image.proofs.Call.OnceWritten.{fails_none}
-use Rattle.qcow2_image.proofs.Call.BehindHeader.{behind_none}
-use Rattle.qcow2_image.proofs.Prepare.PinnedL2Tables.{begun_own, unpinned_begun}
-use Rattle.qcow2_image.proofs.Prepare.Unannounced.{compressed_as}
-use Rattle.qcow2_image.proofs.Prepare.FailingTables.{far_before}
-use Rattle.qcow2_image.proofs.Prepare.FailingAllocations.{taking_as}
 
 pub returns-clause-answer : goal.returns-clause-answer
 returns-clause-answer g c = record {

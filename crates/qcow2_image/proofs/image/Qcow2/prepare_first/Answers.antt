@@ -1,4 +1,4 @@
-use Rattle.qcow2_image.proofs.Call.WriteSteps.{filling_pinned, taking_none, taking_of_filling, taking_where}
+use Rattle.qcow2_image.proofs.Lemmas.{filling_pinned, taking_none, taking_of_filling, taking_where, no_pins, hands_limit, other_limit, taking_as}
 use Rattle.std.proofs.Common.{◌/◌, ◌≡◌, ◌≤◌, rules, refl, sym, ap, ◌∙◌, subst, List, length, true, false, inr, arith}
 use Rattle.qcow2_image.proofs.Common.{BeginsSoundly, MarkedIsBehind, cover, vec_capacity, ClusterMapping, cluster_size, L2Mapping, known_in, handed_on, Prepared, l1_index_of, IsReadied, Readies, pending_in, IsFirst, always_ok, l2_pins, IfOk-weaker, IfErr-weaker}
 use Rattle.qcow2_image.proofs.image.Qcow2.prepare_first.Goals as goal
@@ -6,9 +6,6 @@ use Rattle.qcow2_image.proofs.Prepare.KeptMappings.{data_keep_none}
 use Rattle.qcow2_image.proofs.Prepare.RangeByParts.{room_as}
 use Rattle.qcow2_image.proofs.Prepare.WritableL2Table.{refused as any_refusal}
 use Rattle.qcow2_image.proofs.Prepare.NewCluster.{back_none, first_stands, not_pinned, readied_in_place, first_entry}
-use Rattle.qcow2_image.proofs.Clear.Between.{no_pins}
-use Rattle.qcow2_image.proofs.Prepare.LimitCauses.{hands_limit, other_limit}
-use Rattle.qcow2_image.proofs.Prepare.FailingAllocations.{taking_as}
 
 pub returns-then-l2_is_pinned-clause-sound : goal.returns-then-l2_is_pinned-clause-sound
 returns-then-l2_is_pinned-clause-sound g c = λ out sound holds.

@@ -1,17 +1,8 @@
-use Rattle.qcow2_image.proofs.Call.WriteSteps.{taking_where, taking_with, where_then}
+use Rattle.qcow2_image.proofs.Lemmas.{taking_where, taking_with, where_then, back_refused, free_places, counted_as, counted_still, step_none, goes_step, hands_limit, limited_from, places_enter, alone_as, compressed_as, compressed_at, hands_met, taking_as}
 use Rattle.qcow2_image.proofs.image.Qcow2.prepare_in.Goals as goal
 use Rattle.std.proofs.Common.{◌≡◌, ◌+◌, ◌-◌, ◌/◌, ◌%◌, ◌∷◌, ◌<◌, [], refl, sym, ap, ◌∙◌, subst, arith, inl, rules, None, Err}
 use Rattle.qcow2_image.proofs.Common.{cover, cluster_size, HeaderFields, known_in, handed_on, header_format, header_then, IsReadied, PreparesRange, GoesTo, pow_pos, mod_below, CopiesCompressed, MayFailAllocating, HasPinnedMapping, l2_pins}
-use Rattle.qcow2_image.proofs.Call.Refused.{back_refused}
-use Rattle.qcow2_image.proofs.Images.Free.{free_places}
 use Rattle.qcow2_image.proofs.Prepare.RangeByParts.{release_prepared_broken, refused_free}
-use Rattle.qcow2_image.proofs.Call.FaultCounts.{counted_as, counted_still}
-use Rattle.qcow2_image.proofs.Call.ImageSteps.{step_none}
-use Rattle.qcow2_image.proofs.Prepare.LimitCauses.{goes_step, hands_limit, limited_from, places_enter}
-use Rattle.qcow2_image.proofs.Prepare.FailingRanges.{alone_as}
-use Rattle.qcow2_image.proofs.Prepare.Unannounced.{compressed_as, compressed_at}
-use Rattle.qcow2_image.proofs.Prepare.FailingCopies.{hands_met}
-use Rattle.qcow2_image.proofs.Prepare.FailingAllocations.{taking_as}
 
 pub returns-in-Ok-clause-reaches : goal.returns-in-Ok-clause-reaches
 returns-in-Ok-clause-reaches g c = λ out k free sound holds.

@@ -1,10 +1,7 @@
-use Rattle.qcow2_image.proofs.Call.WriteSteps.{filling_pinned, filling_then, filling_written}
+use Rattle.qcow2_image.proofs.Lemmas.{filling_pinned, filling_then, filling_written, listed_after_same, hands_limit, hands_unlimited, other_limit, hands_met, kept_behind}
 use Rattle.std.proofs.Common.{◌≤◌, ◌-◌, ◌%◌, ◌/◌, List, length, inl, refl, sym, ap, subst, arith, rules}
 use Rattle.qcow2_image.proofs.Common.{HasPinnedMapping, IsCopiedCompressed, MayFailAllocating, keeping, cluster_size, handed_on, Qcow2, Prepared, ClusterMapping, IsReadied, Readies, pending_in, IsFirst, InternalFillingStep}
-use Rattle.qcow2_image.proofs.Prepare.FirstCluster.{listed_after_same}
 use Rattle.qcow2_image.proofs.Prepare.KeptMappings.{first_alone, readied_kept}
-use Rattle.qcow2_image.proofs.Prepare.LimitCauses.{hands_limit, hands_unlimited, other_limit}
-use Rattle.qcow2_image.proofs.Prepare.FailingCopies.{hands_met, kept_behind}
 use Rattle.qcow2_image.proofs.image.Qcow2.prepare_kept.Goals as goal
 
 pub returns-in_err-fill_kept-clause-sound : goal.returns-in_err-fill_kept-clause-sound

@@ -1,17 +1,9 @@
-use Rattle.qcow2_image.proofs.Call.WriteSteps.{filling_pinned, taking_listed, taking_none, taking_of_filling, taking_where, where_then, where_with}
-use Rattle.qcow2_image.proofs.Call.Unlimited.{looking_unlimited, fault_unlimited}
+use Rattle.qcow2_image.proofs.Lemmas.{filling_pinned, taking_listed, taking_none, taking_of_filling, taking_where, where_then, where_with, looking_unlimited, fault_unlimited, listed_after_on, image_step_left, still_holds, image_step_kept, image_step_then, behind_zero, hands_limit, limited_more, limited_taking, other_limit, named_place, hands_met, looking_taking}
 use Rattle.qcow2_image.proofs.image.Qcow2.prepare_new.Goals as goal
 use Rattle.std.proofs.Common.{◌≡◌, ◌≤◌, ◌-◌, ◌*◌, ◌%◌, ◌^◌, ◌++◌, ◌∷◌, ◌+◌, rules, [], inl, refl, sym, ap, ◌∙◌, subst, arith, List, length}
 use Rattle.qcow2_image.proofs.Common.{HeaderFields, cluster_size, HeaderView, KeepsFormat, header_format, with_new_data, handed_on, Qcow2, Prepared, Readies, IsReadied, ClusterMapping, IsFirst, RefusedFillingStep, InternalFillingStep, HoldsAll, pending_with_listed, run_of, pending_in, HasPlace, known_in, l1_index_of, IsCopiedCompressed, MayFailAllocating, HasPinnedMapping}
-use Rattle.qcow2_image.proofs.Prepare.FirstCluster.{listed_after_on, image_step_left, still_holds}
-use Rattle.qcow2_image.proofs.Prepare.InternalWrites.{image_step_kept, image_step_then}
 use Rattle.qcow2_image.proofs.Prepare.WritableL2Table.{refused as any_refusal}
 use Rattle.qcow2_image.proofs.Prepare.NewCluster.{back_none, readied_new}
-use Rattle.qcow2_image.proofs.Call.BehindHeader.{behind_zero}
-use Rattle.qcow2_image.proofs.Prepare.LimitCauses.{hands_limit, limited_more, limited_taking, other_limit}
-use Rattle.qcow2_image.proofs.Prepare.MissingL2Table.{named_place}
-use Rattle.qcow2_image.proofs.Prepare.FailingCopies.{hands_met}
-use Rattle.qcow2_image.proofs.Prepare.FailingAllocations.{looking_taking}
 
 pub returns-in-Ok-clause-begins : goal.returns-in-Ok-clause-begins
 returns-in-Ok-clause-begins g c =

@@ -1,8 +1,6 @@
 use Rattle.std.proofs.Common.{◌≡◌, ◌+◌, ◌-◌, ◌/◌, min, sym, ap, ◌∙◌, subst, arith, rules, Ok}
 use Rattle.qcow2_image.proofs.Common.{cluster_size, HeaderFields, header_format, Prepared, FindsBehind, IsExtended, cover, IsCopiedCompressed, known_in}
-use Rattle.qcow2_image.proofs.Prepare.NextCluster.{extended}
-use Rattle.qcow2_image.proofs.Prepare.LimitCauses.{hands_limit}
-use Rattle.qcow2_image.proofs.Prepare.FailingTables.{hands_alone}
+use Rattle.qcow2_image.proofs.Lemmas.{extended, hands_limit, hands_alone}
 use Rattle.qcow2_image.proofs.image.Qcow2.prepare_next.Goals as goal
 
 pub returns-in_default-clause-sound : goal.returns-in_default-clause-sound

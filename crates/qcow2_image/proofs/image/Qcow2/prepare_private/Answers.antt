@@ -1,7 +1,6 @@
-use Rattle.qcow2_image.proofs.Call.WriteSteps.{taking_of_filling, taking_where}
+use Rattle.qcow2_image.proofs.Lemmas.{taking_of_filling, taking_where, if_ok_any}
 use Rattle.qcow2_image.proofs.Common.{L2Mapping, BeginsSoundly, refl, ◌∙◌, subst, sym, IfOk-weaker}
 use Rattle.qcow2_image.proofs.image.Qcow2.prepare_private.Goals as goal
-use Rattle.qcow2_image.proofs.Map.Loading.{if_ok_any}
 use Rattle.qcow2_image.proofs.Prepare.KeptMappings.{begins_kept}
 
 pub returns-in-Some-clause-sound : goal.returns-in-Some-clause-sound

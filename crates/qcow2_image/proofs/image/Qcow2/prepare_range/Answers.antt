@@ -2,17 +2,8 @@ use Rattle.qcow2_image.proofs.image.Qcow2.prepare_range.Goals as goal
 use Rattle.std.proofs.Common.{◌≡◌, ◌∷◌, ◌<◌, ◌≤◌, true, false, inl, refl, sym, subst, None, Option, [], ap, ℕ, rules, arith}
 use Rattle.qcow2_image.proofs.Common.{known_in, handed_on, PreparesRange, IsPlaceOf, IsWritableAt, IsTaken, meaning, pending_in, on_ok, IfSome, notes_then, cluster_size, HeaderFields, NeedsOverflowingL1Entry, CopiesCompressed, MayFailAllocating, HasPinnedMapping, IfOk-weaker, IfErr-weaker}
 use Rattle.qcow2_image.proofs.Prepare.PreparedAnswers.{answered_before, answered_existing, answered_range, nowhere_before, taken_before}
-use Rattle.qcow2_image.proofs.Images.Free.{free_places}
+use Rattle.qcow2_image.proofs.Lemmas.{free_places, prepares_after, readied_after, taken_by, behind_then, found_pins, met_untaken, prepared_unpinned, unpinned_refused, hands_limit, other_limit, goes_step, limited_since, limits_as, place_kept, place_then, compressed_as, hands_met, if_err_both, taking_as, taking_kept}
 use Rattle.qcow2_image.proofs.Prepare.Preparing.{readied_existing}
-use Rattle.qcow2_image.proofs.Call.Refused.{prepares_after, readied_after}
-use Rattle.qcow2_image.proofs.Prepare.RefusedAsPrepared.{taken_by}
-use Rattle.qcow2_image.proofs.Call.BehindHeader.{behind_then}
-use Rattle.qcow2_image.proofs.Prepare.PinnedL2Tables.{found_pins, met_untaken, prepared_unpinned, unpinned_refused}
-use Rattle.qcow2_image.proofs.Prepare.LimitCauses.{hands_limit, other_limit, goes_step, limited_since, limits_as}
-use Rattle.qcow2_image.proofs.Prepare.FailingRanges.{place_kept, place_then}
-use Rattle.qcow2_image.proofs.Prepare.Unannounced.{compressed_as}
-use Rattle.qcow2_image.proofs.Prepare.FailingCopies.{hands_met}
-use Rattle.qcow2_image.proofs.Prepare.FailingAllocations.{if_err_both, taking_as, taking_kept}
 
 pub returns-in-Some-clause-some : goal.returns-in-Some-clause-some
 returns-in-Some-clause-some g c = λ some.

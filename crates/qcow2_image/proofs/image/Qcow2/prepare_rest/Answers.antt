@@ -1,14 +1,7 @@
-use Rattle.qcow2_image.proofs.Call.WriteSteps.{taking_none, taking_then}
+use Rattle.qcow2_image.proofs.Lemmas.{taking_none, taking_then, get_set_same, length_set, counted_ok, counted_on, faults_then, goes_then, hands_limit, limited_from, hands_alone, next_begins, alone_as, compressed_as, compressed_at}
 use Rattle.std.proofs.Common.{◌≡◌, ◌-◌, ◌*◌, ◌%◌, ◌<◌, ◌≤◌, ◌+◌, length, true, false, inr, refl, sym, ap, ◌∙◌, subst, arith, min, rules, Ok, Err, Some, None}
 use Rattle.qcow2_image.proofs.Common.{slice_set, vec_capacity, cluster_size, handed_on, header_same, header_format, Prepared, IsReadied, GoesTo, BreaksOff, Ends, GoesNext, GoesOn, HeaderFields, known_in, CopiesCompressed}
-use Rattle.qcow2_image.proofs.Call.Slots.{get_set_same, length_set}
 use Rattle.qcow2_image.proofs.Prepare.RangeByParts.{may_go_on, so_far_all, so_far_ends, so_far_next}
-use Rattle.qcow2_image.proofs.Call.FaultCounts.{counted_ok, counted_on, faults_then}
-use Rattle.qcow2_image.proofs.Prepare.LimitCauses.{goes_then, hands_limit, limited_from}
-use Rattle.qcow2_image.proofs.Prepare.FailingTables.{hands_alone}
-use Rattle.qcow2_image.proofs.Prepare.FollowingCluster.{next_begins}
-use Rattle.qcow2_image.proofs.Prepare.FailingRanges.{alone_as}
-use Rattle.qcow2_image.proofs.Prepare.Unannounced.{compressed_as, compressed_at}
 use Rattle.qcow2_image.proofs.image.Qcow2.prepare_rest.Goals as goal
 
 pub loop-prepared-init : goal.loop-prepared-init

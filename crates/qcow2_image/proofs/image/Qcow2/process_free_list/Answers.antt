@@ -1,10 +1,5 @@
 use Rattle.qcow2_image.proofs.Common.{subst, rules, IfSome, with_listed, IsAllocatorOf, notes_of_both}
-use Rattle.qcow2_image.proofs.Call.Answered.{freeing_step_kept}
-use Rattle.qcow2_image.proofs.Flush.Freeing.{frees_listed, frees_fault}
-use Rattle.qcow2_image.proofs.Images.Moving.{leaked_still}
-use Rattle.qcow2_image.proofs.Prepare.UnlinkedL2Table.{keeps_none}
-use Rattle.qcow2_image.proofs.Call.BehindHeader.{behind_freed}
-use Rattle.qcow2_image.proofs.Call.ImageSteps.{step_none}
+use Rattle.qcow2_image.proofs.Lemmas.{freeing_step_kept, frees_listed, frees_fault, leaked_still, keeps_none, behind_freed, step_none}
 use Rattle.qcow2_image.proofs.image.Qcow2.process_free_list.Goals as goal
 
 pub returns-then-is_empty-clause-frees : goal.returns-then-is_empty-clause-frees

@@ -1,10 +1,7 @@
 use Rattle.std.proofs.Common.{◌≡◌, inl, inr, refl, sym, ◌∙◌, subst, Ok, Err, rules, []}
 use Rattle.qcow2_image.proofs.Common.{not_both, Pending, ImageInvariant}
-use Rattle.qcow2_image.proofs.Flush.Freeing.{all_listed, beside, freed_refused, tidy_stays}
-use Rattle.qcow2_image.proofs.Call.FaultCounts.{counted_as, counted_still}
-use Rattle.qcow2_image.proofs.Call.ImageSteps.{step_none}
+use Rattle.qcow2_image.proofs.Lemmas.{all_listed, beside, freed_refused, tidy_stays, counted_as, counted_still, step_none, freed_since, lasts_none}
 use Rattle.qcow2_image.proofs.image.Qcow2.process_free_list_after.Goals as goal
-use Rattle.qcow2_image.proofs.Grow.GrownByParts.{freed_since, lasts_none}
 
 pub returns-then-is_last-clause-refused : goal.returns-then-is_last-clause-refused
 returns-then-is_last-clause-refused g c = record {

@@ -1,9 +1,5 @@
 use Rattle.qcow2_image.proofs.Common.{refl, sym, ap, ◌∙◌, subst, rules, Result, Pending, Qcow2, is_failed, EndsFreeing, ImageInvariant, MarksFailed, notes_then}
-use Rattle.qcow2_image.proofs.Flush.Freeing.{all_listed, beside, ends_freeing}
-use Rattle.qcow2_image.proofs.Call.FaultCounts.{counted_marked, untouched}
-use Rattle.qcow2_image.proofs.Call.Marked.{marks_memory, may_mark}
-use Rattle.qcow2_image.proofs.Call.Notes.{same_kept}
-use Rattle.qcow2_image.proofs.Call.BehindHeader.{behind_by, behind_none, behind_then}
+use Rattle.qcow2_image.proofs.Lemmas.{all_listed, beside, ends_freeing, counted_marked, untouched, marks_memory, may_mark, same_kept, behind_by, behind_none, behind_then}
 use Rattle.qcow2_image.proofs.image.Qcow2.process_free_list_at_end.Goals as goal
 
 pub returns-clause-frees : goal.returns-clause-frees

@@ -1,8 +1,5 @@
 use Rattle.qcow2_image.proofs.Common.{ap, replicate, rules, notes_of_storage, told_kept, of_storage, fault_of_storage}
-use Rattle.qcow2_image.proofs.Call.BehindHeader.{behind_guard, behind_wrote}
-use Rattle.qcow2_image.proofs.Call.Unlimited.{storage_unlimited}
-use Rattle.qcow2_image.proofs.Prepare.LimitCauses.{hands_fault, hands_unlimited}
-use Rattle.qcow2_image.proofs.Call.ImageSteps.{step_none}
+use Rattle.qcow2_image.proofs.Lemmas.{behind_guard, behind_wrote, storage_unlimited, hands_fault, hands_unlimited, step_none}
 use Rattle.qcow2_image.proofs.image.Qcow2.put_zeros.Goals as goal
 
 pub returns-in_err-write-clause-fault : goal.returns-in_err-write-clause-fault

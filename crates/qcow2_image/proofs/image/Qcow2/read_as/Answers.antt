@@ -1,10 +1,7 @@
 use Rattle.std.proofs.Common.{◌≡◌, ◌+◌, ◌/◌, ◌<◌, ℕ, List, length, replicate, refl, sym, ap, ◌∙◌, subst, rules, is_some, inl}
 use Rattle.qcow2_image.proofs.Common.{length-replicate, get_or-replicate, bytes_at, byte_at-bytes_at, length-bytes_at, byte_at, known_byte, cluster_size, cover, disk, known_of, known_in, state_in, view_in, found_kind, is_data_file, backing_bytes, disk_of, notes_of_storage, read_kept, MayFailReading, IsFault, of_storage, IfOk-weaker, fault_of_storage}
-use Rattle.qcow2_image.proofs.Map.Loading.{read_moved}
+use Rattle.qcow2_image.proofs.Lemmas.{read_moved, behind_read, reads_bytes, reads_same, hands_met, met_as}
 use Rattle.qcow2_image.proofs.Map.Reading.{raw_shown, zero_shown, indirect_shown, none_below}
-use Rattle.qcow2_image.proofs.Call.BehindHeader.{behind_read}
-use Rattle.qcow2_image.proofs.Map.Quiet.{reads_bytes, reads_same}
-use Rattle.qcow2_image.proofs.Prepare.FailingCopies.{hands_met, met_as}
 use Rattle.qcow2_image.proofs.image.Qcow2.read_as.Goals as goal
 
 pub returns-in_err-read-in-Raw-clause-keeps : goal.returns-in_err-read-in-Raw-clause-keeps

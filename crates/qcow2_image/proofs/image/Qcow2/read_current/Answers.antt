@@ -1,10 +1,6 @@
 use Rattle.std.proofs.Common.{◌≡◌, ◌+◌, ◌∙◌, inl, inr, length, Err, subst, sym, arith, IfOk, rules, IfErr, Result, is_some}
 use Rattle.qcow2_image.proofs.Common.{Shows, OutdatedMapping, handed_on, always_ok, IsFoundWhole, further_by, disk_of, IsCacheHeld, MayFailMapped, MayFailReading, written_then, FitsTables, IsHeldAs}
-use Rattle.qcow2_image.proofs.Call.Called.{keeps_then}
-use Rattle.qcow2_image.proofs.Map.Looked.{none_past}
-use Rattle.qcow2_image.proofs.Prepare.FailingCopies.{hands_met, mapped_met, met_as}
-use Rattle.qcow2_image.proofs.Map.Held.{heeds_then, held_as, none_eof}
-use Rattle.qcow2_image.proofs.Call.ImageSteps.{step_then}
+use Rattle.qcow2_image.proofs.Lemmas.{keeps_then, none_past, hands_met, mapped_met, met_as, heeds_then, held_as, none_eof, step_then}
 use Rattle.qcow2_image.proofs.image.Qcow2.read_current.Goals as goal
 
 pub returns-clause-sound : goal.returns-clause-sound

@@ -1,14 +1,8 @@
 use Rattle.qcow2_image.proofs.Call.MarkedCalls.{reading_marked}
 use Rattle.std.proofs.Common.{◌≡◌, ◌+◌, ◌<◌, [], sym, ◌∙◌, subst, rules, arith, length, Result, IfErr}
 use Rattle.qcow2_image.proofs.Common.{OnOk, Shows, IsSame, guest_of, AnswersCall, Qcow2, IsFoundWhole, further_by, is_failed, pending_in, IsCacheHeld, MayFailMapped, FitsTables, IfOk-weaker, on_ok_weaker}
-use Rattle.qcow2_image.proofs.Call.Marked.{may_mark}
+use Rattle.qcow2_image.proofs.Lemmas.{may_mark, told_answers, tells_quietly, quietly_then, found_after, found_before, fails_none, held_since, mapped_met_at, met_as, heeds_on, keeps_marked}
 use Rattle.qcow2_image.proofs.Call.Answers.{usable_works}
-use Rattle.qcow2_image.proofs.Call.Called.{told_answers, tells_quietly, quietly_then}
-use Rattle.qcow2_image.proofs.Map.Looked.{found_after, found_before}
-use Rattle.qcow2_image.proofs.Call.OnceWritten.{fails_none}
-use Rattle.qcow2_image.proofs.Map.FailingLookups.{held_since}
-use Rattle.qcow2_image.proofs.Prepare.FailingCopies.{mapped_met_at, met_as}
-use Rattle.qcow2_image.proofs.Map.Held.{heeds_on, keeps_marked}
 use Rattle.qcow2_image.proofs.image.Qcow2.read_mapped.Goals as goal
 
 pub returns-clause-sound : goal.returns-clause-sound

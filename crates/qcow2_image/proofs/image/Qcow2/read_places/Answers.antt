@@ -1,10 +1,7 @@
 use Rattle.std.proofs.Common.{◌≡◌, ◌*◌, ◌<◌, ◌≤◌, ◌∙◌, List, ℕ, Result, inr, refl, sym, ap, subst, IfErr}
 use Rattle.qcow2_image.proofs.Common.{byte_at, HeaderView, header, entries_per_cluster, with_tables_of, IsReasonToRefuse, HeaderFields, of_metadata, contents_in, view_in, ImageError, handed_on, is_writable, IsReasonAgainstPlaces, ContentsStayThroughout}
-use Rattle.qcow2_image.proofs.Map.Loading.{read_moved}
-use Rattle.qcow2_image.proofs.Map.Quiet.{kept_throughout}
-use Rattle.qcow2_image.proofs.Invalidate.Reading.{notes_through, places_read, same_notes, silent_moved, silent_read, silent_then}
+use Rattle.qcow2_image.proofs.Lemmas.{read_moved, kept_throughout, notes_through, places_read, same_notes, silent_moved, silent_read, silent_then, not_above}
 use Rattle.qcow2_image.proofs.Invalidate.Reasons.{header_against}
-use Rattle.qcow2_image.proofs.Invalidate.TakenOver.{not_above}
 use Rattle.qcow2_image.proofs.image.Qcow2.read_places.Goals as goal
 
 pub returns-in_err-invalidate_cache-clause-keeps : goal.returns-in_err-invalidate_cache-clause-keeps

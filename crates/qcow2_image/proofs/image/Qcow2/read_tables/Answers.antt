@@ -1,8 +1,7 @@
 use Rattle.std.proofs.Common.{◌≡◌, ◌∙◌, Some, refl, sym, ap, subst, Option, is_some}
 use Rattle.qcow2_image.proofs.Common.{IfSome, LeaveHeaderCluster, contents_in, view_in, AllocatorInvariant, HasReftable, IsAllocatorOf, NoFreeBelowHint, spared_kept, Pending, IsL1TableOf, Allocator, ImageFile, NamesReftableBehind, StandsBehindHeader, TablesBehindHeader, leaked_by, HasL1Table, ReadsTables, InternalStep, ContentsStayThroughout, Qcow2}
-use Rattle.qcow2_image.proofs.Map.Quiet.{kept_throughout}
+use Rattle.qcow2_image.proofs.Lemmas.{kept_throughout, begins_of, both_behind, l1_behind, l1_still, notes_through, silent_moved, silent_then, tables_read}
 use Rattle.qcow2_image.proofs.Invalidate.Dropped.{with_tables}
-use Rattle.qcow2_image.proofs.Invalidate.Reading.{begins_of, both_behind, l1_behind, l1_still, notes_through, silent_moved, silent_then, tables_read}
 use Rattle.qcow2_image.proofs.image.Qcow2.read_tables.Goals as goal
 
 pub returns-in_err-table-clause-keeps : goal.returns-in_err-table-clause-keeps

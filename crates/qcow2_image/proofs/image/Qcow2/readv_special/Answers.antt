@@ -4,8 +4,7 @@ use Rattle.qcow2_alloc.specs.declared.error.ImageError.TheVariants.{Compressed}
 use Rattle.qcow2_image.specs.SpecialReads.{ReportsCompressed}
 use Rattle.qcow2_image.proofs.Call.Answers.{answers_err}
 use Rattle.qcow2_image.proofs.Map.Special.{refuses_after}
-use Rattle.qcow2_image.proofs.Images.Sizes.{sound_is_usable}
-use Rattle.qcow2_image.proofs.Prepare.FailingCopies.{hands_met}
+use Rattle.qcow2_image.proofs.Lemmas.{sound_is_usable, hands_met}
 use Rattle.qcow2_image.proofs.image.Qcow2.readv_special.Goals as goal
 
 pub returns-in_err-try_readv_special-clause-sound : goal.returns-in_err-try_readv_special-clause-sound

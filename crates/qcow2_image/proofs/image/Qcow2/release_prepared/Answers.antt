@@ -1,9 +1,6 @@
-use Rattle.qcow2_image.proofs.Call.Notes.{pins_kept}
+use Rattle.qcow2_image.proofs.Lemmas.{pins_kept, discards, untouched, behind_by, behind_none, behind_tables, behind_then}
 use Rattle.std.proofs.Common.{◌≡◌, ◌-◌, ℕ, refl, sym, ap, ◌∙◌, subst, rules}
 use Rattle.qcow2_image.proofs.Common.{SameTables, l2_pins, Qcow2, contents_in, ReleasesOneMapping, Discards, pins_of, AreClean}
-use Rattle.qcow2_image.proofs.Commit.Released.{discards}
-use Rattle.qcow2_image.proofs.Call.FaultCounts.{untouched}
-use Rattle.qcow2_image.proofs.Call.BehindHeader.{behind_by, behind_none, behind_tables, behind_then}
 use Rattle.qcow2_image.proofs.image.Qcow2.release_prepared.Goals as goal
 
 pub returns-clause-sees : goal.returns-clause-sees

@@ -1,15 +1,7 @@
-use Rattle.qcow2_image.proofs.Call.Unlimited.{looking_unlimited}
+use Rattle.qcow2_image.proofs.Lemmas.{looking_unlimited, as_listed_after, caches_moved, with_caches, followed, refused, says_copy, shared_still, owned_then, behind_caches, behind_then, behind_first, above_zero, hands_limit, limited_in_since, limits_as, other_limit, named_place, loads_looking, hands_met, looking_taking}
 use Rattle.std.proofs.Common.{◌≡◌, inl, refl, rules, sym}
 use Rattle.qcow2_image.proofs.Common.{table_at, GoesTo, OwnsTable, notes_then, notes_of_both, contents_in, HasPinnedMapping, MayFailAllocating}
 use Rattle.qcow2_image.proofs.image.Qcow2.replace_l2.Goals as goal
-use Rattle.qcow2_image.proofs.Prepare.UnlinkedL2Table.{as_listed_after}
-use Rattle.qcow2_image.proofs.Map.Loading.{caches_moved, with_caches}
-use Rattle.qcow2_image.proofs.Prepare.WritableL2Table.{followed, refused, says_copy, shared_still, owned_then}
-use Rattle.qcow2_image.proofs.Call.BehindHeader.{behind_caches, behind_then, behind_first, above_zero}
-use Rattle.qcow2_image.proofs.Prepare.LimitCauses.{hands_limit, limited_in_since, limits_as, other_limit}
-use Rattle.qcow2_image.proofs.Prepare.MissingL2Table.{named_place, loads_looking}
-use Rattle.qcow2_image.proofs.Prepare.FailingCopies.{hands_met}
-use Rattle.qcow2_image.proofs.Prepare.FailingAllocations.{looking_taking}
 
 pub returns-in_err-l2_get_or_insert-clause-sound : goal.returns-in_err-l2_get_or_insert-clause-sound
 returns-in_err-l2_get_or_insert-clause-sound g c = λ p out sound shared.

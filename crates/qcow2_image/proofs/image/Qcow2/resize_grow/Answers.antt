@@ -1,9 +1,8 @@
 use Rattle.qcow2_image.proofs.image.Qcow2.resize_grow.Goals as goal
-use Rattle.qcow2_image.proofs.Call.OnceWritten.{fails_none}
+use Rattle.qcow2_image.proofs.Lemmas.{fails_none, err_is, not_refused, refused_for}
 use Rattle.std.proofs.Common.{◌≤◌, ◌∙◌, inl, inr, sym, subst, refl, arith, rules, IsTrue, Result}
 use Rattle.qcow2_image.proofs.Common.{PreallocateMode, never, GrowsTo, refuses_to_resize, takes_over, IfErr-weaker}
 use Rattle.qcow2_image.proofs.Resize.StepCalls.{some_none}
-use Rattle.qcow2_image.proofs.Clear.ClearCalls.{err_is, not_refused, refused_for}
 use Rattle.qcow2_image.proofs.Resize.GrowCalls.{grows_early, grows_nothing, grows_over, last_none}
 use Rattle.qcow2_image.proofs.Resize.ShrinkCalls.{resize_works}
 

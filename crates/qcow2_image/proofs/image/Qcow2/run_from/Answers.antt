@@ -1,13 +1,6 @@
 use Rattle.std.proofs.Common.{◌≡◌, ◌-◌, ◌/◌, ◌<◌, sym, ap, ◌∙◌, subst, arith, min, is_some, Some, None, false, true, rules}
 use Rattle.qcow2_image.proofs.Common.{IfOk-weaker, cluster_size, host_offset, IsLongestRun, table_at, Sizes-from, cover_none, IsTop-top, contents_in, known_in, kind_at, rest_of_table, l1_index_of, l2_index_of, NamesL2Table, IsRunFrom, IfSome, MatchOption, IsEntryAt, IsCacheHeld, MayFailLooking, own_table}
-use Rattle.qcow2_image.proofs.Map.Loading.{caches_moved, with_caches}
-use Rattle.qcow2_image.proofs.Map.Looked.{none_found}
-use Rattle.qcow2_image.proofs.Call.BehindHeader.{behind_caches}
-use Rattle.qcow2_image.proofs.Map.FailingLookups.{answers_met, cache_looking, named_entry}
-use Rattle.qcow2_image.proofs.Prepare.FailingCopies.{hands_met}
-use Rattle.qcow2_image.proofs.Prepare.MissingL2Table.{named_place}
-use Rattle.qcow2_image.proofs.Map.Quiet.{reads_none}
-use Rattle.qcow2_image.proofs.Map.Held.{uncovered_held}
+use Rattle.qcow2_image.proofs.Lemmas.{caches_moved, with_caches, none_found, behind_caches, answers_met, cache_looking, named_entry, hands_met, named_place, reads_none, uncovered_held}
 use Rattle.qcow2_image.specs.HeldMappings.{named_place as place_named}
 use Rattle.qcow2_image.proofs.image.Qcow2.run_from.Goals as goal
 

@@ -1,7 +1,6 @@
 use Rattle.std.proofs.Common.{◌≡◌, ◌+◌, ◌-◌, ◌/◌, ◌%◌, ◌^◌, ◌<◌, ℕ, sym, ap, ◌∙◌, subst, arith, min, refl, is_some, Some, false, true}
 use Rattle.qcow2_image.proofs.Common.{cluster_size, entries_per_cluster, cover, IsLongestRun, Sizes-from, IsTop-top, contents_in, known_in, kind_at, mapping_of, l1_index_of, IsRunBehind, l2_at, IsLongestSo, named_place}
-use Rattle.qcow2_image.proofs.Map.Looked.{cluster_near, says_known, run_found}
-use Rattle.qcow2_image.proofs.Map.Held.{run_held}
+use Rattle.qcow2_image.proofs.Lemmas.{cluster_near, says_known, run_found, run_held}
 use Rattle.qcow2_image.proofs.Map.Aligned.{entries_aligned}
 use Rattle.qcow2_image.proofs.image.Qcow2.run_in_table.Goals as goal
 

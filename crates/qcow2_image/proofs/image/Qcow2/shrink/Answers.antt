@@ -1,14 +1,9 @@
 use Rattle.std.proofs.Common.{◌≡◌, ◌-◌, ◌∙◌, inl, inr, sym, ap, subst, rules, Err}
 use Rattle.qcow2_image.proofs.Common.{IfSome, MatchOption, passes_none, cluster_size, rounded_up, HaveRisen, ltb-true, IsFault, view_in, is_changed_of, Qcow2, is_failed, size_of, MarksRefused, Shrinks, DiscardsTail, WritesSizeLast, boundary_in, ReportsEachIn, ReportsFault}
 use Rattle.qcow2_image.specs.declared.discarding.ClearMode.TheVariants.{Uncovered}
-use Rattle.qcow2_image.proofs.Clear.ClearCalls.{covers_after}
+use Rattle.qcow2_image.proofs.Lemmas.{covers_after, shrinks_done, shrinks_stopped, shrinks_unwritten, size_is_last, uncovered_honest, written_stops, may_mark_refused, noted_marks, refused_on, refused_since, counted_as, counted_still, call_then, changes_later, failed_part, kept_fewer, notes_part, refused_once, answered_counts, counts_noted, behind_by, behind_none, behind_then}
 use Rattle.qcow2_image.proofs.Resize.RecordedChanges.{same_noted, shrinks_noted}
-use Rattle.qcow2_image.proofs.Resize.Shrinking.{shrinks_done, shrinks_stopped, shrinks_unwritten, size_is_last, uncovered_honest, written_stops}
 use Rattle.qcow2_image.proofs.Resize.ShrinkCalls.{resize_writable}
-use Rattle.qcow2_image.proofs.Call.Marked.{may_mark_refused, noted_marks, refused_on, refused_since}
-use Rattle.qcow2_image.proofs.Call.FaultCounts.{counted_as, counted_still}
-use Rattle.qcow2_image.proofs.Call.OnceWritten.{call_then, changes_later, failed_part, kept_fewer, notes_part, refused_once, answered_counts, counts_noted}
-use Rattle.qcow2_image.proofs.Call.BehindHeader.{behind_by, behind_none, behind_then}
 use Rattle.qcow2_image.proofs.image.Qcow2.shrink.Goals as goal
 
 pub returns-in-Some-clause-sees : goal.returns-in-Some-clause-sees

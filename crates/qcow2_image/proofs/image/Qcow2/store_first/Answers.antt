@@ -1,7 +1,6 @@
 use Rattle.qcow2_image.proofs.Common.{rules, notes_of_both, contents_in, named_have_places}
-use Rattle.qcow2_image.proofs.Map.Loading.{caches_moved, with_caches}
+use Rattle.qcow2_image.proofs.Lemmas.{caches_moved, with_caches, behind_caches}
 use Rattle.qcow2_image.proofs.Prepare.WrittenBeforeNaming.{stores_counts}
-use Rattle.qcow2_image.proofs.Call.BehindHeader.{behind_caches}
 use Rattle.qcow2_image.proofs.image.Qcow2.store_first.Goals as goal
 
 pub returns-clause-stores : goal.returns-clause-stores

@@ -1,7 +1,6 @@
-use Rattle.qcow2_image.proofs.Call.ImageSteps.{step_none}
+use Rattle.qcow2_image.proofs.Lemmas.{step_none, refused, left_alone, swapped_owns}
 use Rattle.qcow2_image.proofs.image.Qcow2.swap_l2.Goals as goal
 use Rattle.qcow2_image.proofs.Common.{ap, ◌∙◌, rules, metadata_entry, OwnsTable}
-use Rattle.qcow2_image.proofs.Prepare.WritableL2Table.{refused, left_alone, swapped_owns}
 
 pub returns-in-Err-clause-sound : goal.returns-in-Err-clause-sound
 returns-in-Err-clause-sound g c = λ p out sound shared says.

@@ -1,12 +1,6 @@
 use Rattle.std.proofs.Common.{◌≡◌, [], sym, ◌∙◌, subst, rules, Result}
 use Rattle.qcow2_image.proofs.Common.{IsSame, view_in, AnswersCall, Qcow2, is_failed, ContentsStayThroughout}
-use Rattle.qcow2_image.proofs.Call.BehindHeader.{behind_call}
-use Rattle.qcow2_image.proofs.Call.Called.{told_answers, tells_quietly, quietly_then}
-use Rattle.qcow2_image.proofs.Call.FaultCounts.{counted_marked}
-use Rattle.qcow2_image.proofs.Call.Marked.{may_mark}
-use Rattle.qcow2_image.proofs.Call.OnceWritten.{fails_none, fails_once}
-use Rattle.qcow2_image.proofs.Map.Loading.{if_ok_any}
-use Rattle.qcow2_image.proofs.Map.Quiet.{reads_call}
+use Rattle.qcow2_image.proofs.Lemmas.{behind_call, told_answers, tells_quietly, quietly_then, counted_marked, may_mark, fails_none, fails_once, if_ok_any, reads_call}
 use Rattle.qcow2_image.proofs.image.Qcow2.sync.Goals as goal
 
 pub returns-clause-step : goal.returns-clause-step

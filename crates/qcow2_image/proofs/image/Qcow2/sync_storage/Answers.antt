@@ -1,7 +1,5 @@
 use Rattle.qcow2_image.proofs.Common.{rules, refl, notes_of_storage, read_kept}
-use Rattle.qcow2_image.proofs.Call.BehindHeader.{behind_read}
-use Rattle.qcow2_image.proofs.Map.Loading.{read_moved}
-use Rattle.qcow2_image.proofs.Map.Quiet.{kept_throughout, reads_bytes}
+use Rattle.qcow2_image.proofs.Lemmas.{behind_read, read_moved, kept_throughout, reads_bytes}
 use Rattle.qcow2_image.proofs.image.Qcow2.sync_storage.Goals as goal
 
 pub returns-in_err-sync-clause-step : goal.returns-in_err-sync-clause-step

@@ -3,13 +3,8 @@ use Rattle.std.proofs.Common.{◌≡◌, ◌⊎◌, [], sym, ◌∙◌, subst, r
 use Rattle.qcow2_image.proofs.Common.{IsSame, AnswersCall, Qcow2, known_in, is_failed, pending_in, IsCacheHeld, MayFailLooking, unusable, IfOk-weaker}
 use Rattle.qcow2_image.specs.SpecialReads.{ReportsWhether}
 use Rattle.qcow2_image.proofs.Call.Answers.{usable_works}
-use Rattle.qcow2_image.proofs.Call.Called.{told_answers, tells_quietly, quietly_then}
-use Rattle.qcow2_image.proofs.Call.Marked.{may_mark}
-use Rattle.qcow2_image.proofs.Call.OnceWritten.{fails_none}
+use Rattle.qcow2_image.proofs.Lemmas.{told_answers, tells_quietly, quietly_then, may_mark, fails_none, held_since, sound_is_usable, refused_for}
 use Rattle.qcow2_alloc.specs.declared.error.ImageError.TheVariants.{Compressed}
-use Rattle.qcow2_image.proofs.Map.FailingLookups.{held_since}
-use Rattle.qcow2_image.proofs.Images.Sizes.{sound_is_usable}
-use Rattle.qcow2_image.proofs.Clear.ClearCalls.{refused_for}
 use Rattle.qcow2_image.proofs.image.Qcow2.try_readv_special.Goals as goal
 
 pub returns-clause-sound : goal.returns-clause-sound

@@ -1,11 +1,8 @@
 use Rattle.std.proofs.Common.{◌≡◌, ◌⊎◌, ◌*◌, ◌/◌, ◌^◌, ◌≤◌, Ok, arith, sym, ap, ◌∙◌, subst, inr, inl, rules}
 use Rattle.qcow2_image.proofs.Common.{HasNearEntry, HasOwnTable, host_offset, is_copied, l1_index_of, OwnsTable, MayName, entry_count, entry_at, NamesOwn}
-use Rattle.qcow2_image.proofs.Call.ImageSteps.{step_none}
+use Rattle.qcow2_image.proofs.Lemmas.{step_none, refused, left_alone, says_none, entered_owns, owns_already, lacks_past, not_within, owns_or_lacks, behind_first, whole_quotient}
 use Rattle.qcow2_image.proofs.image.Qcow2.writable_l2_cluster.Goals as goal
-use Rattle.qcow2_image.proofs.Prepare.WritableL2Table.{refused, left_alone, may_none, says_none, entered_owns, owns_already}
-use Rattle.qcow2_image.proofs.Prepare.MissingL2Table.{lacks_past, not_within, owns_or_lacks}
-use Rattle.qcow2_image.proofs.Call.BehindHeader.{behind_first}
-use Rattle.qcow2_image.proofs.Prepare.PinnedL2Tables.{whole_quotient}
+use Rattle.qcow2_image.proofs.Prepare.WritableL2Table.{may_none}
 
 pub returns-in_default-clause-quiet : goal.returns-in_default-clause-quiet
 returns-in_default-clause-quiet g c = λ own.

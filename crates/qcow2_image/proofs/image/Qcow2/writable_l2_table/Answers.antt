@@ -1,16 +1,7 @@
 use Rattle.qcow2_alloc.specs.declared.error.ImageError.TheVariants as I
-use Rattle.qcow2_image.proofs.Call.ImageSteps.{step_none, step_then}
+use Rattle.qcow2_image.proofs.Lemmas.{step_none, step_then, finds, finds_after, left_refused, stays_kept, stays_then, all_listed, beside, freed_refused, tidy_stays, left_alone, own_after, counted_on, counted_since, faults_then, same_of, hands_limit, near_reached, other_limit, goes_step, limited_more, limited_since, limited_unseen, limited_upto, limits_as, fault_unlimited, hands_met, met_as, taking_as}
 use Rattle.qcow2_image.proofs.Common.{ListsNoMore, true, false, Err, ◌∙◌, refl, ap, sym, subst, inl, inr, rules, arith, HeaderView, Pending, handed_on, FindsTable, ImageInvariant, pending_in, IfErr, IsTrue, OnOk, always_ok, l1_index_of, NamesOwn, pending_with_listed, IsFaultOrLacksTable, not_both, HeaderFields, NeedsOverflowingL1Entry, HasNearEntry, HasPinnedMapping, MayFailAllocating}
 use Rattle.qcow2_image.proofs.image.Qcow2.writable_l2_table.Goals as goal
-use Rattle.qcow2_image.proofs.Call.Refused.{finds, finds_after, left_refused, stays_kept, stays_then}
-use Rattle.qcow2_image.proofs.Flush.Freeing.{all_listed, beside, freed_refused, tidy_stays}
-use Rattle.qcow2_image.proofs.Prepare.WritableL2Table.{left_alone}
-use Rattle.qcow2_image.proofs.Grow.L1Lengths.{own_after}
-use Rattle.qcow2_image.proofs.Call.FaultCounts.{counted_on, counted_since, faults_then, same_of}
-use Rattle.qcow2_image.proofs.Prepare.LimitCauses.{hands_limit, near_reached, other_limit, goes_step, limited_more, limited_since, limited_unseen, limited_upto, limits_as}
-use Rattle.qcow2_image.proofs.Call.Unlimited.{fault_unlimited}
-use Rattle.qcow2_image.proofs.Prepare.FailingCopies.{hands_met, met_as}
-use Rattle.qcow2_image.proofs.Prepare.FailingAllocations.{taking_as}
 
 pub returns-then-l1_entry_overflows-clause-step : goal.returns-then-l1_entry_overflows-clause-step
 returns-then-l1_entry_overflows-clause-step g c = step_none

@@ -1,9 +1,5 @@
 use Rattle.qcow2_image.proofs.Common.{refl, ap, rules, Pending, with_listed, contents_in, handed_on, FreesListed, Qcow2, notes_then, notes_of_both, notes_of_storage, read_kept, IfErr, Result, IsFault, of_storage, written_then, ReadsQuietly, fault_of_storage}
-use Rattle.qcow2_image.proofs.Call.Called.{keeps_then}
-use Rattle.qcow2_image.proofs.Map.Loading.{with_caches, caches_moved, read_moved, all_known}
-use Rattle.qcow2_image.proofs.Flush.Freeing.{frees_any, freeing_step_on}
-use Rattle.qcow2_image.proofs.Call.BehindHeader.{behind_caches, behind_then, behind_read}
-use Rattle.qcow2_image.proofs.Map.Quiet.{reads_bytes, reads_same}
+use Rattle.qcow2_image.proofs.Lemmas.{keeps_then, with_caches, caches_moved, read_moved, all_known, frees_any, freeing_step_on, behind_caches, behind_then, behind_read, reads_bytes, reads_same}
 use Rattle.qcow2_image.proofs.image.Qcow2.write_back.Goals as goal
 
 pub returns-in_err-process_free_list-clause-frees : goal.returns-in_err-process_free_list-clause-frees

@@ -1,12 +1,8 @@
-use Rattle.qcow2_image.proofs.Call.WriteSteps.{filling_none, filling_written, keeping_of_filling, keeping_then}
+use Rattle.qcow2_image.proofs.Lemmas.{filling_none, filling_written, keeping_of_filling, keeping_then, Quietly, quiet_sound, heeds_then, held_as, keeps_storage, hands_met, met_as, told_sum, past_existing}
 use Rattle.qcow2_image.proofs.image.Qcow2.write_current.Goals as goal
 use Rattle.std.proofs.Common.{◌≡◌, ◌+◌, ◌^◌, ◌≤◌, inl, inr, None, Err, length, refl, sym, ap, subst, true, arith, rules, Result}
 use Rattle.qcow2_image.proofs.Common.{overwritten, view_in, OutdatedMapping, Overflow, handed_on, always_ok, Qcow2, Raw, Image, IsFoundWhole, IsMappedAs, PutsPart, IsWriteOutcome, pending_in, FitsTables, IsHeldAs, cases_lt, IsFault, IsCacheHeld, MayFailPutting, changes_of, storage_of_image, PutsOnce}
 use Rattle.qcow2_image.proofs.Write.PutParts.{mapped_in_place, puts_nothing, puts_refused, puts_then, puts_written}
-use Rattle.qcow2_image.proofs.Call.Called.{Quietly, quiet_sound}
-use Rattle.qcow2_image.proofs.Map.Held.{heeds_then, held_as, keeps_storage}
-use Rattle.qcow2_image.proofs.Prepare.FailingCopies.{hands_met, met_as, told_sum}
-use Rattle.qcow2_image.proofs.Prepare.NameablePlaces.{past_existing}
 use Rattle.qcow2_image.proofs.Write.Hosted.{hosts_behind_header}
 use Rattle.qcow2_image.proofs.Write.ToldPuts.{checked_unseen, put_refused, put_unwritten}
 

@@ -1,9 +1,6 @@
 use Rattle.qcow2_image.proofs.image.Qcow2.write_l1_table.Goals as goal
 use Rattle.qcow2_image.proofs.Common.{inl, ap, subst, sym, rules, handed_on, NamesTable, notes_then, Qcow2, IsHostCluster}
-use Rattle.qcow2_image.proofs.Grow.ReplacedL1Table.{named_then}
-use Rattle.qcow2_image.proofs.Call.BehindHeader.{behind_then, l1_placed}
-use Rattle.qcow2_image.proofs.Call.FaultCounts.{counted_since, same_of}
-use Rattle.qcow2_image.proofs.Prepare.LimitCauses.{hands_fault}
+use Rattle.qcow2_image.proofs.Lemmas.{named_then, behind_then, l1_placed, counted_since, same_of, hands_fault}
 
 pub returns-in_err-place_l1_table-clause-names : goal.returns-in_err-place_l1_table-clause-names
 returns-in_err-place_l1_table-clause-names g c = λ p out sound recorded longer.

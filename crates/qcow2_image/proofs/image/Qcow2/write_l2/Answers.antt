@@ -1,10 +1,6 @@
 use Rattle.qcow2_image.proofs.Common.{CanEnter, inl, ap, ◌∙◌, arith, subst, sym, rules, one_at, with_new_tables, handed_on, one_here, Qcow2, WritesNew, notes_none, notes_then, not_both, IsHostCluster, HasPinnedMapping, MayFailLooking, IsFault}
 use Rattle.qcow2_image.proofs.image.Qcow2.write_l2.Goals as goal
-use Rattle.qcow2_image.proofs.Call.Called.{keeps_then}
-use Rattle.qcow2_image.proofs.Prepare.UnlinkedL2Table.{may_still, says_still, written_so}
-use Rattle.qcow2_image.proofs.Call.BehindHeader.{behind_none, behind_then}
-use Rattle.qcow2_image.proofs.Prepare.LimitCauses.{near_placed}
-use Rattle.qcow2_image.proofs.Prepare.FailingCopies.{hands_met, met_as}
+use Rattle.qcow2_image.proofs.Lemmas.{keeps_then, may_still, says_still, written_so, behind_none, behind_then, near_placed, hands_met, met_as}
 
 pub returns-in_err-store_first-clause-writes : goal.returns-in_err-store_first-clause-writes
 returns-in_err-store_first-clause-writes g c = λ p out sound may recorded says.

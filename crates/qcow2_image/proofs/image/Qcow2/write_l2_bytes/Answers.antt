@@ -1,11 +1,7 @@
 use Rattle.qcow2_image.proofs.image.Qcow2.write_l2_bytes.Goals as goal
 use Rattle.std.proofs.Common.{◌≡◌, ◌^◌, ◌<◌, ◌*◌, inl, arith, false, length, refl, ap, ◌∙◌, subst, sym, IsSome, rules, Some}
 use Rattle.qcow2_image.proofs.Common.{IfSome, OnOk, L2TableView, of_storage, storage_of, l2_at, InsertKeeps, IsTableOf, handed_on, PlacesNewTable, notes_none, notes_then, notes_of_both, notes_of_storage, placed_kept, CachesSpareHeader, not_both, IsHostCluster, HasPinnedMapping, MayFailLooking, IfOk-weaker, fault_of_storage}
-use Rattle.qcow2_image.proofs.Call.Called.{keeps_then}
-use Rattle.qcow2_image.proofs.Prepare.NewL2Table.{holds, keeps_placed, keeps_put, keeps_stored, places_when, stands_ready, stands_there}
-use Rattle.qcow2_image.proofs.Call.BehindHeader.{behind_caches, behind_none, behind_placed, behind_then, table_behind}
-use Rattle.qcow2_image.proofs.Prepare.FailingTables.{faults_looking, put_refused}
-use Rattle.qcow2_image.proofs.Prepare.FailingCopies.{hands_met}
+use Rattle.qcow2_image.proofs.Lemmas.{keeps_then, holds, keeps_placed, keeps_put, keeps_stored, places_when, stands_ready, stands_there, behind_caches, behind_none, behind_placed, behind_then, table_behind, faults_looking, put_refused, hands_met}
 
 pub returns-in_err-write_new_l2_table-clause-places : goal.returns-in_err-write_new_l2_table-clause-places
 returns-in_err-write_new_l2_table-clause-places g c = λ p out sound some format stored.

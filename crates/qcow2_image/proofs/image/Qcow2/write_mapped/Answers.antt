@@ -2,15 +2,9 @@ use Rattle.qcow2_image.proofs.Call.MarkedCalls.{putting_marked}
 use Rattle.qcow2_image.proofs.image.Qcow2.write_mapped.Goals as goal
 use Rattle.std.proofs.Common.{◌≡◌, ◌+◌, ◌<◌, [], true, length, sym, ◌∙◌, subst, rules, arith, refl, Result, IfErr}
 use Rattle.qcow2_image.proofs.Common.{OnOk, nil_from_length, Qcow2, Puts, ForeignState, ReadOnly, Raw, Image, IsFoundWhole, is_failed, pending_in, FitsTables, IsCacheHeld, MayFailPutting, handed_on, PutsOnce, on_ok_weaker}
-use Rattle.qcow2_image.proofs.Call.Marked.{may_mark}
+use Rattle.qcow2_image.proofs.Lemmas.{may_mark, Quietly, quiet_sound, found_after, found_before, fails_none, behind_none, heeds_on, keeps_marked, held_since}
 use Rattle.qcow2_image.proofs.Call.Answers.{usable_works}
-use Rattle.qcow2_image.proofs.Call.Called.{Quietly, quiet_sound}
-use Rattle.qcow2_image.proofs.Map.Looked.{found_after, found_before}
 use Rattle.qcow2_image.proofs.Write.PutParts.{puts_early, puts_none, puts_then, puts_with_outcome}
-use Rattle.qcow2_image.proofs.Call.OnceWritten.{fails_none}
-use Rattle.qcow2_image.proofs.Call.BehindHeader.{behind_none}
-use Rattle.qcow2_image.proofs.Map.Held.{heeds_on, keeps_marked}
-use Rattle.qcow2_image.proofs.Map.FailingLookups.{held_since}
 use Rattle.qcow2_image.proofs.Write.ToldPuts.{checked_unseen, put_in_call, put_nothing, put_refused}
 
 pub returns-clause-sound : goal.returns-clause-sound

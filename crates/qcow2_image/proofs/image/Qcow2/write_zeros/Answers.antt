@@ -1,8 +1,5 @@
 use Rattle.qcow2_image.proofs.Common.{told_kept, notes_of_storage, ap, replicate, rules, of_storage, fault_of_storage}
-use Rattle.qcow2_image.proofs.Call.BehindHeader.{behind_guard, behind_wrote}
-use Rattle.qcow2_image.proofs.Prepare.LimitCauses.{hands_unlimited, hands_fault}
-use Rattle.qcow2_image.proofs.Call.Unlimited.{storage_unlimited}
-use Rattle.qcow2_image.proofs.Call.ImageSteps.{step_none}
+use Rattle.qcow2_image.proofs.Lemmas.{behind_guard, behind_wrote, hands_unlimited, hands_fault, storage_unlimited, step_none}
 use Rattle.qcow2_image.proofs.image.Qcow2.write_zeros.Goals as goal
 
 pub returns-in_err-write_zero_data-clause-fault : goal.returns-in_err-write_zero_data-clause-fault

@@ -1,14 +1,7 @@
-use Rattle.qcow2_image.proofs.Call.ImageSteps.{step_then, step_none}
-use Rattle.qcow2_image.proofs.Prepare.LimitCauses.{goes_step}
+use Rattle.qcow2_image.proofs.Lemmas.{step_then, step_none, goes_step, works_none, fills_before, fills_none, fills_or_refuses, refused_after, zeros_from, same_version, still_at, met_before, near_behind, taking_as, hands_met}
 use Rattle.qcow2_image.proofs.image.Qcow2.zero_between.Goals as goal
 use Rattle.std.proofs.Common.{◌≤◌, subst, sym, arith}
 use Rattle.qcow2_image.proofs.Common.{handed_on, abstract_of, FillsOrRefuses, known_in, HasCompressedIn, MayFailAllocating, HasPinnedMapping, IfErr-weaker}
-use Rattle.qcow2_image.proofs.Call.Called.{works_none}
-use Rattle.qcow2_image.proofs.Preallocate.Filled.{fills_before, fills_none, fills_or_refuses, refused_after, zeros_from}
-use Rattle.qcow2_image.proofs.Preallocate.FillSteps.{same_version, still_at}
-use Rattle.qcow2_image.proofs.Preallocate.FailingFills.{met_before, near_behind}
-use Rattle.qcow2_image.proofs.Prepare.FailingAllocations.{taking_as}
-use Rattle.qcow2_image.proofs.Prepare.FailingCopies.{hands_met}
 
 pub returns-in_err-fill_range-clause-step : goal.returns-in_err-fill_range-clause-step
 returns-in_err-fill_range-clause-step g c = step_then c.zero_first.ensures.step c.fill_range.ensures.step

@@ -1,16 +1,7 @@
 use Rattle.std.proofs.Common.{◌≡◌, ◌+◌, ◌-◌, ◌^◌, ◌<◌, ◌∷◌, ◌∙◌, [], inl, min, ap, subst, arith, rules}
 use Rattle.qcow2_image.proofs.Common.{rest_of_table, entry_count, Pending, Sizes-from, handed_on, contents_in, known_in, IsClearable, KeptZeros, ImageInvariant, abstract_of, pending_in, FillsFirst, given_by_zeros, HasPinnedMapping, MayFailAllocating}
-use Rattle.qcow2_image.proofs.Call.Called.{works_none}
-use Rattle.qcow2_image.proofs.Flush.Freeing.{all_listed, beside, freed_refused, tidy_stays}
-use Rattle.qcow2_image.proofs.Preallocate.Filled.{cleared_fills, fill_unseen, fills_none, fills_refused, fills_stays, next_whole, next_within, taken_here}
-use Rattle.qcow2_image.proofs.Preallocate.NoPreparedEntries.{untaken_cleared}
+use Rattle.qcow2_image.proofs.Lemmas.{works_none, all_listed, beside, freed_refused, tidy_stays, cleared_fills, fill_unseen, fills_none, fills_refused, fills_stays, next_whole, next_within, taken_here, untaken_cleared, fault_unlimited, limited_giving, limited_upto, under_prepared, never_far, hands_met, taking_as, step_none, step_then}
 use Rattle.qcow2_image.proofs.Call.FailingErrors.{tables_met}
-use Rattle.qcow2_image.proofs.Call.Unlimited.{fault_unlimited}
-use Rattle.qcow2_image.proofs.Prepare.LimitCauses.{limited_giving, limited_upto}
-use Rattle.qcow2_image.proofs.Preallocate.FailingFills.{under_prepared, never_far}
-use Rattle.qcow2_image.proofs.Prepare.FailingCopies.{hands_met}
-use Rattle.qcow2_image.proofs.Prepare.FailingAllocations.{taking_as}
-use Rattle.qcow2_image.proofs.Call.ImageSteps.{step_none, step_then}
 use Rattle.qcow2_image.proofs.image.Qcow2.zero_first.Goals as goal
 
 pub returns-clause-whole : goal.returns-clause-whole

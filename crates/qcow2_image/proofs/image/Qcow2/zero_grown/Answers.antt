@@ -1,9 +1,6 @@
 use Rattle.std.proofs.Common.{◌≡◌, ◌≤◌, ◌%◌, ◌∙◌, ap, refl, subst, sym, arith, IfErr}
 use Rattle.qcow2_image.proofs.Common.{pow_pos, cluster_size, rounded_up, Overflow, Version, FillsOrRefuses, known_in, pending_in, HasCompressedIn, HasNearEntries, MayFailAllocating, HasPinnedMapping}
-use Rattle.qcow2_image.proofs.Preallocate.Filled.{refused_here}
-use Rattle.qcow2_image.proofs.Preallocate.FilledGrowth.{up_least, up_rising, up_whole}
-use Rattle.qcow2_image.proofs.Preallocate.FailingFills.{never_past}
-use Rattle.qcow2_image.proofs.Call.ImageSteps.{step_none}
+use Rattle.qcow2_image.proofs.Lemmas.{refused_here, up_least, up_rising, up_whole, never_past, step_none}
 use Rattle.qcow2_image.proofs.image.Qcow2.zero_grown.Goals as goal
 
 pub returns-then-version-lt3-clause-step : goal.returns-then-version-lt3-clause-step

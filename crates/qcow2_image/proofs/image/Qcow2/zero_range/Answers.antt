@@ -1,10 +1,6 @@
 use Rattle.std.proofs.Common.{◌≡◌, ◌≤◌, refl, subst, sym, arith, rules}
 use Rattle.qcow2_image.proofs.Common.{notes_none, notes_then, handed_on, FillsOrRefuses, FillsPart, HasPinnedMapping, MayFailAllocating}
-use Rattle.qcow2_image.proofs.Preallocate.FillSteps.{same_version, still_at, zeroed_first, zeroed_next, zeroed_refused}
-use Rattle.qcow2_image.proofs.Call.FaultCounts.{counted_ok, counted_on, faults_then, untouched}
-use Rattle.qcow2_image.proofs.Call.BehindHeader.{behind_none, behind_then}
-use Rattle.qcow2_image.proofs.Preallocate.FailingFills.{near_behind}
-use Rattle.qcow2_image.proofs.Prepare.FailingCopies.{hands_met}
+use Rattle.qcow2_image.proofs.Lemmas.{same_version, still_at, zeroed_first, zeroed_next, zeroed_refused, counted_ok, counted_on, faults_then, untouched, behind_none, behind_then, near_behind, hands_met}
 use Rattle.qcow2_image.proofs.image.Qcow2.zero_range.Goals as goal
 
 pub loop-at-init : goal.loop-at-init
