@@ -4,8 +4,7 @@ use Rattle.qcow2_session.proofs.Common.{IfOk, IfSome, OnOk, nat_lt, option_or, c
 use Rattle.qcow2_disk.specs.ClearedCovers.{ClearsCovers, IsRightlyCleared, needs_zeros, rounds_past}
 use Rattle.qcow2_disk.specs.Rules.{answered, touched_from, touched_to}
 use Rattle.qcow2_alloc.specs.declared.error.ImageError.TheVariants as I
-use Rattle.qcow2_session.proofs.Answering.{error_is, first_of_all, not_both}
-use Rattle.qcow2_session.proofs.Turns.{does_if}
+use Rattle.qcow2_session.proofs.Lemmas.{error_is, first_of_all, not_both, does_if}
 
 -- ---- what is answered was not to be refused
 

@@ -1,4 +1,5 @@
 pub mod Common
+pub mod Lemmas
 pub mod Turns
 mod Opening
 mod FirstWrites

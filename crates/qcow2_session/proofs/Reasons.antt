@@ -2,10 +2,7 @@
 use Rattle.qcow2_alloc.specs.declared.error.ImageError.TheVariants as I
 use Rattle.std.proofs.Common.{◌≡◌, ◌⊎◌, ◌+◌, ◌<◌, ◌≤◌, ◌&&◌, ⊎_elim, inl, inr, ℕ, Bool, true, false, not, List, [], Option, Some, None, refl, sym, ap, ◌∙◌, subst, arith, IsTrue, Result, Err}
 use Rattle.qcow2_session.proofs.Common.{nat_lt, IfSome, option_or, cases_Bool, BackingView, StorageView, IsRefusalByFault, RefusedEffect, known_in, ImageError, HasPinnedMapping, refusal_of, IsSameImage, is_failed, is_writable, size_of, abstract_of, CopiesCompressed, MayFailReadingRange, MayFailAllocating, IsUnderMappingIn, MayFail, MayFailPreparing, passes, refuse_if, refuses_to_prepare, refuses_to_read, unusable, Qcow2, Prepared, MayFailImporting, IsReasonNotToWrite, GivenBytes, IsLimited, cluster_size_of}
-use Rattle.qcow2_session.proofs.Causing.{same_error, then_none}
-use Rattle.qcow2_session.proofs.Copied.{kept_cover, same_size}
-use Rattle.qcow2_session.proofs.FailingOnSound.{compressed_within}
-use Rattle.qcow2_session.proofs.Parts.{not_failed_yet, part_reads, part_under}
+use Rattle.qcow2_session.proofs.Lemmas.{same_error, then_none, kept_cover, same_size, compressed_within, not_failed_yet, part_reads, part_under}
 
 writing_left : (u : Option ImageError) (c t : Bool) → u ≡ None → c ≡ false → option_or u (option_or (refuse_if c I.BeyondSize) (refuse_if t I.ReadOnly)) ≡ refuse_if t I.ReadOnly
 writing_left u c t none within = ap (λ v. option_or v (option_or (refuse_if c I.BeyondSize) (refuse_if t I.ReadOnly))) none ∙ ap (λ b. option_or (refuse_if b I.BeyondSize) (refuse_if t I.ReadOnly)) within

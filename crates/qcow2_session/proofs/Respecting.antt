@@ -1,8 +1,7 @@
 -- The parts of a write respect the prepared mappings: no byte is written under an L2 table that another mapping pins, unless it is written in place.
 use Rattle.std.proofs.Common.{◌≡◌, ◌+◌, ◌-◌, ◌*◌, ◌/◌, ◌%◌, ◌<◌, ◌≤◌, ◌∙◌, inl, inr, ℕ, List, Option, take, drop, length, refl, sym, ap, subst, arith, Ok}
 use Rattle.qcow2_session.proofs.Common.{cases_lt, common_steps, BackingView, StorageView, cluster_size, rest_of_table, known_in, l1_index_of, IsTaken, Qcow2, Prepared, RespectsFirst, IsRespectedAt, Writes}
-use Rattle.qcow2_session.proofs.Copied.{same_index}
-use Rattle.qcow2_session.proofs.WrittenParts.{writes_none}
+use Rattle.qcow2_session.proofs.Lemmas.{same_index, writes_none}
 
 module _ {S F : Type 0} (view : S → StorageView) (backing : F → BackingView) (old : Qcow2 S F) (out : List (Option Prepared)) (offset : ℕ) (bytes : List ℕ) where
   -- one part more, after the bytes that are written

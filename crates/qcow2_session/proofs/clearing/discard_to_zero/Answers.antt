@@ -1,10 +1,7 @@
-use Rattle.qcow2_session.proofs.Marking.{cleared_at_once}
+use Rattle.qcow2_session.proofs.Lemmas.{cleared_at_once, clear_same, quiet_left, clears_rightly}
 use Rattle.qcow2_session.proofs.Common.{to_zero, refl, rules, IfErr-weaker}
 use Rattle.qcow2_session.proofs.Cleared.{clears_command_step, clearing_counted, range_told}
-use Rattle.qcow2_session.proofs.Unwritten.{clear_same}
-use Rattle.qcow2_session.proofs.Quiet.{quiet_left}
 use Rattle.qcow2_session.specs.declared.session.Command.TheVariants as C
-use Rattle.qcow2_session.proofs.Causing.{clears_rightly}
 use Rattle.qcow2_session.proofs.clearing.discard_to_zero.Goals as goal
 
 pub returns : goal.returns

@@ -1,10 +1,6 @@
 use Rattle.std.proofs.Common.{◌≡◌, ◌+◌, ◌-◌, ◌≤◌, ◌∙◌, refl, sym, [], subst, arith, rules, IfErr}
 use Rattle.qcow2_session.proofs.Common.{abstract_of, Fills, known_in, MayFailReadingRange, behind_none, behind_then, reads_none, written_then, same_image_then}
-use Rattle.qcow2_session.proofs.Counting.{converted, converting_part, so_far_none, so_far_part, so_far_then}
-use Rattle.qcow2_session.proofs.Converting.{does_nothing, interrupted_if, interrupted_then}
-use Rattle.qcow2_session.proofs.FailingOnSound.{reads_part}
-use Rattle.qcow2_session.proofs.Exporting.{part_of_disk, unchanged_refused, fills_more}
-use Rattle.qcow2_session.proofs.Turns.{refused_is, none_within, does_if, does_then}
+use Rattle.qcow2_session.proofs.Lemmas.{converted, converting_part, so_far_none, so_far_part, so_far_then, does_nothing, interrupted_if, interrupted_then, reads_part, part_of_disk, unchanged_refused, fills_more, refused_is, none_within, does_if, does_then}
 use Rattle.qcow2_session.proofs.convert.export_all.Goals as goal
 
 pub loop-at-init : goal.loop-at-init

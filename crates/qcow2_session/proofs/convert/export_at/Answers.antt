@@ -1,9 +1,6 @@
 use Rattle.std.proofs.Common.{◌≡◌, ◌+◌, ◌∙◌, inl, length, sym, subst, arith, refl, rules, IfErr}
 use Rattle.qcow2_session.proofs.Common.{common_steps, overwritten, of_storage, guest_of, refusal_of, abstract_of, fault_of_storage, known_in, MayFailReadingRange, IsFilledUpTo}
-use Rattle.qcow2_session.proofs.Converting.{interrupted, interrupted_here}
-use Rattle.qcow2_session.proofs.Counting.{converted, converting_image, converting_raw, so_far_call, so_far_none}
-use Rattle.qcow2_session.proofs.Exporting.{filled_same, filled_more, unchanged_refused}
-use Rattle.qcow2_session.proofs.Turns.{refused_is, does_if}
+use Rattle.qcow2_session.proofs.Lemmas.{interrupted, interrupted_here, converted, converting_image, converting_raw, so_far_call, so_far_none, filled_same, filled_more, unchanged_refused, refused_is, does_if}
 use Rattle.qcow2_session.proofs.convert.export_at.Goals as goal
 
 pub returns-then-is_same-clause-sees : goal.returns-then-is_same-clause-sees

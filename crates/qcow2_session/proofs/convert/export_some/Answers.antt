@@ -1,11 +1,6 @@
 use Rattle.std.proofs.Common.{◌≡◌, ◌+◌, ◌≤◌, ◌∙◌, [], length, take, replicate, refl, sym, subst, arith, rules, IfErr}
 use Rattle.qcow2_session.proofs.Common.{common_steps, known_in, written_then, guest_of, abstract_of, MayFailReadingRange, behind_then, same_image_then}
-use Rattle.qcow2_session.proofs.Converting.{interrupted, interrupted_if, interrupted_then}
-use Rattle.qcow2_session.proofs.Counting.{converted, converting_image, converting_part, so_far_call, so_far_none, so_far_part, so_far_then}
-use Rattle.qcow2_session.proofs.Exporting.{fills_more, filled_same, unchanged_refused}
-use Rattle.qcow2_session.proofs.FailingOnSound.{reads_part}
-use Rattle.qcow2_session.proofs.Parts.{part_reads}
-use Rattle.qcow2_session.proofs.Turns.{does_if, does_then, none_within, refused_is}
+use Rattle.qcow2_session.proofs.Lemmas.{interrupted, interrupted_if, interrupted_then, converted, converting_image, converting_part, so_far_call, so_far_none, so_far_part, so_far_then, fills_more, filled_same, unchanged_refused, reads_part, part_reads, does_if, does_then, none_within, refused_is}
 use Rattle.qcow2_session.proofs.convert.export_some.Goals as goal
 
 pub returns-in_err-passed-clause-step : goal.returns-in_err-passed-clause-step

@@ -1,13 +1,9 @@
 use Rattle.std.proofs.Common.{◌≡◌, ◌+◌, ◌-◌, ◌%◌, ◌<◌, ◌≤◌, ◌++◌, sym, drop, length, take, refl, ap, ◌∙◌, subst, arith, min, ℕ, rules, IfErr, Ok}
 use Rattle.qcow2_session.proofs.Common.{limited_joined, zero-mod, add-mod_right, common_steps, bytes_at, with_disk, with_bytes, guest_of, Setting, abstract_of, ImportsAnyOf, MayFailImporting, IsReasonNotToWrite, behind_none, behind_then, written_then, same_image_then}
 use Rattle.qcow2_session.proofs.convert.import_all.Goals as goal
-use Rattle.qcow2_session.proofs.Counting.{converted, converting_part, so_far_none, so_far_part, so_far_then}
+use Rattle.qcow2_session.proofs.Lemmas.{converted, converting_part, so_far_none, so_far_part, so_far_then, part_of_disk, any_more, any_none, any_refused, imports_none, all_more, all_refused, same_range, refused_is, does_if, quiet_image}
 use Rattle.qcow2_session.proofs.Differing.{part_kept}
-use Rattle.qcow2_session.proofs.Exporting.{part_of_disk}
 use Rattle.qcow2_session.proofs.Reasons.{importing_within, reason_within}
-use Rattle.qcow2_session.proofs.Converting.{any_more, any_none, any_refused, imports_none, all_more, all_refused, same_range}
-use Rattle.qcow2_session.proofs.Turns.{refused_is, does_if}
-use Rattle.qcow2_session.proofs.Quiet.{quiet_image}
 
 pub loop-at-init : goal.loop-at-init
 loop-at-init g c = record {

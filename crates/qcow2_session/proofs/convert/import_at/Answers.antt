@@ -4,11 +4,8 @@ use Rattle.qcow2_session.proofs.Common.{bytes_at, Setting, refuses_to_read, faul
 use Rattle.qcow2_session.proofs.ImportLimits.{reading_unlimited}
 use Rattle.qcow2_session.proofs.Reasons.{read_importing, write_importing, write_reason}
 use Rattle.qcow2_image.proofs.Preallocate.Pieces.{none_of}
-use Rattle.qcow2_session.proofs.Counting.{converted, converting_image, converting_raw, fewer_since, image_tells, image_marks, so_far_call, so_far_none, so_far_then}
+use Rattle.qcow2_session.proofs.Lemmas.{converted, converting_image, converting_raw, fewer_since, image_tells, image_marks, so_far_call, so_far_none, so_far_then, does_nothing, interrupted, interrupted_here, at_refused, at_shown, at_written, at_unwritten, refused_is, quiet_image}
 use Rattle.qcow2_session.proofs.Differing.{other_bytes, reading_differs}
-use Rattle.qcow2_session.proofs.Converting.{does_nothing, interrupted, interrupted_here, at_refused, at_shown, at_written, at_unwritten}
-use Rattle.qcow2_session.proofs.Turns.{refused_is}
-use Rattle.qcow2_session.proofs.Quiet.{quiet_image}
 
 pub returns-in_err-read-clause-sees : goal.returns-in_err-read-clause-sees
 returns-in_err-read-clause-sees g c = λ honest.

@@ -1,12 +1,8 @@
 use Rattle.qcow2_session.proofs.convert.to_qcow2.Goals as goal
 use Rattle.std.proofs.Common.{◌≡◌, ◌⊎◌, ◌-◌, IfErr, inl, inr, refl, sym, ap, ◌∙◌, subst, length, Ok, Err, rules}
 use Rattle.qcow2_session.proofs.Common.{HasCause, size_of, refuses_to_read, storage_met, tables_met, fault_unlimited, storage_unlimited, other_limit, fault_of_storage, of_storage, InvalidOption, Memory, DiffersWhereKept, Imports, ImportsAll, MayFailImporting, IsReasonNotToWrite, IsRefusedUnequal, IsOfReading, behind_none, behind_then, written_then}
-use Rattle.qcow2_session.proofs.Counting.{converted, converting_else, converting_image, converting_part, converting_raw, so_far_call, so_far_none, so_far_part, so_far_then}
+use Rattle.qcow2_session.proofs.Lemmas.{converted, converting_else, converting_image, converting_part, converting_raw, so_far_call, so_far_none, so_far_part, so_far_then, any_nothing, imports_nothing, imports_unflushed, imports_flushed, refused_none, answered_at_once, in_parts, refused_at_once, refused_is, quiet_image}
 use Rattle.qcow2_session.proofs.Differing.{early_reading, option_other, reading_differs, reading_other, size_untold}
-use Rattle.qcow2_session.proofs.Converting.{any_nothing, imports_nothing, imports_unflushed, imports_flushed}
-use Rattle.qcow2_session.proofs.Marking.{refused_none, answered_at_once, in_parts, refused_at_once}
-use Rattle.qcow2_session.proofs.Turns.{refused_is}
-use Rattle.qcow2_session.proofs.Quiet.{quiet_image}
 
 pub returns-in_err-size-clause-sees : goal.returns-in_err-size-clause-sees
 returns-in_err-size-clause-sees g c = λ honest. imports_nothing g.S.Storage.view g.F.BackingDisk.backing c.args.image.now _ (of_storage c.in_err-size.field-0.0) _ (refused_is _ (of_storage c.in_err-size.field-0.0) c.from_residual-in_err-size.ensures)

@@ -1,9 +1,5 @@
 use Rattle.qcow2_session.proofs.Common.{inl, arith, sym, subst, refl, ◌∙◌, rules, of_storage, Memory, guest_of, abstract_of, IfErr, fault_of_storage, known_in, size_of, MayFailReadingRange, refuses_to_read, behind_none, reads_none}
-use Rattle.qcow2_session.proofs.Marking.{refused_none}
-use Rattle.qcow2_session.proofs.FailingOnSound.{memory_looking}
-use Rattle.qcow2_session.proofs.Counting.{converted, converting_else, converting_part, converting_raw, so_far_none, so_far_part}
-use Rattle.qcow2_session.proofs.Exporting.{unchanged_refused, filled_first, filled_all}
-use Rattle.qcow2_session.proofs.Turns.{refused_is}
+use Rattle.qcow2_session.proofs.Lemmas.{refused_none, memory_looking, converted, converting_else, converting_part, converting_raw, so_far_none, so_far_part, unchanged_refused, filled_first, filled_all, refused_is}
 use Rattle.qcow2_session.proofs.convert.to_raw.Goals as goal
 
 pub returns-clause-sees : goal.returns-clause-sees

@@ -1,10 +1,6 @@
 use Rattle.std.proofs.Common.{◌≡◌, ◌+◌, [], ap, inl, is_some, replicate, rules, sym, subst, arith, IfErr}
 use Rattle.qcow2_session.proofs.Common.{known_in, Guest, Shows, Disk, Kind, IsFoundIn, AnswersCall, found_kind, MayFailReadingRange, tables_met, IsOfReading}
-use Rattle.qcow2_session.proofs.Causing.{mapping_reading}
-use Rattle.qcow2_session.proofs.Exporting.{zeros_there}
-use Rattle.qcow2_session.proofs.Marking.{in_parts, parts_answered, parts_handed, refused_at_once}
-use Rattle.qcow2_session.proofs.FailingOnSound.{looking_prepared}
-use Rattle.qcow2_session.proofs.Turns.{does_if, does_why, refused_is}
+use Rattle.qcow2_session.proofs.Lemmas.{mapping_reading, zeros_there, in_parts, parts_answered, parts_handed, refused_at_once, looking_prepared, does_if, does_why, refused_is}
 use Rattle.qcow2_session.proofs.convert.zero_run.Goals as goal
 
 pub returns-in_err-mapping-clause-sees : goal.returns-in_err-mapping-clause-sees

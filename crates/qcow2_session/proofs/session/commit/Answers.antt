@@ -1,14 +1,8 @@
 use Rattle.std.proofs.Common.{◌≡◌, inl, inr, refl, sym, ap, subst, ◌∙◌, List, Option, Some, None, Err, rules}
 use Rattle.qcow2_session.proofs.Common.{MarksAtOnce, slice_get, slice_set, IsNone, RefinesCommand, commit, done, misuse, refused, done_as, refused_as, none_as, image_abstraction, abstract_image, refusal_of, Commits, reason_of, fault_of, AreExisting, is_failed, table_of, IsOfTables, behind_none, reads_none, get_set_same, set_set, set_same}
-use Rattle.qcow2_session.proofs.Marking.{at_rest, commit_at_once}
-use Rattle.qcow2_session.proofs.Places.{set_again}
-use Rattle.qcow2_session.proofs.Meanings.{found_at, none_at, does_commit, refuses_commit}
-use Rattle.qcow2_session.proofs.Answering.{not_both, not_old_tables, kept_is}
-use Rattle.qcow2_session.proofs.Unwritten.{existing_set}
+use Rattle.qcow2_session.proofs.Lemmas.{at_rest, commit_at_once, set_again, found_at, none_at, does_commit, refuses_commit, not_both, not_old_tables, kept_is, existing_set, is_done, is_misused, is_refused, kept_error, kept_same, not_failed, not_free, same_mapping, where_failed, where_works, quiet_commit}
 use Rattle.qcow2_session.specs.declared.session.Command.TheVariants as C
 use Rattle.qcow2_session.specs.declared.session.Reply.TheVariants as R
-use Rattle.qcow2_session.proofs.Causing.{is_done, is_misused, is_refused, kept_error, kept_same, not_failed, not_free, same_mapping, where_failed, where_works}
-use Rattle.qcow2_session.proofs.Quiet.{quiet_commit}
 use Rattle.qcow2_session.proofs.session.commit.Goals as goal
 
 pub fill-requires-clause-free : goal.fill-requires-clause-free

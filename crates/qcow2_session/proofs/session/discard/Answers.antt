@@ -1,11 +1,7 @@
 use Rattle.qcow2_session.proofs.Common.{counts_released, refl, sym, subst, ◌∙◌, List, Option, None, rules, RefinesCommand, discard, done, misuse, done_as, none_as, abstract_of, image_abstraction, abstract_image, AreExisting, behind_none, reads_none, set_same}
-use Rattle.qcow2_session.proofs.Marking.{at_rest}
-use Rattle.qcow2_session.proofs.Meanings.{found_at, none_at, does_discard}
-use Rattle.qcow2_session.proofs.Unwritten.{existing_set}
+use Rattle.qcow2_session.proofs.Lemmas.{at_rest, found_at, none_at, does_discard, existing_set, is_done, is_misused, not_free, quiet_release}
 use Rattle.qcow2_session.specs.declared.session.Command.TheVariants as C
 use Rattle.qcow2_session.specs.declared.session.Reply.TheVariants as R
-use Rattle.qcow2_session.proofs.Causing.{is_done, is_misused, not_free}
-use Rattle.qcow2_session.proofs.Quiet.{quiet_release}
 use Rattle.qcow2_session.proofs.session.discard.Goals as goal
 
 pub returns-in-None : goal.returns-in-None

@@ -1,9 +1,6 @@
 use Rattle.std.proofs.Common.{◌≡◌, ◌∷◌, ◌++◌, ◌∙◌, refl, rules, sym, subst, [], Some}
 use Rattle.qcow2_session.proofs.Common.{slice_get, abstract_of, ReleasesMappings, faults_then, behind_none, behind_then, written_none, written_then, same_image_then}
-use Rattle.qcow2_session.proofs.Places.{get_front}
-use Rattle.qcow2_session.proofs.Turns.{none_within, does_if, does_then}
-use Rattle.qcow2_session.proofs.Counting.{none_counted}
-use Rattle.qcow2_session.proofs.Converting.{does_nothing}
+use Rattle.qcow2_session.proofs.Lemmas.{get_front, none_within, does_if, does_then, none_counted, does_nothing}
 use Rattle.qcow2_session.proofs.session.discard_all.Goals as goal
 
 pub loop-slot-preserved : goal.loop-slot-preserved

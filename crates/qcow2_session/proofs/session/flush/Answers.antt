@@ -1,9 +1,7 @@
-use Rattle.qcow2_session.proofs.Marking.{answered_at_once, refused_at_once}
+use Rattle.qcow2_session.proofs.Lemmas.{answered_at_once, refused_at_once, error_is, none_to_free, not_both, is_answered, is_refused, not_failed, same_error, where_failed}
 use Rattle.qcow2_session.proofs.Common.{refl, sym, ◌∙◌, rules, refused_as, flushed_as, whole, is_failed}
-use Rattle.qcow2_session.proofs.Answering.{error_is, none_to_free, not_both}
 use Rattle.qcow2_session.specs.declared.session.Command.TheVariants as C
 use Rattle.qcow2_session.specs.declared.session.Reply.TheVariants as R
-use Rattle.qcow2_session.proofs.Causing.{is_answered, is_refused, not_failed, same_error, where_failed}
 use Rattle.qcow2_session.proofs.session.flush.Goals as goal
 
 pub returns-in-Err : goal.returns-in-Err

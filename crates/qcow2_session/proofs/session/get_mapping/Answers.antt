@@ -1,14 +1,9 @@
-use Rattle.qcow2_session.proofs.Marking.{answered_at_once, refused_at_once}
+use Rattle.qcow2_session.proofs.Lemmas.{answered_at_once, refused_at_once, does_if, found_set, unusable_first, error_is, not_both, lookup_answer, begun_with, is_answered, is_refused, some_error, none_refused}
 use Rattle.std.proofs.Common.{◌≡◌, refl, sym, ap, subst, ◌∙◌, Some, is_some, arith, rules, ⊎_elim}
 use Rattle.qcow2_session.proofs.Common.{slice_set, IsFoundIn, done_as, refused_as, known_in, found_kind, mappings_in, unusable, Mapping, get_set}
-use Rattle.qcow2_session.proofs.Turns.{does_if}
-use Rattle.qcow2_session.proofs.Meanings.{found_set}
-use Rattle.qcow2_session.proofs.Answering.{unusable_first, error_is, not_both, lookup_answer}
 use Rattle.qcow2_session.specs.declared.session.Command.TheVariants as C
 use Rattle.qcow2_session.specs.declared.session.Reply.TheVariants as R
-use Rattle.qcow2_session.proofs.Causing.{begun_with, is_answered, is_refused, some_error}
 use Rattle.qcow2_image.proofs.Call.Slots.{length_set}
-use Rattle.qcow2_session.proofs.Told.{none_refused}
 use Rattle.qcow2_session.proofs.session.get_mapping.Goals as goal
 
 pub invariant_of-slots-clause-looked_up : goal.invariant_of-slots-clause-looked_up

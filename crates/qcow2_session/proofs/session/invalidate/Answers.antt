@@ -1,9 +1,7 @@
 use Rattle.qcow2_session.proofs.Common.{refl, rules, ◌∙◌, is_failed}
 use Rattle.qcow2_session.specs.declared.session.Command.TheVariants as C
 use Rattle.qcow2_session.specs.declared.session.Reply.TheVariants as R
-use Rattle.qcow2_session.proofs.Causing.{is_answered, is_refused, not_failed, same_error, where_failed}
-use Rattle.qcow2_session.proofs.Marking.{answered_at_once, refused_at_once}
-use Rattle.qcow2_session.proofs.Quiet.{quiet_silent}
+use Rattle.qcow2_session.proofs.Lemmas.{is_answered, is_refused, not_failed, same_error, where_failed, answered_at_once, refused_at_once, quiet_silent}
 use Rattle.qcow2_session.proofs.session.invalidate.Goals as goal
 
 pub returns-in-Err : goal.returns-in-Err

@@ -1,15 +1,8 @@
-use Rattle.qcow2_session.proofs.Marking.{answered_at_once, at_rest, refused_at_once}
+use Rattle.qcow2_session.proofs.Lemmas.{answered_at_once, at_rest, refused_at_once, taken, untaken, none_at, found_at, so_in_slot, host_at, prepared_at, does_prepare, preparing_first, prepares_answer, error_is, not_both, none_refused, existing_set, nothing_prepared, prepare_same, prepared_untaken, begun_with, holds, is_answered, is_misused, is_refused, not_free, some_error, quiet_image, quiet_left}
 use Rattle.std.proofs.Common.{◌≡◌, inl, inr, refl, sym, ap, subst, ◌∙◌, List, Option, arith, rules, Some, None}
 use Rattle.qcow2_session.proofs.Common.{cases_lt, RefinesCommand, prepare, prepared_is, misuse, done_as, refused_as, none_as, image_abstraction, meaning, abstract_image, Setting, slice_get, slice_set, header, HeaderFields, IsPrivateIn, IsHiddenIn, known_in, header_is, hidden_in, refuses_to_prepare, is_writable, AreExisting, behind_none, reads_none, get_set_same}
-use Rattle.qcow2_session.proofs.Meanings.{taken, untaken, none_at, found_at, so_in_slot, host_at, prepared_at, does_prepare}
-use Rattle.qcow2_session.proofs.Answering.{preparing_first, prepares_answer, error_is, not_both}
-use Rattle.qcow2_session.proofs.Told.{none_refused}
-use Rattle.qcow2_session.proofs.Unwritten.{existing_set, nothing_prepared, prepare_same}
 use Rattle.qcow2_session.specs.declared.session.Command.TheVariants as C
 use Rattle.qcow2_session.specs.declared.session.Reply.TheVariants as R
-use Rattle.qcow2_session.proofs.Untaken.{prepared_untaken}
-use Rattle.qcow2_session.proofs.Causing.{begun_with, holds, is_answered, is_misused, is_refused, not_free, some_error}
-use Rattle.qcow2_session.proofs.Quiet.{quiet_image, quiet_left}
 use Rattle.qcow2_session.proofs.session.prepare.Goals as goal
 
 pub returns-then-is_some : goal.returns-then-is_some

@@ -1,8 +1,6 @@
 use Rattle.std.proofs.Common.{◌++◌, ◌<◌, ◌≡◌, ◌+◌, Some, arith, drop, length, refl, subst, sym, take, rules, inl, IfErr}
 use Rattle.qcow2_session.proofs.Common.{Memory, common_steps, Shows, guest_of, abstract_of, Reads, MayFail, refuses_to_read, behind_none, MayFailReadingRange, known_in}
-use Rattle.qcow2_session.proofs.Turns.{refused_is, does_if}
-use Rattle.qcow2_session.proofs.Marking.{at_rest, in_parts, memory_marks, parts_handed, unmarked, refused_none}
-use Rattle.qcow2_session.proofs.FailingOnSound.{memory_looking}
+use Rattle.qcow2_session.proofs.Lemmas.{refused_is, does_if, at_rest, in_parts, memory_marks, parts_handed, unmarked, refused_none, memory_looking}
 use Rattle.qcow2_session.proofs.session.read.Goals as goal
 
 pub returns-in_err-read_into-clause-sees : goal.returns-in_err-read_into-clause-sees

@@ -1,14 +1,7 @@
 use Rattle.std.proofs.Common.{◌≡◌, ◌<◌, ◌+◌, ◌-◌, ◌≤◌, ◌∙◌, refl, length, IfErr, sym, subst, ap, [], take, drop, arith, rules, Some}
 use Rattle.qcow2_session.proofs.Common.{counts_on, counts_still, common_steps, another, Shows, Guest, guest_of, abstract_of, IsRightlyBeyond, behind_none, behind_then, counted_on, faults_then, MayFail, refuses_to_read, written_none, written_then, MayFailReadingRange, known_in, same_image_then}
-use Rattle.qcow2_session.proofs.Bytes.{shows_as, shows_both, first_two}
-use Rattle.qcow2_session.proofs.Beyond.{part_refused}
+use Rattle.qcow2_session.proofs.Lemmas.{shows_as, shows_both, first_two, part_refused, refused_is, refuses_here, none_within, does_if, refuses_if, does_then, refuses_then, part_reads, at_rest, in_parts, parts_answered, parts_behind, parts_beyond, parts_handed, unmarked, refused_none, none_counted, does_nothing, reads_part}
 use Rattle.qcow2_session.proofs.Reading.{reads_refused}
-use Rattle.qcow2_session.proofs.Turns.{refused_is, refuses_here, none_within, does_if, refuses_if, does_then, refuses_then}
-use Rattle.qcow2_session.proofs.Parts.{part_reads}
-use Rattle.qcow2_session.proofs.Marking.{at_rest, in_parts, parts_answered, parts_behind, parts_beyond, parts_handed, unmarked, refused_none}
-use Rattle.qcow2_session.proofs.Counting.{none_counted}
-use Rattle.qcow2_session.proofs.Converting.{does_nothing}
-use Rattle.qcow2_session.proofs.FailingOnSound.{reads_part}
 use Rattle.qcow2_session.proofs.session.read_into.Goals as goal
 
 pub returns-in_default-clause-sees : goal.returns-in_default-clause-sees

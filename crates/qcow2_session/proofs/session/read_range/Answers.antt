@@ -1,9 +1,6 @@
 use Rattle.std.proofs.Common.{◌≡◌, ◌<◌, ◌+◌, ◌++◌, refl, ap, ◌∙◌, Err, take, drop, length, sym, subst, arith, Some, rules, inl, IfErr}
 use Rattle.qcow2_session.proofs.Common.{common_steps, Shows, guest_of, abstract_of, Reads, MayFail, unusable, IsFoundWhole, further_by, Memory, OutdatedMapping, sound_is_usable, behind_none, IsCacheHeld, MayFailMapped}
-use Rattle.qcow2_session.proofs.Turns.{refused_is, refused_some, does_if}
-use Rattle.qcow2_session.proofs.Marking.{answered_at_once, at_rest, memory_marks, none_answered, once_handed, refused_at_once, unchecked, unmarked}
-use Rattle.qcow2_session.proofs.Causing.{same_error}
-use Rattle.qcow2_session.proofs.FailingOnSound.{memory_looking}
+use Rattle.qcow2_session.proofs.Lemmas.{refused_is, refused_some, does_if, answered_at_once, at_rest, memory_marks, none_answered, once_handed, refused_at_once, unchecked, unmarked, same_error, memory_looking}
 use Rattle.qcow2_session.proofs.session.read_range.Goals as goal
 
 pub returns-in_err-read_mapped-clause-sees : goal.returns-in_err-read_mapped-clause-sees

@@ -1,11 +1,6 @@
 use Rattle.std.proofs.Common.{◌≡◌, ◌+◌, ◌++◌, ◌<◌, ◌∙◌, Some, sym, subst, ap, [], take, drop, arith, rules, inl, Err, IfErr, length}
 use Rattle.qcow2_session.proofs.Common.{counts_on, common_steps, another, Guest, abstract_of, IsOfReading, ReadsFirst, size_of, MayFail, unusable, passes, BeyondSize, tables_met, behind_then, written_then, counted_on, IsFoundWhole, further_by, MayFailReadingRange, known_in}
-use Rattle.qcow2_session.proofs.Marking.{in_parts, parts_answered, parts_behind, parts_beyond, parts_handed, refused_at_once}
-use Rattle.qcow2_session.proofs.Bytes.{shows_as}
-use Rattle.qcow2_session.proofs.Turns.{refused_is, refuses_here, none_within, does_if, refuses_if, does_then, refuses_then}
-use Rattle.qcow2_session.proofs.Causing.{mapping_reading, fits_below, then_none}
-use Rattle.qcow2_session.proofs.Parts.{mapping_usable}
-use Rattle.qcow2_session.proofs.FailingOnSound.{found_there, looking_prepared, reads_found}
+use Rattle.qcow2_session.proofs.Lemmas.{in_parts, parts_answered, parts_behind, parts_beyond, parts_handed, refused_at_once, shows_as, refused_is, refuses_here, none_within, does_if, refuses_if, does_then, refuses_then, mapping_reading, fits_below, then_none, mapping_usable, found_there, looking_prepared, reads_found}
 use Rattle.qcow2_session.proofs.session.read_some.Goals as goal
 
 pub returns-in_err-mapping-clause-sees : goal.returns-in_err-mapping-clause-sees

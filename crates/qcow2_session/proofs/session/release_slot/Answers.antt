@@ -1,7 +1,6 @@
 use Rattle.std.proofs.Common.{◌∷◌, ◌++◌, sym, subst, [], Option, rules}
 use Rattle.qcow2_session.proofs.Common.{image_abstraction, ReleasesMappings, free_places, behind_none}
-use Rattle.qcow2_session.proofs.Places.{last_none, last_release}
-use Rattle.qcow2_session.proofs.Quiet.{quiet_release}
+use Rattle.qcow2_session.proofs.Lemmas.{last_none, last_release, quiet_release}
 use Rattle.qcow2_session.proofs.session.release_slot.Goals as goal
 
 pub returns-in-Some-clause-sees : goal.returns-in-Some-clause-sees

@@ -1,13 +1,8 @@
 use Rattle.std.proofs.Common.{◌≡◌, ◌+◌, ◌∷◌, ◌++◌, rules, ◌∙◌, refl, sym, ap, inl, inr, ⊎_elim, subst, arith, [], None, take, map, is_some, replicate}
 use Rattle.qcow2_session.proofs.Common.{common_steps, take_more, take_all, map-append, abstract_of, image_abstraction, HasNoInvalidation, RefinesWholeRun, begun, started, begins, completes, refines_the_disk, command_of, reply_of, free_places, nothing_since, whole, contents_in, IsReportedRun, RunPoint, first_point, mappings_in, range_of, IsUntouched, RunCounts, behind_none, behind_then, written_then}
 use Rattle.qcow2_session.proofs.LookingUp.{looked_up, none_said}
-use Rattle.qcow2_session.proofs.Meanings.{ranges_after}
-use Rattle.qcow2_session.proofs.Places.{surplus_none}
-use Rattle.qcow2_session.proofs.Runs.{GoesOn, first_of_all, command_step_on, map_more}
-use Rattle.qcow2_session.proofs.Told.{IsToldSoFar, first_told, image_itself, itself_then, none_before, same_itself, told_more}
-use Rattle.qcow2_session.proofs.Unwritten.{existing_none}
-use Rattle.qcow2_session.proofs.Counting.{none_counted, run_counts_more, run_counts_still}
-use Rattle.qcow2_session.proofs.Quiet.{along_quietly}
+use Rattle.qcow2_session.proofs.Lemmas.{ranges_after, surplus_none, GoesOn, command_step_on, map_more, IsToldSoFar, first_told, image_itself, itself_then, none_before, same_itself, told_more, existing_none, none_counted, run_counts_more, run_counts_still, along_quietly}
+use Rattle.qcow2_session.proofs.Runs.{first_of_all}
 use Rattle.qcow2_session.proofs.session.run.Goals as goal
 
 pub loop-command-init : goal.loop-command-init

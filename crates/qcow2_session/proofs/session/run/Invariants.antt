@@ -1,7 +1,6 @@
 use Rattle.std.proofs.Common.{◌≡◌, vec_len, take, map, [], None, replicate}
 use Rattle.qcow2_session.proofs.Common.{State, RefinesState, HasNoInvalidation, begun, Setting, PreservesHeaderCluster, number_of, abstract_of, image_abstraction, RunCounts, command_of, reply_of, mappings_in, KeepsItself}
-use Rattle.qcow2_session.proofs.Runs.{GoesOn}
-use Rattle.qcow2_session.proofs.Told.{IsToldSoFar}
+use Rattle.qcow2_session.proofs.Lemmas.{GoesOn, IsToldSoFar}
 use Rattle.qcow2_session.proofs.session.run.Given as goal
 
 abbrev pub invariant-loop-command : goal.invariant-loop-command

@@ -1,10 +1,7 @@
-use Rattle.qcow2_session.proofs.Marking.{at_rest}
+use Rattle.qcow2_session.proofs.Lemmas.{at_rest, reading_first, error_is, write_error_is, not_both, reads_answer, writes_answer, write_refused_answer, read_answered, leaks_answered, read_refused, size_answered, write_answered, write_refused_for, rightly_written}
 use Rattle.qcow2_session.proofs.Common.{MarksBy, rules, refl, ap, sym, subst, ◌∙◌, None, Some, done_as, refused_as, none_as, command_of, mappings_in, SlotsAfter, ReplyMatchesImage, RefusalJustified, behind_none, reads_none}
-use Rattle.qcow2_session.proofs.Answering.{reading_first, error_is, write_error_is, not_both, reads_answer, writes_answer, write_refused_answer}
 use Rattle.qcow2_session.specs.CallSteps.{AnswersCommand}
 use Rattle.qcow2_session.specs.declared.session.Reply.TheVariants.{Bytes, Done, Leaked, Refused, Size, WriteRefused}
-use Rattle.qcow2_session.proofs.Causing.{read_answered, leaks_answered, read_refused, size_answered, write_answered, write_refused_for}
-use Rattle.qcow2_session.proofs.Copied.{rightly_written}
 use Rattle.qcow2_session.proofs.session.step.Goals as goal
 
 pub returns-in-Ok : goal.returns-in-Ok

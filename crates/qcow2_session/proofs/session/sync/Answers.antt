@@ -1,9 +1,7 @@
-use Rattle.qcow2_session.proofs.Marking.{answered_at_once, refused_at_once}
+use Rattle.qcow2_session.proofs.Lemmas.{answered_at_once, refused_at_once, error_is, not_both, is_answered, is_refused, not_failed, same_error, where_failed}
 use Rattle.qcow2_session.proofs.Common.{refl, rules, ◌∙◌, done_as, refused_as, is_failed}
-use Rattle.qcow2_session.proofs.Answering.{error_is, not_both}
 use Rattle.qcow2_session.specs.declared.session.Command.TheVariants as C
 use Rattle.qcow2_session.specs.declared.session.Reply.TheVariants as R
-use Rattle.qcow2_session.proofs.Causing.{is_answered, is_refused, not_failed, same_error, where_failed}
 use Rattle.qcow2_session.proofs.session.sync.Goals as goal
 
 pub returns-in-Err : goal.returns-in-Err

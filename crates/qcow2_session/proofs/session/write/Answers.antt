@@ -1,15 +1,8 @@
 use Rattle.std.proofs.Common.{◌≡◌, ◌∷◌, ◌<◌, ◌+◌, ◌≤◌, ◌%◌, ◌-◌, rules, ℕ, ◌∙◌, subst, take, drop, length, [], ap, arith, refl, Option, Some, None, Result, Err, Ok}
 use Rattle.qcow2_session.proofs.Common.{counts_on, IfSome, common_steps, take_rest, another, Setting, given_of, works_less, abstract_of, refusal_of, LeavesCopied, Writes, cluster_size_of, NeedsOverflowingL1Entry, limited_from, limited_giving, IsTaken, IsUnderMappingIn, TablePrepared, refuses_to_prepare, faults_then, behind_then, written_then, known_in, taking_kept, same_image_then}
-use Rattle.qcow2_session.proofs.Marking.{parts_answered, parts_behind, parts_beyond}
+use Rattle.qcow2_session.proofs.Lemmas.{parts_answered, parts_behind, parts_beyond, ends_on, write_refused, first_given, never_first, no_more_then, stops_behind, stops_first, writes_on, part_refused, does_less, refuses_here, refuses_if, nothing_refused, not_failed_yet, part_prepares, part_under, prepares_usable, under_taken, copied_on, compressed_in_part}
 use Rattle.qcow2_session.proofs.session.write.Goals as goal
-use Rattle.qcow2_session.proofs.Writing.{ends_on, write_refused}
 use Rattle.qcow2_session.proofs.Respecting.{heeded_first, heeded_more}
-use Rattle.qcow2_session.proofs.WrittenParts.{first_given, never_first, no_more_then, stops_behind, stops_first, writes_on}
-use Rattle.qcow2_session.proofs.Beyond.{part_refused}
-use Rattle.qcow2_session.proofs.Turns.{does_less, refuses_here, refuses_if, nothing_refused}
-use Rattle.qcow2_session.proofs.Parts.{not_failed_yet, part_prepares, part_under, prepares_usable, under_taken}
-use Rattle.qcow2_session.proofs.Copied.{copied_on}
-use Rattle.qcow2_session.proofs.FailingOnSound.{compressed_in_part}
 
 pub returns-in_default-clause-sees : goal.returns-in_default-clause-sees
 returns-in_default-clause-sees g c = λ out. refuses_if (λ same. (c.loop-done.invariant.within, same)) (refuses_here (another 2) (λ is. absurd cc) (does_less (first_given _ c.args.offset c.loop-done.done c.args.bytes.now) (c.loop-done.invariant.written out)))

@@ -1,13 +1,8 @@
-use Rattle.qcow2_session.proofs.Marking.{answered_at_once, at_rest, refused_at_once}
-use Rattle.qcow2_session.proofs.Quiet.{quiet_left}
+use Rattle.qcow2_session.proofs.Lemmas.{answered_at_once, at_rest, refused_at_once, quiet_left, found_at, none_at, does_put, refuses_put, is_past, mapping_first, error_is, not_both, put_same, begun_with, is_answered, is_misused, is_refused, none_of, not_free, own_mapping, put_reads, put_writes, same_error, same_mapping, some_error, then_early, then_none}
 use Rattle.std.proofs.Common.{◌≡◌, ◌⊎◌, ◌+◌, ◌<◌, ◌≤◌, ◌&&◌, refl, length, arith, rules, ◌∙◌, inl, inr, ℕ, ap, subst, List, Option, Some, None, Err, not, Result, Ok}
 use Rattle.qcow2_session.proofs.Common.{reads_none, done_as, refused_as, none_as, image_abstraction, misuse, image_of, length_of, table_of, refuses_mapping, unusable, nat_lt, slice_get, IfSome, cases_lt, ImageError, ReadOnly, is_writable, Prepared, behind_none}
-use Rattle.qcow2_session.proofs.Meanings.{found_at, none_at, does_put, refuses_put, is_past}
-use Rattle.qcow2_session.proofs.Answering.{mapping_first, error_is, not_both}
-use Rattle.qcow2_session.proofs.Unwritten.{put_same}
 use Rattle.qcow2_session.specs.declared.session.Command.TheVariants as C
 use Rattle.qcow2_session.specs.declared.session.Reply.TheVariants as R
-use Rattle.qcow2_session.proofs.Causing.{begun_with, is_answered, is_misused, is_refused, none_of, not_free, own_mapping, put_reads, put_writes, same_error, same_mapping, some_error, then_early, then_none}
 use Rattle.qcow2_session.proofs.session.write_mapped.Goals as goal
 use Rattle.qcow2_session.proofs.session.write_mapped.Goals.{then-at-length-via-then-at-length, then-at-length-via-else-at-length+then-len-length}
 

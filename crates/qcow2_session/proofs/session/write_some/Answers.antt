@@ -1,20 +1,7 @@
 use Rattle.std.proofs.Common.{◌≡◌, ◌∷◌, ◌+◌, ◌<◌, ◌≤◌, sym, subst, ap, ◌∙◌, Err, [], Some, None, min, length, refl, arith, ℕ, ⊎_elim, List, inl, inr, take, true, false, rules, Ok, Option, Result, IfErr, is_some}
 use Rattle.qcow2_session.proofs.Common.{MarksAtOnce, counts_on, counts_released, IsUnderMapping, IfSome, IfOk, IsOk, given_of, Setting, guest_of, refusal_of, Commits, reason_of, CountsImageFaults, is_writable, number_of, size_of, IsHandedBackBy, image_of, length_of, guest_offset_of, offset_of, table_of, refuses_mapping, refuses_to_prepare, MayFail, MayFailPreparing, Kept, abstract_of, image_abstraction, meaning, AreDataAt, cluster_size_of, LeavesCopied, WritesFirst, RespectsFirst, free_places, Qcow2, cases_Bool, cases_lt, pow_pos, IsOfNothing, Prepared, common_steps, ImageError, counted_still, faults_then, IsOfTables, tables_met, behind_then, written_then, known_in, fault_unlimited, limited_upto, other_limit, fault_of, NeedsOverflowingL1Entry, IfLimit, IsLimited, CopiesCompressed, IsCacheHeld, MayFailAllocating, HasPinnedMapping, taking_as}
-use Rattle.qcow2_session.proofs.Marking.{commit_at_once, in_parts, parts_answered, parts_before, parts_behind, parts_handed, refused_at_once}
+use Rattle.qcow2_session.proofs.Lemmas.{commit_at_once, in_parts, parts_answered, parts_before, parts_behind, parts_handed, refused_at_once, cut_long, cut_part, cut_short, may_write_none, put_refused, written, commit_old_tables, commit_kept, chunk_ends, no_more_then, none_refused, refused_is, none_within, refuses_if, refuses_less, nothing_refused, nothing_prepared, prepare_same, put_same, commit_since, mapping_usable, not_failed_yet, prepares_usable, prepares_within, prepares_writable, put_met, under_taken, untaken_beside, quiet_commit, quiet_image, quiet_release, existing_or_not, kept_data, part_copied, existing_found, existing_long, existing_near, put_unlimited, compressed_behind, put_looking}
 use Rattle.qcow2_session.proofs.session.write_some.Goals as goal
-use Rattle.qcow2_session.proofs.Bytes.{cut_long, cut_part, cut_short}
-use Rattle.qcow2_session.proofs.Chunks.{may_write_none, put_refused, written, commit_old_tables, commit_kept}
-use Rattle.qcow2_session.proofs.Writing.{chunk_ends}
-use Rattle.qcow2_session.proofs.WrittenParts.{no_more_then}
-use Rattle.qcow2_session.proofs.Told.{none_refused}
-use Rattle.qcow2_session.proofs.Turns.{refused_is, none_within, refuses_if, refuses_less, nothing_refused}
-use Rattle.qcow2_session.proofs.Unwritten.{nothing_prepared, prepare_same, put_same}
-use Rattle.qcow2_session.proofs.Counting.{commit_since}
-use Rattle.qcow2_session.proofs.Parts.{mapping_usable, not_failed_yet, prepares_usable, prepares_within, prepares_writable, put_met, under_taken}
-use Rattle.qcow2_session.proofs.Untaken.{untaken_beside}
-use Rattle.qcow2_session.proofs.Quiet.{quiet_commit, quiet_image, quiet_release}
-use Rattle.qcow2_session.proofs.Copied.{existing_or_not, kept_data, part_copied}
-use Rattle.qcow2_session.proofs.FailingOnSound.{existing_found, existing_long, existing_near, put_unlimited, compressed_behind, put_looking}
 
 -- what refused a call that begins another one before any work refused that one
 one_cause : {A E : Type 0} (r : Result A E) (e x : E) → r ≡ Err e → r ≡ Err x → e ≡ x

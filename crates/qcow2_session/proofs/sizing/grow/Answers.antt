@@ -1,12 +1,9 @@
-use Rattle.qcow2_session.proofs.Marking.{answered_at_once, refused_at_once}
-use Rattle.qcow2_session.proofs.Quiet.{quiet_left}
+use Rattle.qcow2_session.proofs.Lemmas.{answered_at_once, refused_at_once, quiet_left, resizes_failed, resized_itself, resizes_reading, same_early, begun_with, grow_meets, is_answered, is_refused, same_error, some_error, takes_larger, then_early, then_none}
 use Rattle.std.proofs.Common.{◌&&◌, inl, inr, ap, arith, refl, rules}
 use Rattle.qcow2_session.proofs.Common.{cases_lt, size_of, refuses_to_resize, takes_over, nat_lt, Preallocation}
 use Rattle.qcow2_session.proofs.Resized.{none_early, grow_done, grow_refused}
-use Rattle.qcow2_session.proofs.Unwritten.{resizes_failed, resized_itself, resizes_reading, same_early}
 use Rattle.qcow2_session.specs.declared.session.Command.TheVariants as C
 use Rattle.qcow2_session.specs.declared.session.Reply.TheVariants as R
-use Rattle.qcow2_session.proofs.Causing.{begun_with, grow_meets, is_answered, is_refused, same_error, some_error, takes_larger, then_early, then_none}
 use Rattle.qcow2_session.proofs.sizing.grow.Goals as goal
 
 pub returns-in-Ok : goal.returns-in-Ok

@@ -1,12 +1,8 @@
-use Rattle.qcow2_session.proofs.Marking.{answered_at_once, refused_at_once}
-use Rattle.qcow2_session.proofs.Quiet.{quiet_left}
+use Rattle.qcow2_session.proofs.Lemmas.{answered_at_once, refused_at_once, quiet_left, resizes_failed, resized_itself, resizes_reading, same_early, begun_with, is_answered, is_refused, some_error, none_refused}
 use Rattle.qcow2_session.proofs.Common.{ap, refl, rules, size_of, refuses_to_resize}
 use Rattle.qcow2_session.proofs.Resized.{shrink_done, shrink_refused}
-use Rattle.qcow2_session.proofs.Unwritten.{resizes_failed, resized_itself, resizes_reading, same_early}
 use Rattle.qcow2_session.specs.declared.session.Command.TheVariants as C
 use Rattle.qcow2_session.specs.declared.session.Reply.TheVariants as R
-use Rattle.qcow2_session.proofs.Causing.{begun_with, is_answered, is_refused, some_error}
-use Rattle.qcow2_session.proofs.Told.{none_refused}
 use Rattle.qcow2_session.proofs.sizing.shrink.Goals as goal
 
 pub returns-in-Ok : goal.returns-in-Ok

@@ -1,9 +1,7 @@
 use Rattle.std.proofs.Common.{◌<◌, ◌≡◌, ◌⊎◌, Some, arith, length, refl, subst, sym, ◌∙◌, rules, inl, IfErr}
 use Rattle.qcow2_session.proofs.Common.{common_steps, known_in, sound_is_usable, NotCompressed, MayFail, unusable, behind_none, IsCacheHeld, MayFailSpecial}
-use Rattle.qcow2_session.proofs.Turns.{refused_is, refused_some}
+use Rattle.qcow2_session.proofs.Lemmas.{refused_is, refused_some, at_rest, call_at_once, memory_marks, once_handed, unchecked, unmarked, memory_looking}
 use Rattle.qcow2_session.proofs.SpecialReads.{told_specially}
-use Rattle.qcow2_session.proofs.Marking.{at_rest, call_at_once, memory_marks, once_handed, unchecked, unmarked}
-use Rattle.qcow2_session.proofs.FailingOnSound.{memory_looking}
 use Rattle.qcow2_session.proofs.special.read_range.Goals as goal
 
 pub returns-clause-reports : goal.returns-clause-reports

@@ -1,8 +1,7 @@
 use Rattle.qcow2_session.proofs.Common.{refl, arith, rules, ◌∙◌, done_as, refused_told, unusable}
-use Rattle.qcow2_session.proofs.Answering.{unusable_first, error_is, not_both}
+use Rattle.qcow2_session.proofs.Lemmas.{unusable_first, error_is, not_both, begun_with, is_answered, is_refused}
 use Rattle.qcow2_session.specs.declared.session.Command.TheVariants as C
 use Rattle.qcow2_session.specs.declared.session.Reply.TheVariants as R
-use Rattle.qcow2_session.proofs.Causing.{begun_with, is_answered, is_refused}
 use Rattle.qcow2_session.proofs.special.try_readv_special.Goals as goal
 
 pub returns-in-Ok : goal.returns-in-Ok
