@@ -90,16 +90,6 @@ module _ {S F : Type 0} (view : S → StorageView) where
       | inr interruption ↦ inr (interruption.interrupted.fault, lasts_then a b c [] [] first interruption.interrupted.since)
     ]
 
-    -- it is freed after a refusal, except after a fault
-    pub refused_part : (a b c : Qcow2 S F) (e e' : ImageError) → RefusedCall view backing a b out e → LastsPart view a b (Err e) → (IsFault e → (e' ≡ e) × (c ≡ b))
-        → (ImageInvariant view backing (pending_in view backing b out) b out → Lasts view b c []) → Lasts view a c []
-    refused_part a b c e e' back lasts fault frees =
-        let same : IsFault e → Lasts view a c [] = λ is. subst (λ (i : Qcow2 S F). Lasts view a i []) (sym (fault is).1) (part_since a b e lasts) in
-        elim back [
-          | inr interruption ↦ same interruption.fault
-          | inl stays ↦ elim lasts [ inl known ↦ lasts_then a b c [] [] known (frees stays.sound) | inr broken ↦ same broken.0 ]
-        ]
-
 module _ {S F : Type 0} (view : S → StorageView) (backing : F → BackingView) where
   -- ---- what is listed is freed, and all tables are written
   extends_tidying : (p q : Pending) (a b : Qcow2 S F) → InternalFreeingStep view backing p q a b [] → Extends view backing q a b

@@ -249,10 +249,3 @@ module _ {S F : Type 0} (view : S → StorageView) (backing : F → BackingView)
     | inl stays ↦ elim (told stays.sound) [ inl same ↦ sym same ∙ is | inr now ↦ other_limit _ e' (fault_unlimited e' now) is ]
     | inr broken ↦ sym (fault broken.fault).0 ∙ is
   ]
-
-  pub either_frees : (old mid new : Qcow2 S F) (e e' : ImageError) → RefusedCall view backing old mid out e → (IsFault e → (e' ≡ e) × (new ≡ mid))
-      → (ImageInvariant view backing (pending_in view backing mid out) mid out → (e' ≡ e) ⊎ IsFault e') → IsFaultOrLimit e → IsFaultOrLimit e'
-  either_frees old mid new e e' left fault told why = elim left [
-    | inl stays ↦ elim (told stays.sound) [ inl same ↦ subst IsFaultOrLimit (sym same) why | inr now ↦ inl now ]
-    | inr broken ↦ inl (subst IsFault (sym (fault broken.fault).0) broken.fault)
-  ]
