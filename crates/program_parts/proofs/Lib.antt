@@ -13,3 +13,4 @@ pub mod Compared
 pub mod Placed
 pub mod OnlyRead
 pub mod Copied
+pub mod Resized

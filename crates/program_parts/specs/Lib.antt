@@ -7,4 +7,5 @@ pub mod Lines
 pub mod Numbers
 pub mod Places
 pub mod Reports
+pub mod Resizing
 pub mod Vetting

@@ -10,6 +10,7 @@ mod layers;
 mod numbers;
 mod placing;
 mod report;
+mod resizing;
 mod vetting;
 
 pub use comparing::{Comparison, Unread, compare, compare_storages};
@@ -21,4 +22,5 @@ pub use layers::Layers;
 pub use numbers::number;
 pub use placing::{Conversion, Place, Unmade, Unplaced, convert};
 pub use report::{print_breaches, print_report};
+pub use resizing::{NotResized, resize_disk};
 pub use vetting::{Vetted, vet};

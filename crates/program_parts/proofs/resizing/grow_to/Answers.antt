@@ -1,0 +1,51 @@
+use Rattle.std.proofs.Common.{◌≡◌, ◌≤◌, ◌∙◌, [], ap, sym, subst}
+use Rattle.program_parts.proofs.Common.{guest_of, abstract_of, Disk}
+use Rattle.std.proofs.lemmas.Nat.{pow_pos}
+use Rattle.qcow2_disk.specs.AbstractImages.{Guest}
+use Rattle.qcow2_image.proofs.Images.Sizes.{disk_size}
+use Rattle.qcow2_image.specs.Clearing.{setting_of}
+use Rattle.qcow2_image.specs.ImageInvariant.{disk_of}
+use Rattle.program_parts.specs.Resizing.{IsResizedDisk}
+use Rattle.program_parts.proofs.Resized.{beyond_grow, moments_first, moments_then, resized_larger}
+use Rattle.program_parts.proofs.resizing.grow_to.Goals as goal
+
+pub returns-clause-done : goal.returns-clause-done
+returns-clause-done g c = λ out sound.
+    let view = g.S.Storage.view in
+    let below = g.F.BackingDisk.backing in
+    let old = c.args.image.now in
+    let x = setting_of view below old in
+    let one = (c.in_ok-resize_grow.ensures.sees out).answer sound in
+    let two = (c.in_ok-flush.ensures.sees out).answer one.0 in
+    let d : Disk = (guest_of (abstract_of view below old out)).disk in (
+      two.0,
+      subst (λ (k : Disk). IsResizedDisk d c.args.size c.args.mode k) (sym (ap (λ (k : Guest). k.disk) (two.1.1 ∙ one.1)))
+          (resized_larger x d c.args.size (pow_pos old.file.header.fields.cluster_bits) c.args.mode (subst (λ n. n ≤ c.args.size) (disk_size view below old out sound) c.requires)),
+      two.1.0,
+    )
+
+pub returns-clause-moments : goal.returns-clause-moments
+returns-clause-moments g c = λ opened.
+    let view = g.S.Storage.view in
+    let below = g.F.BackingDisk.backing in
+    let old = c.args.image.now in
+    let x = setting_of view below old in
+    let first = c.in_ok-resize_grow.ensures.sees [] in
+    moments_then view below old c.resize_grow.new.self _ c.args.size opened (beyond_grow x (disk_of view below old) c.args.size (pow_pos old.file.header.fields.cluster_bits) c.args.mode) first.acts c.flush.new.self (first.answer opened.sound).0 (c.in_ok-flush.ensures.sees []).acts
+
+pub returns-in_err-flush-clause-moments : goal.returns-in_err-flush-clause-moments
+returns-in_err-flush-clause-moments g c = λ opened.
+    let view = g.S.Storage.view in
+    let below = g.F.BackingDisk.backing in
+    let old = c.args.image.now in
+    let x = setting_of view below old in
+    let first = c.in_ok-resize_grow.ensures.sees [] in
+    moments_then view below old c.resize_grow.new.self _ c.args.size opened (beyond_grow x (disk_of view below old) c.args.size (pow_pos old.file.header.fields.cluster_bits) c.args.mode) first.acts c.flush.new.self (first.answer opened.sound).0 (c.in_err-flush.ensures.sees []).acts
+
+pub returns-in_err-resize_grow-clause-moments : goal.returns-in_err-resize_grow-clause-moments
+returns-in_err-resize_grow-clause-moments g c = λ opened.
+    let view = g.S.Storage.view in
+    let below = g.F.BackingDisk.backing in
+    let old = c.args.image.now in
+    let x = setting_of view below old in
+    moments_first view below old c.resize_grow.new.self _ c.args.size opened (beyond_grow x (disk_of view below old) c.args.size (pow_pos old.file.header.fields.cluster_bits) c.args.mode) (c.in_err-resize_grow.ensures.sees []).acts
