@@ -4,7 +4,7 @@ pub mod Turns
 mod Opening
 mod FirstWrites
 mod Places
-mod Bytes
+pub mod Bytes
 mod Beyond
 mod Copied
 mod Marking
@@ -16,9 +16,9 @@ mod Reading
 mod Runs
 mod Respecting
 mod LookingUp
-mod Converting
+pub mod Converting
 mod WrittenParts
-mod Exporting
+pub mod Exporting
 mod Differing
 mod Reasons
 mod ImportLimits
