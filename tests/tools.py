@@ -743,6 +743,26 @@ def thin_disks():
     equal((os.path.getsize("raw"), os.stat("raw").st_blocks < 100), (10 << 40, True), "the raw disk")
 
 
+def thin_disks_from_image_to_image():
+    """What no table maps isn't read: an image of a large thin disk takes little time, alone or over others, and has the same bytes."""
+    told("create", "empty", "10T")
+    equal(within(120, "convert", "-O", "qcow2", "empty", "disk"), (0, "", ""), "an empty disk")
+    equal(tool("qemu-img", "compare", "empty", "disk").strip(), "Images are identical.", "the empty disk")
+    told("create", "far", "2T")
+    qemu_io("far", "write -P 0x11 1900G 4k")
+    equal(within(120, "convert", "-O", "qcow2", "-o", "cluster_size=1M", "far", "disk"), (0, "", ""), "a cluster far out")
+    equal(tool("qemu-img", "compare", "far", "disk").strip(), "Images are identical.", "the cluster far out")
+    equal([(it["start"], it["length"]) for it in json.loads(told("map", "--json", "disk")) if it["data"]], [(1900 << 30, 1 << 20)], "what is mapped")
+    consistent("disk", 0)
+    tool("qemu-img", "create", "-q", "-f", "qcow2", "-o", "cluster_size=4k", "-b", "far", "-F", "qcow2", "middle", "3T")
+    qemu_io("middle", "write -z 1900G 2k", "write -P 0x22 2500G 3k", "write -z 2501G 1M")
+    tool("qemu-img", "create", "-q", "-f", "qcow2", "-b", "middle", "-F", "qcow2", "top", "4T")
+    qemu_io("top", "write -P 0x33 1G 100k")
+    equal(within(120, "convert", "-O", "qcow2", "--backing", "middle", "--backing", "far", "top", "disk"), (0, "", ""), "three layers")
+    equal(tool("qemu-img", "compare", "top", "disk").strip(), "Images are identical.", "the layers' disk")
+    equal(sum(it["length"] for it in json.loads(told("map", "--json", "disk")) if it["data"]), 4 << 16, "what is mapped of it")
+
+
 def a_disk_that_no_table_maps():
     """A small file may claim a disk of 2 ^ 63 bytes. Its map ends where its tables do, and no raw disk is made of it."""
     told("create", "-o", "cluster_size=512", "disk", "64k")
@@ -751,6 +771,9 @@ def a_disk_that_no_table_maps():
     before = sorted(os.listdir("."))
     status, text, messages = within(60, "convert", "disk", "raw")
     equal((status, text, messages.startswith("qimg-tools: raw: "), sorted(os.listdir("."))), (1, "", True, before), f"the export, with {messages}")
+    put("disk", 24, (1 << 60).to_bytes(8, "big"))
+    equal(within(60, "convert", "-O", "qcow2", "-o", "cluster_size=2M", "disk", "thin"), (0, "", ""), "an image of it")
+    equal(json.loads(told("info", "--output=json", "thin"))["virtual-size"], 1 << 60, "the size of the image")
     equal(within(60, "vet", "--max-size", "1T", "disk")[0], 2, "whether it may be taken in")
 
 
@@ -1072,7 +1095,7 @@ def main():
         why_an_image_is_refused, check_names_each_breach, a_map_that_cannot_be_finished, formats_that_are_given, parts_of_sectors, the_file_that_failed, files_past_a_limit, a_device_that_is_too_small,
         an_image_that_qemu_has_open, a_conversion_that_is_stopped, a_conversion_that_is_killed, words_that_are_no_text, a_hostile_image_in_little_memory,
         info_of_what_is_not_read, images_without_errors, errors_beside_what_is_not_covered, images_that_may_be_taken_in, images_that_may_not_be_taken_in, what_cannot_be_vetted, comparisons, disks_that_cannot_be_compared,
-        ranges_that_breaches_touch, ranges_of_unaligned_offsets, images_over_others, names_in_images_are_not_followed, layers_that_are_refused, a_layer_that_fails, thin_disks, a_disk_that_no_table_maps, sparse_raw_disks,
+        ranges_that_breaches_touch, ranges_of_unaligned_offsets, images_over_others, names_in_images_are_not_followed, layers_that_are_refused, a_layer_that_fails, thin_disks, thin_disks_from_image_to_image, a_disk_that_no_table_maps, sparse_raw_disks,
         overlays, sizes_of_disks, bytes_that_come_back, an_overlay_is_not_resized, preallocations, images_of_images, images_of_what_cannot_be_read, conversions_that_are_verified,
         sizes, layouts_that_images_do_not_have, progress_as_qemu_shows_it, progress_of_little_and_of_much, conversions_that_are_refused, a_full_device, help_and_version,
     ):

@@ -1,6 +1,6 @@
 -- Two disks that are read and compared.
-use Rattle.std.proofs.Common.{◌≡◌, ◌+◌, ◌-◌, ◌<◌, ◌≤◌, inl, inr, ℕ, List, [], length, refl, sym, ap, ◌∙◌, subst, arith, Option, Some, None, Result, Ok, Err, IfOk, OnOk}
-use Rattle.program_parts.proofs.Common.{cases_lt, BackingView, StorageView, byte_at, IsConsistent, Value, known_byte, Shows, Disk, ImageError, disk_alone, IsCompared, IsFirstOther, IsFoundBetween, IsWhereOther, AreSameBelow, AreSameDisks, IsComparisonIn, IsComparisonOf, IsFirstDifference, IsOpenedAs, IsSeenAs, SeenDisk, seen_image}
+use Rattle.std.proofs.Common.{◌≡◌, ◌+◌, ◌-◌, ◌<◌, ◌≤◌, inl, inr, ℕ, List, [], length, sym, ap, ◌∙◌, subst, arith, Option, Some, None, Result, Ok, Err, IfOk, OnOk}
+use Rattle.program_parts.proofs.Common.{cases_lt, BackingView, StorageView, byte_at, IsConsistent, Value, known_byte, Shows, Disk, ImageError, disk_alone, IsCompared, IsFirstOther, IsFoundBetween, AreSameBelow, IsComparisonIn, IsComparisonOf, IsFirstDifference, IsOpenedAs, IsSeenAs, SeenDisk, seen_image}
 use Rattle.image_access.specs.declared.storage.Format.{Format}
 use Rattle.image_access.specs.declared.storage.Format.TheVariants.{Qcow2}
 use Rattle.qcow2_image.specs.declared.image.Qcow2.{Qcow2 as Image}

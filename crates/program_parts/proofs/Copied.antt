@@ -1,5 +1,5 @@
 -- A raw disk that is copied piece by piece.
-use Rattle.std.proofs.Common.{◌≡◌, ◌+◌, ◌-◌, ◌<◌, ◌≤◌, inl, inr, ℕ, max, List, [], length, ap, subst, sym, refl, ◌∙◌, arith}
+use Rattle.std.proofs.Common.{◌≡◌, ◌+◌, ◌-◌, ◌<◌, inl, inr, ℕ, max, List, length, ap, subst, sym, refl, ◌∙◌, arith}
 use Rattle.program_parts.proofs.Common.{cases_lt, byte_at-bytes_at, byte_at-overwritten, byte_at-overwritten_below, length-bytes_at, length-overwritten, length-resized, same_contents, StorageView, CopiesFrom, IsCopiedUpTo, KeepsBoth}
 use Rattle.image_access.specs.Contents.{bytes_at, overwritten, resized, stored_byte}
 

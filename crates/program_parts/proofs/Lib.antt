@@ -14,3 +14,4 @@ pub mod Placed
 pub mod OnlyRead
 pub mod Copied
 pub mod Resized
+pub mod DiskImages

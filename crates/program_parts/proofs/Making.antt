@@ -1,5 +1,5 @@
 -- What a stop may leave while an image is made from a raw disk.
-use Rattle.std.proofs.Common.{◌≡◌, ◌⊎◌, ◌^◌, ◌∷◌, inl, inr, ⊎_elim, ℕ, List, [], refl, sym, ap, ◌∙◌, subst, Result, Ok, Err}
+use Rattle.std.proofs.Common.{◌≡◌, ◌^◌, ◌∷◌, inl, inr, ⊎_elim, ℕ, List, [], refl, sym, ap, ◌∙◌, subst, Result, Ok, Err}
 use Rattle.program_parts.proofs.Common.{BackingView, StorageView, EachMomentSince, passes_if, passes_on, Bytes, byte_at, IsConsistent, header, count_width, AbstractImage, IsOpened, stored_bytes, CallEffect, disk, disk_with, GivenBytes, StopOkEverywhere, checkpoint_at, checkpoint_with, LeavesKept, KeepsHeaderRest, header_rest_same, ImageError, Qcow2, storage_of_image, abstract_of, Imports, ImportsAny, IsNewDisk, IsStopOfCreating, new_disk_consistent, IsImageOfSize, IsStopOfMaking}
 use Rattle.image_access.specs.declared.storage.PreallocateMode.{PreallocateMode}
 use Rattle.image_access.specs.declared.storage.PreallocateMode.TheVariants as Mode

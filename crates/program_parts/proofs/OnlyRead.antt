@@ -1,6 +1,6 @@
 -- Disks that are only read.
 use Rattle.std.proofs.Common.{◌≡◌, ◌∙◌, subst, sym, Result}
-use Rattle.program_parts.proofs.Common.{ContentsStay, QuietCalls, StorageView, StorageError, IsQuiet, quiet_none, quiet_read, quiet_then, IsLeft, IsKeptQuietly, IsOnlyRead, LiesOn, SeenDisk, seen_open, seen_raw, storage_under}
+use Rattle.program_parts.proofs.Common.{ContentsStay, QuietCalls, StorageView, StorageError, quiet_none, quiet_read, quiet_then, IsLeft, IsKeptQuietly, IsOnlyRead, LiesOn, SeenDisk, seen_open, seen_raw, storage_under}
 use Rattle.program_parts.specs.declared.disks.OpenDisk.{OpenDisk}
 use Rattle.program_parts.specs.declared.disks.OpenDisk.TheVariants as D
 

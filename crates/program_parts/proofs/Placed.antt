@@ -1,8 +1,8 @@
 -- A file that gets its name.
-use Rattle.std.proofs.Common.{◌≡◌, ◌⊎◌, ◌∷◌, ⊎_elim, ℕ, List, [], ap, ◌∙◌, refl, subst, sym, IfOk, Option, Some, None, Result, Ok, Err}
-use Rattle.program_parts.proofs.Common.{All, StorageView, IsQuiet, byte_at, IsConsistent, IsExport, IsImageMade, CopiesFrom, IsKeptQuietly}
+use Rattle.std.proofs.Common.{◌≡◌, ◌⊎◌, ◌∷◌, ⊎_elim, ℕ, List, [], ap, ◌∙◌, refl, subst, sym, IfOk, Option, Some, Result, Ok, Err}
+use Rattle.program_parts.proofs.Common.{StorageView, IsQuiet, byte_at, IsConsistent, IsExport, IsImageMade, CopiesFrom, IsKeptQuietly}
 use Rattle.std.proofs.lemmas.List.Elements.{All-cons, All-nil}
-use Rattle.program_parts.specs.Places.{EachHeldSince, GetsName, HoldsWhole, IsMade, IsWhole, NameView, Renames, Replaces, StaysNamed}
+use Rattle.program_parts.specs.Places.{EachHeldSince, GetsName, HoldsWhole, IsMade, IsWhole, NameView, Replaces, StaysNamed}
 use Rattle.program_parts.specs.declared.placing.Conversion.{Conversion}
 use Rattle.program_parts.specs.declared.placing.Conversion.TheVariants as C
 

@@ -1,13 +1,13 @@
 -- Why an image is not made from a raw disk, and why a raw disk is not made from an image.
-use Rattle.std.proofs.Common.{◌≡◌, ◌≢◌, ◌⊎◌, ◌+◌, ◌≤◌, ◌^◌, inl, inr, ⊎_elim, ℕ, List, [], None, Result, Ok, Err, refl, sym, ap, ◌∙◌, subst, true, false, arith, IsErrAnd, Option, length, option_map}
-use Rattle.program_parts.proofs.Common.{IfErr, IsTrue, unwrap_or, is_some, option_or, BackingView, StorageView, Bytes, byte_at, IsConsistent, header, HeaderFields, IsOpened, IsFault, known_in, state_in, ImageError, IsAllowed, IsCreated, IsReasonNotToCreateOpen, allocates_over, backing_format_in, backing_name_in, IsSameImage, is_writable, size_of, storage_of_image, abstract_of, pending_in, NoBacking, Qcow2CreateBuilder, Qcow2, faults_met, opening_reasons, MayFailImporting, IsImageOfSize, IsLayout, MayFailExporting, MayFailOnceCreated, MayFailReadingDisk, IsRefusedUntouched, IsUnopened, OpensToExport, asked_for}
+use Rattle.std.proofs.Common.{◌≡◌, ◌≢◌, ◌⊎◌, ◌+◌, ◌≤◌, ◌^◌, inl, inr, ⊎_elim, ℕ, List, [], None, Result, Ok, Err, refl, sym, ap, ◌∙◌, subst, true, false, arith, Option, length, option_map}
+use Rattle.program_parts.proofs.Common.{IfErr, IsTrue, unwrap_or, option_or, BackingView, StorageView, Bytes, byte_at, IsConsistent, header, HeaderFields, IsOpened, IsFault, known_in, state_in, ImageError, IsAllowed, IsCreated, IsReasonNotToCreateOpen, allocates_over, backing_format_in, backing_name_in, IsSameImage, is_writable, size_of, storage_of_image, abstract_of, pending_in, NoBacking, Qcow2CreateBuilder, Qcow2, faults_met, opening_reasons, MayFailImporting, IsImageOfSize, IsLayout, MayFailExporting, MayFailOnceCreated, MayFailReadingDisk, IsRefusedUntouched, IsUnopened, OpensToExport, asked_for}
 use Rattle.std.specs.String.{string_bytes}
 use Rattle.std.proofs.Math.Pow.{pow_mono}
 use Rattle.qcow2_metadata.specs.HeaderWrite.{name_place}
 use Rattle.image_access.specs.declared.storage.PreallocateMode.TheVariants as Mode
 use Rattle.qcow2_laws.proofs.Internal.{known_header}
 use Rattle.qcow2_alloc.specs.declared.error.ImageError.TheVariants as I
-use Rattle.qcow2_image.specs.MayFail.{HasCompressedIn, MayFailReadingRange}
+use Rattle.qcow2_image.specs.MayFail.{MayFailReadingRange}
 use Rattle.qcow2_image.specs.Opened.{NeedsAnother}
 use Rattle.qcow2_image.specs.Readable.{HeaderSuits, IsJustifiedRefusal, OpensRightly}
 use Rattle.qcow2_image.specs.Refusals.{passes, refuse_if, refuses_to_read}

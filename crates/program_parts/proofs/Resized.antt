@@ -1,15 +1,15 @@
 -- The disk of an image that is resized.
-use Rattle.std.proofs.Common.{◌≡◌, ◌⊎◌, ◌+◌, ◌-◌, ◌<◌, ◌≤◌, ◌∷◌, ◌++◌, if◌then◌else◌, ⊎_elim, inl, inr, ℕ, List, [], refl, sym, ap, ◌∙◌, subst, arith, true, false, Bool}
-use Rattle.program_parts.proofs.Common.{cases_lt, StorageView, EachMomentSince, passes_if, passes_on, Bytes, byte_at, Value, known_byte, IsConsistent, AbstractImage, Setting, IsOpened, CallEffect, Disk, disk, GivenBytes, StopOkEverywhere, checkpoint_at, checkpoint_with, LeavesKept, header_rest_same, BackingView, Qcow2, abstract_of, backing_bytes, disk_with, header, size_of, storage_of_image, whole}
+use Rattle.std.proofs.Common.{◌≡◌, ◌⊎◌, ◌+◌, ◌-◌, ◌<◌, ◌≤◌, ◌∷◌, if◌then◌else◌, ⊎_elim, inl, inr, ℕ, List, [], refl, sym, ap, ◌∙◌, subst, arith, true, false, Bool}
+use Rattle.program_parts.proofs.Common.{StorageView, EachMomentSince, passes_if, passes_on, Bytes, byte_at, Value, known_byte, IsConsistent, AbstractImage, Setting, IsOpened, CallEffect, Disk, disk, GivenBytes, StopOkEverywhere, checkpoint_at, checkpoint_with, LeavesKept, header_rest_same, BackingView, Qcow2, abstract_of, backing_bytes, disk_with, header, size_of, storage_of_image, whole}
 use Rattle.std.specs.Prelude.{nat_le, ◌||◌}
-use Rattle.std.proofs.lemmas.Bool.{leb-false, leb-true}
+use Rattle.std.proofs.lemmas.Bool.{leb-true}
 use Rattle.std.proofs.lemmas.List.{append-nil}
 use Rattle.image_access.specs.declared.storage.PreallocateMode.{PreallocateMode}
 use Rattle.qcow2_disk.proofs.ForUsers.{laid_inside, laid_outside}
 use Rattle.qcow2_disk.specs.Calls.{IsShrunk, given_by_grow, given_by_shrink, given_by_shrunk, grown_to, shows_old}
 use Rattle.qcow2_disk.specs.Disk.{grown, zeroed_between}
 use Rattle.qcow2_disk.specs.Mappings.{given_shown}
-use Rattle.qcow2_disk.specs.Stops.{Checkpoint, IsGiven}
+use Rattle.qcow2_disk.specs.Stops.{IsGiven}
 use Rattle.qcow2_metadata.specs.Header.{rounded_up}
 use Rattle.qcow2_image.proofs.Preallocate.FilledGrowth.{up_least}
 use Rattle.qcow2_image.proofs.Images.Sizes.{disk_size}

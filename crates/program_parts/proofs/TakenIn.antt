@@ -1,5 +1,5 @@
 -- When an untrusted image may be accepted.
-use Rattle.std.proofs.Common.{◌≡◌, ◌↔◌, ◌≤◌, ◌&&◌, ◌==◌, ◌∷◌, if◌then◌else◌, ℕ, zero, suc, Bool, true, false, not, nat_eq, nat_lt, List, [], length, refl, sym, subst, ◌∙◌, ap, arith, Option, Some, None}
+use Rattle.std.proofs.Common.{◌≡◌, ◌↔◌, ◌≤◌, ◌&&◌, ◌==◌, ◌∷◌, if◌then◌else◌, ℕ, zero, suc, Bool, true, false, not, nat_eq, nat_lt, List, [], length, refl, sym, subst, ◌∙◌, ap, arith, Some, None}
 use Rattle.program_parts.proofs.Common.{IsTrue, ltb-false, le-ltb, Bytes, IsConsistent, header, backing_name, HeaderFields, Breach}
 use Rattle.program_parts.specs.Vetting.{MayBeTakenIn}
 

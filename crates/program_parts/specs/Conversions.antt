@@ -1,10 +1,11 @@
 -- What is on a storage after an image was made from a raw disk, or a raw disk from an image.
-use Rattle.std.specs.Prelude.{ℕ, ◌≡◌, ◌⊎◌, ◌≤◌, false, IsErrAnd, IsTrue, length, List, [], Result, IsErrOf, None}
+use Rattle.std.specs.Prelude.{ℕ, ◌≡◌, ◌⊎◌, ◌*◌, ◌/◌, ◌≤◌, false, IsErrAnd, IsTrue, length, List, [], Result, IsErrOf, None}
 use Rattle.image_access.specs.Moments.{StorageView, Rose, UnlessErr}
 use Rattle.image_access.specs.declared.storage.PreallocateMode.TheVariants as Mode
 use Rattle.qcow2_metadata.specs.Bytes.{Bytes, byte_at}
 use Rattle.qcow2_metadata.specs.Consistent.{IsConsistent}
 use Rattle.qcow2_metadata.specs.Header.{header, cluster_size, count_width}
+use Rattle.qcow2_metadata.specs.declared.header.HeaderFields.{HeaderFields}
 use Rattle.qcow2_disk.specs.Disk.{Disk, disk}
 use Rattle.qcow2_disk.specs.Stops.{checkpoint_at, LeavesKept}
 use Rattle.qcow2_laws.specs.Opened.{HasNoLeaks}
@@ -42,6 +43,10 @@ pub record IsImageOf (storage : StorageView) (bytes : List ℕ) (cluster width :
   pub clusters : cluster_size (header (byte_at storage.contents)) ≡ cluster
   pub counts : count_width (header (byte_at storage.contents)) ≡ width
   pub no_leaks : HasNoLeaks (byte_at storage.contents)
+
+-- The bytes of the disk that the L1 table has entries for.
+abbrev pub reach_of : HeaderFields → ℕ
+reach_of h = cluster_size h * cluster_size h / 8 * h.l1_entries
 
 -- A consistent image with a disk of n bytes.
 pub record IsImageOfSize (n : ℕ) (b : Bytes) : Type 0 where

@@ -1,6 +1,7 @@
 pub mod Comparing
 pub mod Conversions
 pub mod Copies
+pub mod DiskImages
 pub mod Disks
 pub mod Layers
 pub mod Lines

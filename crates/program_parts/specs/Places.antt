@@ -2,7 +2,6 @@
 use Rattle.std.specs.Prelude.{ℕ, ◌≡◌, ◌⊎◌, All, IfOk, List, ◌∷◌, ◌++◌, Option, Some, None, Result, Ok, Err}
 use Rattle.image_access.specs.Moments.{StorageView}
 use Rattle.image_access.specs.declared.storage.Format.{Format}
-use Rattle.image_access.specs.declared.storage.Format.TheVariants as Format
 use Rattle.qcow2_metadata.specs.Bytes.{byte_at}
 use Rattle.qcow2_metadata.specs.Consistent.{IsConsistent}
 use Rattle.qcow2_session.specs.Conversions.{IsRawOf}

@@ -1,5 +1,5 @@
 -- The lines of a report, each without its line feed, and the whole text.
-use Rattle.std.specs.Prelude.{ℕ, ◌≡◌, codes, Option, List, [], ◌∷◌, ◌++◌, length, ◌==◌, if◌then◌else◌}
+use Rattle.std.specs.Prelude.{ℕ, codes, Option, List, [], ◌∷◌, ◌++◌, length, ◌==◌, if◌then◌else◌}
 use Rattle.std.specs.Fmt.{decimal}
 use Rattle.std.specs.List.{flat_map}
 use Rattle.std.specs.Io.KnownBytes.{Appends}

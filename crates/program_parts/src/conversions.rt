@@ -1,6 +1,6 @@
 //! Images from raw disks, and raw disks from images.
 ghost use Rattle.qcow2_session.specs.CountedFaults.{ConversionCounts};
-ghost use Rattle.std.specs.Prelude.{◌≡◌, ◌⊎◌, ◌<◌, ℕ, [], length, Err, IfErr, IfOk, IsErrAnd, IsTrue, Ok};
+ghost use Rattle.std.specs.Prelude.{◌≡◌, ◌⊎◌, ◌-◌, ◌<◌, ◌^◌, ℕ, [], length, min, Err, IfErr, IfOk, IsErrAnd, IsTrue, Ok};
 ghost use Rattle.image_access.specs.Moments.{ContentsStay, EachMomentSince};
 ghost use Rattle.qcow2_disk.specs.AbstractImages.{IsOpened};
 ghost use Rattle.qcow2_image.specs.ImageInvariant.{abstract_of};
@@ -17,7 +17,7 @@ ghost use Rattle.qcow2_session.specs.Conversions.{Imports, IsLeft, MayFailImport
 ghost use Rattle.program_parts.specs.Conversions.{CountsBoth, CountsBytes, IsImageMade, IsImageOfSize, IsLayout};
 ghost use Rattle.program_parts.specs.Conversions.{MayFailExporting, IsReasonNotToMake, IsRefusedUntouched};
 ghost use Rattle.program_parts.specs.Conversions.{IsStopOfMaking, IsUnopened};
-ghost use Rattle.program_parts.specs.Conversions.{IsExport, KeepsDisk, OpensToExport, asked_for};
+ghost use Rattle.program_parts.specs.Conversions.{IsExport, KeepsDisk, OpensToExport, asked_for, reach_of};
 
 use image_access::{Storage, WrappedFormat};
 use qcow2_image::{ImageError, NoBacking, Qcow2, Qcow2CreateBuilder};
@@ -114,6 +114,18 @@ pub fn disk_size<S: Storage>(alloc: Global, storage: &mut S) -> Result<u64, Imag
 {
     let fields = HeaderFields::load(alloc, storage)?;
     Ok(fields.size)
+}
+
+/// The offset from which on the tables of an image map nothing, by its header: the L1 table has no entries there. The image is only read. Refused
+/// as `disk_size` is.
+pub fn mapped_end<S: Storage>(alloc: Global, storage: &mut S) -> Result<u64, ImageError>
+    ensures end { (S.view storage.old).is_honest
+        → IfOk result (λ n. n ≡ min (2 ^ 64 - 1) (reach_of (header (byte_at (S.view storage.old).contents)))) }
+    ensures reading { ContentsStay (S.view storage.old) (S.view storage.new) }
+{
+    let fields = HeaderFields::load(alloc, storage)?;
+    let cluster = 1u64 << fields.cluster_bits;
+    Ok((cluster * cluster / 8).saturating_mul(u64::from(fields.l1_entries)))
 }
 
 /// Makes a raw disk from an image, which is only read and never written, and returns the image's storage and the number of bytes.

@@ -1,13 +1,13 @@
 //! A disk as a storage.
-ghost use Rattle.std.specs.Prelude.{◌≡◌, [], codes};
+ghost use Rattle.std.specs.Prelude.{◌≡◌, ◌↔◌, ◌<◌, [], codes, IsTrue};
 ghost use Rattle.image_access.specs.Moments.{HasCause};
 
 use crate::disks::DiskReader;
 use image_access::{Storage, StorageError, StoragePreallocate};
 use qcow2_image::ImageError;
 
-/// A storage with the bytes of a disk, for reading only. Nothing is known of its bytes in proofs. Each call that fails is counted, and
-/// the refusal of the last failed read is kept.
+/// A disk, which can also be read as a storage. Each call that fails is counted, and the refusal of the last one of the storage is kept. As a
+/// storage it is for reading only, and nothing is known of its bytes in proofs.
 #[derive(Drop)]
 pub struct DiskStorage<D: DiskReader> {
     disk: D,
@@ -30,6 +30,29 @@ impl<D: DiskReader> DiskStorage<D> {
         (self.disk, self.last_refusal)
     }
 
+    /// Whether a call failed, other than for lack of memory.
+    pub fn has_failed(&self) -> bool
+        ensures { IsTrue result ↔ (0 < self.now.faults) }
+    {
+        self.faults > 0
+    }
+
+    // Counts a refusal of the disk, and returns it.
+    fn counted<T>(&mut self, answer: Result<T, ImageError>) -> Result<T, ImageError>
+        ensures answer { result ≡ answer }
+        ensures disk { self.new.disk ≡ self.old.disk }
+    {
+        match answer {
+            Ok(value) => Ok(value),
+            Err(refusal) => {
+                if refusal != ImageError::Memory {
+                    self.faults = self.faults.saturating_add(1);
+                }
+                Err(refusal)
+            }
+        }
+    }
+
     // The result of a call that failed. Lack of memory is not a fault.
     fn failed<T>(&mut self, refusal: ImageError) -> Result<T, StorageError>
         ensures cause { HasCause self.old.faults self.new.faults result }
@@ -49,6 +72,25 @@ impl<D: DiskReader> DiskStorage<D> {
             Ok(value) => Ok(value),
             Err(refusal) => self.failed(refusal),
         }
+    }
+}
+
+impl<D: DiskReader> DiskReader for DiskStorage<D> {
+    ghost seen = { λ s. D.seen s.disk };
+
+    fn byte_count(&mut self) -> Result<u64, ImageError> {
+        let answer = self.disk.byte_count();
+        self.counted(answer)
+    }
+
+    fn read_bytes(&mut self, at: u64, bytes: &mut [u8]) -> Result<(), ImageError> {
+        let answer = self.disk.read_bytes(at, bytes);
+        self.counted(answer)
+    }
+
+    fn known_zeros(&mut self, at: u64, max: u64) -> Result<u64, ImageError> {
+        let answer = self.disk.known_zeros(at, max);
+        self.counted(answer)
     }
 }
 

@@ -1,11 +1,11 @@
 //! Disks to be read: of images, and raw ones.
-ghost use Rattle.std.specs.Prelude.{◌≡◌, ◌+◌, ◌≤◌, length, IfOk, MatchResult, OnOk};
+ghost use Rattle.std.specs.Prelude.{◌≡◌, ◌+◌, ◌≤◌, length, replicate, IfOk, MatchResult, OnOk};
 ghost use Rattle.qcow2_disk.specs.Calls.{Shows};
 ghost use Rattle.program_parts.specs.Disks.{IsKeptQuietly, IsOnlyRead, IsOpenedAs, IsSeenAs, LiesOn, SeenDisk};
 ghost use Rattle.program_parts.specs.Disks.{seen_open, storage_under};
 
 use image_access::{Format, Storage, WrappedFormat};
-use qcow2_image::{ImageError, NoBacking, Qcow2};
+use qcow2_image::{ImageError, MappingKind, NoBacking, Qcow2};
 use qcow2_session::read_into;
 use std::alloc::Global;
 
@@ -25,6 +25,13 @@ pub trait DiskReader: Drop {
         ensures step { IsOnlyRead (seen self.old) (seen self.new) }
         ensures read { (seen self.old).is_honest → at + length bytes.old ≤ (seen self.old).disk.size
             → OnOk result (Shows (seen self.old).disk at bytes.new) }
+        ensures same { (seen self.old).is_honest → OnOk result (IsSeenAs (seen self.old).disk (seen self.new)) };
+
+    /// How many bytes from an offset on are known to be zeros without being read, up to a limit. 0 where that isn't known.
+    fn known_zeros(&mut self, at: u64, max: u64) -> Result<u64, ImageError>
+        ensures step { IsOnlyRead (seen self.old) (seen self.new) }
+        ensures within { IfOk result (λ n. n ≤ max) }
+        ensures zeros { (seen self.old).is_honest → IfOk result (λ n. Shows (seen self.old).disk at (replicate n 0)) }
         ensures same { (seen self.old).is_honest → OnOk result (IsSeenAs (seen self.old).disk (seen self.new)) };
 }
 
@@ -47,6 +54,10 @@ impl<R: Storage> DiskReader for RawDisk<R> {
         self.storage.read(at, bytes)?;
         Ok(())
     }
+
+    fn known_zeros(&mut self, _at: u64, _max: u64) -> Result<u64, ImageError> {
+        Ok(0)
+    }
 }
 
 impl<S: Storage, F: WrappedFormat<S>> DiskReader for Qcow2<S, F> {
@@ -60,6 +71,14 @@ impl<S: Storage, F: WrappedFormat<S>> DiskReader for Qcow2<S, F> {
 
     fn read_bytes(&mut self, at: u64, bytes: &mut [u8]) -> Result<(), ImageError> {
         read_into(self, at, bytes)
+    }
+
+    fn known_zeros(&mut self, at: u64, max: u64) -> Result<u64, ImageError> {
+        let (mapping, found) = self.get_mapping(at, max)?;
+        match mapping.kind {
+            MappingKind::Zero { .. } => Ok(found),
+            _ => Ok(0),
+        }
     }
 }
 
@@ -100,6 +119,13 @@ impl<S: Storage> DiskReader for OpenDisk<S> {
         match self {
             OpenDisk::Raw(disk) => disk.read_bytes(at, bytes),
             OpenDisk::Image(image) => image.read_bytes(at, bytes),
+        }
+    }
+
+    fn known_zeros(&mut self, at: u64, max: u64) -> Result<u64, ImageError> {
+        match self {
+            OpenDisk::Raw(disk) => disk.known_zeros(at, max),
+            OpenDisk::Image(image) => image.known_zeros(at, max),
         }
     }
 }

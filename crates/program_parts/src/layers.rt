@@ -1,6 +1,6 @@
 //! The disk of an image over others.
 ghost use Rattle.std.specs.Prelude.{◌≡◌, ◌<◌, ◌≤◌, ◌∷◌, ◌++◌, [], None, Some, length, IfOk, OnErr, OnOk};
-ghost use Rattle.program_parts.specs.Layers.{IsShown, storage_at};
+ghost use Rattle.program_parts.specs.Layers.{IsAtMost, IsShown, layer_of, storage_at};
 
 use crate::disks::DiskReader;
 use image_access::Storage;
@@ -9,12 +9,23 @@ use qcow2_session::read_into;
 use std::alloc::{AllocError, Global};
 use std::marker::Model;
 
+/// An image over others, opened without the disk that it lies over.
+#[derive(Drop)]
+pub struct Layer<S: Storage> {
+    image: Qcow2<S, NoBacking>,
+    // The offset from which on its tables map nothing.
+    mapped_end: u64,
+    // A range that it was found not to map.
+    empty_from: u64,
+    empty_to: u64,
+}
+
 /// The disk that the guest of an image sees which lies over others: the image, those below it, and a raw disk below them all where there
 /// is one. Each image shows what it maps, and the rest is left to the next one. Past the end of what lies below an image it is zeros,
 /// whatever lies further below. Of what it holds nothing is known.
 #[derive(Drop)]
 pub struct Layers<S: Storage> {
-    images: Vec<Qcow2<S, NoBacking>>,
+    images: Vec<Layer<S>>,
     base: Option<S>,
     // The place of the layer that was read last.
     last: usize,
@@ -49,12 +60,22 @@ impl<S: Storage> Layers<S> {
         }
     }
 
-    /// Puts an image below the others, which was opened without the disk that it lies over. Refused where memory is missing.
-    pub fn push_image(&mut self, image: Qcow2<S, NoBacking>) -> Result<(), AllocError>
-        ensures pushed { OnOk result (self.new ≡ record self.old { images = self.old.images ++ (image ∷ []) }) }
+    /// Puts an image below the others, which was opened without the disk that it lies over, and whose tables map nothing from an offset
+    /// on. Refused where memory is missing.
+    pub fn push_image(
+        &mut self,
+        image: Qcow2<S, NoBacking>,
+        mapped_end: u64,
+    ) -> Result<(), AllocError>
+        ensures pushed { OnOk result (self.new ≡ record self.old { images = self.old.images ++ (layer_of image mapped_end ∷ []) }) }
         ensures refused { OnErr result (self.new ≡ self.old) }
     {
-        self.images.push(image)?;
+        self.images.push(Layer {
+            image,
+            mapped_end,
+            empty_from: 0,
+            empty_to: 0,
+        })?;
         Ok(())
     }
 
@@ -72,7 +93,7 @@ impl<S: Storage> Layers<S> {
         let place = self.last;
         let mut images = self.images;
         if place < images.len() {
-            return (place, Some(images.swap_remove(place).into_storage()));
+            return (place, Some(images.swap_remove(place).image.into_storage()));
         }
         if place == images.len() {
             (place, self.base)
@@ -89,7 +110,7 @@ impl<S: Storage> Layers<S> {
         let mut count = bytes.len();
         for place in 0..self.images.len() {
             self.last = place;
-            match read_own(&mut self.images[place], at, &mut bytes[..count])? {
+            match read_own(&mut self.images[place].image, at, &mut bytes[..count])? {
                 Shown::Here(own) => return Ok(own),
                 Shown::Below(rest) => count = rest,
             }
@@ -97,6 +118,22 @@ impl<S: Storage> Layers<S> {
         self.last = self.images.len();
         read_base(&mut self.base, at, &mut bytes[..count])?;
         Ok(count)
+    }
+
+    // How many bytes from an offset on are zeros by the tables of all layers, up to a limit.
+    fn zeros_at(&mut self, at: u64, max: usize) -> Result<usize, ImageError>
+        ensures { IfOk result (λ n. n ≤ max) }
+    {
+        let mut count = max;
+        for place in 0..self.images.len() {
+            self.last = place;
+            match self.images[place].zeros_of_own(at, count)? {
+                Shown::Here(own) => return Ok(own),
+                Shown::Below(rest) => count = rest,
+            }
+        }
+        self.last = self.images.len();
+        zeros_of_base(&mut self.base, at, count)
     }
 }
 
@@ -123,6 +160,50 @@ fn read_own<S: Storage>(
     Ok(Shown::Here(count))
 }
 
+impl<S: Storage> Layer<S> {
+    // How many bytes from an offset on are zeros of an image's own by its tables, 0 if they have data there, or for how many they have
+    // nothing. What they have nothing for is looked up once.
+    fn zeros_of_own(&mut self, at: u64, max: usize) -> Result<Shown, ImageError>
+        ensures { IfOk result (IsAtMost max) }
+    {
+        if self.empty_from <= at && at < self.empty_to {
+            return Ok(Shown::Below(max.min((self.empty_to - at) as usize)));
+        }
+        let size = self.image.size();
+        if at >= size {
+            return Ok(Shown::Here(max));
+        }
+        let rest = size - at;
+        if at >= self.mapped_end {
+            return Ok(Shown::Below(max.min(rest as usize)));
+        }
+        let (mapping, _) = self.image.get_mapping(at, 1)?;
+        let MappingKind::Zero { explicit } = mapping.kind else {
+            return Ok(Shown::Here(0));
+        };
+        let (_, count) = self.image.get_mapping(at, rest)?;
+        let shown = max.min(count as usize);
+        if explicit {
+            return Ok(Shown::Here(shown));
+        }
+        self.empty_from = at;
+        self.empty_to = at.saturating_add(count);
+        Ok(Shown::Below(shown))
+    }
+}
+
+// How many bytes of the raw disk below all are zeros because they lie past its end, or there is none.
+fn zeros_of_base<S: Storage>(base: &mut Option<S>, at: u64, max: usize) -> Result<usize, ImageError>
+    ensures { IfOk result (λ n. n ≤ max) }
+{
+    if let Some(base) = base {
+        if at < base.size()? {
+            return Ok(0);
+        }
+    }
+    Ok(max)
+}
+
 // Reads the raw disk below all, which is zeros where there is none.
 fn read_base<S: Storage>(
     base: &mut Option<S>,
@@ -143,7 +224,7 @@ impl<S: Storage> DiskReader for Layers<S> {
 
     fn byte_count(&mut self) -> Result<u64, ImageError> {
         match self.images.first() {
-            Some(image) => Ok(image.size()),
+            Some(layer) => Ok(layer.image.size()),
             None => Ok(0),
         }
     }
@@ -157,5 +238,9 @@ impl<S: Storage> DiskReader for Layers<S> {
             done += self.read_some(place, &mut bytes[done..])?;
         }
         Ok(())
+    }
+
+    fn known_zeros(&mut self, at: u64, max: u64) -> Result<u64, ImageError> {
+        Ok(self.zeros_at(at, max as usize)? as u64)
     }
 }

@@ -4,6 +4,7 @@
 mod comparing;
 mod conversions;
 mod copying;
+mod disk_images;
 mod disk_storage;
 mod disks;
 mod layers;
@@ -14,11 +15,12 @@ mod resizing;
 mod vetting;
 
 pub use comparing::{Comparison, Unread, compare, compare_storages};
-pub use conversions::{disk_size, make_image, make_raw_disk};
+pub use conversions::{disk_size, make_image, make_raw_disk, mapped_end};
 pub use copying::copy_raw_disk;
+pub use disk_images::{Layout, convert_disk, make_disk_image};
 pub use disk_storage::DiskStorage;
 pub use disks::{DiskReader, OpenDisk, RawDisk, open_disk};
-pub use layers::Layers;
+pub use layers::{Layer, Layers};
 pub use numbers::number;
 pub use placing::{Conversion, Place, Unmade, Unplaced, convert};
 pub use report::{print_breaches, print_report};

@@ -8,7 +8,8 @@ use crate::words::{DiskFormat, Settings, Words};
 use file_storage::{FileStorage, StreamedFile, is_same_file, replace};
 use image_access::{Format, Storage};
 use program_parts::{
-    Conversion, DiskStorage, Layers, Unmade, Unplaced, convert as convert_storage, disk_size,
+    Conversion, DiskStorage, Layers, Layout, Unmade, Unplaced, convert as convert_storage,
+    convert_disk, disk_size,
 };
 use qcow2_image::{ImageError, Qcow2};
 use std::io;
@@ -30,11 +31,13 @@ enum Source<'a> {
     Layers(Files<'a>, DiskStorage<Layers<StreamedFile>>),
 }
 
-// Why a source wasn't read: the file, what the system said of it last, and why the last read of an image was refused.
+// Why a source wasn't read: the file, what the system said of it last, whether a read of layers was refused, and why if that isn't told
+// otherwise.
 #[derive(Drop)]
 struct Unread<'a> {
     file: &'a str,
     cause: Option<io::Error>,
+    is_refused: bool,
     refusal: Option<ImageError>,
 }
 
@@ -252,27 +255,39 @@ fn convert_source<'a>(
     let verifies = settings.flags.verifies;
     match source {
         Source::File(name, source) => {
-            let how = how_converted(settings, Conversion::ImageToRaw);
+            let how = how_converted(settings);
             let (source, made) = convert_storage(rt.alloc(), source, file, target, how, verifies);
             let unread = Unread {
                 file: name,
                 cause: source.last_error(),
+                is_refused: false,
                 refusal: None,
             };
             (unread, made)
         }
         Source::Layers(files, source) => {
-            let how = how_converted(settings, Conversion::RawToRaw);
-            let (source, made) = convert_storage(rt.alloc(), source, file, target, how, verifies);
+            let (source, made) = match settings.target {
+                DiskFormat::Raw => {
+                    let how = Conversion::RawToRaw;
+                    convert_storage(rt.alloc(), source, file, target, how, verifies)
+                }
+                DiskFormat::Qcow2 => {
+                    let layout = Layout {
+                        cluster: settings.layout.cluster_size,
+                        width: settings.layout.refcount_bits,
+                    };
+                    convert_disk(rt.alloc(), source, file, target, layout, verifies)
+                }
+            };
             (unread_layer(&files, source), made)
         }
     }
 }
 
-// An image is made of what is read as a raw disk; a raw disk in one way or the other.
-fn how_converted(settings: &Settings<'_>, to_raw: Conversion) -> Conversion {
+// A file is an image of which a raw disk is made, or a raw disk of which an image is made.
+fn how_converted(settings: &Settings<'_>) -> Conversion {
     match settings.target {
-        DiskFormat::Raw => to_raw,
+        DiskFormat::Raw => Conversion::ImageToRaw,
         DiskFormat::Qcow2 => Conversion::RawToImage {
             cluster: settings.layout.cluster_size,
             width: settings.layout.refcount_bits,
@@ -282,6 +297,7 @@ fn how_converted(settings: &Settings<'_>, to_raw: Conversion) -> Conversion {
 
 // Which of the layers was read last, and why that was refused if it was.
 fn unread_layer<'a>(files: &Files<'a>, source: DiskStorage<Layers<StreamedFile>>) -> Unread<'a> {
+    let is_refused = source.has_failed();
     let (layers, refusal) = source.into_parts();
     let (place, storage) = layers.into_last_read();
     let cause = match storage {
@@ -291,6 +307,7 @@ fn unread_layer<'a>(files: &Files<'a>, source: DiskStorage<Layers<StreamedFile>>
     Unread {
         file: files.name(place),
         cause,
+        is_refused,
         refusal,
     }
 }
@@ -353,6 +370,5 @@ fn tell_unmade(
 
 // Whether it is the file that is written which was refused.
 fn is_of_target(file: &StreamedFile, unread: &Unread<'_>, refusal: &ImageError) -> bool {
-    unread.refusal.is_none()
-        && (file.last_error().is_some() || *refusal == ImageError::InvalidOption)
+    !unread.is_refused && (file.last_error().is_some() || *refusal == ImageError::InvalidOption)
 }

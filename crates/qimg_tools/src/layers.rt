@@ -4,7 +4,7 @@ use crate::converting::{Names, header_size};
 use crate::messages::{refuse, refuse_file, refused};
 use file_storage::{FileStorage, StreamedFile, is_same_file};
 use image_access::Format;
-use program_parts::Layers;
+use program_parts::{Layers, mapped_end};
 use qcow2_image::{ImageError, NoBacking, Qcow2};
 use std::io;
 
@@ -121,6 +121,11 @@ fn push_image(
     number: u64,
     storage: FileStorage,
 ) -> Result<Named, u8> {
+    let mut storage = storage;
+    let mapped_end = match mapped_end(rt.alloc(), &mut storage) {
+        Ok(end) => end,
+        Err(refusal) => return Err(refused(rt, name, storage.last_error(), refusal)),
+    };
     let storage = streamed(rt, name, storage)?;
     let opened = Qcow2::<StreamedFile, NoBacking>::builder(storage, number)
         .backing(None)
@@ -133,7 +138,7 @@ fn push_image(
         is_named: image.implicit_backing_file().is_some(),
         format: format_of(image.implicit_backing_format()),
     };
-    match layers.push_image(image) {
+    match layers.push_image(image, mapped_end) {
         Ok(()) => Ok(named),
         Err(e) => Err(refuse_file(rt, name, &io::Error::from(e))),
     }

@@ -1,4 +1,4 @@
-use Rattle.std.proofs.Common.{◌≡◌, ◌≤◌, ◌∙◌, [], ap, sym, subst}
+use Rattle.std.proofs.Common.{◌≤◌, ◌∙◌, [], ap, sym, subst}
 use Rattle.program_parts.proofs.Common.{guest_of, abstract_of, Disk}
 use Rattle.std.proofs.lemmas.Nat.{pow_pos}
 use Rattle.qcow2_disk.specs.AbstractImages.{Guest}
