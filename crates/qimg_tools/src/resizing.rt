@@ -4,6 +4,7 @@ ghost use Rattle.qimg_tools.specs.Changed.{size_after};
 
 use crate::sizes::SizeChange;
 use image_access::{PreallocateMode, Storage};
+use program_parts::{NotResized, resize_disk};
 use qcow2_image::{ImageError, NoBacking, Qcow2};
 use qcow2_session::{read, write};
 use std::alloc::Global;
@@ -36,6 +37,15 @@ impl From<ImageError> for Unresized {
     }
 }
 
+impl From<NotResized> for Unresized {
+    fn from(cause: NotResized) -> Unresized {
+        match cause {
+            NotResized::Refused(refusal) => Unresized::Refused(refusal),
+            NotResized::WouldShrink(bytes) => Unresized::WouldShrink(bytes),
+        }
+    }
+}
+
 /// Resizes the disk of an image, and returns its storage and the new size. New bytes read as zeros, except those of
 /// a compressed cluster at the old end. Refused as `open_alone` is for writing, which leaves the storage unchanged: 19 (metadata),
 /// 13 (limit), 4 (unaligned table), 12 (dependency); then `NoSize`, and `WouldShrink`; for a larger size also 13 if no L1 table
@@ -63,15 +73,8 @@ fn resize_image<S: Storage>(
     let Some(size) = changed(old, how.change) else {
         return Err(Unresized::NoSize);
     };
-    if size < old && !how.shrinks {
-        return Err(Unresized::WouldShrink(old - size));
-    }
-    if size < old {
-        image.resize_shrink(size)?;
-    } else {
-        image.resize_grow(size, how.preallocate)?;
-        clear_last(alloc, image, old, size)?;
-    }
+    resize_disk(image, size, how.preallocate, how.shrinks)?;
+    clear_last(alloc, image, old, size)?;
     image.flush()?;
     Ok(size)
 }
