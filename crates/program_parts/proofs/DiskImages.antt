@@ -36,6 +36,12 @@ behind_is read chunk = grind (arith, common_steps)
 all_taken : (bytes : List ℕ) → take (length bytes) bytes ≡ bytes
 all_taken bytes = grind (arith, common_steps)
 
+-- what a disk shows, one that was read before shows too
+shows_as : (from now : SeenDisk) (at end : ℕ) (bytes : List ℕ) → (from.is_honest → IsSeenAs from.disk now) → (now.is_honest → end ≤ now.disk.size → Shows now.disk at bytes) → from.is_honest → end ≤ from.disk.size → Shows from.disk at bytes
+shows_as from now at end bytes seen shows honest within =
+    let one = seen honest in
+    subst (λ (d : Disk). Shows d at bytes) one.disk (shows one.honest (subst (λ (d : Disk). end ≤ d.size) (sym one.disk) within))
+
 -- ---- one range more
 
 module _ {S F : Type 0} (view : S → StorageView) (backing : F → BackingView) (old mid new : Qcow2 S F) (read chunk : List ℕ) (first : ImportsAll view backing old mid read (Ok tt)) where
@@ -97,11 +103,8 @@ module _ {S F : Type 0} (view : S → StorageView) (backing : F → BackingView)
               (more_zeros view backing old mid mid read chunk first.filled (zeros.0 ∙ ap (λ k. replicate k 0) (sym next.long)) size fits_all nothing))
               (λ written. more_written view backing old mid new read chunk first.filled (subst (λ k. ImportsAt view backing mid new k chunk (Ok tt)) (sym first.long) written)) next.filled;
           shows = λ honest within.
-              let same = (seen honest).disk in
-              let size_is = ap (λ (d : Disk). d.size) same in
-              let there : Shows from.disk at chunk = subst (λ (d : Disk). Shows d at chunk) same (next.shows (seen honest).honest (omega (arith, within, size_is))) in
               let place : at ≡ 0 + length read = omega (arith, first.long) in
-              shows_both from.disk 0 read chunk (first.shows honest (omega (arith, within))) (subst (λ k. Shows from.disk k chunk) place there);
+              shows_both from.disk 0 read chunk (first.shows honest (omega (arith, within))) (subst (λ k. Shows from.disk k chunk) place (shows_as from now at (at + n) chunk seen next.shows honest within));
         }
 
 -- ---- a range
@@ -195,10 +198,7 @@ disk_made_as view backing old new n from now opened alone count seen fills = dis
   bytes = fills.bytes;
   long = fills.long;
   filled = fills.filled;
-  shows = λ honest within.
-      let same = (seen honest).disk in
-      let size_is = ap (λ (d : Disk). d.size) same in
-      subst (λ (d : Disk). Shows d 0 fills.bytes) same (fills.shows (seen honest).honest (omega (arith, within, size_is)));
+  shows = shows_as from now 0 n fills.bytes seen fills.shows;
 })
 
 -- ---- what a range is for a disk that was read before
@@ -208,10 +208,7 @@ fills_as view backing old new at n m from now count seen fills = record {
   bytes = fills.bytes;
   long = fills.long ∙ count;
   filled = ⊎_elim (λ (zeros : (fills.bytes ≡ replicate n 0) × (new ≡ old)). inl (zeros.0 ∙ ap (λ k. replicate k 0) count, zeros.1)) (λ written. inr written) fills.filled;
-  shows = λ honest within.
-      let same = (seen honest).disk in
-      let size_is = ap (λ (d : Disk). d.size) same in
-      subst (λ (d : Disk). Shows d at fills.bytes) same (fills.shows (seen honest).honest (omega (arith, within, size_is, count)));
+  shows = λ honest within. shows_as from now at (at + n) fills.bytes seen fills.shows honest (omega (arith, within, count));
 }
 
 pub shows_fewer : (d : Disk) (at n k : ℕ) → k ≤ n → Shows d at (replicate n 0) → Shows d at (replicate k 0)

@@ -74,6 +74,7 @@ fn not_read(is_other: bool, cause: ImageError) -> Result<Comparison, Unread>
 
 /// Compares two disks up to the end, or up to the first byte that differs. Refused if one can't be read: 4 (unaligned table),
 /// 7 (compressed), 12 (dependency), 14 (memory), 15 (storage), 16 (failed).
+#[tactic(auto, using(crate::proofs::OnlyRead::reads_more))]
 pub fn compare<A: DiskReader, B: DiskReader>(
     alloc: Global,
     one: &mut A,
@@ -104,6 +105,7 @@ fn of_disk<T>(is_other: bool, answer: Result<T, ImageError>) -> Result<T, Unread
 }
 
 // Compares disks of the same size, with buffers of the same length.
+#[tactic(auto, using(crate::proofs::OnlyRead::reads_more))]
 fn compare_all<A: DiskReader, B: DiskReader>(
     one: &mut A,
     other: &mut B,

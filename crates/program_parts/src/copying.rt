@@ -28,6 +28,7 @@ pub fn copy_raw_disk<R: Storage, S: Storage>(
 }
 
 // Copies this many bytes at a time.
+#[tactic(auto, using(crate::proofs::Copied::keeps_raw, crate::proofs::Copied::keeps_resized, crate::proofs::Copied::keeps_then))]
 fn copy_by<R: Storage, S: Storage>(
     alloc: Global,
     raw: &mut R,

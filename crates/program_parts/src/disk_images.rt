@@ -93,6 +93,7 @@ fn verdict(found: Result<Comparison, Unread>) -> Result<(), Unmade> {
 /// zeros isn't.
 /// Refused as the disk's reads are, and 5 (invalid option) for sizes or widths that images don't have. May be refused 4 (unaligned
 /// table), 13 (limit), 14 (memory) or 15 (storage) during the work. If the storage returns other bytes than were written, other refusals are possible.
+#[tactic(auto, using(crate::proofs::OnlyRead::reads_then))]
 pub fn make_disk_image<D: DiskReader, S: Storage>(
     alloc: Global,
     disk: &mut D,
@@ -147,6 +148,7 @@ fn fill_new<D: DiskReader, S: Storage, F: WrappedFormat<S>>(
 }
 
 // Writes all clusters that aren't zeros. The buffers have one cluster each.
+#[tactic(auto, using(crate::proofs::OnlyRead::reads_then, crate::proofs::DiskImages::seen_then))]
 fn fill_all<D: DiskReader, S: Storage, F: WrappedFormat<S>>(
     disk: &mut D,
     image: &mut Qcow2<S, F>,
@@ -170,6 +172,7 @@ fn fill_all<D: DiskReader, S: Storage, F: WrappedFormat<S>>(
 
 // Passes over the clusters that the disk knows to be zeros, up to a limit, or writes the next one unless it is zeros. Returns the number
 // of bytes. The buffers have one cluster each.
+#[tactic(auto, using(crate::proofs::OnlyRead::reads_then, crate::proofs::DiskImages::seen_then))]
 fn fill_some<D: DiskReader, S: Storage, F: WrappedFormat<S>>(
     disk: &mut D,
     image: &mut Qcow2<S, F>,
@@ -197,6 +200,7 @@ fn fill_some<D: DiskReader, S: Storage, F: WrappedFormat<S>>(
 
 // How many bytes from an offset on a disk knows to be zeros, in whole clusters, or up to a limit. The first byte is asked for alone,
 // since a long range of data may take long to be looked up.
+#[tactic(auto, using(crate::proofs::OnlyRead::reads_then, crate::proofs::DiskImages::seen_then))]
 fn zero_clusters<D: DiskReader>(
     disk: &mut D,
     at: u64,

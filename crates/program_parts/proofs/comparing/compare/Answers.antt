@@ -1,7 +1,6 @@
 use Rattle.std.proofs.Common.{◌≡◌, ◌∙◌, ap, sym}
 use Rattle.program_parts.proofs.Common.{IsSeenAs}
 use Rattle.program_parts.proofs.Compared.{all_compared_as, if_ok, on_ok}
-use Rattle.program_parts.proofs.OnlyRead.{reads_more}
 use Rattle.program_parts.proofs.comparing.compare.Goals as goal
 
 pub returns-clause-compared : goal.returns-clause-compared
@@ -17,8 +16,3 @@ returns-clause-compared g c = λ one other.
     let same : c.in_ok-size.size ≡ c.in_ok-other_size.other_size = cc in
     all_compared_as d e (a c.byte_count.new.self).disk (b c.byte_count-2.new.self).disk c.compare_all.result first.disk second.disk
     (c.compare_all.ensures.compared first.honest second.honest (size ∙ ap (λ x. x.size) (sym first.disk)) (same ∙ other_size ∙ ap (λ x. x.size) (sym second.disk)))
-
-pub returns-clause-step : goal.returns-clause-step
-returns-clause-step g c =
-    reads_more (g.A.DiskReader.seen c.args.one.now) (g.A.DiskReader.seen c.byte_count.new.self) (g.A.DiskReader.seen c.compare_all.new.one) (g.B.DiskReader.seen c.args.other.now) (g.B.DiskReader.seen c.byte_count-2.new.self) (g.B.DiskReader.seen c.compare_all.new.other)
-    (c.byte_count.ensures.step, c.byte_count-2.ensures.step) c.compare_all.ensures.step

@@ -37,9 +37,3 @@ loop-at-preserved g c = record {
             (then_none d e (a c.loop-at.one) (a c.compare_at.new.one) (b c.loop-at.other) (b c.compare_at.new.other) c.loop-at.at end c.args.size _ so_far.one so_far.other more so_far.below upto size size_other c.in-None.is);
       };
 }
-
-pub returns-in-Some-clause-step : goal.returns-in-Some-clause-step
-returns-in-Some-clause-step g c = reads_more (g.A.DiskReader.seen c.args.one.now) (g.A.DiskReader.seen c.loop-at.one) (g.A.DiskReader.seen c.compare_at.new.one) (g.B.DiskReader.seen c.args.other.now) (g.B.DiskReader.seen c.loop-at.other) (g.B.DiskReader.seen c.compare_at.new.other) c.loop-at.invariant.read c.in_ok-place.ensures.step
-
-pub returns-in_err-place-clause-step : goal.returns-in_err-place-clause-step
-returns-in_err-place-clause-step g c = reads_more (g.A.DiskReader.seen c.args.one.now) (g.A.DiskReader.seen c.loop-at.one) (g.A.DiskReader.seen c.compare_at.new.one) (g.B.DiskReader.seen c.args.other.now) (g.B.DiskReader.seen c.loop-at.other) (g.B.DiskReader.seen c.compare_at.new.other) c.loop-at.invariant.read c.compare_at.ensures.step

@@ -10,15 +10,10 @@ pub returns-in-Ok-open_alone-clause-image : goal.returns-in-Ok-open_alone-clause
 returns-in-Ok-open_alone-clause-image g c = λ honest.
     let view = g.S.Storage.view in
     let bytes = (g.R.Storage.view c.size.new.self).contents in
-    let built = c.refcount_width.ensures in
-    let image_is : c.refcount_width.result.image ≡ c.args.storage =
-    ap (λ (b : Qcow2CreateBuilder g.row.S.Denot). b.image) built ∙ ap (λ (b : Qcow2CreateBuilder g.row.S.Denot). b.image) c.cluster_size.ensures
-    ∙ ap (λ (b : Qcow2CreateBuilder g.row.S.Denot). b.image) c.size-2.ensures ∙ ap (λ (b : Qcow2CreateBuilder g.row.S.Denot). b.image) c.new.ensures
-    in
-    let clusters_are : c.refcount_width.result.cluster_size ≡ c.args.cluster =
-    ap (λ (b : Qcow2CreateBuilder g.row.S.Denot). b.cluster_size) built ∙ ap (λ (b : Qcow2CreateBuilder g.row.S.Denot). b.cluster_size) c.cluster_size.ensures
-    in
-    let width_is : c.refcount_width.result.refcount_width ≡ c.args.width = ap (λ (b : Qcow2CreateBuilder g.row.S.Denot). b.refcount_width) built in
+    let asked = asked_so c.args.storage c.in-Ok.size c.args.cluster c.args.width c.new.result c.size-2.result c.cluster_size.result c.refcount_width.result c.new.ensures c.size-2.ensures c.cluster_size.ensures c.refcount_width.ensures in
+    let image_is : c.refcount_width.result.image ≡ c.args.storage = ap (λ (b : Qcow2CreateBuilder g.row.S.Denot). b.image) asked in
+    let clusters_are : c.refcount_width.result.cluster_size ≡ c.args.cluster = ap (λ (b : Qcow2CreateBuilder g.row.S.Denot). b.cluster_size) asked in
+    let width_is : c.refcount_width.result.refcount_width ≡ c.args.width = ap (λ (b : Qcow2CreateBuilder g.row.S.Denot). b.refcount_width) asked in
     let made = of_ok _ c.create-storage.result.1 c.in_default.field-0 c.in_default.is (c.create-storage.ensures.created (subst (λ s. (view s).is_honest) (sym image_is) honest)) in
     let first : IsImageOfSize c.refcount_width.result.size (byte_at (view c.create-storage.result.0).contents) = new_image c.refcount_width.result.preallocate _ _ made.new_disk in
     let since = c.in-Ok-open_alone.ensures.step.since made.honest first.consistent in
@@ -55,32 +50,23 @@ returns-in-Err-clause-faults g c =
 pub returns-in-Err-created-clause-faults : goal.returns-in-Err-created-clause-faults
 returns-in-Err-created-clause-faults g c =
     let view = g.S.Storage.view in
-    let image_is : c.refcount_width.result.image ≡ c.args.storage =
-    ap (λ (b : Qcow2CreateBuilder g.row.S.Denot). b.image) c.refcount_width.ensures ∙ ap (λ (b : Qcow2CreateBuilder g.row.S.Denot). b.image) c.cluster_size.ensures
-    ∙ ap (λ (b : Qcow2CreateBuilder g.row.S.Denot). b.image) c.size-2.ensures ∙ ap (λ (b : Qcow2CreateBuilder g.row.S.Denot). b.image) c.new.ensures
-    in
-    let first = ap (λ s. (view s).faults) image_is in
+    let asked = asked_so c.args.storage c.in-Ok.size c.args.cluster c.args.width c.new.result c.size-2.result c.cluster_size.result c.refcount_width.result c.new.ensures c.size-2.ensures c.cluster_size.ensures c.refcount_width.ensures in
+    let first = ap (λ (b : Qcow2CreateBuilder g.row.S.Denot). (view b.image).faults) asked in
     both_retold _ _ _ _ c.in-Err-created.e (image_refused _ _ _ _ _ c.in-Err-created.e first c.in-Ok.ensures.calls.cause.told (subst (λ (r : Result _ _). FaultsReported (view c.refcount_width.result.image).faults (view c.create-storage.result.0).faults r) c.in-Err-created.is c.create-storage.ensures.faults))
 
 pub returns-in-Err-open_alone-clause-faults : goal.returns-in-Err-open_alone-clause-faults
 returns-in-Err-open_alone-clause-faults g c =
     let view = g.S.Storage.view in
-    let image_is : c.refcount_width.result.image ≡ c.args.storage =
-    ap (λ (b : Qcow2CreateBuilder g.row.S.Denot). b.image) c.refcount_width.ensures ∙ ap (λ (b : Qcow2CreateBuilder g.row.S.Denot). b.image) c.cluster_size.ensures
-    ∙ ap (λ (b : Qcow2CreateBuilder g.row.S.Denot). b.image) c.size-2.ensures ∙ ap (λ (b : Qcow2CreateBuilder g.row.S.Denot). b.image) c.new.ensures
-    in
-    let first = ap (λ s. (view s).faults) image_is in
+    let asked = asked_so c.args.storage c.in-Ok.size c.args.cluster c.args.width c.new.result c.size-2.result c.cluster_size.result c.refcount_width.result c.new.ensures c.size-2.ensures c.cluster_size.ensures c.refcount_width.ensures in
+    let first = ap (λ (b : Qcow2CreateBuilder g.row.S.Denot). (view b.image).faults) asked in
     let made = (subst (λ (r : Result _ _). FaultsReported (view c.refcount_width.result.image).faults (view c.create-storage.result.0).faults r) c.in_default.is c.create-storage.ensures.faults).told in
     image_refused _ _ _ _ _ c.in-Err-open_alone.e (made ∙ first) c.in-Ok.ensures.calls.cause.told (told_opening view (view c.create-storage.result.0).faults c.in-Err-open_alone.storage c.in-Err-open_alone.e c.in-Err-open_alone.ensures.step.faults)
 
 pub returns-in-Ok-open_alone-clause-faults : goal.returns-in-Ok-open_alone-clause-faults
 returns-in-Ok-open_alone-clause-faults g c =
     let view = g.S.Storage.view in
-    let image_is : c.refcount_width.result.image ≡ c.args.storage =
-    ap (λ (b : Qcow2CreateBuilder g.row.S.Denot). b.image) c.refcount_width.ensures ∙ ap (λ (b : Qcow2CreateBuilder g.row.S.Denot). b.image) c.cluster_size.ensures
-    ∙ ap (λ (b : Qcow2CreateBuilder g.row.S.Denot). b.image) c.size-2.ensures ∙ ap (λ (b : Qcow2CreateBuilder g.row.S.Denot). b.image) c.new.ensures
-    in
-    let first = ap (λ s. (view s).faults) image_is in
+    let asked = asked_so c.args.storage c.in-Ok.size c.args.cluster c.args.width c.new.result c.size-2.result c.cluster_size.result c.refcount_width.result c.new.ensures c.size-2.ensures c.cluster_size.ensures c.refcount_width.ensures in
+    let first = ap (λ (b : Qcow2CreateBuilder g.row.S.Denot). (view b.image).faults) asked in
     let made = (subst (λ (r : Result _ _). FaultsReported (view c.refcount_width.result.image).faults (view c.create-storage.result.0).faults r) c.in_default.is c.create-storage.ensures.faults).told in
     both_since _ _ _ _ _ _ _ (c.in-Ok-open_alone.ensures.step.faults.told ∙ made ∙ first) c.in-Ok.ensures.calls.cause.told (both_of view _ (λ b. refl) c.in-Ok-open_alone.image c.fill-imported.new.image c.into_storage.result _ _ c.fill-imported.result c.fill-imported.ensures.faults c.into_storage.ensures)
 
@@ -89,14 +75,9 @@ returns-in-Err-created-clause-stops g c = λ raw_honest honest.
     let view = g.S.Storage.view in
     let raw = (g.R.Storage.view c.args.raw.now).contents in
     let made = view c.create-storage.result.0 in
-    let image_is : c.refcount_width.result.image ≡ c.args.storage =
-    ap (λ (b : Qcow2CreateBuilder g.row.S.Denot). b.image) c.refcount_width.ensures ∙ ap (λ (b : Qcow2CreateBuilder g.row.S.Denot). b.image) c.cluster_size.ensures
-    ∙ ap (λ (b : Qcow2CreateBuilder g.row.S.Denot). b.image) c.size-2.ensures ∙ ap (λ (b : Qcow2CreateBuilder g.row.S.Denot). b.image) c.new.ensures
-    in
-    let size_is : c.refcount_width.result.size ≡ length raw =
-    ap (λ (b : Qcow2CreateBuilder g.row.S.Denot). b.size) c.refcount_width.ensures ∙ ap (λ (b : Qcow2CreateBuilder g.row.S.Denot). b.size) c.cluster_size.ensures
-    ∙ ap (λ (b : Qcow2CreateBuilder g.row.S.Denot). b.size) c.size-2.ensures ∙ c.in-Ok.ensures.size raw_honest
-    in
+    let asked = asked_so c.args.storage c.in-Ok.size c.args.cluster c.args.width c.new.result c.size-2.result c.cluster_size.result c.refcount_width.result c.new.ensures c.size-2.ensures c.cluster_size.ensures c.refcount_width.ensures in
+    let image_is : c.refcount_width.result.image ≡ c.args.storage = ap (λ (b : Qcow2CreateBuilder g.row.S.Denot). b.image) asked in
+    let size_is : c.refcount_width.result.size ≡ length raw = ap (λ (b : Qcow2CreateBuilder g.row.S.Denot). b.size) asked ∙ c.in-Ok.ensures.size raw_honest in
     subst (λ s. EachMomentSince (view s) made (λ b. IsStopOfMaking (length raw) (byte_at b))) image_is
     (subst (λ n. EachMomentSince (view c.refcount_width.result.image) made (λ b. IsStopOfMaking n (byte_at b))) size_is
     (while_created c.refcount_width.result.preallocate c.refcount_width.result.size _ made (c.create-storage.ensures.stops (subst (λ s. (view s).is_honest) (sym image_is) honest))))
@@ -109,14 +90,9 @@ returns-in-Err-open_alone-clause-stops g c = λ raw_honest honest.
     let start = view c.refcount_width.result.image in
     let made = view c.create-storage.result.0 in
     let opened = view c.in-Err-open_alone.storage in
-    let image_is : c.refcount_width.result.image ≡ c.args.storage =
-    ap (λ (b : Qcow2CreateBuilder g.row.S.Denot). b.image) c.refcount_width.ensures ∙ ap (λ (b : Qcow2CreateBuilder g.row.S.Denot). b.image) c.cluster_size.ensures
-    ∙ ap (λ (b : Qcow2CreateBuilder g.row.S.Denot). b.image) c.size-2.ensures ∙ ap (λ (b : Qcow2CreateBuilder g.row.S.Denot). b.image) c.new.ensures
-    in
-    let size_is : n ≡ length raw =
-    ap (λ (b : Qcow2CreateBuilder g.row.S.Denot). b.size) c.refcount_width.ensures ∙ ap (λ (b : Qcow2CreateBuilder g.row.S.Denot). b.size) c.cluster_size.ensures
-    ∙ ap (λ (b : Qcow2CreateBuilder g.row.S.Denot). b.size) c.size-2.ensures ∙ c.in-Ok.ensures.size raw_honest
-    in
+    let asked = asked_so c.args.storage c.in-Ok.size c.args.cluster c.args.width c.new.result c.size-2.result c.cluster_size.result c.refcount_width.result c.new.ensures c.size-2.ensures c.cluster_size.ensures c.refcount_width.ensures in
+    let image_is : c.refcount_width.result.image ≡ c.args.storage = ap (λ (b : Qcow2CreateBuilder g.row.S.Denot). b.image) asked in
+    let size_is : n ≡ length raw = ap (λ (b : Qcow2CreateBuilder g.row.S.Denot). b.size) asked ∙ c.in-Ok.ensures.size raw_honest in
     let from = subst (λ s. (view s).is_honest) (sym image_is) honest in
     let created = of_ok _ c.create-storage.result.1 c.in_default.field-0 c.in_default.is (c.create-storage.ensures.created from) in
     let first : IsImageOfSize n (byte_at made.contents) = new_image c.refcount_width.result.preallocate n _ created.new_disk in
@@ -134,14 +110,9 @@ returns-in-Ok-open_alone-clause-stops g c = λ raw_honest honest.
     let made = view c.create-storage.result.0 in
     let opened = view (storage_of_image c.in-Ok-open_alone.image) in
     let filled = view (storage_of_image c.fill-imported.new.image) in
-    let image_is : c.refcount_width.result.image ≡ c.args.storage =
-    ap (λ (b : Qcow2CreateBuilder g.row.S.Denot). b.image) c.refcount_width.ensures ∙ ap (λ (b : Qcow2CreateBuilder g.row.S.Denot). b.image) c.cluster_size.ensures
-    ∙ ap (λ (b : Qcow2CreateBuilder g.row.S.Denot). b.image) c.size-2.ensures ∙ ap (λ (b : Qcow2CreateBuilder g.row.S.Denot). b.image) c.new.ensures
-    in
-    let size_is : n ≡ length raw =
-    ap (λ (b : Qcow2CreateBuilder g.row.S.Denot). b.size) c.refcount_width.ensures ∙ ap (λ (b : Qcow2CreateBuilder g.row.S.Denot). b.size) c.cluster_size.ensures
-    ∙ ap (λ (b : Qcow2CreateBuilder g.row.S.Denot). b.size) c.size-2.ensures ∙ c.in-Ok.ensures.size raw_honest
-    in
+    let asked = asked_so c.args.storage c.in-Ok.size c.args.cluster c.args.width c.new.result c.size-2.result c.cluster_size.result c.refcount_width.result c.new.ensures c.size-2.ensures c.cluster_size.ensures c.refcount_width.ensures in
+    let image_is : c.refcount_width.result.image ≡ c.args.storage = ap (λ (b : Qcow2CreateBuilder g.row.S.Denot). b.image) asked in
+    let size_is : n ≡ length raw = ap (λ (b : Qcow2CreateBuilder g.row.S.Denot). b.size) asked ∙ c.in-Ok.ensures.size raw_honest in
     let from = subst (λ s. (view s).is_honest) (sym image_is) honest in
     let created = of_ok _ c.create-storage.result.1 c.in_default.field-0 c.in_default.is (c.create-storage.ensures.created from) in
     let first : IsImageOfSize n (byte_at made.contents) = new_image c.refcount_width.result.preallocate n _ created.new_disk in

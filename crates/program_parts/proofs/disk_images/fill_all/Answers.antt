@@ -32,8 +32,3 @@ pub returns-clause-filled : goal.returns-clause-filled
 returns-clause-filled g c = λ nothing.
     let done : c.loop-at.at ≡ c.args.size = omega (arith, c.loop-at.invariant.within, c.loop-at-test.false) in
     subst (λ n. FillsUpTo g.S.Storage.view g.F.BackingDisk.backing c.args.image.now c.loop-at.image n (g.D.DiskReader.seen c.args.disk.now)) done (c.loop-at.invariant.filled nothing)
-
-pub returns-in_err-count-clause-step : goal.returns-in_err-count-clause-step
-returns-in_err-count-clause-step g c =
-    let seen = g.D.DiskReader.seen in
-    reads_then (seen c.args.disk.now) (seen c.loop-at.disk) (seen c.fill_some.new.disk) c.loop-at.invariant.read c.fill_some.ensures.step

@@ -1,27 +1,11 @@
 use Rattle.program_parts.proofs.Common.{common_steps}
 use Rattle.std.proofs.Common.{◌≡◌, arith, length, refl, take, replicate}
-use Rattle.program_parts.proofs.DiskImages.{fills_as, fills_zeros, seen_then}
-use Rattle.program_parts.proofs.OnlyRead.{reads_then}
+use Rattle.program_parts.proofs.DiskImages.{fills_as, fills_zeros}
 use Rattle.program_parts.proofs.disk_images.fill_some.Goals as goal
 
 pub returns-then-passed-gt0-clause-filled : goal.returns-then-passed-gt0-clause-filled
 returns-then-passed-gt0-clause-filled g c =
     fills_zeros g.S.Storage.view g.F.BackingDisk.backing c.args.image.now c.args.at c.in_ok-passed.passed (replicate c.in_ok-passed.passed 0) (g.D.DiskReader.seen c.args.disk.now) refl (λ honest within. c.in_ok-passed.ensures.zeros honest)
-
-pub returns-in_err-fill_at-clause-step : goal.returns-in_err-fill_at-clause-step
-returns-in_err-fill_at-clause-step g c =
-    let seen = g.D.DiskReader.seen in
-    reads_then (seen c.args.disk.now) (seen c.zero_clusters.new.disk) (seen c.fill_at.new.disk) c.zero_clusters.ensures.step c.fill_at.ensures.step
-
-pub returns-clause-step : goal.returns-clause-step
-returns-clause-step g c =
-    let seen = g.D.DiskReader.seen in
-    reads_then (seen c.args.disk.now) (seen c.zero_clusters.new.disk) (seen c.fill_at.new.disk) c.zero_clusters.ensures.step c.fill_at.ensures.step
-
-pub returns-clause-same : goal.returns-clause-same
-returns-clause-same g c = λ honest.
-    let seen = g.D.DiskReader.seen in
-    seen_then (seen c.args.disk.now) (seen c.zero_clusters.new.disk) (seen c.fill_at.new.disk) (c.in_ok-passed.ensures.same honest) c.in_ok-fill_at.ensures.same
 
 pub returns-clause-filled : goal.returns-clause-filled
 returns-clause-filled g c =

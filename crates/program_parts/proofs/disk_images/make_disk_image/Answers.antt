@@ -2,23 +2,15 @@ use Rattle.std.proofs.Common.{◌≡◌, ap, ◌∙◌, sym, subst, IfOk}
 use Rattle.program_parts.proofs.Common.{byte_at, new_disk_consistent, Qcow2CreateBuilder}
 use Rattle.program_parts.proofs.DiskImages.{disk_made_as, opened_nothing}
 use Rattle.program_parts.proofs.Imported.{of_ok, ok_both}
+use Rattle.program_parts.proofs.Refused.{asked_so}
 use Rattle.program_parts.specs.DiskImages.{IsDiskMade}
-use Rattle.program_parts.proofs.OnlyRead.{reads_then}
 use Rattle.program_parts.proofs.disk_images.make_disk_image.Goals as goal
-
-pub returns-in-Ok-open_alone-clause-step : goal.returns-in-Ok-open_alone-clause-step
-returns-in-Ok-open_alone-clause-step g c =
-    let seen = g.D.DiskReader.seen in
-    reads_then (seen c.args.disk.now) (seen c.byte_count.new.self) (seen c.fill_new-filled.new.disk) c.byte_count.ensures.step c.fill_new-filled.ensures.step
 
 pub returns-in-Ok-open_alone-clause-image : goal.returns-in-Ok-open_alone-clause-image
 returns-in-Ok-open_alone-clause-image g c = λ honest.
     let view = g.S.Storage.view in
     let seen = g.D.DiskReader.seen in
-    let image_is : c.refcount_width.result.image ≡ c.args.storage =
-    ap (λ (b : Qcow2CreateBuilder g.row.S.Denot). b.image) c.refcount_width.ensures ∙ ap (λ (b : Qcow2CreateBuilder g.row.S.Denot). b.image) c.cluster_size.ensures
-    ∙ ap (λ (b : Qcow2CreateBuilder g.row.S.Denot). b.image) c.size.ensures ∙ ap (λ (b : Qcow2CreateBuilder g.row.S.Denot). b.image) c.new.ensures
-    in
+    let image_is : c.refcount_width.result.image ≡ c.args.storage = ap (λ (b : Qcow2CreateBuilder g.row.S.Denot). b.image) (asked_so c.args.storage c.in-Ok.size c.args.layout.cluster c.args.layout.width c.new.result c.size.result c.cluster_size.result c.refcount_width.result c.new.ensures c.size.ensures c.cluster_size.ensures c.refcount_width.ensures) in
     let made = of_ok _ c.create-storage.result.1 c.in_default.field-0 c.in_default.is (c.create-storage.ensures.created (subst (λ s. (view s).is_honest) (sym image_is) honest)) in
     let mode = c.refcount_width.result.preallocate in
     let size = c.refcount_width.result.size in

@@ -27,26 +27,13 @@ returns-clause-done g c = λ mode out sound.
 
 pub returns-clause-moments : goal.returns-clause-moments
 returns-clause-moments g c = λ opened.
-    let view = g.S.Storage.view in
-    let below = g.F.BackingDisk.backing in
-    let old = c.args.image.now in
-    let x = setting_of view below old in
     let first = c.in_ok-resize_shrink.ensures.sees [] in
-    moments_then view below old c.resize_shrink.new.self _ c.args.size opened (beyond_shrunk x (disk_of view below old) c.args.size (pow_pos old.file.header.fields.cluster_bits) c.in_ok-resize_shrink.field-0) first.acts c.flush.new.self (first.answer opened.sound).0 (c.in_ok-flush.ensures.sees []).acts
+    moments_then g.S.Storage.view g.F.BackingDisk.backing c.args.image.now c.resize_shrink.new.self _ c.args.size opened (beyond_shrunk (setting_of g.S.Storage.view g.F.BackingDisk.backing c.args.image.now) (disk_of g.S.Storage.view g.F.BackingDisk.backing c.args.image.now) c.args.size (pow_pos c.args.image.now.file.header.fields.cluster_bits) c.in_ok-resize_shrink.field-0) first.acts c.flush.new.self (first.answer opened.sound).0 (c.in_ok-flush.ensures.sees []).acts
 
 pub returns-in_err-flush-clause-moments : goal.returns-in_err-flush-clause-moments
 returns-in_err-flush-clause-moments g c = λ opened.
-    let view = g.S.Storage.view in
-    let below = g.F.BackingDisk.backing in
-    let old = c.args.image.now in
-    let x = setting_of view below old in
     let first = c.in_ok-resize_shrink.ensures.sees [] in
-    moments_then view below old c.resize_shrink.new.self _ c.args.size opened (beyond_shrunk x (disk_of view below old) c.args.size (pow_pos old.file.header.fields.cluster_bits) c.in_ok-resize_shrink.field-0) first.acts c.flush.new.self (first.answer opened.sound).0 (c.in_err-flush.ensures.sees []).acts
+    moments_then g.S.Storage.view g.F.BackingDisk.backing c.args.image.now c.resize_shrink.new.self _ c.args.size opened (beyond_shrunk (setting_of g.S.Storage.view g.F.BackingDisk.backing c.args.image.now) (disk_of g.S.Storage.view g.F.BackingDisk.backing c.args.image.now) c.args.size (pow_pos c.args.image.now.file.header.fields.cluster_bits) c.in_ok-resize_shrink.field-0) first.acts c.flush.new.self (first.answer opened.sound).0 (c.in_err-flush.ensures.sees []).acts
 
 pub returns-in_err-resize_shrink-clause-moments : goal.returns-in_err-resize_shrink-clause-moments
-returns-in_err-resize_shrink-clause-moments g c = λ opened.
-    let view = g.S.Storage.view in
-    let below = g.F.BackingDisk.backing in
-    let old = c.args.image.now in
-    let x = setting_of view below old in
-    moments_first view below old c.resize_shrink.new.self _ c.args.size opened (beyond_shrink x (disk_of view below old) c.args.size (pow_pos old.file.header.fields.cluster_bits)) (c.in_err-resize_shrink.ensures.sees []).acts
+returns-in_err-resize_shrink-clause-moments g c = λ opened. moments_first g.S.Storage.view g.F.BackingDisk.backing c.args.image.now c.resize_shrink.new.self _ c.args.size opened (beyond_shrink (setting_of g.S.Storage.view g.F.BackingDisk.backing c.args.image.now) (disk_of g.S.Storage.view g.F.BackingDisk.backing c.args.image.now) c.args.size (pow_pos c.args.image.now.file.header.fields.cluster_bits)) (c.in_err-resize_shrink.ensures.sees []).acts
