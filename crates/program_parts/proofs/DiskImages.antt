@@ -1,5 +1,5 @@
 -- An image that is filled with the bytes of a disk.
-use Rattle.program_parts.proofs.Common.{common_steps, is_some, BackingView, StorageView, byte_at, header, known_byte, IsConsistent, Setting, IsOpened, guest_of, Shows, Disk, disk, disk_with, checkpoint_at, LeavesKept, header_rest_same, whole, Qcow2, storage_of_image, abstract_of, IsRawOf, IsNewDisk, disk_alone, zeros_below, IsKeptQuietly, IsSeenAs, SeenDisk}
+use Rattle.program_parts.proofs.Common.{common_steps, is_some, BackingView, StorageView, byte_at, header, known_byte, IsConsistent, Setting, IsOpened, guest_of, Shows, Disk, disk, disk_with, checkpoint_at, LeavesKept, header_rest_same, whole, Qcow2, storage_of_image, abstract_of, IsRawOf, IsNewDisk, disk_alone, zeros_below, IsKeptQuietly, IsSeenAs, SeenDisk, cluster_size, count_width, HeaderFields, contents_in}
 use Rattle.std.proofs.Common.{◌≡◌, ◌⊎◌, ◌+◌, ◌<◌, ◌≤◌, ◌∷◌, ◌++◌, ⊎_elim, inl, inr, ℕ, List, [], length, take, refl, sym, ap, ◌∙◌, subst, arith, false, Option, Some, Result, Ok, Err, IfOk, drop, replicate}
 use Rattle.std.proofs.lemmas.List.{get_or-replicate, length-replicate}
 use Rattle.image_access.specs.Contents.{bytes_at}
@@ -10,6 +10,7 @@ use Rattle.qcow2_disk.specs.Calls.{AnsweredEffect, with_disk}
 use Rattle.qcow2_disk.specs.Disk.{with_bytes}
 use Rattle.qcow2_disk.specs.Mappings.{given_of}
 use Rattle.qcow2_image.specs.Calls.{FlushesImage}
+use Rattle.qcow2_image.specs.Growing.{SameFormat}
 use Rattle.qcow2_image.specs.Opened.{IsKeptSince}
 use Rattle.qcow2_image.specs.declared.prepared.Prepared.{Prepared}
 use Rattle.qcow2_session.specs.Conversions.{ImportsAll, ImportsAt}
@@ -20,6 +21,7 @@ use Rattle.qcow2_session.proofs.Turns.{does_if}
 use Rattle.program_parts.proofs.Imported.{none_below}
 use Rattle.program_parts.proofs.Placed.{gets_held, holds_none, stays_held}
 use Rattle.program_parts.specs.DiskImages.{FillsAt, FillsDisk, FillsUpTo, HoldsDisk, IsDiskMade, IsWholeOfDisk, ReplacesByDisk, ShowsNothing}
+use Rattle.program_parts.specs.declared.disk_images.Layout.{Layout}
 use Rattle.program_parts.specs.Places.{GetsName, NameView, StaysNamed}
 
 -- ---- lists in a row
@@ -161,9 +163,9 @@ module _ {S F : Type 0} (view : S → StorageView) (backing : F → BackingView)
       (subst (λ known. (disk known zeros_below).value (0 + i) ≡ known_byte (byte_at (replicate k 0) i)) (sym opened.clean) (here ∙ ap known_byte (sym (get_or-replicate k i 0 0 inside))))
 
   -- the image has the bytes that it was filled with
-  pub disk_made : (old new : Qcow2 S F) (n : ℕ) (from : SeenDisk) → IsOpened (abstract_of view backing old []) → is_some old.backing ≡ false → (from.is_honest → n ≡ from.disk.size) → FillsDisk view backing old new n from
-      → IsDiskMade from n (view (storage_of_image new))
-  disk_made old new n from opened alone count fills =
+  pub disk_made : (old new : Qcow2 S F) (n : ℕ) (from : SeenDisk) (layout : Layout) (h : HeaderFields) → SameFormat h old.file.header.fields → cluster_size h ≡ layout.cluster → count_width (header (contents_in view new.file)) ≡ layout.width → IsOpened (abstract_of view backing old []) → is_some old.backing ≡ false → (from.is_honest → n ≡ from.disk.size) → FillsDisk view backing old new n from
+      → IsDiskMade from layout n (view (storage_of_image new))
+  disk_made old new n from layout h format cluster width opened alone count fills =
       let w = abstract_of view backing new [] in
       let does = fills.filled [] in
       let done = does.answer opened.sound in
@@ -188,13 +190,15 @@ module _ {S F : Type 0} (view : S → StorageView) (backing : F → BackingView)
                     let at : o ≡ 0 + o = omega arith in
                     (byte_at fills.bytes o, ap from.disk.value at ∙ shows o inside, ap (disk_alone stored).value at ∙ is_disk.1 o inside);
               };
+          clusters = ap (λ b. cluster_size (header b)) (sym clean) ∙ sym is_whole.cluster_size ∙ ap (λ (x : Setting). x.cluster_size) setting ∙ ap cluster_size format ∙ cluster;
+          counts = width;
         };
       }
 
 -- so it has those of a disk that was read before
-pub disk_made_as : {S F : Type 0} (view : S → StorageView) (backing : F → BackingView) (old new : Qcow2 S F) (n : ℕ) (from now : SeenDisk) → IsOpened (abstract_of view backing old []) → is_some old.backing ≡ false → (from.is_honest → n ≡ from.disk.size)
-    → (from.is_honest → IsSeenAs from.disk now) → FillsDisk view backing old new n now → IsDiskMade from n (view (storage_of_image new))
-disk_made_as view backing old new n from now opened alone count seen fills = disk_made view backing old new n from opened alone count (record {
+pub disk_made_as : {S F : Type 0} (view : S → StorageView) (backing : F → BackingView) (old new : Qcow2 S F) (n : ℕ) (from now : SeenDisk) (layout : Layout) (h : HeaderFields) → SameFormat h old.file.header.fields → cluster_size h ≡ layout.cluster → count_width (header (contents_in view new.file)) ≡ layout.width → IsOpened (abstract_of view backing old []) → is_some old.backing ≡ false → (from.is_honest → n ≡ from.disk.size)
+    → (from.is_honest → IsSeenAs from.disk now) → FillsDisk view backing old new n now → IsDiskMade from layout n (view (storage_of_image new))
+disk_made_as view backing old new n from now layout h format cluster width opened alone count seen fills = disk_made view backing old new n from layout h format cluster width opened alone count (record {
   bytes = fills.bytes;
   long = fills.long;
   filled = fills.filled;
@@ -223,26 +227,26 @@ seen_then a b c one then = let two = then one.honest in record { honest = two.ho
 
 -- ---- a name
 
-module _ (seen : SeenDisk) (old : NameView) where
-  pub disk_unnamed : {E : Type 0} (result : Result ℕ E) (e : E) → result ≡ Err e → ReplacesByDisk seen old old result
-  disk_unnamed {E} result e is = subst (ReplacesByDisk seen old old) (sym is) (record { each_moment = holds_none old (λ held. (n : ℕ) × HoldsDisk seen n held); done = tt })
+module _ (seen : SeenDisk) (layout : Layout) (old : NameView) where
+  pub disk_unnamed : {E : Type 0} (result : Result ℕ E) (e : E) → result ≡ Err e → ReplacesByDisk seen layout old old result
+  disk_unnamed {E} result e is = subst (ReplacesByDisk seen layout old old) (sym is) (record { each_moment = holds_none old (λ held. (n : ℕ) × HoldsDisk seen layout n held); done = tt })
 
-  module _ (new : NameView) (n : ℕ) (bytes : List ℕ) (whole : IsWholeOfDisk seen n bytes) where
-    holds_disk : (held : Option (List ℕ)) → held ≡ Some bytes → HoldsDisk seen n held
-    holds_disk held is = subst (HoldsDisk seen n) (sym is) whole
+  module _ (new : NameView) (n : ℕ) (bytes : List ℕ) (whole : IsWholeOfDisk seen layout n bytes) where
+    holds_disk : (held : Option (List ℕ)) → held ≡ Some bytes → HoldsDisk seen layout n held
+    holds_disk held is = subst (HoldsDisk seen layout n) (sym is) whole
 
-    pub disk_named : {E : Type 0} → GetsName bytes old new → ReplacesByDisk {E = E} seen old new (Ok n)
-    disk_named {E} gets = record { each_moment = gets_held bytes old new (λ held. (n : ℕ) × HoldsDisk seen n held) (n, whole) gets; done = holds_disk new.holds gets.holds }
+    pub disk_named : {E : Type 0} → GetsName bytes old new → ReplacesByDisk {E = E} seen layout old new (Ok n)
+    disk_named {E} gets = record { each_moment = gets_held bytes old new (λ held. (n : ℕ) × HoldsDisk seen layout n held) (n, whole) gets; done = holds_disk new.holds gets.holds }
 
-    pub disk_maybe : {E : Type 0} (e : E) → StaysNamed old new ⊎ GetsName bytes old new → ReplacesByDisk {E = E} seen old new (Err e)
+    pub disk_maybe : {E : Type 0} (e : E) → StaysNamed old new ⊎ GetsName bytes old new → ReplacesByDisk {E = E} seen layout old new (Err e)
     disk_maybe {E} e either = record {
-      each_moment = ⊎_elim (stays_held old new (λ held. (n : ℕ) × HoldsDisk seen n held)) (gets_held bytes old new (λ held. (n : ℕ) × HoldsDisk seen n held) (n, whole)) either;
+      each_moment = ⊎_elim (stays_held old new (λ held. (n : ℕ) × HoldsDisk seen layout n held)) (gets_held bytes old new (λ held. (n : ℕ) × HoldsDisk seen layout n held) (n, whole)) either;
       done = tt;
     }
 
 -- it is so still once it was compared
-pub disk_still : {E : Type 0} (seen : SeenDisk) (n : ℕ) (a b : StorageView) (r : Result ℕ E) → r ≡ Ok n → IfOk r (λ k. IsDiskMade seen k a) → IsKeptQuietly a b → IsDiskMade seen n b
-disk_still {E} seen n a b r is made kept =
-    let one = subst (λ (q : Result ℕ E). IfOk q (λ k. IsDiskMade seen k a)) is made in
+pub disk_still : {E : Type 0} (seen : SeenDisk) (layout : Layout) (n : ℕ) (a b : StorageView) (r : Result ℕ E) → r ≡ Ok n → IfOk r (λ k. IsDiskMade seen layout k a) → IsKeptQuietly a b → IsDiskMade seen layout n b
+disk_still {E} seen layout n a b r is made kept =
+    let one = subst (λ (q : Result ℕ E). IfOk q (λ k. IsDiskMade seen layout k a)) is made in
     let quiet = kept one.honest in
-    record { honest = quiet.honest; whole = subst (IsWholeOfDisk seen n) (sym quiet.contents) one.whole }
+    record { honest = quiet.honest; whole = subst (IsWholeOfDisk seen layout n) (sym quiet.contents) one.whole }

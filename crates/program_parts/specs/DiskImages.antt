@@ -3,6 +3,7 @@ use Rattle.std.specs.Prelude.{ℕ, ◌≡◌, ◌⊎◌, ◌+◌, ◌≤◌, Lis
 use Rattle.image_access.specs.Backing.{BackingView}
 use Rattle.image_access.specs.Moments.{StorageView}
 use Rattle.qcow2_metadata.specs.Bytes.{byte_at}
+use Rattle.qcow2_metadata.specs.Header.{header, cluster_size, count_width}
 use Rattle.qcow2_disk.specs.Calls.{Shows}
 use Rattle.qcow2_image.specs.ImageInvariant.{disk_of}
 use Rattle.qcow2_image.specs.declared.image.Qcow2.{Qcow2}
@@ -10,26 +11,29 @@ use Rattle.qcow2_session.specs.Conversions.{Imports, ImportsAll, ImportsAt}
 use Rattle.program_parts.specs.Conversions.{IsImageOfSize, disk_alone}
 use Rattle.program_parts.specs.Disks.{AreSameDisks, SeenDisk}
 use Rattle.program_parts.specs.Places.{EachHeldSince, NameView}
+use Rattle.program_parts.specs.declared.disk_images.Layout.{Layout}
 
--- A consistent image of size n, whatever was read. If reads of the disk return its bytes, the image has them.
-pub record IsWholeOfDisk (seen : SeenDisk) (n : ℕ) (bytes : List ℕ) : Type 0 where
+-- A consistent image of size n with this layout, whatever was read. If reads of the disk return its bytes, the image has them.
+pub record IsWholeOfDisk (seen : SeenDisk) (layout : Layout) (n : ℕ) (bytes : List ℕ) : Type 0 where
   pub image : IsImageOfSize n (byte_at bytes)
   pub disk : seen.is_honest → AreSameDisks seen.disk (disk_alone (byte_at bytes))
+  pub clusters : cluster_size (header (byte_at bytes)) ≡ layout.cluster
+  pub counts : count_width (header (byte_at bytes)) ≡ layout.width
 
 -- An honest storage has such an image.
-pub record IsDiskMade (seen : SeenDisk) (n : ℕ) (storage : StorageView) : Type 0 where
+pub record IsDiskMade (seen : SeenDisk) (layout : Layout) (n : ℕ) (storage : StorageView) : Type 0 where
   pub honest : storage.is_honest
-  pub whole : IsWholeOfDisk seen n storage.contents
+  pub whole : IsWholeOfDisk seen layout n storage.contents
 
 -- The file of a name has such an image.
-abbrev pub HoldsDisk : SeenDisk → ℕ → Option (List ℕ) → Type 0
-HoldsDisk seen n (Some bytes) = IsWholeOfDisk seen n bytes
-HoldsDisk seen n None = ⊥
+abbrev pub HoldsDisk : SeenDisk → Layout → ℕ → Option (List ℕ) → Type 0
+HoldsDisk seen layout n (Some bytes) = IsWholeOfDisk seen layout n bytes
+HoldsDisk seen layout n None = ⊥
 
 -- At every moment of a conversion, the name belongs to the old file or to one with a whole image of the disk. After a success it belongs to the latter.
-pub record ReplacesByDisk {E : Type 0} (seen : SeenDisk) (old new : NameView) (result : Result ℕ E) : Type 0 where
-  pub each_moment : EachHeldSince old new (λ held. (n : ℕ) × HoldsDisk seen n held)
-  pub done : IfOk result (λ n. HoldsDisk seen n new.holds)
+pub record ReplacesByDisk {E : Type 0} (seen : SeenDisk) (layout : Layout) (old new : NameView) (result : Result ℕ E) : Type 0 where
+  pub each_moment : EachHeldSince old new (λ held. (n : ℕ) × HoldsDisk seen layout n held)
+  pub done : IfOk result (λ n. HoldsDisk seen layout n new.holds)
 
 -- ---- the parts of it
 

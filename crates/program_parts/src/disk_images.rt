@@ -36,7 +36,7 @@ pub fn convert_disk<D: DiskReader, F: Storage, P: Place<F>>(
     ensures step { IsOnlyRead (D.seen disk) (D.seen result.0) }
     ensures fails { IfErr result.1 (λ e. IsNameKept e place.old place.new) }
     ensures sound { (F.view file).is_honest → (P.named place.old).is_honest
-        → ReplacesByDisk (D.seen disk) (P.named place.old) (P.named place.new) result.1 }
+        → ReplacesByDisk (D.seen disk) layout (P.named place.old) (P.named place.new) result.1 }
 {
     let mut disk = disk;
     let (file, made) = make_disk_image(alloc, &mut disk, file, layout);
@@ -101,7 +101,7 @@ pub fn make_disk_image<D: DiskReader, S: Storage>(
     layout: Layout,
 ) -> (S, Result<u64, ImageError>)
     ensures step { IsOnlyRead (D.seen disk.old) (D.seen disk.new) }
-    ensures image { (S.view storage).is_honest → IfOk result.1 (λ n. IsDiskMade (D.seen disk.old) n (S.view result.0)) }
+    ensures image { (S.view storage).is_honest → IfOk result.1 (λ n. IsDiskMade (D.seen disk.old) layout n (S.view result.0)) }
 {
     let size = match disk.byte_count() {
         Ok(size) => size,
