@@ -1,5 +1,5 @@
 -- A call of a boxed storage is a call of the storage in the box.
-use Rattle.std.proofs.Common.{◌≡◌, ℕ, List, Result, sym, ap, ◌∙◌, subst}
+use Rattle.std.proofs.Common.{◌≡◌, ℕ, List, Result, sym, subst}
 use Rattle.image_access.specs.declared.error.StorageError.{StorageError}
 use Rattle.image_access.specs.Moments.{StorageView, ContentsBecome, Calls, QuietCalls}
 

@@ -1,5 +1,5 @@
 -- Replaying the changes that a storage recorded, one after another.
-use Rattle.std.proofs.Common.{◌≡◌, ℕ, zero, suc, ◌-◌, ◌≤◌, List, [], ◌∷◌, ◌++◌, length, take, is_some, if◌then◌else◌, refl, sym, ap, ◌∙◌, arith}
+use Rattle.std.proofs.Common.{◌≡◌, ℕ, zero, suc, ◌-◌, List, [], ◌∷◌, ◌++◌, take, is_some, if◌then◌else◌, refl, sym, ap, ◌∙◌, arith}
 use Prim.Native.Nat.compare
 use Rattle.std.proofs.Math.Seq.{take-nil}
 use Rattle.image_access.specs.Changes.{applied, replayed, HadSince, write_offset, write_offsets, up_to_write}

@@ -1,6 +1,6 @@
 -- Loading refblocks, and allocating and freeing one cluster.
-use Rattle.std.proofs.Common.{◌≡◌, ◌≢◌, ◌+◌, ◌*◌, ◌/◌, ◌%◌, ◌^◌, ◌<◌, ◌≤◌, inl, inr, refl, ℕ, Bool, true, false, List, length, Option, Some, None, Result, Ok, Err, IsErr, IsErrAnd, IsSome, IsTrue, sym, ap, ◌∙◌, subst, mul-pos, arith, is_some}
-use Rattle.qcow2_alloc.proofs.Common.{cases_eq, mul-le-mul_right, mod_below, pow_pos, div-add-mod', StorageView, byte_at, HeaderFields, EntryTableView, entry_table, NamesRefTable, IsRefTableOf, entry_at, HasPlace, ChangesEntry, cluster_size, counts_per_block, reftable_entries, reftable_entry, block_offset, count, one_at, Pending, count_none, Allocator, MetadataCaches, ImageError, ImageFile, ClusterKind, Data, Metadata, ClustersToFreeEntry, run_at, is_data, taken_as, Owed, Taken, Listed, owed_as, MayAllocate, MayDecrement, HasNone, NamesBlock, NamesBehindHeader, KeepsRefblocks, NamesLacking, KeepsEntries, KeepsNamed, NamesRefblock, RefblockAt, InternalAllocatorStep, InternalAllocatorGrowth, PlacesBlock, GetsBlock, RefusedGrowth, AllocatesGiven, AllocatesCluster, Allocates, KeepsPinsAndNotes, view_in, contents_in, known_in, FileInvariant, AllocatorInvariant, HasReftable, RefusedFileStep, StorageError, Fault, of_storage, IsFault, order_of, rb_at, IsCountedAt, IncrementsCount, DecrementsCount, InternalCacheStep, ImageStorage, storage_of}
+use Rattle.std.proofs.Common.{◌≡◌, ◌≢◌, ◌+◌, ◌*◌, ◌/◌, ◌%◌, ◌^◌, ◌<◌, ◌≤◌, inl, inr, refl, ℕ, Bool, true, false, List, length, Option, Some, None, Result, Ok, Err, IsErr, IsErrAnd, IsTrue, sym, ap, ◌∙◌, subst, mul-pos, arith, is_some}
+use Rattle.qcow2_alloc.proofs.Common.{cases_eq, mul-le-mul_right, mod_below, pow_pos, div-add-mod', StorageView, byte_at, HeaderFields, EntryTableView, entry_table, NamesRefTable, IsRefTableOf, entry_at, HasPlace, ChangesEntry, cluster_size, counts_per_block, reftable_entries, reftable_entry, block_offset, count, one_at, Pending, count_none, Allocator, MetadataCaches, ImageError, ImageFile, ClusterKind, Data, Metadata, ClustersToFreeEntry, run_at, is_data, taken_as, Owed, Taken, Listed, owed_as, MayAllocate, MayDecrement, HasNone, NamesBlock, NamesBehindHeader, KeepsRefblocks, NamesLacking, KeepsEntries, KeepsNamed, NamesRefblock, RefblockAt, InternalAllocatorStep, InternalAllocatorGrowth, PlacesBlock, GetsBlock, RefusedGrowth, AllocatesGiven, AllocatesCluster, Allocates, KeepsPinsAndNotes, view_in, contents_in, known_in, FileInvariant, AllocatorInvariant, HasReftable, RefusedFileStep, StorageError, Fault, of_storage, IsFault, order_of, IsCountedAt, IncrementsCount, DecrementsCount, InternalCacheStep, ImageStorage, storage_of}
 use Rattle.image_access.specs.declared.error.StorageError.TheVariants.{Memory}
 use Rattle.qcow2_alloc.proofs.KeptTables.Standing.{own_cluster}
 use Rattle.qcow2_alloc.proofs.Runs.{new_data_more}

@@ -1,7 +1,7 @@
 -- A refblock is placed: its bytes are written to a cluster without references, and then a reftable entry names it.
 use Rattle.std.proofs.Common.{◌≡◌, ◌≢◌, ◌⊎◌, ◌+◌, ◌-◌, ◌*◌, ◌/◌, ◌%◌, ◌^◌, ◌<◌, ◌≤◌, inl, inr, ℕ, Bool, true, false, List, length, Option, Some, Result, sym, ap, ◌∙◌, subst, arith, IfSome}
-use Rattle.qcow2_alloc.proofs.Common.{cases_eq, cases_lt, div-mul-add, mod-mul-add, overwritten, StorageView, Changes, Calls, StorageError, whole_or_nothing, Bytes, byte_at, EntryTableView, RefBlockView, entry_at, cluster_size, counts_per_block, reftable_entry, block_offset, count, one_at, with_new_tables, RbDependsOnL2, Pending, SameCovers, SameIn, BlocksMayGo, IsUnnamed, overwritten_but, unnamed_free, clean_covers, known_is_on_storage, Sizes, Sizes-from, count_none, in_one, data_is_written, MetadataCaches, ImageFile, ImageStorage, placing, HasPlaceFor, HasBytesAt, view_in, contents_in, known_in, state_in, FileInvariant, HasReftable, InternalFileStep, storage_of, order_of, l2_tables, refblocks, HoldsKnown, InternalCacheStep, KeepsPinsAndNotes, IsBlockOf}
-use Rattle.qcow2_alloc.proofs.FileSteps.{one_here, file_step_cached, reftable_cached}
+use Rattle.qcow2_alloc.proofs.Common.{cases_eq, cases_lt, div-mul-add, mod-mul-add, overwritten, StorageView, Changes, Calls, StorageError, whole_or_nothing, byte_at, EntryTableView, entry_at, cluster_size, counts_per_block, reftable_entry, block_offset, count, one_at, with_new_tables, RbDependsOnL2, Pending, SameCovers, SameIn, BlocksMayGo, IsUnnamed, overwritten_but, unnamed_free, clean_covers, known_is_on_storage, Sizes, Sizes-from, count_none, in_one, data_is_written, ImageFile, ImageStorage, placing, HasPlaceFor, view_in, contents_in, known_in, state_in, FileInvariant, HasReftable, InternalFileStep, storage_of, order_of, l2_tables, refblocks}
+use Rattle.qcow2_alloc.proofs.FileSteps.{one_here}
 use Rattle.qcow2_alloc.proofs.FileWrites.{file_step_written, reftable_written}
 use Rattle.qcow2_alloc.proofs.KeptTables.Getting.{cluster_aligned}
 use Rattle.qcow2_alloc.proofs.KeptTables.Standing.{own_cluster}

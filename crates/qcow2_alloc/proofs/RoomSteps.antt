@@ -1,10 +1,9 @@
 -- One more refblock of a room is written and entered.
-use Rattle.std.proofs.Common.{◌≡◌, ◌+◌, ◌-◌, ◌*◌, ◌/◌, ◌%◌, ◌^◌, ◌<◌, ◌≤◌, inl, inr, ℕ, Bool, true, List, None, Ok, Err, refl, sym, ap, ◌∙◌, subst, arith}
-use Rattle.qcow2_alloc.proofs.Common.{cases_eq, cases_lt, cond-false, le-ltb, mul-mod_left, mul-le-mul_left, div-add-mod', StorageView, Bytes, one_if, IsAligned, HeaderFields, cluster_size, counts_per_block, reftable_entries, block_offset, reftable_entry, EntryTableView, entry_count, RefBlockView, IsRefBlock, entry_at, ChangesEntry, CachedTable, BlocksMayGo, Direction, Pending, IsSameOutside, Allocator, ImageError, ImageFile, run_at, HasBytesAt, InternalAllocatorStep, with_run, contents_in, FileInvariant, AllocatorInvariant, HasReftable, RefusedFileStep, order_of, l2_tables, rb_at, opens, opened, CountsRun, IsBlockOf, Sizes}
-use Rattle.qcow2_alloc.specs.ImageFile.{IsFault}
+use Rattle.std.proofs.Common.{◌≡◌, ◌+◌, ◌-◌, ◌*◌, ◌/◌, ◌%◌, ◌^◌, ◌<◌, ◌≤◌, inl, inr, ℕ, Bool, true, List, refl, sym, ap, ◌∙◌, subst, arith}
+use Rattle.qcow2_alloc.proofs.Common.{cases_lt, cond-false, le-ltb, mul-mod_left, mul-le-mul_left, div-add-mod', StorageView, Bytes, one_if, IsAligned, HeaderFields, cluster_size, counts_per_block, reftable_entries, block_offset, reftable_entry, EntryTableView, entry_count, RefBlockView, IsRefBlock, entry_at, ChangesEntry, CachedTable, BlocksMayGo, Direction, Pending, IsSameOutside, ImageFile, run_at, HasBytesAt, contents_in, FileInvariant, HasReftable, order_of, l2_tables, opens, opened, CountsRun, IsBlockOf, Sizes}
 use Rattle.qcow2_alloc.proofs.PlacedRooms.{EntersSo, Counting, enters_more, counting_more}
 use Rattle.qcow2_alloc.proofs.Rooms.{opened_more}
-use Rattle.qcow2_alloc.proofs.Runs.{run_before, run_after, run_last, none_there}
+use Rattle.qcow2_alloc.proofs.Runs.{run_before, run_after}
 
 -- no entry names a refblock off a cluster
 none_aligned : (h : HeaderFields) → IsAligned h (block_offset 0)

@@ -1,11 +1,11 @@
 -- Bytes are written to clusters of a run that have no references.
-use Rattle.std.proofs.Common.{◌≡◌, ◌⊎◌, ◌+◌, ◌*◌, ◌/◌, ◌<◌, ◌≤◌, ◌^◌, inl, inr, ℕ, Bool, true, false, IsTrue, IsFalse, List, length, Some, None, Result, Ok, Err, refl, sym, ap, ◌∙◌, subst, arith, IfSome}
-use Rattle.qcow2_alloc.proofs.Common.{fun_ext, cases_eq, cases_lt, ne_eqb, cond-false, div-add-mod', mod_below, pow_pos, mul-le-mul_left, overwritten, StorageView, Changes, Calls, StorageError, byte_at-overwritten, whole_or_nothing, Bytes, byte_at, HeaderFields, EntryTableView, RefBlockView, entry_at, CachedTable, cluster_size, counts_per_block, block_offset, BlocksMayGo, Pending, CrashInvariant, SameIn, IsUnnamed, Direction, IsSameOutside, overwritten_but, count_none, data_is_written, Allocator, MetadataCaches, ImageFile, ImageStorage, run_at, HasBytesAt, InternalAllocatorStep, KeepsPinsAndNotes, counted_run, with_run, view_in, contents_in, known_in, state_in, FileInvariant, AllocatorInvariant, HasReftable, storage_of, order_of, l2_tables, rb_at, known_of, InternalCacheStep, AllocatesBlock, of_storage, WritesTable, IsBlockOf}
-use Rattle.qcow2_alloc.proofs.AllocationSteps.{fault_of_storage, allocator_step_cached, allocator_step_then, is_sound_now}
+use Rattle.std.proofs.Common.{◌≡◌, ◌⊎◌, ◌+◌, ◌*◌, ◌/◌, ◌<◌, ◌≤◌, ◌^◌, inl, inr, ℕ, Bool, true, false, IsTrue, IsFalse, List, length, Result, Ok, Err, refl, sym, ap, ◌∙◌, subst, arith}
+use Rattle.qcow2_alloc.proofs.Common.{fun_ext, cases_eq, cases_lt, ne_eqb, cond-false, div-add-mod', mod_below, pow_pos, mul-le-mul_left, overwritten, StorageView, Changes, Calls, StorageError, byte_at-overwritten, whole_or_nothing, Bytes, byte_at, HeaderFields, EntryTableView, entry_at, cluster_size, counts_per_block, block_offset, BlocksMayGo, Pending, CrashInvariant, SameIn, IsUnnamed, Direction, overwritten_but, count_none, data_is_written, Allocator, MetadataCaches, ImageFile, ImageStorage, run_at, InternalAllocatorStep, KeepsPinsAndNotes, counted_run, with_run, view_in, contents_in, known_in, state_in, FileInvariant, AllocatorInvariant, HasReftable, storage_of, order_of, l2_tables, known_of, InternalCacheStep, AllocatesBlock, of_storage, WritesTable}
+use Rattle.qcow2_alloc.proofs.AllocationSteps.{fault_of_storage, allocator_step_cached}
 use Rattle.qcow2_alloc.proofs.FileWrites.{file_step_written, reftable_written}
 use Rattle.qcow2_alloc.proofs.KeptTables.Switching.{safe_none, stay_none}
 use Rattle.qcow2_alloc.proofs.Runs.{run_in, run_before, run_after}
-use Rattle.qcow2_alloc.proofs.PlacedBlocks.{IsFree, has_none, covers_written, known_there, file_step_rewritten, reftable_rewritten, write_as, outside_cluster}
+use Rattle.qcow2_alloc.proofs.PlacedBlocks.{IsFree, has_none, covers_written, known_there}
 
 module _ {S : Type 0} (view : S → StorageView) where
   -- nothing names a cluster of a run whose counted clusters are fresh

@@ -1,6 +1,6 @@
 -- What a guest sees of an image with an external data file: bytes of that file where the image has data, and no byte of a table.
-use Rattle.std.proofs.Common.{◌≡◌, ◌+◌, ◌*◌, ◌/◌, ◌%◌, ◌≢◌, ℕ, Bool, true, false, cond, eqb, refl, sym, ap, ◌∙◌, arith, subst, inl, inr, Some, None}
-use Rattle.qcow2_laws.proofs.Common.{cases_eq, cond-true, cond-false, eq-eqb, ne_eqb, fun_ext, Option, Bytes, HeaderFields, header, cluster_size, with_reftable, cover, cover_under, l1_entry, Value, known_byte, value_under, guest_value, L2Mapping, Data, Zero, Compressed, Uncovered, Disk, disk_with, DriverState, StateInvariant, IsInternal, KeepsFormat, with_cluster}
+use Rattle.std.proofs.Common.{◌≡◌, ◌/◌, ◌≢◌, ℕ, cond, eqb, refl, sym, ap, ◌∙◌, inl, inr}
+use Rattle.qcow2_laws.proofs.Common.{cases_eq, cond-true, cond-false, eq-eqb, ne_eqb, fun_ext, Bytes, HeaderFields, header, cluster_size, with_reftable, cover, cover_under, l1_entry, Value, value_under, guest_value, L2Mapping, Data, Zero, Compressed, Uncovered, disk_with, DriverState, StateInvariant, IsInternal, with_cluster}
 use Rattle.qcow2_laws.specs.Beside.{StandsAtGuest}
 use Rattle.qcow2_laws.proofs.Internal.{known_header}
 

@@ -1,10 +1,10 @@
 -- Changes of a cached table's bytes, as changes of the known contents.
 use Rattle.std.proofs.Common.{◌≡◌, ◌+◌, ◌-◌, ◌/◌, ◌%◌, ◌<◌, ◌≤◌, ◌≢◌, ℕ, Bool, true, false, cond, inl, inr, List, Some, None, refl, sym, ap, ◌∙◌, subst, arith, max}
-use Rattle.qcow2_laws.proofs.Common.{cases_eq, cases_lt, eq-eqb, ne_eqb, cond-true, cond-false, mod_below, Bytes, HeaderFields, cluster_size, entries_per_cluster, count_width, counts_per_block, has_data_file, l2_entry, block_count, host_offset, cover, entry_cover, guest_value, value_under, in_cluster, named_by_cover, named_by_guest, marked_by_cover, CoverIsAligned, L2Mapping, Data, Zero, Compressed, Uncovered, names, marks, table_at, marked_by_guest, one_at, IsSameOutside, DriverState, StateInvariant, block_of, CountRises, CountFalls, EntryChanges, guest_at}
+use Rattle.qcow2_laws.proofs.Common.{cases_eq, cases_lt, eq-eqb, ne_eqb, cond-true, cond-false, mod_below, Bytes, HeaderFields, cluster_size, entries_per_cluster, count_width, counts_per_block, has_data_file, l2_entry, block_count, cover, in_cluster, named_by_cover, named_by_guest, marked_by_cover, CoverIsAligned, L2Mapping, Data, Zero, Compressed, Uncovered, names, table_at, marked_by_guest, one_at, IsSameOutside, DriverState, StateInvariant, block_of, CountRises, CountFalls}
 use Rattle.qcow2_metadata.specs.TableBytes.{entry_at, ChangesEntry}
 use Rattle.qcow2_metadata.specs.RefBlock.{count_in, ChangesCount}
 use Rattle.qcow2_metadata.specs.L2Table.{copied_host}
-use Rattle.qcow2_laws.proofs.Lemmas.{Sizes, Sizes-from, cover_at, uncovered_names, uncovered_marks, own_names, own_marks, own_data_of, guest_le, names_within, new_data_is_unnamed}
+use Rattle.qcow2_laws.proofs.Lemmas.{Sizes, Sizes-from, uncovered_names, uncovered_marks, guest_le, names_within, new_data_is_unnamed}
 use Rattle.qcow2_laws.proofs.Places.{count_in as count_found}
 
 one_here : (i : ℕ) → one_at i i ≡ 1

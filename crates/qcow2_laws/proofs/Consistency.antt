@@ -1,5 +1,5 @@
 -- An image with the crash invariant is consistent, and a consistent image has the crash invariant.
-use Rattle.std.proofs.Common.{◌≡◌, ◌+◌, ◌*◌, ◌/◌, ◌%◌, ◌<◌, ◌≢◌, ℕ, Bool, false, true, cond, eqb, ap, refl, sym, ◌∙◌, arith, subst, Some, None}
+use Rattle.std.proofs.Common.{◌≡◌, ◌+◌, ◌*◌, ◌/◌, ◌%◌, ◌<◌, ◌≢◌, ℕ, Bool, false, cond, eqb, ap, refl, sym, ◌∙◌, arith, subst, Some, None}
 use Rattle.qcow2_laws.proofs.Common.{IsTrue, Option, eq-eqb, ne_eqb, cond-true, cond-false, Bytes, HeaderFields, header, cluster_size, entries_per_cluster, has_data_file, l1_entry, is_copied, count, cover, named, table_in, in_cluster, Consistent, IsConsistent, EachCover, CoverIsAligned, KeptIsOwn, CopiedIsOwn, L2Mapping, Data, Zero, Compressed, Uncovered, Checkpoint, StopOkEverywhere, Direction, over_guests, marks, marked_by_cover, marked_by_guest, marked_by_kept, marked_by_l1_table, table_at, Pending, cluster, CrashInvariant}
 use Rattle.qcow2_laws.proofs.Sums.{term_le-sum_below}
 use Rattle.qcow2_laws.proofs.Places.{Sizes, Sizes-from, cover_at}

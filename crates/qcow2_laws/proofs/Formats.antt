@@ -1,6 +1,6 @@
 -- What stays the same if the header does, except the pointer to the reftable.
 use Rattle.std.proofs.Common.{◌≡◌, ℕ, refl, ap, sym, ◌∙◌}
-use Rattle.qcow2_laws.proofs.Common.{Bytes, HeaderFields, cluster_size, with_reftable, l1_entry, cover, cover_under, guest_value, named_by_guest, over_guests, guests, names, marks, marked_by_guest, marked_by_l1_table, SameCovers, KeepsFormat}
+use Rattle.qcow2_laws.proofs.Common.{Bytes, HeaderFields, cluster_size, with_reftable, l1_entry, cover, cover_under, guest_value, named_by_guest, over_guests, names, SameCovers, KeepsFormat}
 use Rattle.qcow2_laws.proofs.Guests.{over_guests-same}
 
 -- ---- the same header, one step after another, and back

@@ -1,7 +1,7 @@
 -- A cluster that a zero entry keeps: bytes are written into it, and it becomes data.
 use Rattle.std.proofs.Common.{◌≡◌, ◌+◌, ◌-◌, ◌*◌, ◌/◌, ◌%◌, ◌<◌, ◌≤◌, ◌⊎◌, ◌∷◌, ℕ, true, List, [], length, sym, ap, ◌∙◌, arith, inl, inr, subst, Some}
-use Rattle.qcow2_laws.proofs.Common.{fun_ext, div-mul-add, mod-mul-add, mod_below, pow_pos, Bytes, byte_at, cluster_size, cover, Value, known_byte, value_under, in_cluster, named_by_guest, CoverIsAligned, Data, Zero, disk, IsGiven, given_of, names, marks, marked_by_guest, named_in_either, Pending, WritesAt, DriverState, StateInvariant, SafeStep, guest_at, EntryChanges, used_by_guests, Kept, IsHostedAt, WritesRun, KeptClusterIsWritten, KeptClusterIsCommitted}
-use Rattle.qcow2_laws.proofs.Lemmas.{own_names, own_marks, own_data_of, in_one, tied, in_own, safe_step_less, named_some}
+use Rattle.qcow2_laws.proofs.Common.{fun_ext, div-mul-add, mod-mul-add, mod_below, pow_pos, Bytes, byte_at, cluster_size, cover, Value, known_byte, value_under, in_cluster, named_by_guest, CoverIsAligned, Data, Zero, disk, IsGiven, given_of, names, named_in_either, Pending, WritesAt, DriverState, StateInvariant, SafeStep, guest_at, EntryChanges, used_by_guests, Kept, IsHostedAt, WritesRun, KeptClusterIsWritten, KeptClusterIsCommitted}
+use Rattle.qcow2_laws.proofs.Lemmas.{own_names, own_data_of, in_one, tied, in_own, safe_step_less, named_some}
 use Rattle.qcow2_laws.proofs.Shown.{shown_zero}
 use Rattle.qcow2_laws.proofs.PutRuns.{run_written, given_has}
 use Rattle.qcow2_laws.proofs.MappedAnew.{Maps, pending_after, entry_unseen, entry_maps}

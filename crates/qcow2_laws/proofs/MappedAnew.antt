@@ -1,7 +1,7 @@
 -- One guest cluster gets another mapping: what it then shows, and that everything else stays the same.
 use Rattle.std.proofs.Common.{◌≡◌, ◌+◌, ◌-◌, ◌*◌, ◌/◌, ◌%◌, ◌<◌, ◌≤◌, ◌⊎◌, ◌∷◌, ℕ, Bool, true, cond, eqb, [], refl, sym, ap, ◌∙◌, arith, inl, inr, subst}
 use Rattle.qcow2_laws.proofs.Common.{Option, fun_ext, cases_eq, cases_lt, eq-eqb, ne_eqb, cond-true, cond-false, div-add-mod', mod_below, pow_pos, Bytes, header, cluster_size, cover, Value, known_byte, value_under, in_cluster, named_for_tables, named_by_guest, CoverIsAligned, Data, Zero, Uncovered, disk, given_shown, names, table_at, Pending, remapped, DriverState, StateInvariant, SafeStep, guest_at, EntryChanges, IsMappedAnew, with_cluster}
-use Rattle.qcow2_laws.proofs.Lemmas.{in_one, own_names, own_data_of, uncovered_names, over_guests-change, for_tables-top, IsTop-top, tied, value_is, new_data_is_unnamed, shares, table_has, entry_top, entry_others, entry_is_changed, table_bytes, named_some, size_stays, value_stays}
+use Rattle.qcow2_laws.proofs.Lemmas.{in_one, own_names, own_data_of, for_tables-top, IsTop-top, tied, value_is, new_data_is_unnamed, shares, table_has, entry_top, entry_others, entry_is_changed, table_bytes, named_some, size_stays, value_stays}
 use Rattle.qcow2_laws.proofs.CachedChanges.{in_at, in_most}
 use Rattle.qcow2_laws.proofs.Shown.{shown_under}
 

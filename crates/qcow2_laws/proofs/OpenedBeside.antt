@@ -1,6 +1,6 @@
 -- A consistent image with an external data file has the invariant when it is opened.
-use Rattle.std.proofs.Common.{◌≡◌, ◌+◌, ◌-◌, ◌/◌, ◌%◌, ◌<◌, ◌≤◌, ◌≢◌, ℕ, Bool, true, false, cond, eqb, refl, sym, ap, ◌∙◌, arith, subst, inl, inr, max, Some, None}
-use Rattle.qcow2_laws.proofs.Common.{Option, cases_eq, cases_lt, cond-false, cond-true, eq-eqb, eqb-true, Bytes, HeaderFields, header, cluster_size, entries_per_cluster, has_data_file, l1_entry, is_copied, count, cover, named_for_tables, named_by_l1_table, table_in, in_cluster, CoverIsAligned, L2Mapping, Neither, ClusterInvariant, guests, over_guests, names, marks, named_by_guest, marked_by_guest, marked_by_l1_table, table_at, cluster, CrashInvariant, nothing_pending}
+use Rattle.std.proofs.Common.{◌≡◌, ◌-◌, ◌<◌, ◌≤◌, ℕ, cond, refl, sym, ap, ◌∙◌, arith, max}
+use Rattle.qcow2_laws.proofs.Common.{cond-true, Bytes, HeaderFields, header, l1_entry, is_copied, count, cover, named_for_tables, named_by_l1_table, table_in, CoverIsAligned, L2Mapping, Neither, ClusterInvariant, guests, over_guests, names, marks, named_by_guest, marked_by_guest, marked_by_l1_table, table_at, cluster, CrashInvariant, nothing_pending}
 use Rattle.qcow2_laws.specs.Beside.{ConsistentBeside, table_surplus_of}
 use Rattle.qcow2_laws.proofs.Lemmas.{some_term, sum_below-zero, Sizes, Sizes-from, l1_marks-le, marks-all, SameTop-refl, each_cover, passes, table_in-is, table_in-real}
 

@@ -1,6 +1,6 @@
 -- Guest bytes stay the same if the mappings and the bytes that these refer to do.
 use Rattle.std.proofs.Common.{◌≡◌, ◌+◌, ◌-◌, ◌*◌, ◌/◌, ◌%◌, ◌<◌, ◌⊎◌, false, ℕ, List, [], refl, sym, ap, ◌∙◌, arith, inl, inr, subst, max}
-use Rattle.qcow2_laws.proofs.Common.{cond-true, le-leb, and_from, mod_below, pow_pos, Bytes, SameFrom, HeaderFields, header, cluster_size, has_data_file, cover, known_byte, compressed_byte, guest_value, value_under, bytes_of_sectors, in_cluster, named_by_cover, named_by_guest, CoverIsAligned, IsConsistent, L2Mapping, Data, Zero, Compressed, Uncovered, disk, disk_with, GivenBytes, IsGiven, Checkpoint, checkpoint_with, StopOkEverywhere, Direction, names, Pending, CrashInvariant, IsMixed, kept_on, kept_either}
+use Rattle.qcow2_laws.proofs.Common.{cond-true, le-leb, and_from, mod_below, pow_pos, Bytes, SameFrom, HeaderFields, header, cluster_size, has_data_file, cover, known_byte, compressed_byte, guest_value, value_under, bytes_of_sectors, in_cluster, named_by_cover, CoverIsAligned, IsConsistent, L2Mapping, Data, Zero, Compressed, Uncovered, disk, disk_with, GivenBytes, IsGiven, Checkpoint, checkpoint_with, StopOkEverywhere, Direction, names, Pending, CrashInvariant, IsMixed, kept_on, kept_either}
 use Rattle.qcow2_laws.proofs.Places.{Sizes, Sizes-from, in_one, div_mono}
 use Rattle.qcow2_laws.proofs.Tops.{bytes_from-same, first_keeps_rest, IsTop-top}
 use Rattle.qcow2_laws.proofs.Guests.{guest_le, names_within, own_names, own_data_of}

@@ -1,5 +1,5 @@
 -- An image that was opened for reading is never written: calls that write are refused before any work, and all others leave the contents of its storage the same.
-use Rattle.std.proofs.Common.{◌≡◌, ◌⊎◌, ◌<◌, ◌≤◌, ◌&&◌, ⊎_elim, inl, inr, ℕ, zero, suc, List, [], Bool, true, false, not, IsTrue, refl, sym, ap, ◌∙◌, subst, arith, Option, Some, None, Ok, Err, replicate}
+use Rattle.std.proofs.Common.{◌≡◌, ◌⊎◌, ◌<◌, ◌≤◌, ◌&&◌, ⊎_elim, inl, inr, ℕ, zero, suc, List, Bool, true, false, not, IsTrue, refl, sym, ap, ◌∙◌, subst, arith, Option, Some, None, Ok, Err, replicate}
 use Rattle.qcow2_session.proofs.Common.{IfSome, IsNone, IsSome, nat_lt, slice_get, slice_set, option_or, cases_lt, lt-ltb, ImageError, Qcow2, Prepared, is_failed, is_writable, size_of, table_of, IsOfNothing, passes, refuse_if, refuses_to_prepare, unusable, IsResized, refuses_to_resize, AreExisting, KeepsItself, free_slots, get_set}
 use Rattle.qcow2_alloc.specs.declared.error.ImageError.TheVariants as I
 use Rattle.qcow2_session.proofs.Told.{none_refused, same_itself}

@@ -1,5 +1,5 @@
 -- The bytes that a writer is known to have received, for texts that may be unknown.
-use Rattle.std.proofs.Common.{ℕ, List, ◌++◌, Option, Some, None, IfSome, ◌∙◌}
+use Rattle.std.proofs.Common.{ℕ, List, Option, Some, None, IfSome, ◌∙◌}
 use Rattle.std.specs.Fmt.{option_append}
 use Rattle.std.specs.Io.KnownBytes.{Appends, Keeps}
 use Rattle.program_parts.proofs.Known.{appends_both}

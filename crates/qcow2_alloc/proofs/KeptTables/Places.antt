@@ -1,6 +1,6 @@
 -- The clusters of modified refblocks have places, also those of new ones.
-use Rattle.std.proofs.Common.{◌≡◌, ◌≢◌, ◌⊎◌, ◌+◌, ◌*◌, ◌^◌, ◌<◌, ◌≤◌, ◌==◌, ◌∷◌, inl, inr, ℕ, Bool, true, false, eqb, List, [], Option, Some, None, IsSome, refl, sym, ap, ◌∙◌, subst, IfSome}
-use Rattle.qcow2_alloc.proofs.Common.{lookup, option_map, cases_eq, eq-eqb, ne_eqb, Bytes, HeaderFields, cluster_size, RefBlockView, HasPlace, Pending, HasBlock, AreNamedBlocks, Slot, RefBlockCacheBackend, MetadataCaches, Cache, value_at, cached_table, cached_tables, AllValuesFit, AreElsewhere, AreLoaded, refblocks, rb_at, HavePlaces, CacheInvariant, OthersStayHeld, IsBlockOf}
+use Rattle.std.proofs.Common.{◌≡◌, ◌*◌, ◌^◌, ◌==◌, ◌∷◌, inl, inr, ℕ, Bool, true, List, [], Option, Some, None, IsSome, refl, sym, ap, subst, IfSome}
+use Rattle.qcow2_alloc.proofs.Common.{cases_eq, eq-eqb, ne_eqb, Bytes, HeaderFields, RefBlockView, HasPlace, Pending, HasBlock, AreNamedBlocks, Slot, RefBlockCacheBackend, MetadataCaches, Cache, value_at, cached_tables, AllValuesFit, AreElsewhere, AreLoaded, refblocks, rb_at, HavePlaces, CacheInvariant, OthersStayHeld, IsBlockOf}
 use Rattle.qcow2_alloc.proofs.KeptTables.BlocksNamed.{blocks_stand, block_place}
 use Rattle.qcow2_alloc.proofs.KeptTables.Standing.{AreStanding}
 

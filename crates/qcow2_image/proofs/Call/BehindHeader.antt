@@ -1,5 +1,5 @@
 -- Calls that keep tables out of cluster 0 and leave its bytes the same, one after another.
-use Rattle.std.proofs.Common.{◌≡◌, ◌⊎◌, ◌+◌, ◌*◌, ◌/◌, ◌^◌, ◌<◌, ◌≤◌, ◌∙◌, inl, inr, ℕ, List, [], length, Result, Option, Some, None, true, false, zero, suc, refl, sym, ap, subst, arith, IsSome}
+use Rattle.std.proofs.Common.{◌≡◌, ◌⊎◌, ◌+◌, ◌*◌, ◌/◌, ◌^◌, ◌<◌, ◌≤◌, ◌∙◌, inl, inr, ℕ, List, length, Result, Option, Some, None, true, false, zero, suc, refl, sym, ap, subst, arith, IsSome}
 use Rattle.qcow2_image.proofs.Common.{IfSome, w64, to_be_bytes, mul-le, overwritten, StorageView, Calls, Changes, ContentsStay, QuietCalls, StorageError, byte_at-overwritten_outside, whole_or_nothing, byte_at, EntryTableView, entry_count, entry_table, without_autoclear, HeaderFields, bytes_of_numbers, l1_table_pointer_written, size_written, L2TableView, LeaveHeaderCluster, KeepBehindHeader, view_in, storage_of, CachesSpareHeader, SparesBytes, SparesHeader, PreservesHeaderButPointer, StandsBehindHeader, Allocator, MetadataCaches, ImageFile, ImageStorage, below_others, bytes_stay, bytes_then, call_keeps, fewer_stay, quiet_keeps, same_kept, Qcow2, IsBegun, IsBesideNumbers, IsL1TableBehind, KeepsL1TableBehind, KeepsTablesBehind, NamesTablesBehind, PreservesHeaderCluster, TablesBehindHeader}
 use Rattle.qcow2_alloc.specs.HeaderClusters.{IsInHeaderCluster, IsBesidePointer, SameAt}
 

@@ -3,7 +3,6 @@ use Rattle.std.proofs.Common.{◌≡◌, inl, inr, refl, sym, subst}
 use Rattle.qcow2_image.proofs.Common.{StorageError, MetadataError, IsOfLengthOrMemory, IsInUseOrFault, IsFault, of_metadata, of_storage, MetadataCaches, ImageError, MayFailLooking, IsUnlimited}
 use Rattle.image_access.specs.declared.error.StorageError.TheVariants as S
 use Rattle.qcow2_metadata.specs.declared.error.MetadataError.TheVariants as M
-use Rattle.qcow2_alloc.specs.declared.error.ImageError.TheVariants as I
 
 pub storage_unlimited : (e : StorageError) → IsUnlimited (of_storage e)
 storage_unlimited S.Fault = tt

@@ -4,7 +4,6 @@ use Rattle.qcow2_image.proofs.Common.{OnOk, option_map, BackingView, StorageView
 use Rattle.std.specs.String.{string_bytes}
 use Rattle.image_access.specs.declared.storage.PreallocateMode.TheVariants as Mode
 use Rattle.qcow2_image.proofs.Open.SameHeaders.{alone_still, names_still, not_needed}
-use Rattle.qcow2_alloc.specs.declared.error.ImageError.TheVariants as I
 use Rattle.qcow2_image.specs.Created.{GrewFromNew, IsThreeClusters, header_end}
 use Rattle.qcow2_image.specs.declared.image.Missing.TheVariants as N
 use Rattle.qcow2_image.proofs.Create.NewDisks.{new_disk_consistent, unwritten_covers, unwritten_new, starts_unwritten}

@@ -1,5 +1,5 @@
 -- The refblock of a new image counts the image's clusters, one after another.
-use Rattle.std.proofs.Common.{◌≡◌, ◌≢◌, ◌+◌, ◌-◌, ◌^◌, ◌≤◌, if◌then◌else◌, ◌<◌, inl, inr, ℕ, Bool, true, false, IsTrue, IsFalse, refl, sym, ap, ◌∙◌, subst, arith, nat_lt, zero, suc, length}
+use Rattle.std.proofs.Common.{◌≡◌, ◌≢◌, ◌+◌, ◌-◌, ◌^◌, ◌≤◌, if◌then◌else◌, inl, inr, ℕ, Bool, true, false, IsTrue, IsFalse, refl, sym, ap, ◌∙◌, subst, arith, nat_lt, length}
 use Rattle.qcow2_image.proofs.Common.{cases_eq, cases_lt, cond-true, cond-false, lt-ltb, le-ltb, pow_pos, pow_mono, RefBlockView, IsRefBlock, ChangesCount, count_at, count_limit, counts_of}
 use Rattle.qcow2_metadata.proofs.Sizes.{counts_in_block}
 use Rattle.qcow2_alloc.proofs.RunBlocks.{limit_above}

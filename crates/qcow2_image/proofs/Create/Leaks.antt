@@ -1,7 +1,6 @@
 -- A new image has no leaks: growing and flushing keep each surplus, and at the end nothing is pending.
 use Rattle.std.proofs.Common.{◌≡◌, ◌+◌, ◌-◌, ◌<◌, ◌≤◌, inl, inr, ℕ, List, [], Result, Ok, Err, ap, ◌∙◌, subst, arith, IsTrue}
 use Rattle.qcow2_image.proofs.Common.{IfLimit, OnOk, cases_lt, BackingView, StorageView, PreallocateMode, Bytes, byte_at, count, named, HasNoLeaks, surplus_of, ClustersToFreeEntry, ImageError, known_in, view_in, IsRefusalByFault, FlushesImage, refusal_of, Qcow2, KeepsSurplus, LeavesSound, HasNothingToFree, is_writable, size_of, abstract_of, new_data_by, of_data, of_tables, over_all, surplus_in, to_free, GrowsTo, IsResized, size_after}
-use Rattle.qcow2_alloc.specs.declared.error.ImageError.TheVariants as I
 
 module _ {S F : Type 0} (view : S → StorageView) (backing : F → BackingView) where
   -- clusters are allocated

@@ -1,6 +1,6 @@
 -- Growing over every disk below, part by part, and what flushing leaves.
 use Rattle.std.proofs.Common.{◌≡◌, ◌-◌, ◌*◌, ◌/◌, ◌<◌, ◌≤◌, ◌∷◌, ◌++◌, inl, inr, ℕ, List, [], Option, Result, Ok, Err, Bool, true, refl, sym, ap, subst, arith}
-use Rattle.qcow2_image.proofs.Common.{div-lt_iff_lt-mul, BackingView, StorageView, passes_none, PreallocateMode, byte_at, HeaderFields, cluster_size, entries_per_cluster, shows_old, Checkpoint, StopOkEverywhere, checkpoint_with, Pending, guests, SafeStep, places_of, with_places, Sizes, more_twice, safe_throughout_asking, safe_throughout_then, with_listed, IsFault, known_in, nothing_given, state_in, view_in, ImageError, RefusedCall, Extends, Lasts, LastsCall, LastsKnown, LastsPart, WritesBack, is_failed, with_marks, ImageInvariant, pending_in, FreesListed, InternalFreeingStep, RefusedMove, Qcow2, Prepared}
+use Rattle.qcow2_image.proofs.Common.{div-lt_iff_lt-mul, BackingView, StorageView, passes_none, PreallocateMode, byte_at, HeaderFields, cluster_size, entries_per_cluster, shows_old, Checkpoint, StopOkEverywhere, checkpoint_with, Pending, guests, SafeStep, places_of, with_places, Sizes, more_twice, safe_throughout_asking, safe_throughout_then, with_listed, known_in, nothing_given, state_in, view_in, ImageError, Extends, Lasts, LastsCall, LastsKnown, LastsPart, WritesBack, is_failed, with_marks, FreesListed, InternalFreeingStep, RefusedMove, Qcow2, Prepared}
 use Rattle.image_access.specs.declared.storage.PreallocateMode.TheVariants as Mode
 use Rattle.qcow2_disk.proofs.Stops.{kept_more}
 use Rattle.qcow2_image.proofs.Call.Marked.{MayMarkBy}

@@ -1,5 +1,5 @@
 -- A longer L1 table replaces the old one, part by part, which guests don't see.
-use Rattle.std.proofs.Common.{◌≡◌, ◌+◌, ◌-◌, ◌*◌, ◌/◌, ◌%◌, ◌^◌, ◌<◌, ◌≤◌, ◌∷◌, ◌++◌, ◌⊎◌, ◌&&◌, inl, inr, ℕ, false, List, [], length, Option, Some, None, Result, Ok, Err, refl, sym, ap, ◌∙◌, subst, arith, Bool, true, cond, nat_le, nat_lt}
+use Rattle.std.proofs.Common.{◌≡◌, ◌+◌, ◌-◌, ◌*◌, ◌/◌, ◌%◌, ◌^◌, ◌<◌, ◌≤◌, ◌∷◌, ◌++◌, ◌⊎◌, inl, inr, ℕ, false, List, [], length, Option, Some, None, Result, Ok, Err, refl, sym, ap, ◌∙◌, subst, arith}
 use Rattle.qcow2_image.proofs.Common.{cases_lt, OnOk, OnErr, append_assoc, div-mul-add, BackingView, StorageView, HeaderFields, HeaderView, cluster_size, EntryTableView, entry_count, in_run, named_by_guest, entry_at, new_tables_to_old_tables, Pending, over_guests, names, SafeStep, used_by_guests, guests_format, over_guests-same, safe_step_none, safe_step_then, steps_safe_throughout, pending_is_changed, unseen_disk, run_at, taken_as, InternalAllocatorGrowth, RefusedGrowth, KeepsPinsAndNotes, Allocator, ClusterKind, ClustersToFreeEntry, ImageError, ImageFile, ListsTables, nothing_given, view_in, known_in, state_in, KeepsHeader, pending_same, header_format, file_sizes, run_none, NoFreeBelowHint, BrokeOff, Qcow2, Prepared, RefusedCall, InternalCall, of_data, of_tables, to_free, pending_in, ImageInvariant, abstract_of, clusters_of, run_of_table, listed, with_table, without_l1, IsLongerL1, StandsWhole, InternalMove, InterruptedMove, RefusedMove, PlacesTable, NamesTable, NamesTaken, AllocatesTable, MakesEntry, InternalStep, FreesListed, ListGrows, pending_with_listed, leaked_by, leaked_in, stops_of, run_few, IsFault}
 use Rattle.qcow2_alloc.specs.declared.clusters_to_free.ClusterKind.TheVariants as Kind
 use Rattle.qcow2_image.proofs.Call.Answered.{followed, same_setting, still_shown}

@@ -2,7 +2,6 @@
 use Rattle.std.proofs.Common.{◌≡◌, ◌<◌, ◌/◌, ◌==◌, ◌∷◌, ℕ, Bool, inl, inr, List, [], length, map, Option, Some, None, Result, Ok, Err, refl, sym, ap, ◌∙◌, subst, arith, IfErr}
 use Rattle.qcow2_image.proofs.Common.{cases_Bool, IfSome, OnOk, fun_ext, BackingView, StorageView, Bytes, byte_at, EntryTableView, entry_count, cluster_size, L2TableView, HeaderFields, AreClean, Direction, Pending, CrashInvariant, is_pinned, pinned, value_at, l2_pins, CachesHaveRoom, LeavesPinned, KeepBehindHeader, contents_in, view_in, known_of, l2_tables, order_of, refblocks, AreAllWritten, CacheInvariant, Evict, EvictsTable, InternalCacheStep, Slot, ClustersToFreeEntry, ImageError, IsAllocatorOf, SearchesAnew, Allocator, MetadataCaches, safe_none, pinned_gone, pinned_kept, bytes_stay, IsBesideNumbers, KeepsTablesBehind, leaked_by, leaked_in, HoldsNoTable, IsAtRest, IsReasonAgainstReading, HasPinnedTable, HasL1Table, ImageInvariant, InternalStep, Qcow2, Prepared, anew_kept}
 use Rattle.qcow2_alloc.specs.KeptTables.{cached_tables}
-use Rattle.qcow2_alloc.specs.declared.error.ImageError.TheVariants as I
 use Rattle.qcow2_alloc.proofs.CachedEntries.Pins.{pinned_twice}
 use Rattle.qcow2_image.proofs.Lemmas.{keeps_then, caches_moved}
 use Rattle.qcow2_image.proofs.Invalidate.Pinned.{held_pinned, some_pinned}

@@ -1,7 +1,6 @@
 -- A lookup finds a special range exactly if the guest cluster is compressed, also past the size.
 use Rattle.std.proofs.Common.{◌≡◌, ◌/◌, inl, ℕ, Bool, true, false, refl, sym, ◌∙◌, subst, []}
 use Rattle.qcow2_image.proofs.Common.{Bytes, cover, header, cluster_size, HeaderFields, L2Mapping, Data, Zero, Compressed, Uncovered, Refusal, AnsweredEffect, RefusedEffect, IsSame, storage, AbstractImage, Kind, raw, indirect, zeros, special, eof, kind_at, IsCompressed, IsCompressedAt}
-use Rattle.qcow2_alloc.specs.declared.error.ImageError.TheVariants as I
 use Rattle.qcow2_image.specs.SpecialReads.{is_special}
 
 special_compressed : (h : HeaderFields) (b : Bool) (offset o : ℕ) (v : L2Mapping) → special o ≡ kind_at h b offset v → IsCompressed v

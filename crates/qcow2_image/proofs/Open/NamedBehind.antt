@@ -1,5 +1,5 @@
 -- The pointers of a sound image lead past cluster 0, since only the header refers to cluster 0.
-use Rattle.std.proofs.Common.{◌≡◌, ◌⊎◌, ◌+◌, ◌*◌, ◌/◌, ◌%◌, ◌<◌, ◌≤◌, ◌∙◌, inl, inr, ℕ, [], Result, Ok, Err, zero, suc, refl, ap, subst, arith, IfOk}
+use Rattle.std.proofs.Common.{◌≡◌, ◌⊎◌, ◌+◌, ◌*◌, ◌/◌, ◌%◌, ◌<◌, ◌≤◌, ◌∙◌, inl, inr, ℕ, Result, Ok, Err, zero, suc, refl, ap, subst, arith, IfOk}
 use Rattle.qcow2_image.proofs.Common.{mul-le, pow_pos, BackingView, StorageView, Bytes, byte_at, IsConsistent, block_offset, reftable_entry, cluster_size, counts_per_block, entries_per_cluster, reftable_entries, in_cluster, in_run, named_for_tables, HeaderFields, Direction, CrashInvariant, Pending, in_own, count_none, has_block, run_has, shares, ImageError, LiesBehindHeader, NamesTablesBehind, Opens, Qcow2}
 
 none_or_some : (n : ℕ) → (n ≡ 0) ⊎ (0 < n)

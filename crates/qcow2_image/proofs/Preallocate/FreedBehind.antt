@@ -1,7 +1,6 @@
 -- A growth is refused, and clusters are freed after the refusal.
 use Rattle.std.proofs.Common.{◌≡◌, ◌⊎◌, ◌∙◌, inl, inr, ℕ, true, List, [], sym, subst, Option, Result, Err}
 use Rattle.qcow2_image.proofs.Common.{BackingView, StorageView, PreallocateMode, GivenBytes, works_less, works_then, IsFault, ImageError, RefusedCall, Qcow2, Prepared, ImageInvariant, abstract_of, pending_in, FillsGrownInPart, InterruptedGiving, all_given_by_growing, FreesRefused}
-use Rattle.qcow2_alloc.specs.declared.error.ImageError.TheVariants as I
 
 pub same_refusal : {A : Type 0} (r : Result A ImageError) (e e' : ImageError) → r ≡ Err e → r ≡ Err e' → e ≡ e'
 same_refusal r e e' was is = let both : Err e ≡ Err e' = sym was ∙ is in cc

@@ -1,4 +1,4 @@
-use Rattle.std.proofs.Common.{◌≡◌, ◌+◌, ◌-◌, ◌<◌, ◌≤◌, ℕ, None, refl, sym, ap, ◌∙◌, subst, arith}
+use Rattle.std.proofs.Common.{◌≡◌, ◌+◌, ◌-◌, ◌<◌, ℕ, None, refl, sym, ap, ◌∙◌, subst, arith}
 use Rattle.qcow2_alloc.proofs.Common.{Bytes, IsUnnamed, ImageFile, run_at, contents_in, rb_at, room_length}
 use Rattle.qcow2_alloc.proofs.Lemmas.{allocator_step_none, allocator_step_then, marks_then, held_none, uncached_next, IsFree, empty_run, allocator_step_removed, removed_stays, run_in}
 use Rattle.qcow2_alloc.proofs.new_refblocks.drop_blocks.Goals as goal

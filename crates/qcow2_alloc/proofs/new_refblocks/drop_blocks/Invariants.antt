@@ -1,4 +1,4 @@
-use Rattle.std.proofs.Common.{◌≡◌, ◌+◌, ◌-◌, ◌<◌, ℕ, None}
+use Rattle.std.proofs.Common.{◌≡◌, ◌-◌, ◌<◌, ℕ, None}
 use Rattle.qcow2_alloc.proofs.Common.{AreClean, Pending, Allocator, run_at, InternalAllocatorStep, HeldStep, AllocatorInvariant, l2_tables, refblocks, rb_at, room_length, AreFree}
 use Rattle.qcow2_alloc.proofs.new_refblocks.drop_blocks.Given as goal
 

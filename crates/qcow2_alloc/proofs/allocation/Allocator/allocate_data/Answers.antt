@@ -1,4 +1,4 @@
-use Rattle.std.proofs.Common.{◌≡◌, ◌≢◌, ◌⊎◌, inl, refl, sym, subst, Result, ◌∙◌, IfErr}
+use Rattle.std.proofs.Common.{◌≢◌, inl, refl, sym, subst, Result, ◌∙◌, IfErr}
 use Rattle.qcow2_alloc.proofs.Common.{Pending, Data, ImageFile, InternalAllocatorGrowth, Allocates, pending_then, run_of, KeepsNoFreeBelowHint, IsUsed, StaysUsed, ImageError, ClustersToFreeEntry, IsFaultOr, HasNoPlace, IsMadeInTurn, AllocatesOnly, count}
 use Rattle.qcow2_alloc.proofs.Lemmas.{hint_stays, ok_as, passed_still, handed_on, on_of, allocator_step_cached, is_sound_now, allocates_then, listed_after_same, on_no_ok, if_no_ok, on_ok, alone_none, alone_since, made_run, data_then, fails_on, fails_since, data_cached}
 use Rattle.qcow2_alloc.proofs.allocation.Allocator.allocate_data.Goals as goal

@@ -1,4 +1,4 @@
-use Rattle.std.proofs.Common.{◌≡◌, ◌+◌, ◌-◌, ◌*◌, ◌/◌, ◌%◌, ◌^◌, ◌<◌, ◌≤◌, inl, inr, ℕ, length, refl, sym, ap, ◌∙◌, subst, arith}
+use Rattle.std.proofs.Common.{◌≡◌, ◌+◌, ◌-◌, ◌*◌, ◌/◌, ◌%◌, ◌^◌, ◌<◌, ◌≤◌, inr, ℕ, length, refl, sym, ap, ◌∙◌, subst, arith}
 use Rattle.qcow2_alloc.proofs.Common.{div-add-mod', div-le_self, mul-le-mul_left, greatest_offset, IsHostCluster, EntryTableView, entry_count, HeaderFields, HeaderView, cluster_size, counts_per_block, IsSameOutside, Bytes, one_if, ChangesEntry, HasPlace, run_at, NamesLacking, HasBytesAt, with_run, contents_in, known_in, HavePlaces, opens, opened, room_length, CachesBlocks, InternalNewBlocks, IsBlockOf, faults_of}
 use Rattle.qcow2_alloc.proofs.Lemmas.{handed_on, lacking_none, lacking_more, entries_entered, named_have_places, new_blocks_none, opened_none, free_in_run, run_in, EntersSo, Counting, opens_range, enters_none, enters_first, counting_first, entries_aligned, of_three, rest_then, placed_more, range_within, run_within, counts_as, room_enters, room_counts, file_sizes, fails_by, fails_ok, fails_on, fails_since, memory_other, other_as, table_step_as, table_step_none, table_step_then}
 use Rattle.qcow2_alloc.proofs.allocation.Allocator.cache_blocks.Goals.{then-opens_range+in_ok-block+in_ok-cache_new_block, else-opens_range+in_ok-bring_to_front}

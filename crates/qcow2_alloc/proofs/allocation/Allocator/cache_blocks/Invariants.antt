@@ -1,4 +1,4 @@
-use Rattle.std.proofs.Common.{◌≡◌, ◌+◌, ◌-◌, ◌^◌, ◌<◌, ◌≤◌, ℕ, length}
+use Rattle.std.proofs.Common.{◌≡◌, ◌+◌, ◌-◌, ◌^◌, ◌<◌, ◌≤◌, length}
 use Rattle.qcow2_alloc.proofs.Common.{counts_per_block, BlocksMayGo, Pending, NamesLacking, faults_of, with_run, known_in, AllocatorInvariant, order_of, l2_tables, HavePlaces, opened, room_length, InternalNewBlocks, IsLonger, TableStep}
 use Rattle.qcow2_alloc.proofs.PlacedRooms.{EntersSo, Counting}
 use Rattle.qcow2_alloc.proofs.allocation.Allocator.cache_blocks.Given as goal

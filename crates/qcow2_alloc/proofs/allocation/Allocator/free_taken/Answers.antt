@@ -1,4 +1,4 @@
-use Rattle.std.proofs.Common.{◌≡◌, ◌++◌, ◌∷◌, [], refl, sym, ap, ◌∙◌, append_assoc}
+use Rattle.std.proofs.Common.{◌++◌, ◌∷◌, [], refl, sym, ap, ◌∙◌, append_assoc}
 use Rattle.qcow2_alloc.proofs.Common.{but, FreesListed}
 use Rattle.qcow2_alloc.proofs.Lemmas.{handed_on, but_first, listed_as_well, listed_first, listed_stay, listed_then}
 use Rattle.qcow2_alloc.proofs.allocation.Allocator.free_taken.Goals as goal

@@ -1,4 +1,4 @@
-use Rattle.std.proofs.Common.{◌≡◌, ℕ, inl, inr, refl, ap, ◌∙◌, arith}
+use Rattle.std.proofs.Common.{◌≡◌, inl, inr, refl, ap, ◌∙◌, arith}
 use Rattle.qcow2_alloc.proofs.Common.{cases_lt, Allocator}
 use Rattle.qcow2_alloc.proofs.KeptRuns.{adds_none, adds_then, found_as}
 use Rattle.qcow2_alloc.proofs.allocation.Allocator.list_free.Goals as goal

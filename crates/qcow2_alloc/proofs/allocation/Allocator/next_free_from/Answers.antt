@@ -1,4 +1,4 @@
-use Rattle.std.proofs.Common.{◌≡◌, ◌/◌, ℕ, refl, ap, subst, sym, ◌∙◌}
+use Rattle.std.proofs.Common.{◌≡◌, refl, ap, subst, sym, ◌∙◌}
 use Rattle.qcow2_alloc.proofs.Common.{HeaderView, KeepsNoFreeBelowHint, NoFreeBelowHint, SearchContinuesIn, PassesKnown, Allocator}
 use Rattle.qcow2_alloc.proofs.Lemmas.{handed_on, allocator_step_as, allocator_step_then, is_sound_now, leaves_then, hint_passed, hint_refused, hint_stays, passed_still, moved_on, stayed, stood_still, fails_ok, fails_on, fails_since, table_step_as, table_step_then}
 use Rattle.qcow2_alloc.proofs.allocation.Allocator.next_free_from.Goals.{then-cluster-self, else-cluster-self}

@@ -1,4 +1,4 @@
-use Rattle.qcow2_alloc.proofs.Common.{ap, with_run, room_length, PlacesBlocks}
+use Rattle.qcow2_alloc.proofs.Common.{with_run, room_length, PlacesBlocks}
 use Rattle.qcow2_alloc.proofs.Lemmas.{handed_on, new_blocks_flushed, fails_on, fails_since, table_step_cached, table_step_then}
 use Rattle.qcow2_alloc.proofs.allocation.Allocator.place_blocks.Goals as goal
 

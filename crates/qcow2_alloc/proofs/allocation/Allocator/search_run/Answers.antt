@@ -1,4 +1,4 @@
-use Rattle.std.proofs.Common.{◌≡◌, ◌+◌, ◌/◌, ◌^◌, ◌≤◌, ◌<◌, inl, false, refl, sym, ap, ◌∙◌, subst, arith, inr, Result, ℕ, IfErr}
+use Rattle.std.proofs.Common.{◌+◌, ◌/◌, ◌^◌, ◌≤◌, ◌<◌, inl, false, refl, sym, ap, ◌∙◌, subst, arith, inr, Result, ℕ, IfErr}
 use Rattle.qcow2_alloc.proofs.Common.{greatest_offset, div-le_self, Pending, KeepsNoFreeBelowHint, IsUsed, Allocator, run_at, InternalAllocatorGrowth, AllocatesSomeRun, RefusedGrowth, pending_then, ImageError, IsFaultOr, HasNoPlace, nameable_clusters}
 use Rattle.qcow2_alloc.proofs.Lemmas.{hint_header, lowest_behind, lowest_first, lowest_passed, lowest_stays, not_broken, used_stays, handed_on, may_still, on_none, on_of, leaves_as, is_sound_on, lists_same, lists_then, listed_after_same, then_none, then_taken, then_leaves, header_bits, full_behind, limit_is_no_fault, on_no_ok, if_no_ok, fails_by, fails_ok, fails_on, fails_since, limit_other, step_none, step_on, step_then}
 use Rattle.qcow2_alloc.proofs.allocation.Allocator.search_run.Goals.{then-search-test+then-n-limit+else-first-limit, then-search-test+else-n-limit, else-search-test}

@@ -1,4 +1,4 @@
-use Rattle.std.proofs.Common.{◌≡◌, ◌+◌, ◌*◌, ◌/◌, ◌<◌, ◌≤◌, ℕ, sym, ap, ◌∙◌, subst, arith, Some, refl, inl, IfSome}
+use Rattle.std.proofs.Common.{◌≡◌, ◌+◌, ◌*◌, ◌/◌, ◌<◌, ◌≤◌, ℕ, sym, ap, ◌∙◌, subst, arith, Some, inl, IfSome}
 use Rattle.qcow2_alloc.proofs.Common.{HeaderFields, EntryTableView, entry_count, cluster_size, HeaderView, AreClean, ImageFile, MetadataCaches, run_at, NamesLacking, HasBytesAt, faults_of, with_run, NamesReftable, StandsGrown, contents_in, AllocatorInvariant, KeepsUsed, order_of, l2_tables, refblocks, rb_at, room_length, placed_at, EntersRoom, or_left, is_changed_of}
 use Rattle.qcow2_alloc.proofs.Lemmas.{handed_on, allocator_step_cached, allocator_step_then, is_sound_now, leaves_then, file_sizes, Counting, may_go, new_blocks_refused, counting_beside, table_err, table_ok, stands_ready, names_then, uses_after, ok_as, uses_refused, fails_on, fails_since, fails_still, pointer_step_on, pointer_step_then, table_step_cached, table_step_dropped, table_step_then, table_step_part, pointer_step_to}
 use Rattle.qcow2_alloc.proofs.allocation.Allocator.write_reftable.Goals as goal

@@ -1,7 +1,6 @@
 use Rattle.std.proofs.Common.{◌≡◌, ◌⊎◌, ◌∙◌, Err, Ok, Result, inl, inr, subst, sym, IfErr, IfOk}
 use Rattle.qcow2_image.proofs.Common.{FaultsReported, IsFault, ImageError, IsMade, IsReasonAgainst, StopsCreating}
 use Rattle.qcow2_alloc.specs.declared.error.ImageError.TheVariants as I
-use Rattle.image_access.specs.declared.storage.PreallocateMode.TheVariants as Mode
 use Rattle.qcow2_image.proofs.Create.Creating.{refused_open}
 use Rattle.qcow2_image.proofs.Create.GrownOpen.{grown_disk, grown_holds, grown_reason, grown_stops}
 use Rattle.qcow2_image.proofs.builder.Qcow2CreateBuilder.create_open.Goals as goal

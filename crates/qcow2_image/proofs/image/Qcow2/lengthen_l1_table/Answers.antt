@@ -1,4 +1,4 @@
-use Rattle.std.proofs.Common.{◌≡◌, ◌+◌, ◌/◌, ◌^◌, ◌⊎◌, max, ap, ◌∙◌, sym, subst, inl, IsTrue}
+use Rattle.std.proofs.Common.{◌≡◌, ◌+◌, ◌/◌, ◌^◌, ◌⊎◌, max, ap, ◌∙◌, sym, subst, inl}
 use Rattle.qcow2_image.proofs.Common.{IfErr-weaker, IsPlacedNear, entry_count, Pending, handed_on, always_ok, l1_index_of, ImageInvariant, pending_in, MakesEntry, on_no_ok, on_ok, pending_with_listed, LastsPart, IsFault, ListGrows}
 use Rattle.qcow2_image.proofs.Lemmas.{all_listed, beside, freed_then, listed_moved, refused_moved, stays_moved, hands_met, faults_or_limit, faults_unlimited, hands_either, hands_limit, limited_more, limited_unseen, unlimited_all, step_then, freed_part, lasts_step, moved_part}
 use Rattle.qcow2_image.proofs.image.Qcow2.lengthen_l1_table.Goals as goal
