@@ -44,9 +44,8 @@ module _ (v mid : AbstractImage) (gs : List GivenBytes) (size : ℕ) (opened : I
 
   pub stops_first : EachMomentSince v.storage mid.storage (λ c. IsStop v.setting.backing (disk v.known v.setting.backing) size (byte_at c))
   stops_first =
-      let m = checkpoint_at (disk v.known v.setting.backing) v.known in
       passes_if (λ c. IsStop v.setting.backing (disk v.known v.setting.backing) size (byte_at c)) (λ c kept. stop_is v.setting.backing (disk v.known v.setting.backing) v.known gs size beyond (byte_at c) kept)
-      ((first.works opened.sound).stops m (begins_there, begins)).moments
+      ((first.works opened.sound).stops (checkpoint_at (disk v.known v.setting.backing) v.known) (begins_there, begins)).moments
 
   -- and of a call that gives nothing after it
   pub stops_then : (new : AbstractImage) → mid.is_sound → CallEffect mid new [] [] → EachMomentSince v.storage new.storage (λ c. IsStop v.setting.backing (disk v.known v.setting.backing) size (byte_at c))

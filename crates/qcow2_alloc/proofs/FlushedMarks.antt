@@ -93,8 +93,7 @@ module _ {S K V E : Type 0} (steps : Steps S K V E) (eq : K → K → Bool) (is_
 
       pub walk_ends : (first : Option E) (s : S) (es : List (K × Slot V)) → IsWalking first None s es → FlushesAll steps s₀ all first s es
       walk_ends first s es w =
-          let clean = none_modified is_modified w.todo (none_as w.found) in
-          let f = passed first s w.todo [] w.done clean (subst (λ l. Flushing steps s₀ all first s l w.done) (sym (append_nil w.todo)) w.flushing) in
+          let f = passed first s w.todo [] w.done (none_modified is_modified w.todo (none_as w.found)) (subst (λ l. Flushing steps s₀ all first s l w.done) (sym (append_nil w.todo)) w.flushing) in
           subst (FlushesAll steps s₀ all first s) (sym w.split) (flushing_all steps s₀ all first s (w.done ++ w.todo) f)
         where
           append_nil : {X : Type 0} (l : List X) → l ++ [] ≡ l
@@ -189,9 +188,8 @@ module _ {S K V E : Type 0} (steps : Steps S K V E) (eq : K → K → Bool) (is_
   flushed_settled lawful k d s t es fs (Ok true) found h =
       let clean = lawful s t k d.value h.0 h.1 in
       let slot = slot_of h.0 d.pins in
-      let there = put_found (eq k) es d slot found in
       subst (λ l. settled eq is_modified l k (marks_in is_modified es) ≡ marks_in is_modified l) (sym h.2)
-      (rw (there, clean) (sym (marks_set is_modified (eq k) es slot ∙ ap (set_value (eq k) (marks_in is_modified es)) clean)))
+      (rw ((put_found (eq k) es d slot found), clean) (sym (marks_set is_modified (eq k) es slot ∙ ap (set_value (eq k) (marks_in is_modified es)) clean)))
   flushed_settled lawful k d s t es fs (Ok false) found h = absurd h
   flushed_settled lawful k d s t es fs (Err (Backend x)) found h = subst (λ l. settled eq is_modified l k (marks_in is_modified es) ≡ marks_in is_modified l) (sym h.1) (settled_right is_modified eq es (marks_in is_modified es) k (mark_looked is_modified (eq k) es))
   flushed_settled lawful k d s t es fs (Err InUse) found h = absurd h

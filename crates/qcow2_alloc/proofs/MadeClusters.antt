@@ -28,10 +28,9 @@ module _ {S : Type 0} (view : S → StorageView) (p : Pending) (file : ImageFile
 
   named_run : (k first : ℕ) → t.cluster ≡ Some first → 0 < run_at first ((8 * entry_count t + 2 ^ t.cluster_bits - 1) / 2 ^ t.cluster_bits) k → 0 < in_reftable file.header.fields k
   named_run k first placed within =
-      let same = reftable_clusters k in
       let there : 0 < run_at (file.header.fields.reftable_offset / cluster_size file.header.fields) ((8 * entry_count t + 2 ^ t.cluster_bits - 1) / 2 ^ t.cluster_bits) k =
       subst (λ n. 0 < run_at n ((8 * entry_count t + 2 ^ t.cluster_bits - 1) / 2 ^ t.cluster_bits) k) (sym (first_is first placed)) within in
-      subst (λ n. 0 < n) (sym same) there
+      subst (λ n. 0 < n) (sym (reftable_clusters k)) there
 
   -- a cluster of the reftable is in use
   pub reftable_used : (k : ℕ) → 0 < in_reftable file.header.fields k → IsUsed view file k

@@ -99,8 +99,7 @@ module _ {K : Type 0} where
   take_beside b n j [] r h other = none_there h
   take_beside b n j (m ∷ ms) r h other = (elim (ltb m.0 n) as (λ y. ltb m.0 n ≡ y → number_at (remove (m ∷ ms) (cond y (suc (count_below n ms)) 0)) j ≡ number_at (m ∷ ms) j) [
     | true ↦ λ t.
-        let deep = take_beside (m.0 + 1) n j ms r.1 (rw (behind_it n m.0 (ltb-true m.0 n t)) at h) other in
-        elim (eqb j m.0) as (λ y. cond y (Some m.1) (number_at (remove ms (count_below n ms)) j) ≡ cond y (Some m.1) (number_at ms j)) [ true ↦ refl | false ↦ deep ]
+        elim (eqb j m.0) as (λ y. cond y (Some m.1) (number_at (remove ms (count_below n ms)) j) ≡ cond y (Some m.1) (number_at ms j)) [ true ↦ refl | false ↦ (take_beside (m.0 + 1) n j ms r.1 (rw (behind_it n m.0 (ltb-true m.0 n t)) at h) other) ]
     | false ↦ λ t. let is = front_is n m ms (ltb-false m.0 n t) r.1 h in rw (ne_eqb j m.0 (λ e. other (e ∙ sym is))) refl
   ]) refl
 

@@ -221,10 +221,9 @@ module _ {S : Type 0} (view : S → StorageView) (d : Bool) (p : Pending) (range
 
     current : AreCurrentIn (cluster_size h) at (refblocks file.caches) on_storage'
     current =
-        let bits = file.caches.rb.backend.header.fields.cluster_bits in
         let same_bits = sound.caches.rb_format.bits in
         subst (λ n. AreCurrentIn (2 ^ n) at (refblocks file.caches) on_storage') same_bits
-        (current_none bits (λ (b : RefBlockView). b.bytes) (λ b. b.is_modified) (HasBlock h on_storage) on_storage on_storage' at file.caches.rb.entries uncached
+        (current_none file.caches.rb.backend.header.fields.cluster_bits (λ (b : RefBlockView). b.bytes) (λ b. b.is_modified) (HasBlock h on_storage) on_storage on_storage' at file.caches.rb.entries uncached
         (subst (λ n. AreLoaded (2 ^ n) (HasBlock h on_storage) (refblocks file.caches) on_storage) (sym same_bits) sound.caches.kept.rb_loaded))
 
     rb_now : (c : ℕ) → HasBlock h on_storage' c → (HasBlock h on_storage c × SameIn (cluster_size h) c on_storage' on_storage) ⊎ AreCurrentIn (cluster_size h) c (refblocks file.caches) on_storage'

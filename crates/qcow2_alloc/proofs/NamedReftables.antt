@@ -127,9 +127,8 @@ module _ {S : Type 0} (view : S → StorageView) (p : Pending) (first blocks clu
     -- a refblock that is named anew isn't cached
     uncached : (c : ℕ) → 0 < run_at first blocks c → AreCurrentIn (cluster_size h) c (refblocks file.caches) on_storage'
     uncached c some =
-        let bits = file.caches.rb.backend.header.fields.cluster_bits in
         subst (λ n. AreCurrentIn (2 ^ n) c (refblocks file.caches) on_storage') sound.caches.rb_format.bits
-        (current_none bits (λ b. b.bytes) (λ b. b.is_modified) (HasBlock h on_storage) on_storage on_storage' c file.caches.rb.entries (ready.uncached c some)
+        (current_none file.caches.rb.backend.header.fields.cluster_bits (λ b. b.bytes) (λ b. b.is_modified) (HasBlock h on_storage) on_storage on_storage' c file.caches.rb.entries (ready.uncached c some)
         (subst (λ n. AreLoaded (2 ^ n) (HasBlock h on_storage) (refblocks file.caches) on_storage) (sym sound.caches.rb_format.bits) sound.caches.kept.rb_loaded))
 
     rb_now : (c : ℕ) → HasBlock h' on_storage' c → HasBlock h on_storage c ⊎ AreCurrentIn (cluster_size h) c (refblocks file.caches) on_storage'

@@ -49,7 +49,6 @@ module _ {S : Type 0} (view : S → StorageView) (p : Pending) (file : ImageFile
       → WritesHeader h (with_reftable_at h offset clusters) (byte_at contents) (known_in view file) (byte_at (reftable_pointer_written (with_reftable h offset clusters) contents))
       (known_of h file.caches (byte_at (reftable_pointer_written (with_reftable h offset clusters) contents)))
   reftable_pointer_writes offset clusters small few fits =
-      let limits = sound.caches.kept.kept.crash_invariant.top.header_reads.within_limits in
       let v : HeaderView = record there { fields = with_reftable file.header.fields offset clusters } in
       reftable_pointer_beside h (order_of file.caches) p (l2_tables file.caches) (refblocks file.caches) contents sound.caches.kept.kept v (reftable_after contents offset clusters fits small)
-      (reftable_still contents v h.reftable_offset h.reftable_clusters fits small (record { few_l1_entries = limits.few_l1_entries; few_reftable_entries = few }) stands)
+      (reftable_still contents v h.reftable_offset h.reftable_clusters fits small (record { few_l1_entries = sound.caches.kept.kept.crash_invariant.top.header_reads.within_limits.few_l1_entries; few_reftable_entries = few }) stands)

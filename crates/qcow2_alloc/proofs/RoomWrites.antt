@@ -51,9 +51,8 @@ module _ {S : Type 0} (view : S → StorageView) where
     pub removed_stays : (taken : Bool) → (IsFalse taken → caches ≡ file.caches) → (IsTrue taken → AllocatesBlock file.caches caches cluster) → InternalCacheStep h q (view_in view file) file.caches (view_in view file) caches
     removed_stays true same takes =
         let off = takes refl h q on_storage sound.caches in
-        let there = known_there view q file cluster sound free in
         stays_as (fun_ext (λ o. elim (cases_eq (o / cluster_size h) cluster) [
-          | inl here ↦ elim (off.off.known cluster) [ inl as_on_storage ↦ as_on_storage o here ∙ sym (there o here) | inr as_known ↦ as_known o here ]
+          | inl here ↦ elim (off.off.known cluster) [ inl as_on_storage ↦ as_on_storage o here ∙ sym ((known_there view q file cluster sound free) o here) | inr as_known ↦ as_known o here ]
           | inr other ↦ sym (off.outside o other)
         ])) (takes refl)
     removed_stays false same takes =

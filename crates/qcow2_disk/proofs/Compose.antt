@@ -9,10 +9,9 @@ use Rattle.qcow2_disk.proofs.Stops.{given_more, given_front, given_split, kept_m
 -- nothing is written, and what is known stays
 pub stops_none : (old new : AbstractImage) (gs : List GivenBytes) (asked : List ℕ) → new.storage ≡ old.storage → (new.is_sound → new.known ≡ old.known) → (m : Checkpoint) → StartsAt old m → Stops old new gs asked m
 stops_none old new gs asked same known m starts =
-    let here = kept_more old.setting.backing gs asked m (stored_bytes old) starts.0 in
     record {
       moments = subst (λ (v : StorageView). EachMomentSince old.storage v (λ c. StopOkEverywhere old.setting.backing (checkpoint_with gs asked m) (byte_at c))) (sym same) (passes_none old.storage _);
-      contents = subst (λ (v : StorageView). LeavesKept old.setting.backing (checkpoint_with gs asked m) v) (sym same) here;
+      contents = subst (λ (v : StorageView). LeavesKept old.setting.backing (checkpoint_with gs asked m) v) (sym same) (kept_more old.setting.backing gs asked m (stored_bytes old) starts.0);
       known = λ h. subst (λ b. StopOkEverywhere old.setting.backing (checkpoint_with gs asked m) b) (sym (known h)) (kept_more old.setting.backing gs asked m old.known starts.1);
     }
 

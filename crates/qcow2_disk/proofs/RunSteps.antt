@@ -380,9 +380,8 @@ module _ {D P : Type 0} (spec : Abstraction D P) (x : Setting) (before : ℕ →
       → EachMomentSince (spec.storage old) (spec.storage new) (λ c. IsStopIn x s end commands replies run (byte_at c))
   whole_passes old last new s end commands replies run at stops leaves =
       let In = λ (k : List ℕ). IsStopIn x s end commands replies run (byte_at k) in
-      let there = rest_at_end old last s end commands replies run stops at in
       let ending : EachMomentSince (spec.storage last) (spec.storage new) In = elim (bool_cases end.is_failed) [
-        | inl failed ↦ passes_if In (λ k e. subst In (sym e) (stop_at_end s end commands replies run (byte_at (spec.storage last).contents) there)) (leaves.silent failed)
+        | inl failed ↦ passes_if In (λ k e. subst In (sym e) (stop_at_end s end commands replies run (byte_at (spec.storage last).contents) (rest_at_end old last s end commands replies run stops at))) (leaves.silent failed)
         | inr ok ↦ passes_if In (λ k stop. stop_at_end s end commands replies run (byte_at k) stop) (leaves.moments ok)
       ] in
       passes_on In (within old last s end commands replies run stops at) ending (λ k h. h)

@@ -202,12 +202,11 @@ module _ (h : HeaderFields) (d : Direction) (p : Pending) (on_storage known know
         let is = div-add-mod' g (entries_per_cluster h) in
         let row : g / entries_per_cluster h * entries_per_cluster h ≡ i0 * entries_per_cluster h = ap (λ n. n * entries_per_cluster h) here in
         let other : g % entries_per_cluster h ≢ j0 = λ e. ne (omega arith) in
-        let below = mod_below g (entries_per_cluster h) l2_sizes.entries in
         let at : table_at h known (g / entries_per_cluster h) ≡ table_at h known i0 = ap (table_at h known) here in
         let at' : table_at h known' (g / entries_per_cluster h) ≡ table_at h known i0 = ap host_offset (sym (entry_top.l1 (g / entries_per_cluster h))) ∙ at in
         cover_in h known g (λ none. real (sym at ∙ none))
         ∙ ap (λ t. entry_cover h (l2_entry known t (g % entries_per_cluster h))) at
-        ∙ ap (entry_cover h) (entries (g % entries_per_cluster h) below other)
+        ∙ ap (entry_cover h) (entries (g % entries_per_cluster h) (mod_below g (entries_per_cluster h) l2_sizes.entries) other)
         ∙ ap (λ t. entry_cover h (l2_entry known' t (g % entries_per_cluster h))) (sym at')
         ∙ sym (cover_in h known' g (λ none. real (sym at' ∙ none)))
     | inr other ↦ table_others h known known' l2_known_top i0 real l2_once l2_same g other

@@ -232,9 +232,8 @@ module _ (h : HeaderFields) (d : Direction) (p : Pending) (l2s rbs : List Cached
     l2_known : known_bytes (cluster_size h) (front ++ t' ∷ back) rbs on_storage' ≡ known_bytes (cluster_size h) l2s rbs on_storage
     l2_known = fun_ext (λ o. elim (apart (o / cluster_size h)) [
       | inl free ↦
-          let old = known-none (cluster_size h) l2s (known (cluster_size h) rbs on_storage) o (free o refl) in
           let new = known-none (cluster_size h) (front ++ t' ∷ back) (known (cluster_size h) rbs on_storage') o (l2_free o (free o refl)) in
-          new ∙ known-at (cluster_size h) rbs on_storage' on_storage o (stays_in l2s on_storage' (o / cluster_size h) l2_partly free o refl) ∙ sym old
+          new ∙ known-at (cluster_size h) rbs on_storage' on_storage o (stays_in l2s on_storage' (o / cluster_size h) l2_partly free o refl) ∙ sym (known-none (cluster_size h) l2s (known (cluster_size h) rbs on_storage) o (free o refl))
       | inr free ↦
           known-at (cluster_size h) (front ++ t' ∷ back) (known (cluster_size h) rbs on_storage') on_storage' o (known-none (cluster_size h) rbs on_storage' o (free o refl))
           ∙ ap (λ (m : Bytes). m o) (written_known (cluster_size h) t t' on_storage on_storage' so front back l2_apart_at ∙ ap (λ ts. known (cluster_size h) ts on_storage) (sym are))

@@ -159,8 +159,7 @@ module _ (size : ℕ) (t t' : CachedTable) (b b' : Bytes) (so : IsWrittenSo size
       | inr clean ↦ inl (λ o in_c. ap (λ (m : Bytes). m o) done.0 ∙ known-none size (t ∷ []) b o (unmodified_over size t o clean, tt))
       | inl marked ↦ elim (cases_eq c (t.place / size)) [
         | inl here ↦ inr (λ o in_c.
-            let inside = cluster_within t.place size o some (aligned_at front apart) (in_c ∙ here) in
-            let over : overlays size t o ≡ true = ap (λ m. m && is_within t.place size o) marked ∙ inside in
+            let over : overlays size t o ≡ true = ap (λ m. m && is_within t.place size o) marked ∙ (cluster_within t.place size o some (aligned_at front apart) (in_c ∙ here)) in
             ap (λ (m : Bytes). m o) done.0 ∙ known_over size t [] b o over ∙ sym (known_there size front back t b o apart over))
         | inr other ↦ inl (λ o in_c. untouched o (no_overlay size t o (λ over. other (sym in_c ∙ within_cluster t.place size o (aligned_at front apart) (overlays_within size t o over)))))
       ]

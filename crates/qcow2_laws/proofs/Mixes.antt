@@ -144,9 +144,8 @@ module _ (h : HeaderFields) (d : Direction) (p : Pending) (on_storage known b : 
     ];
     not_overlaid = λ o some.
         let le = (nearer (o / cluster_size h)).in_either in
-        let as_before = crash_invariant.not_overlaid o (omega arith) in
         elim (mixed.partly (o / cluster_size h)) [
-          | inl same ↦ same o refl ∙ as_before
+          | inl same ↦ same o refl ∙ (crash_invariant.not_overlaid o (omega arith))
           | inr same ↦ same o refl
         ];
   }

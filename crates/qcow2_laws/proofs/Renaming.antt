@@ -102,12 +102,6 @@ module _ (h : HeaderFields) (a : Places) (d : Direction) (p p' : Pending) (on_st
       let next = rename d (cluster h p on_storage known c) (p.surplus c) (named_for_tables (with_places h a) on_storage' c) (marked_by_l1_table (with_places h a) on_storage' c) (i c) (i c) (s c) (u c)
       (tied h p on_storage known c) (omega arith) (omega arith) (omega arith) (omega arith) (omega arith)
       (λ some. (new_tables c some).0) (λ some. (new_tables c some).1) (λ some. written_covers h d p on_storage known crash_invariant c (new_tables c some).2) (λ some. (empty c some).0) (λ some. (empty c some).1) (good h d p on_storage known crash_invariant c) in
-      let new_data_is = sym (pending c).0 in
-      let new_tables_is = sym (pending c).1 in
-      let old_tables_is = sym (pending c).2 in
-      let old_data_is = sym (pending c).3 in
-      let on_storage_is = sym (counts c) in
-      let known_is = sym (known_counts c) in
       subst (λ n. Good d (record (cluster h p on_storage known c) {
         table_refs = named_for_tables (with_places h a) on_storage' c;
         copied_l1_refs = marked_by_l1_table (with_places h a) on_storage' c;
@@ -121,12 +115,12 @@ module _ (h : HeaderFields) (a : Places) (d : Direction) (p p' : Pending) (on_st
       (subst (λ k. Good d k (p.surplus c)) (λ t. record (cluster h p on_storage known c) {
         table_refs = named_for_tables (with_places h a) on_storage' c;
         copied_l1_refs = marked_by_l1_table (with_places h a) on_storage' c;
-        storage_count = on_storage_is t;
-        known_count = known_is t;
-        new_data = new_data_is t;
-        new_tables = new_tables_is t;
-        old_tables = old_tables_is t;
-        old_data = old_data_is t;
+        storage_count = (sym (counts c)) t;
+        known_count = (sym (known_counts c)) t;
+        new_data = (sym (pending c).0) t;
+        new_tables = (sym (pending c).1) t;
+        old_tables = (sym (pending c).2) t;
+        old_data = (sym (pending c).3) t;
       }) next))
 
   -- ---- what guests see

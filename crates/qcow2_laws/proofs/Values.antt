@@ -88,11 +88,10 @@ module _ (h : HeaderFields) (d : Direction) (p : Pending) (on_storage known b : 
       let at_b = now.top.header_is in
       let at_storage = crash_invariant.top.header_is in
       let own = own_of_kept h backing m on_storage crash_invariant.top.header_is kept in
-      let at_known = (IsTop-top h on_storage known crash_invariant.same_top crash_invariant.top).header_is in
       kept_either backing m on_storage known b (crash_invariant_consistent h d p b known now own)
       (first_keeps_rest h on_storage b at_storage at_b (top_kept h on_storage known b crash_invariant.top crash_invariant.same_top mixed.partly).first_cluster)
       (size_is h b backing at_b ∙ sym (size_is h on_storage backing at_storage))
       (λ o. elim (either_value (own_data_of h own) backing o) [
         | inl is ↦ inl (value_is h b backing o at_b ∙ is ∙ sym (value_is h on_storage backing o at_storage))
-        | inr is ↦ inr (value_is h b backing o at_b ∙ is ∙ sym (value_is h known backing o at_known))
+        | inr is ↦ inr (value_is h b backing o at_b ∙ is ∙ sym (value_is h known backing o ((IsTop-top h on_storage known crash_invariant.same_top crash_invariant.top).header_is)))
       ]) kept known_kept

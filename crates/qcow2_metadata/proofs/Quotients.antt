@@ -33,8 +33,7 @@ next_fits n k low high fits more =
           let split : 64 ≡ 67 - k + (k - 3) = omega arith in
           let rows : 2 ^ 64 ≡ 2 ^ (67 - k) * 2 ^ (k - 3) = ap (λ x. 2 ^ x) split ∙ pow-add 2 (67 - k) (k - 3) in
           let is : n + 1 ≡ 2 ^ (67 - k) * 2 ^ (k - 3) = omega (arith, rows) in
-          let of_power = before_multiple n (2 ^ (k - 3)) (2 ^ (67 - k)) (pow_pos (k - 3)) is in
-          absurd (more (rw eighth_is of_power))
+          absurd (more (rw eighth_is (before_multiple n (2 ^ (k - 3)) (2 ^ (67 - k)) (pow_pos (k - 3)) is)))
     ]
 
 -- a quotient that is rounded up

@@ -108,8 +108,7 @@ module _ (contents : List ℕ) (v : HeaderView) where
   autoclear_still some is =
       let h = header (byte_at contents) in
       let long = header_new (byte_at contents) is.reads.well_formed.in_range (λ none. some (ap (λ (k : HeaderFields). k.autoclear) is.fields ∙ none)) in
-      let there = behind contents (replicate 8 0) 88 v h (omega arith) is in
       let limits = subst IsWithinLimits (sym is.fields) is.reads.within_limits in
       subst (λ k. IsHeaderOf (with_fields v (without_autoclear v.fields)) k (byte_at (autoclear_cleared contents))) (sym (autoclear_after contents))
-      (still (λ k. k.size) (λ k. k.l1_entries) (λ k. k.l1_offset) (λ k. k.reftable_offset) (λ k. k.reftable_clusters) (λ _. 0) v h _ there
+      (still (λ k. k.size) (λ k. k.l1_entries) (λ k. k.l1_offset) (λ k. k.reftable_offset) (λ k. k.reftable_clusters) (λ _. 0) v h _ (behind contents (replicate 8 0) 88 v h (omega arith) is)
       record { few_l1_entries = limits.few_l1_entries; few_reftable_entries = limits.few_reftable_entries })

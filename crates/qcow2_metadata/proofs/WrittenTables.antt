@@ -73,13 +73,11 @@ pub IsL1TableOf-written_entry : (h : HeaderFields) (contents : List ℕ) (place 
 unfolding l1_entry
 IsL1TableOf-written_entry h contents place t i within fits named =
     let few : i < h.l1_entries = omega (arith, named.0.1) in
-    let all = written_entry contents h.l1_offset h.l1_entries t.bytes i few fits named.1 in
-    λ j. rw (← named.0.0) (all j)
+    λ j. rw (← named.0.0) ((written_entry contents h.l1_offset h.l1_entries t.bytes i few fits named.1) j)
 
 pub IsRefTableOf-written_entry : (h : HeaderFields) (contents : List ℕ) (place : ℕ) (t : EntryTableView) (i : ℕ) → i < entry_count t → entry_at t.bytes i < 2 ^ 64
     → NamesRefTable h place (entry_count t) × IsRefTableBut i h (byte_at contents) t → IsRefTableOf h (byte_at (overwritten contents (place + 8 * i) (to_be_bytes w64 (entry_at t.bytes i)))) t
 unfolding reftable_entry
 IsRefTableOf-written_entry h contents place t i within fits named =
     let few : i < reftable_entries h = omega (arith, named.0.1) in
-    let all = written_entry contents h.reftable_offset (reftable_entries h) t.bytes i few fits named.1 in
-    λ j. rw (← named.0.0) (all j)
+    λ j. rw (← named.0.0) ((written_entry contents h.reftable_offset (reftable_entries h) t.bytes i few fits named.1) j)

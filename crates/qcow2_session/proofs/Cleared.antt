@@ -53,12 +53,11 @@ module _ {S F : Type 0} (view : S → StorageView) (backing : F → BackingView)
         → IsRightlyCleared how (known_in view old.file) (known_in view new.file) offset n
     rightly_cleared fits covers =
         let was = sym (header_is view backing old out sound) in
-        let is = sym (header_is view backing new out sound') in
         record {
           version = subst (λ (h : HeaderFields). IsTrue (needs_zeros how) → 3 ≤ h.version) was (third (needs_zeros how) old.file.header.fields.version fits.1);
           near = subst (λ (h : HeaderFields). rounds_past (cluster_size h) h.size offset n ≡ false) was fits.2;
           covers = subst (λ (h : HeaderFields). ClearsCovers how (touched_from (cluster_size h) offset) (touched_to (cluster_size h) h.size offset n) h (known_in view old.file) (header (known_in view new.file)) (known_in view new.file)) was
-              (subst (λ (h : HeaderFields). ClearsCovers how (from_in old offset n) (to_in old offset n) old.file.header.fields (known_in view old.file) h (known_in view new.file)) is covers);
+              (subst (λ (h : HeaderFields). ClearsCovers how (from_in old offset n) (to_in old offset n) old.file.header.fields (known_in view old.file) h (known_in view new.file)) (sym (header_is view backing new out sound')) covers);
         }
 
   clears_as : (out : List (Option Prepared)) (x : Setting) (s : State) (r : Result (ℕ × ℕ) ImageError) → RefinesState x (abstract_of view backing old out) s → IsEarly r → IsCovered r → IsCleared r

@@ -46,10 +46,9 @@ module _ {S F : Type 0} (old mid : Qcow2 S F) (same : IsSameImage old mid) where
     pub part_prepares : is_failed mid ≡ false → 0 < n → refuses_to_prepare old offset n ≡ None → refuses_to_prepare mid at m ≡ None
     part_prepares works some none =
         let whole = three_none (unusable old) (passes (size_of old) offset n) (nat_lt 0 n && not (is_writable old)) none in
-        let external = same.external ∙ (both_none (is_failed old) (is_external old) whole.0).1 in
         let writes : is_writable mid ≡ true = same.writable ∙ put_writes n (is_writable old) whole.2 some in
         let test : (nat_lt 0 m && not (is_writable mid)) ≡ false = ap (λ b. nat_lt 0 m && not b) writes ∙ never (nat_lt 0 m) in
-        all_none (is_failed mid) (is_external mid) (passes (size_of mid) at m) (nat_lt 0 m && not (is_writable mid)) works external (still_within whole.1) test
+        all_none (is_failed mid) (is_external mid) (passes (size_of mid) at m) (nat_lt 0 m && not (is_writable mid)) works (same.external ∙ (both_none (is_failed old) (is_external old) whole.0).1) (still_within whole.1) test
       where
         never : (b : Bool) → (b && false) ≡ false
         never true = refl

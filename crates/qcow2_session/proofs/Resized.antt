@@ -97,9 +97,8 @@ module _ {S F : Type 0} (view : S → StorageView) (backing : F → BackingView)
     rightly_grown : (mode : PreallocateMode) → ImageInvariant view backing (pending_in view backing old out) old out → ImageInvariant view backing (pending_in view backing new out) new out → (size_of old < size → IsFilledBehind mode)
         → IsRightlyGrown mode size (known_in view old.file) (known_in view new.file)
     rightly_grown mode sound sound' covers =
-        let is = sym (header_is view backing new out sound') in
         subst (λ (h : HeaderFields). h.size < size → GrownCovers mode h.size size h (known_in view old.file) (header (known_in view new.file)) (known_in view new.file)) (sym (header_is view backing old out sound))
-        (subst (λ (h : HeaderFields). size_of old < size → GrownCovers mode (size_of old) size old.file.header.fields (known_in view old.file) h (known_in view new.file)) is covers)
+        (subst (λ (h : HeaderFields). size_of old < size → GrownCovers mode (size_of old) size old.file.header.fields (known_in view old.file) h (known_in view new.file)) (sym (header_is view backing new out sound')) covers)
 
     module _ (x : Setting) (s : State) (stands : RefinesState x before s) (last : IsLast) where
       pub grow_done : (mode : PreallocateMode) → IsEarly {A = Unit {0}} (Ok tt) → (before.is_sound → size_of old < size → IsFilledBehind mode) → GrowsTo view backing old new size mode (Ok tt) → RefinesCommand x before after s (grow size mode) done

@@ -24,8 +24,7 @@ module _ {K X : Type 0} {eq : K → K → Bool} (laws : IsEquivalence eq) where
   hit_case : (es : List (K × X)) (k j : K) (o : Option (K × X)) → lookup_entry (eq k) es ≡ o → (b : Bool) → eq k j ≡ b → lookup (eq j) (option_map_or (λ e. e ∷ remove_entry (eq k) es) o es) ≡ lookup (eq j) es
   hit_case es k j None h b same = refl
   hit_case es k j (Some e) h true same =
-      let passes = (Contains-lookup_entry (eq k) es e h).1 in
-      let here : eq j e.0 ≡ true = sym (laws.congr k j e.0 same) ∙ passes in
+      let here : eq j e.0 ≡ true = sym (laws.congr k j e.0 same) ∙ ((Contains-lookup_entry (eq k) es e h).1) in
       let found : lookup (eq k) es ≡ Some e.1 = lookup-from_entry (eq k) es ∙ ap (option_map (λ (x : K × X). x.1)) h in
       rw here (sym (sym (lookup_alike es k j same) ∙ found))
   hit_case es k j (Some e) h false other = rw (apart_from k j e (Contains-lookup_entry (eq k) es e h).1 other) (removed_apart es k j other)
@@ -164,8 +163,7 @@ module _ {S K V E : Type 0} {steps : Steps S K V E} {eq : K → K → Bool} (law
   pub gets_keeps : (size : ℕ) (may_flush : Bool) (k : K) (s t : S) (es fs : List (K × Slot V)) (r : Result Bool (CacheError K E)) → IsDistinct eq (keys_of es) → lookup (eq k) es ≡ None
       → GetsNew steps eq size may_flush k s es r t fs → KeepsKnownBytes s es t fs
   gets_keeps size may_flush k s t es fs (Ok true) d none h =
-      let gone = room_missing steps eq size may_flush k s es h.0 h.1 h.3 none in
-      subst (KeepsKnownBytes s es t) (sym h.5) (keeps_then s h.0 t es h.1 ((k, slot_of h.2 0) ∷ h.1) (room_keeps size may_flush s h.0 es h.1 d h.3) (load_keeps h.0 t h.1 k h.2 h.4 gone))
+      subst (KeepsKnownBytes s es t) (sym h.5) (keeps_then s h.0 t es h.1 ((k, slot_of h.2 0) ∷ h.1) (room_keeps size may_flush s h.0 es h.1 d h.3) (load_keeps h.0 t h.1 k h.2 h.4 (room_missing steps eq size may_flush k s es h.0 h.1 h.3 none)))
   gets_keeps size may_flush k s t es fs (Ok false) d none h = no_room_keeps size may_flush s t es fs (Ok false) d h
   gets_keeps size may_flush k s t es fs (Err InUse) d none h = no_room_keeps size may_flush s t es fs (Err InUse) d h
   gets_keeps size may_flush k s t es fs (Err (StillInUse _)) d none h = absurd h
@@ -205,10 +203,9 @@ module _ {S K V E : Type 0} {steps : Steps S K V E} {eq : K → K → Bool} (law
   all_known s [] o t fs d h x j = ap (λ l. seen t l j) h.2 ∙ ap (λ u. stored u j) h.1
   all_known s (e ∷ es) o t fs d h x j =
       let one = entry_apart s h.1 e h.0 h.2 h.5 x in
-      let rest = all_apart h.1 es h.3 t h.4 h.6 one.0 in
       ap (λ l. seen t l j) h.8 ∙ (elim (eq j e.0) as (λ c. eq j e.0 ≡ c → shown (cond c (Some h.2) (lookup (eq j) h.4)) (stored t j) ≡ shown (cond c (Some e.1) (lookup (eq j) es)) (stored s j)) [
         | true ↦ λ c. let same : eq e.0 j ≡ true = laws.symm e.0 j ∙ c in
-            ap (value_laid_over is_modified bytes h.2.value) (rest.1 j (none_alike e.0 j es same d.0)) ∙ entry_shown s h.1 e h.0 h.2 h.5 x j same
+            ap (value_laid_over is_modified bytes h.2.value) ((all_apart h.1 es h.3 t h.4 h.6 one.0).1 j (none_alike e.0 j es same d.0)) ∙ entry_shown s h.1 e h.0 h.2 h.5 x j same
         | false ↦ λ c. let other : eq e.0 j ≡ false = laws.symm e.0 j ∙ c in
             all_known h.1 es h.3 t h.4 d.1 h.6 one.0 j ∙ ap (shown (lookup (eq j) es)) (one.1 j other)
       ]) refl
@@ -248,8 +245,7 @@ module _ {S K V E : Type 0} {steps : Steps S K V E} {eq : K → K → Bool} (law
       → InsertsNew steps eq size may_flush k v s es r t fs left → r ≡ Ok true → Overlays k v s es t fs
   inserts_lays size may_flush k v s t es fs left r d none h is =
       let done = subst (λ y. InsertsNew steps eq size may_flush k v s es y t fs left) is h in
-      let gone = room_missing steps eq size may_flush k s es t done.0.0 done.0.1 none in
-      subst (Overlays k v s es t) (sym done.0.2) (front_lays s t es done.0.0 k v gone (room_keeps size may_flush s t es done.0.0 d done.0.1))
+      subst (Overlays k v s es t) (sym done.0.2) (front_lays s t es done.0.0 k v (room_missing steps eq size may_flush k s es t done.0.0 done.0.1 none) (room_keeps size may_flush s t es done.0.0 d done.0.1))
 
   -- the entry under the key in front of the others
   module _ (k : K) (e : K × Slot V) (es : List (K × Slot V)) (found : lookup_entry (eq k) es ≡ Some e) where

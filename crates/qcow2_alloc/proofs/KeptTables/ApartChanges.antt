@@ -105,9 +105,8 @@ module _ {V : Type 0} (bits : ℕ) (bytes : V → List ℕ) (is_modified : V →
 
   pub is_known : (i : ℕ) → i < size → all (tables (set_at (eqb key) es w)) b (key * size + i) ≡ byte_at (bytes w) i
   is_known i lt =
-      let here = in_key i lt in
       ap (λ n. all (tables (set_at (eqb key) es w)) b (n + i)) (sym place_is)
-      ∙ past (tables (set_at (eqb key) es w)) b (old_table.place + i) (others_free (old_table.place + i) here)
+      ∙ past (tables (set_at (eqb key) es w)) b (old_table.place + i) (others_free (old_table.place + i) (in_key i lt))
       ∙ ap (λ ts. known size ts b (old_table.place + i)) whole'
       ∙ ap (λ n. known size (front ++ new_table ∷ back) b (n + i)) (sym same_place)
       ∙ changed_there size front back old_table new_table b same_place aligned apart_at' is_marked i lt

@@ -58,9 +58,8 @@ module _ {S : Type 0} (h : HeaderFields) (p : Pending) (on_storage : Bytes) (cac
   knows : (w : RefBlockView) → AreLoaded (cluster_size h) (HasBlock h on_storage) (list_with w) on_storage → (i : ℕ) → i < cluster_size h
       → known_bytes (cluster_size h) (l2_tables caches) (list_with w) on_storage (block_of h (known_of h caches on_storage) c + i) ≡ byte_at w.bytes i
   knows w loaded i lt =
-      let aligned = place_aligned_of w loaded in
       ap (λ n. known_bytes (cluster_size h) (l2_tables caches) (list_with w) on_storage (n + i)) (sym (place_is w))
-      ∙ l2_free w i lt aligned (known (cluster_size h) (list_with w) on_storage)
+      ∙ l2_free w i lt (place_aligned_of w loaded) (known (cluster_size h) (list_with w) on_storage)
       ∙ list_knows (cluster_size h) (HasBlock h on_storage) on_storage (tables there.front) (tables there.back) (table w) loaded (has w) i lt
     where
       place_aligned_of : (w : RefBlockView) → AreLoaded (cluster_size h) (HasBlock h on_storage) (list_with w) on_storage → (table w).place % cluster_size h ≡ 0

@@ -52,10 +52,9 @@ module _ {S V : Type 0} (view : S → StorageView) (bits : ℕ) (bytes : V → L
   hit_of s k es (Some e) h honest kept =
       let f = split_found (eqb k) es e h in
       let at = tables_at bits bytes is_modified f.front f.back e in
-      let both = tables_both bits bytes is_modified f.front f.back in
       let kept' : P (tables f.front ++ table e ∷ tables f.back) (contents s) = subst (λ l. P l (contents s)) (ap tables f.is ∙ at) kept in
       let new = promote (tables f.front) (tables f.back) (table e) (contents s) kept' in
-      let fs_is : tables (e ∷ remove_entry (eqb k) es) ≡ table e ∷ (tables f.front ++ tables f.back) = ap (λ l. table e ∷ l) (ap tables f.rest ∙ both) in
+      let fs_is : tables (e ∷ remove_entry (eqb k) es) ≡ table e ∷ (tables f.front ++ tables f.back) = ap (λ l. table e ∷ l) (ap tables f.rest ∙ (tables_both bits bytes is_modified f.front f.back)) in
       relisted s es (e ∷ remove_entry (eqb k) es) honest kept
       (subst (λ l. P l (contents s)) (sym fs_is) new.0, ap (λ l. all l (contents s)) fs_is ∙ new.1 ∙ sym (ap (λ l. all l (contents s)) (ap tables f.is ∙ at)))
 
@@ -99,16 +98,14 @@ module _ {S V : Type 0} (view : S → StorageView) (bits : ℕ) (bytes : V → L
         let e : ℕ × Slot V = v.entry in
         let w : ℕ × Slot V = (e.0, record { value = v.clean; pins = e.1.pins }) in
         let sp = split_oldest es e v.eviction in
-        let at = tables_at bits bytes is_modified sp.front sp.back e in
-        let both = tables_both bits bytes is_modified sp.front sp.back in
-        let whole : tables es ≡ tables sp.front ++ table e ∷ tables sp.back = ap tables sp.is ∙ at in
+        let whole : tables es ≡ tables sp.front ++ table e ∷ tables sp.back = ap tables sp.is ∙ (tables_at bits bytes is_modified sp.front sp.back e) in
         let kept' : P (tables sp.front ++ table e ∷ tables sp.back) (contents s) = subst (λ l. P l (contents s)) whole kept in
         let one = flushed_entry view bits bytes is_modified cleared IsFit unmodified same_bytes P all safety (step v.must.may) s t (tables sp.front) (tables sp.back) e None w.1 honest kept' (v.flushed, refl) in
         let clean : is_modified v.clean ≡ false = ap is_modified v.flushed.clean ∙ unmodified e.1.value in
         let old_data = drop_clean (tables sp.front) (tables sp.back) (table w) (contents t) one.kept clean in
         let apart : AreDistinct (tables (sp.front ++ e ∷ sp.back)) = subst (λ l. AreDistinct (tables l)) sp.is (distinct (tables es) (contents s) kept) in
         let rest : fs ≡ sp.front ++ sp.back = v.rest ∙ ap (remove_entry (eqb e.0)) sp.is ∙ removed_at bits bytes is_modified sp.front sp.back e apart in
-        let fs_is : tables fs ≡ tables sp.front ++ tables sp.back = ap tables rest ∙ both in
+        let fs_is : tables fs ≡ tables sp.front ++ tables sp.back = ap tables rest ∙ (tables_both bits bytes is_modified sp.front sp.back) in
         record {
           honest = one.honest;
           kept = subst (λ l. P l (contents t)) (sym fs_is) old_data.0;

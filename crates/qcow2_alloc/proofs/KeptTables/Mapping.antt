@@ -63,9 +63,8 @@ module _ {S : Type 0} (h : HeaderFields) (p : Pending) (on_storage : Bytes) (cac
   knows : (w : L2TableView) → AreLoaded (cluster_size h) (HasL2 h on_storage) (list_with w) on_storage → (k : ℕ) → k < cluster_size h
       → known_bytes (cluster_size h) (list_with w) (refblocks caches) on_storage (table_at h (known_of h caches on_storage) i + k) ≡ byte_at w.bytes k
   knows w loaded k lt =
-      let aligned = aligned_in w (tables there.front) loaded in
       ap (λ n. known_bytes (cluster_size h) (list_with w) (refblocks caches) on_storage (n + k)) (sym (place_is w))
-      ∙ known-at (cluster_size h) (list_with w) under on_storage ((table w).place + k) (rb_free w k lt aligned)
+      ∙ known-at (cluster_size h) (list_with w) under on_storage ((table w).place + k) (rb_free w k lt (aligned_in w (tables there.front) loaded))
       ∙ list_knows (cluster_size h) (HasL2 h on_storage) on_storage (tables there.front) (tables there.back) (table w) loaded (has w) k lt
 
   -- the entries that it holds are known

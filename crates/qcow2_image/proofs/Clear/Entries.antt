@@ -74,8 +74,7 @@ entry_says : (how : ClearMode) (bits : ℕ) (has_zero external : Bool) (e : ℕ)
 entry_says Uncovered bits has_zero external e zeros = cover_of-0 bits has_zero external
 entry_says Zeros bits has_zero external e zeros = ap (λ z. cover_of bits z external 1) (zeros refl) ∙ cover_of-zero_entry bits external None tt
 entry_says KeptZeros bits has_zero external e zeros =
-    let kept = copied_host (cover_of bits has_zero external e) in
-    ap (λ z. cover_of bits z external (cleared_entry KeptZeros (cover_of bits has_zero external e))) (zeros refl) ∙ cover_of-zero_entry bits external kept (copied_host_is bits has_zero external e)
+    ap (λ z. cover_of bits z external (cleared_entry KeptZeros (cover_of bits has_zero external e))) (zeros refl) ∙ cover_of-zero_entry bits external (copied_host (cover_of bits has_zero external e)) (copied_host_is bits has_zero external e)
 
 -- the host cluster that is kept is aligned
 kept_aligned : (h : HeaderFields) (v : L2Mapping) (host : ℕ) → CoverIsAligned h v → copied_host v ≡ Some host → host % cluster_size h ≡ 0

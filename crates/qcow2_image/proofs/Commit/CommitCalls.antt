@@ -130,10 +130,9 @@ module _ {S F : Type 0} (view : S → StorageView) (backing : F → BackingView)
 
         works_all : EffectOnSound v w given_bytes []
         works_all =
-            let last = (release_prepared.acts.works freed_call.sound) in
             let freeing : EffectOnSound v f given_bytes [] = works_then v e f given_bytes [] all.part.sound entered_works (works_less e f [] given_bytes [] (λ o x never. absurd never) (λ g u. tt) freed_call.works) in
             subst (λ now. EffectOnSound v (abstract_of view backing new now) given_bytes []) end
-            (works_then v f (abstract_of view backing new (slice_set left k None)) given_bytes [] freed_call.sound freeing (works_less f (abstract_of view backing new (slice_set left k None)) [] given_bytes [] (λ o x never. absurd never) (λ g u. tt) last))
+            (works_then v f (abstract_of view backing new (slice_set left k None)) given_bytes [] freed_call.sound freeing (works_less f (abstract_of view backing new (slice_set left k None)) [] given_bytes [] (λ o x never. absurd never) (λ g u. tt) ((release_prepared.acts.works freed_call.sound))))
 
         sound_all : ImageInvariant view backing (pending_in view backing new (slice_set out k None)) new (slice_set out k None)
         sound_all = subst (λ now. ImageInvariant view backing (pending_in view backing new now) new now) end (release_prepared.answer freed_call.sound).0

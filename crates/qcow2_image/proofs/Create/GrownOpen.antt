@@ -50,8 +50,7 @@ module _ {S F : Type 0} (view : S → StorageView) (backing : F → BackingView)
     pub grown_holds : HoldsNewDisk view backing builder.preallocate builder.size opener.number image
     grown_holds =
         let opened = (from (Ok tt) grown).opened in
-        let usable = usable_opened view backing grown.opened opened grown.new.writable_is in
-        let keeps = surplus_taken view backing grown.opened image builder.size builder.preallocate (Ok tt) opened.sound (grown.takes.no_larger usable) grown.takes.image grown.takes.sees in
+        let keeps = surplus_taken view backing grown.opened image builder.size builder.preallocate (Ok tt) opened.sound (grown.takes.no_larger (usable_opened view backing grown.opened opened grown.new.writable_is)) grown.takes.image grown.takes.sees in
         let acts = (grown.takes.sees []).acts in
         let format = format_mid view backing builder.size grown.opened image opened grown.new.writable_is (still (Ok tt) grown) builder.preallocate tt grown.takes in
         let new = subst (λ (s : S). IsNewlyOpened (view s) true opener.number grown.opened) same grown.new in

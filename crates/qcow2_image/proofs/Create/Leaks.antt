@@ -39,7 +39,6 @@ module _ {S F : Type 0} (view : S → StorageView) (backing : F → BackingView)
   no_leaks_flushed old mid new grew writable none (Ok x) flushes emptied = λ k.
       let done = flushes [] in
       let answer = done.answer grew.sound in
-      let same = (done.acts.works grew.sound).surplus answer.0 in
       ap (λ h. surplus_of h (byte_at (view_in view new.file).contents) k) answer.0.file.caches.kept.kept.crash_invariant.top.header_is
-      ∙ stored new (byte_at (view_in view new.file).contents) k (ap (λ (f : ℕ → ℕ). f k) (same ∙ grew.surplus) ∙ none k) answer.1.0 (emptied (grew.writable ∙ writable))
+      ∙ stored new (byte_at (view_in view new.file).contents) k (ap (λ (f : ℕ → ℕ). f k) (((done.acts.works grew.sound).surplus answer.0) ∙ grew.surplus) ∙ none k) answer.1.0 (emptied (grew.writable ∙ writable))
   no_leaks_flushed old mid new grew writable none (Err e) flushes emptied = tt

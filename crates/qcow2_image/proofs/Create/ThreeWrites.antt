@@ -117,9 +117,8 @@ module _ {S : Type 0} (view : S → StorageView) (v : HeaderView) (new : IsNewHe
 
         pub three_there : (z : Unit {0}) → r3 ≡ Ok z → IsThreeWith v (view s3).contents
         three_there z done'' =
-            let is = rw done'' at (writes_third stops_second.honest) in
             let first : (view s1).contents ≡ overwritten [] (2 * cluster_size h) block.bytes = first_is ∙ ap (λ (l : List ℕ). overwritten l (2 * cluster_size h) block.bytes) empty in
-            subst (λ (l : List ℕ). IsThreeWith v l) (sym is) (three_with v new block counts t names (view s1).contents (view s2).contents first second_is)
+            subst (λ (l : List ℕ). IsThreeWith v l) (sym (rw done'' at (writes_third stops_second.honest))) (three_with v new block counts t names (view s1).contents (view s2).contents first second_is)
 
 -- ---- one part after another
 pub stops_then : (n : ℕ) (old mid new : StorageView) → StaysCreating Mode.None n old mid → StaysCreating Mode.None n mid new → StaysCreating Mode.None n old new

@@ -99,11 +99,10 @@ module _ {S F : Type 0} (view : S → StorageView) (old mid : Qcow2 S F) (w : He
 
     behind_taken : NamesTablesBehind v.fields → KeepsTablesBehind old.file.header.fields.cluster_bits old.l1_table (view_in view old.file) old.file.caches old.allocator v.fields.cluster_bits mid.l1_table (view_in view mid.file) mid.file.caches mid.allocator
     behind_taken names =
-        let kept = read.part.header_cluster (subst NamesTablesBehind places_taken names) in
         let bits : w.fields.cluster_bits ≡ old.file.header.fields.cluster_bits = ap (λ (h : HeaderFields). h.cluster_bits) others in
         let last : mid.file.header.fields.cluster_bits ≡ v.fields.cluster_bits = ap (λ (x : HeaderView). x.fields.cluster_bits) header_stays ∙ sym (ap (λ (h : HeaderFields). h.cluster_bits) places_taken) in
         subst (λ n. KeepsTablesBehind n old.l1_table (view_in view old.file) old.file.caches old.allocator v.fields.cluster_bits mid.l1_table (view_in view mid.file) mid.file.caches mid.allocator) bits
-        (subst (λ n. KeepsTablesBehind w.fields.cluster_bits old.l1_table (view_in view old.file) old.file.caches old.allocator n mid.l1_table (view_in view mid.file) mid.file.caches mid.allocator) last kept)
+        (subst (λ n. KeepsTablesBehind w.fields.cluster_bits old.l1_table (view_in view old.file) old.file.caches old.allocator n mid.l1_table (view_in view mid.file) mid.file.caches mid.allocator) last (read.part.header_cluster (subst NamesTablesBehind places_taken names)))
 
     pub all_taken : ReplacesTables view old (with_header mid v)
     all_taken = record {

@@ -93,8 +93,7 @@ module _ {S : Type 0} (view : S → StorageView) where
     moments_cleared is there = elim (cases_eq file.header.fields.autoclear 0) [
       | inl none ↦ passes_if _ (λ c at. inl (at ∙ ap (λ (s : ImageStorage S). (view (storage_of s)).contents) (idle none).1)) (calls.time is)
       | inr some ↦
-          let made = opened_some was.contents (some_stands there some) in
-          passes_if _ (λ c at. elim (whole_or_nothing result was.contents (autoclear_cleared was.contents) now.contents (written some is)) [ inl stay ↦ inl (at ∙ stay) | inr changed ↦ inr (at ∙ changed ∙ sym made) ]) (calls.time is)
+          passes_if _ (λ c at. elim (whole_or_nothing result was.contents (autoclear_cleared was.contents) now.contents (written some is)) [ inl stay ↦ inl (at ∙ stay) | inr changed ↦ inr (at ∙ changed ∙ sym (opened_some was.contents (some_stands there some))) ]) (calls.time is)
     ]
 
     module _ (v : HeaderView) (ok : v ≡ with_fields file.header (without_autoclear file.header.fields)) where

@@ -92,7 +92,6 @@ module _ {S F : Type 0} (view : S → StorageView) (backing : F → BackingView)
       let k' = known_in view long.file in
       let moved : size_of long ≡ size_of old = ap (λ (x : HeaderFields). x.size) call.header in
       let large : cluster_size long.file.header.fields ≡ cluster_size old.file.header.fields = ap (λ (x : HeaderFields). cluster_size x) call.header in
-      let first = first_zeros (cluster_size h) (size_of old) size mode in
-      untaken_behind (cluster_size h) (pow_pos h.cluster_bits) out first h (known_in view old.file) h' k' call.header (size_of old) (rounded_up (cluster_size h) size) call.covers
+      untaken_behind (cluster_size h) (pow_pos h.cluster_bits) out (first_zeros (cluster_size h) (size_of old) size mode) h (known_in view old.file) h' k' call.header (size_of old) (rounded_up (cluster_size h) size) call.covers
       (subst (λ cs. ChangesFree cs (first_zeros cs (size_of old) size mode) (size_of old) (rounded_up cs size) h' k' out) large
       (subst (λ n. ChangesFree (cluster_size h') (first_zeros (cluster_size h') n size mode) n (rounded_up (cluster_size h') size) h' k' out) moved (free hides)))

@@ -98,10 +98,8 @@ module _ {S F : Type 0} (view : S → StorageView) (backing : F → BackingView)
 
       old_values : (o : ℕ) → IsTrue (is_private view backing pinned ready o) → (overwrite && is_within offset (min length (cluster_size hm - offset % cluster_size hm)) o ≡ false) → (meaning view backing pinned ready).shown o ≡ (guest_of (abstract_of view backing old out)).disk.value o
       old_values o private opened =
-          let more = pins.pins found unpinned_now in
-          let here = private_inside view backing old mid out k free before image_step offset table host Kept like one holds_now unpinned_now stands new.file.caches pins.tables more now o private in
-          let there = place_in hm ready o 0 (here ∙ sym first_cluster) in
-          let begins : place_of hm ready o ≡ host / cluster_size old.file.header.fields * cluster_size hm + o % cluster_size hm = there ∙ ap (λ b. b + o % cluster_size hm) (sym place) in
+          let here = private_inside view backing old mid out k free before image_step offset table host Kept like one holds_now unpinned_now stands new.file.caches pins.tables (pins.pins found unpinned_now) now o private in
+          let begins : place_of hm ready o ≡ host / cluster_size old.file.header.fields * cluster_size hm + o % cluster_size hm = (place_in hm ready o 0 (here ∙ sym first_cluster)) ∙ ap (λ b. b + o % cluster_size hm) (sym place) in
           ap known_byte (cond-true _ _ _ private ∙ ap (contents_in view mid.file) begins)
           ∙ filled_byte view backing old mid (host / cluster_size old.file.header.fields) offset length overwrite filled (cluster_size hm) size o here opened
 

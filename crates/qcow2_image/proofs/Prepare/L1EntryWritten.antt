@@ -189,13 +189,12 @@ module _ {S F : Type 0} (view : S → StorageView) (backing : F → BackingView)
     current : AreCurrentIn (cluster_size h) at (l2_tables old.file.caches) on_storage'
     current =
         let new_data = ready.new_data in
-        let bits = old.file.caches.l2.backend.header.fields.cluster_bits in
         let same_bits = sound.file.caches.l2_format.bits in
         let there : (i : ℕ) → i < cluster_size h → byte_at new_data.0.bytes i ≡ on_storage' (at * cluster_size h + i) = λ i lt.
         ap (λ l. byte_at l i) new_data.2 ∙ ready.stands i (subst (λ n. i < n) (sym long) lt)
         ∙ outside (at * cluster_size h + i) (λ e. free_apart (sym (in_own h.cluster_bits at i lt) ∙ e)) in
         subst (λ n. AreCurrentIn (2 ^ n) at (l2_tables old.file.caches) on_storage') same_bits
-        (current_entry bits (λ (t : L2TableView). t.bytes) (λ t. t.is_modified) (HasL2 h on_storage) on_storage on_storage' at old.file.caches.l2.entries new_data.0 new_data.1
+        (current_entry old.file.caches.l2.backend.header.fields.cluster_bits (λ (t : L2TableView). t.bytes) (λ t. t.is_modified) (HasL2 h on_storage) on_storage on_storage' at old.file.caches.l2.entries new_data.0 new_data.1
         (subst (λ n. (i : ℕ) → i < 2 ^ n → byte_at new_data.0.bytes i ≡ on_storage' (at * 2 ^ n + i)) (sym same_bits) there)
         (subst (λ n. AreLoaded (2 ^ n) (HasL2 h on_storage) (l2_tables old.file.caches) on_storage) (sym same_bits) sound.file.caches.kept.l2_loaded))
 

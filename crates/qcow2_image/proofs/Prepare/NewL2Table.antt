@@ -51,8 +51,7 @@ module _ {S F : Type 0} (view : S → StorageView) (backing : F → BackingView)
 
     pub stands_there : (x : Unit {0}) → result ≡ Ok x → HasBytesAt (contents_in view placed.file) (at * cluster_size h) bytes
     stands_there x done i lt =
-        let now = rw done at (writes sound.file.honest) in
-        sym (ap (λ l. byte_at l (at * cluster_size h + i)) now ∙ byte_at-overwritten (view_in view old.file).contents (at * cluster_size h) bytes i lt)
+        sym (ap (λ l. byte_at l (at * cluster_size h + i)) (rw done at (writes sound.file.honest)) ∙ byte_at-overwritten (view_in view old.file).contents (at * cluster_size h) bytes i lt)
 
     -- the file is as before, and has the bytes that it had
     pub keeps_stored : IsStored view placed

@@ -84,10 +84,9 @@ module _ {S F : Type 0} (view : S → StorageView) (backing : F → BackingView)
           format = record { bits = format.bits; zero_bit = format.zero_bit; external = format.external };
           says = λ g here.
               let at = ap (table_at h known) here in
-              let lt = mod_below g (entries_per_cluster h) sizes.entries in
               cover_in h known g (λ none. shared.real (sym known_table ∙ sym at ∙ none))
               ∙ ap (λ n. entry_cover h (l2_entry known n (g % entries_per_cluster h))) at
-              ∙ ap (entry_cover h) (sym (shows h p on_storage index (g % entries_per_cluster h) sound.file.caches (shown_at (g % entries_per_cluster h) lt)).entry);
+              ∙ ap (entry_cover h) (sym (shows h p on_storage index (g % entries_per_cluster h) sound.file.caches (shown_at (g % entries_per_cluster h) (mod_below g (entries_per_cluster h) sizes.entries))).entry);
         })
 
   -- ---- after another part that frees nothing

@@ -340,7 +340,6 @@ module _ {S F : Type 0} (view : S → StorageView) (backing : F → BackingView)
       size_left : (out : List (Option Prepared)) → ImageInvariant view backing (pending_in view backing old out) old out → Left new e marked number fault marks changed out
       size_left out sound =
           let t = tail out sound in
-          let v = abstract_of view backing old out in
           let m = abstract_of view backing mid out in
           elim (writes out t.0.sound) [
             | inl stays ↦
@@ -348,7 +347,7 @@ module _ {S F : Type 0} (view : S → StorageView) (backing : F → BackingView)
                 inl (part_all out sound t.1 (abstract_of view backing new out) (size ∷ []) part.works, (part.sound, part.shows, t.1))
             | inr stands ↦ inr (
               is_fault e (is_failed new) marked (outcome e (is_failed new) marked marks) (ap refusal_of stands.fault),
-              works_then v m (abstract_of view backing (record new { is_failed = true }) out) (all_given_by_shrink view backing old size) (size ∷ []) t.0.sound (part_all out sound t.1 m (size ∷ []) t.0.works)
+              works_then (abstract_of view backing old out) m (abstract_of view backing (record new { is_failed = true }) out) (all_given_by_shrink view backing old size) (size ∷ []) t.0.sound (part_all out sound t.1 m (size ∷ []) t.0.works)
                   (works_less m (abstract_of view backing (record new { is_failed = true }) out) [] (all_given_by_shrink view backing old size) (size ∷ []) (λ o y never. absurd never) (λ g u. tt) stands.works),
             )
           ]
@@ -368,10 +367,9 @@ module _ {S F : Type 0} (view : S → StorageView) (backing : F → BackingView)
       → EachMomentSince (view_in view mid.file) (view_in view new.file) (IsLeftBy (view_in view new.file)) → (out : List (Option Prepared)) → ImageInvariant view backing (pending_in view backing old out) old out → WritesSizeLast view backing old new
   size_is_last old mid new size at r tail time out sound =
       let works = tail_works old mid size at r out (tail out sound) in
-      let m = abstract_of view backing mid out in
       passes_on (λ c. ((header (byte_at c)).size ≡ size_of old) ⊎ (c ≡ (view_in view new.file).contents))
       (passes_if (λ c. ((header (byte_at c)).size ≡ size_of old) ⊎ (c ≡ (view_in view new.file).contents)) (λ c is. inl is)
-      (size_stays_in_calls (state_in view old.file (pending_in view backing old out)) (abstract_of view backing old out) m works.0 sound.file.caches.kept.kept.crash_invariant sound.inside refl refl works.1))
+      (size_stays_in_calls (state_in view old.file (pending_in view backing old out)) (abstract_of view backing old out) (abstract_of view backing mid out) works.0 sound.file.caches.kept.kept.crash_invariant sound.inside refl refl works.1))
       time (λ c is. inr is)
 
 -- ---- why it stops early

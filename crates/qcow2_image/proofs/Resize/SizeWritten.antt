@@ -241,14 +241,12 @@ module _ {S F : Type 0} (view : S → StorageView) (backing : F → BackingView)
 
     pub size_is_set : (x : Unit {0}) → result ≡ Ok x → (new : Qcow2 S F) → new ≡ record old { file = record old.file { storage = storage; header = with_fields old.file.header (with_size old.file.header.fields size) } } → WritesSize view backing old new out size (Ok x)
     size_is_set x done new is =
-        let contents = rw done at (changes sound.file.honest) in
-        subst (λ (a : Qcow2 S F). SetsSize view backing size old a out) (sym is) (sets_size storage contents (calls.honest sound.file.honest) since)
+        subst (λ (a : Qcow2 S F). SetsSize view backing size old a out) (sym is) (sets_size storage (rw done at (changes sound.file.honest)) (calls.honest sound.file.honest) since)
 
     pub size_is_refused : (e : StorageError) → result ≡ Err e → (new : Qcow2 S F) → new ≡ record old { file = record old.file { storage = storage } } → WritesSize view backing old new out size (Err (of_storage e))
     size_is_refused SE.Fault done new is = inr (subst (λ (a : Qcow2 S F). MayStand view backing old a out size I.Storage) (sym is) (unsized_fails storage (calls.honest sound.file.honest) since))
     size_is_refused SE.Memory done new is =
-        let contents = rw done at (changes sound.file.honest) in
-        inl (subst (λ (a : Qcow2 S F). InternalCall view backing old a out) (sym is) (unsized_stays storage (calls.honest sound.file.honest) (calls.time sound.file.honest) contents))
+        inl (subst (λ (a : Qcow2 S F). InternalCall view backing old a out) (sym is) (unsized_stays storage (calls.honest sound.file.honest) (calls.time sound.file.honest) (rw done at (changes sound.file.honest))))
 
 -- ---- over every disk below
 pub lasts_sized : {S F : Type 0} (view : S → StorageView) (backing : F → BackingView) (out : List (Option Prepared)) (p : Pending) (old : Qcow2 S F) (sound : ImageInvariant view backing p old out) (size : ℕ) (fits : size < 2 ^ 64) (storage : ImageStorage S) (result : Result (Unit {0}) StorageError) (asked : S)

@@ -63,11 +63,10 @@ module _ {S F : Type 0} (view : S → StorageView) (backing : F → BackingView)
   hosts_pending t pending i lt =
       let j = (q.guest % size + at + i) / size in
       let here = byte_cluster h q s.known s.on_storage t pending at i n fits lt in
-      let place = byte_place h q s.known s.on_storage t pending at i n fits lt in
       let found = slice_get-get_or q.clusters.items ((q.guest % size + at + i) / size) InPlace (byte_of_mapping h q s.known s.on_storage t pending at i n fits lt) in
       let cluster_mapping = get_or q.clusters.items ((q.guest % size + at + i) / size) InPlace in
       subst (λ (x : Option ClusterMapping). IsHostedAt s (hosted_as x) (q.guest + at + i) (q.offset + at + i) × (IsHeld (hosted_as x) → 0 < new_data_by q ((q.offset + at + i) / size)))
-      (sym (ap (mapping_of_cluster h q) here ∙ mapping_here h q ((q.guest % size + at + i) / size) ∙ found)) (hosted_mapping i j cluster_mapping here place found (pending.each j cluster_mapping found))
+      (sym (ap (mapping_of_cluster h q) here ∙ mapping_here h q ((q.guest % size + at + i) / size) ∙ found)) (hosted_mapping i j cluster_mapping here (byte_place h q s.known s.on_storage t pending at i n fits lt) found (pending.each j cluster_mapping found))
 
   pub hosted_with : (t : Option ℕ) → q.table ≡ t → IsReadyWith h s.known s.on_storage q t → (i : ℕ) → i < n
       → IsHostedAt s (hosting_in h q (q.guest + at + i)) (q.guest + at + i) (q.offset + at + i) × (IsHeld (hosting_in h q (q.guest + at + i)) → 0 < new_data_by q ((q.offset + at + i) / size))
