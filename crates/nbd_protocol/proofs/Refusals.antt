@@ -1,6 +1,6 @@
 -- Why several calls one after another, and the requests that make them, are refused.
 use Rattle.std.proofs.Common.{◌≡◌, ◌≤◌, ◌&&◌, ◌||◌, if◌then◌else◌, ◌∙◌, ap, ℕ, Bool, true, false, Some, None, Result, Ok, Err, refl, subst, sym, arith}
-use Rattle.nbd_protocol.proofs.Common.{not, IfErr, IfSome, IsErrOf, IsTrue, OnOk, nat_lt, IsErrAnd, Errno, Command, Request, IsChecked, IsFailure, IsLate, Refused, asks_always, asks_device, changes, end_of, is_done, past_end, persists, refuses, ChangeFails, DeviceView, Fails, IsFault, IsSameDevice, RefusesToChange, RefusesToRead}
+use Rattle.nbd_protocol.proofs.Common.{not, IfErr, IfSome, IsErrOf, IsTrue, OnOk, nat_lt, IsErrAnd, Errno, Command, Request, IsChecked, IsFailure, IsLate, Refused, asks_always, asks_device, changes, end_of, is_done, past_end, persists, refuses, ChangeFails, DeviceView, Fails, IsFault, IsSameDevice, RefusesToChange}
 use Rattle.std.proofs.lemmas.Bool.Decides.{nat_tests}
 use Rattle.nbd_protocol.specs.declared.device.Errno.TheVariants as E
 use Rattle.nbd_protocol.specs.declared.request.Command.TheVariants as C
@@ -10,15 +10,6 @@ same_start a = record { read_only = refl; failed = λ f. f }
 
 pub same_then : (a b c : DeviceView) → IsSameDevice a b → IsSameDevice b c → IsSameDevice a c
 same_then a b c s t = record { read_only = t.read_only ∙ s.read_only; failed = λ f. t.failed (s.failed f) }
-
--- a fault is a cause of any refusal
-pub fault_of_change : (d : DeviceView) (to : ℕ) (e : Errno) → IsFault e → RefusesToChange d to e
-fault_of_change d to E.NotPermitted is = absurd is
-fault_of_change d to E.Io is = is
-fault_of_change d to E.NoMemory is = is
-fault_of_change d to E.Invalid is = absurd is
-fault_of_change d to E.NoSpace is = tt
-fault_of_change d to E.NotSupported is = is
 
 pub late_of_fault : (c : Command) (e : Errno) → IsFault e → IsLate c e
 late_of_fault c E.NotPermitted is = is
@@ -45,15 +36,6 @@ late_of_change d c to E.NoMemory change allowed within r = r
 late_of_change d c to E.Invalid change allowed within r = absurd (omega (arith, within, r))
 late_of_change d c to E.NoSpace change allowed within r = change
 late_of_change d c to E.NotSupported change allowed within r = r
-
--- a read within the disk
-pub late_of_read : (d : DeviceView) (c : Command) (to : ℕ) (e : Errno) → to ≤ d.size → RefusesToRead d to e → IsLate c e
-late_of_read d c to E.NotPermitted within r = r
-late_of_read d c to E.Io within r = r
-late_of_read d c to E.NoMemory within r = r
-late_of_read d c to E.Invalid within r = absurd (omega (arith, within, r))
-late_of_read d c to E.NoSpace within r = absurd r
-late_of_read d c to E.NotSupported within r = r
 
 -- an error that is handed on
 pub handed : {T : Type 0} (P : Errno → Type 0) (e : Errno) (r : Result T Errno) → IsErrAnd r (λ x. x ≡ e) → P e → IfErr r P

@@ -1,5 +1,5 @@
 -- A raw disk that is copied piece by piece.
-use Rattle.std.proofs.Common.{◌≡◌, ◌+◌, ◌-◌, ◌<◌, inl, inr, ℕ, max, List, length, ap, subst, sym, refl, ◌∙◌, arith}
+use Rattle.std.proofs.Common.{◌≡◌, ◌+◌, ◌-◌, ◌<◌, inl, inr, ℕ, max, List, length, ap, subst, sym, ◌∙◌, arith}
 use Rattle.program_parts.proofs.Common.{cases_lt, byte_at-bytes_at, byte_at-overwritten, byte_at-overwritten_below, length-bytes_at, length-overwritten, length-resized, same_contents, StorageView, CopiesFrom, IsCopiedUpTo, KeepsBoth}
 use Rattle.image_access.specs.Contents.{bytes_at, overwritten, resized, stored_byte}
 
@@ -32,14 +32,7 @@ copied_piece first raw copy copy' at count n long some same so_far is =
     let wrote : copy' ≡ overwritten copy at (bytes_at first.contents at n) = is ∙ ap (λ k. overwritten copy at (bytes_at raw.contents at k)) long ∙ ap (λ b. overwritten copy at (bytes_at b at n)) same in
     subst (IsCopiedUpTo (at + n) first.contents) (sym wrote) (copied_more first.contents copy at n some so_far)
 
--- nothing was copied yet
-pub copied_none : (raw copy : List ℕ) → length copy ≡ 0 → IsCopiedUpTo 0 raw copy
-copied_none raw copy none = record { long = none; same = λ o lt. absurd (let no : ⊥ = omega (arith, lt) in no) }
-
 -- ---- one call after another
-
-pub keeps_none : (raw copy : StorageView) → KeepsBoth raw raw copy copy
-keeps_none raw copy = record { raw_left = λ honest. (honest, refl); honest = λ honest. honest }
 
 pub keeps_more : (a b c d e f : StorageView) → KeepsBoth a b d e → KeepsBoth b c e f → KeepsBoth a c d f
 keeps_more a b c d e f first second = record {
@@ -50,9 +43,6 @@ keeps_more a b c d e f first second = record {
 -- a call of the raw disk alone, or of the copy alone
 pub keeps_raw : (a b d : StorageView) → (a.is_honest → b.is_honest) → (a.is_honest → b.contents ≡ a.contents) → KeepsBoth a b d d
 keeps_raw a b d honest same = record { raw_left = λ h. (honest h, same h); honest = λ h. h }
-
-pub keeps_copy : (a d e : StorageView) → (d.is_honest → e.is_honest) → KeepsBoth a a d e
-keeps_copy a d e honest = record { raw_left = λ h. (h, refl); honest = honest }
 
 -- both, one after the other
 pub keeps_resized : (a b d e : StorageView) → (a.is_honest → b.is_honest) → (a.is_honest → b.contents ≡ a.contents) → (d.is_honest → e.is_honest) → KeepsBoth a b d e

@@ -19,7 +19,7 @@ use Rattle.qcow2_session.proofs.Bytes.{byte_out, shows_both, with_both}
 use Rattle.qcow2_session.proofs.Converting.{all_more, first_of, imports_flushed, imports_none, range_is, shown_same}
 use Rattle.qcow2_session.proofs.Turns.{does_if}
 use Rattle.program_parts.proofs.Imported.{none_below}
-use Rattle.program_parts.proofs.Placed.{gets_held, holds_none, stays_held}
+use Rattle.program_parts.proofs.Placed.{gets_held, stays_held}
 use Rattle.program_parts.specs.DiskImages.{FillsAt, FillsDisk, FillsUpTo, HoldsDisk, IsDiskMade, IsWholeOfDisk, ReplacesByDisk, ShowsNothing}
 use Rattle.program_parts.specs.declared.disk_images.Layout.{Layout}
 use Rattle.program_parts.specs.Places.{GetsName, NameView, StaysNamed}
@@ -226,10 +226,6 @@ pub seen_then : (a b c : SeenDisk) → IsSeenAs a.disk b → (b.is_honest → Is
 seen_then a b c one then = let two = then one.honest in record { honest = two.honest; disk = two.disk ∙ one.disk }
 
 -- ---- a name
-
-module _ (seen : SeenDisk) (layout : Layout) (old : NameView) where
-  pub disk_unnamed : {E : Type 0} (result : Result ℕ E) (e : E) → result ≡ Err e → ReplacesByDisk seen layout old old result
-  disk_unnamed {E} result e is = subst (ReplacesByDisk seen layout old old) (sym is) (record { each_moment = holds_none old (λ held. (n : ℕ) × HoldsDisk seen layout n held); done = tt })
 
   module _ (new : NameView) (n : ℕ) (bytes : List ℕ) (whole : IsWholeOfDisk seen layout n bytes) where
     holds_disk : (held : Option (List ℕ)) → held ≡ Some bytes → HoldsDisk seen layout n held

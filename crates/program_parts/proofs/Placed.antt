@@ -26,11 +26,6 @@ gets_held bytes old new P whole gets = record {
   each = All-cons P (Some bytes) [] whole (All-nil P);
 }
 
-module _ (how : Conversion) (source : StorageView) (old : NameView) where
-  -- nothing came of it
-  pub replaces_none : {E : Type 0} (result : Result ℕ E) (e : E) → result ≡ Err e → Replaces how source old old result
-  replaces_none {E} result e is = subst (Replaces how source old old) (sym is) (record { each_moment = holds_none old (λ held. (n : ℕ) × HoldsWhole how n source held); done = tt })
-
   module _ (new : NameView) (n : ℕ) (bytes : List ℕ) (whole : IsWhole how n source bytes) where
     holds_whole : (held : Option (List ℕ)) → held ≡ Some bytes → HoldsWhole how n source held
     holds_whole held is = subst (HoldsWhole how n source) (sym is) whole
@@ -58,9 +53,6 @@ module _ {E : Type 0} (how : Conversion) (source file : StorageView) where
   raw_by (Ok n) honest is = record { honest = honest; whole = is }
   raw_by (Err e) honest is = tt
 
-  pub made_raw : (r : Result ℕ E) → how ≡ C.ImageToRaw → file.is_honest → (source.is_honest → IsConsistent (byte_at source.contents) → IfOk r (λ n. IsExport source.contents n file.contents)) → IfOk r (λ n. IsMade how n source file)
-  made_raw r is honest whole = subst (λ h. IfOk r (λ n. IsMade h n source file)) (sym is) (raw_by r honest whole)
-
   image_by : (r : Result ℕ E) (cluster width : ℕ) → IfOk r (λ n. IsImageMade source n file cluster width) → IfOk r (λ n. IsMade (C.RawToImage cluster width) n source file)
   image_by (Ok n) cluster width is = record { honest = is.honest; whole = record { image = is.image; disk = λ honest. (is.disk honest).has_disk.is_disk } }
   image_by (Err e) cluster width is = tt
@@ -71,9 +63,6 @@ module _ {E : Type 0} (how : Conversion) (source file : StorageView) where
   copy_by : (r : Result ℕ E) → file.is_honest → (source.is_honest → IfOk r (CopiesFrom source.contents file.contents)) → IfOk r (λ n. IsMade C.RawToRaw n source file)
   copy_by (Ok n) honest is = record { honest = honest; whole = is }
   copy_by (Err e) honest is = tt
-
-  pub made_copy : (r : Result ℕ E) → how ≡ C.RawToRaw → file.is_honest → (source.is_honest → IfOk r (CopiesFrom source.contents file.contents)) → IfOk r (λ n. IsMade how n source file)
-  made_copy r is honest copied = subst (λ h. IfOk r (λ n. IsMade h n source file)) (sym is) (copy_by r honest copied)
 
 ok_made : {E : Type 0} (P : ℕ → Type 0) (r : Result ℕ E) (n : ℕ) → r ≡ Ok n → IfOk r P → P n
 ok_made {E} P r n is made = subst (λ (q : Result ℕ E). IfOk q P) is made

@@ -1,6 +1,6 @@
 -- A reftable entry is written for a refblock that is in its cluster, and isn't cached.
 use Rattle.std.proofs.Common.{◌≡◌, ◌≢◌, ◌⊎◌, ◌+◌, ◌*◌, ◌/◌, ◌%◌, ◌^◌, ◌<◌, ◌≤◌, inl, inr, ℕ, Bool, true, false, List, [], Option, Some, None, Result, Ok, refl, sym, ap, ◌∙◌, subst, arith, IfSome}
-use Rattle.qcow2_alloc.proofs.Common.{cases_Bool, cases_eq, cases_lt, eq-eqb, ne_eqb, cond-true, cond-false, div-add-mod', mod_below, w64, to_be_bytes, overwritten, StorageView, EachMomentSince, Changes, Calls, IsLeftBy, StorageError, Bytes, byte_at, EntryTableView, IsRefTableOf, entry_count, RefBlockView, IsRefBlock, count_at, entry_at, ChangesEntry, HeaderFields, cluster_size, counts_per_block, count_width, reftable_entries, is_copied, reftable_entry, block_offset, block_count, host_offset, table_in, in_cluster, named_for_tables, named_by_l1_table, named_by_reftable, on_sector, ref_block_at, SafeThroughout, one_at, with_new_tables, named_now, Pending, SameIn, AreClean, BlocksMayGo, HasL2, HasOwnL2, HasBlock, table_at, SafeStep, IsInternal, SameL1Table, IsSameBut, IsSameOutside, WritesReftableEntry, IsNewBlock, overwritten_but, reftable_entry_beside, table_once, clean_counts, Sizes, block_count-moved, done_safe_throughout, write_safe_throughout, shares, table_has, block_has, reftable_has, table_is_named, unseen_refblock, ImageFile, ImageStorage, placing, first_counts, HasPlaceFor, StandsFirst, HasBytesAt, nothing_given, view_in, contents_in, known_in, state_in, FileInvariant, HasReftable, InternalFileStep, storage_of, AreLoaded, order_of, l2_tables, refblocks, rb_at, IsBlockOf}
+use Rattle.qcow2_alloc.proofs.Common.{cases_Bool, cases_eq, cases_lt, eq-eqb, ne_eqb, cond-true, cond-false, div-add-mod', mod_below, w64, to_be_bytes, overwritten, StorageView, EachMomentSince, Changes, Calls, IsLeftBy, StorageError, Bytes, byte_at, EntryTableView, IsRefTableOf, entry_count, RefBlockView, IsRefBlock, count_at, entry_at, ChangesEntry, HeaderFields, cluster_size, counts_per_block, count_width, reftable_entries, is_copied, reftable_entry, block_offset, block_count, host_offset, table_in, in_cluster, named_by_l1_table, named_by_reftable, on_sector, ref_block_at, SafeThroughout, one_at, with_new_tables, named_now, Pending, SameIn, AreClean, BlocksMayGo, HasL2, HasOwnL2, HasBlock, table_at, SafeStep, IsInternal, SameL1Table, IsSameBut, IsSameOutside, WritesReftableEntry, IsNewBlock, overwritten_but, reftable_entry_beside, table_once, clean_counts, Sizes, block_count-moved, done_safe_throughout, write_safe_throughout, shares, table_has, block_has, reftable_has, table_is_named, unseen_refblock, ImageFile, ImageStorage, placing, first_counts, HasPlaceFor, StandsFirst, HasBytesAt, nothing_given, view_in, contents_in, known_in, state_in, FileInvariant, HasReftable, InternalFileStep, storage_of, AreLoaded, order_of, l2_tables, refblocks, rb_at, IsBlockOf}
 use Rattle.qcow2_metadata.proofs.WrittenTables.{IsRefTableOf-written_entry}
 use Rattle.qcow2_laws.proofs.NewBlocks.{other_reftable}
 use Rattle.qcow2_laws.proofs.NewTables.{outside_eight}
@@ -192,13 +192,6 @@ module _ {S : Type 0} (view : S → StorageView) (d : Bool) (p : Pending) (range
 
     stays_in : (c : ℕ) → c ≢ written_to → SameIn (cluster_size h) c on_storage' on_storage
     stays_in c other o in_c = sym (outside o (λ e. other (sym in_c ∙ e)))
-
-    free_apart : at ≢ written_to
-    free_apart here =
-        let one = reftable_has h range sizes sound.caches.kept.kept.crash_invariant.top.reftable_aligned within_table in
-        let parts = shares h on_storage written_to in
-        let none : named_for_tables h on_storage written_to ≡ 0 = ap (named_for_tables h on_storage) (sym here) ∙ free.unnamed.no_table in
-        absurd (omega (arith, parts, one, none))
 
     l2_same : (i : ℕ) → table_at h on_storage' i ≡ table_at h on_storage i
     l2_same i = ap host_offset (unseen.1 i)

@@ -1,10 +1,8 @@
 -- A longer reftable is written after its refblocks, and is then ready.
-use Rattle.std.proofs.Common.{◌≡◌, ◌+◌, ◌*◌, ◌/◌, ◌%◌, ◌<◌, ◌≤◌, ℕ, List, Option, None, Some, Result, Ok, Err, refl, sym, ap, ◌∙◌, subst, arith, inl, inr}
-use Rattle.qcow2_alloc.proofs.Common.{KeepsUsed, option_map, mod_below, StorageView, Bytes, HeaderFields, cluster_size, counts_per_block, block_offset, EntryTableView, entry_at, AreClean, BlocksMayGo, Pending, SameIn, Sizes, block_count-moved, in_one, Allocator, MetadataCaches, ImageError, ImageFile, ImageStorage, run_at, HasBytesAt, InternalAllocatorStep, InternalAllocatorGrowth, with_run, without_reftable, IsGrown, StandsGrown, NamesReftable, KeepsPinsAndNotes, view_in, contents_in, AllocatorInvariant, RefusedFileStep, storage_of, order_of, l2_tables, refblocks, rb_at, InternalCacheStep, WritesTable}
+use Rattle.std.proofs.Common.{◌≡◌, ◌+◌, ◌*◌, ◌/◌, ◌%◌, ◌<◌, ◌≤◌, ℕ, List, None, Result, Ok, Err, sym, ◌∙◌, subst, arith, inl, inr}
+use Rattle.qcow2_alloc.proofs.Common.{KeepsUsed, mod_below, StorageView, Bytes, HeaderFields, cluster_size, counts_per_block, block_offset, EntryTableView, entry_at, AreClean, BlocksMayGo, Pending, SameIn, Sizes, block_count-moved, in_one, Allocator, MetadataCaches, ImageError, ImageFile, ImageStorage, run_at, HasBytesAt, InternalAllocatorStep, InternalAllocatorGrowth, with_run, without_reftable, IsGrown, StandsGrown, NamesReftable, KeepsPinsAndNotes, view_in, contents_in, AllocatorInvariant, RefusedFileStep, storage_of, order_of, l2_tables, refblocks, rb_at, InternalCacheStep, WritesTable}
 use Rattle.qcow2_alloc.proofs.Hints.{used_stays}
 use Rattle.qcow2_alloc.proofs.AllocationSteps.{on_of, allocator_step_on, allocator_step_cached}
-use Rattle.qcow2_alloc.proofs.PlacedBlocks.{known_there}
-use Rattle.qcow2_alloc.proofs.RoomWrites.{free_in_run}
 use Rattle.qcow2_alloc.proofs.FileSteps.{leaves_then}
 use Rattle.qcow2_alloc.specs.ImageFile.{IsFault}
 use Rattle.qcow2_alloc.proofs.PlacedRooms.{Counting}
@@ -53,17 +51,6 @@ module _ {S : Type 0} (view : S → StorageView) (p : Pending) (first n : ℕ) (
 
   step_called : InternalAllocatorStep view fresh file a called fresh
   step_called = allocator_step_cached view fresh file a storage caches sound stays marks
-
-  pub same_in_run : (c : ℕ) → 0 < run_at first n c → SameIn (cluster_size file.header.fields) c (contents_in view file) (contents_in view called)
-  same_in_run c some o here =
-      sym (known_there view fresh file c sound.sound (free_in_run view p first n file a.reftable sound.sound sound.reftable may c some) o here)
-      ∙ sym (ap (λ (b : Bytes). b o) stays.known)
-      ∙ known_there view fresh called c step_called.file_step.sound (free_in_run view p first n called a.reftable step_called.file_step.sound step_called.reftable may_now c some) o here
-
--- a refblock that isn't held has no bytes
-pub none_held : {A B : Type 0} (f : A → B) (o : Option A) (q : Option B) → option_map f o ≡ q → q ≡ None → o ≡ None
-none_held f None q same none = refl
-none_held f (Some x) q same none = let bad : Some (f x) ≡ None = same ∙ none in cc
 
 module _ {S : Type 0} (view : S → StorageView) (p : Pending) (first n : ℕ) (a : Allocator) (f f' : ImageFile S) (cluster clusters : ℕ) (bytes : List ℕ) (h : HeaderFields) (same : f.header.fields ≡ h) where
   -- what a write of a table says, with the header that the file has all along

@@ -7,7 +7,7 @@ use Rattle.qcow2_alloc.specs.declared.error.ImageError.TheVariants as I
 use Rattle.qcow2_alloc.proofs.AllocationSteps.{handed_on, named_then}
 use Rattle.qcow2_alloc.proofs.CachePins.{marks_then}
 use Rattle.qcow2_alloc.proofs.FormerReftables.{former_none, former_same, former_then}
-use Rattle.qcow2_alloc.proofs.HeaderClusters.{header_cluster_none, header_cluster_then}
+use Rattle.qcow2_alloc.proofs.HeaderClusters.{header_cluster_none}
 use Rattle.qcow2_alloc.proofs.KeptMarks.{kept_marks_none, kept_marks_then, marks_of_caches}
 use Rattle.qcow2_alloc.proofs.ListedAfter.{header_same, header_then, lists_none, lists_same, lists_then}
 use Rattle.qcow2_alloc.proofs.Outcomes.{entries_none}
@@ -45,19 +45,6 @@ module _ {S : Type 0} {view : S → StorageView} where
   -- ---- of a part of a call, which leaves the reftable
   pub part_none : {bits : ℕ} {f : ImageFile S} → PartStep view bits f f
   part_none {bits} {f} = record { header = refl; list = refl; marks = kept_marks_none; header_cluster = header_cluster_none bits (view_in view f); behind = λ n are. are }
-
-  -- one after another, where the second has as many bits
-  pub part_then : {bits bits' : ℕ} {a b c : ImageFile S} → PartStep view bits a b → bits' ≡ bits → PartStep view bits' b c → PartStep view bits a c
-  part_then {bits} {bits'} {a} {b} {c} first same then = record {
-    header = then.header ∙ first.header;
-    list = then.list ∙ first.list;
-    marks = kept_marks_then first.marks then.marks;
-    header_cluster = header_cluster_then bits (view_in view a) (view_in view b) (view_in view c) first.header_cluster (subst (λ n. KeepsHeaderCluster n (view_in view b) (view_in view c)) same then.header_cluster);
-    behind = λ n are. then.behind n (first.behind n are);
-  }
-
-  pub part_as : {bits : ℕ} {a b c : ImageFile S} → c ≡ b → PartStep view bits a b → PartStep view bits a c
-  part_as {bits} {a} {b} {c} file step = subst (PartStep view bits a) (sym file) step
 
   pub table_step_part : {t : EntryTableView} {bits : ℕ} {a b : ImageFile S} → bits ≡ a.header.fields.cluster_bits → PartStep view bits a b → TableStep view t a t b
   table_step_part {t} {bits} {a} {b} is step = record {

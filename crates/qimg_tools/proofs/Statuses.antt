@@ -47,10 +47,6 @@ at_most : (n : ℕ) → (n ≡ 0) ⊎ (n ≡ 2) → n ≤ 3
 at_most n (inl none) = omega (arith, none)
 at_most n (inr two) = omega (arith, two)
 
-pub partly_bound : {E : Type 0} (breaches : List Breach) (r : Result ℕ E) → IfOk r (IsStatusOfErrors breaches) → IfOk r (λ status. status ≤ 3)
-partly_bound breaches (Ok status) of = at_most status of.some
-partly_bound breaches (Err cause) of = tt
-
 reason : (image : Bytes) (failure : Failure) → IsOfWork failure → IsReasonForNoStatus image failure
 reason image (Refused e) (inl storage) = (M.Storage S.Fault, storage, tt)
 reason image (Refused e) (inr memory) = (M.Memory, memory, tt)

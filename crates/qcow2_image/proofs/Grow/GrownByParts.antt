@@ -45,10 +45,6 @@ module _ {S F : Type 0} (view : S → StorageView) where
         (then.known below (checkpoint_with [] asked m) (first.since.contents below m ok known) (first.known below m ok known));
   }
 
-  -- a part that was refused
-  pub part_since : (a b : Qcow2 S F) (e : ImageError) → LastsPart view a b (Err e) → Lasts view a b []
-  part_since a b e lasts = elim lasts [ inl known ↦ known.since | inr broken ↦ broken.1 ]
-
   -- a part that asks for nothing is one that asks for a size
   pub lasts_asking : (a b : Qcow2 S F) (size : ℕ) → Lasts view a b [] → Lasts view a b (size ∷ [])
   lasts_asking a b size lasts = safe_throughout_asking (view_in view a.file) (view_in view b.file) (known_in view a.file) nothing_given [] (size ∷ []) lasts

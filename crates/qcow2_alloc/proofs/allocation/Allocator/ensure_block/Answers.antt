@@ -1,5 +1,5 @@
-use Rattle.std.proofs.Common.{◌≡◌, ◌≤◌, ◌<◌, ◌*◌, ◌/◌, ◌%◌, ◌^◌, Option, Some, None, Ok, Err, true, mul-pos, inl, inr, false, sym, ap, ◌∙◌, refl, arith, Result, IsTrue, subst, ℕ, IfErr, IsSome, is_some}
-use Rattle.qcow2_alloc.proofs.Common.{block_offset, counts_per_block, one_at, LacksFirst, taken_as, HasNone, GetsBlock, IsUnaligned, IsFault, KeepsNoFreeBelowHint, div-eq_of_lt, div-mul-le_self, pow_pos, ImageError, EntryTableView, HeaderFields, IsHostCluster, IsBlockOf}
+use Rattle.std.proofs.Common.{◌≡◌, ◌≤◌, ◌<◌, ◌*◌, ◌/◌, ◌%◌, ◌^◌, true, mul-pos, inl, inr, false, sym, ap, ◌∙◌, refl, arith, Result, IsTrue, subst, ℕ, IfErr, IsSome, is_some}
+use Rattle.qcow2_alloc.proofs.Common.{block_offset, counts_per_block, one_at, taken_as, HasNone, GetsBlock, IsFault, KeepsNoFreeBelowHint, div-eq_of_lt, div-mul-le_self, pow_pos, ImageError, HeaderFields, IsHostCluster, IsBlockOf}
 use Rattle.qcow2_alloc.proofs.Lemmas.{leaves_then, lacking_above, hint_got, hint_placed, hint_refused, hint_stays, ok_as, passed_same, passed_still, range_as, not_broken, named_then, named_covered, none_named, handed_on, allocator_step_then, gets_then, gets_taken, is_sound_now, none_in_memory, stands_none, still_sound, host_below, is_able, placed_fault, range_near, not_both, on_no_ok, spares_then, kept_marks_then, limit_other, memory_other, other_as, fails_by, fails_ok, fails_on, fails_since, table_step_then}
 use Rattle.qcow2_alloc.specs.declared.error.ImageError.TheVariants as I
 use Rattle.qcow2_alloc.proofs.allocation.Allocator.ensure_block.Goals as goal
@@ -188,9 +188,6 @@ returns-else-is_fault-clause-sound g c = λ p sound.
           (c.ensure_self_counting_refblock-in-Err.ensures.sound p (is_sound_now g.S.Storage.view p p c.load_block.new.file c.allocate_lowest_below.new.file c.allocate_lowest_below.new.self two)).fault (omega (arith, range, count, within)) here;
     }
 
-is_unaligned : (h : HeaderFields) (t : EntryTableView) (cluster counts n : ℕ) → n ≡ counts → IsUnaligned h t (cluster / n) → IsUnaligned h t (cluster / counts)
-is_unaligned h t cluster counts n is u = subst (λ k. IsUnaligned h t (cluster / k)) is u
-
 -- the first cluster of a range lies no further on than one of its clusters
 range_small : (cluster n counts : ℕ) → counts ≡ n → cluster < 2 ^ 63 → cluster / n * counts < 2 ^ 63
 range_small cluster n counts is small = let le = div-mul-le_self cluster n in subst (λ k. cluster / n * k < 2 ^ 63) (sym is) (omega (arith, le, small))
@@ -248,16 +245,3 @@ returns-else-is_fault-clause-has g c = ok_as _ _ c.ensure_self_counting_refblock
 -- a cluster of the first range
 range_first : (h : HeaderFields) (cluster n : ℕ) → n ≡ counts_per_block h → cluster < counts_per_block h → cluster / n ≡ 0
 range_first h cluster n is low = subst (λ k. cluster / k ≡ 0) (sym is) (div-eq_of_lt low)
-
--- that range begins with the header's cluster
-not_first : {A : Type 0} (h : HeaderFields) (t : EntryTableView) (cluster n value : ℕ) → n ≡ counts_per_block h → LacksFirst h t cluster → value ≡ cluster / n * n % 18446744073709551616 → 0 < value → A
-not_first h t cluster n value is lacks at some =
-    let zero : value ≡ 0 * n % 18446744073709551616 = at ∙ ap (λ k. k * n % 18446744073709551616) (range_first h cluster n is lacks.first) in
-    absurd (omega (arith, zero, some))
-
-no_answer : {A : Type 0} (r : Result (Option ℕ) ImageError) (e : ImageError) → r ≡ Err e → r ≡ Ok None → A
-no_answer r e is none = absurd (cc)
-
-no_block : {A : Type 0} (r : Result (Option ℕ) ImageError) (block : Option ℕ) → r ≡ Ok block → r ≡ Ok None → is_some block ≡ true → A
-no_block r None is none some = absurd (let bad : false ≡ true = some in cc)
-no_block r (Some block) is none some = absurd (cc)

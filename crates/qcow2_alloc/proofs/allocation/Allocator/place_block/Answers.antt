@@ -3,10 +3,6 @@ use Rattle.qcow2_alloc.proofs.Common.{div-add-mod', w64, to_be_bytes, overwritte
 use Rattle.qcow2_alloc.proofs.Lemmas.{file_step_then, interrupted_then, entered_has, handed_on, entries_entered, fault_of_storage, is_sound_now, names_refblock, entry_write_as, real, safe_throughout_named, named_so, on_no_ok, entries_none, spares_then, spares_entry, kept_marks_then, placed_kept, marks_of_storage, note_kept, fails_on, fails_ok, fails_since, fails_storage, same_faults}
 use Rattle.qcow2_alloc.proofs.allocation.Allocator.place_block.Goals as goal
 
--- ---- the block in its place
-cluster_in : (b b' : RefBlockView) (k : ℕ) → b' ≡ record b { cluster = Some k } → b'.cluster ≡ Some k
-cluster_in b b' k is = ap (λ (x : RefBlockView). x.cluster) is
-
 format_in : (h : HeaderFields) (b b' : RefBlockView) (k : ℕ) → b' ≡ record b { cluster = Some k } → IsBlockOf h b → IsBlockOf h b'
 format_in h b b' k is of = subst (IsBlockOf h) (sym is) (record { bits = of.bits; order = of.order })
 
