@@ -22,9 +22,3 @@ counting-preserved c =
       few = inl (let lt = c.counting-test.true in omega (arith, lt));
       counts = counts_next old new c.increment.result c.max-low.result c.args.begin c.counting.counted low_le begin_le c.counting.invariant.counts c.increment.ensures.full c.increment.ensures.counted (λ done. kept.2);
     }
-
-pub returns-clause-whole : goal.returns-clause-whole
-returns-clause-whole c = c.counting.invariant.whole
-
-pub returns-clause-modified : goal.returns-clause-modified
-returns-clause-modified c = c.counting.invariant.modified

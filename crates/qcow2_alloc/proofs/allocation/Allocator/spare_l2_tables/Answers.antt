@@ -32,9 +32,6 @@ sparing-preserved c = elim c.match-get.branch [
   }
 ]
 
-pub returns-then-not-spare-clause-rest : goal.returns-then-not-spare-clause-rest
-returns-then-not-spare-clause-rest c = named_rest c.args.self.now c.sparing.self c.spare.new.self c.sparing.invariant.rest c.spare.ensures.rest
-
 pub returns-then-not-spare-clause-spares : goal.returns-then-not-spare-clause-spares
 returns-then-not-spare-clause-spares c =
     let is : c.in-Some.entry.offset ≡ host_offset (entry_at c.args.l1_table.now.bytes c.sparing.index) = c.in-Some.ensures.offset in

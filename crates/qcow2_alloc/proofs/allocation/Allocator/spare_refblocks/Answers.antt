@@ -32,9 +32,6 @@ sparing-preserved c = elim c.match-get.branch [
   }
 ]
 
-pub returns-then-not-spare-clause-rest : goal.returns-then-not-spare-clause-rest
-returns-then-not-spare-clause-rest c = named_rest c.args.self.now c.sparing.self c.spare.new.self c.sparing.invariant.rest c.spare.ensures.rest
-
 pub returns-then-not-spare-clause-spares : goal.returns-then-not-spare-clause-spares
 returns-then-not-spare-clause-spares c =
     let is : c.in-Some.offset ≡ block_offset (entry_at c.args.self.now.reftable.bytes c.sparing.range) = c.in-Some.ensures.offset ∙ ap (λ (t : EntryTableView). block_offset (entry_at t.bytes c.sparing.range)) (ap (λ (x : Allocator). x.reftable) c.sparing.invariant.rest) in

@@ -1,6 +1,6 @@
 use Rattle.std.proofs.Common.{◌+◌, refl, arith}
 use Rattle.qcow2_alloc.proofs.Common.{IsWithin}
-use Rattle.qcow2_alloc.proofs.SparedClusters.{named_rest, run_all, run_ends, run_more, spares_none}
+use Rattle.qcow2_alloc.proofs.SparedClusters.{named_rest, run_ends, run_more, spares_none}
 use Rattle.qcow2_alloc.proofs.allocation.Allocator.spare_run.Goals as goal
 
 pub sparing-init : goal.sparing-init
@@ -17,12 +17,6 @@ sparing-preserved c = record {
   spares = run_more c.args.first c.sparing.cluster c.args.self.now.named c.sparing.self.named c.spare.new.self.named c.sparing.auto.cluster c.sparing.invariant.spares (rw c.if-not-spare.false at c.spare.ensures.spares);
 }
 
-pub returns-then-not-spare-clause-rest : goal.returns-then-not-spare-clause-rest
-returns-then-not-spare-clause-rest c = named_rest c.args.self.now c.sparing.self c.spare.new.self c.sparing.invariant.rest c.spare.ensures.rest
-
 pub returns-then-not-spare-clause-spares : goal.returns-then-not-spare-clause-spares
 returns-then-not-spare-clause-spares c = run_ends c.args.first (c.args.first + c.args.n) c.sparing.cluster c.args.self.now.named c.sparing.self.named c.spare.new.self.named c.sparing.auto.cluster c.sparing-test.true c.sparing.invariant.spares
     (rw c.if-not-spare.true at c.spare.ensures.spares)
-
-pub returns-clause-spares : goal.returns-clause-spares
-returns-clause-spares c = run_all c.args.first (c.args.first + c.args.n) c.sparing.cluster c.args.self.now.named c.sparing.self.named (let past = c.sparing-test.false in omega (arith, past)) c.sparing.invariant.within c.sparing.invariant.spares
