@@ -119,7 +119,7 @@ pub use Rattle.qcow2_image.specs.Preparing.{IsTaken, IsAnswered, IsPlaceOf, IsWr
 pub use Rattle.qcow2_image.specs.Ranges.{ReleasesOneMapping, MayGoOn, AllocatesDataAt, Ends, FindsBehind, ClusterMappingsAt, StandsBehind, BeginsInKept, IsExtended, BreaksOff, GainsAt, IsFirst, IsSharedAt, Reaches, HasRoomForRange, IsLongerMapping, IsNext, EndsWithCluster, GoesNext, GoesOn}
 pub use Rattle.qcow2_image.specs.Readable.{IsJustifiedRefusal, IsNewlyOpened, OpeningStep, files_missing, IsReasonAgainstTables, NeededTablesRead, OpensRightly, IsTableRefused, HeaderSuits, IsReadable}
 pub use Rattle.qcow2_image.specs.Refusals.{passes, refuse_if, refuses_to_prepare, unusable, MayFail, FreesRefused, MayFailPreparing, failed_after, MarksFailed, MarksRefused, IsUnlimited, IsFaultOrLimit, failed_by}
-pub use Rattle.qcow2_image.specs.Resizing.{GrowsTo, all_given_by_grow, refuses_to_resize, takes_over, boundary_in, RefusesUnchanged, SetsSize, WritesSize, WritesSizeLast, GrowsTables, LacksZeros, Shrinks, DiscardsNext, all_given_by_shrink, all_given_by_shrunk, IsFaultOrCantDiscard, IsTurnEnd, DiscardsPart, DiscardsTail, TurnStep, DiscardsStep, LeavesTables, IsResized, size_after, GrowsLast, MayFailShrinking, CantDiscard, ShowsBelow, MayStand, ShrinksSoundly, DiscardsClusters}
+pub use Rattle.qcow2_image.specs.Resizing.{GrowsTo, all_given_by_grow, refuses_to_resize, takes_over, boundary_in, RefusesUnchanged, SetsSize, WritesSize, WritesSizeLast, GrowsTables, LacksZeros, Shrinks, DiscardsNext, all_given_by_shrink, all_given_by_shrunk, RefusesDiscard, StopsAt, StopsStep, IsTurnEnd, DiscardsPart, DiscardsTail, TurnStep, DiscardsStep, LeavesTables, IsResized, size_after, GrowsLast, MayFailShrinking, CantDiscard, ShowsBelow, MayStand, ShrinksSoundly, DiscardsClusters}
 pub use Rattle.qcow2_image.specs.Unwritten.{ContentsStayThroughout, ReadsQuietly}
 pub use Rattle.qcow2_image.specs.WriteSteps.{KeepingStep, AllocatingStep, BeginsSoundly, PuttingCall, FillingStep, AllocatingStepWhere, keeping, CanEnter}
 pub use Rattle.qcow2_image.specs.declared.builder.Qcow2CreateBuilder.{Qcow2CreateBuilder}

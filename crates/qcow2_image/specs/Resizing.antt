@@ -1,5 +1,5 @@
 -- Resizing: the tail is unmapped, or the L1 table made longer, and the size is written last.
-use Rattle.std.specs.Prelude.{ℕ, ◌-◌, ◌^◌, ◌≡◌, ◌↔◌, ◌⊎◌, ◌<◌, ◌≤◌, Bool, false, is_some, not, true, List, [], ◌∷◌, Option, Some, None, IfErr, IfOk, IfSome, IsTrue, MatchOption, OnOk, Result, Ok, Err}
+use Rattle.std.specs.Prelude.{ℕ, ◌+◌, ◌-◌, ◌^◌, ◌≡◌, ◌↔◌, ◌⊎◌, ◌<◌, ◌≤◌, Bool, false, is_some, not, true, List, [], ◌∷◌, Option, Some, None, IfErr, IfOk, IfSome, IsTrue, MatchOption, OnOk, Result, Ok, Err}
 use Rattle.std.specs.Option.{option_or}
 use Rattle.image_access.specs.Backing.{BackingView}
 use Rattle.image_access.specs.Moments.{StorageView, EachMomentSince}
@@ -29,7 +29,7 @@ use Rattle.qcow2_image.specs.Faults.{CountsImageFaults, NoFewerFaults, ReportsEa
 use Rattle.qcow2_image.specs.Growing.{ReachesSize, SameFormat, LastsCall}
 use Rattle.qcow2_image.specs.Image.{HasNothingToFree, IsSameImage, is_external, is_failed, is_writable, number_of, size_of}
 use Rattle.qcow2_image.specs.ImageInvariant.{ImageInvariant, abstract_of, disk_of, pending_in}
-use Rattle.qcow2_image.specs.L1Entries.{ReachesOffset}
+use Rattle.qcow2_image.specs.L1Entries.{NeedsOverflowingL1Entry, ReachesOffset}
 use Rattle.qcow2_image.specs.Limits.{IsLimited}
 use Rattle.qcow2_image.specs.MovedTables.{CoversStay}
 use Rattle.qcow2_image.specs.NewTables.{LacksTable}
@@ -85,10 +85,6 @@ module _ {S F : Type 0} (view : S → StorageView) where
   -- Why the tail is not unmapped from an offset on: the disk's end, rounded up, passes 64 bits; or the first whole cluster has no L2 table of its own.
   abbrev pub CantDiscard : (end : ℕ) → Qcow2 S F → ℕ → Type 0
   CantDiscard end image offset = (2 ^ 64 ≤ boundary_in image end) ⊎ LacksTable view image (boundary_in image offset)
-
-  -- A refused step is a fault, or has one of these causes.
-  abbrev pub IsFaultOrCantDiscard : (end : ℕ) → Qcow2 S F → ℕ → ImageError → Type 0
-  IsFaultOrCantDiscard end image offset e = IsFaultOfTables e ⊎ CantDiscard end image offset
 
   -- Each guest cluster between the two offsets, both rounded up, is unmapped. All other mappings are the same.
   abbrev pub DiscardsClusters : (at next : ℕ) → Qcow2 S F → Qcow2 S F → Type 0
@@ -159,6 +155,14 @@ module _ {S F : Type 0} (view : S → StorageView) (backing : F → BackingView)
 
   -- ---- parts of the work
 
+  -- Why the next cluster is not unmapped: the disk's end, rounded up, passes 64 bits; or a new L2 table is refused, for a limit (13) or an L1 entry past 64 bits (20).
+  abbrev pub RefusesDiscard : Qcow2 S F → (at : ℕ) → List (Option Prepared) → Type 0
+  RefusesDiscard image at out = (2 ^ 64 ≤ boundary_in image (size_of image)) ⊎ (IsLimited view backing [] (boundary_in image at + 1) image out ⊎ NeedsOverflowingL1Entry image (boundary_in image at))
+
+  -- A refused step of a shrink is a fault, or the next cluster can't be unmapped.
+  abbrev pub StopsStep : (at : ℕ) → Qcow2 S F → Qcow2 S F → List (Option Prepared) → ImageError → Type 0
+  StopsStep at old new out e = IsFaultOfTables e ⊎ (CantDiscard view (size_of old) new at × RefusesDiscard old at out)
+
   -- The whole clusters from one offset up to another show the backing disk.
   abbrev pub ShowsBelow : (at next : ℕ) → Qcow2 S F → Qcow2 S F → List (Option Prepared) → Type 0
   ShowsBelow at next old new out = guest_of (abstract_of view backing new out) ≡ with_disk (guest_of (abstract_of view backing old out)) (cleared (setting_of view backing old) (disk_of view backing old) to_backing (boundary_in old at) (boundary_in old next))
@@ -169,6 +173,13 @@ module _ {S F : Type 0} (view : S → StorageView) (backing : F → BackingView)
     pub sound : ImageInvariant view backing (pending_in view backing new out) new out
     pub shows : ShowsBelow at next old new out
     pub covers : DiscardsClusters view at next old new
+
+  -- Why the tail is unmapped only up to an offset: a step from there on was refused, at an image that had all of it unmapped up to there.
+  pub record StopsAt (size at : ℕ) (old new : Qcow2 S F) (out : List (Option Prepared)) : Type 0 where
+    pub cant : CantDiscard view (size_of old) new at
+    pub before : Qcow2 S F
+    pub unmapped : DiscardsPart size at old before out
+    pub refused : RefusesDiscard before at out
 
   -- One step of a shrink.
   abbrev pub DiscardsNext : Qcow2 S F → Qcow2 S F → ℕ → Result ℕ ImageError → Type 0
@@ -199,7 +210,7 @@ module _ {S F : Type 0} (view : S → StorageView) (backing : F → BackingView)
   pub record DiscardsStep (at : ℕ) (old new : Qcow2 S F) (result : Result ℕ ImageError) : Type 0 where
     pub on : IfOk result (λ next. (at < next) × (next ≤ size_of old))
     pub uncovers : DiscardsNext old new at result
-    pub stops : refuses_to_resize old ≡ None → (out : List (Option Prepared)) → (abstract_of view backing old out).is_sound → (HasPinnedMapping out → ⊥) → IfErr result (IsFaultOrCantDiscard view (size_of old) new at)
+    pub stops : refuses_to_resize old ≡ None → (out : List (Option Prepared)) → (abstract_of view backing old out).is_sound → (HasPinnedMapping out → ⊥) → IfErr result (StopsStep at old new out)
     pub changed : (out : List (Option Prepared)) → ImageInvariant view backing (pending_in view backing old out) old out → IfOk result (λ next. boundary_in old at < next → ChangesRose old new)
     pub emptied : (out : List (Option Prepared)) → ImageInvariant view backing (pending_in view backing old out) old out → OnOk result ((boundary_in old at < size_of old) ⊎ HasNothingToFree old → HasNothingToFree new)
 
@@ -215,7 +226,7 @@ module _ {S F : Type 0} (view : S → StorageView) (backing : F → BackingView)
   -- What all steps of a shrink do to a sound image up to an offset. A change was counted if they passed a cluster boundary. If no fault ended them before the disk's end, the next cluster can't be unmapped. No cluster waits to be freed if a whole one lay past the new end.
   pub record DiscardsSoundly (size at : ℕ) (stopped : Option ImageError) (old new : Qcow2 S F) (out : List (Option Prepared)) : Type 0 where
     pub uncovers : DiscardsTail old new size at stopped out
-    pub stops : refuses_to_resize old ≡ None → (HasPinnedMapping out → ⊥) → stopped ≡ None → at < size_of old → CantDiscard view (size_of old) new at
+    pub stops : refuses_to_resize old ≡ None → (HasPinnedMapping out → ⊥) → stopped ≡ None → at < size_of old → StopsAt size at old new out
     pub emptied : IsTrue (is_writable old) → stopped ≡ None → boundary_in old size < size_of old → HasNothingToFree new
     pub changed : boundary_in old size < at → ChangesRose old new
 
@@ -231,9 +242,9 @@ module _ {S F : Type 0} (view : S → StorageView) (backing : F → BackingView)
     pub shows : guest_of (abstract_of view backing new out) ≡ with_disk (guest_of (abstract_of view backing old out)) (record (disk_of view backing old) { size = size })
     pub covers : CoversStay old.file.header.fields (known_in view old.file) new.file.header.fields (known_in view new.file)
 
-  -- Why the tail is unmapped only up to this offset. If a whole cluster lay past the new end, no cluster waits to be freed.
+  -- An offset before the disk's end is returned only where a step from there on was refused. If a whole cluster lay past the new end, no cluster waits to be freed.
   pub record EndsTail (out : List (Option Prepared)) (old new : Qcow2 S F) (size answer : ℕ) : Type 0 where
-    pub stops : answer < size_of old → CantDiscard view (size_of old) new answer
+    pub stops : answer < size_of old → StopsAt size answer old new out
     pub emptied : boundary_in old size < size_of old → HasNothingToFree new
 
   -- A shrink is refused 17 exactly while an L2 table is pinned, which it is while a mapping is prepared that isn't existing. Nothing changes then.

@@ -1,9 +1,9 @@
 -- One step unmaps whole clusters up to the end of an L2 table, or is refused.
 use Rattle.std.proofs.Common.{◌≡◌, ◌⊎◌, ◌+◌, ◌-◌, ◌^◌, ◌<◌, ◌≤◌, ◌||◌, ◌&&◌, ◌==◌, inl, inr, refl, Bool, true, false, None, ℕ, List, [], sym, ap, ◌∙◌, subst, arith, min, Option, Some, Result, Ok, Err, nat_le, nat_lt}
-use Rattle.qcow2_image.proofs.Common.{IfSome, not, option_or, cases_lt, le-ltb, leb-true, pow_pos, BackingView, StorageView, Value, HeaderFields, cluster_size, entries_per_cluster, rounded_up, AbstractImage, Setting, guest_of, Refusal, RefusedEffect, EffectOnSound, with_disk, Disk, answered, touched_from, touched_to, GivenBytes, IsGiven, works_less, TouchesLess, Sizes-from, ImageError, contents_in, known_in, HasPinnedMapping, refusal_of, Clears, ClearsImageCovers, RefusesClearing, RefusesUngiven, rounds_past, setting_of, Qcow2, Prepared, HasNothingToFree, is_external, is_failed, is_writable, size_of, ImageInvariant, abstract_of, disk_of, pending_in, LacksTable, passes, refuse_if, IsFaultOrCantDiscard, IsTurnEnd, DiscardsNext, DiscardsPart, boundary_in, refuses_to_resize}
+use Rattle.qcow2_image.proofs.Common.{IfSome, not, option_or, cases_lt, le-ltb, leb-true, pow_pos, BackingView, StorageView, Value, HeaderFields, cluster_size, entries_per_cluster, rounded_up, AbstractImage, Setting, guest_of, Refusal, RefusedEffect, EffectOnSound, with_disk, Disk, answered, touched_from, touched_to, GivenBytes, IsGiven, works_less, TouchesLess, Sizes-from, ImageError, contents_in, known_in, HasPinnedMapping, refusal_of, Clears, ClearsImageCovers, ClearsSoundly, FailsToClear, RefusesUngiven, IsFault, from_in, refuses_to_clear, to_in, rounds_past, setting_of, Qcow2, Prepared, HasNothingToFree, is_external, is_failed, is_writable, size_of, ImageInvariant, abstract_of, disk_of, pending_in, LacksTable, passes, refuse_if, RefusesDiscard, StopsStep, IsTurnEnd, DiscardsNext, DiscardsPart, boundary_in, refuses_to_resize}
 use Rattle.qcow2_alloc.specs.declared.error.ImageError.TheVariants as I
 use Rattle.qcow2_image.specs.declared.discarding.ClearMode.TheVariants.{Uncovered}
-use Rattle.qcow2_image.proofs.Lemmas.{disk_size, given_as, given_below, given_is, mono_up, shown_below, to_at_most, touches_before, turn_numbers, uncovers_as_many, touches_less}
+use Rattle.qcow2_image.proofs.Lemmas.{disk_size, given_as, given_below, given_is, mono_up, shown_below, to_at_most, touches_before, turn_numbers, uncovers_as_many, touches_less, under_prepared}
 
 -- a call that gives fewer bytes gives these too
 pub refuses_giving : (v w : AbstractImage) (gs more : List GivenBytes) (e : Refusal) (still : Type 0) → (v.is_sound → (o : ℕ) (x : Value) → IsGiven gs o x → IsGiven more o x) → (v.is_sound → TouchesLess v.setting.cluster_size gs more) → RefusedEffect v w gs [] e still → RefusedEffect v w more [] e still
@@ -104,27 +104,45 @@ module _ {S F : Type 0} (view : S → StorageView) (backing : F → BackingView)
   )
 
   -- why a step is refused, where nothing refuses a resize and no mapping is prepared
-  pub turn_stops : (e : ImageError) → end ≡ size_of old → at < size_of old → refuses_to_resize old ≡ None → Clears view backing Uncovered old new at (end - at) (Err e) → RefusesClearing view backing Uncovered old new at (end - at) e
-      → (out : List (Option Prepared)) → ImageInvariant view backing (pending_in view backing old out) old out → (HasPinnedMapping out → ⊥) → IsFaultOrCantDiscard view (size_of old) new at e
-  turn_stops e is lt none clears refused out sound unprepared = by_case (rounds_past (cluster_size old.file.header.fields) (size_of old) at (end - at)) refl
+  pub turn_stops : (e : ImageError) → end ≡ size_of old → at < size_of old → refuses_to_resize old ≡ None → ClearsSoundly view backing Uncovered old new at (end - at) (Err e) → FailsToClear view backing Uncovered old new at (end - at) (Err e)
+      → (out : List (Option Prepared)) → ImageInvariant view backing (pending_in view backing old out) old out → (HasPinnedMapping out → ⊥) → StopsStep view backing at old new out e
+  turn_stops e is lt none clears fails out sound unprepared = by_case (rounds_past (cluster_size old.file.header.fields) (size_of old) at (end - at)) refl
     where
       whole : at + (end - at) ≡ size_of old
       whole = omega (arith, is, lt)
 
       same_size : cluster_size new.file.header.fields ≡ cluster_size old.file.header.fields
-      same_size = ap (λ (s : Setting). s.cluster_size) ((clears out).acts.works sound).setting
+      same_size = ap (λ (s : Setting). s.cluster_size) ((clears.sees out).acts.works sound).setting
 
       long : (nat_le (2 ^ 64) (rounded_up (cluster_size old.file.header.fields) at) ≡ true) ⊎ (nat_le (2 ^ 64) (rounded_up (cluster_size old.file.header.fields) (at + (end - at))) ≡ true) → 2 ^ 64 ≤ boundary_in old (size_of old)
       long (inl past) = let le = leb-true (2 ^ 64) (boundary_in old at) past in let up = mono_up (cluster_size old.file.header.fields) (some out sound) at (size_of old) (omega (arith, lt)) in omega (arith, le, up)
       long (inr past) = subst (λ k. 2 ^ 64 ≤ boundary_in old k) whole (leb-true (2 ^ 64) (boundary_in old (at + (end - at))) past)
 
-      by_case : (f : Bool) → rounds_past (cluster_size old.file.header.fields) (size_of old) at (end - at) ≡ f → IsFaultOrCantDiscard view (size_of old) new at e
-      by_case true past = inr (inl (subst (λ k. 2 ^ 64 ≤ rounded_up k (size_of old)) (sym same_size) (long (past_of (nat_le (2 ^ 64) (boundary_in old at)) (at + (end - at) == size_of old) (nat_le (2 ^ 64) (boundary_in old (at + (end - at)))) past))))
+      -- a step that has nothing to clear isn't refused
+      touches : refuses_to_clear old at (end - at) Uncovered ≡ None → from_in old at (end - at) < to_in old at (end - at)
+      touches may = elim (cases_lt (from_in old at (end - at)) (to_in old at (end - at))) [ inl lt ↦ lt | inr least ↦ absurd (let no : (◌≡◌ {A = Result (ℕ × ℕ) ImageError} (Err e) (Ok (from_in old at (end - at), 0))) = (clears.nothing may least).0 in cc) ]
+
+      why : refuses_to_clear old at (end - at) Uncovered ≡ None → IsFault e ⊎ RefusesDiscard view backing old at out
+      why may = elim (fails.refused.may_fail may out sound) [
+        | inl alone ↦ elim alone [
+          | inl usual ↦ elim usual [ inl fault ↦ inl fault | inr limit ↦ inr (inr (inl (fails.limit may (touches may) out sound limit))) ]
+          | inr other ↦ elim other [ inl compressed ↦ absurd compressed.1 | inr far ↦ inr (inr (inr far.1)) ]
+        ]
+        | inr prepared ↦ absurd (unprepared (elim prepared [ inl used ↦ used.1 | inr taken ↦ under_prepared h (from_in old at (end - at)) out taken.1 ]))
+      ]
+
+      by_case : (f : Bool) → rounds_past (cluster_size old.file.header.fields) (size_of old) at (end - at) ≡ f → StopsStep view backing at old new out e
+      by_case true past =
+          let far = long (past_of (nat_le (2 ^ 64) (boundary_in old at)) (at + (end - at) == size_of old) (nat_le (2 ^ 64) (boundary_in old (at + (end - at)))) past) in
+          inr (inl (subst (λ k. 2 ^ 64 ≤ rounded_up k (size_of old)) (sym same_size) far), inl far)
       by_case false near =
-          let may_fail = rounds_if (is_failed old) (is_external old) (not (is_writable old)) (passes (size_of old) at (end - at)) (rounds_past (cluster_size old.file.header.fields) (size_of old) at (end - at)) none (within_end (nat_lt 0 (end - at)) (size_of old) (at + (end - at)) whole) near in
-          elim (refused.lacks may_fail out sound unprepared) [
+          let may = rounds_if (is_failed old) (is_external old) (not (is_writable old)) (passes (size_of old) at (end - at)) (rounds_past (cluster_size old.file.header.fields) (size_of old) at (end - at)) none (within_end (nat_lt 0 (end - at)) (size_of old) (at + (end - at)) whole) near in
+          elim (fails.refused.lacks may out sound unprepared) [
             | inl fault ↦ inl fault
-            | inr lacks ↦ inr (inr (subst (λ k. LacksTable view new (rounded_up k at)) (sym same_size) lacks))
+            | inr lacks ↦ elim (why may) [
+              | inl fault ↦ inl fault
+              | inr refused ↦ inr (inr (subst (λ k. LacksTable view new (rounded_up k at)) (sym same_size) lacks), refused)
+            ]
           ]
 
   -- a step before whose end a cluster begins touches one

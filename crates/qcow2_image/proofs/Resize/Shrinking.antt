@@ -1,6 +1,6 @@
 -- A shrink: steps one after another, and then the size.
 use Rattle.std.proofs.Common.{◌≡◌, ◌⊎◌, ◌-◌, ◌^◌, ◌<◌, ◌≤◌, ◌∷◌, ◌==◌, inl, inr, ℕ, Bool, true, false, List, [], refl, sym, ap, ◌∙◌, subst, arith, cond, IsTrue, Option, Some, None, Ok, Err, nat_lt}
-use Rattle.qcow2_image.proofs.Common.{IfSome, not, option_or, cases_lt, cond-true, cond-false, eq-eqb, ne_eqb, lt-ltb, pow_pos, BackingView, IsLeftBy, StorageView, EachMomentSince, passes_if, passes_on, byte_at, Value, known_byte, HeaderView, header, cluster_size, rounded_up, with_fields, with_size, AbstractImage, Guest, Setting, guest_of, IsRefusalByFault, IsSame, IsShrinkEnd, IsShrunk, EffectOnSound, with_disk, Disk, shrunk, GivenBytes, IsGiven, works_less, works_then, stops_as, size_stays_in_calls, ImageError, state_in, view_in, HasPinnedMapping, InternalCall, refusal_of, setting_of, Qcow2, Prepared, l1_index_of, IsSameImage, is_external, is_failed, is_writable, number_of, size_of, ImageInvariant, abstract_of, disk_of, pending_in, MayName, refuse_if, CantDiscard, IsFaultOrCantDiscard, IsTurnEnd, SetsSize, ShowsBelow, Shrinks, DiscardsNext, DiscardsPart, DiscardsTail, WritesSize, WritesSizeLast, boundary_in, all_given_by_shrink, all_given_by_shrunk, refuses_to_resize}
+use Rattle.qcow2_image.proofs.Common.{IfSome, not, option_or, cases_lt, cond-true, cond-false, eq-eqb, ne_eqb, lt-ltb, pow_pos, BackingView, IsLeftBy, StorageView, EachMomentSince, passes_if, passes_on, byte_at, Value, known_byte, HeaderView, header, cluster_size, rounded_up, with_fields, with_size, AbstractImage, Guest, Setting, guest_of, IsRefusalByFault, IsSame, IsShrinkEnd, IsShrunk, EffectOnSound, with_disk, Disk, shrunk, GivenBytes, IsGiven, works_less, works_then, stops_as, size_stays_in_calls, ImageError, state_in, view_in, HasPinnedMapping, InternalCall, refusal_of, setting_of, Qcow2, Prepared, l1_index_of, IsSameImage, is_external, is_failed, is_writable, number_of, size_of, ImageInvariant, abstract_of, disk_of, pending_in, MayName, refuse_if, CantDiscard, StopsAt, StopsStep, IsTurnEnd, SetsSize, ShowsBelow, Shrinks, DiscardsNext, DiscardsPart, DiscardsTail, WritesSize, WritesSizeLast, boundary_in, all_given_by_shrink, all_given_by_shrunk, refuses_to_resize}
 use Rattle.qcow2_alloc.specs.declared.error.ImageError.TheVariants as I
 use Rattle.qcow2_alloc.specs.ImageError.{IsFault as IsFaultOfTables}
 use Rattle.qcow2_image.proofs.Call.Marked.{MayMark}
@@ -382,12 +382,13 @@ resizes_still a b image failed none =
 
 module _ {S F : Type 0} (view : S → StorageView) (backing : F → BackingView) (out : List (Option Prepared)) where
   pub tail_stops : (old now new : Qcow2 S F) (size at end : ℕ) → IsDiscardedSoFar view backing old now size at end → (e : ImageError)
-      → (refuses_to_resize now ≡ None → ImageInvariant view backing (pending_in view backing now out) now out → (HasPinnedMapping out → ⊥) → IsFaultOrCantDiscard view (size_of now) new at e)
-      → refuses_to_resize old ≡ None → ImageInvariant view backing (pending_in view backing old out) old out → (HasPinnedMapping out → ⊥) → (IsFaultOfTables e → ⊥) → CantDiscard view (size_of old) new at
+      → (refuses_to_resize now ≡ None → ImageInvariant view backing (pending_in view backing now out) now out → (HasPinnedMapping out → ⊥) → StopsStep view backing at now new out e)
+      → refuses_to_resize old ≡ None → ImageInvariant view backing (pending_in view backing old out) old out → (HasPinnedMapping out → ⊥) → (IsFaultOfTables e → ⊥) → StopsAt view backing size at old new out
   tail_stops old now new size at end so e stops none sound unprepared no_fault =
-      elim (stops (resizes_still old now so.image so.failed none) (so.so_far out sound).0.sound unprepared) [
+      let so_far = (so.so_far out sound).0 in
+      elim (stops (resizes_still old now so.image so.failed none) so_far.sound unprepared) [
         | inl fault ↦ absurd (no_fault fault)
-        | inr cant ↦ subst (λ n. CantDiscard view n new at) so.image.size cant
+        | inr cant ↦ record { cant = subst (λ n. CantDiscard view n new at) so.image.size cant.0; before = now; unmapped = so_far; refused = cant.1 }
       ]
 
   -- the size is written afterwards

@@ -83,7 +83,7 @@ returns-in_ok-process_free_list_at_end-in-Err-clause-sound g c =
           let still = turn_still view below old mid mid e none c.args.at c.requires.usable number turn.uncovers out sound in
           elim (turn.stops usable out sound unprepared) [
             | inl fault ↦ absurd (none fault)
-            | inr cant ↦ inr (written_stops view below out (size_of old) c.args.at (size_of mid) mid new still.0 (c.in_ok-process_free_list_at_end-in-Err.ensures.frees out still.0).sound c.process_free_list_at_end.ensures.table c.process_free_list_at_end.ensures.header cant)
+            | inr cant ↦ inr (written_stops view below out (size_of old) c.args.at (size_of mid) mid new still.0 (c.in_ok-process_free_list_at_end-in-Err.ensures.frees out still.0).sound c.process_free_list_at_end.ensures.table c.process_free_list_at_end.ensures.header cant.0, cant.1)
           ];
       changed = λ out sound. tt;
       emptied = λ out sound. tt;

@@ -25,7 +25,7 @@ returns-in_err-from-clause-sound g c =
     handed_on (λ (r : Result _ _). DiscardsStep view below c.args.at old new r) c.from_residual.result e c.from_residual.ensures (record {
       on = tt;
       uncovers = turn_refused view below old new c.args.at c.size-end.result e c.size-end.ensures c.requires.inside c.in_err-from.ensures.sound.sees c.in_err-from.ensures.fails.refused.ungiven;
-      stops = λ none out sound unprepared. turn_stops view below old new c.args.at c.size-end.result e c.size-end.ensures c.requires.inside none c.in_err-from.ensures.sound.sees c.in_err-from.ensures.fails.refused out sound unprepared;
+      stops = λ none out sound unprepared. turn_stops view below old new c.args.at c.size-end.result e c.size-end.ensures c.requires.inside none c.in_err-from.ensures.sound c.in_err-from.ensures.fails out sound unprepared;
       changed = λ out sound. tt;
       emptied = λ out sound. tt;
     })

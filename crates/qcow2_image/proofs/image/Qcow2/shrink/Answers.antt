@@ -136,8 +136,8 @@ returns-clause-sound g c = λ none out sound unprepared.
       covers = covers_after Uncovered (boundary_in old c.args.size) (boundary_in old at) old.file.header.fields mid.file.header.fields c.write_size.new.self.file.header.fields _ _ _ tail.0.covers (c.in_default-write_size.ensures.writes out tail.0.sound).covers;
       stops = record {
         stops = λ lt.
-            written_stops view below out (size_of old) at c.args.size mid c.write_size.new.self tail.0.sound (c.in_default-write_size.ensures.writes out tail.0.sound).sound (ap (λ (i : Qcow2 _ _). i.l1_table) c.write_size.ensures.rest) c.in_default-write_size.ensures.header
-            ((c.discard_tail-end.ensures.sound out sound).stops none unprepared c.in_default.is lt);
+            let ended = (c.discard_tail-end.ensures.sound out sound).stops none unprepared c.in_default.is lt in
+            record { before = ended.before; unmapped = ended.unmapped; refused = ended.refused; cant = written_stops view below out (size_of old) at c.args.size mid c.write_size.new.self tail.0.sound (c.in_default-write_size.ensures.writes out tail.0.sound).sound (ap (λ (i : Qcow2 _ _). i.l1_table) c.write_size.ensures.rest) c.in_default-write_size.ensures.header ended.cant };
         emptied = λ before. ap (λ (i : Qcow2 _ _). i.file.free_list) c.write_size.ensures.rest ∙ (c.discard_tail-end.ensures.sound out sound).emptied (resize_writable old none) c.in_default.is before;
       };
       last = size_is_last g.S.Storage.view g.F.BackingDisk.backing c.args.self.now c.discard_tail-end.new.self c.write_size.new.self c.args.size c.discard_tail-end.result.0 c.discard_tail-end.result.1 (λ x0 x1. (c.discard_tail-end.ensures.sound x0 x1).uncovers) (c.write_size.ensures.time (uncovered_honest g.S.Storage.view g.F.BackingDisk.backing c.args.self.now c.discard_tail-end.new.self c.args.size c.discard_tail-end.result.0 out (subst (λ r. DiscardsTail g.S.Storage.view g.F.BackingDisk.backing c.args.self.now c.discard_tail-end.new.self c.args.size c.discard_tail-end.result.0 r out) c.in_default.is (c.discard_tail-end.ensures.sound out sound).uncovers))) out sound;
