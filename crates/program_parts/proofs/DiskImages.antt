@@ -227,6 +227,7 @@ seen_then a b c one then = let two = then one.honest in record { honest = two.ho
 
 -- ---- a name
 
+module _ (seen : SeenDisk) (layout : Layout) (old : NameView) where
   module _ (new : NameView) (n : ℕ) (bytes : List ℕ) (whole : IsWholeOfDisk seen layout n bytes) where
     holds_disk : (held : Option (List ℕ)) → held ≡ Some bytes → HoldsDisk seen layout n held
     holds_disk held is = subst (HoldsDisk seen layout n) (sym is) whole

@@ -15,5 +15,3 @@ reads_then a b c first second = record {
 -- so it is of two disks
 pub reads_more : (a b c d e f : SeenDisk) → IsOnlyRead a b × IsOnlyRead d e → IsOnlyRead b c × IsOnlyRead e f → IsOnlyRead a c × IsOnlyRead d f
 reads_more a b c d e f first second = (reads_then a b c first.0 second.0, reads_then d e f first.1 second.1)
-
--- ---- a disk that was opened

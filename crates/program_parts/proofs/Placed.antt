@@ -1,14 +1,10 @@
 -- A file that gets its name.
-use Rattle.std.proofs.Common.{◌≡◌, ◌⊎◌, ◌∷◌, ⊎_elim, ℕ, List, [], ap, ◌∙◌, refl, subst, sym, IfOk, Option, Some, Result, Ok, Err}
-use Rattle.program_parts.proofs.Common.{StorageView, IsQuiet, byte_at, IsConsistent, IsExport, IsImageMade, CopiesFrom, IsKeptQuietly}
+use Rattle.std.proofs.Common.{◌≡◌, ◌⊎◌, ◌∷◌, ⊎_elim, ℕ, List, [], ap, ◌∙◌, subst, sym, IfOk, Option, Some, Result, Ok, Err}
+use Rattle.program_parts.proofs.Common.{StorageView, IsQuiet, IsImageMade, IsKeptQuietly}
 use Rattle.std.proofs.lemmas.List.Elements.{All-cons, All-nil}
 use Rattle.program_parts.specs.Places.{EachHeldSince, GetsName, HoldsWhole, IsMade, IsWhole, NameView, Replaces, StaysNamed}
 use Rattle.program_parts.specs.declared.placing.Conversion.{Conversion}
 use Rattle.program_parts.specs.declared.placing.Conversion.TheVariants as C
-
--- a name that is as it was held nothing since
-pub holds_none : (old : NameView) (P : Option (List ℕ) → Type 0) → EachHeldSince old old P
-holds_none old P = record { honest = λ h. h; since = []; trace = refl; each = All-nil P }
 
 pub stays_held : (old new : NameView) (P : Option (List ℕ) → Type 0) → StaysNamed old new → EachHeldSince old new P
 stays_held old new P stays = record {
@@ -26,6 +22,7 @@ gets_held bytes old new P whole gets = record {
   each = All-cons P (Some bytes) [] whole (All-nil P);
 }
 
+module _ (how : Conversion) (source : StorageView) (old : NameView) where
   module _ (new : NameView) (n : ℕ) (bytes : List ℕ) (whole : IsWhole how n source bytes) where
     holds_whole : (held : Option (List ℕ)) → held ≡ Some bytes → HoldsWhole how n source held
     holds_whole held is = subst (HoldsWhole how n source) (sym is) whole
@@ -49,20 +46,12 @@ pub made_still : (how : Conversion) (n : ℕ) (source a b : StorageView) → IsM
 made_still how n source a b made kept = made_still_by how n source a b made (kept made.honest)
 
 module _ {E : Type 0} (how : Conversion) (source file : StorageView) where
-  raw_by : (r : Result ℕ E) → file.is_honest → (source.is_honest → IsConsistent (byte_at source.contents) → IfOk r (λ n. IsExport source.contents n file.contents)) → IfOk r (λ n. IsMade C.ImageToRaw n source file)
-  raw_by (Ok n) honest is = record { honest = honest; whole = is }
-  raw_by (Err e) honest is = tt
-
   image_by : (r : Result ℕ E) (cluster width : ℕ) → IfOk r (λ n. IsImageMade source n file cluster width) → IfOk r (λ n. IsMade (C.RawToImage cluster width) n source file)
   image_by (Ok n) cluster width is = record { honest = is.honest; whole = record { image = is.image; disk = λ honest. (is.disk honest).has_disk.is_disk } }
   image_by (Err e) cluster width is = tt
 
   pub made_image : (r : Result ℕ E) (cluster width : ℕ) → how ≡ C.RawToImage cluster width → IfOk r (λ n. IsImageMade source n file cluster width) → IfOk r (λ n. IsMade how n source file)
   made_image r cluster width is image = subst (λ h. IfOk r (λ n. IsMade h n source file)) (sym is) (image_by r cluster width image)
-
-  copy_by : (r : Result ℕ E) → file.is_honest → (source.is_honest → IfOk r (CopiesFrom source.contents file.contents)) → IfOk r (λ n. IsMade C.RawToRaw n source file)
-  copy_by (Ok n) honest is = record { honest = honest; whole = is }
-  copy_by (Err e) honest is = tt
 
 ok_made : {E : Type 0} (P : ℕ → Type 0) (r : Result ℕ E) (n : ℕ) → r ≡ Ok n → IfOk r P → P n
 ok_made {E} P r n is made = subst (λ (q : Result ℕ E). IfOk q P) is made
