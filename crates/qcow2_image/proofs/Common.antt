@@ -111,7 +111,7 @@ pub use Rattle.qcow2_image.specs.MovedTables.{MovesTables, CoversStay}
 pub use Rattle.qcow2_image.specs.NewTables.{IsFaultOrLacksTable, MayName, SaysKnown, IsStored, StandsReady, NamesCopied, replacing, LacksTable, OwnsTable, PlacesNewTable, NamesNew, WritesNew, EntersTable, IsFaultOrKeepsL1Table, NamesShared, Stores}
 pub use Rattle.qcow2_image.specs.Noted.{ChangesRose, FailsOnceWritten, NoFewerChanges, RecordsChanges, PutsOnce, CommitFailsOnceWritten, CountsImageChanges, HasMoreChanges, MarksOnceChanged, RecordsPart}
 pub use Rattle.qcow2_image.specs.Opened.{IsKeptSince, needs_another, Opens, IsFresh, StaysFresh, LeavesFile, needs_missing, IsOpenedFrom, LeavesStorage, OpensAtOnce, StandsOpened, StandsRefused, opened_contents, IsLoaded, SameNames, HasNamesIn, NeedsAnother, NeedsMissing}
-pub use Rattle.qcow2_image.specs.PinnedTables.{HasPinnedTable, FindsOwn, RespectsPins, PreparesUnpinned, own_table, own_pins}
+pub use Rattle.qcow2_image.specs.PinnedTables.{HasPinnedTable, FindsOwn, RespectsPins, PreparesUnpinned, own_table, own_pins, LiesInOwn, IsWritableInTables, ExistsInTables}
 pub use Rattle.qcow2_image.specs.Preallocation.{FilledCovers, FillsPart, RefusedFill, ChangesFree, FillsOrRefuses, FillsSome, InterruptedGiving, IsUnderMappingIn, MayBeZero, given_by_zeros, FillsGrown, FillsGrownInPart, FillsGrownOrRefuses, RefusedGrown, filled_to, all_given_by_growing, GrownFree, FillsFirst, IsWholeRange, CommitsWhole, AreZeros, most_of}
 pub use Rattle.qcow2_image.specs.Prepared.{table_of, offset_of, length_of}
 pub use Rattle.qcow2_image.specs.PreparedPlaces.{MarkedIsBehind}

@@ -22,7 +22,7 @@ ghost use Rattle.qcow2_laws.specs.CrashInvariant.{Pending};
 ghost use Rattle.qcow2_alloc.specs.MetadataCaches.{IsEntryAt, l2_at};
 ghost use Rattle.qcow2_alloc.specs.ImageFile.{known_in, FileInvariant};
 ghost use Rattle.qcow2_image.specs.L1Entries.{HasOwnTable};
-ghost use Rattle.qcow2_image.specs.PinnedTables.{PreparesUnpinned};
+ghost use Rattle.qcow2_image.specs.PinnedTables.{ExistsInTables, IsWritableInTables, LiesInOwn, PreparesUnpinned, own_table};
 ghost use Rattle.qcow2_alloc.specs.ImageStorage.{storage_of};
 ghost use Rattle.qcow2_image.specs.declared.prepared.Prepared.{Prepared};
 ghost use Rattle.qcow2_image.specs.Calls.{Commits, Discards, Prepares, reason_of};
@@ -130,6 +130,7 @@ fn is_behind_header(mapping: &L2Mapping, size: u64) -> bool
 fn behind_header(place: Option<u64>, size: u64) -> Option<u64>
     ensures behind { IfSome result (λ host. size ≤ host) }
     ensures same { IfSome place (λ host. size ≤ host) → result ≡ place }
+    ensures own { IfSome result (λ host. place ≡ Some host) }
 {
     match place {
         Some(host) => { if host >= size { Some(host) } else { None } }
@@ -150,7 +151,8 @@ pub(crate) fn keeps(mapping: &L2Mapping, place: u64) -> bool
 impl<S: Storage, F: WrappedFormat<S>> Qcow2<S, F> {
     /// Prepares a range to be written at one place in the file. With `overwrite` the caller promises to write all of it, and old bytes are not
     /// copied. The mapping may be shorter than the range, and must be committed or discarded. A mapping that isn't existing has at least the
-    /// rest of its first cluster. None of its bytes lies in the header's cluster.
+    /// rest of its first cluster. None of its bytes lies in the header's cluster. A mapping is existing only where the tables in memory mark
+    /// all of the range as copied data.
     /// Refused in this order: 16 (failed), 12 (dependency), 2 (beyond size), 1 (read-only). A length of 0 succeeds before 1. Then
     /// 9 (table prepared), if another mapping that isn't existing is prepared in the same L2 table. May be refused
     /// 4 (unaligned table), 7 (compressed) if a compressed cluster would have to be copied, 8 (everything is in use), 13 (limit),
@@ -168,6 +170,8 @@ impl<S: Storage, F: WrappedFormat<S>> Qcow2<S, F> {
         ensures sees { Prepares S.view F.backing self.old self.new offset length overwrite result }
         ensures pinned { 0 < length → refuses_to_prepare self.old offset length ≡ None → HasOwnTable self.old offset
             → PreparesUnpinned self.old offset result }
+        ensures existing { 0 < length → refuses_to_prepare self.old offset length ≡ None → HasOwnTable self.old offset
+            → ExistsInTables self.new offset length result }
     {
         self.check_prepare(offset, length)?;
         if length == 0 {
@@ -233,6 +237,7 @@ impl<S: Storage, F: WrappedFormat<S>> Qcow2<S, F> {
             → ImageInvariant S.view F.backing (pending_in S.view F.backing self.old out) self.old out
             → IfErr result (FreesRefused self.new) }
         ensures pinned { HasOwnTable self.old offset → PreparesUnpinned self.old offset result }
+        ensures existing { LiesInOwn self.old offset length → ExistsInTables self.new offset length result }
     {
         match self.prepare_range(offset, length, overwrite) {
             Ok(prepared) => Ok(prepared),
@@ -258,6 +263,7 @@ impl<S: Storage, F: WrappedFormat<S>> Qcow2<S, F> {
         ensures own { IfOk result (λ p. image_of p ≡ number_of self.old) }
         ensures some { IfOk result (λ p. 0 < length → HasBytesBehind self.new.file.header.fields p) }
         ensures pinned { HasOwnTable self.old offset → PreparesUnpinned self.old offset result }
+        ensures existing { LiesInOwn self.old offset length → ExistsInTables self.new offset length result }
     {
         let table = self.writable_l2_table(offset)?;
         match self.existing_host(table, offset, length)? {
@@ -319,6 +325,8 @@ impl<S: Storage, F: WrappedFormat<S>> Qcow2<S, F> {
             → 0 < length → IfOk result (IsPlaceOf self.now.file.header.fields
             (known_in S.view self.now.file) offset length) }
         ensures behind { IfOk result (λ place. IfSome place (λ host. cluster_size self.now.file.header.fields ≤ host)) }
+        ensures held { LiesInOwn self.now offset length → table ≡ own_table self.now offset
+            → IfOk result (λ place. IfSome place (IsWritableInTables self.now offset length)) }
         ensures faults { IfErr result IsNotOfStorage }
     {
         let max = length.min(self.rest_of_table(offset));
@@ -348,6 +356,7 @@ impl<S: Storage, F: WrappedFormat<S>> Qcow2<S, F> {
         ensures unpinned { OnOk result (l2_pins self.old.file.caches table ≡ 0) }
         ensures own { IfOk result (λ p. image_of p ≡ number_of self.old) }
         ensures some { IfOk result (HasBytesBehind self.new.file.header.fields) }
+        ensures pins { IfOk result (λ p. IsSome (table_of p)) }
         ensures reaches { (out : List (Option Prepared)) (k : ℕ) → slice_get out k ≡ Some None
             → ImageInvariant S.view F.backing (pending_in S.view F.backing self.old out) self.old out
             → HoldsTable S.view F.backing self.old offset table → IfOk result (Reaches S.view self.new offset length) }

@@ -1,6 +1,6 @@
 -- What a lookup finds in the tables in memory, of an image in any state.
-use Rattle.std.proofs.Common.{◌≡◌, ◌+◌, ◌-◌, ◌*◌, ◌/◌, ◌%◌, ◌^◌, ◌<◌, ◌≤◌, ⊎_elim, inl, inr, ℕ, Bool, Some, Result, Ok, Err, is_some, min, sym, ap, ◌∙◌, subst, arith}
-use Rattle.qcow2_image.proofs.Common.{cases_lt, EntryTableView, HeaderView, cluster_size, L2TableView, HeaderFields, Uncovered, kind_at, rest_of_table, l2_at, MetadataCaches, ImageError, OutdatedMapping, ImageStorage, Qcow2, MappingKind, found_kind, mapping_of, IsRunBehind, FitsTables, IsHeldAs, IsLongestSo, IsMappedBy, IsMappedSo, KeepsHeld, named_place}
+use Rattle.std.proofs.Common.{◌≡◌, ◌+◌, ◌-◌, ◌*◌, ◌/◌, ◌%◌, ◌^◌, ◌<◌, ◌≤◌, ⊎_elim, inl, inr, ℕ, Bool, true, false, Some, Result, Ok, Err, is_some, min, sym, ap, ◌∙◌, subst, arith}
+use Rattle.qcow2_image.proofs.Common.{cases_lt, EntryTableView, HeaderView, cluster_size, L2TableView, HeaderFields, L2Mapping, Data, Zero, Compressed, Uncovered, kind_at, raw, writable_place, Image, rest_of_table, l2_at, MetadataCaches, ImageError, OutdatedMapping, ImageStorage, Qcow2, MappingKind, found_kind, mapping_of, IsRunBehind, FitsTables, IsHeldAs, IsLongestSo, IsMappedBy, IsMappedSo, KeepsHeld, named_place}
 use Rattle.qcow2_image.specs.declared.mapping.MappingKind.TheVariants as M
 use Rattle.qcow2_image.proofs.Map.Looked.{kind_within, product_le, same_kind}
 
@@ -39,6 +39,33 @@ module _ {S : Type 0} (h : HeaderFields) (is_backed : Bool) (l1_table : EntryTab
   -- nothing lies past the end among what is mapped
   pub none_eof : (n : ℕ) → IsMappedSo h is_backed l1_table caches offset M.Eof n → ⊥
   none_eof n is = ⊎_elim (λ none. kind_within h is_backed offset Uncovered none.kind_is) (λ by. kind_within h is_backed offset (mapping_of by.table (offset / cluster_size h)) by.mapped.first) is.mapped
+
+  -- what may be written in place is copied data
+  data_place : (v : L2Mapping) (host : ℕ) → writable_place (kind_at h is_backed offset v) ≡ Some host → kind_at h is_backed offset v ≡ raw false host true
+  data_place (Data place true) host is = let same : place + offset % cluster_size h ≡ host = cc in ap (λ k. raw false k true) same
+  data_place (Data place false) host is = absurd cc
+  data_place (Zero kept) host is = absurd cc
+  data_place (Compressed place sectors) host is = absurd cc
+  data_place Uncovered host is = backed is_backed is
+    where
+      backed : (b : Bool) → writable_place (kind_at h b offset Uncovered) ≡ Some host → kind_at h b offset Uncovered ≡ raw false host true
+      backed true is = absurd cc
+      backed false is = absurd cc
+
+  pub writable_held : (kind : MappingKind) (n host : ℕ) → writable_place (found_kind kind) ≡ Some host → IsMappedSo h is_backed l1_table caches offset kind n → IsMappedSo h is_backed l1_table caches offset (M.Raw Image host true) n
+  writable_held kind n host place is = record {
+    below = is.below;
+    within = is.within;
+    mapped = ⊎_elim
+        (λ none. inl (record { none = none.none; kind_is = sym (data_place Uncovered host (sym (ap writable_place none.kind_is) ∙ place)) }))
+        (λ by. inr (record {
+          named = by.named;
+          table = by.table;
+          held = by.held;
+          mapped = record { first = sym (data_place (mapping_of by.table (offset / cluster_size h)) host (sym (ap writable_place by.mapped.first) ∙ place)); alike = by.mapped.alike };
+        }))
+        is.mapped;
+  }
 
   module _ (max limit : ℕ) (short : max ≡ min (min limit (h.size - offset)) (rest_of_table h offset)) (below : offset < h.size) where
     -- where the L1 table names none

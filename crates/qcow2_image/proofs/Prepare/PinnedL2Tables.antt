@@ -1,6 +1,7 @@
 -- Whether an L2 table of the image's own is pinned, as a call finds it.
-use Rattle.std.proofs.Common.{◌≡◌, ◌+◌, ◌*◌, ◌/◌, ◌^◌, ◌<◌, ℕ, sym, ap, ◌∙◌, subst, arith, Ok, Err, Result, IfErr, IsErr, IsErrAnd}
-use Rattle.qcow2_image.proofs.Common.{OnOk, div-mul-add, pow_pos, l2_pins, MetadataCaches, ImageError, TablePrepared, IsOfTables, handed_on, Qcow2, Prepared, IsBegun, HasOwnTable, FindsOwn, RespectsPins, PreparesUnpinned, own_pins, own_table, MayFail}
+use Rattle.std.proofs.Common.{◌≡◌, ◌+◌, ◌*◌, ◌/◌, ◌^◌, ◌<◌, ◌≤◌, ◌&&◌, inl, inr, ℕ, Bool, true, false, Option, Some, None, IfOk, IsSome, refl, nat_lt, sym, ap, ◌∙◌, subst, arith, Ok, Err, Result, IfErr, IsErr, IsErrAnd}
+use Rattle.qcow2_image.proofs.Common.{OnOk, div-mul-add, pow_pos, l2_pins, MetadataCaches, ImageError, TablePrepared, IsOfTables, handed_on, Qcow2, Prepared, IsBegun, EntryTableView, HeaderView, host_offset, entry_at, cluster_size, l1_index_of, NamesOwn, LiesInOwn, ExistsInTables, table_of, refuse_if, option_or, passes, unusable, is_writable, size_of, refuses_to_prepare, not, cases_lt, lt-ltb, HasOwnTable, FindsOwn, RespectsPins, PreparesUnpinned, own_pins, own_table, MayFail}
+use Rattle.qcow2_alloc.specs.declared.error.ImageError.TheVariants as I
 
 pub whole_quotient : (k c o : ℕ) → c * 2 ^ k ≡ o → c ≡ o / 2 ^ k
 whole_quotient k c o is =
@@ -14,9 +15,50 @@ met_untaken e may_fail is = subst MayFail is may_fail
 pub of_tables_untaken : (e : ImageError) → IsOfTables e → e ≡ TablePrepared → ⊥
 of_tables_untaken e may_fail is = subst IsOfTables is may_fail
 
+-- what a list of causes without any says of the second
+none_second : (a : Option ImageError) (p : Bool) (x : ImageError) (b : Option ImageError) → option_or a (option_or (refuse_if p x) b) ≡ None → p ≡ false
+none_second (Some e) p x b none = absurd cc
+none_second None true x b none = absurd cc
+none_second None false x b none = refl
+
 module _ {S F : Type 0} where
   pub found_pins : (old new : Qcow2 S F) (offset table : ℕ) → FindsOwn old new offset (Ok table) → l2_pins new.file.caches table ≡ own_pins old offset
   found_pins old new offset table found = found.pins table ∙ ap (l2_pins old.file.caches) found.table
+
+  -- the table that was found is still the image's own for the offset
+  pub found_own : (old new : Qcow2 S F) (offset table : ℕ) → FindsOwn old new offset (Ok table) → table ≡ own_table new offset
+  found_own old new offset table found =
+      found.table ∙ sym (ap (λ (t : EntryTableView). host_offset (entry_at t.bytes (l1_index_of new.file.header.fields offset)) / cluster_size new.file.header.fields) found.l1_table
+      ∙ ap (λ (h : HeaderView). host_offset (entry_at old.l1_table.bytes (l1_index_of h.fields offset)) / cluster_size h.fields) found.header)
+
+  pub lies_still : (old new : Qcow2 S F) (offset n : ℕ) → new.l1_table ≡ old.l1_table → new.file.header ≡ old.file.header → LiesInOwn old offset n → LiesInOwn new offset n
+  lies_still old new offset n l1_table header lies = record {
+    some = lies.some;
+    below = subst (λ (h : HeaderView). offset + n ≤ h.fields.size) (sym header) lies.below;
+    own = subst (λ (t : EntryTableView). NamesOwn (entry_at t.bytes (l1_index_of new.file.header.fields offset))) (sym l1_table)
+        (subst (λ (h : HeaderView). NamesOwn (entry_at old.l1_table.bytes (l1_index_of h.fields offset))) (sym header) lies.own);
+  }
+
+  -- what pins a table isn't existing
+  pub pinned_exists : (image : Qcow2 S F) (offset n : ℕ) (r : Result Prepared ImageError) → IfOk r (λ p. IsSome (table_of p)) → ExistsInTables image offset n r
+  pinned_exists image offset n (Ok p) pins = λ none. absurd (let no : IsSome {T = ℕ} None = subst (λ (t : Option ℕ). IsSome t) none pins in cc)
+  pinned_exists image offset n (Err e) pins = tt
+
+  pub refused_exists : (image : Qcow2 S F) (offset n : ℕ) (r : Result Prepared ImageError) (e : ImageError) → IsErr r × IsErrAnd r (λ x. x ≡ e) → ExistsInTables image offset n r
+  refused_exists image offset n r e is = handed_on (λ (x : Result _ _). ExistsInTables image offset n x) r e is tt
+
+  -- a range that isn't refused at once ends below the size
+  pub lies_in_own : (image : Qcow2 S F) (offset n : ℕ) → 0 < n → refuses_to_prepare image offset n ≡ None → HasOwnTable image offset → LiesInOwn image offset n
+  lies_in_own image offset n some none own = record {
+    some = some;
+    below = elim (cases_lt (size_of image) (offset + n)) [
+      | inl lt ↦ absurd (let is : passes (size_of image) offset n ≡ false = none_second (unusable image) (passes (size_of image) offset n) I.BeyondSize (refuse_if (nat_lt 0 n && not (is_writable image)) I.ReadOnly) none in
+          let yes : passes (size_of image) offset n ≡ true = rw (lt-ltb 0 n some, lt-ltb (size_of image) (offset + n) lt) refl in
+          let no : true ≡ false = sym yes ∙ is in cc)
+      | inr le ↦ le
+    ];
+    own = own;
+  }
 
   pub heeds_refused : {A : Type 0} (image : Qcow2 S F) (offset : ℕ) (r : Result A ImageError) (e : ImageError) → IsErr r × IsErrAnd r (λ x. x ≡ e) → (e ≡ TablePrepared → 0 < own_pins image offset) → RespectsPins image offset r
   heeds_refused image offset r e is why = handed_on (λ (x : Result _ _). RespectsPins image offset x) r e is why

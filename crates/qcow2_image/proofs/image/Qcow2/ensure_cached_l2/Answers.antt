@@ -5,17 +5,17 @@ use Rattle.qcow2_image.proofs.Common.{ap, inl, ◌∙◌, sym, rules, handed_on,
 pub returns-in_err-cluster-clause-own : goal.returns-in_err-cluster-clause-own
 returns-in_err-cluster-clause-own g c = λ own.
     handed_on (λ r. FindsOwn c.args.self.now c.writable_l2_cluster.new.self c.args.offset r) c.from_residual.result c.in_err-cluster.field-0.0 c.from_residual.ensures
-    (record { table = tt; pins = λ t. ap (λ (i : Qcow2 _ _). l2_pins i.file.caches t) (c.writable_l2_cluster.ensures.quiet own) })
+    (record { table = tt; l1_table = ap (λ (i : Qcow2 _ _). i.l1_table) (c.writable_l2_cluster.ensures.quiet own); header = ap (λ (i : Qcow2 _ _). i.file.header) (c.writable_l2_cluster.ensures.quiet own); pins = λ t. ap (λ (i : Qcow2 _ _). l2_pins i.file.caches t) (c.writable_l2_cluster.ensures.quiet own) })
 
 pub returns-in_err-l2_get_or_insert-clause-own : goal.returns-in_err-l2_get_or_insert-clause-own
 returns-in_err-l2_get_or_insert-clause-own g c = λ own.
     let mid = c.writable_l2_cluster.new.self in
     handed_on (λ r. FindsOwn c.args.self.now (record mid { file = record mid.file { storage = c.l2_get_or_insert.new.storage; caches = c.l2_get_or_insert.new.self } }) c.args.offset r) c.from_residual-in_err-l2_get_or_insert.result c.in_err-l2_get_or_insert.field-0.0 c.from_residual-in_err-l2_get_or_insert.ensures
-    (record { table = tt; pins = λ t. c.l2_get_or_insert.ensures.step.marks.pins.pins t ∙ ap (λ (i : Qcow2 _ _). l2_pins i.file.caches t) (c.writable_l2_cluster.ensures.quiet own) })
+    (record { table = tt; l1_table = ap (λ (i : Qcow2 _ _). i.l1_table) (c.writable_l2_cluster.ensures.quiet own); header = ap (λ (i : Qcow2 _ _). i.file.header) (c.writable_l2_cluster.ensures.quiet own); pins = λ t. c.l2_get_or_insert.ensures.step.marks.pins.pins t ∙ ap (λ (i : Qcow2 _ _). l2_pins i.file.caches t) (c.writable_l2_cluster.ensures.quiet own) })
 
 pub returns-clause-own : goal.returns-clause-own
 returns-clause-own g c = λ own.
-    record { table = c.in_ok-cluster.ensures.own own; pins = λ t. c.l2_get_or_insert.ensures.step.marks.pins.pins t ∙ ap (λ (i : Qcow2 _ _). l2_pins i.file.caches t) (c.writable_l2_cluster.ensures.quiet own) }
+    record { table = c.in_ok-cluster.ensures.own own; l1_table = ap (λ (i : Qcow2 _ _). i.l1_table) (c.writable_l2_cluster.ensures.quiet own); header = ap (λ (i : Qcow2 _ _). i.file.header) (c.writable_l2_cluster.ensures.quiet own); pins = λ t. c.l2_get_or_insert.ensures.step.marks.pins.pins t ∙ ap (λ (i : Qcow2 _ _). l2_pins i.file.caches t) (c.writable_l2_cluster.ensures.quiet own) }
 
 pub returns-in_err-cluster-clause-rest : goal.returns-in_err-cluster-clause-rest
 returns-in_err-cluster-clause-rest g c = λ own. c.writable_l2_cluster.ensures.quiet own ∙ ap (λ (i : Qcow2 _ _). record c.args.self.now { file = record c.args.self.now.file { storage = i.file.storage; caches = i.file.caches } }) (sym (c.writable_l2_cluster.ensures.quiet own))

@@ -1,5 +1,7 @@
-use Rattle.std.proofs.Common.{◌≡◌, ◌≤◌, sym, ap, ◌∙◌, subst, arith, min, is_some, false, true}
-use Rattle.qcow2_image.proofs.Common.{IfSome, IsLongestRun, known_in, rest_of_table, writable_place, IsPlaceOf}
+use Rattle.std.proofs.Common.{◌≡◌, ◌-◌, ◌≤◌, Some, sym, ap, ◌∙◌, subst, arith, min, is_some, false, true}
+use Rattle.qcow2_image.proofs.Common.{IfSome, IsLongestRun, known_in, rest_of_table, writable_place, IsPlaceOf, IsWritableInTables}
+use Rattle.qcow2_image.proofs.Lemmas.{writable_held}
+use Rattle.qcow2_alloc.proofs.ChangedTables.{if_some_then}
 use Rattle.qcow2_image.proofs.Prepare.WritableInPlace.{place_found, short_of}
 use Rattle.qcow2_image.proofs.Prepare.LimitCauses.{hands_unlimited}
 use Rattle.qcow2_image.proofs.Prepare.MarkedPlaces.{place_behind}
@@ -31,3 +33,16 @@ pub returns-in_err-kind-clause-reads : goal.returns-in_err-kind-clause-reads
 returns-in_err-kind-clause-reads g c = λ p sound at.
     let limit : c.min-max.result ≡ min c.args.length (rest_of_table c.args.self.now.file.header.fields c.args.offset) = c.min-max.ensures ∙ ap (min c.args.length) c.rest_of_table.ensures.value in
     absurd (let no : false ≡ true = c.in_err-kind.ensures.reads p sound at (omega (arith, limit)) in cc)
+
+pub returns-clause-held : goal.returns-clause-held
+returns-clause-held g c = λ lies own.
+    let image = c.args.self.now in
+    let h = image.file.header.fields in
+    let n = c.args.length in
+    let below = lies.below in
+    let limit : c.min-max.result ≡ min (min c.args.length (h.size - c.args.offset)) (rest_of_table h c.args.offset) =
+    c.min-max.ensures ∙ ap (min n) c.rest_of_table.ensures.value ∙ ap (λ m. min m (rest_of_table h c.args.offset)) (omega (arith, below)) in
+    let run = c.in_ok-kind.ensures.held n limit (let some = lies.some in omega (arith, some, below)) own lies.own.0 in
+    let whole : c.in_ok-kind.found ≡ c.args.length = let most = run.at_most in let least = c.if-found-length.false in omega (arith, most, least) in
+    if_some_then (λ host. c.writable_place.result ≡ Some host) (IsWritableInTables image c.args.offset n) c.behind_header.result c.behind_header.ensures.own
+    (λ host place. subst (λ m. IsWritableInTables image c.args.offset m host) whole (writable_held h (is_some image.backing) image.l1_table image.file.caches c.args.offset c.in_ok-kind.kind c.in_ok-kind.found host (sym c.writable_place.ensures ∙ place) run.mapped))

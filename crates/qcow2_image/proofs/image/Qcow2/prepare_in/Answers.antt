@@ -1,6 +1,6 @@
 use Rattle.qcow2_image.proofs.Lemmas.{taking_where, taking_with, where_then, back_refused, free_places, counted_as, counted_still, step_none, goes_step, hands_limit, limited_from, places_enter, alone_as, compressed_as, compressed_at, hands_met, taking_as}
 use Rattle.qcow2_image.proofs.image.Qcow2.prepare_in.Goals as goal
-use Rattle.std.proofs.Common.{◌≡◌, ◌+◌, ◌-◌, ◌/◌, ◌%◌, ◌∷◌, ◌<◌, [], refl, sym, ap, ◌∙◌, subst, arith, inl, rules, None, Err}
+use Rattle.std.proofs.Common.{◌≡◌, ◌+◌, ◌-◌, ◌/◌, ◌%◌, ◌∷◌, ◌<◌, [], refl, sym, ap, ◌∙◌, subst, arith, inl, rules, None, Err, ℕ, Option, IsSome}
 use Rattle.qcow2_image.proofs.Common.{cover, cluster_size, HeaderFields, known_in, handed_on, header_format, header_then, IsReadied, PreparesRange, GoesTo, pow_pos, mod_below, CopiesCompressed, MayFailAllocating, HasPinnedMapping, l2_pins}
 use Rattle.qcow2_image.proofs.Prepare.RangeByParts.{release_prepared_broken, refused_free}
 
@@ -113,3 +113,6 @@ returns-in-Err-clause-sound g c = λ out sound holds.
       limit = λ some is. let goes : GoesTo view old mid = record { image = c.prepare_first.ensures.step.stays.image; header_cluster = c.prepare_first.ensures.step.header_cluster some } in
           limited_from (omega arith) (omega arith) (goes_step step_none) placed (places_enter view below old out) ((c.in-Err.ensures.sound old (None ∷ out) 0 refl first.under ready).limit goes is);
     }
+
+pub returns-in-Ok-clause-pins : goal.returns-in-Ok-clause-pins
+returns-in-Ok-clause-pins g c = subst (λ (t : Option ℕ). IsSome t) (sym (c.in-Ok.ensures.longer.under ∙ c.in_ok-prepared.ensures.begins.first.under)) refl
