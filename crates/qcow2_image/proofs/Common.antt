@@ -57,7 +57,7 @@ pub use Rattle.qcow2_alloc.specs.Limits.{IsFaultOr, IsPastLimits, HasNoPlace, Ca
 pub use Rattle.qcow2_alloc.specs.LoadedTables.{IsReasonAgainstL1Table, IsReasonAgainstReftable, L1TableReads, ReftableReads, HasUnreadEntry}
 pub use Rattle.qcow2_alloc.specs.LowestRuns.{KeepsNoFreeBelowHint, NoFreeBelowHint, BrokeOff, SearchesAnew, IsUsed, IsPassed}
 pub use Rattle.qcow2_alloc.specs.MetadataCaches.{IsEntryAt, l2_at, MadeEntry, known_of, MapsCachedEntry, order_of, CacheInvariant, l2_tables, refblocks, AreAllWritten, InternalCacheStep, ShowsKnown, ChangesKnownEntry, rb_at, Evict, EvictsTable, PutRefusesBy, HoldsKnown, RecordsEntry, InsertKeeps}
-pub use Rattle.qcow2_alloc.specs.Quiet.{IsQuiet, KeepAllWritten}
+pub use Rattle.qcow2_alloc.specs.Quiet.{IsQuiet, KeepAllWritten, GetsTableQuietly}
 pub use Rattle.qcow2_alloc.specs.SparedHeaders.{CachesSpareHeader, StandsBehindHeader, SparesBytes, SparesHeader, PreservesHeaderButPointer, NamesReftableBehind}
 pub use Rattle.qcow2_alloc.specs.TableCaches.{IsTableOf}
 pub use Rattle.qcow2_alloc.specs.declared.allocation.Allocator.{Allocator}
@@ -120,7 +120,7 @@ pub use Rattle.qcow2_image.specs.Ranges.{ReleasesOneMapping, MayGoOn, AllocatesD
 pub use Rattle.qcow2_image.specs.Readable.{IsJustifiedRefusal, IsNewlyOpened, OpeningStep, files_missing, IsReasonAgainstTables, NeededTablesRead, OpensRightly, IsTableRefused, HeaderSuits, IsReadable}
 pub use Rattle.qcow2_image.specs.Refusals.{passes, refuse_if, refuses_to_prepare, unusable, MayFail, FreesRefused, MayFailPreparing, failed_after, MarksFailed, MarksRefused, IsUnlimited, IsFaultOrLimit, failed_by}
 pub use Rattle.qcow2_image.specs.Resizing.{GrowsTo, all_given_by_grow, refuses_to_resize, takes_over, boundary_in, RefusesUnchanged, SetsSize, WritesSize, WritesSizeLast, GrowsTables, LacksZeros, Shrinks, DiscardsNext, all_given_by_shrink, all_given_by_shrunk, RefusesDiscard, StopsAt, StopsStep, IsTurnEnd, DiscardsPart, DiscardsTail, TurnStep, DiscardsStep, LeavesTables, IsResized, size_after, GrowsLast, MayFailShrinking, CantDiscard, ShowsBelow, MayStand, ShrinksSoundly, DiscardsClusters}
-pub use Rattle.qcow2_image.specs.Unwritten.{ContentsStayThroughout, ReadsQuietly}
+pub use Rattle.qcow2_image.specs.Unwritten.{ContentsStayThroughout, ReadsQuietly, LoadsQuietly, LooksQuietly}
 pub use Rattle.qcow2_image.specs.WriteSteps.{KeepingStep, AllocatingStep, BeginsSoundly, PuttingCall, FillingStep, AllocatingStepWhere, keeping, CanEnter}
 pub use Rattle.qcow2_image.specs.declared.builder.Qcow2CreateBuilder.{Qcow2CreateBuilder}
 pub use Rattle.qcow2_image.specs.declared.copy_range.CopyRange.{CopyRange}

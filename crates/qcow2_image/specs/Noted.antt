@@ -13,6 +13,7 @@ use Rattle.qcow2_image.specs.CallParts.{IsWriteOutcome, InternalCall}
 use Rattle.qcow2_image.specs.Calls.{reason_of}
 use Rattle.qcow2_image.specs.ImageInvariant.{abstract_of}
 use Rattle.qcow2_image.specs.Prepared.{offset_of, table_of}
+use Rattle.qcow2_image.specs.Unwritten.{LooksQuietly}
 use Rattle.qcow2_alloc.specs.ImageStorage.{changes_of}
 use Rattle.qcow2_alloc.specs.KeptMarks.{HaveRisen, changes_in}
 use Rattle.qcow2_image.specs.Image.{has_noted_change, is_failed, storage_of_image}
@@ -71,11 +72,12 @@ module _ {S F : Type 0} (view : S → StorageView) (old new : Qcow2 S F) where
 
 -- How a put writes. At some state `before`, a sound image is sound and looks the same to the guest.
 -- From there on, the bytes are written by a single write, at the mapping's place in the file.
--- A put into a pinned mapping writes nothing else.
+-- A put into a pinned mapping writes nothing else, nor does any other if the L2 table can be looked at without a write.
 pub record PutsOnce {S F : Type 0} (view : S → StorageView) (backing : F → BackingView) (p : Prepared) (at : ℕ) (bytes : List ℕ) (old new : Qcow2 S F) (result : Result (Unit {0}) ImageError) : Type 0 where
   pub before : Qcow2 S F
   pub honest : (view_in view old.file).is_honest → (view_in view before.file).is_honest
   pub unseen : (out : List (Option Prepared)) → (abstract_of view backing old out).is_sound → InternalCall view backing old before out
+  pub quiet : LooksQuietly view (p.guest + at) old before
   pub idle : IsSome (table_of p) → (storage_of_image before ≡ storage_of_image old) × (changes_of before.file.storage ≡ changes_of old.file.storage)
   pub time : (view_in view before.file).is_honest → EachMomentSince (view_in view before.file) (view_in view new.file) (IsLeftBy (view_in view new.file))
   pub written : (view_in view before.file).is_honest → IsWriteOutcome result (view_in view before.file).contents (overwritten (view_in view before.file).contents (offset_of p + at) bytes) (view_in view new.file).contents

@@ -1,8 +1,11 @@
--- Images that are only read: the contents of the storage stay the same.
+-- Images that are only read: the contents of the storage stay the same. Which lookups write nothing.
+use Rattle.std.specs.Prelude.{ℕ, ◌≡◌, ◌⊎◌}
 use Rattle.image_access.specs.Moments.{ContentsStay, StorageView, EachMomentSince, IsLeftBy}
 use Rattle.qcow2_alloc.specs.MetadataCaches.{AreAllWritten}
-use Rattle.qcow2_alloc.specs.Quiet.{KeepAllWritten}
+use Rattle.qcow2_alloc.specs.Quiet.{GetsTableQuietly, KeepAllWritten, WritesNothing}
 use Rattle.qcow2_image.specs.declared.image.Qcow2.{Qcow2}
+use Rattle.qcow2_image.specs.HeldMappings.{named_place}
+use Rattle.qcow2_image.specs.PinnedTables.{own_table}
 
 -- The contents are the same now, and at every moment since.
 abbrev pub ContentsStayThroughout : StorageView → StorageView → Type 0
@@ -16,3 +19,11 @@ module _ {S F : Type 0} (view : S → StorageView) where
 -- No cached table is modified, as right after opening.
 abbrev pub HoldsNothingModified : {S F : Type 0} → Qcow2 S F → Type 0
 HoldsNothingModified image = AreAllWritten image.file.caches
+
+-- The L2 table of an offset can be looked at without a write: there is none, or it is cached, or can be loaded without one.
+abbrev pub LoadsQuietly : {S F : Type 0} → Qcow2 S F → (offset : ℕ) → Type 0
+LoadsQuietly image offset = (named_place image.file.header.fields image.l1_table offset ≡ 0) ⊎ GetsTableQuietly image.file.caches (own_table image offset)
+
+-- Nothing is written, if the L2 table of an offset can be looked at without a write.
+abbrev pub LooksQuietly : {S F : Type 0} → (S → StorageView) → (offset : ℕ) → Qcow2 S F → Qcow2 S F → Type 0
+LooksQuietly view offset old new = LoadsQuietly old offset → WritesNothing view old.file.storage new.file.storage

@@ -28,6 +28,8 @@ ghost use Rattle.qcow2_image.specs.Refusals.{unusable, refuses_mapping, refuses_
 ghost use Rattle.qcow2_alloc.specs.declared.error.ImageError.TheVariants.{Compressed, NotCompressed, OutdatedMapping};
 ghost use Rattle.qcow2_alloc.specs.declared.error.ImageError.TheVariants.{ReadOnly};
 ghost use Rattle.qcow2_image.specs.Noted.{PutsOnce};
+ghost use Rattle.qcow2_image.specs.Unwritten.{LooksQuietly};
+ghost use Rattle.qcow2_alloc.specs.Quiet.{WritesNothing};
 
 use crate::mappings::passes;
 use crate::{Mapping, MappingKind, Place, Prepared, Qcow2};
@@ -70,6 +72,7 @@ impl<S: Storage, F: WrappedFormat<S>> Qcow2<S, F> {
             (λ done old new. (new ≡ old) × Shows old.disk (mapping.now.offset + at) bytes.new) result }
         ensures held { refuses_mapping self.old mapping.now.image ≡ None → 0 < length bytes.old
             → FitsTables self.new (mapping.now.offset + at) (further_by at mapping.now.kind) (length bytes.old) result }
+        ensures quiet { LooksQuietly S.view (mapping.now.offset + at) self.old self.new }
     {
         self.check_usable()?;
         if mapping.image != self.number {
@@ -95,6 +98,7 @@ impl<S: Storage, F: WrappedFormat<S>> Qcow2<S, F> {
             (further_by at mapping.now.kind) bytes.new result }
         ensures held { 0 < length bytes.old
             → FitsTables self.new (mapping.now.offset + at) (further_by at mapping.now.kind) (length bytes.old) result }
+        ensures quiet { LooksQuietly S.view (mapping.now.offset + at) self.old self.new }
     {
         let offset = self.place_within(mapping.offset, at)?;
         let kind = mapping.kind.further(at);
@@ -127,6 +131,7 @@ impl<S: Storage, F: WrappedFormat<S>> Qcow2<S, F> {
         ensures fails { ImageFails S.view F.backing self.old self.new result MayFail }
         ensures sound { ChecksRange S.view F.backing self.old self.new offset length wanted.now result }
         ensures held { 0 < length → FitsTables self.new offset wanted.now length result }
+        ensures quiet { LooksQuietly S.view offset self.old self.new }
     {
         let (kind, found) = self.look_up(offset, length)?;
         if found >= length && wanted.is(&kind) {
@@ -154,6 +159,7 @@ impl<S: Storage, F: WrappedFormat<S>> Qcow2<S, F> {
             → IsMappedAs S.view self.old offset kind.now (length bytes.old)
             → IfOk result (λ done. Shows (disk_of S.view F.backing self.new) offset bytes.new) }
         ensures tables { KeepsHeld self.old self.new }
+        ensures quiet { WritesNothing S.view self.old.file.storage self.new.file.storage }
     {
         match kind {
             MappingKind::Raw {
@@ -210,6 +216,7 @@ impl<S: Storage, F: WrappedFormat<S>> Qcow2<S, F> {
         ensures some { 0 < length bytes.old → IsErr result }
         ensures slice { bytes.new ≡ bytes.old }
         ensures sees { AnswersCall S.view F.backing self.old self.new [] (λ done was is. is ≡ was) result }
+        ensures quiet { LooksQuietly S.view offset self.old self.new }
     {
         match self.try_readv_special(bytes, offset)? {
             None => Ok(()),
@@ -231,6 +238,7 @@ impl<S: Storage, F: WrappedFormat<S>> Qcow2<S, F> {
         ensures some { 0 < length bytes.old → IfOk result (λ at. at ≡ Some offset) }
         ensures slice { bytes.new ≡ bytes.old }
         ensures sees { AnswersCall S.view F.backing self.old self.new [] (λ at was is. is ≡ was) result }
+        ensures quiet { LooksQuietly S.view offset self.old self.new }
     {
         self.check_usable()?;
         if bytes.is_empty() {
@@ -247,6 +255,7 @@ impl<S: Storage, F: WrappedFormat<S>> Qcow2<S, F> {
         ensures fails { ImageFails S.view F.backing self.old self.new result MayFail }
         ensures sound { ChecksWhether S.view F.backing self.old self.new offset result }
         ensures answer { IfOk result (λ at. at ≡ Some offset) }
+        ensures quiet { LooksQuietly S.view offset self.old self.new }
     {
         let (kind, _length) = self.run_from(offset, 1)?;
         if kind.is_special() {
@@ -330,6 +339,7 @@ impl<S: Storage, F: WrappedFormat<S>> Qcow2<S, F> {
         ensures private { IsSome (table_of prepared.now) → (result ≡ Ok tt) × (self.new ≡ self.old) }
         ensures held { table_of prepared.now ≡ None → 0 < length
             → FitsTables self.new (prepared.now.guest + at) (Raw Image host true) length result }
+        ensures quiet { LooksQuietly S.view (prepared.now.guest + at) self.old self.new }
     {
         if prepared.table.is_some() {
             return Ok(());

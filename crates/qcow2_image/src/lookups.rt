@@ -23,6 +23,7 @@ ghost use Rattle.qcow2_image.specs.ImageInvariant.{HasL1Table, ImageInvariant};
 ghost use Rattle.qcow2_metadata.specs.Header.{cluster_size};
 ghost use Rattle.qcow2_image.specs.declared.mapping.MappingKind.TheVariants.{Eof};
 ghost use Rattle.qcow2_image.specs.Refusals.{IsUnlimited};
+ghost use Rattle.qcow2_image.specs.Unwritten.{LooksQuietly};
 
 use crate::{Mapping, MappingKind, Place, Qcow2};
 use image_access::{Storage, WrappedFormat};
@@ -71,6 +72,7 @@ impl<S: Storage, F: WrappedFormat<S>> Qcow2<S, F> {
         ensures found { IfOk result (IsLookedUp self.old offset max) }
         ensures sees { AnswersCall S.view F.backing self.old self.new [] (λ found old new. new ≡ old) result }
         ensures held { offset < size_of self.old → IfOk result (λ (mapping, n). IsHeldRun self.new offset max mapping.kind n) }
+        ensures quiet { LooksQuietly S.view offset self.old self.new }
     {
         self.check_usable()?;
         self.begin_call();
@@ -97,6 +99,7 @@ impl<S: Storage, F: WrappedFormat<S>> Qcow2<S, F> {
         ensures some { IfOk result (λ (kind, n). offset < size_of self.old → 0 < max → 0 < n) }
         ensures past { size_of self.old ≤ offset → result ≡ Ok (Eof, 0) }
         ensures held { offset < size_of self.old → IfOk result (λ (kind, n). IsHeldRun self.new offset max kind n) }
+        ensures quiet { LooksQuietly S.view offset self.old self.new }
     {
         let size = self.file.header.size();
         if offset >= size {
@@ -118,6 +121,7 @@ impl<S: Storage, F: WrappedFormat<S>> Qcow2<S, F> {
         ensures some { IfOk result (λ (kind, n). 0 < max → 0 < n) }
         ensures held { (limit : ℕ) → max ≡ min limit (size_of self.old - offset) → offset < size_of self.old
             → IfOk result (λ (kind, n). IsHeldRun self.new offset limit kind n) }
+        ensures quiet { LooksQuietly S.view offset self.old self.new }
     {
         let max = max.min(self.rest_of_table(offset));
         match self.l2_cluster(offset)? {

@@ -1,8 +1,8 @@
 -- The single write of a put, and what the put leaves before it.
 use Rattle.std.proofs.Common.{◌≡◌, ◌+◌, ℕ, Bool, List, [], Option, IsSome, Result, Ok, Err, inl, refl, sym, ap, ◌∙◌, subst}
-use Rattle.qcow2_image.proofs.Common.{BackingView, overwritten, StorageView, passes_none, ImageError, view_in, changes_of, Qcow2, Prepared, IsWriteOutcome, InternalCall, IsBegun, storage_of_image, ImageInvariant, abstract_of, pending_in, PutsOnce, offset_of, table_of, InternalFillingStep, InternalStep, Pending}
+use Rattle.qcow2_image.proofs.Common.{BackingView, overwritten, StorageView, passes_none, ImageError, view_in, changes_of, Qcow2, Prepared, IsWriteOutcome, InternalCall, IsBegun, storage_of_image, ImageInvariant, abstract_of, pending_in, PutsOnce, offset_of, table_of, InternalFillingStep, InternalStep, Pending, LooksQuietly}
 use Rattle.qcow2_alloc.specs.declared.error.ImageError.TheVariants as I
-use Rattle.qcow2_image.proofs.Lemmas.{Quietly, listed, image_step_stays, stays_kept, stays_then, image_step_none, listed_after_same}
+use Rattle.qcow2_image.proofs.Lemmas.{Quietly, listed, image_step_stays, stays_kept, stays_then, image_step_none, listed_after_same, looks_none, looks_begun}
 
 -- a call that changes nothing
 pub unseen_none : {S F : Type 0} (view : S → StorageView) (backing : F → BackingView) (image : Qcow2 S F) (out : List (Option Prepared)) → ImageInvariant view backing (pending_in view backing image out) image out → InternalCall view backing image image out
@@ -47,8 +47,9 @@ module _ {S F : Type 0} (view : S → StorageView) (backing : F → BackingView)
   IsInternal old now = (out : List (Option Prepared)) → (abstract_of view backing old out).is_sound → InternalCall view backing old now out
 
   -- a put that is refused before its bytes are written, and one of no bytes
-  pub put_unwritten : (old now : Qcow2 S F) (e : ImageError) → ((view_in view old.file).is_honest → (view_in view now.file).is_honest) → (IsSome (table_of p) → now ≡ old) → IsInternal old now → PutsOnce view backing p at bytes old now (Err e)
-  put_unwritten old now e honest idle unseen = record {
+  pub put_unwritten : (old now : Qcow2 S F) (e : ImageError) → ((view_in view old.file).is_honest → (view_in view now.file).is_honest) → (IsSome (table_of p) → now ≡ old) → LooksQuietly view (p.guest + at) old now → IsInternal old now → PutsOnce view backing p at bytes old now (Err e)
+  put_unwritten old now e honest idle quiet unseen = record {
+    quiet = quiet;
     before = now;
     honest = honest;
     unseen = unseen;
@@ -58,12 +59,13 @@ module _ {S F : Type 0} (view : S → StorageView) (backing : F → BackingView)
   }
 
   pub put_refused : (old : Qcow2 S F) (e : ImageError) → PutsOnce view backing p at bytes old old (Err e)
-  put_refused old e = put_unwritten old old e (λ h. h) (λ _. refl) (λ out sound. unseen_none view backing old out sound)
+  put_refused old e = put_unwritten old old e (λ h. h) (λ _. refl) (looks_none view (p.guest + at) old) (λ out sound. unseen_none view backing old out sound)
 
   pub put_nothing : (old : Qcow2 S F) → bytes ≡ [] → PutsOnce view backing p at bytes old old (Ok tt)
   unfolding overwritten
   put_nothing old empty = record {
     before = old;
+    quiet = looks_none view (p.guest + at) old;
     honest = λ h. h;
     unseen = λ out sound. unseen_none view backing old out sound;
     idle = λ _. (refl, refl);
@@ -76,6 +78,7 @@ module _ {S F : Type 0} (view : S → StorageView) (backing : F → BackingView)
   put_in_call old begun is new r begins quiet puts failed marked =
       subst (λ (i : Qcow2 S F). PutsOnce view backing p at bytes old i r) (sym marked) (record {
         before = puts.before;
+        quiet = looks_begun view (p.guest + at) old begun puts.before begins puts.quiet;
         honest = λ h. puts.honest (subst (λ (s : S). (view s).is_honest) (sym begins.storage) h);
         unseen = λ out sound. let first = quiet out sound in stays_then view backing out old begun puts.before first (puts.unseen out first.sound);
         idle = λ some. ((puts.idle some).0 ∙ begins.storage, (puts.idle some).1 ∙ begins.counts);

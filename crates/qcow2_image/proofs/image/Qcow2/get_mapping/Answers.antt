@@ -1,7 +1,7 @@
 use Rattle.std.proofs.Common.{◌≡◌, ◌<◌, [], sym, ap, ◌∙◌, subst, IfOk, is_some, rules, Err, IfErr, None, Some}
 use Rattle.qcow2_image.proofs.Common.{AnsweredEffect, RefusedEffect, IsSame, guest_of, Qcow2, IsFoundIn, known_header, known_in, state_in, IsFoundInImage, found_kind, is_failed, size_of, abstract_of, pending_in, refusal_of, FailsOnceWritten, handed_on, err_as, Memory, IsCacheHeld, MayFailLooking, unusable, IsHeldRun}
 use Rattle.qcow2_disk.specs.Found.{IsFound as IsFoundOf}
-use Rattle.qcow2_image.proofs.Lemmas.{MayMarkBy, may_mark, quietly_then, quiet_does, quiet_refuses, answered_once, fails_none, fails_once, behind_call, held_since, hands_met, sound_is_usable, refused_for, reads_call}
+use Rattle.qcow2_image.proofs.Lemmas.{MayMarkBy, may_mark, quietly_then, quiet_does, quiet_refuses, answered_once, fails_none, fails_once, behind_call, held_since, hands_met, sound_is_usable, refused_for, reads_call, looks_none, looks_call}
 use Rattle.qcow2_image.proofs.Call.Answers.{answers_err, usable_works}
 use Rattle.qcow2_image.proofs.image.Qcow2.get_mapping.Goals as goal
 
@@ -116,3 +116,12 @@ returns-clause-refusals g c = record { early = search rules; past = search rules
 
 pub returns-clause-found : goal.returns-clause-found
 returns-clause-found g c = record { own = search rules; within = search rules; some = search rules }
+
+pub returns-clause-quiet : goal.returns-clause-quiet
+returns-clause-quiet g c = looks_call g.S.Storage.view c.args.offset c.args.self.now c.begin_call.new.self c.look_up-found.new.self c.mark_failure.new.self _ c.begin_call.ensures.begun c.look_up-found.ensures.quiet c.mark_failure.ensures.rest
+
+pub returns-in_err-kind-clause-quiet : goal.returns-in_err-kind-clause-quiet
+returns-in_err-kind-clause-quiet g c = looks_call g.S.Storage.view c.args.offset c.args.self.now c.begin_call.new.self c.look_up-found.new.self c.mark_failure.new.self _ c.begin_call.ensures.begun c.look_up-found.ensures.quiet c.mark_failure.ensures.rest
+
+pub returns-in_err-check_usable-clause-quiet : goal.returns-in_err-check_usable-clause-quiet
+returns-in_err-check_usable-clause-quiet g c = looks_none g.S.Storage.view c.args.offset c.args.self.now

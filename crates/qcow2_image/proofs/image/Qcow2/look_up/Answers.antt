@@ -1,6 +1,7 @@
 use Rattle.std.proofs.Common.{◌≡◌, ◌-◌, ap, arith, min, refl, rules, subst}
 use Rattle.qcow2_image.proofs.Common.{IfOk-weaker, rest_of_table, IsRunFrom}
 use Rattle.qcow2_image.proofs.image.Qcow2.look_up.Goals as goal
+use Rattle.qcow2_image.proofs.Lemmas.{looks_none}
 
 pub returns-clause-sound : goal.returns-clause-sound
 returns-clause-sound g c = λ p out sound.
@@ -34,3 +35,6 @@ returns-clause-held g c = λ lt. c.run_from.ensures.held c.args.max (let a = c.m
 
 pub returns-then-offset-size-clause-sound : goal.returns-then-offset-size-clause-sound
 returns-then-offset-size-clause-sound g c = λ p out sound. record { keeps = search rules; known = refl; may_fail = tt; found = search rules }
+
+pub returns-then-offset-size-clause-quiet : goal.returns-then-offset-size-clause-quiet
+returns-then-offset-size-clause-quiet g c = looks_none g.S.Storage.view c.args.offset c.args.self.now

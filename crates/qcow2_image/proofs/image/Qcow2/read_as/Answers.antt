@@ -1,8 +1,9 @@
 use Rattle.std.proofs.Common.{◌≡◌, ◌+◌, ◌/◌, ◌<◌, ℕ, List, length, replicate, refl, sym, ap, ◌∙◌, subst, rules, is_some, inl}
-use Rattle.qcow2_image.proofs.Common.{length-replicate, get_or-replicate, bytes_at, byte_at-bytes_at, length-bytes_at, byte_at, known_byte, cluster_size, cover, disk, known_of, known_in, state_in, view_in, found_kind, is_data_file, backing_bytes, disk_of, notes_of_storage, read_kept, MayFailReading, IsFault, of_storage, IfOk-weaker, fault_of_storage}
+use Rattle.qcow2_image.proofs.Common.{length-replicate, get_or-replicate, bytes_at, byte_at-bytes_at, length-bytes_at, byte_at, known_byte, cluster_size, cover, disk, known_of, known_in, state_in, view_in, found_kind, is_data_file, backing_bytes, disk_of, notes_of_storage, read_kept, MayFailReading, IsFault, of_storage, IfOk-weaker, fault_of_storage, storage_of, ImageFile, IsQuiet}
 use Rattle.qcow2_image.proofs.Lemmas.{read_moved, behind_read, reads_bytes, reads_same, hands_met, met_as}
 use Rattle.qcow2_image.proofs.Map.Reading.{raw_shown, zero_shown, indirect_shown, none_below}
 use Rattle.qcow2_image.proofs.image.Qcow2.read_as.Goals as goal
+use Rattle.qcow2_alloc.proofs.KeptTables.Quiet.{quiet_none, quiet_read}
 
 pub returns-in_err-read-in-Raw-clause-keeps : goal.returns-in_err-read-in-Raw-clause-keeps
 returns-in_err-read-in-Raw-clause-keeps g c = λ p out sound. read_moved g.S.Storage.view g.F.BackingDisk.backing c.args.self.now out p sound c.read.new.self c.read.ensures.calls c.read.ensures.same
@@ -76,3 +77,23 @@ returns-in_ok-read-in-Raw-clause-step g c = record {
 
 pub returns-in-Indirect-clause-step : goal.returns-in-Indirect-clause-step
 returns-in-Indirect-clause-step g c = record { part = search rules; header = search rules; list = search rules; quiet = reads_same g.S.Storage.view c.args.self.now c.read_backing.new.self c.read_backing.ensures.file }
+
+pub returns-in_err-read-in-Raw-clause-quiet : goal.returns-in_err-read-in-Raw-clause-quiet
+returns-in_err-read-in-Raw-clause-quiet g c = quiet_read (g.S.Storage.view (storage_of c.args.self.now.file.storage)) (g.S.Storage.view (storage_of c.read.new.self)) c.read.result c.read.ensures.calls c.read.ensures.same
+
+pub returns-in_ok-read-in-Raw-clause-quiet : goal.returns-in_ok-read-in-Raw-clause-quiet
+returns-in_ok-read-in-Raw-clause-quiet g c = quiet_read (g.S.Storage.view (storage_of c.args.self.now.file.storage)) (g.S.Storage.view (storage_of c.read.new.self)) c.read.result c.read.ensures.calls c.read.ensures.same
+
+pub returns-in-Indirect-clause-quiet : goal.returns-in-Indirect-clause-quiet
+returns-in-Indirect-clause-quiet g c = λ honest.
+    let old = g.S.Storage.view (storage_of c.args.self.now.file.storage) in
+    subst (λ (f : ImageFile _). IsQuiet old (g.S.Storage.view (storage_of f.storage))) (sym c.read_backing.ensures.file) (quiet_none old honest)
+
+pub returns-in-Zero-clause-quiet : goal.returns-in-Zero-clause-quiet
+returns-in-Zero-clause-quiet g c = quiet_none (g.S.Storage.view (storage_of c.args.self.now.file.storage))
+
+pub returns-in-Special-clause-quiet : goal.returns-in-Special-clause-quiet
+returns-in-Special-clause-quiet g c = quiet_none (g.S.Storage.view (storage_of c.args.self.now.file.storage))
+
+pub returns-in-Eof-clause-quiet : goal.returns-in-Eof-clause-quiet
+returns-in-Eof-clause-quiet g c = quiet_none (g.S.Storage.view (storage_of c.args.self.now.file.storage))

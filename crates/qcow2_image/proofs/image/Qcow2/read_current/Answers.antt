@@ -1,6 +1,6 @@
 use Rattle.std.proofs.Common.{◌≡◌, ◌+◌, ◌∙◌, inl, inr, length, Err, subst, sym, arith, IfOk, rules, IfErr, Result, is_some}
-use Rattle.qcow2_image.proofs.Common.{Shows, OutdatedMapping, handed_on, always_ok, IsFoundWhole, further_by, disk_of, IsCacheHeld, MayFailMapped, MayFailReading, written_then, FitsTables, IsHeldAs}
-use Rattle.qcow2_image.proofs.Lemmas.{keeps_then, none_past, hands_met, mapped_met, met_as, heeds_then, held_as, none_eof, step_then}
+use Rattle.qcow2_image.proofs.Common.{Shows, OutdatedMapping, handed_on, always_ok, IsFoundWhole, further_by, disk_of, IsCacheHeld, MayFailMapped, MayFailReading, written_then, FitsTables, IsHeldAs, LooksQuietly}
+use Rattle.qcow2_image.proofs.Lemmas.{keeps_then, none_past, hands_met, mapped_met, met_as, heeds_then, held_as, none_eof, step_then, looks_none, looks_then}
 use Rattle.qcow2_image.proofs.image.Qcow2.read_current.Goals as goal
 
 pub returns-clause-sound : goal.returns-clause-sound
@@ -85,3 +85,16 @@ returns-clause-step g c = record {
   part = step_then c.check_mapped.ensures.step.part c.read_as.ensures.step.part;
   quiet = written_then g.S.Storage.view c.in_ok-check_mapped.ensures.step.quiet c.read_as.ensures.step.quiet;
 }
+
+pub returns-in_err-offset-clause-quiet : goal.returns-in_err-offset-clause-quiet
+returns-in_err-offset-clause-quiet g c = looks_none g.S.Storage.view (c.args.mapping.now.offset + c.args.at) c.args.self.now
+
+pub returns-in_err-check_mapped-clause-quiet : goal.returns-in_err-check_mapped-clause-quiet
+returns-in_err-check_mapped-clause-quiet g c = subst (λ o. LooksQuietly g.S.Storage.view o c.args.self.now c.check_mapped.new.self) c.in_ok-offset.ensures.place c.check_mapped.ensures.quiet
+
+pub returns-clause-quiet : goal.returns-clause-quiet
+returns-clause-quiet g c =
+    let view = g.S.Storage.view in
+    let old = c.args.self.now in
+    let mid = c.check_mapped.new.self in
+    looks_then view (c.args.mapping.now.offset + c.args.at) old mid c.read_as.new.self (subst (λ o. LooksQuietly view o old mid) c.in_ok-offset.ensures.place c.check_mapped.ensures.quiet) c.read_as.ensures.quiet

@@ -1,7 +1,7 @@
 use Rattle.qcow2_image.proofs.Call.MarkedCalls.{reading_marked}
 use Rattle.std.proofs.Common.{◌≡◌, ◌+◌, ◌<◌, [], sym, ◌∙◌, subst, rules, arith, length, Result, IfErr}
 use Rattle.qcow2_image.proofs.Common.{OnOk, Shows, IsSame, guest_of, AnswersCall, Qcow2, IsFoundWhole, further_by, is_failed, pending_in, IsCacheHeld, MayFailMapped, FitsTables, IfOk-weaker, on_ok_weaker}
-use Rattle.qcow2_image.proofs.Lemmas.{may_mark, told_answers, tells_quietly, quietly_then, found_after, found_before, fails_none, held_since, mapped_met_at, met_as, heeds_on, keeps_marked}
+use Rattle.qcow2_image.proofs.Lemmas.{may_mark, told_answers, tells_quietly, quietly_then, found_after, found_before, fails_none, held_since, mapped_met_at, met_as, heeds_on, keeps_marked, looks_none, looks_call}
 use Rattle.qcow2_image.proofs.Call.Answers.{usable_works}
 use Rattle.qcow2_image.proofs.image.Qcow2.read_mapped.Goals as goal
 
@@ -87,3 +87,16 @@ returns-then-is_empty-clause-refusals g c = record { early = search rules; nothi
 
 pub returns-clause-refusals : goal.returns-clause-refusals
 returns-clause-refusals g c = record { early = search rules; nothing = search rules; late = search rules }
+
+pub returns-in_err-check_usable-clause-quiet : goal.returns-in_err-check_usable-clause-quiet
+returns-in_err-check_usable-clause-quiet g c = looks_none g.S.Storage.view (c.args.mapping.now.offset + c.args.at) c.args.self.now
+
+pub returns-then-mapping-self-clause-quiet : goal.returns-then-mapping-self-clause-quiet
+returns-then-mapping-self-clause-quiet g c = looks_none g.S.Storage.view (c.args.mapping.now.offset + c.args.at) c.args.self.now
+
+pub returns-then-is_empty-clause-quiet : goal.returns-then-is_empty-clause-quiet
+returns-then-is_empty-clause-quiet g c = looks_none g.S.Storage.view (c.args.mapping.now.offset + c.args.at) c.args.self.now
+
+pub returns-clause-quiet : goal.returns-clause-quiet
+returns-clause-quiet g c =
+    looks_call g.S.Storage.view (c.args.mapping.now.offset + c.args.at) c.args.self.now c.begin_call.new.self c.read_current-done.new.self c.mark_failure.new.self _ c.begin_call.ensures.begun c.read_current-done.ensures.quiet c.mark_failure.ensures.rest

@@ -1,6 +1,6 @@
-use Rattle.std.proofs.Common.{◌≡◌, ◌-◌, ◌/◌, ◌<◌, sym, ap, ◌∙◌, subst, arith, min, is_some, Some, None, false, true, rules}
-use Rattle.qcow2_image.proofs.Common.{IfOk-weaker, cluster_size, host_offset, IsLongestRun, table_at, Sizes-from, cover_none, IsTop-top, contents_in, known_in, kind_at, rest_of_table, l1_index_of, l2_index_of, NamesL2Table, IsRunFrom, IfSome, MatchOption, IsEntryAt, IsCacheHeld, MayFailLooking, own_table}
-use Rattle.qcow2_image.proofs.Lemmas.{caches_moved, with_caches, none_found, behind_caches, answers_met, cache_looking, named_entry, hands_met, named_place, reads_none, uncovered_held}
+use Rattle.std.proofs.Common.{◌≡◌, ◌-◌, ◌/◌, ◌<◌, sym, ap, ◌∙◌, subst, arith, min, is_some, Some, None, false, true, rules, ⊎_elim, ℕ}
+use Rattle.qcow2_image.proofs.Common.{IfOk-weaker, cluster_size, host_offset, IsLongestRun, table_at, Sizes-from, cover_none, IsTop-top, contents_in, known_in, kind_at, rest_of_table, l1_index_of, l2_index_of, NamesL2Table, IsRunFrom, IfSome, MatchOption, IsEntryAt, IsCacheHeld, MayFailLooking, own_table, GetsTableQuietly}
+use Rattle.qcow2_image.proofs.Lemmas.{caches_moved, with_caches, none_found, behind_caches, answers_met, cache_looking, named_entry, hands_met, named_place, reads_none, uncovered_held, looks_none}
 use Rattle.qcow2_image.specs.HeldMappings.{named_place as place_named}
 use Rattle.qcow2_image.proofs.image.Qcow2.run_from.Goals as goal
 
@@ -108,3 +108,23 @@ returns-in-None-clause-step g c = record { part = search rules; header = search 
 
 pub returns-in_err-l2_cluster-clause-step : goal.returns-in_err-l2_cluster-clause-step
 returns-in_err-l2_cluster-clause-step g c = record { part = search rules; header = search rules; list = search rules; quiet = reads_none g.S.Storage.view c.args.self.now }
+
+pub returns-in_err-l2_get_or_insert-in-Some-clause-quiet : goal.returns-in_err-l2_get_or_insert-in-Some-clause-quiet
+returns-in_err-l2_get_or_insert-in-Some-clause-quiet g c = λ loads honest.
+    let image = c.args.self.now in
+    let none : ℕ = place_named image.file.header.fields image.l1_table c.args.offset in
+    let own = subst (λ t. MatchOption t (none ≡ 0) (λ cluster. (cluster ≡ own_table image c.args.offset) × ¬ (none ≡ 0))) c.in-Some.is c.in_ok-l2_cluster.ensures.own in
+    c.l2_get_or_insert.ensures.gets.quiet (⊎_elim (λ is. absurd (own.1 is)) (λ gets. subst (GetsTableQuietly image.file.caches) (sym own.0) gets) loads) honest
+
+pub returns-in_ok-l2_get_or_insert-in-Some-clause-quiet : goal.returns-in_ok-l2_get_or_insert-in-Some-clause-quiet
+returns-in_ok-l2_get_or_insert-in-Some-clause-quiet g c = λ loads honest.
+    let image = c.args.self.now in
+    let none : ℕ = place_named image.file.header.fields image.l1_table c.args.offset in
+    let own = subst (λ t. MatchOption t (none ≡ 0) (λ cluster. (cluster ≡ own_table image c.args.offset) × ¬ (none ≡ 0))) c.in-Some.is c.in_ok-l2_cluster.ensures.own in
+    c.l2_get_or_insert.ensures.gets.quiet (⊎_elim (λ is. absurd (own.1 is)) (λ gets. subst (GetsTableQuietly image.file.caches) (sym own.0) gets) loads) honest
+
+pub returns-in-None-clause-quiet : goal.returns-in-None-clause-quiet
+returns-in-None-clause-quiet g c = looks_none g.S.Storage.view c.args.offset c.args.self.now
+
+pub returns-in_err-l2_cluster-clause-quiet : goal.returns-in_err-l2_cluster-clause-quiet
+returns-in_err-l2_cluster-clause-quiet g c = looks_none g.S.Storage.view c.args.offset c.args.self.now

@@ -3,7 +3,7 @@ use Rattle.std.proofs.Common.{◌≡◌, ◌⊎◌, [], sym, ◌∙◌, subst, r
 use Rattle.qcow2_image.proofs.Common.{IsSame, AnswersCall, Qcow2, known_in, is_failed, pending_in, IsCacheHeld, MayFailLooking, unusable, IfOk-weaker}
 use Rattle.qcow2_image.specs.SpecialReads.{ReportsWhether}
 use Rattle.qcow2_image.proofs.Call.Answers.{usable_works}
-use Rattle.qcow2_image.proofs.Lemmas.{told_answers, tells_quietly, quietly_then, may_mark, fails_none, held_since, sound_is_usable, refused_for}
+use Rattle.qcow2_image.proofs.Lemmas.{told_answers, tells_quietly, quietly_then, may_mark, fails_none, held_since, sound_is_usable, refused_for, looks_none, looks_call}
 use Rattle.qcow2_alloc.specs.declared.error.ImageError.TheVariants.{Compressed}
 use Rattle.qcow2_image.proofs.image.Qcow2.try_readv_special.Goals as goal
 
@@ -58,3 +58,12 @@ returns-then-is_empty-clause-refusals g c = record { early = search rules; nothi
 
 pub returns-clause-refusals : goal.returns-clause-refusals
 returns-clause-refusals g c = record { early = search rules; nothing = search rules; late = search rules }
+
+pub returns-in_err-check_usable-clause-quiet : goal.returns-in_err-check_usable-clause-quiet
+returns-in_err-check_usable-clause-quiet g c = looks_none g.S.Storage.view c.args.offset c.args.self.now
+
+pub returns-then-is_empty-clause-quiet : goal.returns-then-is_empty-clause-quiet
+returns-then-is_empty-clause-quiet g c = looks_none g.S.Storage.view c.args.offset c.args.self.now
+
+pub returns-clause-quiet : goal.returns-clause-quiet
+returns-clause-quiet g c = looks_call g.S.Storage.view c.args.offset c.args.self.now c.begin_call.new.self c.check_not_compressed-plain.new.self c.mark_failure.new.self _ c.begin_call.ensures.begun c.check_not_compressed-plain.ensures.quiet c.mark_failure.ensures.rest

@@ -106,7 +106,7 @@ returns-in_err-check_in_place-clause-once g c =
     let new = c.check_in_place.new.self in
     let e = c.in_err-check_in_place.field-0.0 in
     handed_on (PutsOnce g.S.Storage.view g.F.BackingDisk.backing p c.args.at c.args.bytes.now c.args.self.now new) c.from_residual.result e c.from_residual.ensures
-    (put_unwritten g.S.Storage.view g.F.BackingDisk.backing p c.args.at c.args.bytes.now c.args.self.now new e c.check_in_place.ensures.step.notes.storage.honest (λ some. (c.check_in_place.ensures.private some).1)
+    (put_unwritten g.S.Storage.view g.F.BackingDisk.backing p c.args.at c.args.bytes.now c.args.self.now new e c.check_in_place.ensures.step.notes.storage.honest (λ some. (c.check_in_place.ensures.private some).1) c.check_in_place.ensures.quiet
     (λ out sound. checked_unseen g.S.Storage.view g.F.BackingDisk.backing c.args.self.now new out (λ p out sound. (c.check_in_place.ensures.sound p out sound).keeps) c.check_in_place.ensures.step.list sound))
 
 pub returns-clause-once : goal.returns-clause-once
@@ -117,6 +117,7 @@ returns-clause-once g c =
     let w = c.write_data.ensures.written in
     record {
       before = mid;
+      quiet = c.check_in_place.ensures.quiet;
       honest = c.check_in_place.ensures.step.notes.storage.honest;
       unseen = λ out sound. checked_unseen view g.F.BackingDisk.backing c.args.self.now mid out (λ p out sound. (c.check_in_place.ensures.sound p out sound).keeps) c.check_in_place.ensures.step.list sound;
       idle = λ some. let same = (c.check_in_place.ensures.private some).1 in (ap (λ (i : Qcow2 _ _). storage_of_image i) same, ap (λ (i : Qcow2 _ _). changes_of i.file.storage) same);
