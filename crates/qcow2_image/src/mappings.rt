@@ -182,8 +182,9 @@ impl<S: Storage, F: WrappedFormat<S>> Qcow2<S, F> {
         self.mark_failure(prepared)
     }
 
-    // Refuses a range that can't be prepared.
-    fn check_prepare(&self, offset: u64, length: u64) -> Result<(), ImageError>
+    /// Refuses a range that can't be prepared, in this order: 16 (failed), 12 (dependency), 2 (beyond size), 1 (read-only). Refusals 2 and 1 are for
+    /// a range of at least one byte. Nothing is read.
+    pub fn check_prepare(&self, offset: u64, length: u64) -> Result<(), ImageError>
         ensures refusal { MatchOption (refuses_to_prepare self.now offset length) (result ≡ Ok tt) (λ e. result ≡ Err e) }
         ensures writable { result ≡ Ok tt → 0 < length → IsTrue (is_writable self.now) }
         ensures end { IfOk result (λ done. offset + length < 2 ^ 64) }
