@@ -2,8 +2,8 @@
 use Rattle.qcow2_alloc.specs.declared.error.ImageError.TheVariants as I
 use Rattle.qcow2_session.specs.declared.session.Command.TheVariants as C
 use Rattle.qcow2_session.specs.declared.session.Reply.TheVariants as R
-use Rattle.std.proofs.Common.{◌≡◌, ◌⊎◌, ◌+◌, ◌<◌, ◌≤◌, ◌∷◌, ◌&&◌, ◌==◌, inl, inr, ℕ, Bool, true, false, not, IsTrue, List, Option, Some, None, Bor, refl, sym, ap, ◌∙◌, subst, arith, [], length, IfErr, Result, Ok, Err, is_some}
-use Rattle.qcow2_session.proofs.Common.{Global, Vec, nat_lt, IfSome, IfOk, IsSome, MatchOption, slice_get, option_or, cases_lt, eq-eqb, lt-ltb, ltb-true, common_steps, BackingView, StorageView, Clearing, known_in, ImageError, IsUnderMapping, from_in, refuses_clearing, to_in, is_external, is_failed, number_of, abstract_of, taking_as, HasPinnedMapping, CopiesCompressed, MayFailAlone, MayFailReadingRange, MayFailAllocating, Qcow2, Mapping, CommitRefused, Kept, Prepared, IsUnderMappingIn, IsHandedBackBy, MayFail, MayFailPreparing, passes, refuse_if, refuses_mapping, refuses_to_prepare, refuses_to_read, unusable, HasNothingToDo, MayFailOnSound, RefusalJustified, IsUntouchedUnder, MayFailWith, ReportsMisuse, first_cause, ClearingMayFail, CommandMayFailAllocating, reply_of_clearing, refusal_in, RespectsMappings, IsOfReading, NeedsOverflowingToWrite, given_of, IsLimited, Command, Reply, and_parts}
+use Rattle.std.proofs.Common.{◌≡◌, ◌⊎◌, ◌+◌, ◌<◌, ◌≤◌, ◌&&◌, ◌==◌, inl, inr, ℕ, Bool, true, false, not, IsTrue, List, Option, Some, None, Bor, refl, sym, ap, ◌∙◌, subst, arith, IfErr, Result, Ok, Err, is_some}
+use Rattle.qcow2_session.proofs.Common.{Global, Vec, nat_lt, IfSome, IfOk, IsSome, MatchOption, slice_get, option_or, cases_lt, eq-eqb, lt-ltb, ltb-true, common_steps, BackingView, StorageView, Clearing, known_in, ImageError, IsUnderMapping, from_in, refuses_clearing, to_in, is_external, is_failed, number_of, abstract_of, MayFailAlone, MayFailReadingRange, MayFailAllocating, Qcow2, Mapping, CommitRefused, Kept, Prepared, IsHandedBackBy, MayFail, MayFailPreparing, passes, refuse_if, refuses_mapping, refuses_to_read, unusable, HasNothingToDo, MayFailOnSound, RefusalJustified, IsUntouchedUnder, MayFailWith, ReportsMisuse, first_cause, ClearingMayFail, CommandMayFailAllocating, reply_of_clearing, refusal_in, IsOfReading, Command, Reply, and_parts}
 use Rattle.qcow2_alloc.proofs.CachedEntries.Lists.{option_or-none}
 
 -- ---- what was refused at once
@@ -109,7 +109,7 @@ far_alone e (inr (inl compressed)) is = absurd (let why = compressed.0 in cc)
 far_alone e (inr (inr far)) is = far.1
 
 -- the same of refusals that come while clusters are allocated
-far_taking : {H K C D : Type 0} (e : ImageError) → MayFailAllocating H K C D e → e ≡ I.Overflow → D
+pub far_taking : {H K C D : Type 0} (e : ImageError) → MayFailAllocating H K C D e → e ≡ I.Overflow → D
 far_taking e (inl alone) is = far_alone e alone is
 far_taking e (inr (inl used)) is = absurd (let why = used.0 in cc)
 far_taking e (inr (inr kept)) is = absurd (let why = kept.0 in cc)
@@ -124,21 +124,6 @@ module _ {S F : Type 0} (view : S → StorageView) (backing : F → BackingView)
   read_refused offset n e early late may_fail =
       is_refused view backing old new before (C.Read offset n) e (R.Refused e) (λ is. absurd cc) (λ is. absurd cc, λ is. absurd is) refl (begun_with (Vec ℕ Global) (new ≡ old) e (refuses_to_read old offset n) early)
       (λ none. (late none).0) (λ _ _. tt) (λ none empty. let some = (late none).1 in omega (arith, some, empty)) (λ none sound. may_fail none before sound)
-
-  pub write_answered : (Same : Type 0) (offset : ℕ) (bytes : Vec ℕ Global) → IfSome (refuses_to_prepare old offset (length bytes.items)) (λ x. (◌≡◌ {A = Result (Unit {0}) (ImageError × ℕ)} (Ok tt) (Err (x, 0))) × Same)
-      → (refuses_to_prepare old offset (length bytes.items) ≡ None → (abstract_of view backing old before).is_sound → RespectsMappings view backing old before offset bytes.items (Ok tt)) → RefusalJustified view backing old new before found (C.Write offset bytes) R.Done
-  write_answered Same offset bytes early part = is_done view backing old new before (C.Write offset bytes) R.Done (λ is. absurd cc) (λ is. absurd cc, λ is. absurd is) refl
-      (if_some_to (refuses_to_prepare old offset (length bytes.items)) (λ e no. let is = no.0 in cc) early) (λ none sound. (λ is. absurd cc, part none sound))
-
-  pub write_refused_for : (offset : ℕ) (bytes : Vec ℕ Global) (e : ImageError) (n : ℕ) → IfSome (refuses_to_prepare old offset (length bytes.items)) (λ x. (◌≡◌ {A = Result (Unit {0}) (ImageError × ℕ)} (Err (e, n)) (Err (x, 0))) × (new ≡ old))
-      → (refuses_to_prepare old offset (length bytes.items) ≡ None → MayFailPreparing e × (0 < length bytes.items))
-      → (refuses_to_prepare old offset (length bytes.items) ≡ None → (abstract_of view backing old before).is_sound → MayFailAllocating (HasPinnedMapping before) (IsUnderMappingIn old.file.header.fields offset (offset + length bytes.items) before) (CopiesCompressed offset (length bytes.items) true new.file.header.fields (known_in view new.file)) (NeedsOverflowingToWrite view backing old offset bytes.items n) e)
-      → (refuses_to_prepare old offset (length bytes.items) ≡ None → (abstract_of view backing old before).is_sound → e ≡ I.TablePrepared → IsUnderMappingIn old.file.header.fields offset (offset + length bytes.items) before)
-      → (refuses_to_prepare old offset (length bytes.items) ≡ None → (abstract_of view backing old before).is_sound → e ≡ I.Limit → IsLimited view backing (given_of offset bytes.items ∷ []) (offset + length bytes.items) old before)
-      → (refuses_to_prepare old offset (length bytes.items) ≡ None → (abstract_of view backing old before).is_sound → RespectsMappings view backing old before offset bytes.items (Err (e, n)))
-      → RefusalJustified view backing old new before found (C.Write offset bytes) (R.WriteRefused e n)
-  write_refused_for offset bytes e n early late may_fail taken limit part = is_refused view backing old new before (C.Write offset bytes) e (R.WriteRefused e n) (λ is. absurd cc) (λ is. absurd cc, λ is. absurd is) refl
-      (if_some_to (refuses_to_prepare old offset (length bytes.items)) (λ x h. (let is = h.0 in let pair : (e, n) ≡ (x, 0) = same_error is in ap (λ (p : ImageError × ℕ). p.0) pair, h.1)) early) (λ none. (late none).0) (λ none sound. taking_as (λ held. held) (λ kept. kept) (λ is. is) (λ far. tt) e (may_fail none sound)) (λ none empty. let some = (late none).1 in omega (arith, some, empty)) (λ none sound. (λ is. taken none sound (some_error is), (limit none sound, part none sound, far_taking e (may_fail none sound))))
 
   pub size_answered : (n : ℕ) → RefusalJustified view backing old new before found C.Size (R.Size n)
   size_answered n = is_done view backing old new before C.Size (R.Size n) (λ is. absurd cc) (λ is. absurd cc, λ is. absurd is) refl tt (λ _ _. tt)

@@ -89,7 +89,7 @@ pub use Rattle.qcow2_session.specs.Conversions.{RefusedConversion, IsRawOf, Impo
 pub use Rattle.qcow2_session.specs.CountedFaults.{refusal_in, CommandCounts, RunCounts, ConversionCounts, ReportsConversion}
 pub use Rattle.qcow2_session.specs.Marks.{FailsBy, MarksInParts, MarksAtOnce, MarksConversion, reason_in, MarksBy}
 pub use Rattle.qcow2_session.specs.Opening.{bytes_below, missing_beside, EachMomentOpensAgain, HadNoRoom, Headline, MayRefuseToOpen, OpensAgain}
-pub use Rattle.qcow2_session.specs.Sessions.{IsRightlyBeyond, IsOfReading, ReadsInto, Writes, EndsCluster, cluster_size_of, LeavesCopied, mapping_at, mappings_in, range_of, RespectsFirst, IsRespectedAt, IsUntouched, ReleasesMappings, Reads, RespectsMappings, NeedsOverflowingToWrite, HasWritten, StandsByPart, LooksUp, looked_up_after, found_in, StopsFor, ReadsFirst, WritesFirst}
+pub use Rattle.qcow2_session.specs.Sessions.{IsRightlyBeyond, IsOfReading, ReadsInto, Writes, EndsCluster, cluster_size_of, LeavesCopied, mapping_at, mappings_in, range_of, RespectsFirst, IsRespectedAt, IsUntouched, ReleasesMappings, Reads, HasWritten, StandsByPart, LooksUp, looked_up_after, found_in, StopsFor, ReadsFirst, WritesFirst}
 pub use Rattle.qcow2_session.specs.Told.{RunPoint, StepsAlong, AreExisting, AreReportedAlong, StaysQuiet, KeepsItself, first_point, free_slots, ReportsRange, IsLeftQuietly, IsNeverWritten, IsReportedStep, abstract_at, IsReportedRun, SlotsAfter, ReplyMatchesImage}
 pub use Rattle.qcow2_session.specs.declared.session.Command.{Command}
 pub use Rattle.qcow2_session.specs.declared.session.Reply.{Reply}

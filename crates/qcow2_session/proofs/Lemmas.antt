@@ -1,11 +1,11 @@
 -- The lemmas that several proofs cite, passed on from one place. Declares nothing.
-pub use Rattle.qcow2_session.proofs.Answering.{error_is, first_of_all, not_both, not_old_tables, kept_is, none_to_free, unusable_first, lookup_answer, preparing_first, prepares_answer, reading_first, write_error_is, reads_answer, writes_answer, write_refused_answer, mapping_first}
+pub use Rattle.qcow2_session.proofs.Answering.{error_is, first_of_all, not_both, not_old_tables, kept_is, none_to_free, unusable_first, lookup_answer, preparing_first, prepares_answer, reading_first, reads_answer, mapping_first}
 pub use Rattle.qcow2_session.proofs.Beyond.{part_refused}
 pub use Rattle.qcow2_session.proofs.Bytes.{cut_part, cut_short, shows_as, shows_both, first_two, cut_long}
-pub use Rattle.qcow2_session.proofs.Causing.{same_error, then_none, clears_rightly, mapping_reading, is_done, is_misused, is_refused, kept_error, kept_same, not_failed, not_free, same_mapping, where_failed, where_works, is_answered, begun_with, some_error, holds, own_mapping, fits_below, read_answered, leaks_answered, read_refused, size_answered, write_answered, write_refused_for, none_of, put_reads, put_writes, then_early, grow_meets, takes_larger}
+pub use Rattle.qcow2_session.proofs.Causing.{same_error, then_none, clears_rightly, mapping_reading, is_done, is_misused, is_refused, kept_error, kept_same, not_failed, not_free, same_mapping, where_failed, where_works, is_answered, begun_with, some_error, holds, own_mapping, fits_below, read_answered, leaks_answered, read_refused, size_answered, none_of, put_reads, put_writes, then_early, grow_meets, takes_larger}
 pub use Rattle.qcow2_session.proofs.Chunks.{may_write_none, put_refused, written, commit_old_tables, commit_kept}
 pub use Rattle.qcow2_session.proofs.Converting.{shown_same, does_nothing, interrupted_if, interrupted_then, interrupted, interrupted_here, any_more, any_none, any_refused, imports_none, all_more, all_refused, same_range, at_refused, at_shown, at_written, at_unwritten, any_nothing, imports_nothing, imports_unflushed, imports_flushed}
-pub use Rattle.qcow2_session.proofs.Copied.{kept_cover, same_size, same_index, rightly_written, copied_on, existing_or_not, kept_data, part_copied}
+pub use Rattle.qcow2_session.proofs.Copied.{kept_cover, same_size, same_index, copied_on, existing_or_not, kept_data, part_copied}
 pub use Rattle.qcow2_session.proofs.Counting.{converted, converting_part, so_far_none, so_far_part, so_far_then, converting_image, converting_raw, so_far_call, fewer_since, image_tells, image_marks, converting_else, none_counted, run_counts_more, run_counts_still, commit_since}
 pub use Rattle.qcow2_session.proofs.Exporting.{part_of_disk, unchanged_refused, fills_more, filled_same, filled_more, filled_first, filled_all, zeros_there}
 pub use Rattle.qcow2_session.proofs.FailingOnSound.{compressed_within, reads_part, memory_looking, looking_prepared, found_there, reads_found, compressed_in_part, existing_found, existing_long, existing_near, put_unlimited, compressed_behind, put_looking}
@@ -21,3 +21,4 @@ pub use Rattle.qcow2_session.proofs.Untaken.{prepared_untaken, untaken_beside}
 pub use Rattle.qcow2_session.proofs.Unwritten.{clear_same, existing_set, nothing_prepared, prepare_same, existing_none, put_same, resizes_failed, resized_itself, resizes_reading, same_early}
 pub use Rattle.qcow2_session.proofs.Writing.{ends_on, write_refused, chunk_ends}
 pub use Rattle.qcow2_session.proofs.WrittenParts.{writes_none, first_given, never_first, no_more_then, stops_behind, stops_first, writes_on}
+pub use Rattle.qcow2_session.proofs.WriteCommands.{fill_fails, given_byte, given_bytes, memory_never, unwritten_sees, unwritten_soundly, unwritten_step, writes_answered}

@@ -33,3 +33,4 @@ mod Unwritten
 pub mod Counting
 mod Quiet
 mod FailingOnSound
+mod WriteCommands

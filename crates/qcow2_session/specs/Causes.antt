@@ -2,7 +2,7 @@
 use Rattle.qcow2_alloc.specs.declared.error.ImageError.TheVariants as I
 use Rattle.qcow2_session.specs.declared.session.Command.TheVariants as C
 use Rattle.qcow2_session.specs.declared.session.Reply.TheVariants as R
-use Rattle.std.specs.Prelude.{ℕ, ◌+◌, ◌<◌, ◌≤◌, ◌≡◌, ◌↔◌, ◌⊎◌, ◌&&◌, not, nat_lt, true, false, length, List, [], ◌∷◌, Option, Some, None, Ok, Err, IfSome, IsNone, IsSomeAnd, MatchOption, slice_get}
+use Rattle.std.specs.Prelude.{ℕ, ◌+◌, ◌<◌, ◌≤◌, ◌≡◌, ◌↔◌, ◌⊎◌, ◌&&◌, not, nat_lt, true, false, length, replicate, List, [], ◌∷◌, Option, Some, None, Ok, Err, IfSome, IsNone, IsSomeAnd, MatchOption, slice_get}
 use Rattle.std.specs.Option.{option_or}
 use Rattle.image_access.specs.Backing.{BackingView}
 use Rattle.image_access.specs.Moments.{StorageView}
@@ -52,6 +52,7 @@ module _ {S F : Type 0} (image : Qcow2 S F) where
   abbrev pub first_cause : Command → Option ImageError
   first_cause (C.Read offset n) = refuses_to_read image offset n
   first_cause (C.Write offset bytes) = refuses_to_prepare image offset (length bytes.items)
+  first_cause (C.Fill offset n byte) = refuses_to_prepare image offset n
   first_cause (C.GetMapping slot offset max) = unusable image
   first_cause (C.ReadMapped slot at n) = unusable image
   first_cause (C.PrepareDataMapping slot offset n overwrite) = refuses_to_prepare image offset n
@@ -90,6 +91,7 @@ ReportsMisuse before found command reply = (reply ≡ R.Misuse) ↔ IsMisused be
 -- The refusals of a command that no check refused.
 abbrev pub MayFailWith : Command → ImageError → Type 0
 MayFailWith (C.Write offset bytes) e = MayFailPreparing e
+MayFailWith (C.Fill offset n byte) e = MayFailPreparing e
 MayFailWith (C.GetMapping slot offset max) e = IsOfTables e
 MayFailWith (C.PrepareDataMapping slot offset n overwrite) e = MayFailPreparing e
 MayFailWith (C.CommitDataMapping slot) e = IsOfTables e
@@ -112,10 +114,15 @@ module _ {S F : Type 0} (view : S → StorageView) (old new : Qcow2 S F) (before
   abbrev pub ClearingMayFail : (offset n : ℕ) → ImageError → Type 0
   ClearingMayFail offset n e = MayFailAllocating (HasPinnedMapping before) (IsUnderMapping old.file.header.fields (from_in old offset n) before) ⊥ (NeedsOverflowingL1Entry old (from_in old offset n)) e
 
-  -- Why a command that allocates clusters of a sound image is refused during the work. For a write, a compressed cluster is one at the moment of the refusal.
+  -- Why a write of n bytes to a sound image is refused during the work. A compressed cluster is one at the moment of the refusal.
+  abbrev pub WriteMayFailAllocating : (offset n : ℕ) → ImageError → Type 0
+  WriteMayFailAllocating offset n e =
+      MayFailAllocating (HasPinnedMapping before) (IsUnderMappingIn old.file.header.fields offset (offset + n) before) (CopiesCompressed offset n true new.file.header.fields (known_in view new.file)) (Unit {0}) e
+
+  -- Why a command that allocates clusters of a sound image is refused during the work.
   abbrev pub CommandMayFailAllocating : Command → ImageError → Type 0
-  CommandMayFailAllocating (C.Write offset bytes) e =
-      MayFailAllocating (HasPinnedMapping before) (IsUnderMappingIn old.file.header.fields offset (offset + length bytes.items) before) (CopiesCompressed offset (length bytes.items) true new.file.header.fields (known_in view new.file)) (Unit {0}) e
+  CommandMayFailAllocating (C.Write offset bytes) e = WriteMayFailAllocating offset (length bytes.items) e
+  CommandMayFailAllocating (C.Fill offset n byte) e = WriteMayFailAllocating offset n e
   CommandMayFailAllocating (C.PrepareDataMapping slot offset n overwrite) e =
       MayFailAllocating (HasPinnedMapping before) (IsTaken old.file.header.fields (known_in view old.file) offset n before) (CopiesCompressed offset n overwrite old.file.header.fields (known_in view old.file)) (NeedsOverflowingL1Entry old offset) e
   CommandMayFailAllocating (C.EnsureZeroMapping offset n) e = ClearingMayFail offset n e
@@ -130,6 +137,7 @@ module _ {S F : Type 0} (view : S → StorageView) (backing : F → BackingView)
   abbrev pub HasNothingToDo : Command → Type 0
   HasNothingToDo (C.Read offset n) = n ≡ 0
   HasNothingToDo (C.Write offset bytes) = length bytes.items ≡ 0
+  HasNothingToDo (C.Fill offset n byte) = n ≡ 0
   HasNothingToDo (C.GetMapping slot offset max) = size_of old ≤ offset
   HasNothingToDo (C.ReadMapped slot at n) = n ≡ 0
   HasNothingToDo (C.PrepareDataMapping slot offset n overwrite) = n ≡ 0
@@ -193,6 +201,7 @@ module _ {S F : Type 0} (view : S → StorageView) (backing : F → BackingView)
   abbrev pub MayFailOnSound : (found : ℕ → Option Mapping) → Command → Reply → Type 0
   MayFailOnSound found (C.Read offset n) reply = IfSome (refusal_in reply) (MayFailReadingRange before offset (offset + n) old.file.header.fields (known_in view old.file))
   MayFailOnSound found (C.Write offset bytes) reply = (refusal_in reply ≡ Some I.TablePrepared → IsUnderMappingIn old.file.header.fields offset (offset + length bytes.items) before) × StopsRightly offset bytes.items reply
+  MayFailOnSound found (C.Fill offset n byte) reply = (refusal_in reply ≡ Some I.TablePrepared → IsUnderMappingIn old.file.header.fields offset (offset + n) before) × StopsRightly offset (replicate n byte) reply
   MayFailOnSound found (C.PrepareDataMapping slot offset n overwrite) reply = IsUntakenIn offset n reply
   MayFailOnSound found (C.GetMapping slot offset max) reply = IfSome (refusal_in reply) (MayFailLooking (IsCacheHeld old before))
   MayFailOnSound found (C.ReadMapped slot at n) reply = ReadsLookedUp found slot at n reply × IfSome (refusal_in reply) (MayFailLookedUp found slot at n)

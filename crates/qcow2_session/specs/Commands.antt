@@ -1,5 +1,5 @@
 -- The meaning of commands and replies in terms of the guest's disk.
-use Rattle.std.specs.Prelude.{ℕ, ◌≡◌, Option, Result, Ok, Err}
+use Rattle.std.specs.Prelude.{ℕ, ◌≡◌, Option, Result, Ok, Err, replicate}
 use Rattle.qcow2_disk.specs.Calls.{to_zero, to_kept_zero, to_backing}
 use Rattle.qcow2_metadata.specs.Bytes.{Bytes}
 use Rattle.qcow2_disk.specs.Runs.{Command, Reply, IsRightlyPlain, IsRightlySpecial, read, write, get_mapping, read_mapped, prepare, put, commit, discard, clear, read_special, try_read_special, flush, sync, invalidate_cache, grow, shrink, get_size, get_leaked, done, bytes_are, mapping_is, prepared_is, range_is, plain_at, number_is, refused, write_refused, misuse}
@@ -15,6 +15,7 @@ use Rattle.qcow2_session.specs.declared.session.Reply.TheVariants as R
 abbrev pub command_of : SessionCommand → Command
 command_of (C.Read offset n) = read offset n
 command_of (C.Write offset bytes) = write offset bytes.items
+command_of (C.Fill offset n byte) = write offset (replicate n byte)
 command_of (C.GetMapping slot offset max) = get_mapping slot offset max
 command_of (C.ReadMapped slot at n) = read_mapped slot at n
 command_of (C.PrepareDataMapping slot offset n overwrite) = prepare slot offset n overwrite
@@ -53,6 +54,11 @@ reply_of R.Misuse = misuse
 abbrev pub reply_of_clearing : Result (ℕ × ℕ) ImageError → SessionReply
 reply_of_clearing (Ok range) = R.Range range.0 range.1
 reply_of_clearing (Err e) = R.Refused e
+
+-- The reply to a write.
+abbrev pub reply_of_write : Result (Unit {0}) (ImageError × ℕ) → SessionReply
+reply_of_write (Ok _) = R.Done
+reply_of_write (Err r) = R.WriteRefused r.0 r.1
 
 -- A refusal as not compressed has this offset.
 abbrev pub IsOwnOffset : ℕ → ImageError → Type 0

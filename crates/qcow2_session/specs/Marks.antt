@@ -34,10 +34,11 @@ module _ {S F : Type 0} (view : S → StorageView) (reason : Option ImageError) 
     pub memory : reason ≡ Some Memory → IsTrue (is_failed new) → IsTrue (is_failed old) ⊎ ChangesRose old new
 
 module _ {S F : Type 0} (view : S → StorageView) (old new : Qcow2 S F) where
-  -- What a command does to the mark: a read and a write are several calls, every other command is one.
+  -- What a command does to the mark: a read, a write and a fill are several calls, every other command is one.
   abbrev pub MarksBy : Command → Option ImageError → Type 0
   MarksBy (C.Read offset n) reason = MarksInParts view reason old new
   MarksBy (C.Write offset bytes) reason = MarksInParts view reason old new
+  MarksBy (C.Fill offset n byte) reason = MarksInParts view reason old new
   MarksBy command reason = MarksAtOnce view reason old new
 
   -- A conversion is several calls of the image, and of a raw disk. A failed image stays failed. Otherwise only an I/O error, or a failed allocation after a change, makes it fail.

@@ -123,6 +123,8 @@ module _ {S F : Type 0} (view : S → StorageView) (backing : F → BackingView)
         (abstract_of view backing old before).is_sound → (p : Prepared) × (slice_get after slot ≡ Some (Some p)) × IsMappingFor offset n p
     ReplyMatchesImage before after (C.Write offset bytes) (R.Refused e) = ⊥
     ReplyMatchesImage before after (C.Write offset bytes) R.Done = (abstract_of view backing old before).is_sound → ListsNoMore old new
+    ReplyMatchesImage before after (C.Fill offset n byte) (R.Refused e) = ⊥
+    ReplyMatchesImage before after (C.Fill offset n byte) R.Done = (abstract_of view backing old before).is_sound → ListsNoMore old new
     ReplyMatchesImage before after command reply = Unit {0}
 
   -- One command of a run, whatever the image contains. The reply matches the image, and the slots are those after the command. It is refused only for its causes, and with an I/O error only if one was counted.

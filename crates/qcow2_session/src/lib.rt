@@ -18,4 +18,4 @@ pub use boxes::{
 pub use headline::open_and_run;
 pub use qcow2_check::{Breach, Kind, Leak, Leaks, Report, check};
 pub use recorded::open_and_run_recorded;
-pub use session::{Command, Reply, read, read_into, run, write};
+pub use session::{Command, Reply, fill, read, read_into, run, write};

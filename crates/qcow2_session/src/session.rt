@@ -3,7 +3,7 @@ ghost use Rattle.qcow2_session.specs.CallSteps.{AnswersCommand, ReadingParts, Re
 ghost use Rattle.qcow2_session.specs.CallSteps.{RefusesToWrite, ReleasingStep, SpecialStep, WriteFails, WriteStep};
 ghost use Rattle.qcow2_session.specs.CallSteps.{WritesPart, WritesPartSoundly, WritingParts, WroteSoundly};
 ghost use Rattle.std.specs.Prelude.{◌≡◌, ◌+◌, ◌≤◌, ◌<◌, ◌++◌, ◌∷◌, List, [], length, vec_len, IfSome};
-ghost use Rattle.std.specs.Prelude.{IfErr, IfOk, OnOk, Option, None, Some, Err, true, ◌-◌};
+ghost use Rattle.std.specs.Prelude.{IfErr, IfOk, OnOk, Option, None, Some, Err, true, ◌-◌, replicate};
 ghost use Rattle.qcow2_alloc.specs.declared.error.ImageError.TheVariants.{Memory, OutdatedMapping};
 ghost use Rattle.qcow2_alloc.specs.ImageFile.{known_in};
 ghost use Rattle.qcow2_image.specs.BehindHeader.{PreservesHeaderCluster};
@@ -21,6 +21,7 @@ ghost use Rattle.qcow2_session.specs.Sessions.{ReadsFirst, Writes, WritesFirst, 
 ghost use Rattle.qcow2_session.specs.Sessions.{RunsThrough, RunRefinesDisk, LookupsFindContents};
 ghost use Rattle.qcow2_image.specs.declared.mapping.Mapping.{Mapping};
 ghost use Rattle.qcow2_image.specs.Ranges.{ReleasesOneMapping};
+ghost use Rattle.qcow2_session.specs.Commands.{reply_of_write};
 ghost use Rattle.qcow2_session.specs.Told.{StaysQuiet};
 ghost use Rattle.qcow2_session.specs.Told.{ReportsMatchImage};
 ghost use Rattle.qcow2_image.specs.declared.prepared.Prepared.{Prepared};
@@ -34,7 +35,7 @@ use qcow2_image::{CommitRefused, ImageError, Mapping, Prepared, Qcow2};
 use std::alloc::Global;
 
 /// A call on an image. There are 256 slots for prepared mappings, and 256 for lookups. Offsets, lengths and sizes are in bytes. The reply
-/// to a refused call is `Refused`, except for `Write`.
+/// to a refused call is `Refused`, except for `Write` and `Fill`.
 #[derive(Drop)]
 pub enum Command {
     /// `read` from a guest offset on. Reply: `Bytes`.
@@ -46,6 +47,12 @@ pub enum Command {
     Write {
         offset: u64,
         bytes: Vec<u8>,
+    },
+    /// `fill`: writes the same byte over a range. Reply: `Done` or `WriteRefused`.
+    Fill {
+        offset: u64,
+        length: u64,
+        byte: u8,
     },
     /// `get_mapping` from a guest offset on, up to `max` bytes, into a slot for lookups. Reply: `Mapping`.
     GetMapping {
@@ -195,10 +202,18 @@ pub(crate) fn zeros(alloc: Global, count: usize) -> Result<Vec<u8>, ImageError>
     ensures len { IfOk result (λ bytes. vec_len bytes ≡ count) }
     ensures cause { IfErr result (λ e. (e ≡ Memory) × (0 < count)) }
 {
+    repeated(alloc, 0, count)
+}
+
+// A list that repeats a byte. An empty one needs no memory.
+fn repeated(alloc: Global, byte: u8, count: usize) -> Result<Vec<u8>, ImageError>
+    ensures items { IfOk result (λ bytes. bytes.items ≡ replicate count byte) }
+    ensures cause { IfErr result (λ e. (e ≡ Memory) × (0 < count)) }
+{
     if count == 0 {
         return Ok(Vec::new(alloc));
     }
-    Ok(vec![in alloc; 0; count]?)
+    Ok(vec![in alloc; byte; count]?)
 }
 
 /// Fills the buffer with the guest's bytes, from an offset in bytes on. The range may cross clusters and tables. After a refusal the
@@ -283,6 +298,31 @@ pub fn write<S: Storage, F: WrappedFormat<S>>(
         }
     }
     Ok(())
+}
+
+/// Writes the same byte over a range of the guest's disk, by one `write` of as many bytes. A refusal says how many leading bytes were written.
+/// Refused as `write`. Refusals 16, 12, 2 and 1 come before memory for the bytes is allocated. If there is none, the call is refused 14, and the
+/// image stays the same.
+pub fn fill<S: Storage, F: WrappedFormat<S>>(
+    alloc: Global,
+    image: &mut Qcow2<S, F>,
+    offset: u64,
+    length: u64,
+    byte: u8,
+) -> Result<(), (ImageError, u64)>
+    ensures step { WriteStep S.view F.backing image.old image.new result }
+    ensures fails { WriteFails S.view F.backing image.old image.new result offset length }
+    ensures sound { (out : List (Option Prepared)) → (abstract_of S.view F.backing image.old out).is_sound
+        → WroteSoundly S.view F.backing image.old image.new result offset (replicate length byte) out }
+    ensures sees { Writes S.view F.backing image.old image.new offset (replicate length byte) result }
+{
+    if let Err(refusal) = image.check_prepare(offset, length) {
+        return Err((refusal, 0));
+    }
+    match repeated(alloc, byte, length as usize) {
+        Ok(bytes) => write(image, offset, &bytes),
+        Err(lacking) => Err((lacking, 0)),
+    }
 }
 
 // Writes at least the first bytes, and returns how many. For no bytes, checks whether they could be written.
@@ -374,10 +414,12 @@ fn step<S: Storage, F: WrappedFormat<S>>(
             Ok(bytes) => Reply::Bytes(bytes),
             Err(refusal) => Reply::Refused(refusal),
         },
-        Command::Write { offset, bytes } => match write(image, *offset, bytes) {
-            Ok(()) => Reply::Done,
-            Err((refusal, done)) => Reply::WriteRefused(refusal, done),
-        },
+        Command::Write { offset, bytes } => write_reply(write(image, *offset, bytes)),
+        Command::Fill {
+            offset,
+            length,
+            byte,
+        } => write_reply(fill(alloc, image, *offset, *length, *byte)),
         Command::GetMapping { slot, offset, max } => {
             get_mapping(image, slots, *slot, *offset, *max)
         }
@@ -408,6 +450,15 @@ fn step<S: Storage, F: WrappedFormat<S>>(
         Command::ResizeShrink { size } => shrink(image, *size),
         Command::Size => Reply::Size(image.size()),
         Command::Leaked => Reply::Leaked(image.leaked_clusters()),
+    }
+}
+
+fn write_reply(answer: Result<(), (ImageError, u64)>) -> Reply
+    ensures { result ≡ reply_of_write answer }
+{
+    match answer {
+        Ok(()) => Reply::Done,
+        Err((refusal, done)) => Reply::WriteRefused(refusal, done),
     }
 }
 

@@ -1,7 +1,7 @@
-use Rattle.qcow2_session.proofs.Lemmas.{at_rest, reading_first, error_is, write_error_is, not_both, reads_answer, writes_answer, write_refused_answer, read_answered, leaks_answered, read_refused, size_answered, write_answered, write_refused_for, rightly_written}
+use Rattle.qcow2_session.proofs.Lemmas.{at_rest, reading_first, error_is, not_both, reads_answer, read_answered, leaks_answered, read_refused, size_answered, fill_fails, given_byte, given_bytes, writes_answered}
 use Rattle.qcow2_session.proofs.Common.{MarksBy, rules, refl, ap, sym, subst, ◌∙◌, None, Some, done_as, refused_as, none_as, command_of, mappings_in, SlotsAfter, ReplyMatchesImage, RefusalJustified, behind_none, reads_none}
 use Rattle.qcow2_session.specs.CallSteps.{AnswersCommand}
-use Rattle.qcow2_session.specs.declared.session.Reply.TheVariants.{Bytes, Done, Leaked, Refused, Size, WriteRefused}
+use Rattle.qcow2_session.specs.declared.session.Reply.TheVariants.{Bytes, Leaked, Refused, Size}
 use Rattle.qcow2_session.proofs.session.step.Goals as goal
 
 pub returns-in-Ok : goal.returns-in-Ok
@@ -37,42 +37,13 @@ returns-in-Err g c = record {
   quiet = λ reading existing. record { reading = c.read.ensures.step.image.writable ∙ reading; quiet = c.read.ensures.step.quiet; existing = existing };
 }
 
-pub returns-in-Ok-write : goal.returns-in-Ok-write
-returns-in-Ok-write g c = record {
-  keeps = search rules;
-  size = search rules;
-  counts = search rules;
-  marks = subst (λ q. MarksBy g.S.Storage.view c.args.image.now c.write.new.image q (None)) (sym c.in-Write.is) c.in-Ok-write.ensures.step.marks;
-  header_cluster = λ _. c.write.ensures.step.header_cluster;
-  slots = search rules;
-  steps = λ _ x s stands founds. done_as x _ _ s _ _ _ (ap command_of c.in-Write.is) stands (writes_answer g.S.Storage.view g.F.BackingDisk.backing c.args.image.now c.args.slots.now.prepared.items _ (λ e h. not_both h) _ _ (rw c.deref.ensures.value at c.in-Ok-write.ensures.fails).early) (rw c.deref.ensures.value at (c.in-Ok-write.ensures.sees c.args.slots.now.prepared.items)) (λ f. f) (λ _ _. refl)
-      (λ sound. rightly_written g.S.Storage.view g.F.BackingDisk.backing c.write.new.image c.args.slots.now.prepared.items ((rw c.deref.ensures.value at (c.in-Ok-write.ensures.sees c.args.slots.now.prepared.items)).answer sound).0 _ _
-      (λ some. (((rw c.deref.ensures.value at c.in-Ok-write.ensures.sound) c.args.slots.now.prepared.items sound).copied some).range));
-  finds = search rules;
-  after = subst (λ q. SlotsAfter c.args.slots.now.prepared.items q Done c.args.slots.now.prepared.items) (sym c.in-Write.is) refl;
-  reports = subst (λ q. ReplyMatchesImage g.S.Storage.view g.F.BackingDisk.backing c.args.image.now c.write.new.image c.args.slots.now.prepared.items c.args.slots.now.prepared.items q Done) (sym c.in-Write.is) (λ sound. (c.in-Ok-write.ensures.sound c.args.slots.now.prepared.items sound).freeing);
-  causes = subst (λ q. RefusalJustified g.S.Storage.view g.F.BackingDisk.backing c.args.image.now c.write.new.image c.args.slots.now.prepared.items (mappings_in c.args.slots.now.mappings.items) q Done) (sym c.in-Write.is) (write_answered g.S.Storage.view g.F.BackingDisk.backing c.args.image.now c.write.new.image c.args.slots.now.prepared.items _ _ _ (rw c.deref.ensures.value at c.in-Ok-write.ensures.fails).early
-      (λ none sound. ((rw c.deref.ensures.value at c.in-Ok-write.ensures.sound) c.args.slots.now.prepared.items sound).taken_part none));
-  quiet = λ reading existing. record { reading = c.write.ensures.step.image.writable ∙ reading; quiet = c.write.ensures.step.quiet reading; existing = existing };
-}
+pub returns-in-Write : goal.returns-in-Write
+returns-in-Write g c = subst (λ q. AnswersCommand g.S.Storage.view g.F.BackingDisk.backing c.args.image.now c.write.new.image c.args.slots.now c.args.slots.now q c.write_reply.result) (sym c.in-Write.is)
+    (writes_answered g.S.Storage.view g.F.BackingDisk.backing _ _ _ (given_bytes g.S.Storage.view g.F.BackingDisk.backing _ _ _ _ _) c.write.result c.write_reply.result c.write_reply.ensures c.write.ensures.step (rw c.deref.ensures.value at c.write.ensures.fails) (rw c.deref.ensures.value at c.write.ensures.sound) (rw c.deref.ensures.value at c.write.ensures.sees))
 
-pub returns-in-Err-write : goal.returns-in-Err-write
-returns-in-Err-write g c = record {
-  keeps = search rules;
-  size = search rules;
-  counts = search rules;
-  marks = subst (λ q. MarksBy g.S.Storage.view c.args.image.now c.write.new.image q (Some c.in-Err-write.refusal)) (sym c.in-Write.is) c.in-Err-write.ensures.step.marks;
-  header_cluster = λ _. c.write.ensures.step.header_cluster;
-  slots = search rules;
-  steps = λ _ x s stands founds. refused_as x _ _ s _ _ _ _ (ap command_of c.in-Write.is) stands (write_refused_answer g.S.Storage.view g.F.BackingDisk.backing c.args.image.now c.args.slots.now.prepared.items _ _ _ _ _ (λ h. write_error_is h) (rw c.deref.ensures.value at c.in-Err-write.ensures.fails).early (rw c.deref.ensures.value at c.in-Err-write.ensures.fails).within) (rw c.deref.ensures.value at (c.in-Err-write.ensures.sees c.args.slots.now.prepared.items)) (λ f. f) (λ f. f) (λ _ _. refl) tt;
-  finds = search rules;
-  after = subst (λ q. SlotsAfter c.args.slots.now.prepared.items q (WriteRefused c.in-Err-write.refusal c.in-Err-write.done) c.args.slots.now.prepared.items) (sym c.in-Write.is) refl;
-  reports = subst (λ q. ReplyMatchesImage g.S.Storage.view g.F.BackingDisk.backing c.args.image.now c.write.new.image c.args.slots.now.prepared.items c.args.slots.now.prepared.items q (WriteRefused c.in-Err-write.refusal c.in-Err-write.done)) (sym c.in-Write.is) tt;
-  causes = subst (λ q. RefusalJustified g.S.Storage.view g.F.BackingDisk.backing c.args.image.now c.write.new.image c.args.slots.now.prepared.items (mappings_in c.args.slots.now.mappings.items) q (WriteRefused c.in-Err-write.refusal c.in-Err-write.done)) (sym c.in-Write.is)
-      (write_refused_for g.S.Storage.view g.F.BackingDisk.backing c.args.image.now c.write.new.image c.args.slots.now.prepared.items _ _ _ _ (rw c.deref.ensures.value at c.in-Err-write.ensures.fails).early (rw c.deref.ensures.value at c.in-Err-write.ensures.fails).late (λ none sound. ((rw c.deref.ensures.value at c.in-Err-write.ensures.sound) c.args.slots.now.prepared.items sound).may_fail none) (λ none sound. ((rw c.deref.ensures.value at c.in-Err-write.ensures.sound) c.args.slots.now.prepared.items sound).taken none)
-      (λ none sound. ((rw c.deref.ensures.value at c.in-Err-write.ensures.sound) c.args.slots.now.prepared.items sound).limit none) (λ none sound. ((rw c.deref.ensures.value at c.in-Err-write.ensures.sound) c.args.slots.now.prepared.items sound).taken_part none));
-  quiet = λ reading existing. record { reading = c.write.ensures.step.image.writable ∙ reading; quiet = c.write.ensures.step.quiet reading; existing = existing };
-}
+pub returns-in-Fill : goal.returns-in-Fill
+returns-in-Fill g c = subst (λ q. AnswersCommand g.S.Storage.view g.F.BackingDisk.backing c.args.image.now c.fill.new.image c.args.slots.now c.args.slots.now q c.write_reply-in-Fill.result) (sym c.in-Fill.is)
+    (writes_answered g.S.Storage.view g.F.BackingDisk.backing _ _ _ (given_byte g.S.Storage.view g.F.BackingDisk.backing _ _ _ _ _ _) c.fill.result c.write_reply-in-Fill.result c.write_reply-in-Fill.ensures c.fill.ensures.step (fill_fails g.S.Storage.view g.F.BackingDisk.backing _ _ _ _ _ _ c.fill.ensures.fails) c.fill.ensures.sound c.fill.ensures.sees)
 
 pub returns-in-Flush : goal.returns-in-Flush
 returns-in-Flush g c = subst (λ q. AnswersCommand g.S.Storage.view g.F.BackingDisk.backing c.args.image.now c.flush.new.image c.args.slots.now c.args.slots.now q c.flush.result) (sym c.in-Flush.is) (c.flush.ensures c.args.slots.now)

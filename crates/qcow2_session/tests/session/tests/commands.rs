@@ -47,6 +47,27 @@ fn a_failed_image_answers_little(rt: HostRuntime) -> Result<(), Fail> {
     Ok(())
 }
 
+#[test]
+fn a_fill_is_answered_as_a_write(rt: HostRuntime) -> Result<(), Fail> {
+    let alloc = rt.alloc();
+    let fill = |offset, length| Command::Fill {
+        offset,
+        length,
+        byte: 0x33,
+    };
+    let commands = vec![in alloc; fill(510, 4), a_read(509, 6), fill(0, u64::MAX)]?;
+    assert_eq!(rt;
+        replies(alloc, fresh(alloc)?, &commands)?.as_slice(),
+        [
+            Reply::Done,
+            Reply::Bytes(vec![in alloc; 0, 0x33, 0x33, 0x33, 0x33, 0]?),
+            Reply::WriteRefused(ImageError::BeyondSize, 0)
+        ]
+        .as_slice()
+    );
+    Ok(())
+}
+
 fn prepare(slot: u8, offset: u64, length: u64) -> Command {
     Command::PrepareDataMapping {
         slot,

@@ -3,7 +3,7 @@ use super::{
     copied, created, fresh, guest_bytes, mapped, number_at, opened, refusal, stopped, write_all,
     written,
 };
-use crate::session::read;
+use crate::session::{fill, read};
 use image_access::{Storage, StorageError, TraceStorage};
 use qcow2_image::{ImageError, MappingKind, Place, Qcow2};
 use std::alloc::Global;
@@ -96,6 +96,58 @@ fn a_write_is_seen_once_its_entry_is_there(rt: HostRuntime) -> Result<(), Fail> 
             stop_after(alloc, &storage, writes)?,
             (counts, l1_entry, l2_entry, Some(guest)),
             "after {writes} writes"
+        );
+    }
+    Ok(())
+}
+
+// Fills a range of an image that is opened for writing or not, and flushes it.
+fn filled<S: Storage>(
+    alloc: Global,
+    storage: S,
+    writable: bool,
+    range: (u64, u64),
+    byte: u8,
+) -> Result<S, ImageError> {
+    let mut image = opened(alloc, storage, writable)?;
+    match fill(alloc, &mut image, range.0, range.1, byte) {
+        Ok(()) => {}
+        Err((refusal, _done)) => return Err(refusal),
+    }
+    image.flush()?;
+    Ok(image.into_storage())
+}
+
+#[test]
+fn a_fill_is_a_write_of_one_byte(rt: HostRuntime) -> Result<(), Fail> {
+    let alloc = rt.alloc();
+    let bytes = vec![in alloc; 0x22; 1500]?;
+    let by_write = written(alloc, fresh(alloc)?, 300, &bytes)?;
+    let by_fill = filled(alloc, fresh(alloc)?, true, (300, 1500), 0x22)?;
+    assert_eq!(rt; by_fill.as_slice(), by_write.as_slice());
+    assert_eq!(rt;
+        by_fill.writes(alloc)?.as_slice(),
+        by_write.writes(alloc)?.as_slice()
+    );
+    Ok(())
+}
+
+// More bytes than there is memory for are refused as any others.
+#[test]
+fn a_fill_is_refused_before_its_bytes_are_made(rt: HostRuntime) -> Result<(), Fail> {
+    let alloc = rt.alloc();
+    for (writable, range, number) in [
+        (true, (0, u64::MAX), 2),
+        (true, (1, 65536), 2),
+        (true, (65536, 0), 0),
+        (false, (0, u64::MAX), 2),
+        (false, (0, 65536), 1),
+        (false, (65536, 0), 0),
+    ] {
+        assert_eq!(rt;
+            refusal(filled(alloc, fresh(alloc)?, writable, range, 0x22)),
+            number,
+            "{range:?}"
         );
     }
     Ok(())
