@@ -96,7 +96,7 @@ pub use Rattle.qcow2_image.specs.Created.{Enlarges, IsNewDisk, IsPreallocated, I
 pub use Rattle.qcow2_image.specs.Faults.{CountsImageFaults, SameFaults, ReportsEachIn, ReportsFault, NoFewerFaults, OneRose, IsNotOfStorage, ReportsEach}
 pub use Rattle.qcow2_image.specs.Found.{l1_index_of, l2_index_of, mapping_of, NamesL2Table, found_kind, IsRunBehind, AreAlikeBehind, IsAlikeTo, IsFoundInImage, IsFoundWhole, IsMappedAs, writable_place, further_by, IsRunFrom, is_data_file}
 pub use Rattle.qcow2_image.specs.Growing.{FitsSize, Extends, Lasts, ReachesSize, SameFormat, WritesBack, LastsCall, LastsKnown, LastsPart, KeepsSurplus, LeavesSound}
-pub use Rattle.qcow2_image.specs.HeldMappings.{FitsTables, IsHeldAs, IsLongestSo, named_place, IsMappedBy, IsMappedSo, KeepsHeld, IsHeldRun}
+pub use Rattle.qcow2_image.specs.HeldMappings.{FitsTables, IsHeldAs, IsLongestSo, named_place, IsMappedBy, IsMappedSo, KeepsHeld, IsHeldRun, ReadsAs}
 pub use Rattle.qcow2_image.specs.Image.{is_failed, is_external, is_writable, size_of, IsBegun, number_of, ImageStays, has_noted_change, IsSameImage, with_marks, leaked_in, storage_of_image, HasNothingToFree, leaked_by, KeepsRestOn}
 pub use Rattle.qcow2_image.specs.ImageInvariant.{below_of, of_data, of_tables, to_free, new_data_by, over_all, pending_in, abstract_of, meaning, is_entered, is_new, is_private, is_hidden, place_of, mapping_of_cluster, backing_bytes, ImageInvariant, faults_below, IsPending, IsReadyWith, disk_of, listed_run, pins_by, cluster_of, new_data_in, host_begin_of, IsNewAt, IsClusterMappingAt, IsReady, IsHonestBacking, pins_of, image_abstraction, HasL1Table, run_of, surplus_in, begin_of, IsKeptAt}
 pub use Rattle.qcow2_image.specs.ImageSteps.{ImageFails, ImageStep, ImageStepWhere, ReadingStep, CallStep, ReadingCall}

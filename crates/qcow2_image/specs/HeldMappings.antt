@@ -1,5 +1,7 @@
 -- How the tables in memory map a guest range, whatever the image contains.
-use Rattle.std.specs.Prelude.{ℕ, ◌+◌, ◌-◌, ◌*◌, ◌/◌, ◌%◌, ◌^◌, ◌≡◌, ◌<◌, ◌≤◌, ◌⊎◌, Bool, Option, Some, is_some, Result, Ok, Err}
+use Rattle.std.specs.Prelude.{ℕ, ◌+◌, ◌-◌, ◌*◌, ◌/◌, ◌%◌, ◌^◌, ◌≡◌, ◌<◌, ◌≤◌, ◌⊎◌, Bool, Option, Some, is_some, List, length, replicate, Result, Ok, Err}
+use Rattle.image_access.specs.Contents.{bytes_at}
+use Rattle.image_access.specs.Moments.{StorageView}
 use Rattle.qcow2_metadata.specs.Entries.{host_offset}
 use Rattle.qcow2_metadata.specs.EntryTable.{EntryTableView}
 use Rattle.qcow2_metadata.specs.Header.{cluster_size}
@@ -14,6 +16,8 @@ use Rattle.qcow2_alloc.specs.declared.error.ImageError.{ImageError}
 use Rattle.qcow2_alloc.specs.declared.error.ImageError.TheVariants.{OutdatedMapping}
 use Rattle.qcow2_image.specs.declared.image.Qcow2.{Qcow2}
 use Rattle.qcow2_image.specs.declared.mapping.MappingKind.{MappingKind}
+use Rattle.qcow2_image.specs.declared.mapping.MappingKind.TheVariants as Kind
+use Rattle.qcow2_alloc.specs.ImageFile.{view_in}
 use Rattle.qcow2_image.specs.Found.{found_kind, mapping_of, IsAlikeTo, l1_index_of}
 
 -- The offset of the L2 table that the L1 table in memory has for a guest offset, 0 for none.
@@ -71,3 +75,9 @@ module _ {S F : Type 0} where
     pub backed : is_some new.backing ≡ is_some old.backing
     pub l1_table : new.l1_table ≡ old.l1_table
     pub caches : new.file.caches ≡ old.file.caches
+
+-- Bytes that were read from the image's own storage are those at the mapping's place, and those of zeros are zeros, whatever the image contains.
+abbrev pub ReadsAs : {S F : Type 0} → (S → StorageView) → Qcow2 S F → MappingKind → List ℕ → Type 0
+ReadsAs view image (Kind.Raw place host writable) bytes = bytes ≡ bytes_at (view_in view image.file).contents host (length bytes)
+ReadsAs view image (Kind.Zero explicit) bytes = bytes ≡ replicate (length bytes) 0
+ReadsAs view image kind bytes = Unit {0}

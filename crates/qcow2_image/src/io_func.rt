@@ -6,7 +6,7 @@ ghost use Rattle.qcow2_image.specs.ImageSteps.{FailsUnlimited, ImageFails, Image
 ghost use Rattle.qcow2_image.specs.ImageSteps.{ReadingStep};
 ghost use Rattle.std.specs.Prelude.{◌≡◌, ◌≢◌, ◌+◌, ◌^◌, ◌<◌, ◌≤◌, List, [], Option, length, ◌⊎◌, IfOk};
 ghost use Rattle.std.specs.Prelude.{IfErr, IsErr, IsSome, MatchOption, Ok, Err, Some, None};
-ghost use Rattle.std.specs.Prelude.{is_some, true};
+ghost use Rattle.std.specs.Prelude.{is_some, true, OnOk};
 ghost use Rattle.qcow2_metadata.specs.Header.{cluster_size};
 ghost use Rattle.qcow2_alloc.specs.ImageError.{IsFault};
 ghost use Rattle.qcow2_image.specs.MayFail.{MayFailReading};
@@ -16,7 +16,8 @@ ghost use Rattle.qcow2_image.specs.Calls.{AnswersCall, Puts};
 ghost use Rattle.qcow2_image.specs.Faults.{IsNotOfStorage};
 ghost use Rattle.qcow2_image.specs.Found.{AreBytesOf, IsMappedAs, further_by};
 ghost use Rattle.qcow2_image.specs.CallParts.{WritesBytes};
-ghost use Rattle.qcow2_image.specs.HeldMappings.{FitsTables, KeepsHeld};
+ghost use Rattle.qcow2_image.specs.HeldMappings.{FitsTables, KeepsHeld, ReadsAs};
+ghost use Rattle.qcow2_alloc.specs.ImageFile.{view_in};
 ghost use Rattle.qcow2_image.specs.InternalSteps.{InternalStep};
 ghost use Rattle.qcow2_image.specs.ImageInvariant.{IsHonestBacking, ImageInvariant, backing_bytes, disk_of};
 ghost use Rattle.qcow2_image.specs.declared.mapping.MappingKind.TheVariants.{Eof, Raw};
@@ -73,6 +74,8 @@ impl<S: Storage, F: WrappedFormat<S>> Qcow2<S, F> {
         ensures held { refuses_mapping self.old mapping.now.image ≡ None → 0 < length bytes.old
             → FitsTables self.new (mapping.now.offset + at) (further_by at mapping.now.kind) (length bytes.old) result }
         ensures quiet { LooksQuietly S.view (mapping.now.offset + at) self.old self.new }
+        ensures reads { 0 < length bytes.old → (view_in S.view self.old.file).is_honest
+            → OnOk result (ReadsAs S.view self.new (further_by at mapping.now.kind) bytes.new) }
     {
         self.check_usable()?;
         if mapping.image != self.number {
@@ -99,6 +102,8 @@ impl<S: Storage, F: WrappedFormat<S>> Qcow2<S, F> {
         ensures held { 0 < length bytes.old
             → FitsTables self.new (mapping.now.offset + at) (further_by at mapping.now.kind) (length bytes.old) result }
         ensures quiet { LooksQuietly S.view (mapping.now.offset + at) self.old self.new }
+        ensures reads { (view_in S.view self.old.file).is_honest
+            → OnOk result (ReadsAs S.view self.new (further_by at mapping.now.kind) bytes.new) }
     {
         let offset = self.place_within(mapping.offset, at)?;
         let kind = mapping.kind.further(at);
@@ -160,6 +165,8 @@ impl<S: Storage, F: WrappedFormat<S>> Qcow2<S, F> {
             → IfOk result (λ done. Shows (disk_of S.view F.backing self.new) offset bytes.new) }
         ensures tables { KeepsHeld self.old self.new }
         ensures quiet { WritesNothing S.view self.old.file.storage self.new.file.storage }
+        ensures reads { (view_in S.view self.old.file).is_honest
+            → OnOk result (ReadsAs S.view self.new kind.now bytes.new) }
     {
         match kind {
             MappingKind::Raw {

@@ -1,5 +1,5 @@
 use Rattle.std.proofs.Common.{◌≡◌, ◌+◌, ◌/◌, ◌<◌, ℕ, List, length, replicate, refl, sym, ap, ◌∙◌, subst, rules, is_some, inl}
-use Rattle.qcow2_image.proofs.Common.{length-replicate, get_or-replicate, bytes_at, byte_at-bytes_at, length-bytes_at, byte_at, known_byte, cluster_size, cover, disk, known_of, known_in, state_in, view_in, found_kind, is_data_file, backing_bytes, disk_of, notes_of_storage, read_kept, MayFailReading, IsFault, of_storage, IfOk-weaker, fault_of_storage, storage_of, ImageFile, IsQuiet}
+use Rattle.qcow2_image.proofs.Common.{length-replicate, get_or-replicate, bytes_at, byte_at-bytes_at, length-bytes_at, byte_at, known_byte, cluster_size, cover, disk, known_of, known_in, state_in, view_in, found_kind, is_data_file, backing_bytes, disk_of, notes_of_storage, read_kept, MayFailReading, IsFault, of_storage, IfOk-weaker, fault_of_storage, storage_of, ImageFile, IsQuiet, ReadsAs, always_ok}
 use Rattle.qcow2_image.proofs.Lemmas.{read_moved, behind_read, reads_bytes, reads_same, hands_met, met_as}
 use Rattle.qcow2_image.proofs.Map.Reading.{raw_shown, zero_shown, indirect_shown, none_below}
 use Rattle.qcow2_image.proofs.image.Qcow2.read_as.Goals as goal
@@ -97,3 +97,23 @@ returns-in-Special-clause-quiet g c = quiet_none (g.S.Storage.view (storage_of c
 
 pub returns-in-Eof-clause-quiet : goal.returns-in-Eof-clause-quiet
 returns-in-Eof-clause-quiet g c = quiet_none (g.S.Storage.view (storage_of c.args.self.now.file.storage))
+
+pub returns-in_ok-read-in-Raw-clause-reads : goal.returns-in_ok-read-in-Raw-clause-reads
+returns-in_ok-read-in-Raw-clause-reads g c = λ honest.
+    let view = g.S.Storage.view in
+    let new = c.read.new.self in
+    let contents = (view_in view c.args.self.now.file).contents in
+    let n = length c.args.bytes.now in
+    let read : c.read.new.buf ≡ bytes_at contents c.in-Raw.offset n = c.in_ok-read-in-Raw.ensures.read honest in
+    let long : length c.read.new.buf ≡ n = ap length read ∙ length-bytes_at contents c.in-Raw.offset n in
+    subst (λ k. ReadsAs view (record c.args.self.now { file = record c.args.self.now.file { storage = new } }) k c.read.new.buf) (sym c.in-Raw.is)
+    (read ∙ ap (bytes_at contents c.in-Raw.offset) (sym long) ∙ ap (λ (b : List ℕ). bytes_at b c.in-Raw.offset (length c.read.new.buf)) (sym (c.read.ensures.same honest)))
+
+pub returns-in-Zero-clause-reads : goal.returns-in-Zero-clause-reads
+returns-in-Zero-clause-reads g c = λ honest.
+    let n = length c.args.bytes.now in
+    let filled : c.fill.new.self ≡ replicate n 0 = search rules in
+    subst (λ k. ReadsAs g.S.Storage.view c.args.self.now k c.fill.new.self) (sym c.in-Zero.is) (filled ∙ ap (λ m. replicate m 0) (sym (ap length filled ∙ length-replicate {A = ℕ} n 0)))
+
+pub returns-in-Indirect-clause-reads : goal.returns-in-Indirect-clause-reads
+returns-in-Indirect-clause-reads g c = λ honest. always_ok c.read_backing.result (subst (λ k. ReadsAs g.S.Storage.view c.read_backing.new.self k c.read_backing.new.bytes) (sym c.in-Indirect.is) tt)

@@ -1,5 +1,5 @@
 use Rattle.std.proofs.Common.{◌≡◌, ◌+◌, ◌∙◌, inl, inr, length, Err, subst, sym, arith, IfOk, rules, IfErr, Result, is_some}
-use Rattle.qcow2_image.proofs.Common.{Shows, OutdatedMapping, handed_on, always_ok, IsFoundWhole, further_by, disk_of, IsCacheHeld, MayFailMapped, MayFailReading, written_then, FitsTables, IsHeldAs, LooksQuietly}
+use Rattle.qcow2_image.proofs.Common.{Shows, OutdatedMapping, handed_on, always_ok, IsFoundWhole, further_by, disk_of, IsCacheHeld, MayFailMapped, MayFailReading, written_then, FitsTables, IsHeldAs, LooksQuietly, ReadsAs, OnOk}
 use Rattle.qcow2_image.proofs.Lemmas.{keeps_then, none_past, hands_met, mapped_met, met_as, heeds_then, held_as, none_eof, step_then, looks_none, looks_then}
 use Rattle.qcow2_image.proofs.image.Qcow2.read_current.Goals as goal
 
@@ -98,3 +98,7 @@ returns-clause-quiet g c =
     let old = c.args.self.now in
     let mid = c.check_mapped.new.self in
     looks_then view (c.args.mapping.now.offset + c.args.at) old mid c.read_as.new.self (subst (λ o. LooksQuietly view o old mid) c.in_ok-offset.ensures.place c.check_mapped.ensures.quiet) c.read_as.ensures.quiet
+
+pub returns-clause-reads : goal.returns-clause-reads
+returns-clause-reads g c = λ honest.
+    subst (λ k. OnOk c.read_as.result (ReadsAs g.S.Storage.view c.read_as.new.self k c.read_as.new.bytes)) c.further-kind.ensures (c.read_as.ensures.reads (c.check_mapped.ensures.step.part.notes.storage.honest honest))
