@@ -2,6 +2,7 @@
 """The program on real files: its words and lines, what it prints, its status, and the bytes that it leaves."""
 
 import os
+import resource
 import subprocess
 
 from checks import QIMG, USAGE, Checks, answers, contents, create, equal, number_at, put, qimg, run
@@ -203,6 +204,16 @@ def reads_the_longest_lengths():
         ("read 524288 1048576", hex_of(b"\x5a" * 524288 + bytes(200000) + b"\x77" + bytes(324287))),
         ("flush", "ok"),
     ])
+
+
+def keeps_a_fill_as_its_byte():
+    """A script whose fills have 1 GB of bytes together, in 100 MB of addresses."""
+    disk()
+    count = 200000
+    given = b"fill 0 5000 11\n" * count + b"read 0 2\n"
+    limit = 100 << 20
+    status, text = qimg("run", "disk", given=given, preexec_fn=lambda: resource.setrlimit(resource.RLIMIT_AS, (limit, limit)))
+    equal((status, text == "ok\n" * count + "data 1111\n"), (0, True), "the status, and whether the answers are right")
 
 
 def takes_no_bytes_at_the_last_offset():
@@ -436,6 +447,7 @@ def main():
         runs_nothing,
         runs_a_last_line_without_its_end,
         reads_the_longest_lengths,
+        keeps_a_fill_as_its_byte,
         takes_no_bytes_at_the_last_offset,
         stops_at_a_bad_line_without_its_end,
         syncs_and_counts_leaks,

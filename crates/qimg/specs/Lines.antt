@@ -37,6 +37,7 @@ pub data Order : Type 0 where
 abbrev pub order_of_command : Command → Order
 order_of_command (C.Read offset length) = reads offset length
 order_of_command (C.Write offset bytes) = writes offset bytes.items
+order_of_command (C.Fill offset length byte) = writes offset (replicate length byte)
 order_of_command (C.GetMapping slot offset max) = maps slot offset max
 order_of_command (C.PrepareDataMapping slot offset length overwrite) = prepares slot offset length overwrite
 order_of_command (C.WriteMapped slot at bytes) = puts slot at bytes.items

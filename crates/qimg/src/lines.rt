@@ -57,7 +57,7 @@ fn parse_words(alloc: Global, words: &[&str]) -> Result<Command, LineError>
     match *name {
         "read" => read_command(operands),
         "write" => write_command(alloc, operands),
-        "fill" => fill_command(alloc, operands),
+        "fill" => fill_command(operands),
         "map" => map_command(operands),
         "prepare" => prepare_command(operands),
         "put" => put_command(alloc, operands),
@@ -151,7 +151,7 @@ fn write_command(alloc: Global, operands: &[&str]) -> Result<Command, LineError>
     Ok(Command::Write { offset, bytes })
 }
 
-fn fill_command(alloc: Global, operands: &[&str]) -> Result<Command, LineError>
+fn fill_command(operands: &[&str]) -> Result<Command, LineError>
     ensures ok { IfOk result (λ command. fill_of (map (λ word. word.now) operands.now) ≡ Some (order_of_command command)) }
     ensures unreadable { IsErrOf result Unreadable → fill_of (map (λ word. word.now) operands.now) ≡ None }
 {
@@ -165,8 +165,11 @@ fn fill_command(alloc: Global, operands: &[&str]) -> Result<Command, LineError>
     ) else {
         return Err(LineError::Unreadable);
     };
-    let bytes = vec![in alloc; byte; length as usize]?;
-    Ok(Command::Write { offset, bytes })
+    Ok(Command::Fill {
+        offset,
+        length,
+        byte,
+    })
 }
 
 fn prepare_command(operands: &[&str]) -> Result<Command, LineError>
