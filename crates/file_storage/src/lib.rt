@@ -2,6 +2,7 @@
 #![tactic(auto)]
 
 mod file_storage;
+mod holes;
 mod limits;
 mod locks;
 mod opening;
