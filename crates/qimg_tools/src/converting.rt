@@ -3,6 +3,7 @@
 use crate::failures::Failure;
 use crate::layers::{Files, open_layers};
 use crate::messages::{DONE, ended, explain, refuse, refuse_file, refused, warn_of_sectors};
+use crate::raw_file::RawFile;
 use crate::target::Target;
 use crate::words::{DiskFormat, Settings, Words};
 use file_storage::{FileStorage, StreamedFile, is_same_file, replace};
@@ -255,8 +256,7 @@ fn convert_source<'a>(
     let verifies = settings.flags.verifies;
     match source {
         Source::File(name, source) => {
-            let how = how_converted(settings);
-            let (source, made) = convert_storage(rt.alloc(), source, file, target, how, verifies);
+            let (source, made) = convert_streamed(rt, settings, source, file, target);
             let unread = Unread {
                 file: name,
                 cause: source.last_error(),
@@ -272,10 +272,7 @@ fn convert_source<'a>(
                     convert_storage(rt.alloc(), source, file, target, how, verifies)
                 }
                 DiskFormat::Qcow2 => {
-                    let layout = Layout {
-                        cluster: settings.layout.cluster_size,
-                        width: settings.layout.refcount_bits,
-                    };
+                    let layout = layout_of(settings);
                     convert_disk(rt.alloc(), source, file, target, layout, verifies)
                 }
             };
@@ -285,13 +282,32 @@ fn convert_source<'a>(
 }
 
 // A file is an image of which a raw disk is made, or a raw disk of which an image is made.
-fn how_converted(settings: &Settings<'_>) -> Conversion {
+fn convert_streamed(
+    rt: &HostRuntime,
+    settings: &Settings<'_>,
+    source: StreamedFile,
+    file: StreamedFile,
+    target: &mut Target<'_>,
+) -> (StreamedFile, Result<u64, Unplaced<StreamedFile>>) {
+    let verifies = settings.flags.verifies;
     match settings.target {
-        DiskFormat::Raw => Conversion::ImageToRaw,
-        DiskFormat::Qcow2 => Conversion::RawToImage {
-            cluster: settings.layout.cluster_size,
-            width: settings.layout.refcount_bits,
-        },
+        DiskFormat::Raw => {
+            let how = Conversion::ImageToRaw;
+            convert_storage(rt.alloc(), source, file, target, how, verifies)
+        }
+        DiskFormat::Qcow2 => {
+            let disk = RawFile::new(source);
+            let layout = layout_of(settings);
+            let (disk, made) = convert_disk(rt.alloc(), disk, file, target, layout, verifies);
+            (disk.into_file(), made)
+        }
+    }
+}
+
+fn layout_of(settings: &Settings<'_>) -> Layout {
+    Layout {
+        cluster: settings.layout.cluster_size,
+        width: settings.layout.refcount_bits,
     }
 }
 

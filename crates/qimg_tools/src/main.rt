@@ -14,6 +14,7 @@ mod making;
 mod map;
 mod messages;
 mod plain;
+mod raw_file;
 mod resizing;
 mod sizes;
 mod target;
@@ -36,8 +37,8 @@ use crate::messages::{
 use crate::resizing::{Resizing, Unresized, resize};
 use crate::sizes::{SizeChange, size, size_change};
 use crate::vetting::{Candidate, vet};
-use crate::words::{BadWord, Command, Settings, USAGE, Words, read_words};
-use file_storage::FileStorage;
+use crate::words::{BadWord, Command, DiskFormat, Settings, USAGE, Words, read_words};
+use file_storage::{FileStorage, StreamedFile};
 use image_access::Format;
 use qcow2_image::ImageError;
 use std::io;
@@ -168,31 +169,24 @@ fn compare_files(
     names: Names<'_>,
     output: &mut impl Write,
 ) -> u8 {
-    let mut one = match file_storage::open_read_only(rt, names.from) {
+    let one = match disk_in(rt, names.from, settings.source) {
         Ok(one) => one,
         Err(e) => {
             refuse_file(rt, names.from, &e);
             return UNCOMPARED;
         }
     };
-    let mut other = match file_storage::open_read_only(rt, names.to) {
+    let other = match disk_in(rt, names.to, settings.other) {
         Ok(other) => other,
         Err(e) => {
             refuse_file(rt, names.to, &e);
             return UNCOMPARED;
         }
     };
-    let format = format_of(&mut one, settings.source);
-    let other_format = format_of(&mut other, settings.other);
     let (one, other, found) = if settings.flags.is_quiet {
-        compare(
-            rt.alloc(),
-            (one, format),
-            (other, other_format),
-            &mut io::sink(),
-        )
+        compare(rt.alloc(), one, other, &mut io::sink())
     } else {
-        compare(rt.alloc(), (one, format), (other, other_format), output)
+        compare(rt.alloc(), one, other, output)
     };
     match found {
         Ok(status) => return status,
@@ -201,14 +195,24 @@ fn compare_files(
     UNCOMPARED
 }
 
+// Opens the disk in a file, in the given format or in the one that the file begins like.
+fn disk_in(
+    rt: &HostRuntime,
+    file: &str,
+    format: Option<DiskFormat>,
+) -> io::Result<(StreamedFile, Format)> {
+    let mut storage = file_storage::open_read_only(rt, file)?;
+    let format = format_of(&mut storage, format);
+    Ok((StreamedFile::new(rt.alloc(), storage)?, format))
+}
+
 // Reports which of two files could not be compared, and why.
 fn tell_uncompared(
     rt: &HostRuntime,
     names: Names<'_>,
-    files: (FileStorage, FileStorage),
+    files: (StreamedFile, StreamedFile),
     uncompared: Uncompared,
 ) {
-    let (mut one, mut other) = files;
     let unread = match uncompared {
         Uncompared::Unread(unread) => unread,
         Uncompared::Unprinted(cause) => {
@@ -216,14 +220,16 @@ fn tell_uncompared(
             return;
         }
     };
-    let (file, storage) = if unread.is_other {
-        (names.to, &mut other)
+    let (one, other) = files;
+    let (file, stream) = if unread.is_other {
+        (names.to, other)
     } else {
-        (names.from, &mut one)
+        (names.from, one)
     };
+    let mut storage = stream.into_file();
     let done: Result<u8, Failure> = Err(Failure::Refused(unread.cause));
     ended(rt, file, storage.last_error(), &done);
-    explain(rt, file, storage, &done);
+    explain(rt, file, &mut storage, &done);
 }
 
 fn say(line: &str, output: &mut impl Write) -> u8 {
