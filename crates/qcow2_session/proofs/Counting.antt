@@ -1,9 +1,9 @@
 -- The failures that a run counts command by command, and a conversion call by call.
 use Rattle.std.proofs.Common.{◌≡◌, ◌≢◌, ◌∷◌, ◌++◌, ℕ, inl, inr, List, [], None, Some, Result, Ok, Err, refl, sym, ap, ◌∙◌, subst, arith}
-use Rattle.qcow2_session.proofs.Common.{BackingView, StorageView, HasCause, Rose, StorageError, of_storage, ImageError, Qcow2, CommitRefused, reason_of, is_failed, CountsImageChanges, CountsImageFaults, IsNotOfStorage, NoFewerFaults, SameFaults, ReportsFault, counted_since, each_since, faults_then, fewer_of, rose_after, tells_since, untouched, changes_before, counts_on, counts_still, FailsBy, MarksConversion, MarksInParts, CommandCounts, ConversionCounts, RunCounts, ReportsConversion, refusal_in, Reply}
+use Rattle.qcow2_session.proofs.Common.{BackingView, StorageView, HasCause, Rose, StorageError, of_storage, ImageError, Qcow2, CommitRefused, reason_of, is_failed, CountsImageChanges, CountsImageFaults, IsNotOfStorage, NoFewerFaults, SameFaults, ReportsFault, counted_since, each_since, faults_then, fewer_of, rose_after, tells_since, untouched, counts_on, counts_still, FailsBy, MarksConversion, MarksInParts, CommandCounts, ConversionCounts, RunCounts, ReportsConversion, refusal_in, Reply}
 use Rattle.image_access.specs.declared.error.StorageError.TheVariants as S
 use Rattle.qcow2_alloc.specs.declared.error.ImageError.TheVariants as I
-use Rattle.qcow2_session.proofs.Marking.{fails_no_more, parts_behind, stays_failed}
+use Rattle.qcow2_session.proofs.Marking.{fails_no_more, last_behind, last_none, parts_behind, stays_failed}
 
 -- a storage that is refused as failed counts that
 raw_fault : {A : Type 0} (x : StorageError) (before now : ℕ) → HasCause {T = A} before now (Err x) → of_storage x ≡ I.Storage → Rose before now
@@ -66,7 +66,7 @@ module _ {S F : Type 0} (view : S → StorageView) (backing : F → BackingView)
 
   -- the raw disk was refused, or nothing was called
   rests : {T : Type 0} (old new : Qcow2 S F) (e : ImageError) → IsSoFar old new → MarksConversion view old new {A = T} (Err e)
-  rests old new e first = record { answered = tt; works = λ _ _. first.works; stays = λ failed. first.works ∙ failed; counts = first.changes; memory = λ _ failed. inl (sym first.works ∙ failed) }
+  rests old new e first = record { answered = tt; works = λ _ _. first.works; stays = λ failed. first.works ∙ failed; counts = first.changes; memory = λ _. last_none view old new first.works first.changes }
 
   -- what a refused call of the image reports, for a conversion that began earlier
   pub image_tells : (old mid new : Qcow2 S F) (before now : ℕ) (e : ImageError) → SameFaults view backing old mid → ReportsFault view backing mid new e → FailsBy (Some e) (is_failed mid) (is_failed new) → ReportsConversion view backing old new before now e
@@ -91,7 +91,7 @@ module _ {S F : Type 0} (view : S → StorageView) (backing : F → BackingView)
     works = λ other unfailed. marks.works other unfailed ∙ first.works;
     stays = λ failed. marks.stays (first.works ∙ failed);
     counts = counts_on view old mid new first.changes marks.counts;
-    memory = λ is failed. elim (marks.memory (ap Err (let same : e ≡ I.Memory = cc in same)) failed) [ inl was ↦ inl (sym first.works ∙ was) | inr rose ↦ inr (changes_before old mid new first.changes.no_fewer rose) ];
+    memory = λ is. last_behind view old mid new first.works first.changes (marks.memory (ap Err (let same : e ≡ I.Memory = cc in same)));
   }
 
   -- a call of the image was refused

@@ -1,7 +1,8 @@
 -- When commands fail an image, one call after another.
-use Rattle.std.proofs.Common.{◌≡◌, ◌≢◌, ◌||◌, ◌∙◌, inl, inr, ℕ, Bool, true, false, IsTrue, Option, Some, None, refl, sym, ap, subst, Result, Ok, Err}
-use Rattle.qcow2_session.proofs.Common.{option_or, MatchOption, OnOk, StorageView, ImageError, IsNotOfStorage, reason_of, is_failed, CommitFailsOnceWritten, CountsImageChanges, FailsOnceWritten, MarksFailed, MarksRefused, failed_after, Qcow2, CommitRefused, changes_before, changes_later, counts_on, counts_still, once_none, reply_of_clearing, refusal_in, FailsBy, MarksAtOnce, MarksInParts, reason_in, Reply}
+use Rattle.std.proofs.Common.{◌≡◌, ◌≢◌, ◌||◌, ◌∙◌, ℕ, Bool, true, false, IsTrue, Option, Some, None, refl, sym, ap, subst, Result, Ok, Err}
+use Rattle.qcow2_session.proofs.Common.{option_or, MatchOption, OnOk, StorageView, ImageError, IsNotOfStorage, reason_of, is_failed, CommitFailsOnceWritten, CountsImageChanges, FailsOnceWritten, MarksFailed, MarksRefused, failed_after, Qcow2, CommitRefused, counts_on, counts_still, once_none, reply_of_clearing, refusal_in, FailsBy, MarksAtOnce, MarksInParts, reason_in, Reply}
 use Rattle.qcow2_alloc.specs.declared.error.ImageError.TheVariants as I
+use Rattle.qcow2_session.specs.Marks.{LastCallMarks}
 
 stays_marked : (before recorded now : Bool) → now ≡ (before || recorded) → IsTrue before → IsTrue now
 stays_marked true recorded now is failed = is
@@ -58,7 +59,11 @@ module _ {S F : Type 0} (view : S → StorageView) where
   -- ---- several calls
 
   pub in_parts : {reason : Option ImageError} {old new : Qcow2 S F} → MarksAtOnce view reason old new → MarksInParts view reason old new
-  in_parts marks = record { fails = marks.fails; counts = marks.counts; memory = λ is. (marks.memory is).changed }
+  in_parts {old = old} {new = new} marks = record {
+    fails = marks.fails;
+    counts = marks.counts;
+    memory = λ is. record { from = old; to = new; before = counts_still view old; unmarked = refl; marks = marks.memory is; after = counts_still view new; marked = refl };
+  }
 
   -- all calls succeeded, or what was not called is refused after them
   pub parts_answered : (old new : Qcow2 S F) → is_failed new ≡ is_failed old → CountsImageChanges view old new → MarksInParts view None old new
@@ -67,19 +72,26 @@ module _ {S F : Type 0} (view : S → StorageView) where
   pub parts_beyond : (old new : Qcow2 S F) → is_failed new ≡ is_failed old → CountsImageChanges view old new → MarksInParts view (Some I.BeyondSize) old new
   parts_beyond old new same counts = record { fails = same; counts = counts; memory = λ bad. absurd (cc) }
 
+  -- the last call comes after others, or there was none but a refusal that marks nothing
+  pub last_behind : (old mid new : Qcow2 S F) → is_failed mid ≡ is_failed old → CountsImageChanges view old mid → LastCallMarks view mid new → LastCallMarks view old new
+  last_behind old mid new same first l = record { from = l.from; to = l.to; before = counts_on view old mid l.from first l.before; unmarked = l.unmarked ∙ same; marks = l.marks; after = l.after; marked = l.marked }
+
+  pub last_none : (old new : Qcow2 S F) → is_failed new ≡ is_failed old → CountsImageChanges view old new → LastCallMarks view old new
+  last_none old new same counts = record { from = new; to = new; before = counts; unmarked = same; marks = once_none view new; after = counts_still view new; marked = refl }
+
   -- after calls that mark nothing, and before such
   pub parts_behind : (reason : Option ImageError) (old mid new : Qcow2 S F) → is_failed mid ≡ is_failed old → CountsImageChanges view old mid → MarksInParts view reason mid new → MarksInParts view reason old new
   parts_behind reason old mid new same first last = record {
     fails = subst (λ (b : Bool). FailsBy reason b (is_failed new)) same last.fails;
     counts = counts_on view old mid new first last.counts;
-    memory = λ is failed. elim (last.memory is failed) [ inl was ↦ inl (sym same ∙ was) | inr rose ↦ inr (changes_before old mid new first.no_fewer rose) ];
+    memory = λ is. last_behind old mid new same first (last.memory is);
   }
 
   pub parts_before : (reason : Option ImageError) (old mid new : Qcow2 S F) → is_failed new ≡ is_failed mid → CountsImageChanges view mid new → MarksInParts view reason old mid → MarksInParts view reason old new
   parts_before reason old mid new same last first = record {
     fails = subst (λ (b : Bool). FailsBy reason (is_failed old) b) (sym same) first.fails;
     counts = counts_on view old mid new first.counts last;
-    memory = λ is failed. elim (first.memory is (sym same ∙ failed)) [ inl was ↦ inl was | inr rose ↦ inr (changes_later old mid new last.no_fewer rose) ];
+    memory = λ is. let l = first.memory is in record { from = l.from; to = l.to; before = l.before; unmarked = l.unmarked; marks = l.marks; after = counts_on view l.to mid new l.after last; marked = same ∙ l.marked };
   }
 
 -- a failed image stays so
