@@ -270,30 +270,6 @@ def each_long_read_fails():
     equal((text, number < 40), (f"imported {len(data)}\n", True), "where none failed")
 
 
-def holes_that_are_not_reported():
-    """Where the file system doesn't report a hole it is read. A size that can't be found out is a fault."""
-    with open("raw", "wb") as it:
-        it.truncate(3 << 20)
-    for place in (1 << 20, (2 << 20) + 5):
-        put("raw", place, random.Random(place).randbytes(200000))
-    statuses = []
-    for number in range(1, 20):
-        has("disk", BEFORE)
-        status, text = with_calls_that(f"lseek:error=EINVAL:when={number}", "raw", "import", "raw", "disk", "4096", "16")
-        if not in_the_record("INJECTED"):
-            break
-        statuses.append(status)
-        if status:
-            equal((status, text), STORAGE, f"call {number}")
-            stays(f"call {number}")
-        else:
-            is_clean("disk")
-            compares(contents("raw"))
-    equal((status, number > 3, set(statuses)), (0, True, {0, 1}), "where none failed")
-    is_clean("disk")
-    compares(contents("raw"))
-
-
 def each_long_write_fails():
     """Writes that are joined fail as others do: nothing is told as done, and the file is as it was."""
     data = random.Random(9).randbytes(700 * 1024)
@@ -504,7 +480,7 @@ def main():
     for check in (
         a_compressed_image, a_raw_disk_that_is_not_opened, an_image_that_is_not_opened, what_is_no_image, an_image_that_needs_another_file, one_file_for_both,
         files_that_may_not_be_written, clusters_that_no_image_has, full_devices, full_devices_for_output, each_read_of_the_raw_disk_fails, each_write_of_the_image_fails,
-        each_way_to_the_name_fails, each_write_of_an_export_fails, each_long_read_fails, holes_that_are_not_reported, each_long_write_fails, a_raw_disk_that_is_cut, an_import_that_is_killed, two_imports_to_a_new_name,
+        each_way_to_the_name_fails, each_write_of_an_export_fails, each_long_read_fails, each_long_write_fails, a_raw_disk_that_is_cut, an_import_that_is_killed, two_imports_to_a_new_name,
         what_is_left_is_no_file, the_rights_of_the_file, an_image_that_qemu_has_open, a_process_that_locks_bytes, a_device_that_is_too_small, files_past_a_limit,
     ):
         checks.run(check.__name__, check)

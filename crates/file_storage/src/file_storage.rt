@@ -1,6 +1,5 @@
 ghost use Rattle.std.specs.Prelude.{◌≡◌, None};
 
-use crate::holes::Hole;
 use crate::limits::require_within;
 use crate::zeros::{end_of, fill_from, set_size, size_of, write_or_grow, write_zeros};
 use image_access::{Storage, StorageError, StoragePreallocate};
@@ -73,11 +72,6 @@ impl FileStorage {
         }
         let end = size_of(&self.file);
         self.told(end)
-    }
-
-    // The hole at an offset.
-    pub(crate) fn hole_at(&self, at: u64) -> Hole {
-        Hole::at(&self.file, at)
     }
 
     // Sets the size of a file, up to the limit. A block device keeps its end.

@@ -2,7 +2,6 @@
 #![tactic(auto)]
 
 mod file_storage;
-mod holes;
 mod limits;
 mod locks;
 mod opening;

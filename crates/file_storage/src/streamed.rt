@@ -3,7 +3,6 @@ ghost use Rattle.file_storage.specs.FileStorage.{CountsFailures};
 ghost use Rattle.file_storage.specs.StreamedFile.{holding_nothing, StaysHeld, HoldsNoReads, ForgetsReads, LeavesNoneUnwritten, HoldsMore, WritesOrHolds};
 
 use crate::FileStorage;
-use crate::holes::Hole;
 use crate::progress::Progress;
 use image_access::{Storage, StorageError, StoragePreallocate};
 use std::alloc::{AllocError, Global};
@@ -21,7 +20,7 @@ const LONG: usize = 32768;
 const IN_A_ROW: u32 = 16;
 
 /// A storage over a file that is read or written from front to back. Sequential reads are answered from bytes that were read
-/// ahead, and in holes of the file by zeros. Adjacent writes are collected in memory, and written as one: before any other
+/// ahead. Adjacent writes are collected in memory, and written as one: before any other
 /// write, before each read, and before `size`, `flush` and `sync` return. So at any time the file has the first writes, in order. Bytes that can't
 /// be written stay in memory, and each of these calls is a fault until they are written.
 #[derive(Drop)]
@@ -33,7 +32,6 @@ pub struct StreamedFile {
     is_unwritten: bool,
     next: u64,
     in_a_row: u32,
-    hole: Hole,
     progress: Option<Progress>,
     ghost fits: { held ≤ length room.items },
 }
@@ -60,7 +58,6 @@ impl StreamedFile {
             is_unwritten: false,
             next: 0,
             in_a_row: 0,
-            hole: Hole::NONE,
             progress: None,
         })
     }
@@ -70,31 +67,6 @@ impl StreamedFile {
         ensures last { result ≡ self.now.file.last_error }
     {
         self.file.last_error()
-    }
-
-    /// The file. Bytes that wait to be written are dropped.
-    pub fn into_file(self) -> FileStorage
-        ensures file { result ≡ self.file }
-    {
-        self.file
-    }
-
-    /// How many bytes from an offset on lie in a hole of the file, up to a limit. 0 if the file system doesn't report that, or if bytes wait to be
-    /// written. It is asked once for each hole.
-    pub fn known_zeros(&mut self, at: u64, max: u64) -> u64
-        ensures same { self.new ≡ self.old }
-        ensures within { result ≤ max }
-        ensures unwritten { IsTrue self.old.is_unwritten → result ≡ 0 }
-    {
-        if self.is_unwritten {
-            return 0;
-        }
-        if !self.hole.covers(at) {
-            self.hole = self.file.hole_at(at);
-        }
-        let count = self.hole.bytes_from(at).min(max);
-        self.reach(at, count);
-        count
     }
 
     /// From now on, prints on standard output how much was read or written, in percent of the size that `size` or `resize` last returned or set, at
@@ -131,11 +103,6 @@ impl StreamedFile {
         self.write_out()?;
         let is_expected = self.is_expected(at, buf.len());
         if self.reads_held(at, buf) {
-            return Ok(());
-        }
-        let count = buf.len() as u64;
-        if is_expected && self.known_zeros(at, count) == count {
-            buf.fill(0);
             return Ok(());
         }
         if !is_expected || buf.len() >= LONG {
@@ -180,11 +147,10 @@ impl StreamedFile {
         Ok(())
     }
 
-    // Drops bytes that were read ahead, and what is known of holes. Bytes that wait to be written stay.
+    // Drops bytes that were read ahead. Bytes that wait to be written stay.
     fn forget(&mut self)
         ensures forgets { ForgetsReads self.old self.new }
     {
-        self.hole = Hole::NONE;
         self.held = if self.is_unwritten { self.held } else { 0 };
     }
 

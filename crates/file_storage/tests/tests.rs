@@ -139,33 +139,6 @@ fn a_file_with_holes_is_read(rt: HostRuntime) -> Result<(), Fail> {
 }
 
 #[test]
-fn what_is_written_to_a_hole_is_read(rt: HostRuntime) -> Result<(), Fail> {
-    let alloc = rt.alloc();
-    let _ = std::fs::remove_file(&rt, "hole");
-    let mut storage = StreamedFile::new(alloc, create(&rt, "hole")?)?;
-    let mut wanted = MemStorage::new(Vec::new(alloc));
-    storage.resize(1 << 20, StoragePreallocate::None)?;
-    wanted.resize(1 << 20, StoragePreallocate::None)?;
-    for index in 0..24 {
-        compare(&rt, alloc, &mut storage, &mut wanted, index * 4096, 4096)?;
-    }
-    let known = storage.known_zeros(100, 1 << 20);
-    assert!(rt; known == 0 || known == (1 << 20) - 100);
-    storage.write(99000, &[7; 3])?;
-    wanted.write(99000, &[7; 3])?;
-    assert_eq!(rt; storage.known_zeros(200000, 10), 0);
-    for index in 24..40 {
-        compare(&rt, alloc, &mut storage, &mut wanted, index * 4096, 4096)?;
-    }
-    assert!(rt; storage.known_zeros(99001, 10) == 0);
-    assert!(rt; storage.known_zeros(500000, 10) <= 10);
-    let mut file = storage.into_file();
-    assert_eq!(rt; file.size()?, 1 << 20);
-    std::fs::remove_file(&rt, "hole")?;
-    Ok(())
-}
-
-#[test]
 fn writes_are_held_until_they_are_asked_for(rt: HostRuntime) -> Result<(), Fail> {
     let alloc = rt.alloc();
     let _ = std::fs::remove_file(&rt, "held");

@@ -3,7 +3,6 @@
 use crate::failures::Failure;
 use crate::layers::{Files, open_layers};
 use crate::messages::{DONE, ended, explain, refuse, refuse_file, refused, warn_of_sectors};
-use crate::raw_file::RawFile;
 use crate::target::Target;
 use crate::words::{DiskFormat, Settings, Words};
 use file_storage::{FileStorage, StreamedFile, is_same_file, replace};
@@ -256,7 +255,8 @@ fn convert_source<'a>(
     let verifies = settings.flags.verifies;
     match source {
         Source::File(name, source) => {
-            let (source, made) = convert_streamed(rt, settings, source, file, target);
+            let how = how_converted(settings);
+            let (source, made) = convert_storage(rt.alloc(), source, file, target, how, verifies);
             let unread = Unread {
                 file: name,
                 cause: source.last_error(),
@@ -272,7 +272,10 @@ fn convert_source<'a>(
                     convert_storage(rt.alloc(), source, file, target, how, verifies)
                 }
                 DiskFormat::Qcow2 => {
-                    let layout = layout_of(settings);
+                    let layout = Layout {
+                        cluster: settings.layout.cluster_size,
+                        width: settings.layout.refcount_bits,
+                    };
                     convert_disk(rt.alloc(), source, file, target, layout, verifies)
                 }
             };
@@ -282,32 +285,13 @@ fn convert_source<'a>(
 }
 
 // A file is an image of which a raw disk is made, or a raw disk of which an image is made.
-fn convert_streamed(
-    rt: &HostRuntime,
-    settings: &Settings<'_>,
-    source: StreamedFile,
-    file: StreamedFile,
-    target: &mut Target<'_>,
-) -> (StreamedFile, Result<u64, Unplaced<StreamedFile>>) {
-    let verifies = settings.flags.verifies;
+fn how_converted(settings: &Settings<'_>) -> Conversion {
     match settings.target {
-        DiskFormat::Raw => {
-            let how = Conversion::ImageToRaw;
-            convert_storage(rt.alloc(), source, file, target, how, verifies)
-        }
-        DiskFormat::Qcow2 => {
-            let disk = RawFile::new(source);
-            let layout = layout_of(settings);
-            let (disk, made) = convert_disk(rt.alloc(), disk, file, target, layout, verifies);
-            (disk.into_file(), made)
-        }
-    }
-}
-
-fn layout_of(settings: &Settings<'_>) -> Layout {
-    Layout {
-        cluster: settings.layout.cluster_size,
-        width: settings.layout.refcount_bits,
+        DiskFormat::Raw => Conversion::ImageToRaw,
+        DiskFormat::Qcow2 => Conversion::RawToImage {
+            cluster: settings.layout.cluster_size,
+            width: settings.layout.refcount_bits,
+        },
     }
 }
 

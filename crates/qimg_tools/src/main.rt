@@ -14,7 +14,6 @@ mod making;
 mod map;
 mod messages;
 mod plain;
-mod raw_file;
 mod resizing;
 mod sizes;
 mod target;
@@ -37,8 +36,8 @@ use crate::messages::{
 use crate::resizing::{Resizing, Unresized, resize};
 use crate::sizes::{SizeChange, size, size_change};
 use crate::vetting::{Candidate, vet};
-use crate::words::{BadWord, Command, DiskFormat, Settings, USAGE, Words, read_words};
-use file_storage::{FileStorage, StreamedFile};
+use crate::words::{BadWord, Command, Settings, USAGE, Words, read_words};
+use file_storage::FileStorage;
 use image_access::Format;
 use qcow2_image::ImageError;
 use std::io;
@@ -169,24 +168,31 @@ fn compare_files(
     names: Names<'_>,
     output: &mut impl Write,
 ) -> u8 {
-    let one = match disk_in(rt, names.from, settings.source) {
+    let mut one = match file_storage::open_read_only(rt, names.from) {
         Ok(one) => one,
         Err(e) => {
             refuse_file(rt, names.from, &e);
             return UNCOMPARED;
         }
     };
-    let other = match disk_in(rt, names.to, settings.other) {
+    let mut other = match file_storage::open_read_only(rt, names.to) {
         Ok(other) => other,
         Err(e) => {
             refuse_file(rt, names.to, &e);
             return UNCOMPARED;
         }
     };
+    let format = format_of(&mut one, settings.source);
+    let other_format = format_of(&mut other, settings.other);
     let (one, other, found) = if settings.flags.is_quiet {
-        compare(rt.alloc(), one, other, &mut io::sink())
+        compare(
+            rt.alloc(),
+            (one, format),
+            (other, other_format),
+            &mut io::sink(),
+        )
     } else {
-        compare(rt.alloc(), one, other, output)
+        compare(rt.alloc(), (one, format), (other, other_format), output)
     };
     match found {
         Ok(status) => return status,
@@ -195,24 +201,14 @@ fn compare_files(
     UNCOMPARED
 }
 
-// Opens the disk in a file, in the given format or in the one that the file begins like.
-fn disk_in(
-    rt: &HostRuntime,
-    file: &str,
-    format: Option<DiskFormat>,
-) -> io::Result<(StreamedFile, Format)> {
-    let mut storage = file_storage::open_read_only(rt, file)?;
-    let format = format_of(&mut storage, format);
-    Ok((StreamedFile::new(rt.alloc(), storage)?, format))
-}
-
 // Reports which of two files could not be compared, and why.
 fn tell_uncompared(
     rt: &HostRuntime,
     names: Names<'_>,
-    files: (StreamedFile, StreamedFile),
+    files: (FileStorage, FileStorage),
     uncompared: Uncompared,
 ) {
+    let (mut one, mut other) = files;
     let unread = match uncompared {
         Uncompared::Unread(unread) => unread,
         Uncompared::Unprinted(cause) => {
@@ -220,16 +216,14 @@ fn tell_uncompared(
             return;
         }
     };
-    let (one, other) = files;
-    let (file, stream) = if unread.is_other {
-        (names.to, other)
+    let (file, storage) = if unread.is_other {
+        (names.to, &mut other)
     } else {
-        (names.from, one)
+        (names.from, &mut one)
     };
-    let mut storage = stream.into_file();
     let done: Result<u8, Failure> = Err(Failure::Refused(unread.cause));
     ended(rt, file, storage.last_error(), &done);
-    explain(rt, file, &mut storage, &done);
+    explain(rt, file, storage, &done);
 }
 
 fn say(line: &str, output: &mut impl Write) -> u8 {
