@@ -1,35 +1,21 @@
 -- A conversation continues by one request.
-use Rattle.std.proofs.Common.{◌≡◌, ◌++◌, ◌∷◌, inl, inr, ℕ, Bool, true, false, List, [], Option, Some, Ok, Err, length, refl, sym, ap, subst, ◌∙◌, append_assoc, append-nil}
-use Rattle.nbd_protocol.proofs.Common.{Appends, Consumes, Appends-nil, Appends-trans, Consumes-nil, Consumes-trans, Command, Request, Way, AnswersLookup, AnswersStatus, Conversation, Converses, Deals, Exchange, Exchanges, Talked, payload_count, payload_length, sent, told, way_of, Does, MayDo, DeviceView}
+use Rattle.std.proofs.Common.{arith, ◌≡◌, ◌++◌, ◌∷◌, inl, inr, ℕ, Bool, true, false, List, [], Option, Some, Ok, Err, length, refl, sym, ap, subst, ◌∙◌, append_assoc, append-nil}
+use Rattle.nbd_protocol.proofs.Common.{Appends, Consumes, Appends-nil, Appends-trans, Consumes-nil, Consumes-trans, Command, Request, Way, AnswersLookup, AnswersStatus, Conversation, Converses, Deals, Exchange, Exchanges, Talked, payload_count, payload_length, sent, told, way_of, DeviceView}
 use Rattle.nbd_protocol.specs.declared.request.Command.TheVariants as C
 use Rattle.nbd_protocol.specs.declared.way.Way.TheVariants as W
 use Rattle.nbd_protocol.specs.Requests.{request_in}
-use Rattle.nbd_protocol.proofs.Acts.{acts_then}
 
 -- ---- ways
 
 pub nothing_sent : (a : Bool) (c : Command) (n : ℕ) → (way_of a c ≡ W.Payload → ⊥) → payload_count c n ≡ 0
-nothing_sent a C.Read n h = refl
 nothing_sent a C.Write n h = absurd (h refl)
-nothing_sent a C.Disconnect n h = refl
-nothing_sent a C.Flush n h = refl
-nothing_sent a C.Trim n h = refl
-nothing_sent a C.Cache n h = refl
-nothing_sent a C.WriteZeroes n h = refl
-nothing_sent a C.BlockStatus n h = refl
-nothing_sent a C.Unknown n h = refl
+nothing_sent a _ n h = refl
 
 pub is_write : (a : Bool) (c : Command) → way_of a c ≡ W.Payload → c ≡ C.Write
-is_write a C.Read h = absurd cc
 is_write a C.Write h = refl
-is_write a C.Disconnect h = absurd cc
-is_write a C.Flush h = absurd cc
-is_write a C.Trim h = absurd cc
-is_write a C.Cache h = absurd cc
-is_write a C.WriteZeroes h = absurd cc
 is_write true C.BlockStatus h = absurd cc
 is_write false C.BlockStatus h = absurd cc
-is_write a C.Unknown h = absurd cc
+is_write _ _ h = absurd cc
 
 -- another way isn't that of a write
 pub not_write : (a : Bool) (c : Command) (by : Way) → way_of a c ≡ by → (by ≡ W.Payload → ⊥) → c ≡ C.Write → ⊥
@@ -40,28 +26,6 @@ length_written r w = sym (ap (λ (c : Command). payload_count c r.length) w)
 
 -- ---- requests without a payload
 
-does_any : (c : Command) (r : Request) (p q : List ℕ) (a b : DeviceView) → (c ≡ C.Write → ⊥) → Does c r p a b → Does c r q a b
-does_any C.Read r p q a b h d = d
-does_any C.Write r p q a b h d = absurd (h refl)
-does_any C.Disconnect r p q a b h d = d
-does_any C.Flush r p q a b h d = d
-does_any C.Trim r p q a b h d = d
-does_any C.Cache r p q a b h d = d
-does_any C.WriteZeroes r p q a b h d = d
-does_any C.BlockStatus r p q a b h d = d
-does_any C.Unknown r p q a b h d = d
-
-may_do_any : (c : Command) (r : Request) (p q : List ℕ) (a b : DeviceView) → (c ≡ C.Write → ⊥) → MayDo c r p a b → MayDo c r q a b
-may_do_any C.Read r p q a b h d = d
-may_do_any C.Write r p q a b h d = absurd (h refl)
-may_do_any C.Disconnect r p q a b h d = d
-may_do_any C.Flush r p q a b h d = d
-may_do_any C.Trim r p q a b h d = d
-may_do_any C.Cache r p q a b h d = d
-may_do_any C.WriteZeroes r p q a b h d = d
-may_do_any C.BlockStatus r p q a b h d = d
-may_do_any C.Unknown r p q a b h d = d
-
 -- the reply to a lookup is spelled in one way alone
 pub lookup_as : {D : Type 0} (view : D → DeviceView) (Flushed Synced : D → D → Type 0) (s t : Bool) (r : Request) (payload reply : List ℕ) (old new : D)
     → AnswersLookup view Flushed Synced s r payload reply old new → AnswersLookup view Flushed Synced t r payload reply old new
@@ -69,15 +33,7 @@ lookup_as view Flushed Synced s t r payload reply old new a = record { found = a
 
 module _ {D : Type 0} (view : D → DeviceView) (Flushed Synced : D → D → Type 0) (structured : Bool) where
   pub status_any : (r : Request) (p q reply : List ℕ) (old new : D) → (r.command ≡ C.Write → ⊥) → AnswersStatus view Flushed Synced structured r p reply old new → AnswersStatus view Flushed Synced structured r q reply old new
-  status_any r p q reply old new h s = record {
-    status = s.status;
-    told = s.told;
-    refused = s.refused;
-    does = acts_then (view old) (view old) (view new) (λ done. Does r.command r p (view old) (view new)) (λ done. Does r.command r q (view old) (view new))
-        (MayDo r.command r p (view old) (view new)) (MayDo r.command r q (view old) (view new)) s.status (λ sound. sound) s.does
-        (λ sound done d. does_any r.command r p q (view old) (view new) h d) (λ sound d. may_do_any r.command r p q (view old) (view new) h d);
-    persisted = s.persisted;
-  }
+  status_any r p q reply old new h s = grind arith
 
   -- ---- one more exchange
 

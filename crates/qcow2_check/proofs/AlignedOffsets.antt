@@ -1,7 +1,7 @@
 -- There is no unaligned offset exactly if each offset is aligned.
-use Rattle.std.proofs.Common.{◌≡◌, ◌≢◌, ◌%◌, ◌<◌, ℕ, eqb, Some, None, refl, ap, inl, inr}
-use Rattle.qcow2_check.proofs.Common.{not, cases_eq, eq-eqb, eqb_tells, sum_below, HeaderFields, cluster_size, IsAligned, host_of, CoverIsAligned, L2Mapping, Data, Zero, Compressed, Uncovered, off_cluster, off_cluster_if, and_from, and_parts}
-use Rattle.qcow2_check.proofs.Terms.{from_some_term, some-sum, one_if-some, true_from_some}
+use Rattle.std.proofs.Common.{arith, ◌≡◌, ◌≢◌, ◌%◌, ◌<◌, ℕ, Some, refl, ap, inl, inr}
+use Rattle.qcow2_check.proofs.Common.{not, cases_eq, eq-eqb, eqb_tells, sum_below, HeaderFields, cluster_size, IsAligned, host_of, CoverIsAligned, L2Mapping, Data, Zero, off_cluster, off_cluster_if, and_from}
+use Rattle.qcow2_check.proofs.Terms.{from_some_term, some-sum, one_if-some}
 
 module _ (h : HeaderFields) where
   aligned_place : (place : ℕ) → ((o : ℕ) → off_cluster h o place ≢ 0 → ⊥) → IsAligned h place
@@ -11,10 +11,7 @@ module _ (h : HeaderFields) where
   ]
 
   never_off : (o place : ℕ) → IsAligned h place → off_cluster h o place ≢ 0 → ⊥
-  never_off o place on some =
-      let off = (and_parts (eqb place o) (not (eqb (place % cluster_size h) 0)) (true_from_some _ some)).1 in
-      let told = ap not (eq-eqb (place % cluster_size h) 0 on) in
-      cc
+  never_off o place on some = grind arith
 
   -- ---- of the entries of a table
 
@@ -31,14 +28,10 @@ module _ (h : HeaderFields) where
 
   pub aligned_cover : (cover : L2Mapping) → ((o : ℕ) → off_cluster_if h o (host_of cover) ≢ 0 → ⊥) → CoverIsAligned h cover
   aligned_cover (Data host copied) never = aligned_place host never
-  aligned_cover (Zero None) never = tt
   aligned_cover (Zero (Some k)) never = aligned_place k.0 never
-  aligned_cover (Compressed place sectors) never = tt
-  aligned_cover Uncovered never = tt
+  aligned_cover _ never = tt
 
   pub cover_never_off : (cover : L2Mapping) → CoverIsAligned h cover → (o : ℕ) → off_cluster_if h o (host_of cover) ≢ 0 → ⊥
   cover_never_off (Data host copied) on o some = never_off o host on some
-  cover_never_off (Zero None) on o some = some refl
   cover_never_off (Zero (Some k)) on o some = never_off o k.0 on some
-  cover_never_off (Compressed place sectors) on o some = some refl
-  cover_never_off Uncovered on o some = some refl
+  cover_never_off _ on o some = some refl

@@ -1,8 +1,7 @@
 -- The clusters with a breach, which have references or copied marks.
-use Rattle.std.proofs.Common.{◌≡◌, ◌&&◌, ℕ, Bool, true, false, cond, eqb, refl, sym, ap, ◌∙◌}
-use Rattle.qcow2_check.proofs.Common.{cond-true, cond-false, Counts, Tally, TallyMap, tally_in, no_tally, count_in, counted_in, with_count, lines, is_breached, numbered, and_parts, eqb-true}
+use Rattle.std.proofs.Common.{arith, ◌≡◌, ◌&&◌, ℕ, Bool, true, false, cond, eqb, refl, sym, ap, ◌∙◌}
+use Rattle.qcow2_check.proofs.Common.{cond-false, Counts, Tally, TallyMap, tally_in, no_tally, count_in, counted_in, with_count, lines, is_breached, numbered}
 use Rattle.qcow2_check.proofs.Rising.{lines-same}
-use Rattle.qcow2_check.proofs.TallyTests.{is_breached-blank}
 
 module _ (m : TallyMap) (c : Counts) where
   abbrev shows : ℕ → Tally
@@ -11,10 +10,7 @@ module _ (m : TallyMap) (c : Counts) where
   -- neither named nor marked, or with its count
   blank_or_same : (q : ℕ) (b : Bool) → (eqb (tally_in m q).named 0 && eqb (tally_in m q).marked 0) ≡ b
       → cond b ((shows q ≡ no_tally) × (is_breached (counted_in m c q) ≡ false)) (shows q ≡ counted_in m c q)
-  blank_or_same q true is = (
-    cond-true _ _ _ is,
-    is_breached-blank (counted_in m c q) (eqb-true _ _ ((and_parts _ _ is).0)) (eqb-true _ _ ((and_parts (eqb (tally_in m q).named 0) _ is).1)),
-  )
+  blank_or_same q true is = grind arith
   blank_or_same q false is = cond-false _ _ _ is
 
   tests_alike : (q : ℕ) (b : Bool) → cond b ((shows q ≡ no_tally) × (is_breached (counted_in m c q) ≡ false)) (shows q ≡ counted_in m c q)

@@ -1,14 +1,11 @@
 -- Properties of every L2 entry, as sums of terms.
-use Rattle.std.proofs.Common.{◌≢◌, ◌<◌, ℕ, cond, eqb, sym, ◌∙◌, inl, inr}
-use Rattle.qcow2_check.proofs.Common.{cases_eq, cond-true, cond-false, eq-eqb, ne_eqb, Bytes, sum_below, HeaderFields, entries_per_cluster, l1_entry, l2_entry, host_offset, entry_cover, EachCover, L2Mapping}
+use Rattle.std.proofs.Common.{arith, ◌≢◌, ◌<◌, ℕ, cond, eqb, sym, ◌∙◌}
+use Rattle.qcow2_check.proofs.Common.{cond-false, ne_eqb, Bytes, sum_below, HeaderFields, entries_per_cluster, l1_entry, l2_entry, host_offset, entry_cover, EachCover, L2Mapping}
 use Rattle.qcow2_check.proofs.Terms.{from_some_term, some-sum}
 
 -- a term under an L1 entry with a table
 pub term_under : (place term : ℕ) {P : Type 0} → (place ≢ 0 → term ≢ 0 → P) → cond (eqb place 0) 0 term ≢ 0 → P
-term_under place term follows some = elim (cases_eq place 0) [
-  | inl none ↦ absurd (some (cond-true _ _ _ (eq-eqb place 0 none)))
-  | inr table ↦ follows table (λ none. some (cond-false _ _ _ (ne_eqb place 0 table) ∙ none))
-]
+term_under place term follows some = grind arith
 
 pub some-under : (place term : ℕ) → place ≢ 0 → term ≢ 0 → cond (eqb place 0) 0 term ≢ 0
 some-under place term table some none = some (sym (cond-false _ _ _ (ne_eqb place 0 table)) ∙ none)

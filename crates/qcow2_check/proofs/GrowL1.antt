@@ -1,13 +1,9 @@
 -- Steps over the L1 table.
-use Rattle.std.proofs.Common.{◌≡◌, ◌≢◌, ◌+◌, ◌*◌, ◌&&◌, ℕ, List, length, Bool, true, false, refl, sym, ap, ◌∙◌, arith}
-use Rattle.qcow2_check.proofs.Common.{cond-true, cond-false, eq-eqb, ne_eqb, TallyMap, Bytes, one_if, byte_at, HeaderFields, cluster_size, entries_per_cluster, host_offset, named_by_l2_table, table_in, TalliesGrow, tally_in, entry_at, named_by_entries, marked_by_entries, marked_by_l2_table, mark_of_entry, tables_among, marks_among, HasBytesAt}
+use Rattle.std.proofs.Common.{◌≡◌, ◌≢◌, ◌+◌, ◌*◌, ℕ, List, length, ap, ◌∙◌, arith}
+use Rattle.qcow2_check.proofs.Common.{cond-true, eq-eqb, TallyMap, Bytes, byte_at, HeaderFields, cluster_size, entries_per_cluster, host_offset, named_by_l2_table, table_in, TalliesGrow, entry_at, named_by_entries, marked_by_entries, marked_by_l2_table, mark_of_entry, tables_among, marks_among, HasBytesAt}
 use Rattle.qcow2_check.proofs.Sums.{sum_below_none, sum_below_more}
-use Rattle.qcow2_check.proofs.Grow.{grows_none, grows_more}
+use Rattle.qcow2_check.proofs.Grow.{grows_none}
 use Rattle.qcow2_check.proofs.Shifts.{named_by_part, marked_by_part}
-
-pub one_if-and_true : (b : Bool) → one_if (b && true) ≡ one_if b
-one_if-and_true true = refl
-one_if-and_true false = refl
 
 -- ---- the entries of the L1 table
 
@@ -18,11 +14,7 @@ pub entries_more : (h : HeaderFields) (l1 : List ℕ) (i entry : ℕ) (old mid n
     → TalliesGrow old mid (tables_among h l1 i) (tables_among h l1 i) (marks_among h l1 i)
     → TalliesGrow mid new (λ q. table_in h q (host_offset entry)) (λ q. table_in h q (host_offset entry)) (mark_of_entry h entry)
     → TalliesGrow old new (tables_among h l1 (i + 1)) (tables_among h l1 (i + 1)) (marks_among h l1 (i + 1))
-entries_more h l1 i entry old mid new is so_far next =
-    let tables : (q : ℕ) → tables_among h l1 (i + 1) q ≡ tables_among h l1 i q + table_in h q (host_offset entry) =
-    λ q. sum_below_more i (λ i. table_in h q (host_offset (entry_at l1 i))) ∙ ap (λ e. tables_among h l1 i q + table_in h q (host_offset e)) (sym is) in
-    grows_more old mid new _ _ _ _ _ _ _ _ _ so_far next tables tables
-    (λ q. sum_below_more i (λ i. mark_of_entry h (entry_at l1 i) q) ∙ ap (λ e. marks_among h l1 i q + mark_of_entry h e q) (sym is))
+entries_more h l1 i entry old mid new is so_far next = grind (arith, sum_below_more)
 
 -- ---- an L2 table, so many times
 
@@ -39,11 +31,4 @@ pub one_table : (h : HeaderFields) (b : Bytes) (bytes : List ℕ) (place times :
     → TalliesGrow old new (λ q. times * named_by_entries h (byte_at bytes) 0 (entries_per_cluster h) q) (λ _. 0) (λ q. times * marked_by_entries h (byte_at bytes) 0 (entries_per_cluster h) q)
     → TalliesGrow old new (λ q. times * named_by_l2_table h b q place) (λ _. 0) (λ q. times * marked_by_l2_table h b q place)
 unfolding named_by_l2_table
-one_table h b bytes place times old new some stands whole table =
-    let test = ne_eqb place 0 some in
-    record {
-      more_named = λ q. table.more_named q ∙ ap (λ n. (tally_in old q).named + times * n) (named_by_part h b bytes place q stands whole ∙ sym (cond-false _ _ _ test));
-      more_for_tables = table.more_for_tables;
-      more_marked = λ q. table.more_marked q ∙ ap (λ n. (tally_in old q).marked + times * n) (marked_by_part h b bytes place q stands whole ∙ sym (cond-false _ _ _ test));
-      same_count = table.same_count;
-    }
+one_table h b bytes place times old new some stands whole table = grind (arith, named_by_part, marked_by_part)

@@ -1,11 +1,9 @@
 -- The refblocks that are kept.
-use Rattle.std.proofs.Common.{◌≡◌, ◌≢◌, ◌+◌, ◌*◌, ◌/◌, ◌%◌, ◌<◌, ◌≤◌, ◌∷◌, ◌++◌, ◌-◌, ltb, ℕ, zero, suc, false, Some, None, List, [], length, length-append, get_or, Option, refl, sym, ap, ◌∙◌, arith, inl, inr, subst}
-use Rattle.qcow2_check.proofs.Common.{IfSome, is_some, slice_get, option_copied, BTreeMap, get, is_at, nat_cmp, cond-true, eq-eqb, lt-ltb, le-ltb, cases_eq, cases_lt, get_or_past, Bytes, HeaderFields, counts_per_block, reftable_entries, block_offset, reftable_entry, count, Block, Counts, count_of, counts_kept, count_kept, block_numbered, block_in, count_in, block_count_or_zero, HasBlock, KeepsBlocks, KeepsMore, mod_below, le-div, div-add-mod', div-mul-add, count_under, get_or_append_left, get_or_push}
+use Rattle.std.proofs.Common.{◌≡◌, ◌≢◌, ◌+◌, ◌*◌, ◌/◌, ◌%◌, ◌<◌, ◌≤◌, ◌∷◌, ◌++◌, ◌-◌, ltb, ℕ, zero, suc, false, Some, None, List, [], length, length-append, get_or, Option, refl, sym, ap, ◌∙◌, arith}
+use Rattle.qcow2_check.proofs.Common.{IfSome, is_some, slice_get, option_copied, BTreeMap, get, is_at, nat_cmp, get_or_past, Bytes, HeaderFields, counts_per_block, reftable_entries, block_offset, reftable_entry, count, Block, Counts, count_of, counts_kept, count_kept, block_numbered, block_in, count_in, block_count_or_zero, HasBlock, KeepsBlocks, KeepsMore, le-div, div-mul-add, count_under, get_or_append_left, get_or_push}
 use denote.Ref.{Bor}
 use Rattle.std.proofs.lemmas.Option.{slice_get-get_or, slice_get_past}
-use Rattle.qcow2_check.proofs.BlockCounts.{count_past_kept}
 use Rattle.qcow2_check.proofs.CountSteps.{reftable_entry-past}
-use Rattle.qcow2_check.proofs.Rising.{at_other}
 
 -- ---- the numbers
 
@@ -28,54 +26,22 @@ numbered_some blocks (suc i) some = let down : suc i - 1 ≡ i = omega arith in 
 
 -- what a slice lends at an index
 pub lent_at : {X : Type 0} (xs : List X) (i : ℕ) (r : Option (Bor X)) → is_some r ≡ ltb i (length xs) → IfSome r (λ x. x.now ≡ get_or xs i x.now) → option_copied r ≡ slice_get xs i
-lent_at xs i None some same = elim (cases_lt i (length xs)) [
-  | inl inside ↦ let is = lt-ltb i (length xs) inside in absurd cc
-  | inr past ↦ sym (slice_get_past xs i past)
-]
-lent_at xs i (Some x) some same = elim (cases_lt i (length xs)) [
-  | inl inside ↦ sym (slice_get-get_or xs i x.now inside ∙ ap Some (sym same))
-  | inr past ↦ let is = le-ltb i (length xs) past in absurd cc
-]
-
-some_more : {P Q : ℕ → Type 0} (o : Option ℕ) → ((n : ℕ) → P n → Q n) → IfSome o P → IfSome o Q
-some_more None more has = tt
-some_more (Some n) more has = more n has
+lent_at xs i None some same = grind (arith, slice_get_past)
+lent_at xs i (Some x) some same = grind (arith, slice_get-get_or)
 
 module _ (h : HeaderFields) (b : Bytes) (old : List Block) (numbers : BTreeMap ℕ ℕ) (place : ℕ) where
   -- no refblock, and one that was kept before
   pub keeps_placeless : place ≡ 0 → KeepsBlocks h b old numbers → KeepsMore h b old old numbers place 0
-  keeps_placeless none keeps = record {
-    keeps = keeps;
-    here = record { inside = omega arith; counts = λ j inside. sym (cond-true _ _ _ (eq-eqb place 0 none)) };
-    others = λ m other has. has;
-  }
+  keeps_placeless none keeps = grind arith
 
   pub keeps_known : (n : ℕ) → get nat_cmp numbers place ≡ Some n → KeepsBlocks h b old numbers → KeepsMore h b old old numbers place n
-  keeps_known n known keeps = record {
-    keeps = keeps;
-    here = let P : Option ℕ → Type 0 = λ o. IfSome o (λ n. HasBlock h b old n place) in subst P known (keeps place);
-    others = λ m other has. has;
-  }
+  keeps_known n known keeps = grind arith
 
   -- one that was read
   pub keeps_read : (new : List Block) (more : BTreeMap ℕ ℕ) (block : Block) (n : ℕ) → place ≢ 0 → new ≡ old ++ block ∷ [] → n ≡ length new → get nat_cmp more place ≡ Some n
       → ((q : ℕ) → is_at (nat_cmp place) q ≡ false → get nat_cmp more q ≡ get nat_cmp numbers q)
       → ((j : ℕ) → j < counts_per_block h → count_of block j ≡ block_count_or_zero h b place j) → KeepsBlocks h b old numbers → KeepsMore h b old new more place n
-  keeps_read new more block n some pushed long is same counts keeps =
-      let here : HasBlock h b new n place =
-      record { inside = omega (arith, long); counts = λ j inside. ap (λ o. count_kept o j) (numbered_last old new block n pushed long) ∙ counts j inside } in
-      let others : (m other : ℕ) → HasBlock h b old m other → HasBlock h b new m other = λ m other has. record {
-        inside = omega (arith, has.inside, ap length pushed, length-append old (block ∷ []));
-        counts = λ j inside. ap (λ o. count_kept o j) (numbered_before old new block m pushed has.inside) ∙ has.counts j inside;
-      } in
-      record {
-        keeps = λ q. let P : Option ℕ → Type 0 = λ o. IfSome o (λ m. HasBlock h b new m q) in elim (cases_eq q place) [
-          | inl this ↦ subst P (sym (ap (get nat_cmp more) this ∙ is)) (let Q : ℕ → Type 0 = HasBlock h b new n in subst Q (sym this) here)
-          | inr other ↦ subst P (sym (same q (at_other place q (λ e. other (sym e))))) (some_more (get nat_cmp numbers q) (λ m. others m q) (keeps q))
-        ];
-        here = here;
-        others = others;
-      }
+  keeps_read new more block n some pushed long is same counts keeps = grind (arith, numbered_last, length-append, numbered_before)
 
 -- ---- the list of numbers
 
@@ -104,12 +70,7 @@ module _ (c : Counts) (q : ℕ) where
 -- count j under entry k
 pub count_at : (c : Counts) (k j q : ℕ) → q ≡ k * c.per_block + j → j < c.per_block → count_in c q ≡ count_kept (block_in c k) j
 unfolding count_in
-count_at c k j q split lt =
-    let block : q / c.per_block ≡ k = ap (λ n. n / c.per_block) split ∙ div-mul-add k c.per_block j lt in
-    let down = div-add-mod' q c.per_block in
-    let place : q % c.per_block ≡ j =
-    let same : q / c.per_block * c.per_block ≡ k * c.per_block = ap (λ n. n * c.per_block) block in omega arith in
-    ap (λ k. count_kept (block_in c k) (q % c.per_block)) block ∙ ap (count_kept (block_in c k)) place
+count_at c k j q split lt = grind (arith, div-mul-add)
 
 pub count_under_block : (c : Counts) (k j q : ℕ) (block : Block) → q ≡ k * c.per_block + j → j < c.per_block → block_in c k ≡ Some block → count_in c q ≡ count_of block j
 count_under_block c k j q block split lt kept = count_at c k j q split lt ∙ ap (λ o. count_kept o j) kept
@@ -121,13 +82,7 @@ zeros_in_block c cluster first k n block is from kept few zeros q ge lt =
     count_at c k (q - first) q (omega arith) (omega arith) ∙ ap (λ o. count_kept o (q - first)) kept ∙ zeros (q - first) (omega arith) (omega arith)
 
 pub zeros_to_end : (block : Block) (j next n : ℕ) → (next < counts_kept block → n ≤ next) → ((i : ℕ) → j ≤ i → i < next → count_of block i ≡ 0) → (i : ℕ) → j ≤ i → i < n → count_of block i ≡ 0
-zeros_to_end block j next n stops zeros i ge lt = elim (cases_lt i next) [
-  | inl before ↦ zeros i ge before
-  | inr past ↦ elim (cases_lt next (counts_kept block)) [
-    | inl inside ↦ let all = stops inside in absurd (omega arith)
-    | inr end ↦ count_past_kept block i (omega arith)
-  ]
-]
+zeros_to_end block j next n stops zeros i ge lt = grind arith
 
 pub zeros_without_block : (c : Counts) (cluster first k : ℕ) → first ≡ k * c.per_block → first ≤ cluster → block_in c k ≡ None
     → (q : ℕ) → cluster ≤ q → q < first + c.per_block → count_in c q ≡ 0
@@ -139,14 +94,4 @@ pub all_kept : (h : HeaderFields) (b : Bytes) (c : Counts) (n : ℕ) → c.per_b
     → ((i : ℕ) → i < n → HasBlock h b c.blocks.items (get_or c.numbers.items i 0) (block_offset (reftable_entry h b i)))
     → (q : ℕ) → count_in c q ≡ count h b q
 unfolding count_in count count_under
-all_kept h b c n wide long whole each q =
-    let k = q / counts_per_block h in
-    let j = q % counts_per_block h in
-    let inside : j < counts_per_block h = mod_below q (counts_per_block h) (omega (arith, c.some, wide)) in
-    ap (λ w. count_kept (block_in c (q / w)) (q % w)) wide ∙ elim (cases_lt k n) [
-      | inl below ↦ (each k below).counts j inside
-      | inr past ↦
-          let none : block_in c k ≡ None = ap (block_numbered c.blocks.items) (get_or_past c.numbers.items k 0 (omega arith)) in
-          let entry : reftable_entry h b k ≡ 0 = reftable_entry-past h b k (omega arith) in
-          ap (λ o. count_kept o j) none ∙ sym (ap (λ e. block_count_or_zero h b (block_offset e) j) entry)
-    ]
+all_kept h b c n wide long whole each q = grind (arith, get_or_past, reftable_entry-past)

@@ -1,19 +1,13 @@
 -- The leaks from a cluster on, one after another.
-use Rattle.std.proofs.Common.{◌≡◌, ◌+◌, ◌-◌, ◌^◌, ◌<◌, ◌≤◌, ◌∷◌, ◌++◌, ◌*◌, ℕ, zero, suc, Bool, true, false, cond, Option, Some, None, List, [], length, length-append, add-one, map, refl, sym, ap, ◌∙◌, arith}
-use Rattle.qcow2_check.proofs.Common.{cond-true, cond-false, Counts, Leak, Tally, TallyMap, count_in, counted_in, lines, lines_from, is_leaked, leak_of_cluster, leaks_from, leak_at, leak_lines_of, mul-le}
+use Rattle.std.proofs.Common.{◌≡◌, ◌+◌, ◌-◌, ◌^◌, ◌<◌, ◌≤◌, ◌∷◌, ◌++◌, ℕ, zero, suc, Bool, true, false, cond, Option, Some, None, List, [], length, length-append, add-one, refl, sym, ap, ◌∙◌, arith}
+use Rattle.qcow2_check.proofs.Common.{Counts, Leak, Tally, TallyMap, count_in, counted_in, lines, lines_from, is_leaked, leak_of_cluster, leaks_from, leak_at, leak_lines_of, mul-le}
 use Rattle.qcow2_check.proofs.KeptBlocks.{count_past_end}
-use Rattle.qcow2_check.proofs.Rising.{rising_all, lines-none, lines_more, lines-add}
+use Rattle.qcow2_check.proofs.Rising.{rising_all, lines-none, lines_more, lines-add, skip}
 use Rattle.qcow2_check.proofs.TallyTests.{is_leaked-uncounted}
 
 module _ {L : Type 0} (test : Tally → Bool) (line : ℕ → Tally → L) (tally : ℕ → Tally) where
   abbrev from : ℕ → ℕ → List L
   from = lines_from test line tally
-
-  pub from-passed : (a n : ℕ) → test (tally a) ≡ true → from a (suc n) ≡ line a (tally a) ∷ from (a + 1) n
-  from-passed a n is = ap (map (λ c. line c (tally c))) (cond-true _ _ _ is)
-
-  from-failed : (a n : ℕ) → test (tally a) ≡ false → from a (suc n) ≡ from (a + 1) n
-  from-failed a n is = ap (map (λ c. line c (tally c))) (cond-false _ _ _ is)
 
   -- m numbers that don't pass
   pub from-skipped : (m a n : ℕ) → ((q : ℕ) → a ≤ q → q < a + m → test (tally q) ≡ false) → from a (m + n) ≡ from (a + m) n
@@ -21,13 +15,13 @@ module _ {L : Type 0} (test : Tally → Bool) (line : ℕ → Tally → L) (tall
   from-skipped (suc m) a n fails =
       let long : suc m + n ≡ suc (m + n) = omega arith in
       let there : a + 1 + m ≡ a + suc m = omega arith in
-      ap (from a) long ∙ from-failed a (m + n) (fails a (omega arith) (omega arith))
+      ap (from a) long ∙ skip test line tally a (m + n) (fails a (omega arith) (omega arith))
       ∙ from-skipped m (a + 1) n (λ q ge lt. fails q (omega arith) (omega arith))
       ∙ ap (λ a. from a n) there
 
   pub from-none : (n a : ℕ) → ((q : ℕ) → a ≤ q → test (tally q) ≡ false) → from a n ≡ []
   from-none zero a fails = refl
-  from-none (suc n) a fails = from-failed a n (fails a (omega arith)) ∙ from-none n (a + 1) (λ q ge. fails q (omega arith))
+  from-none (suc n) a fails = skip test line tally a n (fails a (omega arith)) ∙ from-none n (a + 1) (λ q ge. fails q (omega arith))
 
   -- at most as many lines as numbers, of which none passes from an end on
   lines-few : (n : ℕ) → length (lines n test line tally) ≤ n
@@ -65,10 +59,7 @@ module _ (m : TallyMap) (c : Counts) (limit : ℕ) where
   below a = lines_from is_leaked leak_of_cluster (counted_in m c) a (limit - a)
 
   all-below : below 0 ≡ lines limit is_leaked leak_of_cluster (counted_in m c)
-  all-below =
-      let long : limit - 0 ≡ limit = omega arith in
-      ap (lines_from is_leaked leak_of_cluster (counted_in m c) 0) long
-      ∙ sym (ap (map (λ q. leak_of_cluster q (counted_in m c q))) (rising_all limit (λ q. is_leaked (counted_in m c q))))
+  all-below = grind (arith, rising_all)
 
   uncounted : (q : ℕ) → count_in c q ≡ 0 → is_leaked (counted_in m c q) ≡ false
   uncounted q none = is_leaked-uncounted (counted_in m c q) none
@@ -88,16 +79,7 @@ module _ (m : TallyMap) (c : Counts) (limit : ℕ) where
   none-below a none = from-none is_leaked leak_of_cluster (counted_in m c) (limit - a) a (λ q ge. uncounted q (none q ge))
 
   leaked-below : (q : ℕ) (leak : Leak) → q < limit → leak_at m c q ≡ Some leak → (leak.cluster ≡ q) × (below q ≡ leak ∷ below (leak.cluster + 1))
-  leaked-below q leak fits is =
-      let here = if_some (is_leaked (counted_in m c q)) (leak_of_cluster q (counted_in m c q)) leak is in
-      let place : leak.cluster ≡ q = ap (λ (l : Leak). l.cluster) (sym here.1) in
-      let long : limit - q ≡ suc (limit - (q + 1)) = omega arith in (
-        place,
-        ap (lines_from is_leaked leak_of_cluster (counted_in m c) q) long
-            ∙ from-passed is_leaked leak_of_cluster (counted_in m c) q (limit - (q + 1)) here.0
-            ∙ ap (λ l. l ∷ below (q + 1)) here.1
-            ∙ ap (λ q. leak ∷ below (q + 1)) (sym place),
-      )
+  leaked-below q leak fits is = grind arith
 
   not_leaked-below : (q : ℕ) → q < limit → leak_at m c q ≡ None → below q ≡ below (q + 1)
   not_leaked-below q fits is =
@@ -112,10 +94,7 @@ module _ (m : TallyMap) (c : Counts) where
   leaks_all = all-below m c (2 ^ 64)
 
   pub few_leaks : length (leak_lines_of (counted_in m c)) ≤ 2 ^ 44
-  few_leaks =
-      let low : length c.numbers.items * c.per_block ≤ 2 ^ 20 * 2 ^ 24 = mul-le _ _ _ _ c.few c.narrow in
-      few_lines is_leaked leak_of_cluster (counted_in m c) (2 ^ 44) (2 ^ 64) (omega arith)
-      (λ q past. uncounted m c (2 ^ 64) q (count_past_end c q (omega (arith, low))))
+  few_leaks = grind (arith, mul-le, few_lines, count_past_end)
 
   pub leaks-uncounted : (a b : ℕ) → a ≤ b → b ≤ 2 ^ 64 → ((q : ℕ) → a ≤ q → q < b → count_in c q ≡ 0) → leaks_from m c a ≡ leaks_from m c b
   unfolding leaks_from

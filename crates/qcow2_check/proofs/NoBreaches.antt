@@ -1,9 +1,9 @@
 -- A report has no breaches exactly if the image is consistent.
-use Rattle.std.proofs.Common.{◌≡◌, ◌≢◌, ◌+◌, ◌^◌, ◌<◌, ◌≤◌, ◌++◌, ◌*◌, ◌↔◌, ℕ, List, [], length, ap, refl, sym, subst, ◌∙◌, arith, inl, inr}
-use Rattle.qcow2_check.proofs.Common.{cases_eq, Bytes, byte_at, HeaderFields, entries_per_cluster, reftable_entries, HeaderReads, ReftableFits, l1_entry, l2_entry, reftable_entry, host_offset, block_offset, is_copied, entry_cover, host_of, named, named_for_tables, Consistent, CoverIsAligned, CopiedIsOwn, Breach, L1, Reftable, L2, Refblock, marked_at, marks_of_cover, marked_by_entries, marked_by_l2_table, mark_of_entry, marked_under, marked_below, times, off_cluster_if, off_l2_tables, off_refblocks, data_off_at, data_off_below, lines, snapshot_lines, external_lines, header_lines, table_offset_lines, offset_lines, is_named, unaligned_line, is_under, under_line, is_shared, shared_line, is_miscopied, copied_line, TallyMap, mul-le, Counts, Tally, count_in, counted_in, tally_in, no_tally, TalliesWithin64Bits, tally, breach_lines, TablesRead, ArePassed}
+use Rattle.std.proofs.Common.{◌≡◌, ◌≢◌, ◌+◌, ◌^◌, ◌<◌, ◌≤◌, ◌++◌, ◌*◌, ◌↔◌, ℕ, List, [], length, ap, refl, subst, ◌∙◌, arith, inl, inr}
+use Rattle.qcow2_check.proofs.Common.{cases_eq, Bytes, byte_at, HeaderFields, entries_per_cluster, reftable_entries, HeaderReads, ReftableFits, l1_entry, l2_entry, reftable_entry, host_offset, block_offset, is_copied, entry_cover, host_of, named, named_for_tables, Consistent, CoverIsAligned, CopiedIsOwn, Breach, L1, Reftable, L2, Refblock, marked_at, marks_of_cover, marked_by_entries, marked_by_l2_table, mark_of_entry, marked_under, marked_below, times, off_cluster_if, off_l2_tables, off_refblocks, data_off_at, data_off_below, lines, snapshot_lines, external_lines, table_offset_lines, offset_lines, is_named, unaligned_line, is_under, under_line, is_shared, shared_line, is_miscopied, copied_line, TallyMap, mul-le, Counts, Tally, count_in, counted_in, tally_in, no_tally, TalliesWithin64Bits, tally, breach_lines, TablesRead, ArePassed}
 use Rattle.qcow2_check.specs.declared.report.Kind.TheVariants.{Data}
 use Rattle.qcow2_check.proofs.KeptBlocks.{count_past_end}
-use Rattle.qcow2_check.proofs.NoLines.{append-empty, front_empty, back_empty, EndsBelow, lines-empty, fails_each, zero-line, zero_from_line}
+use Rattle.qcow2_check.proofs.NoLines.{front_empty, EndsBelow, lines-empty, fails_each, zero-line, zero_from_line}
 use Rattle.qcow2_check.proofs.Terms.{from_some_term, some-sum}
 use Rattle.qcow2_check.proofs.TallyTests.{zero_from_is_named, is_named-zero, counted_from_is_under, is_under-counted, once_from_is_shared, is_shared-once, own_from_is_miscopied, is_miscopied-own}
 use Rattle.qcow2_check.proofs.AlignedOffsets.{each_aligned, none_off, aligned_cover, cover_never_off}
@@ -74,35 +74,11 @@ module _ (h : HeaderFields) (b : Bytes) where
 
   pub no_lines : breach_lines h b ≡ [] → NoLines h b
   unfolding breach_lines
-  no_lines none =
-      let head : header_lines h ≡ [] = front_empty (header_lines h) (places ++ clusters) none in
-      let rest : places ++ clusters ≡ [] = back_empty (header_lines h) (places ++ clusters) none in
-      let first : places ≡ [] = front_empty places clusters rest in
-      let last : clusters ≡ [] = back_empty places clusters rest in
-      let from_reftable = back_empty l1s (reftables ++ (l2s ++ (blocks ++ datas))) first in
-      let from_l2 = back_empty reftables (l2s ++ (blocks ++ datas)) from_reftable in
-      let from_blocks = back_empty l2s (blocks ++ datas) from_l2 in
-      let from_shared = back_empty unders (shareds ++ copieds) last in
-      record {
-        snapshots = front_empty (snapshot_lines h) (external_lines h) head;
-        external = back_empty (snapshot_lines h) (external_lines h) head;
-        l1_table = front_empty l1s (reftables ++ (l2s ++ (blocks ++ datas))) first;
-        reftable = front_empty reftables (l2s ++ (blocks ++ datas)) from_reftable;
-        l2_tables = front_empty l2s (blocks ++ datas) from_l2;
-        refblocks = front_empty blocks datas from_blocks;
-        of_data = back_empty blocks datas from_blocks;
-        under = front_empty unders (shareds ++ copieds) last;
-        shared = front_empty shareds copieds from_shared;
-        copied = back_empty shareds copieds from_shared;
-      }
+  no_lines none = grind (arith, front_empty)
 
   pub no_breach_lines : NoLines h b → breach_lines h b ≡ []
   unfolding breach_lines
-  no_breach_lines none =
-      append-empty (header_lines h) (places ++ clusters) (append-empty (snapshot_lines h) (external_lines h) none.snapshots none.external)
-      (append-empty places clusters
-      (append-empty l1s _ none.l1_table (append-empty reftables _ none.reftable (append-empty l2s _ none.l2_tables (append-empty blocks datas none.refblocks none.of_data))))
-      (append-empty unders _ none.under (append-empty shareds copieds none.shared none.copied)))
+  no_breach_lines none = grind arith
 
   -- ---- alignment of data
 
@@ -216,11 +192,4 @@ module _ (h : HeaderFields) (b : Bytes) where
 -- the same of another header and another file that are equal to these
 pub breaches_told : (h k : HeaderFields) (old new : List ℕ) (items : List Breach) → new ≡ old → h ≡ k
     → HeaderReads h (byte_at old) → ReftableFits h → TablesRead h (byte_at new) → AllEnd h (byte_at new) → items ≡ breach_lines k (byte_at old) → (items ≡ []) ↔ Consistent k (byte_at old)
-breaches_told h k old new items same is reads fits tables end lines =
-    let R : HeaderFields → Type 0 = λ h. HeaderReads h (byte_at old) in
-    let T : HeaderFields → Type 0 = λ h. TablesRead h (byte_at old) in
-    let E : HeaderFields → Type 0 = λ h. AllEnd h (byte_at old) in
-    let tables_read : T h = let P : List ℕ → Type 0 = λ b. TablesRead h (byte_at b) in subst P same tables in
-    let ends : E h = let P : List ℕ → Type 0 = λ b. AllEnd h (byte_at b) in subst P same end in
-    let both = no_breaches k (byte_at old) (subst R is reads) (subst ReftableFits is fits) (subst T is tables_read) (subst E is ends) in
-    ((λ none. both.0 (sym lines ∙ none)), (λ consistent. lines ∙ both.1 consistent))
+breaches_told h k old new items same is reads fits tables end lines = grind (arith, no_breaches)

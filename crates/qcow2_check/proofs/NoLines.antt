@@ -1,6 +1,6 @@
 -- When there are no lines.
 use Rattle.std.proofs.Common.{◌≡◌, ◌<◌, ◌≤◌, ◌∷◌, ◌++◌, ℕ, zero, suc, Bool, true, false, cond, eqb, List, [], map, refl, sym, ap, ◌∙◌, arith, inl, inr}
-use Rattle.qcow2_check.proofs.Common.{cases_eq, cases_lt, cond-true, cond-false, eq-eqb, eqb_tells, Tally, no_tally, rising, lines}
+use Rattle.qcow2_check.proofs.Common.{cases_eq, cases_lt, cond-true, cond-false, eq-eqb, Tally, no_tally, rising, lines}
 
 pub append-empty : {L : Type 0} (xs ys : List L) → xs ≡ [] → ys ≡ [] → xs ++ ys ≡ []
 append-empty xs ys front back = ap (λ x. x ++ ys) front ∙ back
@@ -56,7 +56,4 @@ pub zero-line : {L : Type 0} (n : ℕ) (x : L) → n ≡ 0 → cond (eqb n 0) []
 zero-line n x none = cond-true _ _ _ (eq-eqb n 0 none)
 
 pub zero_from_line : {L : Type 0} (n : ℕ) (x : L) → cond (eqb n 0) [] (x ∷ []) ≡ [] → n ≡ 0
-zero_from_line n x none = elim (eqb_tells n 0) [
-  | inl is ↦ is.1
-  | inr isnt ↦ let shown : cond (eqb n 0) [] (x ∷ []) ≡ x ∷ [] = cond-false _ _ _ isnt.0 in let never : x ∷ [] ≡ [] = sym shown ∙ none in cc
-]
+zero_from_line n x none = grind arith

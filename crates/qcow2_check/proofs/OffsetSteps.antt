@@ -1,9 +1,8 @@
 -- Steps over offsets.
 use Rattle.std.proofs.Common.{◌≡◌, ◌≢◌, ◌+◌, ◌*◌, ◌/◌, ℕ, List, length, sym, ap, ◌∙◌, arith}
-use Rattle.qcow2_check.proofs.Common.{cond-true, cond-false, eq-eqb, ne_eqb, TallyMap, fun_ext, Bytes, byte_at, sum_below, HeaderFields, cluster_size, entries_per_cluster, reftable_entries, l1_entry, l2_entry, reftable_entry, host_offset, block_offset, entry_cover, host_of, entry_at, HasBytesAt, entry_stands, Tally, TalliesGrow, tally_in, no_tally, off_cluster, off_cluster_if, tables_off, blocks_off, off_l2_tables, off_refblocks, data_off, data_off_at, times}
+use Rattle.qcow2_check.proofs.Common.{cond-true, cond-false, eq-eqb, ne_eqb, TallyMap, Bytes, byte_at, sum_below, HeaderFields, cluster_size, entries_per_cluster, reftable_entries, l1_entry, l2_entry, reftable_entry, entry_cover, host_of, entry_at, HasBytesAt, entry_stands, TalliesGrow, tally_in, no_tally, off_cluster_if, tables_off, blocks_off, off_l2_tables, off_refblocks, data_off, data_off_at, times}
 use Rattle.qcow2_check.proofs.Grow.{grows_none, grows_more, times_none, times_more}
 use Rattle.qcow2_check.proofs.Sums.{sum_below_none, sum_below_more, sum_below-same}
-use Rattle.qcow2_check.proofs.Totals.{tally_same, triple}
 use Rattle.qcow2_check.proofs.Shifts.{inside_table}
 
 pub once : (n : ℕ) → 1 * n ≡ n
@@ -34,12 +33,7 @@ no_data h b place times m none =
     grows_none m _ _ _ (λ o. ap (λ n. times * n) (cond-true _ _ _ (eq-eqb place 0 none)) ∙ omega arith) (λ o. omega arith) (λ o. omega arith)
 
 pub grows_as : (old new : TallyMap) (f g : ℕ → ℕ) → ((q : ℕ) → f q ≡ g q) → TalliesGrow old new f (λ _. 0) (λ _. 0) → TalliesGrow old new g (λ _. 0) (λ _. 0)
-grows_as old new f g same grows = record {
-  more_named = λ q. grows.more_named q ∙ ap (λ n. (tally_in old q).named + n) (same q);
-  more_for_tables = grows.more_for_tables;
-  more_marked = grows.more_marked;
-  same_count = grows.same_count;
-}
+grows_as old new f g same grows = grind arith
 
 pub data_part : (h : HeaderFields) (b : Bytes) (bytes : List ℕ) (place times : ℕ) (old new : TallyMap) → place ≢ 0
     → HasBytesAt b place bytes → length bytes ≡ cluster_size h
@@ -55,25 +49,12 @@ data_part h b bytes place times old new some stands whole grows =
 
 -- the tallies of offsets that were counted from none
 pub counted_off : (f g : ℕ → ℕ) (m0 m1 : TallyMap) → ((q : ℕ) → tally_in m0 q ≡ no_tally) → ((q : ℕ) → f q ≡ g q) → TalliesGrow m0 m1 f (λ _. 0) (λ _. 0) → tally_in m1 ≡ times g
-counted_off f g m0 m1 none same grows = fun_ext (λ q.
-    let start = none q in
-    let named0 : (tally_in m0 q).named ≡ 0 = ap (λ (t : Tally). t.named) start in
-    let tables0 : (tally_in m0 q).for_tables ≡ 0 = ap (λ (t : Tally). t.for_tables) start in
-    let marked0 : (tally_in m0 q).marked ≡ 0 = ap (λ (t : Tally). t.marked) start in
-    tally_same (tally_in m1 q) (times g q)
-    (triple _ _ _ _ _ _ (omega (arith, grows.more_named q, same q, named0)) (omega (arith, grows.more_for_tables q, tables0)) (omega (arith, grows.more_marked q, marked0)))
-    (grows.same_count q ∙ ap (λ (t : Tally). t.count) start))
+counted_off f g m0 m1 none same grows = grind arith
 
 pub all_tables_off : (h : HeaderFields) (b : Bytes) (entries : List ℕ) → length entries / 8 ≡ h.l1_entries → ((i : ℕ) → entry_at entries i ≡ l1_entry h b i)
     → (o : ℕ) → tables_off h entries (length entries / 8) o ≡ off_l2_tables h b o
-all_tables_off h b entries long are o =
-    sum_below-same (length entries / 8) (λ i. off_cluster h o (host_offset (entry_at entries i))) (λ i. off_cluster h o (host_offset (l1_entry h b i)))
-    (λ i lt. ap (λ e. off_cluster h o (host_offset e)) (are i))
-    ∙ ap (λ n. sum_below n (λ i. off_cluster h o (host_offset (l1_entry h b i)))) long
+all_tables_off h b entries long are o = grind arith
 
 pub all_blocks_off : (h : HeaderFields) (b : Bytes) (entries : List ℕ) → length entries / 8 ≡ reftable_entries h → ((k : ℕ) → entry_at entries k ≡ reftable_entry h b k)
     → (o : ℕ) → blocks_off h entries (length entries / 8) o ≡ off_refblocks h b o
-all_blocks_off h b entries long are o =
-    sum_below-same (length entries / 8) (λ k. off_cluster h o (block_offset (entry_at entries k))) (λ k. off_cluster h o (block_offset (reftable_entry h b k)))
-    (λ k lt. ap (λ e. off_cluster h o (block_offset e)) (are k))
-    ∙ ap (λ n. sum_below n (λ k. off_cluster h o (block_offset (reftable_entry h b k)))) long
+all_blocks_off h b entries long are o = grind arith

@@ -1,6 +1,6 @@
 -- Copied marks, by offset and by cluster: each mark is on a cluster with one reference and refcount 1 exactly if each cluster with a mark is such a one.
-use Rattle.std.proofs.Common.{◌≡◌, ◌≢◌, ◌/◌, ◌&&◌, ℕ, Bool, eqb, Some, None, refl, subst}
-use Rattle.qcow2_check.proofs.Common.{IsTrue, eq-eqb, Bytes, HeaderFields, cluster_size, count, named, IsOwn, CopiedIsOwn, L2Mapping, Data, Zero, Compressed, Uncovered, marked_at, marks_of_cover, and_from, and_parts, eqb-true}
+use Rattle.std.proofs.Common.{◌≡◌, ◌≢◌, ◌/◌, ◌&&◌, ℕ, Bool, eqb, Some, refl, subst}
+use Rattle.qcow2_check.proofs.Common.{IsTrue, eq-eqb, Bytes, HeaderFields, cluster_size, count, named, IsOwn, CopiedIsOwn, L2Mapping, Data, Zero, marked_at, marks_of_cover, and_from, and_parts, eqb-true}
 use Rattle.qcow2_check.proofs.Terms.{one_if-some, true_from_some}
 
 module _ (h : HeaderFields) (b : Bytes) where
@@ -18,14 +18,10 @@ module _ (h : HeaderFields) (b : Bytes) where
 
   pub own_cover : (cover : L2Mapping) → ((q : ℕ) → marks_of_cover h q cover ≢ 0 → IsOwnCluster q) → CopiedIsOwn h b cover
   own_cover (Data host copied) each = own_place host copied each
-  own_cover (Zero None) each = tt
   own_cover (Zero (Some k)) each = own_place k.0 k.1 each
-  own_cover (Compressed place sectors) each = tt
-  own_cover Uncovered each = tt
+  own_cover _ each = tt
 
   pub cover_own : (cover : L2Mapping) → CopiedIsOwn h b cover → (q : ℕ) → marks_of_cover h q cover ≢ 0 → IsOwnCluster q
   cover_own (Data host copied) own q some = place_own host copied own q some
-  cover_own (Zero None) own q some = absurd (some refl)
   cover_own (Zero (Some k)) own q some = place_own k.0 k.1 own q some
-  cover_own (Compressed place sectors) own q some = absurd (some refl)
-  cover_own Uncovered own q some = absurd (some refl)
+  cover_own _ own q some = absurd (some refl)

@@ -1,16 +1,10 @@
 -- Reads one after another.
-use Rattle.std.proofs.Common.{◌≡◌, Result, Ok, ◌∙◌}
+use Rattle.std.proofs.Common.{arith, ◌≡◌, Result, Ok}
 use Rattle.qcow2_check.proofs.Common.{MetadataError, OnlyReads}
-use Rattle.image_access.specs.Moments.{StorageView, IsLeftBy}
-use Rattle.image_access.proofs.EachMomentSince.{passes_on, cause_since}
+use Rattle.image_access.specs.Moments.{StorageView}
 
 pub reads_more : {T U : Type 0} {one : Result T MetadataError} {two : Result U MetadataError} (old mid new : StorageView) → OnlyReads old mid one → mid.faults ≡ old.faults → OnlyReads mid new two → OnlyReads old new two
-reads_more old mid new first counted next = record {
-  honest = λ h. next.honest (first.honest h);
-  same = λ h. next.same (first.honest h) ∙ first.same h;
-  time = λ h. passes_on (IsLeftBy old) (first.time h) (next.time (first.honest h)) (λ c is. is ∙ first.same h);
-  cause = cause_since _ _ _ counted next.cause;
-}
+reads_more old mid new first counted next = grind arith
 
 -- whatever value was read
 pub reads_another : {T U : Type 0} {x : T} {y : U} (old new : StorageView) → OnlyReads old new (Ok x) → OnlyReads old new (Ok y)

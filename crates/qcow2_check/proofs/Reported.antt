@@ -1,5 +1,5 @@
 -- The lines of a report, put together.
-use Rattle.std.proofs.Common.{◌≡◌, ◌++◌, ℕ, List, [], ap, ◌∙◌, append_assoc}
+use Rattle.std.proofs.Common.{arith, ◌≡◌, ◌++◌, ℕ, List, [], ap, ◌∙◌, append_assoc}
 use Rattle.qcow2_check.proofs.Common.{byte_at, HeaderFields, Tally, Leak, Breach, header_lines, unaligned_lines, times, off_l2_tables, off_refblocks, data_off_below, ArePassed, tally, cluster_lines, leak_lines_of, breach_lines, leak_lines}
 
 -- all lines under a header of a file
@@ -23,7 +23,4 @@ module _ (h k : HeaderFields) (old new : List ℕ) (t l2_tables refblocks data' 
 
   pub all_leaks : (items : List Leak) → items ≡ leak_lines_of t → items ≡ leak_lines k (byte_at old)
   unfolding leak_lines
-  all_leaks items rest =
-      rest ∙ ap leak_lines_of are.clusters_are
-      ∙ ap (λ c. leak_lines_of (tally h (byte_at c))) same
-      ∙ ap (λ f. leak_lines_of (tally f (byte_at old))) is
+  all_leaks items rest = grind arith

@@ -22,12 +22,7 @@ not_less true e = cc
 not_less false e = cc
 
 pub lt_from_less : (x y : ℕ) → nat_cmp x y ≡ Less → x < y
-lt_from_less x y less = elim (cases_lt x y) [
-  | inl lt ↦ lt
-  | inr ge ↦
-      let none : nat_cmp x y ≡ cond (eqb x y) Equal Greater = ap (λ a. cond a Less (cond (eqb x y) Equal Greater)) (le-ltb x y ge) in
-      absurd (not_less (eqb x y) (sym none ∙ less))
-]
+lt_from_less x y less = grind arith
 
 -- the keys rise, from a on
 abbrev pub Above : ℕ → List (ℕ × Tally) → Type 0
@@ -81,15 +76,12 @@ module _ {L : Type 0} (test : Tally → Bool) (line : ℕ → Tally → L) (tall
       let fails : test e.1 ≡ false = ap test (sym value) ∙ none e.0 above.0 in
       cond-false _ _ _ fails ∙ past (e.0 + 1) es above.1 (shows_tail a e es (omega (arith, above.0)) shows) (λ q ge. none q (omega (arith, above.0)))
 
-  skip : (a n : ℕ) → test (tally a) ≡ false → from a (suc n) ≡ from (a + 1) n
+  pub skip : (a n : ℕ) → test (tally a) ≡ false → from a (suc n) ≡ from (a + 1) n
   skip a n fails = ap (map (λ c. line c (tally c))) (cond-false _ _ _ fails)
 
   yes_or_no : (a n : ℕ) (e : ℕ × Tally) (es : List (ℕ × Tally)) → tally a ≡ e.1 → line e.0 e.1 ≡ line a (tally a) → lines_of test line es ≡ from (a + 1) n
       → (b : Bool) → test e.1 ≡ b → lines_of test line (e ∷ es) ≡ from a (suc n)
-  yes_or_no a n e es value heads rest true is =
-      let here : test (tally a) ≡ true = ap test value ∙ is in
-      cond-true _ _ _ is ∙ ap (λ x. x ∷ lines_of test line es) heads ∙ ap (λ r. line a (tally a) ∷ r) rest
-      ∙ sym (ap (map (λ c. line c (tally c))) (cond-true _ _ _ here))
+  yes_or_no a n e es value heads rest true is = grind arith
   yes_or_no a n e es value heads rest false is =
       let here : test (tally a) ≡ false = ap test value ∙ is in
       cond-false _ _ _ is ∙ rest ∙ sym (skip a n here)
@@ -143,15 +135,8 @@ module _ {L : Type 0} (test : Tally → Bool) (line : ℕ → Tally → L) (tall
   unfolding rising
   lines-none = refl
 
-  line_if : (b : Bool) (n : ℕ) → map (λ c. line c (tally c)) (cond b (n ∷ []) []) ≡ cond b (line n (tally n) ∷ []) []
-  line_if true n = refl
-  line_if false n = refl
-
   pub lines_more : (n : ℕ) → lines (n + 1) test line tally ≡ lines n test line tally ++ cond (test (tally n)) (line n (tally n) ∷ []) []
-  lines_more n =
-      ap (map (λ c. line c (tally c))) (rising_more n (λ c. test (tally c)))
-      ∙ map-append (λ c. line c (tally c)) (rising n (λ c. test (tally c))) (cond (test (tally n)) (n ∷ []) [])
-      ∙ ap (λ r. lines n test line tally ++ r) (line_if (test (tally n)) n)
+  lines_more n = grind (arith, rising_more, map-append)
 
   pub lines-passed : (n : ℕ) → test (tally n) ≡ true → lines (n + 1) test line tally ≡ lines n test line tally ++ (line n (tally n) ∷ [])
   lines-passed n is = lines_more n ∙ ap (λ r. lines n test line tally ++ r) (cond-true _ _ _ is)
@@ -270,10 +255,7 @@ module _ {L : Type 0} (test : Tally → Bool) (line : ℕ → Tally → L) where
 
 -- three groups of lines
 pub glue : {L : Type 0} (o u s k u' s' k' a b c : List L) → a ≡ o ++ u → b ≡ a ++ s → c ≡ b ++ k → u ≡ u' → s ≡ s' → k ≡ k' → c ≡ o ++ (u' ++ (s' ++ k'))
-glue o u s k u' s' k' a b c one two three eu es ek =
-    three ∙ ap (λ l. l ++ k) (two ∙ ap (λ l. l ++ s) (one ∙ ap (λ v. o ++ v) eu))
-    ∙ ap (λ v. ((o ++ u') ++ s) ++ v) ek ∙ ap (λ v. ((o ++ u') ++ v) ++ k') es
-    ∙ append_assoc (o ++ u') s' k' ∙ append_assoc o u' (s' ++ k')
+glue o u s k u' s' k' a b c one two three eu es ek = grind (arith, append_assoc)
 
 -- one group of lines more
 pub before : {L : Type 0} (o a b mid items : List L) → mid ≡ o ++ a → items ≡ mid ++ b → items ≡ o ++ (a ++ b)

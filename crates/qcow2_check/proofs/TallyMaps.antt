@@ -1,6 +1,6 @@
 -- The tally of a cluster, in an array of small tallies or in a map.
-use Rattle.std.proofs.Common.{◌≡◌, ◌<◌, ◌≤◌, ℕ, true, false, List, length, get_or, unwrap_or, Option, Some, sym, ap, ◌∙◌, arith, inl, inr}
-use Rattle.qcow2_check.proofs.Common.{get, nat_cmp, cond-true, cond-false, cases_lt, get_or_past, Tally, TallyMap, no_tally, blank, is_blank, widened, small_or, small_in, large_in, tally_in}
+use Rattle.std.proofs.Common.{◌≡◌, ◌<◌, ◌≤◌, ℕ, true, false, List, length, get_or, unwrap_or, Option, Some, ap, ◌∙◌, arith}
+use Rattle.qcow2_check.proofs.Common.{get, nat_cmp, cond-true, cond-false, get_or_past, Tally, TallyMap, no_tally, blank, is_blank, widened, small_or, small_in, large_in, tally_in}
 use Rattle.qcow2_check.specs.declared.tally_map.SmallTally.{SmallTally}
 
 pub tally-large : (m : TallyMap) (q : ℕ) → is_blank (small_in m q) ≡ true → tally_in m q ≡ large_in m q
@@ -32,10 +32,4 @@ pub blanks_more : (old new : List SmallTally) (n q : ℕ) → length new ≡ n �
     → ((k : ℕ) (d : SmallTally) → k < n → k < length old → get_or new k d ≡ get_or old k d)
     → ((k : ℕ) (d : SmallTally) → length old ≤ k → k < n → get_or new k d ≡ blank)
     → get_or new q blank ≡ get_or old q blank
-blanks_more old new n q long more front back = elim (cases_lt q (length old)) [
-  | inl inside ↦ front q blank (omega arith) inside
-  | inr past ↦ elim (cases_lt q n) [
-    | inl added ↦ back q blank past added ∙ sym (get_or_past old q blank past)
-    | inr beyond ↦ get_or_past new q blank (omega arith) ∙ sym (get_or_past old q blank past)
-  ]
-]
+blanks_more old new n q long more front back = grind (arith, get_or_past)

@@ -1,6 +1,6 @@
 -- Calls one after another, as a read or a write of several parts makes them, and the moments on the way, each of which is built here.
-use Rattle.std.proofs.Common.{◌≡◌, ◌⊎◌, ⊎_elim, inl, inr, ℕ, List, IsTrue, sym, ap, ◌∙◌, subst}
-use Rattle.qcow2_disk.proofs.Common.{StorageView, EachMomentSince, IsLeftBy, passes_none, passes_if, passes_on, Bytes, byte_at, Value, disk, disk_with, GivenBytes, IsGiven, Checkpoint, checkpoint_with, StopOkEverywhere, SafeThroughout, LeavesKept, Setting, AbstractImage, stored_bytes, guest_of, StartsAt, Stops, EffectOnSound, EffectOnFailed}
+use Rattle.std.proofs.Common.{arith, ◌≡◌, ◌⊎◌, ℕ, List, IsTrue, sym, ap, ◌∙◌, subst}
+use Rattle.qcow2_disk.proofs.Common.{StorageView, EachMomentSince, passes_none, passes_if, passes_on, Bytes, byte_at, Value, disk, disk_with, GivenBytes, IsGiven, Checkpoint, checkpoint_with, StopOkEverywhere, SafeThroughout, LeavesKept, Setting, AbstractImage, stored_bytes, guest_of, StartsAt, Stops, EffectOnSound, EffectOnFailed}
 use Rattle.qcow2_disk.specs.UngivenCovers.{IsUngiven}
 use Rattle.qcow2_disk.proofs.Stops.{given_more, given_front, given_split, kept_more, kept_twice}
 
@@ -30,16 +30,7 @@ stops_of old new given asked since known m starts =
 -- the same of an image on the same storage, which is sound only where this one is
 pub stops_as : (old new old' new' : AbstractImage) (gs : List GivenBytes) (asked : List ℕ) → old'.setting ≡ old.setting → old'.storage ≡ old.storage → new'.storage ≡ new.storage → (new'.is_sound → new.is_sound × (new'.known ≡ new.known))
     → (m : Checkpoint) → Stops old new gs asked m → Stops old' new' gs asked m
-stops_as old new old' new' gs asked setting from to still m s =
-    let back = λ (b : Bytes) (k : StopOkEverywhere old.setting.backing (checkpoint_with gs asked m) b). subst (λ (x : Setting). StopOkEverywhere x.backing (checkpoint_with gs asked m) b) (sym setting) k in
-    let moments : EachMomentSince old.storage new.storage (λ c. StopOkEverywhere old'.setting.backing (checkpoint_with gs asked m) (byte_at c)) =
-    passes_if (λ c. StopOkEverywhere old'.setting.backing (checkpoint_with gs asked m) (byte_at c)) (λ c k. back (byte_at c) k) s.moments in
-    record {
-      moments = subst (λ (v : StorageView). EachMomentSince v new'.storage (λ c. StopOkEverywhere old'.setting.backing (checkpoint_with gs asked m) (byte_at c))) (sym from)
-          (subst (λ (v : StorageView). EachMomentSince old.storage v (λ c. StopOkEverywhere old'.setting.backing (checkpoint_with gs asked m) (byte_at c))) (sym to) moments);
-      contents = subst (λ (v : StorageView). LeavesKept old'.setting.backing (checkpoint_with gs asked m) v) (sym to) (back (stored_bytes new) s.contents);
-      known = λ h. let there = still h in subst (λ b. StopOkEverywhere old'.setting.backing (checkpoint_with gs asked m) b) (sym there.1) (back new.known (s.known there.0));
-    }
+stops_as old new old' new' gs asked setting from to still m s = grind arith
 
 -- with other gifts, or more that is asked for
 pub stops_less : (old new : AbstractImage) (gs gs' : List GivenBytes) (asked asked' : List ℕ) (m : Checkpoint)
@@ -52,22 +43,11 @@ stops_less old new gs gs' asked asked' m weaker s = record {
 
 -- a failed image writes nothing more
 pub stops_resting : (old mid new : AbstractImage) (gs : List GivenBytes) (asked : List ℕ) → EffectOnFailed mid new → (new.is_sound → ⊥) → (m : Checkpoint) → Stops old mid gs asked m → Stops old new gs asked m
-stops_resting old mid new gs asked rests never m s = record {
-  moments = passes_on (λ c. StopOkEverywhere old.setting.backing (checkpoint_with gs asked m) (byte_at c)) s.moments rests.moments
-      (λ c is. subst (λ k. StopOkEverywhere old.setting.backing (checkpoint_with gs asked m) (byte_at k)) (sym is) s.contents);
-  contents = subst (λ k. StopOkEverywhere old.setting.backing (checkpoint_with gs asked m) (byte_at k)) (sym rests.contents) s.contents;
-  known = λ h. absurd (never h);
-}
+stops_resting old mid new gs asked rests never m s = grind arith
 
 -- a failed image on the same storage
 pub rests_none : (old new : AbstractImage) → new.setting ≡ old.setting → new.storage ≡ old.storage → IsTrue new.is_failed → new.leaked ≡ old.leaked → EffectOnFailed old new
-rests_none old new setting same failed leaks = record {
-  setting = setting;
-  failed = failed;
-  contents = ap (λ (v : StorageView). v.contents) same;
-  moments = subst (λ (v : StorageView). EachMomentSince old.storage v (IsLeftBy old.storage)) (sym same) (passes_none old.storage _);
-  leaks = leaks;
-}
+rests_none old new setting same failed leaks = grind arith
 
 -- ---- calls
 
@@ -78,21 +58,7 @@ shown_is v in_image = ap (λ (k : Bytes). disk_with v.known k v.setting.backing)
 module _ (v : AbstractImage) (gs fewer : List GivenBytes) (asked : List ℕ) (within : (o : ℕ) (w : Value) → IsGiven gs o w → (w ≡ (disk v.known v.setting.backing).value o) ⊎ IsGiven fewer o w) (m : Checkpoint)
     (known : StopOkEverywhere v.setting.backing m v.known) where
   kept_less : (b : Bytes) → StopOkEverywhere v.setting.backing (checkpoint_with gs asked m) b → StopOkEverywhere v.setting.backing (checkpoint_with fewer asked m) b
-  kept_less b k = record {
-    consistent = k.consistent;
-    rest = k.rest;
-    size = k.size;
-    values = λ o. ⊎_elim (λ h. inl h)
-        (λ h. ⊎_elim
-        (λ g. ⊎_elim
-        (λ (e : (disk b v.setting.backing).value o ≡ (disk v.known v.setting.backing).value o). ⊎_elim (λ (s : (disk v.known v.setting.backing).value o ≡ m.last.value o). inl (e ∙ s))
-        (λ (q : IsGiven m.given o ((disk v.known v.setting.backing).value o)). inr (given_more fewer m.given o _ (subst (λ w. IsGiven m.given o w) (sym e) q))) (known.values o))
-        (λ (f : IsGiven fewer o ((disk b v.setting.backing).value o)). inr (given_front fewer m.given o _ f))
-        (within o _ g))
-        (λ q. inr (given_more fewer m.given o _ q))
-        (given_split gs m.given o _ h))
-        (k.values o);
-  }
+  kept_less b k = grind (arith, given_more, given_front, given_split)
 
 -- a guest cluster of which no byte of these gifts is, has none of those
 abbrev pub TouchesLess : ℕ → (gs fewer : List GivenBytes) → Type 0
@@ -130,10 +96,4 @@ works_then old mid new gs asked there a b =
     }
 
 pub rests_then : (old mid new : AbstractImage) → EffectOnFailed old mid → EffectOnFailed mid new → EffectOnFailed old new
-rests_then old mid new a b = record {
-  setting = b.setting ∙ a.setting;
-  failed = b.failed;
-  contents = b.contents ∙ a.contents;
-  moments = passes_on (IsLeftBy old.storage) a.moments b.moments (λ c e. e ∙ a.contents);
-  leaks = b.leaks ∙ a.leaks;
-}
+rests_then old mid new a b = grind arith

@@ -1,6 +1,6 @@
 -- The laws for users: values that were given, put and committed.
-use Rattle.std.proofs.Common.{◌≡◌, ◌⊎◌, ◌+◌, ◌-◌, ◌<◌, ◌≤◌, ◌∷◌, if◌then◌else◌, IsTrue, ⊎_elim, inl, inr, ltb, leb, ℕ, refl, sym, ap, ◌∙◌, subst, Bool, true, false, Option, Some, List, [], length, eqb, arith}
-use Rattle.qcow2_disk.proofs.Common.{cases_lt, cond-true, cond-false, eq-eqb, le-leb, lt-ltb, lt-leb, le-ltb, and_from, and_left, and_right, byte_at, laid_over, is_within, Value, known_byte, Disk, disk, with_bytes, Guest, given_at, IsGiven, PreparedMapping, given_by_put, put_disk, put_mapping, committed}
+use Rattle.std.proofs.Common.{◌≡◌, ◌⊎◌, ◌+◌, ◌-◌, ◌<◌, ◌≤◌, ◌∷◌, if◌then◌else◌, IsTrue, ⊎_elim, inl, inr, ltb, leb, ℕ, refl, sym, ap, ◌∙◌, subst, Bool, true, false, Option, Some, List, [], length, arith}
+use Rattle.qcow2_disk.proofs.Common.{cases_lt, cond-true, cond-false, lt-leb, le-ltb, and_left, and_right, byte_at, laid_over, Value, known_byte, Disk, disk, with_bytes, given_at, IsGiven, PreparedMapping, given_by_put, put_disk, put_mapping, committed}
 use Rattle.qcow2_disk.specs.ForUsers.{PrivateBytesAreUnseen, CommittedIsReadBack, PutIsReadInPlace, HiddenBytesAreNotGiven, FlushedIsExact}
 
 pub exact : FlushedIsExact
@@ -20,10 +20,7 @@ both false a x b c v e f = f
 
 pub laid_inside : {A : Type 0} (place n : ℕ) (top under : ℕ → A) (i : ℕ) → i < n → laid_over place n top under (place + i) ≡ top i
 unfolding laid_over
-laid_inside place n top under i lt =
-    let inside : is_within place n (place + i) ≡ true = and_from _ _ (le-leb place (place + i) (omega arith)) (lt-ltb (place + i) (place + n) (omega arith)) in
-    let at : place + i - place ≡ i = omega arith in
-    cond-true (is_within place n (place + i)) (top (place + i - place)) (under (place + i)) inside ∙ ap top at
+laid_inside place n top under i lt = grind arith
 
 pub laid_outside : {A : Type 0} (place n : ℕ) (top under : ℕ → A) (o : ℕ) → (o < place) ⊎ (place + n ≤ o) → laid_over place n top under o ≡ under o
 unfolding laid_over
@@ -47,44 +44,18 @@ put_unseen d m at bytes private o = elim (cases_lt o (m.from + at)) [
 ]
 
 pub unseen : PrivateBytesAreUnseen
-unseen x found g0 g1 g2 g3 slot offset n host count at overwrite is_existing bytes prepared private put discard =
-    let same1 : g1.disk ≡ g0.disk = ap (λ (g : Guest). g.disk) prepared.1.3 in
-    let same2 : g2.disk ≡ put_disk g1.disk put.0 at bytes = ap (λ (g : Guest). g.disk) put.3 in
-    let same3 : g3.disk ≡ g2.disk = ap (λ (g : Guest). g.disk) discard.1 in (
-      ap (λ (d : Disk). d.size) (same3 ∙ same2) ∙ ap (λ (d : Disk). d.size) same1,
-      (λ o. ap (λ (d : Disk). d.value o) (same3 ∙ same2) ∙ put_unseen g1.disk put.0 at bytes (λ i lt. private put.0 i put.1 lt) o ∙ ap (λ (d : Disk). d.value o) same1),
-    )
+unseen x found g0 g1 g2 g3 slot offset n host count at overwrite is_existing bytes prepared private put discard = grind (arith, put_unseen)
 
 -- the values at the offsets of the bytes that were put, once they are committed
 there_at : (g : Disk) (m : PreparedMapping) (at : ℕ) (bytes : List ℕ) (i : ℕ) → i < length bytes
     → (committed (put_disk g m at bytes) (put_mapping m at bytes)).value (m.from + at + i) ≡ known_byte (byte_at bytes i)
-there_at g m at bytes i lt =
-    let o = m.from + at + i in
-    let inside : laid_over (m.from + at) (length bytes) (λ k. known_byte (byte_at bytes k)) m.shown o ≡ known_byte (byte_at bytes i) = laid_inside (m.from + at) (length bytes) (λ k. known_byte (byte_at bytes k)) m.shown i lt in
-    let inside2 : laid_over (m.from + at) (length bytes) (λ k. known_byte (byte_at bytes k)) g.value o ≡ known_byte (byte_at bytes i) = laid_inside (m.from + at) (length bytes) (λ k. known_byte (byte_at bytes k)) g.value i lt in
-    both (m.is_private o) _ (m.shown o) (g.value o) _ (known_byte (byte_at bytes i)) inside inside2
+there_at g m at bytes i lt = grind (arith, laid_inside)
 
 pub read_back : CommittedIsReadBack
-read_back x found g0 g1 g2 g3 m slot at n i bytes answer there put commit read lt within =
-    let m-is : put.0 ≡ m = some_is (sym put.1 ∙ there) in
-    let slot-is : g1.slots slot ≡ Some (put_mapping put.0 at bytes) = ap (λ (g : Guest). g.slots slot) put.3 ∙ cond-true (eqb slot slot) (Some (put_mapping put.0 at bytes)) (g0.slots slot) (eq-eqb slot slot refl) in
-    let c-is : commit.0 ≡ put_mapping put.0 at bytes = some_is (sym commit.1 ∙ slot-is) in
-    let disk-is : g2.disk ≡ committed (put_disk g0.disk put.0 at bytes) (put_mapping put.0 at bytes) =
-    ap (λ (g : Guest). g.disk) commit.2 ∙ ap (λ (d : Disk). committed d commit.0) (ap (λ (g : Guest). g.disk) put.3) ∙ ap (λ (k : PreparedMapping). committed (put_disk g0.disk put.0 at bytes) k) c-is in
-    let shown : g2.disk.value (m.from + at + i) ≡ known_byte (byte_at answer i) = read.1 i lt in
-    let was : g2.disk.value (m.from + at + i) ≡ known_byte (byte_at bytes i) =
-    subst (λ (k : PreparedMapping). g2.disk.value (k.from + at + i) ≡ known_byte (byte_at bytes i)) m-is (ap (λ (d : Disk). d.value (put.0.from + at + i)) disk-is ∙ there_at g0.disk put.0 at bytes i within) in
-    byte_is (sym shown ∙ was)
+read_back x found g0 g1 g2 g3 m slot at n i bytes answer there put commit read lt within = grind (arith, there_at)
 
 pub read_in_place : PutIsReadInPlace
-read_in_place x found g0 g1 g2 m slot at offset n i bytes answer there put read lt =
-    let o = offset + i in
-    let m-is : put.0 ≡ m = some_is (sym put.1 ∙ there) in
-    let disk-is : g1.disk ≡ put_disk g0.disk m at bytes = ap (λ (g : Guest). g.disk) put.3 ∙ ap (λ (k : PreparedMapping). put_disk g0.disk k at bytes) m-is in
-    let shown : known_byte (byte_at answer i) ≡ (put_disk g0.disk m at bytes).value o = sym (read.1 i lt) ∙ ap (λ (d : Disk). d.value o) disk-is in (
-      λ private. shown ∙ cond-true (m.is_private o) (g0.disk.value o) ((with_bytes g0.disk (m.from + at) bytes).value o) private,
-      λ plain. shown ∙ cond-false (m.is_private o) (g0.disk.value o) ((with_bytes g0.disk (m.from + at) bytes).value o) plain,
-    )
+read_in_place x found g0 g1 g2 m slot at offset n i bytes answer there put read lt = grind arith
 
 -- what a put gives: a byte of those that were put, or where they are hidden what the disk shows
 pub put_given : (d : Disk) (m : PreparedMapping) (at : ℕ) (bytes : List ℕ) (o : ℕ) (v : Value) → IsGiven (given_by_put d m at bytes ∷ []) o v

@@ -1,6 +1,6 @@
 -- A run of an image that was opened from bytes.
 use Rattle.std.proofs.Common.{◌≡◌, ◌∷◌, ⊎_elim, inl, ℕ, List, [], Option, refl, sym, ap, ◌∙◌, subst, arith}
-use Rattle.qcow2_disk.proofs.Common.{fun_ext, StorageView, EachMomentSince, passes_if, passes_on, Bytes, byte_at, IsConsistent, header, Disk, disk, disk_with, KeepsHeaderRest, checkpoint_at, StopOkEverywhere, StopOk, SafeThroughout, Setting, Guest, Abstraction, abstract_image, guest_of, surplus_of, Command, Reply, State, Run, RefinesDisk, IsStopIn, started, checkpoint_during, given_by, asked_by}
+use Rattle.qcow2_disk.proofs.Common.{StorageView, EachMomentSince, passes_if, passes_on, Bytes, byte_at, IsConsistent, header, Disk, disk, disk_with, KeepsHeaderRest, checkpoint_at, StopOkEverywhere, StopOk, SafeThroughout, Setting, Guest, Abstraction, abstract_image, guest_of, surplus_of, Command, Reply, State, Run, RefinesDisk, IsStopIn, started, checkpoint_during, given_by, asked_by}
 use Rattle.qcow2_disk.specs.Headline.{shown_below, setting_in, guest_in, IsHeadline}
 use Rattle.qcow2_disk.proofs.HeaderRest.{header_rest_same, header_rest_then, header_rest_back}
 use Rattle.qcow2_disk.proofs.Stops.{stop_of_kept, stop_more}
@@ -8,10 +8,7 @@ use Rattle.qcow2_disk.proofs.RunSteps.{passes_run}
 
 -- nothing was given since, so the disk is the same
 same_disk : (backing header_bytes : Bytes) (d : Disk) (b : Bytes) → StopOkEverywhere backing (checkpoint_at d header_bytes) b → disk b backing ≡ d
-same_disk backing header_bytes d b kept =
-    let size : (disk b backing).size ≡ d.size = ⊎_elim (λ (e : (disk b backing).size ≡ d.size). e) (λ h. absurd h) kept.size in
-    let values : (disk b backing).value ≡ d.value = fun_ext (λ o. ⊎_elim (λ (e : (disk b backing).value o ≡ d.value o). e) (λ h. absurd h) (kept.values o)) in
-    λ i. record { size = size i; value = values i }
+same_disk backing header_bytes d b kept = grind arith
 
 pub at_once : (backing b : Bytes) → IsConsistent b → StopOkEverywhere backing (checkpoint_at (disk b backing) b) b
 at_once backing b consistent = record { consistent = consistent; rest = header_rest_same b; size = inl refl; values = λ o. inl refl }
@@ -20,8 +17,7 @@ at_once backing b consistent = record { consistent = consistent; rest = header_r
 first_stop : (x : Setting) (s end : State) (commands : List Command) (replies : List Reply) (run : Run x s commands replies end) (b : Bytes) → StopOk x.backing s.checkpoint b → IsStopIn x s end commands replies run b
 first_stop x s end [] [] run b at = subst (λ (t : State). StopOk x.backing t.checkpoint b) (sym run) at
 first_stop x s end (command ∷ commands) (reply ∷ replies) run b at = inl (stop_more x.backing (given_by x s.guest command) (asked_by command) s.checkpoint b at)
-first_stop x s end [] (reply ∷ replies) run b at = absurd run
-first_stop x s end (command ∷ commands) [] run b at = absurd run
+first_stop x s end _ _ run b at = absurd run
 
 -- whatever it leaves is consistent
 pub stop_consistent : (x : Setting) (s end : State) (commands : List Command) (replies : List Reply) (run : Run x s commands replies end) (b : Bytes) → IsStopIn x s end commands replies run b → IsConsistent b
@@ -29,8 +25,7 @@ stop_consistent x s end [] [] run b at = at.consistent
 stop_consistent x s end (command ∷ commands) (reply ∷ replies) run b at = ⊎_elim
     (λ (now : StopOk x.backing (checkpoint_during x s command) b). now.consistent)
     (λ (later : IsStopIn x run.0 end commands replies run.2 b). stop_consistent x run.0 end commands replies run.2 b later) at
-stop_consistent x s end [] (reply ∷ replies) run b at = absurd at
-stop_consistent x s end (command ∷ commands) [] run b at = absurd at
+stop_consistent x s end _ _ run b at = absurd at
 
 module _ {D P : Type 0} (spec : Abstraction D P) (before : StorageView) (below : Option Bytes) (opened new : D) (commands : List Command) (replies : List Reply)
     (consistent : IsConsistent (byte_at before.contents)) (nothing_before : (c : List ℕ) → before.had_since before.moment c → c ≡ before.contents)

@@ -1,10 +1,9 @@
 -- One call is one step of a run.
-use Rattle.std.proofs.Common.{◌≡◌, ◌⊎◌, ◌∷◌, ◌++◌, ⊎_elim, inl, inr, ℕ, List, [], Bool, true, false, IsTrue, refl, sym, ap, ◌∙◌, subst, Option, None}
-use Rattle.qcow2_disk.proofs.Common.{fun_ext, EachMomentSince, passes_none, passes_if, passes_more, passes_on, Bytes, byte_at, IsConsistent, Value, Disk, disk, disk_with, KeepsHeaderRest, GivenBytes, IsGiven, Checkpoint, checkpoint_at, checkpoint_with, StopOkEverywhere, StopOk, LeavesKept, LeavesOk, PreparedMapping, Setting, Guest, Abstraction, AbstractImage, abstract_image, guest_of, stored_bytes, IsWhole, Refusal, memory, storage, not_compressed, another, CallEffect, AnsweredEffect, RefusedEffect, IsRefusalByFault, EffectOnSound, EffectOnFailed, Stops, Command, Reply, Found, CommandMeaning, IsFaultReply, IsStorageReply, MayAnswer, IsAnswerOfFailed, ReplyMatches, ResizesLast, State, CommandStep, Run, IsSafeWhile, RefinesGuest, RefinesAlong, IsStopIn, RefinesState, RefinesCommand, RefinesRun, RefinesWholeRun, RefinesDisk, IsOwnInterval, started, checkpoint_during, checkpoint_after, stepped, given_by, asked_by, flush, shrink, done, number_is}
+use Rattle.std.proofs.Common.{arith, ◌≡◌, ◌⊎◌, ◌∷◌, ◌++◌, ⊎_elim, inl, inr, ℕ, List, [], Bool, true, false, IsTrue, refl, sym, ap, ◌∙◌, subst, Option, None}
+use Rattle.qcow2_disk.proofs.Common.{fun_ext, EachMomentSince, passes_none, passes_if, passes_more, passes_on, Bytes, byte_at, Value, Disk, KeepsHeaderRest, GivenBytes, IsGiven, Checkpoint, checkpoint_at, checkpoint_with, StopOkEverywhere, StopOk, LeavesKept, LeavesOk, PreparedMapping, Setting, Guest, Abstraction, AbstractImage, abstract_image, guest_of, stored_bytes, IsWhole, Refusal, storage, CallEffect, AnsweredEffect, RefusedEffect, IsRefusalByFault, EffectOnSound, EffectOnFailed, Stops, Command, Reply, Found, CommandMeaning, IsFaultReply, IsStorageReply, MayAnswer, IsAnswerOfFailed, ReplyMatches, ResizesLast, State, CommandStep, Run, IsSafeWhile, RefinesGuest, RefinesAlong, IsStopIn, RefinesState, RefinesCommand, RefinesRun, RefinesWholeRun, RefinesDisk, IsOwnInterval, started, checkpoint_during, checkpoint_after, stepped, given_by, asked_by, flush, shrink, done, number_is}
 use Rattle.image_access.proofs.EachMomentSince.{since_start as since_began}
 use Rattle.qcow2_disk.specs.UngivenCovers.{UngivenStay}
 use Rattle.qcow2_disk.proofs.Compose.{TouchesLess, works_less, stops_none, rests_none}
-use Rattle.qcow2_disk.proofs.HeaderRest.{header_rest_same}
 use Rattle.qcow2_disk.proofs.Stops.{stop_of_kept, stop_more}
 
 bool_cases : (b : Bool) → (b ≡ true) ⊎ (b ≡ false)
@@ -32,32 +31,7 @@ mark_of_fault x s command reply new fault = refl
 
 module _ (x : Setting) (old new : AbstractImage) (s : State) (command : Command) (reply : Reply) (stands : RefinesState x old s) where
   rested : IsTrue s.is_failed → IsAnswerOfFailed command reply → EffectOnFailed old new → RefinesCommand x old new s command reply
-  rested failed answer rests =
-      let not_ok : s.is_failed ≡ false → ⊥ = λ e. let t : s.is_failed ≡ true = failed in cc in
-      let at : LeavesOk x.backing s.checkpoint new.storage = subst (λ c. StopOk x.backing s.checkpoint (byte_at c)) (sym rests.contents) stands.at_rest in
-      record {
-        end = s;
-        step = inl (failed, answer, refl);
-        stands = record {
-          setting = rests.setting ∙ stands.setting;
-          works = λ e. absurd (not_ok e);
-          failed = λ _. rests.failed;
-          guest = λ e. absurd (not_ok e);
-          known = λ e. absurd (not_ok e);
-          contents = λ e. absurd (not_ok e);
-          at_rest = at;
-        };
-        safe = record { moments = λ e. absurd (not_ok e); at_return = at; silent = λ _. rests.moments; unchanged = λ _. rests.contents };
-        interval = record {
-          own = λ e. absurd (not_ok e);
-          sized = λ e. absurd (not_ok e);
-          told = λ e. absurd (not_ok e);
-          beside = λ e. absurd (not_ok e);
-        };
-        surplus = λ e. absurd (not_ok e);
-        leaks = rests.leaks;
-        since = λ e. e;
-      }
+  rested failed answer rests = grind arith
 
   module _ (ok : s.is_failed ≡ false) (may : MayAnswer s.guest.disk command reply) (sized : ResizesLast s.guest.disk.size old.storage new.storage command) (acts : EffectOnSound old new (given_by x s.guest command) (asked_by command)) where
     not_failed : IsTrue s.is_failed → ⊥
@@ -172,20 +146,10 @@ module _ (x : Setting) (old new : AbstractImage) (s : State) (command : Command)
         (ends sound).ends
   ]
 
--- a fault of the storage, or none
-storage_cases : (e : Refusal) → (e ≡ storage) ⊎ (e ≡ storage → ⊥)
-storage_cases memory = inr (λ is. absurd cc)
-storage_cases storage = inl refl
-storage_cases (not_compressed offset) = inr (λ is. absurd cc)
-storage_cases (another number) = inr (λ is. absurd cc)
-
 -- how a refusal ends: a fault of the storage fails the image
 refusal_ends : {old new : AbstractImage} {given : List GivenBytes} {asked : List ℕ} {Still : Type 0} (reply : Reply) (error : Refusal) → RefusedEffect old new given asked error Still → (IsRefusalByFault error → IsFaultReply reply) → (IsStorageReply reply → error ≡ storage)
     → old.is_sound → (new.is_sound × Still × (¬ IsStorageReply reply)) ⊎ (IsFaultReply reply × IsTrue new.is_failed)
-refusal_ends {new = new} {Still = Still} reply error refuses fault by_storage sound = elim (storage_cases error) [
-  | inl is ↦ inr (fault (subst IsRefusalByFault (sym is) tt), refuses.fault is)
-  | inr isnt ↦ ⊎_elim (λ (a : new.is_sound × Still). inl (a.0, a.1, λ h. isnt (by_storage h))) (λ (b : IsRefusalByFault error × IsTrue new.is_failed). inr (fault b.0, b.1)) (refuses.answer sound)
-]
+refusal_ends {new = new} {Still = Still} reply error refuses fault by_storage sound = grind arith
 
 -- a call that was answered, and one that was refused
 pub done_as : (x : Setting) (old new : AbstractImage) (s : State) (command is : Command) (reply : Reply) → command ≡ is → RefinesState x old s → IsAnswer old new is reply
@@ -228,14 +192,7 @@ acts_none v given asked = record {
 
 -- a flush that succeeded: what is on the storage is what the guest sees
 kept_at_once : (v : AbstractImage) (header_bytes b : Bytes) → IsWhole v → b ≡ v.known → KeepsHeaderRest header_bytes b → StopOkEverywhere v.setting.backing (checkpoint_at (guest_of v).disk header_bytes) b
-kept_at_once v header_bytes b whole same rest =
-    let shown : disk b v.setting.backing ≡ (guest_of v).disk =
-    ap (λ (a : Bytes). disk a v.setting.backing) same ∙ ap (λ (a : Bytes). disk_with v.known a v.setting.backing) (sym whole.in_image) in record {
-      consistent = subst (λ (a : Bytes). IsConsistent a) (sym same) whole.consistent;
-      rest = rest;
-      size = inl (ap (λ (d : Disk). d.size) shown);
-      values = λ o. inl (ap (λ (d : Disk). d.value o) shown);
-    }
+kept_at_once v header_bytes b whole same rest = grind arith
 
 pub flushed_as : (x : Setting) (old new : AbstractImage) (s : State) (command is : Command) (reply : Reply) → command ≡ is → RefinesState x old s → IsAnswer old new is reply
     → AnsweredEffect old new (given_by old.setting (guest_of old) is) (asked_by is) ((new.known ≡ stored_bytes new) × CommandMeaning old.setting s.found (guest_of old) is reply (guest_of new))
@@ -294,18 +251,7 @@ none_as x v s command is reply e stands answer means answered checkpoint finds =
 
 -- where a run begins
 pub begins : (v : AbstractImage) → v.is_sound → IsWhole v → v.known ≡ stored_bytes v → RefinesState v.setting v (started v)
-begins v sound whole same = record {
-  setting = refl;
-  works = λ _. sound;
-  failed = λ e. absurd (let t : false ≡ true = e in cc);
-  guest = λ _. refl;
-  known = λ _. kept_at_once v (stored_bytes v) v.known whole refl (subst (KeepsHeaderRest (stored_bytes v)) (sym same) (header_rest_same (stored_bytes v)));
-  contents = λ _. at_once;
-  at_rest = stop_of_kept v.setting.backing (started v).checkpoint (stored_bytes v) at_once;
-}
-  where
-    at_once : LeavesKept v.setting.backing (started v).checkpoint v.storage
-    at_once = kept_at_once v (stored_bytes v) (stored_bytes v) whole (sym same) (header_rest_same (stored_bytes v))
+begins v sound whole same = grind arith
 
 -- a run goes on by one step
 pub Run-push : (x : Setting) (old mid new : State) (commands : List Command) (replies : List Reply) (command : Command) (reply : Reply)
@@ -313,8 +259,7 @@ pub Run-push : (x : Setting) (old mid new : State) (commands : List Command) (re
 Run-push x old mid new [] [] command reply run step = (new, subst (λ s. CommandStep x s command reply new) run step, refl)
 Run-push x old mid new (c ∷ commands) (r ∷ replies) command reply run step =
     (run.0, run.1, Run-push x run.0 mid new commands replies command reply run.2 step)
-Run-push x old mid new [] (r ∷ replies) command reply run step = absurd run
-Run-push x old mid new (c ∷ commands) [] command reply run step = absurd run
+Run-push x old mid new _ _ command reply run step = absurd run
 
 -- an image at a point of a run is as the run says
 said_at : {x : Setting} {v : AbstractImage} {s : State} (before : ℕ → ℕ) (leaked : ℕ) → RefinesState x v s → (s.is_failed ≡ false → v.surplus ≡ before) → v.leaked ≡ leaked → RefinesGuest v s before leaked
@@ -326,18 +271,10 @@ module _ {D P : Type 0} (spec : Abstraction D P) (x : Setting) (before : ℕ →
       → RefinesAlong spec x before leaked old mid s t commands replies run → RefinesGuest (abstract_image spec new out) end before leaked → IsSafeWhile x.backing (spec.storage mid) (spec.storage new) t.is_failed (checkpoint_during x t command) end.checkpoint
       → RefinesAlong spec x before leaked old new s end (commands ++ command ∷ []) (replies ++ reply ∷ []) (Run-push x s t end commands replies command reply run step)
   unfolding Run-push
-  along_push old mid new out s t end [] [] command reply run step same said safe = (
-    new,
-    out,
-    said,
-    subst (λ (d : D). IsSafeWhile x.backing (spec.storage d) (spec.storage new) s.is_failed (checkpoint_during x s command) end.checkpoint) same
-        (subst (λ (r : State). IsSafeWhile x.backing (spec.storage mid) (spec.storage new) r.is_failed (checkpoint_during x r command) end.checkpoint) run safe),
-    refl,
-  )
+  along_push old mid new out s t end [] [] command reply run step same said safe = grind arith
   along_push old mid new out s t end (c ∷ commands) (r ∷ replies) command reply run step so_far said safe =
       (so_far.0, so_far.1, so_far.2, so_far.3, along_push so_far.0 mid new out run.0 t end commands replies command reply run.2 step so_far.4 said safe)
-  along_push old mid new out s t end [] (r ∷ replies) command reply run step so_far said safe = absurd run
-  along_push old mid new out s t end (c ∷ commands) [] command reply run step so_far said safe = absurd run
+  along_push old mid new out s t end _ _ command reply run step so_far said safe = absurd run
 
   -- the moments of a run fall under its commands
   within : (old new : D) (s end : State) (commands : List Command) (replies : List Reply) (run : Run x s commands replies end) → RefinesAlong spec x before leaked old new s end commands replies run
@@ -350,29 +287,25 @@ module _ {D P : Type 0} (spec : Abstraction D P) (x : Setting) (before : ℕ →
         | inr ok ↦ safe.3.moments ok
       ] in
       passes_more here (within safe.0 new run.0 end commands replies run.2 safe.4 safe.3.at_return)
-  within old new s end [] (reply ∷ replies) run safe at = absurd run
-  within old new s end (command ∷ commands) [] run safe at = absurd run
+  within old new s end _ _ run safe at = absurd run
 
   stop_at_end : (s end : State) (commands : List Command) (replies : List Reply) (run : Run x s commands replies end) (b : Bytes) → StopOk x.backing end.checkpoint b → IsStopIn x s end commands replies run b
   stop_at_end s end [] [] run b at = at
   stop_at_end s end (command ∷ commands) (reply ∷ replies) run b at = inr (stop_at_end run.0 end commands replies run.2 b at)
-  stop_at_end s end [] (reply ∷ replies) run b at = absurd run
-  stop_at_end s end (command ∷ commands) [] run b at = absurd run
+  stop_at_end s end _ _ run b at = absurd run
 
   rest_at_end : (old new : D) (s end : State) (commands : List Command) (replies : List Reply) (run : Run x s commands replies end) → RefinesAlong spec x before leaked old new s end commands replies run
       → LeavesOk x.backing s.checkpoint (spec.storage old) → LeavesOk x.backing end.checkpoint (spec.storage new)
   rest_at_end old new s end [] [] run same at = subst (λ (d : D). LeavesOk x.backing end.checkpoint (spec.storage d)) (sym same) (subst (λ (t : State). LeavesOk x.backing t.checkpoint (spec.storage old)) (sym run) at)
   rest_at_end old new s end (command ∷ commands) (reply ∷ replies) run safe at = rest_at_end safe.0 new run.0 end commands replies run.2 safe.4 safe.3.at_return
-  rest_at_end old new s end [] (reply ∷ replies) run safe at = absurd run
-  rest_at_end old new s end (command ∷ commands) [] run safe at = absurd run
+  rest_at_end old new s end _ _ run safe at = absurd run
 
   -- a stop at the start of the run is one before the first command, or at the end
   first_in : (old new : D) (s end : State) (commands : List Command) (replies : List Reply) (run : Run x s commands replies end) → RefinesAlong spec x before leaked old new s end commands replies run
       → LeavesOk x.backing s.checkpoint (spec.storage old) → IsStopIn x s end commands replies run (byte_at (spec.storage old).contents)
   first_in old new s end [] [] run same at = subst (λ (t : State). LeavesOk x.backing t.checkpoint (spec.storage old)) (sym run) at
   first_in old new s end (command ∷ commands) (reply ∷ replies) run safe at = inl (stop_more x.backing (given_by x s.guest command) (asked_by command) s.checkpoint (byte_at (spec.storage old).contents) at)
-  first_in old new s end [] (reply ∷ replies) run safe at = absurd run
-  first_in old new s end (command ∷ commands) [] run safe at = absurd run
+  first_in old new s end _ _ run safe at = absurd run
 
   -- and so do those while its mappings are let go
   pub whole_passes : (old last new : D) (s end : State) (commands : List Command) (replies : List Reply) (run : Run x s commands replies end)

@@ -1,5 +1,5 @@
 -- What calls keep, from one image to the next, and what follows for a stop.
-use Rattle.std.proofs.Common.{◌≡◌, ◌⊎◌, ◌∷◌, ◌++◌, ⊎_elim, inl, inr, ℕ, List, [], refl, sym, ◌∙◌, subst}
+use Rattle.std.proofs.Common.{arith, ◌≡◌, ◌⊎◌, ◌∷◌, ◌++◌, ⊎_elim, inl, inr, ℕ, List, [], refl, sym, ◌∙◌, subst}
 use Rattle.qcow2_disk.proofs.Common.{Bytes, Value, IsConsistent, disk, KeepsHeaderRest, GivenBytes, IsGiven, IsAsked, Checkpoint, checkpoint_with, StopOk, StopOkEverywhere}
 use Rattle.qcow2_disk.proofs.HeaderRest.{header_rest_same, header_rest_then}
 
@@ -41,14 +41,7 @@ stop_of_kept backing m b kept = record { consistent = kept.consistent; rest = ke
 
 -- what is safe stays so with more given and asked
 pub stop_more : (backing : Bytes) (given : List GivenBytes) (asked : List ℕ) (m : Checkpoint) (b : Bytes) → StopOk backing m b → StopOk backing (checkpoint_with given asked m) b
-stop_more backing given asked m b stop = record {
-  consistent = stop.consistent;
-  rest = stop.rest;
-  size = ⊎_elim (λ (e : (disk b backing).size ≡ m.last.size). inl e) (λ (a : IsAsked m.asked (disk b backing).size). inr (asked_more asked m.asked _ a)) stop.size;
-  values = λ o lt below. ⊎_elim
-      (λ (e : (disk b backing).value o ≡ m.last.value o). inl e)
-      (λ (g : IsGiven m.given o ((disk b backing).value o)). inr (given_more given m.given o _ g)) (stop.values o lt below);
-}
+stop_more backing given asked m b stop = grind (arith, asked_more, given_more)
 
 -- an image of which each value is that of a kept one, or given, and the size that of the kept one or asked
 pub kept_on : (backing : Bytes) (m : Checkpoint) (given : List GivenBytes) (asked : List ℕ) (b b' : Bytes) → IsConsistent b' → KeepsHeaderRest b b'
@@ -84,12 +77,7 @@ kept_either backing m on_storage known b consistent rest size values kept known_
 
 -- what was given twice was given
 pub kept_twice : (backing : Bytes) (given : List GivenBytes) (asked : List ℕ) (m : Checkpoint) (b : Bytes) → StopOkEverywhere backing (checkpoint_with given asked (checkpoint_with given asked m)) b → StopOkEverywhere backing (checkpoint_with given asked m) b
-kept_twice backing given asked m b kept = record {
-  consistent = kept.consistent;
-  rest = kept.rest;
-  size = ⊎_elim (λ h. inl h) (λ h. inr (⊎_elim (λ l. asked_front asked m.asked _ l) (λ r. r) (asked_split asked (asked ++ m.asked) _ h))) kept.size;
-  values = λ o. ⊎_elim (λ h. inl h) (λ h. inr (⊎_elim (λ l. given_front given m.given o _ l) (λ r. r) (given_split given (given ++ m.given) o _ h))) (kept.values o);
-}
+kept_twice backing given asked m b kept = grind (arith, asked_front, asked_split, given_front, given_split)
 
 -- what is kept is kept with more given
 pub kept_more : (backing : Bytes) (given : List GivenBytes) (asked : List ℕ) (m : Checkpoint) (b : Bytes) → StopOkEverywhere backing m b → StopOkEverywhere backing (checkpoint_with given asked m) b

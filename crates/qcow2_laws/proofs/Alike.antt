@@ -1,6 +1,6 @@
 -- What guests read in contiguous data and in clusters that are mapped alike, and how long such a run is.
 use Rattle.std.proofs.Common.{◌≡◌, ◌+◌, ◌-◌, ◌*◌, ◌/◌, ◌%◌, ◌<◌, ◌≤◌, ℕ, Bool, refl, sym, ap, ◌∙◌, arith, inl, inr, subst, min}
-use Rattle.qcow2_laws.proofs.Common.{Option, cases_lt, div-add-mod', div-mul-add, mod_below, mod-mul-add, pow_pos, Bytes, HeaderFields, cluster_size, cover, known_byte, L2Mapping, Data, Zero, Compressed, Uncovered, disk, DriverState, StateInvariant, IsDataAt, AreDataAt, IsAlike, IsAlikeAt, IsAlikeRun, IsLongestRun}
+use Rattle.qcow2_laws.proofs.Common.{Option, cases_lt, div-add-mod', div-mul-add, mod-mul-add, pow_pos, Bytes, HeaderFields, cluster_size, cover, known_byte, L2Mapping, Data, Zero, Uncovered, disk, DriverState, StateInvariant, IsDataAt, AreDataAt, IsAlike, IsAlikeAt, IsAlikeRun, IsLongestRun}
 use Rattle.qcow2_laws.proofs.Places.{in_one, div_mono}
 use Rattle.qcow2_laws.proofs.Shown.{shown_data, shown_zero, shown_uncovered}
 
@@ -14,27 +14,19 @@ module _ (s : DriverState) (sound : StateInvariant s) (inside : s.header.incompa
 -- ---- what is mapped alike
 pub alike_self : (v : L2Mapping) → IsAlike 0 v v
 alike_self (Data host copied) = (omega arith, refl)
-alike_self (Zero kept) = tt
-alike_self (Compressed host sectors) = tt
-alike_self Uncovered = tt
+alike_self _ = tt
 
 alike_data : (distance host : ℕ) (copied : Bool) (v : L2Mapping) → IsAlike distance (Data host copied) v → v ≡ Data (host + distance) copied
 alike_data distance host copied (Data next marked) alike = λ j. Data (alike.0 j) (alike.1 j)
-alike_data distance host copied (Zero kept) alike = absurd alike
-alike_data distance host copied (Compressed next sectors) alike = absurd alike
-alike_data distance host copied Uncovered alike = absurd alike
+alike_data distance host copied _ alike = absurd alike
 
 alike_zero : (distance : ℕ) (kept : Option (ℕ × Bool)) (v : L2Mapping) → IsAlike distance (Zero kept) v → (k : Option (ℕ × Bool)) × (v ≡ Zero k)
-alike_zero distance kept (Data next marked) alike = absurd alike
 alike_zero distance kept (Zero k) alike = (k, refl)
-alike_zero distance kept (Compressed next sectors) alike = absurd alike
-alike_zero distance kept Uncovered alike = absurd alike
+alike_zero distance kept _ alike = absurd alike
 
 alike_uncovered : (distance : ℕ) (v : L2Mapping) → IsAlike distance Uncovered v → v ≡ Uncovered
-alike_uncovered distance (Data next marked) alike = absurd alike
-alike_uncovered distance (Zero kept) alike = absurd alike
-alike_uncovered distance (Compressed next sectors) alike = absurd alike
 alike_uncovered distance Uncovered alike = refl
+alike_uncovered distance _ alike = absurd alike
 
 -- a row of bytes goes on by as much as their clusters lie apart
 along : (size offset i : ℕ) → 0 < size → ((offset + i) / size - offset / size) * size + (offset + i) % size ≡ offset % size + i
@@ -100,11 +92,7 @@ module _ (h : HeaderFields) (b : Bytes) (offset : ℕ) where
   alike_within i k same = subst (λ c. IsAlike ((c - offset / cluster_size h) * cluster_size h) (cover h b (offset / cluster_size h)) (cover h b c)) same
 
   alike_here : (i : ℕ) → (offset + i) / cluster_size h ≡ offset / cluster_size h → IsAlikeAt h b offset i
-  alike_here i here =
-      let none : (offset + i) / cluster_size h - offset / cluster_size h ≡ 0 = omega arith in
-      let apart : ((offset + i) / cluster_size h - offset / cluster_size h) * cluster_size h ≡ 0 = ap (λ d. d * cluster_size h) none ∙ omega arith in
-      subst (λ d. IsAlike d (cover h b (offset / cluster_size h)) (cover h b ((offset + i) / cluster_size h))) (sym apart)
-      (subst (λ c. IsAlike 0 (cover h b (offset / cluster_size h)) (cover h b c)) (sym here) (alike_self (cover h b (offset / cluster_size h))))
+  alike_here i here = grind arith
 
   -- the rest of the first cluster
   pub run_first : (n : ℕ) → n ≤ cluster_size h - offset % cluster_size h → IsAlikeRun h b offset n
@@ -155,10 +143,7 @@ module _ (h : HeaderFields) (b : Bytes) (offset : ℕ) where
 
   -- after the rest of the first cluster and k clusters more
   pub run_begins : (k : ℕ) → offset + (cluster_size h - offset % cluster_size h + k * cluster_size h) ≡ (offset / cluster_size h + k + 1) * cluster_size h
-  run_begins k =
-      let is : offset / cluster_size h * cluster_size h + offset % cluster_size h ≡ offset = div-add-mod' offset (cluster_size h) in
-      let below = mod_below offset (cluster_size h) (pow_pos h.cluster_bits) in
-      omega arith
+  run_begins k = grind (arith, pow_pos)
 
   pub run_far : (k : ℕ) → offset / cluster_size h * cluster_size h + (k * cluster_size h + cluster_size h) ≡ (offset / cluster_size h + k + 1) * cluster_size h
   run_far k = omega arith
@@ -175,12 +160,7 @@ module _ (h : HeaderFields) (b : Bytes) (offset : ℕ) where
 
   -- ---- the longest run
   pub run_longest : (limit n : ℕ) → IsAlikeRun h b offset n → (n < limit → IsAlikeAt h b offset n → ⊥) → IsLongestRun h b offset limit (min n limit)
-  run_longest limit n run stop = elim (cases_lt n limit) [
-    | inl lt ↦ let is : min n limit ≡ n = omega arith in subst (IsLongestRun h b offset limit) (sym is) (record { within = omega arith; alike = run; longest = stop })
-    | inr le ↦
-        let is : min n limit ≡ limit = omega arith in
-        subst (IsLongestRun h b offset limit) (sym is) (record { within = omega arith; alike = run_less limit n le run; longest = λ lt. absurd (omega arith) })
-  ]
+  run_longest limit n run stop = grind arith
 
   module _ (limit n : ℕ) (longest : IsLongestRun h b offset limit n) where
     -- no run is longer

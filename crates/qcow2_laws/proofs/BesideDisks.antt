@@ -1,15 +1,13 @@
 -- What a guest sees of an image with an external data file: bytes of that file where the image has data, and no byte of a table.
 use Rattle.std.proofs.Common.{◌≡◌, ◌/◌, ◌≢◌, ℕ, cond, eqb, refl, sym, ap, ◌∙◌, inl, inr}
-use Rattle.qcow2_laws.proofs.Common.{cases_eq, cond-true, cond-false, eq-eqb, ne_eqb, fun_ext, Bytes, HeaderFields, header, cluster_size, with_reftable, cover, cover_under, l1_entry, Value, value_under, guest_value, L2Mapping, Data, Zero, Compressed, Uncovered, disk_with, DriverState, StateInvariant, IsInternal, with_cluster}
+use Rattle.qcow2_laws.proofs.Common.{cases_eq, cond-true, cond-false, eq-eqb, ne_eqb, fun_ext, Bytes, HeaderFields, header, cluster_size, with_reftable, cover, cover_under, l1_entry, Value, value_under, guest_value, L2Mapping, Compressed, disk_with, DriverState, StateInvariant, IsInternal, with_cluster}
 use Rattle.qcow2_laws.specs.Beside.{StandsAtGuest}
 use Rattle.qcow2_laws.proofs.Internal.{known_header}
 
 -- but for compressed data no cover shows a byte of the image itself
 same_value : (h : HeaderFields) (b c file backing : Bytes) (o g : ℕ) (v : L2Mapping) → StandsAtGuest h g v → value_under h b file backing o v ≡ value_under h c file backing o v
-same_value h b c file backing o g (Data host copied) at = refl
-same_value h b c file backing o g (Zero kept) at = refl
 same_value h b c file backing o g (Compressed place sectors) at = absurd at
-same_value h b c file backing o g Uncovered at = refl
+same_value h b c file backing o g _ at = refl
 
 value_with : (h : HeaderFields) (offset clusters : ℕ) (b file backing : Bytes) (o : ℕ) → guest_value (with_reftable h offset clusters) b file backing o ≡ guest_value h b file backing o
 unfolding guest_value cover cover_under l1_entry

@@ -1,12 +1,13 @@
 -- Refcounts of one refblock, and entries of one L2 table, change in the known contents.
 use Rattle.std.proofs.Common.{◌≡◌, ◌+◌, ◌-◌, ◌*◌, ◌/◌, ◌%◌, ◌<◌, ◌≤◌, ◌≢◌, ◌⊎◌, ℕ, List, [], refl, sym, ap, ◌∙◌, arith, inl, inr, subst}
-use Rattle.qcow2_laws.proofs.Common.{cases_eq, cases_lt, eq-eqb, ne_eqb, cond-true, cond-false, div-add-mod', mod_below, mul-le, Bytes, HeaderFields, cluster_size, entries_per_cluster, count_width, counts_per_block, l2_entry, reftable_entry, count, block_count, host_offset, block_offset, cover, entry_cover, guest_value, named_for_tables, CoverIsAligned, GivenBytes, IsGiven, Checkpoint, checkpoint_with, StopOkEverywhere, Direction, L2DependsOnRb, RbDependsOnL2, guests, names, marks, named_in_either, table_at, Pending, cluster, CrashInvariant, IsTop, SameTop, SameCovers, SameCounts, SameIn, one_at, with_new_data, with_new_tables, without_old_tables, without_old_data, remapped, IsSameOutside}
+use Rattle.qcow2_laws.proofs.Common.{cases_eq, cases_lt, eq-eqb, ne_eqb, cond-true, cond-false, div-add-mod', mod_below, mul-le, Bytes, HeaderFields, cluster_size, entries_per_cluster, count_width, counts_per_block, l2_entry, reftable_entry, count, block_count, host_offset, block_offset, cover, entry_cover, guest_value, in_cluster, named_by_l1_table, named_for_tables, CoverIsAligned, GivenBytes, IsGiven, Checkpoint, checkpoint_with, StopOkEverywhere, Direction, L2DependsOnRb, RbDependsOnL2, guests, names, marks, named_in_either, table_at, Pending, cluster, CrashInvariant, SafeStep, IsTop, SameTop, SameCovers, SameCounts, one_at, with_new_data, with_new_tables, without_old_tables, without_old_data, remapped, IsSameOutside}
 use Rattle.qcow2_laws.proofs.Places.{Sizes, Sizes-from, count_in, cover_in, has_table}
 use Rattle.qcow2_laws.proofs.Tops.{IsTop-top, for_tables-top}
 use Rattle.qcow2_laws.proofs.Clusters.{new_data_unnamed}
 use Rattle.qcow2_laws.proofs.Mixes.{tied, good}
 use Rattle.qcow2_laws.proofs.Changes.{one_at-le, at_one, data_counted, table_counted, table_freed, data_freed, covers_kept, entry_mapped, mapping_kept}
-use Rattle.qcow2_laws.proofs.Shares.{shares, block_has, table_has, block_top, block_covers, block_others, table_top, table_counts, table_others}
+use Rattle.qcow2_laws.proofs.SafeSteps.{state}
+use Rattle.qcow2_laws.proofs.Shares.{in_l1, in_reftable, shares, block_has, table_has, top_beside, cover_beside, count_beside, block_others, table_others}
 
 -- a cluster that a table lies in is neither named by entries nor held, and is counted
 module _ (h : HeaderFields) (d : Direction) (p : Pending) (on_storage known : Bytes) (crash_invariant : CrashInvariant h d p on_storage known) (c : ℕ) (table_refs : 0 < named_for_tables h on_storage c) where
@@ -20,6 +21,9 @@ module _ (h : HeaderFields) (d : Direction) (p : Pending) (on_storage known : By
 
   pub table_once : named_for_tables h on_storage c ≡ 1
   table_once = let table = (crash_invariant.each_cluster c).table table_refs in omega arith
+
+  pub tables_once : (named_for_tables h on_storage c ≤ 1) × (named_for_tables h known c ≤ 1)
+  tables_once = let e = for_tables-top h on_storage known c crash_invariant.same_top in let t = table_once in (omega arith, omega arith)
 
   pub table_is_counted : 0 < count h known c
   table_is_counted = let tally = (crash_invariant.each_cluster c).tally in omega arith
@@ -48,29 +52,23 @@ module _ (h : HeaderFields) (d : Direction) (p : Pending) (on_storage known know
   sizes : Sizes h
   sizes = Sizes-from h known known_top.header_reads
 
-  same : (c : ℕ) → c ≢ block_offset (reftable_entry h known (c0 / counts_per_block h)) / cluster_size h → SameIn (cluster_size h) c known known'
-  same c other o in_c = outside o (λ e. other (sym in_c ∙ e))
-
-  table_refs : 0 < named_for_tables h known (block_offset (reftable_entry h known (c0 / counts_per_block h)) / cluster_size h)
-  table_refs =
+  others_here : in_cluster h (block_offset (reftable_entry h known (c0 / counts_per_block h)) / cluster_size h) 0 + in_l1 h (block_offset (reftable_entry h known (c0 / counts_per_block h)) / cluster_size h) + in_reftable h (block_offset (reftable_entry h known (c0 / counts_per_block h)) / cluster_size h) + named_by_l1_table h known (block_offset (reftable_entry h known (c0 / counts_per_block h)) / cluster_size h) < named_for_tables h known (block_offset (reftable_entry h known (c0 / counts_per_block h)) / cluster_size h)
+  others_here =
       let s = shares h known (block_offset (reftable_entry h known (c0 / counts_per_block h)) / cluster_size h) in
       let one = block_has h known (c0 / counts_per_block h) real in
       omega arith
 
   storage_fixed : 0 < named_for_tables h on_storage (block_offset (reftable_entry h known (c0 / counts_per_block h)) / cluster_size h)
-  storage_fixed = let e = for_tables-top h on_storage known (block_offset (reftable_entry h known (c0 / counts_per_block h)) / cluster_size h) crash_invariant.same_top in let f = table_refs in omega arith
+  storage_fixed = let e = for_tables-top h on_storage known (block_offset (reftable_entry h known (c0 / counts_per_block h)) / cluster_size h) crash_invariant.same_top in let f = others_here in omega arith
 
   once : named_for_tables h known (block_offset (reftable_entry h known (c0 / counts_per_block h)) / cluster_size h) ≤ 1
-  once =
-      let e = for_tables-top h on_storage known (block_offset (reftable_entry h known (c0 / counts_per_block h)) / cluster_size h) crash_invariant.same_top in
-      let t = table_once h d p on_storage known crash_invariant (block_offset (reftable_entry h known (c0 / counts_per_block h)) / cluster_size h) storage_fixed in
-      omega arith
+  once = (tables_once h d p on_storage known crash_invariant (block_offset (reftable_entry h known (c0 / counts_per_block h)) / cluster_size h) storage_fixed).1
 
   pub counted_top : SameTop h known known'
-  counted_top = block_top h known known' known_top (c0 / counts_per_block h) real once same
+  counted_top = top_beside h known known' known_top (block_offset (reftable_entry h known (c0 / counts_per_block h)) / cluster_size h) once outside (let f = others_here in omega arith)
 
   pub counted_covers : SameCovers h known known'
-  counted_covers = block_covers h known known' known_top (c0 / counts_per_block h) real once same
+  counted_covers g = cover_beside h known known' known_top (block_offset (reftable_entry h known (c0 / counts_per_block h)) / cluster_size h) once outside (let f = others_here in omega arith) g (counted_top.l1 _)
 
   -- what entries name, and what is held, isn't where the refblock lies
   stays : (o : ℕ) → 0 < named_in_either h on_storage known (o / cluster_size h) + p.new_data (o / cluster_size h) → known o ≡ known' o
@@ -103,7 +101,7 @@ module _ (h : HeaderFields) (d : Direction) (p : Pending) (on_storage known know
           let one = one_in_block (counts_per_block h) c0 c sizes.counts here in
           omega (arith, at.0, at.1)
       | inr other ↦
-          let e = block_others h known known' known_top (c0 / counts_per_block h) real once same c other in
+          let e = block_others h known known' known_top (block_offset (reftable_entry h known (c0 / counts_per_block h)) / cluster_size h) once outside (c0 / counts_per_block h) real refl counted_top c other in
           let none = not_at (counts_per_block h) c0 c other in
           omega arith
     ]
@@ -115,9 +113,9 @@ module _ (h : HeaderFields) (d : Direction) (p : Pending) (on_storage known know
     table_allocated = table_counted h p on_storage known known' (one_at c0) counted_top counted_covers (one_at-le c0) d crash_invariant bytes table_counted_free counts_more
 
     -- the new cluster holds what it holds on the storage
-    pub data_allocated : d ≡ L2DependsOnRb → ((o : ℕ) → o / cluster_size h ≡ c0 → on_storage o ≡ known o) → CrashInvariant h L2DependsOnRb (with_new_data p (one_at c0)) on_storage known'
+    pub data_allocated : d ≡ L2DependsOnRb → ((o : ℕ) → o / cluster_size h ≡ c0 → on_storage o ≡ known o) → CrashInvariant h d (with_new_data p (one_at c0)) on_storage known'
     data_allocated is not_overlaid =
-        data_counted h p on_storage known known' (one_at c0) counted_top counted_covers (one_at-le c0) (subst (λ e. CrashInvariant h e p on_storage known) is crash_invariant)
+        subst (λ e. CrashInvariant h e (with_new_data p (one_at c0)) on_storage known') (sym is) (data_counted h p on_storage known known' (one_at c0) counted_top counted_covers (one_at-le c0) (subst (λ e. CrashInvariant h e p on_storage known) is crash_invariant)
         (λ o some. elim (cases_lt 0 (named_in_either h on_storage known (o / cluster_size h) + p.new_data (o / cluster_size h))) [
           | inl before ↦ bytes o before
           | inr none ↦
@@ -127,7 +125,7 @@ module _ (h : HeaderFields) (d : Direction) (p : Pending) (on_storage known know
               let zero : count h known (block_offset (reftable_entry h known (c0 / counts_per_block h)) / cluster_size h) ≡ 0 = ap (count h known) (sym e ∙ here) ∙ free in
               absurd (omega arith))
         ])
-        table_counted_free counts_more
+        table_counted_free counts_more)
 
   -- the count falls by one
   module _ (less : (i : ℕ) → i < counts_per_block h → block_count known' (count_width h) (block_offset (reftable_entry h known (c0 / counts_per_block h))) i + one_at (c0 % counts_per_block h) i
@@ -140,7 +138,7 @@ module _ (h : HeaderFields) (d : Direction) (p : Pending) (on_storage known know
           let one = one_in_block (counts_per_block h) c0 c sizes.counts here in
           omega (arith, at.0, at.1)
       | inr other ↦
-          let e = block_others h known known' known_top (c0 / counts_per_block h) real once same c other in
+          let e = block_others h known known' known_top (block_offset (reftable_entry h known (c0 / counts_per_block h)) / cluster_size h) once outside (c0 / counts_per_block h) real refl counted_top c other in
           let none = not_at (counts_per_block h) c0 c other in
           omega arith
     ]
@@ -152,16 +150,20 @@ module _ (h : HeaderFields) (d : Direction) (p : Pending) (on_storage known know
         old_tables_at : (c : ℕ) → 0 < one_at c0 c → 0 < p.old_tables c
         old_tables_at c at = let e = at_one c0 c p.old_tables (p.old_tables c0) refl at in omega arith
 
-    pub data_released : d ≡ RbDependsOnL2 → 0 < p.old_data c0 → CrashInvariant h RbDependsOnL2 (without_old_data p (one_at c0)) on_storage known'
+    pub data_released : d ≡ RbDependsOnL2 → 0 < p.old_data c0 → CrashInvariant h d (without_old_data p (one_at c0)) on_storage known'
     data_released is some =
-        data_freed h p on_storage known known' (one_at c0) counted_top counted_covers (one_at-le c0) (subst (λ e. CrashInvariant h e p on_storage known) is crash_invariant) bytes (λ c at. old_data_at c at) counts_less
+        subst (λ e. CrashInvariant h e (without_old_data p (one_at c0)) on_storage known') (sym is) (data_freed h p on_storage known known' (one_at c0) counted_top counted_covers (one_at-le c0) (subst (λ e. CrashInvariant h e p on_storage known) is crash_invariant) bytes (λ c at. old_data_at c at) counts_less)
       where
         old_data_at : (c : ℕ) → 0 < one_at c0 c → 0 < p.old_data c
         old_data_at c at = let e = at_one c0 c p.old_data (p.old_data c0) refl at in omega arith
 
   -- whatever the counts are, guests see what they saw
-  pub counts_kept : (e : Direction) (p' : Pending) → CrashInvariant h e p' on_storage known' → (backing : Bytes) (m : Checkpoint) → StopOkEverywhere backing m known → StopOkEverywhere backing m known'
-  counts_kept e p' crash_invariant' backing m kept = covers_kept h d e p p' on_storage known known' crash_invariant crash_invariant' counted_covers (λ o some. stays o (omega arith)) backing m kept
+  pub counts_step : (p' : Pending) → CrashInvariant h d p' on_storage known' → SafeStep (state h d p on_storage known) (state h d p' on_storage known') (λ _. []) []
+  counts_step p' crash_invariant' = record {
+    sound = crash_invariant';
+    on_storage = λ backing m ok known_ok. ok;
+    known = λ backing m ok known_ok. covers_kept h d d p p' on_storage known known' crash_invariant crash_invariant' counted_covers (λ o some. stays o (omega arith)) backing m known_ok;
+  }
 
 -- ---- one entry of an L2 table changes
 module _ (h : HeaderFields) (d : Direction) (p : Pending) (on_storage known known' : Bytes) (crash_invariant : CrashInvariant h d p on_storage known) (i0 j0 : ℕ)
@@ -171,12 +173,6 @@ module _ (h : HeaderFields) (d : Direction) (p : Pending) (on_storage known know
   l2_known_top : IsTop h known
   l2_known_top = IsTop-top h on_storage known crash_invariant.same_top crash_invariant.top
 
-  l2_sizes : Sizes h
-  l2_sizes = Sizes-from h known l2_known_top.header_reads
-
-  l2_same : (c : ℕ) → c ≢ table_at h known i0 / cluster_size h → SameIn (cluster_size h) c known known'
-  l2_same c other o in_c = outside o (λ e. other (sym in_c ∙ e))
-
   l2_fixed : 0 < named_for_tables h on_storage (table_at h known i0 / cluster_size h)
   l2_fixed =
       let e = for_tables-top h on_storage known (table_at h known i0 / cluster_size h) crash_invariant.same_top in
@@ -185,16 +181,13 @@ module _ (h : HeaderFields) (d : Direction) (p : Pending) (on_storage known know
       omega arith
 
   l2_once : named_for_tables h known (table_at h known i0 / cluster_size h) ≤ 1
-  l2_once =
-      let e = for_tables-top h on_storage known (table_at h known i0 / cluster_size h) crash_invariant.same_top in
-      let t = table_once h d p on_storage known crash_invariant (table_at h known i0 / cluster_size h) l2_fixed in
-      omega arith
+  l2_once = (tables_once h d p on_storage known crash_invariant (table_at h known i0 / cluster_size h) l2_fixed).1
 
   pub entry_top : SameTop h known known'
-  entry_top = table_top h known known' l2_known_top i0 real l2_once l2_same
+  entry_top = top_beside h known known' l2_known_top (table_at h known i0 / cluster_size h) l2_once outside (let s = shares h known (table_at h known i0 / cluster_size h) in let one = table_has h known i0 real in omega arith)
 
   pub entry_counts : SameCounts h known known'
-  entry_counts = table_counts h known known' l2_known_top i0 real l2_once l2_same
+  entry_counts c = count_beside h known known' l2_known_top (table_at h known i0 / cluster_size h) l2_once outside (let s = shares h known (table_at h known i0 / cluster_size h) in let one = table_has h known i0 real in omega arith) c (entry_top.reftable _)
 
   pub entry_others : (g : ℕ) → g ≢ i0 * entries_per_cluster h + j0 → cover h known g ≡ cover h known' g
   entry_others g ne = elim (cases_eq (g / entries_per_cluster h) i0) [
@@ -206,10 +199,10 @@ module _ (h : HeaderFields) (d : Direction) (p : Pending) (on_storage known know
         let at' : table_at h known' (g / entries_per_cluster h) ≡ table_at h known i0 = ap host_offset (sym (entry_top.l1 (g / entries_per_cluster h))) ∙ at in
         cover_in h known g (λ none. real (sym at ∙ none))
         ∙ ap (λ t. entry_cover h (l2_entry known t (g % entries_per_cluster h))) at
-        ∙ ap (entry_cover h) (entries (g % entries_per_cluster h) (mod_below g (entries_per_cluster h) l2_sizes.entries) other)
+        ∙ ap (entry_cover h) (entries (g % entries_per_cluster h) (mod_below g (entries_per_cluster h) (Sizes-from h known l2_known_top.header_reads).entries) other)
         ∙ ap (λ t. entry_cover h (l2_entry known' t (g % entries_per_cluster h))) (sym at')
         ∙ sym (cover_in h known' g (λ none. real (sym at' ∙ none)))
-    | inr other ↦ table_others h known known' l2_known_top i0 real l2_once l2_same g other
+    | inr other ↦ table_others h known known' l2_known_top (table_at h known i0 / cluster_size h) l2_once outside i0 real refl entry_top g other
   ]
 
   pub guest_within : i0 * entries_per_cluster h + j0 < guests h

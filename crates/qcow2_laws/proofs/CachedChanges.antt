@@ -1,11 +1,13 @@
 -- Changes of a cached table's bytes, as changes of the known contents.
-use Rattle.std.proofs.Common.{◌≡◌, ◌+◌, ◌-◌, ◌/◌, ◌%◌, ◌<◌, ◌≤◌, ◌≢◌, ℕ, Bool, true, false, cond, inl, inr, List, Some, None, refl, sym, ap, ◌∙◌, subst, arith, max}
-use Rattle.qcow2_laws.proofs.Common.{cases_eq, cases_lt, eq-eqb, ne_eqb, cond-true, cond-false, mod_below, Bytes, HeaderFields, cluster_size, entries_per_cluster, count_width, counts_per_block, has_data_file, l2_entry, block_count, cover, in_cluster, named_by_cover, named_by_guest, marked_by_cover, CoverIsAligned, L2Mapping, Data, Zero, Compressed, Uncovered, names, table_at, marked_by_guest, one_at, IsSameOutside, DriverState, StateInvariant, block_of, CountRises, CountFalls}
+use Rattle.std.proofs.Common.{◌≡◌, ◌+◌, ◌-◌, ◌/◌, ◌%◌, ◌<◌, ◌≤◌, ◌≢◌, ℕ, true, false, cond, eqb, inl, inr, List, Some, None, refl, sym, ap, ◌∙◌, subst, arith, max}
+use Rattle.qcow2_laws.proofs.Common.{cases_eq, cases_lt, eq-eqb, ne_eqb, cond-true, cond-false, mod_below, Bytes, HeaderFields, cluster_size, entries_per_cluster, count_width, counts_per_block, has_data_file, l2_entry, block_count, cover, in_cluster, named_by_guest, CoverIsAligned, L2Mapping, Data, Zero, Uncovered, names, table_at, marked_by_guest, one_at, IsSameOutside, DriverState, StateInvariant, block_of, CountRises, CountFalls}
 use Rattle.qcow2_metadata.specs.TableBytes.{entry_at, ChangesEntry}
 use Rattle.qcow2_metadata.specs.RefBlock.{count_in, ChangesCount}
 use Rattle.qcow2_metadata.specs.L2Table.{copied_host}
-use Rattle.qcow2_laws.proofs.Lemmas.{Sizes, Sizes-from, uncovered_names, uncovered_marks, guest_le, names_within, new_data_is_unnamed}
+use Rattle.qcow2_laws.proofs.Lemmas.{Sizes, Sizes-from, guest_le, names_within, new_data_is_unnamed}
 use Rattle.qcow2_laws.proofs.Places.{count_in as count_found}
+use Rattle.qcow2_laws.proofs.Opened.{in_cluster-is}
+use Rattle.qcow2_laws.proofs.Shares.{one_or_none}
 
 one_here : (i : ℕ) → one_at i i ≡ 1
 one_here i = cond-true {A = ℕ} _ 1 0 (eq-eqb i i refl)
@@ -33,18 +35,7 @@ module _ (h : HeaderFields) (known known' : Bytes) (c : ℕ) (old new : List ℕ
   }
 
   pub count_falls : ChangesCount h.refcount_order old new (c % counts_per_block h) (count_in h.refcount_order old (c % counts_per_block h) - 1) → 0 < count_in h.refcount_order old (c % counts_per_block h) → CountFalls h known known' c
-  count_falls changes some = record {
-    real = real;
-    outside = outside;
-    less = λ i lt. let a = was i lt in let b = now i lt in elim (cases_eq i (c % counts_per_block h)) [
-      | inl here ↦
-          let one : one_at (c % counts_per_block h) i ≡ 1 = ap (one_at (c % counts_per_block h)) here ∙ one_here (c % counts_per_block h) in
-          let after : count_in h.refcount_order new i ≡ count_in h.refcount_order old i - 1 = ap (count_in h.refcount_order new) here ∙ changes.count_is ∙ ap (λ n. count_in h.refcount_order old n - 1) (sym here) in
-          let before : 0 < count_in h.refcount_order old i = subst (λ n. 0 < count_in h.refcount_order old n) (sym here) some in
-          omega arith
-      | inr other ↦ let none = none_there (c % counts_per_block h) i other in let same = changes.others i other in omega arith
-    ];
-  }
+  count_falls changes some = grind arith
 
 -- ---- what an entry takes from what is held, where its cover becomes another one
 pub record Takes (h : HeaderFields) (enough : ℕ → ℕ) (before after : L2Mapping) : Type 0 where
@@ -54,67 +45,15 @@ pub record Takes (h : HeaderFields) (enough : ℕ → ℕ) (before after : L2Map
 
 -- it names nothing any more
 pub takes_nothing : (h : HeaderFields) (new_data : ℕ → ℕ) (before : L2Mapping) → Takes h new_data before Uncovered × Takes h new_data before (Zero None)
-takes_nothing h new_data before = (
-  record { new_data = λ c. let n = uncovered_names h c in omega (arith, n); marked = λ c. let m = uncovered_marks h c in omega (arith, m); aligned = tt },
-  record { new_data = λ c. let n = uncovered_names h c in omega (arith, n); marked = λ c. let m = uncovered_marks h c in omega (arith, m); aligned = tt },
-)
-
--- it keeps the host cluster that it marked copied
-cover_copied_alone : (h : HeaderFields) (host c : ℕ) (v : L2Mapping) → copied_host v ≡ Some host → (named_by_cover h c v ≡ in_cluster h c host) × (marked_by_cover h c v ≡ in_cluster h c host)
-cover_copied_alone h host c (Data place true) is = let e : place ≡ host = some_is is in (ap (in_cluster h c) e, ap (in_cluster h c) e)
-  where
-    some_is : {a b : ℕ} → Some a ≡ Some b → a ≡ b
-    some_is e = cc
-cover_copied_alone h host c (Data place false) is = absurd (cc)
-cover_copied_alone h host c (Zero None) is = absurd (cc)
-cover_copied_alone h host c (Zero (Some k)) is = kept_alone k is
-  where
-    some_is : {a b : ℕ} → Some a ≡ Some b → a ≡ b
-    some_is e = cc
-
-    by_mark : (place : ℕ) (checkpoint : Bool) → cond checkpoint (Some place) None ≡ Some host → (in_cluster h c place ≡ in_cluster h c host) × (cond checkpoint (in_cluster h c place) 0 ≡ in_cluster h c host)
-    by_mark place true e = let p : place ≡ host = some_is e in (ap (in_cluster h c) p, ap (in_cluster h c) p)
-    by_mark place false e = absurd (cc)
-
-    kept_alone : (k : ℕ × Bool) → cond k.1 (Some k.0) None ≡ Some host → (in_cluster h c k.0 ≡ in_cluster h c host) × (cond k.1 (in_cluster h c k.0) 0 ≡ in_cluster h c host)
-    kept_alone k e = by_mark k.0 k.1 e
-cover_copied_alone h host c (Compressed place sectors) is = absurd (cc)
-cover_copied_alone h host c Uncovered is = absurd (cc)
-
--- so it is of what guests name: a kept host cluster is named as before, by any of these
-same_as : (h : HeaderFields) (host c : ℕ) (v w : L2Mapping) → copied_host v ≡ Some host → copied_host w ≡ Some host → (named_by_guest h c v ≡ named_by_guest h c w) × (marked_by_guest h c v ≡ marked_by_guest h c w) × (marked_by_guest h c w ≡ named_by_guest h c w)
-same_as h host c v w is also =
-    let a = cover_copied_alone h host c v is in
-    let b = cover_copied_alone h host c w also in
-    (ap (λ n. cond (has_data_file h) 0 n) (a.0 ∙ sym b.0), ap (λ n. cond (has_data_file h) 0 n) (a.1 ∙ sym b.1), ap (λ n. cond (has_data_file h) 0 n) (b.1 ∙ sym b.0))
+takes_nothing h new_data before = grind arith
 
 pub takes_own : (h : HeaderFields) (new_data : ℕ → ℕ) (before : L2Mapping) (host : ℕ) → host % cluster_size h ≡ 0 → copied_host before ≡ Some host
     → Takes h new_data before (Data host true) × Takes h new_data before (Zero (Some (host, true)))
-takes_own h new_data before host aligned is = (
-  record {
-    new_data = λ c. let own = same_as h host c before (Data host true) is refl in omega (arith, own.0);
-    marked = λ c. let own = same_as h host c before (Data host true) is refl in omega (arith, own.1, own.2);
-    aligned = aligned;
-  },
-  record {
-    new_data = λ c. let own = same_as h host c before (Zero (Some (host, true))) is refl in omega (arith, own.0);
-    marked = λ c. let own = same_as h host c before (Zero (Some (host, true))) is refl in omega (arith, own.1, own.2);
-    aligned = aligned;
-  },
-)
+takes_own h new_data before host aligned is = grind arith
 
 -- it takes a host cluster that is held
-pub in_at : (h : HeaderFields) (c place : ℕ) → 0 < in_cluster h c place → place / cluster_size h ≡ c
-in_at h c place some = elim (cases_eq (place / cluster_size h) c) [
-  | inl e ↦ e
-  | inr ne ↦ absurd (let none : in_cluster h c place ≡ 0 = cond-false {A = ℕ} _ 1 0 (ne_eqb (place / cluster_size h) c ne) in omega arith)
-]
-
 pub in_most : (h : HeaderFields) (c place : ℕ) → in_cluster h c place ≤ 1
-in_most h c place = elim (cases_eq (place / cluster_size h) c) [
-  | inl e ↦ let one : in_cluster h c place ≡ 1 = cond-true {A = ℕ} _ 1 0 (eq-eqb (place / cluster_size h) c e) in omega arith
-  | inr ne ↦ let none : in_cluster h c place ≡ 0 = cond-false {A = ℕ} _ 1 0 (ne_eqb (place / cluster_size h) c ne) in omega arith
-]
+in_most h c place = one_or_none (eqb (place / cluster_size h) c)
 
 data_at_most : (h : HeaderFields) (c host : ℕ) → named_by_guest h c (Data host true) ≤ in_cluster h c host
 data_at_most h c host = elim (has_data_file h) as (λ t. cond t 0 (in_cluster h c host) ≤ in_cluster h c host) [ true ↦ omega arith | false ↦ omega arith ]
@@ -127,13 +66,13 @@ takes_new_data s g host sound aligned some = record {
   new_data = λ c. let n = data_at_most s.header c host in elim (cases_lt 0 (in_cluster s.header c host)) [
     | inl here ↦
         let most = in_most s.header c host in
-        let enough : 0 < s.pending.new_data c = subst (λ n. 0 < s.pending.new_data n) (in_at s.header c host here) some in
+        let enough : 0 < s.pending.new_data c = subst (λ n. 0 < s.pending.new_data n) (in_cluster-is s.header c host here) some in
         omega arith
     | inr none ↦ omega arith
   ];
   marked = λ c. let n = data_at_most s.header c host in let m = marked_as_named s.header c host in elim (cases_lt 0 (in_cluster s.header c host)) [
     | inl here ↦
-        let enough : 0 < s.pending.new_data c = subst (λ n. 0 < s.pending.new_data n) (in_at s.header c host here) some in
+        let enough : 0 < s.pending.new_data c = subst (λ n. 0 < s.pending.new_data n) (in_cluster-is s.header c host here) some in
         let unnamed = new_data_is_unnamed s.header s.direction s.pending s.on_storage s.known sound c enough in
         let before : names s.header s.known c g ≡ 0 = elim (cases_lt 0 (names s.header s.known c g)) [
           | inl named ↦ absurd (

@@ -1,6 +1,6 @@
 -- A change of the known contents keeps the crash invariant, and leaves a stop as safe as before.
 use Rattle.std.proofs.Common.{◌≡◌, ◌+◌, ◌-◌, ◌/◌, ◌<◌, ◌≤◌, ◌≢◌, ◌⊎◌, ℕ, true, false, cond, eqb, List, [], refl, sym, ap, ◌∙◌, arith, inl, inr, subst, max}
-use Rattle.qcow2_laws.proofs.Common.{cases_eq, cases_lt, ne_eqb, cond-false, Bytes, HeaderFields, cluster_size, count, cover, guest_value, named_by_guest, CoverIsAligned, L2Mapping, GivenBytes, IsGiven, Checkpoint, checkpoint_with, StopOkEverywhere, Direction, L2DependsOnRb, RbDependsOnL2, guests, over_guests, names, marks, named_in_either, marked_by_guest, SameTop, Pending, cluster, CrashInvariant, SameCovers, SameCounts, one_at, with_new_data, with_new_tables, without_old_tables, without_old_data, new_data_to_old_data, new_data_to_old_tables, new_tables_to_old_tables, remapped}
+use Rattle.qcow2_laws.proofs.Common.{cases_eq, cases_lt, Bytes, HeaderFields, cluster_size, count, cover, guest_value, named_by_guest, CoverIsAligned, L2Mapping, GivenBytes, IsGiven, Checkpoint, checkpoint_with, StopOkEverywhere, Direction, L2DependsOnRb, RbDependsOnL2, guests, over_guests, names, marks, named_in_either, marked_by_guest, SameTop, Pending, cluster, CrashInvariant, SameCovers, SameCounts, one_at, with_new_data, with_new_tables, without_old_tables, without_old_data, new_data_to_old_data, new_data_to_old_tables, new_tables_to_old_tables, remapped}
 use Rattle.qcow2_laws.proofs.Clusters.{Good, allocate_data, allocate_table, free_table, free_data, drop_new_data, undo, abandon, remap, new_data_unnamed}
 use Rattle.qcow2_laws.proofs.Places.{Sizes-from}
 use Rattle.qcow2_laws.proofs.Guests.{own_data_of, over_guests-same, over_guests-change, guest_le, names_within}
@@ -13,10 +13,7 @@ pub one_at-le : (c k : ℕ) → one_at c k ≤ 1
 one_at-le c k = elim (eqb k c) as (λ t. cond t 1 0 ≤ 1) [ true ↦ omega arith | false ↦ omega arith ]
 
 pub at_one : (c k : ℕ) (f : ℕ → ℕ) (n : ℕ) → f c ≡ n → 0 < one_at c k → f k ≡ n
-at_one c k f n is some = elim (cases_eq k c) [
-  | inl e ↦ ap f e ∙ is
-  | inr ne ↦ absurd (let z : one_at c k ≡ 0 = cond-false _ _ _ (ne_eqb k c ne) in omega arith)
-]
+at_one c k f n is some = grind arith
 
 -- ---- counts and what is pending change, and covers stay
 module _ (h : HeaderFields) (d : Direction) (p p' : Pending) (on_storage known known' : Bytes) (crash_invariant : CrashInvariant h d p on_storage known)

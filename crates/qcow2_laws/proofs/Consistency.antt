@@ -1,6 +1,6 @@
 -- An image with the crash invariant is consistent, and a consistent image has the crash invariant.
 use Rattle.std.proofs.Common.{◌≡◌, ◌+◌, ◌*◌, ◌/◌, ◌%◌, ◌<◌, ◌≢◌, ℕ, Bool, false, cond, eqb, ap, refl, sym, ◌∙◌, arith, subst, Some, None}
-use Rattle.qcow2_laws.proofs.Common.{IsTrue, Option, eq-eqb, ne_eqb, cond-true, cond-false, Bytes, HeaderFields, header, cluster_size, entries_per_cluster, has_data_file, l1_entry, is_copied, count, cover, named, table_in, in_cluster, Consistent, IsConsistent, EachCover, CoverIsAligned, KeptIsOwn, CopiedIsOwn, L2Mapping, Data, Zero, Compressed, Uncovered, Checkpoint, StopOkEverywhere, Direction, over_guests, marks, marked_by_cover, marked_by_guest, marked_by_kept, marked_by_l1_table, table_at, Pending, cluster, CrashInvariant}
+use Rattle.qcow2_laws.proofs.Common.{IsTrue, Option, eq-eqb, ne_eqb, cond-true, cond-false, Bytes, HeaderFields, header, cluster_size, entries_per_cluster, has_data_file, l1_entry, is_copied, count, cover, named, table_in, in_cluster, Consistent, IsConsistent, EachCover, CoverIsAligned, KeptIsOwn, CopiedIsOwn, L2Mapping, Data, Zero, Checkpoint, StopOkEverywhere, Direction, over_guests, marks, marked_by_cover, marked_by_guest, marked_by_kept, marked_by_l1_table, table_at, Pending, cluster, CrashInvariant}
 use Rattle.qcow2_laws.proofs.Sums.{term_le-sum_below}
 use Rattle.qcow2_laws.proofs.Places.{Sizes, Sizes-from, cover_at}
 use Rattle.qcow2_laws.proofs.Clusters.{Fine, fine}
@@ -25,8 +25,7 @@ cover_own : (h : HeaderFields) (b : Bytes) (v : L2Mapping) → ((c : ℕ) → 0 
 cover_own h b (Data host copied) own = λ is.
     own (host / cluster_size h) (let e : cond copied (in_cluster h (host / cluster_size h) host) 0 ≡ in_cluster h (host / cluster_size h) host = cond-true _ _ _ is in let one = in_own h host in omega arith)
 cover_own h b (Zero kept) own = kept_own h b kept own
-cover_own h b (Compressed host sectors) own = tt
-cover_own h b Uncovered own = tt
+cover_own h b _ own = tt
 
 l1_marked : (h : HeaderFields) (b : Bytes) (i : ℕ) → i < h.l1_entries → table_at h b i ≢ 0 → IsTrue (is_copied (l1_entry h b i))
     → 0 < marked_by_l1_table h b (table_at h b i / cluster_size h)

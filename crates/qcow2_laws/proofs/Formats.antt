@@ -47,12 +47,9 @@ module _ (h h' : HeaderFields) (e : KeepsFormat h h') where
   pub over_guests_format : (f : ℕ → ℕ) → over_guests h' f ≡ over_guests h f
   over_guests_format f = ap (λ (k : HeaderFields). over_guests k f) e ∙ over_guests_with h h'.reftable_offset h'.reftable_clusters f
 
-  pub names_format : (b : Bytes) (c g : ℕ) → names h' b c g ≡ names h b c g
-  names_format b c g = ap (λ (k : HeaderFields). named_by_guest k c (cover h' b g)) e ∙ ap (named_by_guest h c) (cover_format b g)
-
   -- how often all guest clusters name a cluster, or mark it
   pub guests_format : (b : Bytes) (c : ℕ) → over_guests h' (names h' b c) ≡ over_guests h (names h b c)
-  guests_format b c = over_guests_format (names h' b c) ∙ over_guests-same h (names h' b c) (names h b c) (names_format b c)
+  guests_format b c = over_guests_format (names h' b c) ∙ over_guests-same h (names h' b c) (names h b c) (λ g. ap (λ (k : HeaderFields). named_by_guest k c (cover h' b g)) e ∙ ap (named_by_guest h c) (cover_format b g))
 
   pub covers_format : (b b' : Bytes) → SameCovers h' b b' → SameCovers h b b'
   covers_format b b' same g = sym (cover_format b g) ∙ same g ∙ cover_format b' g

@@ -44,10 +44,7 @@ module _ (s : DriverState) (backing : Bytes) (sound : StateInvariant s) (inside 
 
   old_size : (given : List GivenBytes) (b : Bytes) → StopOkEverywhere backing (checkpoint_with given [] checkpoint) b → (header b).size ≡ s.header.size
   unfolding disk_with
-  old_size given b kept = elim kept.size [
-    | inl e ↦ sym (size_is (header b) b backing refl) ∙ e ∙ size_is s.header s.on_storage backing sound.top.header_is
-    | inr asked ↦ absurd asked
-  ]
+  old_size given b kept = grind arith
 
 pub size_stays_unless_asked : SizeStaysUnlessAsked
 size_stays_unless_asked s backing image given sound inside kept =

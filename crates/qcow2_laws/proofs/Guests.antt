@@ -1,6 +1,6 @@
 -- Sums over all guest clusters.
 use Rattle.std.proofs.Common.{◌≡◌, ◌+◌, ◌*◌, ◌/◌, ◌%◌, ◌<◌, ◌≤◌, ◌≢◌, ◌^◌, ℕ, Bool, true, false, cond, eqb, sym, ap, ◌∙◌, refl, arith, inl, inr, Some, None}
-use Rattle.qcow2_laws.proofs.Common.{Option, cases_eq, cases_lt, ne_eqb, cond-false, cond-true, eq-eqb, div-mul-add, div-add-mod', mod_below, mul-le, Bytes, sum_below, HeaderFields, entries_per_cluster, has_data_file, l1_entry, l2_entry, is_copied, cover, entry_cover, in_cluster, table_in, named_by_cover, named_by_kept, named_by_l2_table, named_by_l2_tables, named_by_l1_table, named_for_tables, named, L2Mapping, Data, Zero, Compressed, Uncovered, guests, over_guests, marked_by_kept, marked_by_cover, named_by_guest, marked_by_guest, names, table_at, marked_by_l1_table}
+use Rattle.qcow2_laws.proofs.Common.{Option, cases_eq, cases_lt, ne_eqb, cond-false, cond-true, eq-eqb, div-mul-add, div-add-mod', mod_below, mul-le, Bytes, sum_below, HeaderFields, entries_per_cluster, has_data_file, l1_entry, l2_entry, is_copied, cover, entry_cover, in_cluster, table_in, named_by_cover, named_by_kept, named_by_l2_table, named_by_l2_tables, named_by_l1_table, named_for_tables, named, L2Mapping, Data, Zero, Uncovered, guests, over_guests, marked_by_kept, marked_by_cover, named_by_guest, marked_by_guest, names, table_at, marked_by_l1_table}
 use Rattle.qcow2_laws.proofs.Sums.{sum_below-le, sum_below-same, sum_below-zero, sum_below-change, sum_below-rows, term_le-sum_below, two_terms_le-sum_below, some_term}
 use Rattle.qcow2_laws.proofs.Places.{Sizes, l1_entry-past, cover_none, cover_at}
 
@@ -56,9 +56,6 @@ uncovered_marks h c = nothing_either (has_data_file h)
 pub own_names : (h : HeaderFields) (c : ℕ) (v : L2Mapping) → has_data_file h ≡ false → named_by_guest h c v ≡ named_by_cover h c v
 own_names h c v own = cond-false {A = ℕ} (has_data_file h) 0 (named_by_cover h c v) own
 
-pub own_marks : (h : HeaderFields) (c : ℕ) (v : L2Mapping) → has_data_file h ≡ false → marked_by_guest h c v ≡ marked_by_cover h c v
-own_marks h c v own = cond-false {A = ℕ} (has_data_file h) 0 (marked_by_cover h c v) own
-
 -- a header without incompatible bits
 pub own_data_of : (h : HeaderFields) → h.incompatible ≡ 0 → has_data_file h ≡ false
 own_data_of h none = ap (λ n. eqb (n / 4 % 2) 1) none
@@ -79,8 +76,7 @@ kept-marks h c (Some k) = elim (k.1) as (λ t. cond t (in_cluster h c k.0) 0 ≤
 cover_marks-le : (h : HeaderFields) (c : ℕ) (v : L2Mapping) → marked_by_cover h c v ≤ named_by_cover h c v
 cover_marks-le h c (Data host copied) = elim copied as (λ t. cond t (in_cluster h c host) 0 ≤ in_cluster h c host) [ true ↦ omega arith | false ↦ omega arith ]
 cover_marks-le h c (Zero kept) = kept-marks h c kept
-cover_marks-le h c (Compressed host sectors) = omega arith
-cover_marks-le h c Uncovered = omega arith
+cover_marks-le h c _ = omega arith
 
 pub marks-le : (h : HeaderFields) (c : ℕ) (v : L2Mapping) → marked_by_guest h c v ≤ named_by_guest h c v
 marks-le h c v = elim (has_data_file h) as (λ t. cond t 0 (marked_by_cover h c v) ≤ cond t 0 (named_by_cover h c v)) [ true ↦ omega arith | false ↦ cover_marks-le h c v ]
@@ -96,8 +92,7 @@ kept-all h c (Some k) some = all_of (k.1) (in_cluster h c k.0) some
 cover_marks-all : (h : HeaderFields) (c : ℕ) (v : L2Mapping) → 0 < marked_by_cover h c v → named_by_cover h c v ≤ marked_by_cover h c v
 cover_marks-all h c (Data host copied) some = all_of copied (in_cluster h c host) some
 cover_marks-all h c (Zero kept) some = kept-all h c kept some
-cover_marks-all h c (Compressed host sectors) some = absurd (omega arith)
-cover_marks-all h c Uncovered some = absurd (omega arith)
+cover_marks-all h c _ some = absurd (omega arith)
 
 pub marks-all : (h : HeaderFields) (c : ℕ) (v : L2Mapping) → 0 < marked_by_guest h c v → named_by_guest h c v ≤ marked_by_guest h c v
 marks-all h c v = elim (has_data_file h) as (λ t. 0 < cond t 0 (marked_by_cover h c v) → cond t 0 (named_by_cover h c v) ≤ cond t 0 (marked_by_cover h c v)) [ true ↦ λ some. omega arith | false ↦ cover_marks-all h c v ]

@@ -17,13 +17,7 @@ reftable_pointer_but h contents = overwritten_but contents 48 _
 
 -- the size and the pointers to the tables lie outside of the rest of the header
 rest_apart : (h : HeaderFields) (place n o : ℕ) → 24 ≤ place → (place + n ≤ 32) ⊎ (36 ≤ place) → place + n ≤ 60 → IsOfHeaderRest h o → (o < place) ⊎ (place + n ≤ o)
-rest_apart h place n o from gap to of_rest = elim of_rest [
-  | inl front ↦ inl (omega (arith, front))
-  | inr more ↦ elim more [
-    | inl middle ↦ elim gap [ inl before ↦ inr (omega (arith, middle.0)) | inr behind ↦ inl (omega (arith, middle.1)) ]
-    | inr far ↦ inr (omega (arith, far.0))
-  ]
-]
+rest_apart h place n o from gap to of_rest = grind arith
 
 -- so do the autoclear bits, where there are any
 old_has_none : (b : Bytes) → (header b).version ≡ 2 → (header b).autoclear ≡ 0
@@ -31,19 +25,7 @@ unfolding header
 old_has_none b old = ap (λ test. if test then 0 else number_at b 88 8) (eq-eqb (number_at b 4 4) 2 old)
 
 bits_apart : (h : HeaderFields) (b : Bytes) (o : ℕ) → header b ≡ h → h.autoclear ≢ 0 → IsOfHeaderRest h o → (o < 88) ⊎ (96 ≤ o)
-bits_apart h b o is some of_rest = elim of_rest [
-  | inl front ↦ inl (omega (arith, front))
-  | inr more ↦ elim more [
-    | inl middle ↦ inl (omega (arith, middle.1))
-    | inr far ↦ elim far.1 [
-      | inl before ↦ inl before
-      | inr behind ↦ elim behind [
-        | inl past ↦ inr past
-        | inr old ↦ absurd (some (subst (λ k. k.autoclear ≡ 0) is (old_has_none b (ap (λ (k : HeaderFields). k.version) is ∙ old))))
-      ]
-    ]
-  ]
-]
+bits_apart h b o is some of_rest = grind (arith, old_has_none)
 
 module _ (h : HeaderFields) (d : Direction) (p : Pending) (l2s rbs : List CachedTable) (contents : List ℕ) (kept : CacheInvariantOver h d p l2s rbs (byte_at contents)) where
   abbrev known : List ℕ → Bytes

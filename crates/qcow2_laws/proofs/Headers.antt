@@ -1,12 +1,13 @@
 -- Fields of the header are written: the size, or the pointer to the L1 table.
 use Rattle.std.proofs.Common.{◌≡◌, ◌+◌, ◌*◌, ◌/◌, ◌<◌, ◌≤◌, ◌≢◌, ◌⊎◌, ℕ, inl, inr, List, [], refl, sym, ap, ◌∙◌, arith, subst}
-use Rattle.qcow2_laws.proofs.Common.{cases_lt, div-mul-add, Bytes, HeaderFields, header, HeaderReads, cluster_size, l1_entry, reftable_entry, count, count_under, host_offset, block_offset, L1EntryReads, ReftableEntryReads, cover, cover_under, in_cluster, named_for_tables, named_by_header, named_by_reftable, named_by_l1_table, IsAligned, IsOfHeaderRest, IsAsked, Checkpoint, checkpoint_with, StopOkEverywhere, Direction, named_in_either, marked_by_l1_table, Pending, CrashInvariant, IsTop, SameTop, SameCovers, SameCounts, SameIn, Places, with_places, KeepsCovers, IsSameBut, IsSameOutside, WritesHeader, WritesAt, resized_places}
+use Rattle.qcow2_laws.proofs.Common.{cases_lt, div-mul-add, Bytes, HeaderFields, header, HeaderReads, cluster_size, l1_entry, reftable_entry, count, count_under, host_offset, block_offset, L1EntryReads, ReftableEntryReads, cover, cover_under, in_cluster, named_for_tables, named_by_header, named_by_reftable, named_by_l1_table, IsAligned, IsOfHeaderRest, IsAsked, SafeStep, Direction, named_in_either, marked_by_l1_table, Pending, CrashInvariant, IsTop, SameTop, SameCovers, SameCounts, SameIn, Places, with_places, KeepsCovers, IsSameBut, IsSameOutside, WritesHeader, WritesAt, resized_places}
 use Rattle.qcow2_laws.proofs.Places.{Sizes, Sizes-from}
-use Rattle.qcow2_laws.proofs.Tops.{IsTop-top, for_tables-top, l1_names-same, reftable_names-same, l1_marks-same}
+use Rattle.qcow2_laws.proofs.Tops.{IsTop-top, l1_names-same, reftable_names-same, l1_marks-same}
 use Rattle.qcow2_laws.proofs.Consistency.{in_own}
-use Rattle.qcow2_laws.proofs.Blocks.{table_apart, table_once}
-use Rattle.qcow2_laws.proofs.Shares.{shares, first_l1, first_reftable, first_covers, first_counts}
-use Rattle.qcow2_laws.proofs.Renaming.{tables_renamed, moved_kept, moved_known_kept}
+use Rattle.qcow2_laws.proofs.Blocks.{table_apart, tables_once}
+use Rattle.qcow2_laws.proofs.Shares.{in_l1, in_reftable, shares, l1_beside, reftable_beside, cover_beside, count_beside}
+use Rattle.qcow2_laws.proofs.Renaming.{tables_renamed, moved_step}
+use Rattle.qcow2_laws.proofs.SafeSteps.{state}
 
 -- bytes among the header's own numbers are written, and it reads
 pub writes_header : (h : HeaderFields) (d : Direction) (p : Pending) (on_storage known on_storage' known' : Bytes) → CrashInvariant h d p on_storage known → (a : Places) (place n : ℕ) → WritesAt place n on_storage known on_storage' known' → place + n ≤ 104
@@ -38,48 +39,45 @@ module _ (h : HeaderFields) (a : Places) (d : Direction) (p : Pending) (on_stora
   pub header_known_top : IsTop h known
   header_known_top = IsTop-top h on_storage known crash_invariant.same_top crash_invariant.top
 
-  pub header_fixed : 0 < named_for_tables h on_storage 0
-  header_fixed =
-      let s = shares h on_storage 0 in
+  header_beside : (b : Bytes) → in_l1 h 0 + in_reftable h 0 + named_by_reftable h b 0 + named_by_l1_table h b 0 < named_for_tables h b 0
+  header_beside b =
+      let s = shares h b 0 in
       let zero : 0 / cluster_size h ≡ 0 = let size = header_sizes.some in omega arith in
       let one : in_cluster h 0 0 ≡ 1 = ap (λ n. in_cluster h n 0) (sym zero) ∙ in_own h 0 in
       omega arith
 
-  header_once : named_for_tables h on_storage 0 ≤ 1
-  header_once = let t = table_once h d p on_storage known crash_invariant 0 header_fixed in omega arith
+  pub header_fixed : 0 < named_for_tables h on_storage 0
+  header_fixed = let lt = header_beside on_storage in omega arith
 
-  header_known_once : named_for_tables h known 0 ≤ 1
-  header_known_once = let e = for_tables-top h on_storage known 0 crash_invariant.same_top in let o = header_once in omega arith
+  header_once : (named_for_tables h on_storage 0 ≤ 1) × (named_for_tables h known 0 ≤ 1)
+  header_once = tables_once h d p on_storage known crash_invariant 0 header_fixed
 
   pub header_same : (c : ℕ) → c ≢ 0 → SameIn (cluster_size h) c on_storage on_storage'
   header_same c other o in_c = writes.others o (λ e. other (sym in_c ∙ e))
 
-  pub header_known_same : (c : ℕ) → c ≢ 0 → SameIn (cluster_size h) c known known'
-  header_known_same c other o in_c = writes.known_others o (λ e. other (sym in_c ∙ e))
-
   pub header_l1 : (i : ℕ) → l1_entry h on_storage i ≡ l1_entry h on_storage' i
-  header_l1 = first_l1 h on_storage on_storage' crash_invariant.top header_once header_same
+  header_l1 = l1_beside h on_storage on_storage' crash_invariant.top 0 header_once.0 writes.others (let lt = header_beside on_storage in omega arith)
 
   pub header_known_l1 : (i : ℕ) → l1_entry h known i ≡ l1_entry h known' i
-  header_known_l1 = first_l1 h known known' header_known_top header_known_once header_known_same
+  header_known_l1 = l1_beside h known known' header_known_top 0 header_once.1 writes.known_others (let lt = header_beside known in omega arith)
 
   pub header_reftable : (k : ℕ) → reftable_entry h on_storage k ≡ reftable_entry h on_storage' k
-  header_reftable = first_reftable h on_storage on_storage' crash_invariant.top header_once header_same
+  header_reftable = reftable_beside h on_storage on_storage' crash_invariant.top 0 header_once.0 writes.others (let lt = header_beside on_storage in omega arith)
 
   pub header_known_reftable : (k : ℕ) → reftable_entry h known k ≡ reftable_entry h known' k
-  header_known_reftable = first_reftable h known known' header_known_top header_known_once header_known_same
+  header_known_reftable = reftable_beside h known known' header_known_top 0 header_once.1 writes.known_others (let lt = header_beside known in omega arith)
 
   pub header_covers : SameCovers h on_storage on_storage'
-  header_covers = first_covers h on_storage on_storage' crash_invariant.top header_once header_same
+  header_covers g = cover_beside h on_storage on_storage' crash_invariant.top 0 header_once.0 writes.others (let lt = header_beside on_storage in omega arith) g (header_l1 _)
 
   pub header_known_covers : SameCovers h known known'
-  header_known_covers = first_covers h known known' header_known_top header_known_once header_known_same
+  header_known_covers g = cover_beside h known known' header_known_top 0 header_once.1 writes.known_others (let lt = header_beside known in omega arith) g (header_known_l1 _)
 
   pub header_counts : SameCounts h on_storage on_storage'
-  header_counts = first_counts h on_storage on_storage' crash_invariant.top header_once header_same
+  header_counts c = count_beside h on_storage on_storage' crash_invariant.top 0 header_once.0 writes.others (let lt = header_beside on_storage in omega arith) c (header_reftable _)
 
   pub header_known_counts : SameCounts h known known'
-  header_known_counts = first_counts h known known' header_known_top header_known_once header_known_same
+  header_known_counts c = count_beside h known known' header_known_top 0 header_once.1 writes.known_others (let lt = header_beside known in omega arith) c (header_known_reftable _)
 
   pub header_elsewhere : (o : ℕ) → 0 < named_in_either h on_storage known (o / cluster_size h) + p.new_data (o / cluster_size h) → o / cluster_size h ≢ 0
   header_elsewhere o some e =
@@ -100,9 +98,6 @@ module _ (h : HeaderFields) (a : Places) (d : Direction) (p : Pending) (on_stora
 -- ---- the size, and the autoclear bits
 module _ (h : HeaderFields) (size autoclear : ℕ) (d : Direction) (p : Pending) (on_storage known on_storage' known' : Bytes) (crash_invariant : CrashInvariant h d p on_storage known)
     (writes : WritesHeader h (resized_places h size autoclear) on_storage known on_storage' known') where
-  a : Places
-  a = resized_places h size autoclear
-
   l1_too : (b : Bytes) (i : ℕ) → l1_entry (with_places h (resized_places h size autoclear)) b i ≡ l1_entry h b i
   unfolding l1_entry
   l1_too b i = refl
@@ -172,28 +167,18 @@ module _ (h : HeaderFields) (size autoclear : ℕ) (d : Direction) (p : Pending)
       let e = fixed_too on_storage' c in
       omega arith
 
-  pub size_written : CrashInvariant (with_places h (resized_places h size autoclear)) d p on_storage' known'
-  size_written =
-      tables_renamed h (resized_places h size autoclear) d p p on_storage known on_storage' known' crash_invariant
+  -- these sizes are asked for, unless the size stays
+  pub size_written : (asked : List ℕ) → (size ≡ h.size) ⊎ IsAsked asked size → SafeStep (state h d p on_storage known) (state (with_places h (resized_places h size autoclear)) d p on_storage' known') (λ _. []) asked
+  size_written asked ask =
+      moved_step h (resized_places h size autoclear) d p p on_storage known on_storage' known' crash_invariant
+      resized_top resized_same_top (omega arith) resized_covers resized_known_covers resized_unlaid
+      (tables_renamed h (resized_places h size autoclear) d p p on_storage known on_storage' known' crash_invariant
       resized_top resized_same_top (omega arith) resized_covers resized_known_covers resized_unlaid
       (λ c. 0) (λ c. 0) (λ c. 0) (λ c. (refl, omega arith, omega arith, refl, refl)) (λ c. omega arith)
       (λ c. let e = resized_fixed c in omega arith)
       (λ c. let e = sole_too on_storage' c ∙ sym (l1_marks-same h on_storage on_storage' c (header_l1 h (resized_places h size autoclear) d p on_storage known on_storage' known' crash_invariant writes)) in omega arith)
       (λ c. let e = counts_too on_storage' c in let s = header_counts h (resized_places h size autoclear) d p on_storage known on_storage' known' crash_invariant writes c in omega arith)
       (λ c. let e = counts_too known' c in let s = header_known_counts h (resized_places h size autoclear) d p on_storage known on_storage' known' crash_invariant writes c in omega arith)
-      (λ c some. absurd (omega arith)) (λ c some. absurd (omega arith))
-
-  module _ (backing : Bytes) (m : Checkpoint) (asked : List ℕ) (ask : (size ≡ h.size) ⊎ IsAsked asked size) where
-    pub size_written_kept : StopOkEverywhere backing m on_storage → StopOkEverywhere backing (checkpoint_with [] asked m) on_storage'
-    size_written_kept kept =
-        moved_kept h (resized_places h size autoclear) d p p on_storage known on_storage' known' crash_invariant
-        resized_top resized_same_top (omega arith) resized_covers resized_known_covers resized_unlaid size_written
-        (λ o some. writes.others o (header_elsewhere h (resized_places h size autoclear) d p on_storage known on_storage' known' crash_invariant writes o (omega arith)))
-        (λ o some. writes.known_others o (header_elsewhere h (resized_places h size autoclear) d p on_storage known on_storage' known' crash_invariant writes o (omega arith))) writes.rest backing m asked ask kept
-
-    pub size_written_known_kept : StopOkEverywhere backing m known → StopOkEverywhere backing (checkpoint_with [] asked m) known'
-    size_written_known_kept kept =
-        moved_known_kept h (resized_places h size autoclear) d p p on_storage known on_storage' known' crash_invariant
-        resized_top resized_same_top (omega arith) resized_covers resized_known_covers resized_unlaid size_written
-        (λ o some. writes.others o (header_elsewhere h (resized_places h size autoclear) d p on_storage known on_storage' known' crash_invariant writes o (omega arith)))
-        (λ o some. writes.known_others o (header_elsewhere h (resized_places h size autoclear) d p on_storage known on_storage' known' crash_invariant writes o (omega arith))) writes.rest backing m asked ask kept
+      (λ c some. absurd (omega arith)) (λ c some. absurd (omega arith)))
+      (λ o some. writes.others o (header_elsewhere h (resized_places h size autoclear) d p on_storage known on_storage' known' crash_invariant writes o (omega arith)))
+      (λ o some. writes.known_others o (header_elsewhere h (resized_places h size autoclear) d p on_storage known on_storage' known' crash_invariant writes o (omega arith))) writes.rest asked ask

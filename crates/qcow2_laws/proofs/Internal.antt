@@ -1,5 +1,5 @@
 -- Steps of the driver that guests don't see.
-use Rattle.std.proofs.Common.{◌≡◌, ◌+◌, ◌*◌, ◌/◌, ◌<◌, ◌≤◌, ◌≢◌, ◌⊎◌, ℕ, refl, sym, ap, ◌∙◌, arith, inl, inr, subst}
+use Rattle.std.proofs.Common.{◌≡◌, ◌+◌, ◌*◌, ◌/◌, ◌<◌, ◌≢◌, ◌⊎◌, ℕ, refl, sym, ap, ◌∙◌, arith, inl, inr, subst}
 use Rattle.qcow2_laws.proofs.Common.{fun_ext, Bytes, HeaderFields, header, cluster_size, l1_entry, cover, named_for_tables, named_by_guest, disk, disk_with, over_guests, names, named_in_either, SameCovers, SameIn, IsSameOutside, WritesL1Entry, IsNewTable, WritesReftableEntry, IsUnnamed, DriverState, StateInvariant, block_of, used_by_guests, SameUsedBytes, KeepsFormat, IsInternal, SameL1Table}
 use Rattle.qcow2_laws.proofs.Places.{Sizes-from}
 use Rattle.qcow2_laws.proofs.Guests.{own_data_of, over_guests-same, guest_le, names_within}
@@ -7,15 +7,11 @@ use Rattle.qcow2_laws.proofs.Formats.{format_refl, format_same, format_then, siz
 use Rattle.qcow2_laws.proofs.Tops.{for_tables-top, IsTop-top}
 use Rattle.qcow2_laws.proofs.Mixes.{tied}
 use Rattle.qcow2_laws.proofs.Values.{guest_value-same, value_is, size_is}
-use Rattle.qcow2_laws.proofs.Shares.{shares, block_has, reftable_has, l1_has, reftable_l1, reftable_covers, top_stays, covers_stay}
-use Rattle.qcow2_laws.proofs.Blocks.{table_apart, table_once, counted_covers}
+use Rattle.qcow2_laws.proofs.Shares.{shares, block_has, reftable_has, l1_has, l1_beside, cover_beside, top_stays, covers_stay}
+use Rattle.qcow2_laws.proofs.Blocks.{table_apart, tables_once, counted_covers}
 use Rattle.qcow2_laws.proofs.NewTables.{outside_eight, known_covers}
 
 -- ---- one step after another
-
--- a cluster has as many references if the mappings are the same
-named_same : (h : HeaderFields) (known known' : Bytes) (c : ℕ) → SameCovers h known known' → over_guests h (names h known c) ≡ over_guests h (names h known' c)
-named_same h known known' c covers = over_guests-same h (names h known c) (names h known' c) (λ g. ap (named_by_guest h c) (covers g))
 
 pub unseen_none : (s : DriverState) → IsInternal s s
 unseen_none s = record { header = format_refl s.header; covers = λ g. refl; bytes = λ o some. refl }
@@ -27,7 +23,7 @@ module _ (a b : DriverState) (header : KeepsFormat a.header b.header) (covers : 
   -- what guests used they still use
   used_still : ((k : ℕ) → 0 < a.pending.new_data k → 0 < b.pending.new_data k) → (o : ℕ) → 0 < used_by_guests a (o / cluster_size a.header) → 0 < used_by_guests b (o / cluster_size b.header)
   used_still new_data o some =
-      let same = named_same a.header a.known b.known (o / cluster_size a.header) covers in
+      let same = over_guests-same a.header (names a.header a.known (o / cluster_size a.header)) (names a.header b.known (o / cluster_size a.header)) (λ g. ap (named_by_guest a.header (o / cluster_size a.header)) (covers g)) in
       let still = new_data (o / cluster_size a.header) in
       let used : 0 < over_guests a.header (names a.header b.known (o / cluster_size a.header)) + b.pending.new_data (o / cluster_size a.header) = grind arith in
       let size : cluster_size a.header ≡ cluster_size b.header = sym (size_format a.header b.header header) in
@@ -98,15 +94,6 @@ module _ (old new : DriverState) (sound : StateInvariant old) where
       }
 
   -- ---- an entry of the reftable, or of the L1 table, is written
-  once : (c : ℕ) → 0 < named_for_tables old.header old.on_storage c → (named_for_tables old.header old.on_storage c ≤ 1) × (named_for_tables old.header old.known c ≤ 1)
-  once c table_refs =
-      let is = table_once old.header old.direction old.pending old.on_storage old.known sound c table_refs in
-      let e = for_tables-top old.header old.on_storage old.known c sound.same_top in
-      (omega arith, omega arith)
-
-  outside_same : (c : ℕ) (b b' : Bytes) → IsSameOutside (cluster_size old.header) c b b' → (k : ℕ) → k ≢ c → SameIn (cluster_size old.header) k b b'
-  outside_same c b b' outside k other o in_k = outside o (λ e. other (sym in_k ∙ e))
-
   pub unseen_refblock : (k entry : ℕ) → new.header ≡ old.header → WritesReftableEntry old.header old.on_storage old.known new.on_storage new.known k entry → IsInternal old new × SameL1Table old new
   unseen_refblock k entry header writes =
       let sizes = Sizes-from old.header old.on_storage sound.top.header_reads in
@@ -114,16 +101,17 @@ module _ (old new : DriverState) (sound : StateInvariant old) where
       let has = reftable_has old.header k sizes sound.top.reftable_aligned writes.within in
       let parts = shares old.header old.on_storage ((old.header.reftable_offset + 8 * k) / cluster_size old.header) in
       let table_refs : 0 < named_for_tables old.header old.on_storage ((old.header.reftable_offset + 8 * k) / cluster_size old.header) = omega arith in
-      let single = once c table_refs in
+      let single = tables_once old.header old.direction old.pending old.on_storage old.known sound c table_refs in
+      let known_parts = shares old.header old.known ((old.header.reftable_offset + 8 * k) / cluster_size old.header) in
       let outside = outside_eight (cluster_size old.header) old.header.reftable_offset k old.on_storage new.on_storage sizes.whole sizes.some sound.top.reftable_aligned writes.others in
       let known_outside = outside_eight (cluster_size old.header) old.header.reftable_offset k old.known new.known sizes.whole sizes.some sound.top.reftable_aligned writes.known_others in
       let known_top = IsTop-top old.header old.on_storage old.known sound.same_top sound.top in (
         record {
           header = format_same old.header new.header header;
-          covers = reftable_covers old.header old.known new.known known_top c (omega arith) single.1 (outside_same c old.known new.known known_outside);
+          covers = λ g. cover_beside old.header old.known new.known known_top c single.1 known_outside (omega arith) g (l1_beside old.header old.known new.known known_top c single.1 known_outside (omega arith) _);
           bytes = table_bytes c table_refs known_outside;
         },
-        (λ i. sym (reftable_l1 old.header old.on_storage new.on_storage sound.top c (omega arith) single.0 (outside_same c old.on_storage new.on_storage outside) i)),
+        (λ i. sym (l1_beside old.header old.on_storage new.on_storage sound.top c single.0 outside (omega arith) i)),
       )
 
   pub unseen_l2_table : (i entry : ℕ) → new.header ≡ old.header → WritesL1Entry old.header old.on_storage old.known new.on_storage new.known i entry

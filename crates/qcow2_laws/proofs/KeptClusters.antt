@@ -1,6 +1,6 @@
 -- A cluster that a zero entry keeps: bytes are written into it, and it becomes data.
 use Rattle.std.proofs.Common.{◌≡◌, ◌+◌, ◌-◌, ◌*◌, ◌/◌, ◌%◌, ◌<◌, ◌≤◌, ◌⊎◌, ◌∷◌, ℕ, true, List, [], length, sym, ap, ◌∙◌, arith, inl, inr, subst, Some}
-use Rattle.qcow2_laws.proofs.Common.{fun_ext, div-mul-add, mod-mul-add, mod_below, pow_pos, Bytes, byte_at, cluster_size, cover, Value, known_byte, value_under, in_cluster, named_by_guest, CoverIsAligned, Data, Zero, disk, IsGiven, given_of, names, named_in_either, Pending, WritesAt, DriverState, StateInvariant, SafeStep, guest_at, EntryChanges, used_by_guests, Kept, IsHostedAt, WritesRun, KeptClusterIsWritten, KeptClusterIsCommitted}
+use Rattle.qcow2_laws.proofs.Common.{div-mul-add, mod-mul-add, mod_below, pow_pos, Bytes, byte_at, cluster_size, cover, Value, known_byte, value_under, in_cluster, named_by_guest, CoverIsAligned, Data, Zero, disk, IsGiven, given_of, names, named_in_either, Pending, WritesAt, DriverState, StateInvariant, SafeStep, guest_at, EntryChanges, used_by_guests, Kept, IsHostedAt, WritesRun, KeptClusterIsWritten, KeptClusterIsCommitted}
 use Rattle.qcow2_laws.proofs.Lemmas.{own_names, own_data_of, in_one, tied, in_own, safe_step_less, named_some}
 use Rattle.qcow2_laws.proofs.Shown.{shown_zero}
 use Rattle.qcow2_laws.proofs.PutRuns.{run_written, given_has}
@@ -60,14 +60,8 @@ kept_cluster_is_written = record {
 -- ---- it becomes data
 module _ (s : DriverState) (known' : Bytes) (i j host : ℕ) (sound : StateInvariant s) (inside : s.header.incompatible ≡ 0) (changes : EntryChanges s known' i j)
     (was : cover s.header s.known (guest_at s.header i j) ≡ Zero (Some (host, true))) (is : cover s.header known' (guest_at s.header i j) ≡ Data host true) where
-  same_names : (c : ℕ) → names s.header known' c (guest_at s.header i j) ≡ names s.header s.known c (guest_at s.header i j)
-  same_names c = ap (named_by_guest s.header c) is ∙ sym (ap (named_by_guest s.header c) was)
-
   pub kept_pending : pending_after s known' (guest_at s.header i j) ≡ s.pending
-  kept_pending =
-      let new_data : (pending_after s known' (guest_at s.header i j)).new_data ≡ s.pending.new_data = fun_ext (λ c. let e = same_names c in omega arith) in
-      let old_data : (pending_after s known' (guest_at s.header i j)).old_data ≡ s.pending.old_data = fun_ext (λ c. let e = same_names c in omega arith) in
-      λ k. record s.pending { new_data = new_data k; old_data = old_data k }
+  kept_pending = grind arith
 
   host_bytes : (k : ℕ) → k < cluster_size s.header → known' (host + k) ≡ s.on_storage (host + k)
   host_bytes k lt =

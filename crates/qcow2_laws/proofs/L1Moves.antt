@@ -1,6 +1,6 @@
 -- The header's pointer to a new L1 table, which may be longer, is written.
 use Rattle.std.proofs.Common.{◌≡◌, ◌+◌, ◌-◌, ◌*◌, ◌/◌, ◌<◌, ◌≤◌, ◌≢◌, ℕ, cond, [], refl, sym, ap, ◌∙◌, arith, inl, inr, subst}
-use Rattle.qcow2_laws.proofs.Common.{fun_ext, cases_lt, Bytes, sum_below, HeaderFields, cluster_size, entries_per_cluster, l1_entry, reftable_entry, count, count_under, host_offset, block_offset, is_copied, L1EntryReads, ReftableEntryReads, cover, cover_under, in_run, table_in, named_for_tables, named_by_reftable, named_by_l1_table, named_by_guest, IsAligned, disk, disk_with, Checkpoint, StopOkEverywhere, Direction, over_guests, names, named_in_either, marked_by_l1_table, Pending, CrashInvariant, IsTop, SameTop, SameIn, renamed, with_places, KeepsCovers, WritesHeader, with_l1_at, IsNewL1, KeepsGuests, state_with_l1_table}
+use Rattle.qcow2_laws.proofs.Common.{fun_ext, cases_lt, Bytes, sum_below, HeaderFields, cluster_size, entries_per_cluster, l1_entry, reftable_entry, count, count_under, host_offset, block_offset, is_copied, L1EntryReads, ReftableEntryReads, cover, cover_under, in_run, table_in, named_for_tables, named_by_reftable, named_by_l1_table, named_by_guest, IsAligned, disk, disk_with, SafeStep, Direction, over_guests, names, named_in_either, marked_by_l1_table, Pending, CrashInvariant, IsTop, SameTop, IsSameOutside, renamed, with_places, KeepsCovers, WritesHeader, with_l1_at, IsNewL1, KeepsGuests, state_with_l1_table}
 use Rattle.qcow2_laws.proofs.Sums.{sum_below-same, sum_below-longer}
 use Rattle.qcow2_laws.proofs.Places.{Sizes-from, l1-same, l1_entry-past}
 use Rattle.qcow2_laws.proofs.Writes.{new_tables_is_unnamed}
@@ -9,8 +9,9 @@ use Rattle.qcow2_laws.proofs.Guests.{uncovered_names, guest_le, names_within}
 use Rattle.qcow2_laws.proofs.Tops.{IsTop-top}
 use Rattle.qcow2_laws.proofs.Mixes.{tied}
 use Rattle.qcow2_laws.proofs.Values.{value_is, size_is}
-use Rattle.qcow2_laws.proofs.Renaming.{tables_renamed, moved_kept, moved_known_kept, known_sum, same_value}
-use Rattle.qcow2_laws.proofs.Headers.{header_sizes, header_same, header_known_same, header_l1, header_known_l1, header_reftable, header_known_reftable, header_covers, header_known_covers, header_counts, header_known_counts, header_elsewhere, header_unlaid, unnamed_elsewhere}
+use Rattle.qcow2_laws.proofs.Renaming.{tables_renamed, moved_step, known_sum, same_value}
+use Rattle.qcow2_laws.proofs.SafeSteps.{state}
+use Rattle.qcow2_laws.proofs.Headers.{header_sizes, header_l1, header_known_l1, header_reftable, header_known_reftable, header_covers, header_known_covers, header_counts, header_known_counts, header_elsewhere, header_unlaid, unnamed_elsewhere}
 
 module _ (h : HeaderFields) (offset entries : ℕ) (d : Direction) (p : Pending) (on_storage known on_storage' known' : Bytes) (crash_invariant : CrashInvariant h d p on_storage known)
     (writes : WritesHeader h (with_l1_at h offset entries) on_storage known on_storage' known') (new : IsNewL1 h d p on_storage known offset entries) where
@@ -23,20 +24,20 @@ module _ (h : HeaderFields) (offset entries : ℕ) (d : Direction) (p : Pending)
   counts_too b c = refl
 
   -- the new table's clusters are others than the header's
-  stays : (b b' : Bytes) → ((c : ℕ) → c ≢ 0 → SameIn (cluster_size h) c b b') → (i : ℕ)
+  stays : (b b' : Bytes) → IsSameOutside (cluster_size h) 0 b b' → (i : ℕ)
       → l1_entry (with_places h (with_l1_at h offset entries)) b i ≡ l1_entry (with_places h (with_l1_at h offset entries)) b' i
-  stays b b' same i =
-      l1-same (with_places h (with_l1_at h offset entries)) b b' i (Sizes-from (with_places h (with_l1_at h offset entries)) on_storage' writes.reads) new.aligned (λ lt.
-      same _ (unnamed_elsewhere h (with_l1_at h offset entries) d p on_storage known on_storage' known' crash_invariant writes _
+  stays b b' outside i =
+      l1-same (with_places h (with_l1_at h offset entries)) b b' i (Sizes-from (with_places h (with_l1_at h offset entries)) on_storage' writes.reads) new.aligned (λ lt o in_c.
+      outside o (λ e. unnamed_elsewhere h (with_l1_at h offset entries) d p on_storage known on_storage' known' crash_invariant writes _
       (new_tables_is_unnamed h d p on_storage known crash_invariant _
       (new.new_tables ((offset + 8 * i) / cluster_size h) (let one = l1_has (with_places h (with_l1_at h offset entries)) i (Sizes-from (with_places h (with_l1_at h offset entries)) on_storage' writes.reads) new.aligned lt in omega arith)).0
-      new.written).no_table))
+      new.written).no_table (sym in_c ∙ e)))
 
   pub now_l1 : (i : ℕ) → l1_entry h on_storage i ≡ l1_entry (with_places h (with_l1_at h offset entries)) on_storage' i
-  now_l1 i = sym (new.same i) ∙ stays on_storage on_storage' (header_same h (with_l1_at h offset entries) d p on_storage known on_storage' known' crash_invariant writes) i
+  now_l1 i = sym (new.same i) ∙ stays on_storage on_storage' writes.others i
 
   now_known_l1 : (i : ℕ) → l1_entry h known i ≡ l1_entry (with_places h (with_l1_at h offset entries)) known' i
-  now_known_l1 i = sym (new.known_same i) ∙ stays known known' (header_known_same h (with_l1_at h offset entries) d p on_storage known on_storage' known' crash_invariant writes) i
+  now_known_l1 i = sym (new.known_same i) ∙ stays known known' writes.known_others i
 
   pub now_reftable : (k : ℕ) → reftable_entry h on_storage k ≡ reftable_entry (with_places h (with_l1_at h offset entries)) on_storage' k
   now_reftable k = header_reftable h (with_l1_at h offset entries) d p on_storage known on_storage' known' crash_invariant writes k ∙ sym (reftable_too on_storage' k)
@@ -48,23 +49,17 @@ module _ (h : HeaderFields) (offset entries : ℕ) (d : Direction) (p : Pending)
     | inr past ↦ subst Q (sym (l1_entry-past h on_storage i past)) none
   ])
 
-  zero_reads : L1EntryReads 0
-  zero_reads = (refl, refl)
-
-  zero_aligned : IsAligned h (host_offset 0)
-  zero_aligned = let some = (header_sizes h (with_l1_at h offset entries) d p on_storage known on_storage' known' crash_invariant writes).some in omega arith
-
   top_now : IsTop (with_places h (with_l1_at h offset entries)) on_storage'
   top_now = record {
     header_is = writes.is;
     header_reads = writes.reads;
     reftable_fits = crash_invariant.top.reftable_fits;
-    l1_reads = λ i lt. each_l1 L1EntryReads zero_reads crash_invariant.top.l1_reads i;
+    l1_reads = λ i lt. each_l1 L1EntryReads (refl, refl) crash_invariant.top.l1_reads i;
     reftable_reads = λ k lt. subst ReftableEntryReads (now_reftable k) (crash_invariant.top.reftable_reads k lt);
     no_snapshots = crash_invariant.top.no_snapshots;
     l1_aligned = new.aligned;
     reftable_aligned = crash_invariant.top.reftable_aligned;
-    l2_tables_aligned = λ i lt. each_l1 (λ e. IsAligned h (host_offset e)) zero_aligned crash_invariant.top.l2_tables_aligned i;
+    l2_tables_aligned = λ i lt. each_l1 (λ e. IsAligned h (host_offset e)) (let some = (header_sizes h (with_l1_at h offset entries) d p on_storage known on_storage' known' crash_invariant writes).some in omega arith) crash_invariant.top.l2_tables_aligned i;
     refblocks_aligned = λ k lt. subst (λ e. IsAligned h (block_offset e)) (now_reftable k) (crash_invariant.top.refblocks_aligned k lt);
   }
 
@@ -124,30 +119,21 @@ module _ (h : HeaderFields) (offset entries : ℕ) (d : Direction) (p : Pending)
       let blocks = blocks_same c in
       omega arith
 
-  pub l1_moved : CrashInvariant (with_places h (with_l1_at h offset entries)) d (renamed p (λ c. in_run h c offset (8 * entries)) (in_l1 h)) on_storage' known'
+  elsewhere : (o : ℕ) → 0 < named_in_either h on_storage known (o / cluster_size h) → o / cluster_size h ≢ 0
+  elsewhere o some = header_elsewhere h (with_l1_at h offset entries) d p on_storage known on_storage' known' crash_invariant writes o (omega arith)
+
+  pub l1_moved : SafeStep (state h d p on_storage known) (state (with_places h (with_l1_at h offset entries)) d (renamed p (λ c. in_run h c offset (8 * entries)) (in_l1 h)) on_storage' known') (λ _. []) []
   l1_moved =
-      tables_renamed h (with_l1_at h offset entries) d p (renamed p (λ c. in_run h c offset (8 * entries)) (in_l1 h)) on_storage known on_storage' known' crash_invariant
+      moved_step h (with_l1_at h offset entries) d p (renamed p (λ c. in_run h c offset (8 * entries)) (in_l1 h)) on_storage known on_storage' known' crash_invariant
+      top_now same_top_now new.longer covers known_covers not_overlaid
+      (tables_renamed h (with_l1_at h offset entries) d p (renamed p (λ c. in_run h c offset (8 * entries)) (in_l1 h)) on_storage known on_storage' known' crash_invariant
       top_now same_top_now new.longer covers known_covers not_overlaid
       (λ c. in_run h c offset (8 * entries)) (λ c. 0) (in_l1 h) (λ c. (refl, refl, refl, refl, refl))
       (λ c. let one = in_run-le h c offset (8 * entries) in omega arith) fixed_changed (λ c. let e = marks_same c in omega arith)
       (λ c. let e = counts_too on_storage' c in let s = header_counts h (with_l1_at h offset entries) d p on_storage known on_storage' known' crash_invariant writes c in omega arith)
       (λ c. let e = counts_too known' c in let s = header_known_counts h (with_l1_at h offset entries) d p on_storage known on_storage' known' crash_invariant writes c in omega arith)
-      (λ c some. let f = new.new_tables c some in (f.0, f.1, new.written)) (λ c some. absurd (omega arith))
-
-  elsewhere : (o : ℕ) → 0 < named_in_either h on_storage known (o / cluster_size h) → o / cluster_size h ≢ 0
-  elsewhere o some = header_elsewhere h (with_l1_at h offset entries) d p on_storage known on_storage' known' crash_invariant writes o (omega arith)
-
-  pub l1_moved_kept : (backing : Bytes) (m : Checkpoint) → StopOkEverywhere backing m on_storage → StopOkEverywhere backing m on_storage'
-  l1_moved_kept backing m kept =
-      moved_kept h (with_l1_at h offset entries) d p (renamed p (λ c. in_run h c offset (8 * entries)) (in_l1 h)) on_storage known on_storage' known' crash_invariant
-      top_now same_top_now new.longer covers known_covers not_overlaid l1_moved
-      (λ o some. writes.others o (elsewhere o some)) (λ o some. writes.known_others o (elsewhere o some)) writes.rest backing m [] (inl refl) kept
-
-  pub l1_moved_known_kept : (backing : Bytes) (m : Checkpoint) → StopOkEverywhere backing m known → StopOkEverywhere backing m known'
-  l1_moved_known_kept backing m kept =
-      moved_known_kept h (with_l1_at h offset entries) d p (renamed p (λ c. in_run h c offset (8 * entries)) (in_l1 h)) on_storage known on_storage' known' crash_invariant
-      top_now same_top_now new.longer covers known_covers not_overlaid l1_moved
-      (λ o some. writes.others o (elsewhere o some)) (λ o some. writes.known_others o (elsewhere o some)) writes.rest backing m [] (inl refl) kept
+      (λ c some. let f = new.new_tables c some in (f.0, f.1, new.written)) (λ c some. absurd (omega arith)))
+      (λ o some. writes.others o (elsewhere o some)) (λ o some. writes.known_others o (elsewhere o some)) writes.rest [] (inl refl)
 
   -- ---- what guests use
   bytes_stay : (o : ℕ) → 0 < named_in_either h on_storage known (o / cluster_size h) + p.new_data (o / cluster_size h) → known' o ≡ known o

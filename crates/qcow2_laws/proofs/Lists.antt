@@ -1,6 +1,6 @@
 -- Lists of cached tables, one of which is written.
-use Rattle.std.proofs.Common.{◌≡◌, ◌+◌, ◌-◌, ◌*◌, ◌/◌, ◌%◌, ◌<◌, ◌∷◌, ◌++◌, ◌&&◌, ℕ, inl, inr, Bool, true, false, cond, leb, ltb, List, [], refl, sym, ap, subst, ◌∙◌, arith}
-use Rattle.qcow2_laws.proofs.Common.{fun_ext, cases_eq, cases_Bool, cond-true, cond-false, le-leb, lt-ltb, and_from, div-add-mod', mod_below, Bytes, is_within, CachedTable, known, overlays, IsPartly, IsSameOutside, IsFreeAt, AreApart, AreClean, IsWrittenSo}
+use Rattle.std.proofs.Common.{◌≡◌, ◌+◌, ◌-◌, ◌/◌, ◌%◌, ◌<◌, ◌∷◌, ◌++◌, ◌&&◌, ℕ, inl, inr, Bool, true, false, cond, List, [], refl, sym, ap, subst, ◌∙◌, arith}
+use Rattle.qcow2_laws.proofs.Common.{fun_ext, cases_eq, cases_Bool, cond-true, cond-false, Bytes, is_within, CachedTable, known, overlays, IsPartly, IsSameOutside, IsFreeAt, AreApart, AreClean, IsWrittenSo}
 use Rattle.qcow2_laws.proofs.Places.{in_one}
 use Rattle.qcow2_disk.proofs.Within.{within_is}
 
@@ -13,29 +13,16 @@ within_cluster place size o aligned is =
     ap (λ n. n / size) e ∙ in_one size place (o - place) aligned (omega arith)
 
 pub cluster_within : (place size o : ℕ) → 0 < size → place % size ≡ 0 → o / size ≡ place / size → is_within place size o ≡ true
-cluster_within place size o some aligned same =
-    let a : place / size * size + place % size ≡ place = div-add-mod' place size in
-    let b : o / size * size + o % size ≡ o = div-add-mod' o size in
-    let c : o / size * size ≡ place / size * size = ap (λ n. n * size) same in
-    let d = mod_below o size some in
-    and_from (leb place o) (ltb o (place + size)) (le-leb place o (omega arith)) (lt-ltb o (place + size) (omega arith))
+cluster_within place size o some aligned same = grind arith
 
 pub differs : (b : Bool) → b ≡ true → b ≡ false → ⊥
 differs b is isnt = cc
 
 pub overlays_modified : (size : ℕ) (t : CachedTable) (o : ℕ) → overlays size t o ≡ true → t.is_modified ≡ true
-overlays_modified size t o is = first_of_and t.is_modified (is_within t.place size o) is
-  where
-    first_of_and : (a b : Bool) → (a && b) ≡ true → a ≡ true
-    first_of_and true b is = refl
-    first_of_and false b is = is
+overlays_modified size t o is = grind arith
 
 pub overlays_within : (size : ℕ) (t : CachedTable) (o : ℕ) → overlays size t o ≡ true → is_within t.place size o ≡ true
-overlays_within size t o is = second_of_and t.is_modified (is_within t.place size o) is
-  where
-    second_of_and : (a b : Bool) → (a && b) ≡ true → b ≡ true
-    second_of_and true b is = is
-    second_of_and false b is = absurd (cc)
+overlays_within size t o is = grind arith
 
 pub no_overlay : (size : ℕ) (t : CachedTable) (o : ℕ) → (overlays size t o ≡ true → ⊥) → overlays size t o ≡ false
 no_overlay size t o none = elim (cases_Bool (overlays size t o)) [ inl is ↦ absurd (none is) | inr isnt ↦ isnt ]
@@ -99,10 +86,7 @@ known_unmodified size front back t b clean = fun_ext (λ o. known_elsewhere size
 
 -- a table comes to the front of the list
 pub known_promoted : (size : ℕ) (front back : List CachedTable) (t : CachedTable) (b : Bytes) → AreApart size (front ++ t ∷ back) → known size (front ++ t ∷ back) b ≡ known size (t ∷ (front ++ back)) b
-known_promoted size front back t b apart = fun_ext (λ o. elim (cases_Bool (overlays size t o)) [
-  | inl over ↦ known_there size front back t b o apart over ∙ sym (known_over size t (front ++ back) b o over)
-  | inr past ↦ known_elsewhere size front back t b o past ∙ sym (known_past size t (front ++ back) b o past)
-])
+known_promoted size front back t b apart = grind (arith, known_there, known_over, known_elsewhere, known_past)
 
 -- a table of the list is changed: outside of its cluster nothing changes, and there it is what the table says
 module _ (size : ℕ) (front back : List CachedTable) (t t' : CachedTable) (b : Bytes) (place : t'.place ≡ t.place) (aligned : t.place % size ≡ 0) where
@@ -112,11 +96,7 @@ module _ (size : ℕ) (front back : List CachedTable) (t t' : CachedTable) (b : 
       ∙ sym (known_elsewhere size front back t' b o (no_overlay size t' o (λ over. other (within_cluster t.place size o aligned (subst (λ p. is_within p size o ≡ true) place (overlays_within size t' o over))))))
 
   pub changed_there : AreApart size (front ++ t' ∷ back) → t'.is_modified ≡ true → (k : ℕ) → k < size → known size (front ++ t' ∷ back) b (t'.place + k) ≡ t'.bytes k
-  changed_there apart marked k lt =
-      let inside : is_within t'.place size (t'.place + k) ≡ true = and_from (leb t'.place (t'.place + k)) (ltb (t'.place + k) (t'.place + size)) (le-leb t'.place (t'.place + k) (omega arith)) (lt-ltb (t'.place + k) (t'.place + size) (omega arith)) in
-      let over : overlays size t' (t'.place + k) ≡ true = ap (λ m. m && is_within t'.place size (t'.place + k)) marked ∙ inside in
-      let back_to : t'.place + k - t'.place ≡ k = omega arith in
-      known_there size front back t' b (t'.place + k) apart over ∙ ap t'.bytes back_to
+  changed_there apart marked k lt = grind (arith, known_there)
 
 pub clean_known : (size : ℕ) (ts : List CachedTable) (b : Bytes) → AreClean ts → known size ts b ≡ b
 clean_known size ts b clean = fun_ext (λ o. known-none size ts b o (free ts o clean))
@@ -128,15 +108,7 @@ clean_known size ts b clean = fun_ext (λ o. known-none size ts b o (free ts o c
 -- ---- one table is written
 module _ (size : ℕ) (t t' : CachedTable) (b b' : Bytes) (so : IsWrittenSo size t t' b b') where
   still_past : (o : ℕ) → overlays size t o ≡ false → overlays size t' o ≡ false
-  still_past o past = no_overlay size t' o (λ over.
-      let marked = overlays_modified size t' o over in
-      let inside : is_within t.place size o ≡ true = subst (λ p. is_within p size o ≡ true) so.place (overlays_within size t' o over) in
-      let before : t.is_modified ≡ true = elim so.outcome [
-        | inl none ↦ sym none.1 ∙ marked
-        | inr done ↦ elim done.1 [ inl same ↦ sym same ∙ marked | inr gone ↦ absurd (differs t'.is_modified marked gone) ]
-      ] in
-      let both : overlays size t o ≡ true = ap (λ m. m && is_within t.place size o) before ∙ inside in
-      differs (overlays size t o) both past)
+  still_past o past = grind arith
 
   untouched : (o : ℕ) → overlays size t o ≡ false → b' o ≡ b o
   untouched o past = elim so.outcome [

@@ -2,7 +2,8 @@
 use Rattle.std.proofs.Common.{◌≡◌, ◌+◌, ◌-◌, ◌*◌, ◌/◌, ◌%◌, ◌<◌, ◌≤◌, ◌⊎◌, ◌∷◌, ℕ, Bool, true, cond, eqb, [], refl, sym, ap, ◌∙◌, arith, inl, inr, subst}
 use Rattle.qcow2_laws.proofs.Common.{Option, fun_ext, cases_eq, cases_lt, eq-eqb, ne_eqb, cond-true, cond-false, div-add-mod', mod_below, pow_pos, Bytes, header, cluster_size, cover, Value, known_byte, value_under, in_cluster, named_for_tables, named_by_guest, CoverIsAligned, Data, Zero, Uncovered, disk, given_shown, names, table_at, Pending, remapped, DriverState, StateInvariant, SafeStep, guest_at, EntryChanges, IsMappedAnew, with_cluster}
 use Rattle.qcow2_laws.proofs.Lemmas.{in_one, own_names, own_data_of, for_tables-top, IsTop-top, tied, value_is, new_data_is_unnamed, shares, table_has, entry_top, entry_others, entry_is_changed, table_bytes, named_some, size_stays, value_stays}
-use Rattle.qcow2_laws.proofs.CachedChanges.{in_at, in_most}
+use Rattle.qcow2_laws.proofs.CachedChanges.{in_most}
+use Rattle.qcow2_laws.proofs.Opened.{in_cluster-is}
 use Rattle.qcow2_laws.proofs.Shown.{shown_under}
 
 -- what such a step does: it gives what the guest cluster shows then, which are these values over each backing disk
@@ -110,7 +111,7 @@ module _ (s : DriverState) (known' : Bytes) (i j : ℕ) (sound : StateInvariant 
       | inr none ↦ inl (omega arith)
       | inl here ↦
           let most = in_most s.header c host in
-          let new_data : 0 < s.pending.new_data c = subst (λ n. 0 < s.pending.new_data n) (in_at s.header c host here) some in
+          let new_data : 0 < s.pending.new_data c = subst (λ n. 0 < s.pending.new_data n) (in_cluster-is s.header c host here) some in
           let unnamed = new_data_is_unnamed s.header s.direction s.pending s.on_storage s.known sound c new_data in
           let t = (tied s.header s.pending s.on_storage s.known c).known in
           let old : names s.header s.known c (guest_at s.header i j) ≡ 0 = elim (cases_lt 0 (names s.header s.known c (guest_at s.header i j))) [

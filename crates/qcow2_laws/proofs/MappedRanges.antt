@@ -1,6 +1,6 @@
 -- Mapping guest clusters one after another is mapping the range.
-use Rattle.std.proofs.Common.{◌≡◌, ◌+◌, ◌-◌, ◌*◌, ◌/◌, ◌%◌, ◌<◌, ◌≤◌, ◌⊎◌, ◌∷◌, ℕ, zero, suc, [], refl, sym, ap, ◌∙◌, arith, inl, inr, subst}
-use Rattle.qcow2_laws.proofs.Common.{fun_ext, cases_lt, cond-true, cond-false, eq-eqb, ne_eqb, div-add-mod', div-mul-add, mod_below, pow_pos, Bytes, laid_over, HeaderFields, cluster_size, cover, named_by_guest, Value, known_byte, L2Mapping, Data, Zero, Compressed, Uncovered, Disk, disk, with_values, IsIn, IsGiven, given_shown, names, guest_at, EntryChanges, DriverState, StateInvariant, SafeStep, used_by_guests, with_cluster, MapsEntry, MapsInTurn, IsZeros, ClustersInTurnAreARange, laid_inside, laid_outside}
+use Rattle.std.proofs.Common.{◌≡◌, ◌+◌, ◌-◌, ◌*◌, ◌/◌, ◌<◌, ◌≤◌, ◌⊎◌, ◌∷◌, ℕ, zero, suc, [], refl, sym, ap, ◌∙◌, arith, inl, inr, subst}
+use Rattle.qcow2_laws.proofs.Common.{fun_ext, cases_lt, cond-true, cond-false, eq-eqb, ne_eqb, div-mul-add, pow_pos, Bytes, laid_over, HeaderFields, cluster_size, cover, named_by_guest, Value, known_byte, L2Mapping, Zero, Uncovered, Disk, disk, with_values, IsIn, IsGiven, given_shown, names, guest_at, EntryChanges, DriverState, StateInvariant, SafeStep, used_by_guests, with_cluster, MapsEntry, MapsInTurn, IsZeros, ClustersInTurnAreARange, laid_inside, laid_outside}
 use Rattle.qcow2_laws.proofs.Lemmas.{over_guests-change, guest_within, safe_step_none, safe_step_then, safe_step_less}
 use Rattle.qcow2_laws.proofs.MappedAnew.{Maps, pending_after, entry_unseen, entry_zeroed, entry_uncovered}
 
@@ -28,11 +28,7 @@ module _ (values : ℕ → Value) (under : ℕ → Value) (from : ℕ) where
   laid_out n o out = laid_outside from n (λ i. values (from + i)) under o out
 
 within : (o g size : ℕ) → 0 < size → o / size ≡ g → (g * size ≤ o) × (o < g * size + size)
-within o g size some here =
-    let is : o / size * size + o % size ≡ o = div-add-mod' o size in
-    let below = mod_below o size some in
-    let q : o / size * size ≡ g * size = ap (λ n. n * size) here in
-    (omega arith, omega arith)
+within o g size some here = grind arith
 
 here_at : (o g size : ℕ) → g * size ≤ o → o < g * size + size → o / size ≡ g
 here_at o g size above below =
@@ -103,15 +99,8 @@ module _ (first n : ℕ) (a b c : DriverState) (values : Bytes → ℕ → Value
       → IsGiven (given_shown (disk c.known backing) ((first + n) * cluster_size a.header) ((first + n) * cluster_size a.header + cluster_size a.header)
       ∷ given_shown (disk b.known backing) (first * cluster_size a.header) ((first + n) * cluster_size a.header) ∷ []) o v
       → IsIn (given_shown (disk c.known backing) (first * cluster_size a.header) ((first + suc n) * cluster_size a.header)) o v
-  both_shown backing o v (inl (above, below, is)) =
-      let e : (first + n) * cluster_size a.header ≡ first * cluster_size a.header + n * cluster_size a.header = omega arith in
-      let e' : (first + suc n) * cluster_size a.header ≡ first * cluster_size a.header + n * cluster_size a.header + cluster_size a.header = omega arith in
-      let at : (first + n) * cluster_size a.header + (o - (first + n) * cluster_size a.header) ≡ first * cluster_size a.header + (o - first * cluster_size a.header) = omega arith in
-      (omega arith, omega arith, is ∙ ap (disk c.known backing).value at)
-  both_shown backing o v (inr (inl (above, below, is))) =
-      let e : (first + n) * cluster_size a.header ≡ first * cluster_size a.header + n * cluster_size a.header = omega arith in
-      let e' : (first + suc n) * cluster_size a.header ≡ first * cluster_size a.header + n * cluster_size a.header + cluster_size a.header = omega arith in
-      (omega arith, omega arith, is ∙ sym (before backing (first * cluster_size a.header + (o - first * cluster_size a.header)) (omega arith)))
+  both_shown backing o v (inl (above, below, is)) = grind arith
+  both_shown backing o v (inr (inl (above, below, is))) = grind (arith, before)
   both_shown backing o v (inr (inr none)) = absurd none
 
   pub maps_next : MapsRange first (suc n) a c values
@@ -160,9 +149,7 @@ module _ (kind : L2Mapping → Type 0) (values : Bytes → ℕ → Value) (first
 zeros_map : (s : DriverState) (known' : Bytes) (i j : ℕ) → StateInvariant s → s.header.incompatible ≡ 0 → EntryChanges s known' i j → (v : L2Mapping) → cover s.header known' (guest_at s.header i j) ≡ v → IsZeros v
     → Maps (guest_at s.header i j) s (record s { pending = pending_after s known' (guest_at s.header i j); known = known' }) (λ backing o. known_byte 0)
 zeros_map s known' i j sound inside changes (Zero kept) is zeros = entry_zeroed s known' i j sound changes inside kept is
-zeros_map s known' i j sound inside changes (Data host copied) is zeros = absurd zeros
-zeros_map s known' i j sound inside changes (Compressed host sectors) is zeros = absurd zeros
-zeros_map s known' i j sound inside changes Uncovered is zeros = absurd zeros
+zeros_map s known' i j sound inside changes _ is zeros = absurd zeros
 
 pub clusters_in_turn_are_a_range : ClustersInTurnAreARange
 clusters_in_turn_are_a_range = record {

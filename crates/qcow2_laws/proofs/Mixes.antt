@@ -7,15 +7,7 @@ use Rattle.qcow2_laws.proofs.Guests.{over_guests-le, over_guests-same, marks-le,
 use Rattle.qcow2_laws.proofs.Tops.{SameTop-sym, SameTop-trans, for_tables-top, copied_l1_refs-top, IsTop-top}
 
 pub tied : (h : HeaderFields) (p : Pending) (on_storage known : Bytes) (c : ℕ) → Tied (cluster h p on_storage known c)
-tied h p on_storage known c = record {
-  on_storage = over_guests-le h _ _ (λ g. omega arith);
-  known = over_guests-le h _ _ (λ g. omega arith);
-  marks_in_storage = over_guests-le h _ _ (λ g. omega arith);
-  marks_known = over_guests-le h _ _ (λ g. omega arith);
-  marks = over_guests-le h _ _ (λ g. omega (arith, marks-le h c (cover h on_storage g), marks-le h c (cover h known g)));
-  named = over_guests-le h _ _ (λ g. marks-le h c (cover h known g));
-  based = over_guests-le h _ _ (λ g. marks-le h c (cover h on_storage g));
-}
+tied h p on_storage known c = grind (arith, over_guests-le, marks-le)
 
 pub good : (h : HeaderFields) (d : Direction) (p : Pending) (on_storage known : Bytes) → CrashInvariant h d p on_storage known → (c : ℕ) → Good d (cluster h p on_storage known c) (p.surplus c)
 good h d p on_storage known crash_invariant c = record { each_cluster = crash_invariant.each_cluster c; ordered = crash_invariant.ordered c }
@@ -157,25 +149,21 @@ known_in_order Neither h on_storage known = tt
 known_in_order L2DependsOnRb h on_storage known = inr (λ c. refl)
 known_in_order RbDependsOnL2 h on_storage known = inr (λ g. refl)
 
-pub known_mixed : (h : HeaderFields) (d : Direction) (on_storage known : Bytes) → IsMixed h d on_storage known known
-known_mixed h d on_storage known = record { partly = λ c. inr (λ o in_c. refl); ordered = known_in_order d h on_storage known }
-
 pub known_crash_invariant : (h : HeaderFields) (d : Direction) (p : Pending) (on_storage known : Bytes) → CrashInvariant h d p on_storage known → CrashInvariant h d p known known
-known_crash_invariant h d p on_storage known crash_invariant = mixed_crash_invariant h d p on_storage known known crash_invariant (known_mixed h d on_storage known)
+known_crash_invariant h d p on_storage known crash_invariant = mixed_crash_invariant h d p on_storage known known crash_invariant (record { partly = λ c. inr (λ o in_c. refl); ordered = known_in_order d h on_storage known })
 
 -- ---- changes of the direction
 
 turned : (d to : Direction) (h : HeaderFields) (p : Pending) (on_storage known : Bytes) (c x : ℕ) → MayTurn d to h on_storage known → Good d (cluster h p on_storage known c) x → Good to (cluster h p on_storage known c) x
 turned Neither to h p on_storage known c x may g = turn_from_free to (cluster h p on_storage known c) x (tied h p on_storage known c) g
-turned L2DependsOnRb L2DependsOnRb h p on_storage known c x may g = g
 turned L2DependsOnRb RbDependsOnL2 h p on_storage known c x may g = turn_to_l2 (cluster h p on_storage known c) x (tied h p on_storage known c) (may c) g
-turned RbDependsOnL2 RbDependsOnL2 h p on_storage known c x may g = g
 turned RbDependsOnL2 L2DependsOnRb h p on_storage known c x may g =
     turn_to_rb (cluster h p on_storage known c) x (tied h p on_storage known c) (as_known h known on_storage (λ k. sym (may k)) (named_by_guest h c)) (as_known h known on_storage (λ k. sym (may k)) (marked_by_guest h c)) g
 turned L2DependsOnRb Neither h p on_storage known c x may g =
     turn_free_too (cluster h p on_storage known c) x (tied h p on_storage known c) (may.0 c) (as_known h known on_storage (λ k. sym (may.1 k)) (named_by_guest h c)) (as_known h known on_storage (λ k. sym (may.1 k)) (marked_by_guest h c)) g
 turned RbDependsOnL2 Neither h p on_storage known c x may g =
     turn_free (cluster h p on_storage known c) x (tied h p on_storage known c) (may.0 c) (as_known h known on_storage (λ k. sym (may.1 k)) (named_by_guest h c)) (as_known h known on_storage (λ k. sym (may.1 k)) (marked_by_guest h c)) g
+turned _ _ h p on_storage known c x may g = g
 
 pub turned_crash_invariant : (h : HeaderFields) (d to : Direction) (p : Pending) (on_storage known : Bytes) → MayTurn d to h on_storage known → CrashInvariant h d p on_storage known → CrashInvariant h to p on_storage known
 turned_crash_invariant h d to p on_storage known may crash_invariant = record {

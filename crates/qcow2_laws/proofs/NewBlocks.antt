@@ -1,14 +1,16 @@
 -- Writing the reftable entry of a refblock keeps the crash invariant, and leaves a stop as safe as before.
 use Rattle.std.proofs.Common.{◌≡◌, ◌+◌, ◌-◌, ◌*◌, ◌/◌, ◌%◌, ◌<◌, ◌≤◌, ◌≢◌, ℕ, ltb, [], refl, sym, ap, ◌∙◌, arith, inl, inr, subst}
-use Rattle.qcow2_laws.proofs.Common.{cases_eq, cases_lt, mod_below, Bytes, SameFrom, HeaderFields, cluster_size, reftable_entries, count_width, counts_per_block, l1_entry, reftable_entry, count, block_count, host_offset, block_offset, L1EntryReads, ReftableEntryReads, table_in, named_for_tables, named_by_reftable, IsAligned, number_at-same, Checkpoint, StopOkEverywhere, Direction, RbDependsOnL2, named_in_either, Pending, CrashInvariant, IsTop, SameTop, SameCovers, SameIn, named_now, places_of, IsSameBut, IsSameOutside, WritesReftableEntry, IsNewBlock}
+use Rattle.qcow2_laws.proofs.Common.{cases_eq, cases_lt, mod_below, Bytes, SameFrom, HeaderFields, cluster_size, reftable_entries, count_width, counts_per_block, l1_entry, reftable_entry, count, block_count, host_offset, block_offset, L1EntryReads, ReftableEntryReads, table_in, in_cluster, named_for_tables, named_by_reftable, named_by_l1_table, IsAligned, number_at-same, SafeStep, Direction, RbDependsOnL2, named_in_either, Pending, CrashInvariant, IsTop, SameTop, SameCovers, named_now, places_of, IsSameBut, IsSameOutside, WritesReftableEntry, IsNewBlock}
 use Rattle.qcow2_laws.proofs.Sums.{sum_below-change}
 use Rattle.qcow2_laws.proofs.Places.{Sizes, Sizes-from, SameFrom-in, cond-same, block_count-moved, count_in, count_none}
-use Rattle.qcow2_laws.proofs.Tops.{from_start, header-first, HeaderReads-same, IsTop-top, for_tables-top, l1_names-same, l1_marks-same}
+use Rattle.qcow2_laws.proofs.Tops.{from_start, header-first, HeaderReads-same, IsTop-top, l1_names-same, l1_marks-same}
 use Rattle.qcow2_laws.proofs.Writes.{new_tables_is_unnamed, unused_is_unnamed}
-use Rattle.qcow2_laws.proofs.Blocks.{table_apart, table_once}
-use Rattle.qcow2_laws.proofs.NewTables.{outside_eight, table_in-le, table_in-at}
-use Rattle.qcow2_laws.proofs.Shares.{shares, in_reftable, reftable_has, reftable_first, reftable_l1, reftable_covers, reftable_counts}
-use Rattle.qcow2_laws.proofs.Renaming.{tables_renamed, moved_kept, moved_known_kept}
+use Rattle.qcow2_laws.proofs.Blocks.{table_apart, tables_once}
+use Rattle.qcow2_laws.proofs.NewTables.{outside_eight, table_in-le}
+use Rattle.qcow2_laws.proofs.Opened.{table_in-is}
+use Rattle.qcow2_laws.proofs.Shares.{shares, in_l1, reftable_has, first_beside, l1_beside, cover_beside, count_beside}
+use Rattle.qcow2_laws.proofs.Renaming.{tables_renamed, moved_step}
+use Rattle.qcow2_laws.proofs.SafeSteps.{state}
 
 pub other_reftable : (h : HeaderFields) (b b' : Bytes) (k0 k : ℕ) → IsSameBut (h.reftable_offset + 8 * k0) 8 b b' → k ≢ k0 → reftable_entry h b k ≡ reftable_entry h b' k
 unfolding reftable_entry
@@ -28,17 +30,14 @@ module _ (h : HeaderFields) (d : Direction) (p p' : Pending) (on_storage known o
   known_top : IsTop h known
   known_top = IsTop-top h on_storage known crash_invariant.same_top crash_invariant.top
 
-  one_part : 1 ≤ in_reftable h ((h.reftable_offset + 8 * k0) / cluster_size h)
-  one_part = let one = reftable_has h k0 sizes crash_invariant.top.reftable_aligned writes.within in omega arith
+  beside : (b : Bytes) → in_cluster h ((h.reftable_offset + 8 * k0) / cluster_size h) 0 + in_l1 h ((h.reftable_offset + 8 * k0) / cluster_size h) + named_by_reftable h b ((h.reftable_offset + 8 * k0) / cluster_size h) + named_by_l1_table h b ((h.reftable_offset + 8 * k0) / cluster_size h) < named_for_tables h b ((h.reftable_offset + 8 * k0) / cluster_size h)
+  beside b = let s = shares h b ((h.reftable_offset + 8 * k0) / cluster_size h) in let one = reftable_has h k0 sizes crash_invariant.top.reftable_aligned writes.within in omega arith
 
   table_refs : 0 < named_for_tables h on_storage ((h.reftable_offset + 8 * k0) / cluster_size h)
-  table_refs = let parts = shares h on_storage ((h.reftable_offset + 8 * k0) / cluster_size h) in let one = one_part in omega arith
+  table_refs = let lt = beside on_storage in omega arith
 
-  once : named_for_tables h on_storage ((h.reftable_offset + 8 * k0) / cluster_size h) ≤ 1
-  once = let t = table_once h d p on_storage known crash_invariant ((h.reftable_offset + 8 * k0) / cluster_size h) table_refs in omega arith
-
-  known_once : named_for_tables h known ((h.reftable_offset + 8 * k0) / cluster_size h) ≤ 1
-  known_once = let e = for_tables-top h on_storage known ((h.reftable_offset + 8 * k0) / cluster_size h) crash_invariant.same_top in let o = once in omega arith
+  once : (named_for_tables h on_storage ((h.reftable_offset + 8 * k0) / cluster_size h) ≤ 1) × (named_for_tables h known ((h.reftable_offset + 8 * k0) / cluster_size h) ≤ 1)
+  once = tables_once h d p on_storage known crash_invariant ((h.reftable_offset + 8 * k0) / cluster_size h) table_refs
 
   outside : IsSameOutside (cluster_size h) ((h.reftable_offset + 8 * k0) / cluster_size h) on_storage on_storage'
   outside = outside_eight (cluster_size h) h.reftable_offset k0 on_storage on_storage' sizes.whole sizes.some crash_invariant.top.reftable_aligned writes.others
@@ -46,23 +45,20 @@ module _ (h : HeaderFields) (d : Direction) (p p' : Pending) (on_storage known o
   known_outside : IsSameOutside (cluster_size h) ((h.reftable_offset + 8 * k0) / cluster_size h) known known'
   known_outside = outside_eight (cluster_size h) h.reftable_offset k0 known known' sizes.whole sizes.some crash_invariant.top.reftable_aligned writes.known_others
 
-  same : (c : ℕ) → c ≢ (h.reftable_offset + 8 * k0) / cluster_size h → SameIn (cluster_size h) c on_storage on_storage'
-  same c other o in_c = outside o (λ e. other (sym in_c ∙ e))
-
-  known_same : (c : ℕ) → c ≢ (h.reftable_offset + 8 * k0) / cluster_size h → SameIn (cluster_size h) c known known'
-  known_same c other o in_c = known_outside o (λ e. other (sym in_c ∙ e))
-
   first : SameFrom 0 (cluster_size h) on_storage on_storage'
-  first = reftable_first h on_storage on_storage' crash_invariant.top ((h.reftable_offset + 8 * k0) / cluster_size h) one_part once same
+  first = first_beside h on_storage on_storage' crash_invariant.top ((h.reftable_offset + 8 * k0) / cluster_size h) once.0 outside (let lt = beside on_storage in omega arith)
 
   l1 : (i : ℕ) → l1_entry h on_storage i ≡ l1_entry h on_storage' i
-  l1 = reftable_l1 h on_storage on_storage' crash_invariant.top ((h.reftable_offset + 8 * k0) / cluster_size h) one_part once same
+  l1 = l1_beside h on_storage on_storage' crash_invariant.top ((h.reftable_offset + 8 * k0) / cluster_size h) once.0 outside (let lt = beside on_storage in omega arith)
+
+  known_l1 : (i : ℕ) → l1_entry h known i ≡ l1_entry h known' i
+  known_l1 = l1_beside h known known' known_top ((h.reftable_offset + 8 * k0) / cluster_size h) once.1 known_outside (let lt = beside known in omega arith)
 
   covers : SameCovers h on_storage on_storage'
-  covers = reftable_covers h on_storage on_storage' crash_invariant.top ((h.reftable_offset + 8 * k0) / cluster_size h) one_part once same
+  covers g = cover_beside h on_storage on_storage' crash_invariant.top ((h.reftable_offset + 8 * k0) / cluster_size h) once.0 outside (let lt = beside on_storage in omega arith) g (l1 _)
 
   known_covers : SameCovers h known known'
-  known_covers = reftable_covers h known known' known_top ((h.reftable_offset + 8 * k0) / cluster_size h) one_part known_once known_same
+  known_covers g = cover_beside h known known' known_top ((h.reftable_offset + 8 * k0) / cluster_size h) once.1 known_outside (let lt = beside known in omega arith) g (known_l1 _)
 
   others : (k : ℕ) → k ≢ k0 → reftable_entry h on_storage k ≡ reftable_entry h on_storage' k
   others k = other_reftable h on_storage on_storage' k0 k writes.others
@@ -78,7 +74,7 @@ module _ (h : HeaderFields) (d : Direction) (p p' : Pending) (on_storage known o
       absurd (omega arith)
 
   -- a count in the new refblock's range, before and after
-  counts_new : (b b' : Bytes) → ((c : ℕ) → c ≢ (h.reftable_offset + 8 * k0) / cluster_size h → SameIn (cluster_size h) c b b')
+  counts_new : (b b' : Bytes) → IsSameOutside (cluster_size h) ((h.reftable_offset + 8 * k0) / cluster_size h) b b'
       → block_offset (reftable_entry h b k0) ≡ 0 → reftable_entry h b' k0 ≡ entry
       → ((c : ℕ) → c / counts_per_block h ≡ k0 → block_count b (count_width h) (block_offset entry) (c % counts_per_block h) ≡ s c)
       → (c : ℕ) → c / counts_per_block h ≡ k0 → (count h b c ≡ 0) × (count h b' c ≡ s c)
@@ -88,7 +84,7 @@ module _ (h : HeaderFields) (d : Direction) (p p' : Pending) (on_storage known o
         count_in h b' c (λ zero. new.real (sym at ∙ zero))
             ∙ ap (λ t. block_count b' (count_width h) t (c % counts_per_block h)) at
             ∙ sym (block_count-moved h b b' (block_offset entry) (block_offset entry) (c % counts_per_block h) sizes (mod_below c (counts_per_block h) sizes.counts)
-            (SameFrom-in (cluster_size h) _ (block_offset entry) b b' (alike (block_offset entry / cluster_size h) apart) new.aligned refl))
+            (SameFrom-in (cluster_size h) _ (block_offset entry) b b' (λ o in_c. alike o (λ e. apart (sym in_c ∙ e))) new.aligned refl))
             ∙ says c here,
       )
 
@@ -97,18 +93,18 @@ module _ (h : HeaderFields) (d : Direction) (p p' : Pending) (on_storage known o
 
   counts : (c : ℕ) → count h on_storage' c ≡ count h on_storage c + s c
   counts c = elim (cases_eq (c / counts_per_block h) k0) [
-    | inl here ↦ let n = counts_new on_storage on_storage' same new.none writes.is new.says c here in omega (arith, n.0, n.1)
+    | inl here ↦ let n = counts_new on_storage on_storage' outside new.none writes.is new.says c here in omega (arith, n.0, n.1)
     | inr other ↦
-        let e = reftable_counts h on_storage on_storage' crash_invariant.top ((h.reftable_offset + 8 * k0) / cluster_size h) one_part once same c (others (c / counts_per_block h) other) in
+        let e = count_beside h on_storage on_storage' crash_invariant.top ((h.reftable_offset + 8 * k0) / cluster_size h) once.0 outside (let lt = beside on_storage in omega arith) c (others (c / counts_per_block h) other) in
         let zero = in_range c other in
         omega arith
   ]
 
   known_counts : (c : ℕ) → count h known' c ≡ count h known c + s c
   known_counts c = elim (cases_eq (c / counts_per_block h) k0) [
-    | inl here ↦ let n = counts_new known known' known_same known_none writes.known_is new.known_says c here in omega (arith, n.0, n.1)
+    | inl here ↦ let n = counts_new known known' known_outside known_none writes.known_is new.known_says c here in omega (arith, n.0, n.1)
     | inr other ↦
-        let e = reftable_counts h known known' known_top ((h.reftable_offset + 8 * k0) / cluster_size h) one_part known_once known_same c (known_others (c / counts_per_block h) other) in
+        let e = count_beside h known known' known_top ((h.reftable_offset + 8 * k0) / cluster_size h) once.1 known_outside (let lt = beside known in omega arith) c (known_others (c / counts_per_block h) other) in
         let zero = in_range c other in
         omega arith
   ]
@@ -116,8 +112,8 @@ module _ (h : HeaderFields) (d : Direction) (p p' : Pending) (on_storage known o
   empty : (c : ℕ) → 0 < s c → (count h known c ≡ 0) × (count h on_storage c ≡ 0)
   empty c some = elim (cases_eq (c / counts_per_block h) k0) [
     | inl here ↦ (
-      (counts_new known known' known_same known_none writes.known_is new.known_says c here).0,
-      (counts_new on_storage on_storage' same new.none writes.is new.says c here).0,
+      (counts_new known known' known_outside known_none writes.known_is new.known_says c here).0,
+      (counts_new on_storage on_storage' outside new.none writes.is new.says c here).0,
     )
     | inr other ↦ absurd (let zero = in_range c other in omega arith)
   ]
@@ -144,8 +140,8 @@ module _ (h : HeaderFields) (d : Direction) (p p' : Pending) (on_storage known o
 
   same_top_now : SameTop h on_storage' known'
   same_top_now = record {
-    first_cluster = λ i lt. sym (first i lt) ∙ crash_invariant.same_top.first_cluster i lt ∙ reftable_first h known known' known_top ((h.reftable_offset + 8 * k0) / cluster_size h) one_part known_once known_same i lt;
-    l1 = λ i. sym (l1 i) ∙ crash_invariant.same_top.l1 i ∙ reftable_l1 h known known' known_top ((h.reftable_offset + 8 * k0) / cluster_size h) one_part known_once known_same i;
+    first_cluster = λ i lt. sym (first i lt) ∙ crash_invariant.same_top.first_cluster i lt ∙ first_beside h known known' known_top ((h.reftable_offset + 8 * k0) / cluster_size h) once.1 known_outside (let lt = beside known in omega arith) i lt;
+    l1 = λ i. sym (l1 i) ∙ crash_invariant.same_top.l1 i ∙ known_l1 i;
     reftable = λ k. elim (cases_eq k k0) [
       | inl e ↦ ap (reftable_entry h on_storage') e ∙ writes.is ∙ sym writes.known_is ∙ ap (reftable_entry h known') (sym e)
       | inr ne ↦ sym (others k ne) ∙ crash_invariant.same_top.reftable k ∙ known_others k ne
@@ -181,50 +177,31 @@ module _ (h : HeaderFields) (d : Direction) (p p' : Pending) (on_storage known o
       let some : 0 < named_in_either h on_storage known (o / cluster_size h) + p.new_data (o / cluster_size h) = let e = (pending (o / cluster_size h)).0 in omega arith in
       sym (outside o (elsewhere o some)) ∙ crash_invariant.not_overlaid o some ∙ known_outside o (elsewhere o some)
 
-  pub reftable_named : CrashInvariant h d p' on_storage' known'
+  pub reftable_named : SafeStep (state h d p on_storage known) (state h d p' on_storage' known') (λ _. []) []
   reftable_named =
-      tables_renamed h (places_of h) d p p' on_storage known on_storage' known' crash_invariant
+      moved_step h (places_of h) d p p' on_storage known on_storage' known' crash_invariant
+      top_now same_top_now (omega arith) covers known_covers not_overlaid
+      (tables_renamed h (places_of h) d p p' on_storage known on_storage' known' crash_invariant
       top_now same_top_now (omega arith) covers known_covers not_overlaid
       (λ c. table_in h c (block_offset entry) - s c) s (λ c. 0) pending
       (λ c. let one = table_in-le h c (block_offset entry) in let le = few c in omega arith) fixed_changed (λ c. let e = l1_marks-same h on_storage on_storage' c l1 in omega arith)
-      counts known_counts new_tables empty
-
-  pub reftable_named_kept : (backing : Bytes) (m : Checkpoint) → StopOkEverywhere backing m on_storage → StopOkEverywhere backing m on_storage'
-  reftable_named_kept backing m kept =
-      moved_kept h (places_of h) d p p' on_storage known on_storage' known' crash_invariant
-      top_now same_top_now (omega arith) covers known_covers not_overlaid reftable_named
-      (λ o some. outside o (elsewhere o (omega arith))) (λ o some. known_outside o (elsewhere o (omega arith))) (λ o lt _. sym (from_start (cluster_size h) on_storage on_storage' first o lt)) backing m [] (inl refl) kept
-
-  pub reftable_named_known_kept : (backing : Bytes) (m : Checkpoint) → StopOkEverywhere backing m known → StopOkEverywhere backing m known'
-  reftable_named_known_kept backing m kept =
-      moved_known_kept h (places_of h) d p p' on_storage known on_storage' known' crash_invariant
-      top_now same_top_now (omega arith) covers known_covers not_overlaid reftable_named
-      (λ o some. outside o (elsewhere o (omega arith))) (λ o some. known_outside o (elsewhere o (omega arith))) (λ o lt _. sym (from_start (cluster_size h) on_storage on_storage' first o lt)) backing m [] (inl refl) kept
+      counts known_counts new_tables empty)
+      (λ o some. outside o (elsewhere o (omega arith))) (λ o some. known_outside o (elsewhere o (omega arith))) (λ o lt _. sym (from_start (cluster_size h) on_storage on_storage' first o lt)) [] (inl refl)
 
 -- ---- a refblock of zeros in a fresh cluster
 module _ (h : HeaderFields) (d : Direction) (p : Pending) (on_storage known on_storage' known' : Bytes) (crash_invariant : CrashInvariant h d p on_storage known) (k0 entry : ℕ)
     (writes : WritesReftableEntry h on_storage known on_storage' known' k0 entry) (new : IsNewBlock h on_storage known k0 entry (λ c. 0))
     (new_tables : 0 < p.new_tables (block_offset entry / cluster_size h)) (counted : count h on_storage (block_offset entry / cluster_size h) ≡ count h known (block_offset entry / cluster_size h))
     (written : d ≡ RbDependsOnL2 → SameCovers h on_storage known) where
-  no_table_there : named_for_tables h on_storage (block_offset entry / cluster_size h) ≡ 0
-  no_table_there = (new_tables_is_unnamed h d p on_storage known crash_invariant (block_offset entry / cluster_size h) new_tables written).no_table
-
   new_tables_there : (c : ℕ) → 0 < table_in h c (block_offset entry) - 0 → (0 < p.new_tables c) × (count h on_storage c ≡ count h known c) × (d ≡ RbDependsOnL2 → SameCovers h on_storage known)
   new_tables_there c some =
-      let here = table_in-at h c (block_offset entry) (omega arith) in
+      let here = table_in-is h c (block_offset entry) (omega arith) in
       (subst (λ n. 0 < p.new_tables n) here new_tables, subst (λ n. count h on_storage n ≡ count h known n) here counted, written)
 
-  pending_named : (c : ℕ) → (p.new_data c ≡ p.new_data c) × (p.new_tables c - table_in h c (block_offset entry) ≡ p.new_tables c - (table_in h c (block_offset entry) - 0)) × (p.old_tables c ≡ p.old_tables c + 0) × (p.old_data c ≡ p.old_data c) × (p.surplus c ≡ p.surplus c)
-  pending_named c = (refl, omega arith, omega arith, refl, refl)
-
-  pub block_named : CrashInvariant h d (named_now p (λ c. table_in h c (block_offset entry))) on_storage' known'
-  block_named = reftable_named h d p (named_now p (λ c. table_in h c (block_offset entry))) on_storage known on_storage' known' crash_invariant k0 entry (λ c. 0) pending_named writes new no_table_there (λ c _. refl) (λ c. omega arith) new_tables_there
-
-  pub block_named_kept : (backing : Bytes) (m : Checkpoint) → StopOkEverywhere backing m on_storage → StopOkEverywhere backing m on_storage'
-  block_named_kept = reftable_named_kept h d p (named_now p (λ c. table_in h c (block_offset entry))) on_storage known on_storage' known' crash_invariant k0 entry (λ c. 0) pending_named writes new no_table_there (λ c _. refl) (λ c. omega arith) new_tables_there
-
-  pub block_named_known_kept : (backing : Bytes) (m : Checkpoint) → StopOkEverywhere backing m known → StopOkEverywhere backing m known'
-  block_named_known_kept = reftable_named_known_kept h d p (named_now p (λ c. table_in h c (block_offset entry))) on_storage known on_storage' known' crash_invariant k0 entry (λ c. 0) pending_named writes new no_table_there (λ c _. refl) (λ c. omega arith) new_tables_there
+  pub block_named : SafeStep (state h d p on_storage known) (state h d (named_now p (λ c. table_in h c (block_offset entry))) on_storage' known') (λ _. []) []
+  block_named =
+      reftable_named h d p (named_now p (λ c. table_in h c (block_offset entry))) on_storage known on_storage' known' crash_invariant k0 entry (λ c. 0) (λ c. (refl, omega arith, omega arith, refl, refl)) writes new
+      (new_tables_is_unnamed h d p on_storage known crash_invariant (block_offset entry / cluster_size h) new_tables written).no_table (λ c _. refl) (λ c. omega arith) new_tables_there
 
 -- ---- a refblock that counts itself, and nothing else
 module _ (h : HeaderFields) (d : Direction) (p : Pending) (on_storage known on_storage' known' : Bytes) (crash_invariant : CrashInvariant h d p on_storage known) (k0 entry : ℕ)
@@ -238,21 +215,11 @@ module _ (h : HeaderFields) (d : Direction) (p : Pending) (on_storage known on_s
 
   only_itself : (c : ℕ) → c / counts_per_block h ≢ k0 → table_in h c (block_offset entry) ≡ 0
   only_itself c other = elim (cases_lt 0 (table_in h c (block_offset entry))) [
-    | inl some ↦ absurd (other (ap (λ n. n / counts_per_block h) (sym (table_in-at h c (block_offset entry) some)) ∙ range))
+    | inl some ↦ absurd (other (ap (λ n. n / counts_per_block h) (sym (table_in-is h c (block_offset entry) some)) ∙ range))
     | inr none ↦ omega arith
   ]
 
-  nothing_new_tables : (c : ℕ) → 0 < table_in h c (block_offset entry) - table_in h c (block_offset entry) → (0 < p.new_tables c) × (count h on_storage c ≡ count h known c) × (d ≡ RbDependsOnL2 → SameCovers h on_storage known)
-  nothing_new_tables c some = absurd (omega arith)
-
-  pending_still : (c : ℕ) → (p.new_data c ≡ p.new_data c) × (p.new_tables c ≡ p.new_tables c - (table_in h c (block_offset entry) - table_in h c (block_offset entry))) × (p.old_tables c ≡ p.old_tables c + 0) × (p.old_data c ≡ p.old_data c) × (p.surplus c ≡ p.surplus c)
-  pending_still c = (refl, omega arith, omega arith, refl, refl)
-
-  pub block_counts_itself : CrashInvariant h d p on_storage' known'
-  block_counts_itself = reftable_named h d p p on_storage known on_storage' known' crash_invariant k0 entry (λ c. table_in h c (block_offset entry)) pending_still writes new itself_unnamed only_itself (λ c. omega arith) nothing_new_tables
-
-  pub block_counts_itself_kept : (backing : Bytes) (m : Checkpoint) → StopOkEverywhere backing m on_storage → StopOkEverywhere backing m on_storage'
-  block_counts_itself_kept = reftable_named_kept h d p p on_storage known on_storage' known' crash_invariant k0 entry (λ c. table_in h c (block_offset entry)) pending_still writes new itself_unnamed only_itself (λ c. omega arith) nothing_new_tables
-
-  pub block_counts_itself_known_kept : (backing : Bytes) (m : Checkpoint) → StopOkEverywhere backing m known → StopOkEverywhere backing m known'
-  block_counts_itself_known_kept = reftable_named_known_kept h d p p on_storage known on_storage' known' crash_invariant k0 entry (λ c. table_in h c (block_offset entry)) pending_still writes new itself_unnamed only_itself (λ c. omega arith) nothing_new_tables
+  pub block_counts_itself : SafeStep (state h d p on_storage known) (state h d p on_storage' known') (λ _. []) []
+  block_counts_itself =
+      reftable_named h d p p on_storage known on_storage' known' crash_invariant k0 entry (λ c. table_in h c (block_offset entry)) (λ c. (refl, omega arith, omega arith, refl, refl)) writes new
+      itself_unnamed only_itself (λ c. omega arith) (λ c some. absurd (omega arith))

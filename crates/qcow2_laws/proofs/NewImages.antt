@@ -1,7 +1,6 @@
 -- A new image of three clusters is consistent, for every cluster size and refcount width.
-use Rattle.std.proofs.Common.{◌≡◌, ◌+◌, ◌-◌, ◌*◌, ◌/◌, ◌%◌, ◌^◌, ◌<◌, ◌≤◌, ◌&&◌, ℕ, zero, suc, cond, eqb, ltb, refl, sym, ap, ◌∙◌, arith, inl, inr, subst}
-use Rattle.qcow2_laws.proofs.Common.{cases_eq, cases_lt, eq-eqb, ne_eqb, cond-true, cond-false, lt-ltb, le-ltb, nat_le, nat_lt, nat_tests, div-mul-add, mod-mul-add, pow-add, pow_pos, le-div, pow_mono, Bytes, one_if, HeaderFields, ReftableFits, cluster_size, entries_per_cluster, reftable_entries, count_width, counts_per_block, reftable_entry, count, block_count, block_offset, ReftableEntryReads, in_cluster, table_in, named, named_for_tables, named_by_reftable, named_by_l1_table, named_by_l2_tables, Consistent, IsConsistent, IsAligned, one_at, HasNoLeaks, surplus_of}
-use Rattle.std.proofs.Math.Nat.{mod-eq_of_lt, div-one}
+use Rattle.std.proofs.Common.{◌≡◌, ◌+◌, ◌-◌, ◌*◌, ◌/◌, ◌%◌, ◌^◌, ◌<◌, ◌≤◌, ◌&&◌, ℕ, suc, cond, ltb, refl, sym, ap, ◌∙◌, arith, inl, inr, subst}
+use Rattle.qcow2_laws.proofs.Common.{cases_lt, cond-true, cond-false, lt-ltb, le-ltb, nat_le, nat_lt, nat_tests, div-mul-add, mod-mul-add, pow-add, le-div, pow_mono, Bytes, one_if, HeaderFields, ReftableFits, cluster_size, reftable_entries, count_width, counts_per_block, reftable_entry, count, block_count, block_offset, ReftableEntryReads, in_cluster, table_in, named, named_for_tables, named_by_reftable, named_by_l1_table, named_by_l2_tables, Consistent, IsConsistent, IsAligned, one_at, HasNoLeaks, surplus_of}
 use Rattle.qcow2_laws.specs.NewImages.{IsNewImage}
 use Rattle.qcow2_laws.proofs.Lemmas.{sum_below-change, sum_below-zero, Sizes, Sizes-from, count_in, count_none, shares, in_l1, in_reftable}
 
@@ -23,59 +22,25 @@ module _ (h : HeaderFields) (b : Bytes) (new : IsNewImage h b) where
   few = let le : h.cluster_bits - 9 ≤ 12 = omega (arith, new.reads.well_formed.in_range.cluster_bits.1) in pow_mono le
 
   block_at : block_offset (2 * cluster_size h) ≡ 2 * cluster_size h
-  block_at =
-      let s = sectors in
-      let f = few in
-      let e : 2 * cluster_size h ≡ 2 * 2 ^ (h.cluster_bits - 9) * 512 + 0 = omega arith in
-      let q : 2 * cluster_size h / 2 ^ 9 ≡ 2 * 2 ^ (h.cluster_bits - 9) = ap (λ n. n / 2 ^ 9) e ∙ div-mul-add (2 * 2 ^ (h.cluster_bits - 9)) 512 0 (omega arith) in
-      let small : 2 * 2 ^ (h.cluster_bits - 9) < 2 ^ 55 = omega arith in
-      let m : 2 * cluster_size h / 2 ^ 9 % 2 ^ 55 ≡ 2 * 2 ^ (h.cluster_bits - 9) = ap (λ n. n % 2 ^ 55) q ∙ mod-eq_of_lt small in
-      let whole : 2 * 2 ^ (h.cluster_bits - 9) * 512 ≡ 2 * cluster_size h = omega arith in
-      ap (λ n. n * 512) m ∙ whole
+  block_at = grind (arith, sectors)
 
   block_reads : ReftableEntryReads (2 * cluster_size h)
-  block_reads =
-      let s = sectors in
-      let e : 2 * cluster_size h ≡ 2 * 2 ^ (h.cluster_bits - 9) * 512 + 0 = omega arith in
-      ap (λ n. n % 2 ^ 9) (div-one (2 * cluster_size h)) ∙ ap (λ n. n % 2 ^ 9) e ∙ mod-mul-add (2 * 2 ^ (h.cluster_bits - 9)) 512 0 (omega arith)
+  block_reads = grind (arith, sectors)
 
   -- what holds of no entry and of the refblock's holds of each
   each_entry : (Q : ℕ → Type 0) → Q 0 → Q (2 * cluster_size h) → (k : ℕ) → Q (reftable_entry h b k)
-  each_entry Q none there k = elim (cases_eq k 0) [
-    | inl e ↦ subst (λ n. Q (reftable_entry h b n)) (sym e) (subst Q (sym new.refblock) there)
-    | inr ne ↦ subst Q (sym (new.no_other k ne)) none
-  ]
+  each_entry Q none there k = grind arith
 
   aligned_two : IsAligned h (block_offset (2 * cluster_size h))
-  aligned_two =
-      let some = sizes.some in
-      let e : 2 * cluster_size h ≡ 2 * cluster_size h + 0 = omega arith in
-      ap (λ n. n % cluster_size h) block_at ∙ ap (λ n. n % cluster_size h) e ∙ mod-mul-add 2 (cluster_size h) 0 (omega arith)
+  aligned_two = grind (arith, block_at)
 
   -- ---- which clusters are named
 
   one_first : (c : ℕ) → in_cluster h c 0 ≡ one_at 0 c
-  one_first c =
-      let some = sizes.some in
-      let e : 0 / cluster_size h ≡ 0 = omega arith in
-      ◌∙◌ {b = cond (eqb 0 c) 1 0} (ap (λ n. cond (eqb n c) 1 0) e) (flip c)
-    where
-      flip : (c : ℕ) → cond (eqb 0 c) 1 0 ≡ one_at 0 c
-      flip c = elim (cases_eq c 0) [
-        | inl z ↦ cond-true {A = ℕ} _ 1 0 (eq-eqb 0 c (sym z)) ∙ sym (cond-true {A = ℕ} _ 1 0 (eq-eqb c 0 z))
-        | inr nz ↦ cond-false {A = ℕ} _ 1 0 (ne_eqb 0 c (λ e. nz (sym e))) ∙ sym (cond-false {A = ℕ} _ 1 0 (ne_eqb c 0 nz))
-      ]
+  one_first c = grind arith
 
   none_l1 : (c : ℕ) → in_l1 h c ≡ 0
-  none_l1 c =
-      let some = sizes.some in
-      let rest : (8 * h.l1_entries + cluster_size h - 1) / cluster_size h ≡ 0 =
-      (let e : 8 * h.l1_entries + cluster_size h - 1 ≡ 0 * cluster_size h + (cluster_size h - 1) = omega (arith, new.no_l1_table.0) in
-      ap (λ n. n / cluster_size h) e ∙ div-mul-add 0 (cluster_size h) (cluster_size h - 1) (omega arith)) in
-      run_none (h.l1_offset / cluster_size h) ((8 * h.l1_entries + cluster_size h - 1) / cluster_size h) c rest
-    where
-      run_none : (first n c : ℕ) → n ≡ 0 → one_if (nat_le first c && nat_lt c (first + n)) ≡ 0
-      run_none first n c none = grind (arith, nat_tests)
+  none_l1 c = grind (arith, sizes)
 
   one_reftable : (c : ℕ) → in_reftable h c ≡ one_at 1 c
   one_reftable c =
@@ -91,24 +56,10 @@ module _ (h : HeaderFields) (b : Bytes) (new : IsNewImage h b) where
       run_one first n c a b = grind (arith, nat_tests)
 
   one_block : (c : ℕ) → table_in h c (block_offset (2 * cluster_size h)) ≡ one_at 2 c
-  one_block c =
-      let some = sizes.some in
-      ap (table_in h c) block_at
-      ∙ cond-false {A = ℕ} (eqb (2 * cluster_size h) 0) 0 (in_cluster h c (2 * cluster_size h)) (ne_eqb (2 * cluster_size h) 0 (λ e. omega arith))
-      ∙ ap (λ n. cond (eqb n c) 1 0) (at_multiple 2 (cluster_size h) some)
-      ∙ flip c
-    where
-      flip : (c : ℕ) → cond (eqb 2 c) 1 0 ≡ one_at 2 c
-      flip c = elim (cases_eq c 2) [
-        | inl z ↦ cond-true {A = ℕ} _ 1 0 (eq-eqb 2 c (sym z)) ∙ sym (cond-true {A = ℕ} _ 1 0 (eq-eqb c 2 z))
-        | inr nz ↦ cond-false {A = ℕ} _ 1 0 (ne_eqb 2 c (λ e. nz (sym e))) ∙ sym (cond-false {A = ℕ} _ 1 0 (ne_eqb c 2 nz))
-      ]
+  one_block c = grind (arith, sizes, block_at, at_multiple)
 
   some_entries : 0 < reftable_entries h
-  some_entries =
-      let e : h.reftable_clusters * entries_per_cluster h ≡ 1 * entries_per_cluster h = ap (λ n. n * entries_per_cluster h) new.reftable_clusters in
-      let some = sizes.entries in
-      omega arith
+  some_entries = grind (arith, sizes)
 
   blocks : (c : ℕ) → named_by_reftable h b c ≡ one_at 2 c
   unfolding named_by_reftable
@@ -134,19 +85,13 @@ module _ (h : HeaderFields) (b : Bytes) (new : IsNewImage h b) where
   named_is c = omega (arith, for_tables_is c, entries c)
 
   three : (c : ℕ) → one_at 0 c + one_at 1 c + one_at 2 c ≡ cond (ltb c 3) 1 0
-  three zero = refl
-  three (suc zero) = refl
-  three (suc (suc zero)) = refl
   three (suc (suc (suc c))) = grind (arith, nat_tests)
+  three _ = refl
 
   -- ---- counts
 
   enough : 3 < counts_per_block h
-  enough =
-      let narrow : 2 ^ h.refcount_order ≤ 2 ^ 6 = pow_mono new.reads.well_formed.in_range.refcount_order in
-      let large = sizes.large in
-      let le : 4 ≤ cluster_size h * 8 / count_width h = le-div 4 (cluster_size h * 8) (count_width h) (pow_pos h.refcount_order) (omega arith) in
-      omega arith
+  enough = grind (arith, pow_mono, sizes)
 
   count_is : (c : ℕ) → count h b c ≡ cond (ltb c 3) 1 0
   count_is c = elim (cases_lt c (counts_per_block h)) [
@@ -167,11 +112,7 @@ module _ (h : HeaderFields) (b : Bytes) (new : IsNewImage h b) where
   ]
 
   fits : ReftableFits h
-  fits =
-      let begins = new.reftable_offset in
-      let entries = new.reads.within_limits.few_reftable_entries in
-      let size : 2 ^ h.cluster_bits ≤ 2 ^ 21 = pow_mono new.reads.well_formed.in_range.cluster_bits.1 in
-      omega (arith, begins, entries, size)
+  fits = grind arith
 
   pub new_consistent : Consistent h b
   new_consistent = record {

@@ -1,13 +1,15 @@
 -- Writing the L1 entry of a new table keeps the crash invariant, and leaves a stop as safe as before.
 use Rattle.std.proofs.Common.{◌≡◌, ◌+◌, ◌-◌, ◌*◌, ◌/◌, ◌%◌, ◌<◌, ◌≤◌, ◌≢◌, ℕ, Bool, true, false, cond, ltb, eqb, [], refl, sym, ap, ◌∙◌, arith, inl, inr, subst}
-use Rattle.qcow2_laws.proofs.Common.{cases_eq, cases_lt, eq-eqb, ne_eqb, cond-true, cond-false, Bytes, SameFrom, HeaderFields, cluster_size, entries_per_cluster, l1_entry, l2_entry, reftable_entry, count, host_offset, block_offset, is_copied, L1EntryReads, ReftableEntryReads, cover, entry_cover, table_in, in_cluster, named_for_tables, named_by_l1_table, IsAligned, number_at-same, Checkpoint, StopOkEverywhere, Direction, named_in_either, table_at, marked_by_l1_table, Pending, CrashInvariant, IsTop, SameTop, SameCovers, SameCounts, SameIn, renamed, places_of, IsSameBut, IsSameOutside, WritesL1Entry, IsNewTable, mod_below}
+use Rattle.qcow2_laws.proofs.Common.{cases_eq, cases_lt, Bytes, SameFrom, HeaderFields, cluster_size, entries_per_cluster, l1_entry, l2_entry, reftable_entry, count, host_offset, block_offset, is_copied, L1EntryReads, ReftableEntryReads, cover, entry_cover, table_in, in_cluster, named_for_tables, named_by_reftable, named_by_l1_table, IsAligned, number_at-same, SafeStep, Direction, named_in_either, table_at, marked_by_l1_table, Pending, CrashInvariant, IsTop, SameTop, SameCovers, SameCounts, renamed, places_of, IsSameBut, IsSameOutside, WritesL1Entry, IsNewTable, mod_below}
 use Rattle.qcow2_laws.proofs.Sums.{sum_below-change}
 use Rattle.qcow2_laws.proofs.Places.{Sizes, Sizes-from, eight_in, SameFrom-in, l2_entry-same, cover_in, cond-same}
-use Rattle.qcow2_laws.proofs.Tops.{from_start, header-first, HeaderReads-same, IsTop-top, for_tables-top, reftable_names-same}
+use Rattle.qcow2_laws.proofs.Tops.{from_start, header-first, HeaderReads-same, IsTop-top, reftable_names-same}
 use Rattle.qcow2_laws.proofs.Writes.{new_tables_is_unnamed}
-use Rattle.qcow2_laws.proofs.Blocks.{table_apart, table_once}
-use Rattle.qcow2_laws.proofs.Shares.{shares, in_l1, l1_has, l1_first, l1_reftable, l1_covers, l1_counts}
-use Rattle.qcow2_laws.proofs.Renaming.{tables_renamed, moved_kept, moved_known_kept}
+use Rattle.qcow2_laws.proofs.Blocks.{table_apart, tables_once}
+use Rattle.qcow2_laws.proofs.Shares.{shares, in_l1, in_reftable, l1_has, first_beside, reftable_beside, cover_beside, count_beside}
+use Rattle.qcow2_laws.proofs.Renaming.{tables_renamed, moved_step}
+use Rattle.qcow2_laws.proofs.Opened.{table_in-is}
+use Rattle.qcow2_laws.proofs.SafeSteps.{state}
 
 -- eight bytes of a table lie in one cluster
 pub outside_eight : (size start i : ℕ) (b b' : Bytes) → size % 8 ≡ 0 → 0 < size → start % size ≡ 0 → IsSameBut (start + 8 * i) 8 b b' → IsSameOutside size ((start + 8 * i) / size) b b'
@@ -34,17 +36,6 @@ below_of false n = omega arith
 pub table_in-le : (h : HeaderFields) (c place : ℕ) → table_in h c place ≤ 1
 table_in-le h c place = elim (eqb place 0) as (λ t. cond t 0 (cond (eqb (place / cluster_size h) c) 1 0) ≤ 1) [ true ↦ omega arith | false ↦ below_of (eqb (place / cluster_size h) c) 1 ]
 
-pub table_in-at : (h : HeaderFields) (c place : ℕ) → 0 < table_in h c place → place / cluster_size h ≡ c
-table_in-at h c place some = elim (cases_eq (place / cluster_size h) c) [
-  | inl e ↦ e
-  | inr ne ↦ absurd (
-      let none : in_cluster h c place ≡ 0 = cond-false {A = ℕ} _ 1 0 (ne_eqb (place / cluster_size h) c ne) in
-      elim (cases_eq place 0) [
-        | inl z ↦ let zero : table_in h c place ≡ 0 = cond-true _ _ _ (eq-eqb place 0 z) in omega arith
-        | inr nz ↦ let zero : table_in h c place ≡ in_cluster h c place = cond-false _ _ _ (ne_eqb place 0 nz) in omega arith
-      ])
-]
-
 module _ (h : HeaderFields) (d : Direction) (p : Pending) (on_storage known on_storage' known' : Bytes) (crash_invariant : CrashInvariant h d p on_storage known) (i0 entry : ℕ)
     (writes : WritesL1Entry h on_storage known on_storage' known' i0 entry) (new : IsNewTable h d p on_storage known i0 entry) where
   sizes : Sizes h
@@ -56,14 +47,14 @@ module _ (h : HeaderFields) (d : Direction) (p : Pending) (on_storage known on_s
   part : in_l1 h ((h.l1_offset + 8 * i0) / cluster_size h) ≡ 1
   part = l1_has h i0 sizes crash_invariant.top.l1_aligned writes.within
 
+  beside : (b : Bytes) → in_cluster h ((h.l1_offset + 8 * i0) / cluster_size h) 0 + in_reftable h ((h.l1_offset + 8 * i0) / cluster_size h) + named_by_reftable h b ((h.l1_offset + 8 * i0) / cluster_size h) + named_by_l1_table h b ((h.l1_offset + 8 * i0) / cluster_size h) < named_for_tables h b ((h.l1_offset + 8 * i0) / cluster_size h)
+  beside b = let s = shares h b ((h.l1_offset + 8 * i0) / cluster_size h) in let one = part in omega arith
+
   table_refs : 0 < named_for_tables h on_storage ((h.l1_offset + 8 * i0) / cluster_size h)
-  table_refs = let s = shares h on_storage ((h.l1_offset + 8 * i0) / cluster_size h) in let one = part in omega arith
+  table_refs = let lt = beside on_storage in omega arith
 
-  once : named_for_tables h on_storage ((h.l1_offset + 8 * i0) / cluster_size h) ≤ 1
-  once = let t = table_once h d p on_storage known crash_invariant ((h.l1_offset + 8 * i0) / cluster_size h) table_refs in omega arith
-
-  known_once : named_for_tables h known ((h.l1_offset + 8 * i0) / cluster_size h) ≤ 1
-  known_once = let e = for_tables-top h on_storage known ((h.l1_offset + 8 * i0) / cluster_size h) crash_invariant.same_top in let o = once in omega arith
+  once : (named_for_tables h on_storage ((h.l1_offset + 8 * i0) / cluster_size h) ≤ 1) × (named_for_tables h known ((h.l1_offset + 8 * i0) / cluster_size h) ≤ 1)
+  once = tables_once h d p on_storage known crash_invariant ((h.l1_offset + 8 * i0) / cluster_size h) table_refs
 
   outside : IsSameOutside (cluster_size h) ((h.l1_offset + 8 * i0) / cluster_size h) on_storage on_storage'
   outside = outside_eight (cluster_size h) h.l1_offset i0 on_storage on_storage' sizes.whole sizes.some crash_invariant.top.l1_aligned writes.others
@@ -71,26 +62,20 @@ module _ (h : HeaderFields) (d : Direction) (p : Pending) (on_storage known on_s
   known_outside : IsSameOutside (cluster_size h) ((h.l1_offset + 8 * i0) / cluster_size h) known known'
   known_outside = outside_eight (cluster_size h) h.l1_offset i0 known known' sizes.whole sizes.some crash_invariant.top.l1_aligned writes.known_others
 
-  same : (c : ℕ) → c ≢ (h.l1_offset + 8 * i0) / cluster_size h → SameIn (cluster_size h) c on_storage on_storage'
-  same c other o in_c = outside o (λ e. other (sym in_c ∙ e))
-
-  known_same : (c : ℕ) → c ≢ (h.l1_offset + 8 * i0) / cluster_size h → SameIn (cluster_size h) c known known'
-  known_same c other o in_c = known_outside o (λ e. other (sym in_c ∙ e))
-
-  one_part : 1 ≤ in_l1 h ((h.l1_offset + 8 * i0) / cluster_size h)
-  one_part = let e = part in omega arith
-
   first : SameFrom 0 (cluster_size h) on_storage on_storage'
-  first = l1_first h on_storage on_storage' crash_invariant.top ((h.l1_offset + 8 * i0) / cluster_size h) one_part once same
+  first = first_beside h on_storage on_storage' crash_invariant.top ((h.l1_offset + 8 * i0) / cluster_size h) once.0 outside (let lt = beside on_storage in omega arith)
 
   reftable : (k : ℕ) → reftable_entry h on_storage k ≡ reftable_entry h on_storage' k
-  reftable = l1_reftable h on_storage on_storage' crash_invariant.top ((h.l1_offset + 8 * i0) / cluster_size h) one_part once same
+  reftable = reftable_beside h on_storage on_storage' crash_invariant.top ((h.l1_offset + 8 * i0) / cluster_size h) once.0 outside (let lt = beside on_storage in omega arith)
+
+  known_reftable : (k : ℕ) → reftable_entry h known k ≡ reftable_entry h known' k
+  known_reftable = reftable_beside h known known' known_top ((h.l1_offset + 8 * i0) / cluster_size h) once.1 known_outside (let lt = beside known in omega arith)
 
   counts : SameCounts h on_storage on_storage'
-  counts = l1_counts h on_storage on_storage' crash_invariant.top ((h.l1_offset + 8 * i0) / cluster_size h) one_part once same
+  counts c = count_beside h on_storage on_storage' crash_invariant.top ((h.l1_offset + 8 * i0) / cluster_size h) once.0 outside (let lt = beside on_storage in omega arith) c (reftable _)
 
   known_counts : SameCounts h known known'
-  known_counts = l1_counts h known known' known_top ((h.l1_offset + 8 * i0) / cluster_size h) one_part known_once known_same
+  known_counts c = count_beside h known known' known_top ((h.l1_offset + 8 * i0) / cluster_size h) once.1 known_outside (let lt = beside known in omega arith) c (known_reftable _)
 
   others : (i : ℕ) → i ≢ i0 → l1_entry h on_storage i ≡ l1_entry h on_storage' i
   others i = other_l1 h on_storage on_storage' i0 i writes.others
@@ -106,7 +91,7 @@ module _ (h : HeaderFields) (d : Direction) (p : Pending) (on_storage known on_s
       let some = table_refs in
       absurd (omega arith)
 
-  new_cover : (b b' : Bytes) → ((c : ℕ) → c ≢ (h.l1_offset + 8 * i0) / cluster_size h → SameIn (cluster_size h) c b b') → l1_entry h b' i0 ≡ entry
+  new_cover : (b b' : Bytes) → IsSameOutside (cluster_size h) ((h.l1_offset + 8 * i0) / cluster_size h) b b' → l1_entry h b' i0 ≡ entry
       → ((g : ℕ) → g / entries_per_cluster h ≡ i0 → cover h b g ≡ entry_cover h (l2_entry b (host_offset entry) (g % entries_per_cluster h)))
       → (g : ℕ) → g / entries_per_cluster h ≡ i0 → cover h b g ≡ cover h b' g
   new_cover b b' alike is says g here =
@@ -114,20 +99,20 @@ module _ (h : HeaderFields) (d : Direction) (p : Pending) (on_storage known on_s
       let below = mod_below g (entries_per_cluster h) sizes.entries in
       says g here
       ∙ ap (entry_cover h) (l2_entry-same b b' (host_offset entry) (cluster_size h) (g % entries_per_cluster h)
-      (SameFrom-in (cluster_size h) _ (host_offset entry) b b' (alike (host_offset entry / cluster_size h) apart) new.aligned refl) (omega (arith, sizes.eights)))
+      (SameFrom-in (cluster_size h) _ (host_offset entry) b b' (λ o in_c. alike o (λ e. apart (sym in_c ∙ e))) new.aligned refl) (omega (arith, sizes.eights)))
       ∙ ap (λ t. entry_cover h (l2_entry b' t (g % entries_per_cluster h))) (sym at)
       ∙ sym (cover_in h b' g (λ none. new.real (sym at ∙ none)))
 
   covers : SameCovers h on_storage on_storage'
   covers g = elim (cases_eq (g / entries_per_cluster h) i0) [
-    | inl here ↦ new_cover on_storage on_storage' same writes.is new.covers g here
-    | inr other ↦ l1_covers h on_storage on_storage' crash_invariant.top ((h.l1_offset + 8 * i0) / cluster_size h) one_part once same g (others (g / entries_per_cluster h) other)
+    | inl here ↦ new_cover on_storage on_storage' outside writes.is new.covers g here
+    | inr other ↦ cover_beside h on_storage on_storage' crash_invariant.top ((h.l1_offset + 8 * i0) / cluster_size h) once.0 outside (let lt = beside on_storage in omega arith) g (others (g / entries_per_cluster h) other)
   ]
 
   pub known_covers : SameCovers h known known'
   known_covers g = elim (cases_eq (g / entries_per_cluster h) i0) [
-    | inl here ↦ new_cover known known' known_same writes.known_is new.known_covers g here
-    | inr other ↦ l1_covers h known known' known_top ((h.l1_offset + 8 * i0) / cluster_size h) one_part known_once known_same g (known_others (g / entries_per_cluster h) other)
+    | inl here ↦ new_cover known known' known_outside writes.known_is new.known_covers g here
+    | inr other ↦ cover_beside h known known' known_top ((h.l1_offset + 8 * i0) / cluster_size h) once.1 known_outside (let lt = beside known in omega arith) g (known_others (g / entries_per_cluster h) other)
   ]
 
   -- what holds of the old entries and of the new one holds of all now
@@ -153,12 +138,12 @@ module _ (h : HeaderFields) (d : Direction) (p : Pending) (on_storage known on_s
 
   same_top_now : SameTop h on_storage' known'
   same_top_now = record {
-    first_cluster = λ i lt. sym (first i lt) ∙ crash_invariant.same_top.first_cluster i lt ∙ l1_first h known known' known_top ((h.l1_offset + 8 * i0) / cluster_size h) one_part known_once known_same i lt;
+    first_cluster = λ i lt. sym (first i lt) ∙ crash_invariant.same_top.first_cluster i lt ∙ first_beside h known known' known_top ((h.l1_offset + 8 * i0) / cluster_size h) once.1 known_outside (let lt = beside known in omega arith) i lt;
     l1 = λ i. elim (cases_eq i i0) [
       | inl e ↦ ap (l1_entry h on_storage') e ∙ writes.is ∙ sym writes.known_is ∙ ap (l1_entry h known') (sym e)
       | inr ne ↦ sym (others i ne) ∙ crash_invariant.same_top.l1 i ∙ known_others i ne
     ];
-    reftable = λ k. sym (reftable k) ∙ crash_invariant.same_top.reftable k ∙ l1_reftable h known known' known_top ((h.l1_offset + 8 * i0) / cluster_size h) one_part known_once known_same k;
+    reftable = λ k. sym (reftable k) ∙ crash_invariant.same_top.reftable k ∙ known_reftable k;
   }
 
   -- ---- how often tables name a cluster now
@@ -188,41 +173,26 @@ module _ (h : HeaderFields) (d : Direction) (p : Pending) (on_storage known on_s
       omega arith
 
   new_at : (c : ℕ) → 0 < table_in h c (host_offset entry) → host_offset entry / cluster_size h ≡ c
-  new_at c some = table_in-at h c (host_offset entry) some
+  new_at c some = table_in-is h c (host_offset entry) some
+
+  elsewhere : (o : ℕ) → 0 < named_in_either h on_storage known (o / cluster_size h) + p.new_data (o / cluster_size h) → o / cluster_size h ≢ (h.l1_offset + 8 * i0) / cluster_size h
+  elsewhere o some e =
+      let none = table_apart h d p on_storage known crash_invariant ((h.l1_offset + 8 * i0) / cluster_size h) table_refs in
+      let here = subst (λ n. 0 < named_in_either h on_storage known n + p.new_data n) e some in
+      absurd (omega arith)
 
   not_overlaid : (o : ℕ) → 0 < named_in_either h on_storage known (o / cluster_size h) + p.new_data (o / cluster_size h) → on_storage' o ≡ known' o
   not_overlaid o some = sym (outside o (elsewhere o some)) ∙ crash_invariant.not_overlaid o some ∙ known_outside o (elsewhere o some)
-    where
-      elsewhere : (o : ℕ) → 0 < named_in_either h on_storage known (o / cluster_size h) + p.new_data (o / cluster_size h) → o / cluster_size h ≢ (h.l1_offset + 8 * i0) / cluster_size h
-      elsewhere o some e =
-          let none = table_apart h d p on_storage known crash_invariant ((h.l1_offset + 8 * i0) / cluster_size h) table_refs in
-          let here = subst (λ n. 0 < named_in_either h on_storage known n + p.new_data n) e some in
-          absurd (omega arith)
 
-  pub l1_named : CrashInvariant h d (renamed p (λ c. table_in h c (host_offset entry)) (λ c. table_in h c (table_at h on_storage i0))) on_storage' known'
+  pub l1_named : SafeStep (state h d p on_storage known) (state h d (renamed p (λ c. table_in h c (host_offset entry)) (λ c. table_in h c (table_at h on_storage i0))) on_storage' known') (λ _. []) []
   l1_named =
-      tables_renamed h (places_of h) d p (renamed p (λ c. table_in h c (host_offset entry)) (λ c. table_in h c (table_at h on_storage i0))) on_storage known on_storage' known' crash_invariant
+      moved_step h (places_of h) d p (renamed p (λ c. table_in h c (host_offset entry)) (λ c. table_in h c (table_at h on_storage i0))) on_storage known on_storage' known' crash_invariant
+      top_now same_top_now (omega arith) covers known_covers not_overlaid
+      (tables_renamed h (places_of h) d p (renamed p (λ c. table_in h c (host_offset entry)) (λ c. table_in h c (table_at h on_storage i0))) on_storage known on_storage' known' crash_invariant
       top_now same_top_now (omega arith) covers known_covers not_overlaid
       (λ c. table_in h c (host_offset entry)) (λ c. 0) (λ c. table_in h c (table_at h on_storage i0)) (λ c. (refl, refl, refl, refl, refl))
       (λ c. let one = table_in-le h c (host_offset entry) in omega arith) (λ c. let changed = fixed_changed c in omega arith) sole_changed
       (λ c. let e = counts c in omega arith) (λ c. let e = known_counts c in omega arith)
       (λ c some. (subst (λ n. 0 < p.new_tables n) (new_at c some) new.new_tables, subst (λ n. count h on_storage n ≡ count h known n) (new_at c some) new.counted, new.written))
-      (λ c some. absurd (omega arith))
-
-  elsewhere_named : (o : ℕ) → 0 < named_in_either h on_storage known (o / cluster_size h) → o / cluster_size h ≢ (h.l1_offset + 8 * i0) / cluster_size h
-  elsewhere_named o some e =
-      let none = table_apart h d p on_storage known crash_invariant ((h.l1_offset + 8 * i0) / cluster_size h) table_refs in
-      let here = subst (λ n. 0 < named_in_either h on_storage known n) e some in
-      absurd (omega arith)
-
-  pub l1_named_kept : (backing : Bytes) (m : Checkpoint) → StopOkEverywhere backing m on_storage → StopOkEverywhere backing m on_storage'
-  l1_named_kept backing m kept =
-      moved_kept h (places_of h) d p (renamed p (λ c. table_in h c (host_offset entry)) (λ c. table_in h c (table_at h on_storage i0))) on_storage known on_storage' known' crash_invariant
-      top_now same_top_now (omega arith) covers known_covers not_overlaid l1_named
-      (λ o some. outside o (elsewhere_named o some)) (λ o some. known_outside o (elsewhere_named o some)) (λ o lt _. sym (from_start (cluster_size h) on_storage on_storage' first o lt)) backing m [] (inl refl) kept
-
-  pub l1_named_known_kept : (backing : Bytes) (m : Checkpoint) → StopOkEverywhere backing m known → StopOkEverywhere backing m known'
-  l1_named_known_kept backing m kept =
-      moved_known_kept h (places_of h) d p (renamed p (λ c. table_in h c (host_offset entry)) (λ c. table_in h c (table_at h on_storage i0))) on_storage known on_storage' known' crash_invariant
-      top_now same_top_now (omega arith) covers known_covers not_overlaid l1_named
-      (λ o some. outside o (elsewhere_named o some)) (λ o some. known_outside o (elsewhere_named o some)) (λ o lt _. sym (from_start (cluster_size h) on_storage on_storage' first o lt)) backing m [] (inl refl) kept
+      (λ c some. absurd (omega arith)))
+      (λ o some. outside o (elsewhere o (omega arith))) (λ o some. known_outside o (elsewhere o (omega arith))) (λ o lt _. sym (from_start (cluster_size h) on_storage on_storage' first o lt)) [] (inl refl)

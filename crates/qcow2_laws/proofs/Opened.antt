@@ -1,6 +1,6 @@
 -- A consistent image has the crash invariant when it is opened.
-use Rattle.std.proofs.Common.{◌≡◌, ◌+◌, ◌/◌, ◌%◌, ◌<◌, ◌≤◌, ◌≢◌, ℕ, Bool, true, false, cond, eqb, refl, sym, ap, ◌∙◌, arith, subst, inl, inr, max, Some, None}
-use Rattle.qcow2_laws.proofs.Common.{Option, cases_eq, cases_lt, cond-false, eq-eqb, eqb-true, mod_below, Bytes, HeaderFields, header, cluster_size, entries_per_cluster, has_data_file, l1_entry, is_copied, count, cover, named_for_tables, named_by_l1_table, table_in, in_cluster, Consistent, EachCover, CoverIsAligned, IsOwn, KeptIsOwn, CopiedIsOwn, L2Mapping, Data, Zero, Compressed, Uncovered, Neither, ClusterInvariant, over_guests, names, marks, marked_by_cover, marked_by_guest, marked_by_kept, marked_by_l1_table, table_at, cluster, CrashInvariant, nothing_pending, surplus_of}
+use Rattle.std.proofs.Common.{◌≡◌, ◌+◌, ◌/◌, ◌%◌, ◌<◌, ◌≤◌, ℕ, Bool, true, false, cond, eqb, refl, sym, ap, ◌∙◌, arith, max, Some, None}
+use Rattle.qcow2_laws.proofs.Common.{Option, cond-false, eqb-true, Bytes, HeaderFields, header, cluster_size, has_data_file, count, cover, named_for_tables, named_by_l1_table, table_in, in_cluster, Consistent, EachCover, CoverIsAligned, IsOwn, KeptIsOwn, CopiedIsOwn, L2Mapping, Data, Zero, Uncovered, Neither, ClusterInvariant, over_guests, names, marks, marked_by_cover, marked_by_guest, marked_by_kept, marked_by_l1_table, cluster, CrashInvariant, nothing_pending, surplus_of}
 use Rattle.qcow2_laws.proofs.Sums.{some_term}
 use Rattle.qcow2_laws.proofs.Places.{Sizes, Sizes-from, cover_in, cover_none, has_table}
 use Rattle.qcow2_laws.proofs.Guests.{named-is, over_guests-same, some_guest, marks-all, l1_marks-le}
@@ -8,11 +8,7 @@ use Rattle.qcow2_laws.proofs.Tops.{SameTop-refl}
 
 -- what holds of each entry of each table, and of none, holds of each guest cluster
 pub each_cover : (h : HeaderFields) (b : Bytes) (P : L2Mapping → Type 0) → Sizes h → P Uncovered → EachCover h b P → (g : ℕ) → P (cover h b g)
-each_cover h b P sizes none each g = elim (cases_eq (table_at h b (g / entries_per_cluster h)) 0) [
-  | inl free ↦ subst P (sym (cover_none h b g free)) none
-  | inr real ↦ subst P (sym (cover_in h b g real))
-      (each (g / entries_per_cluster h) (g % entries_per_cluster h) (has_table h b (g / entries_per_cluster h) real) real (mod_below g (entries_per_cluster h) sizes.entries))
-]
+each_cover h b P sizes none each g = grind (arith, cover_none, cover_in, has_table)
 
 -- where a test is 1, it passes
 pub passes : (t : Bool) (n : ℕ) → 0 < cond t n 0 → (t ≡ true) × (0 < n)
@@ -29,9 +25,6 @@ in_cluster-is h c place some = eqb-true (place / cluster_size h) c (passes (eqb 
 pub table_in-is : (h : HeaderFields) (c place : ℕ) → 0 < table_in h c place → place / cluster_size h ≡ c
 table_in-is h c place some = in_cluster-is h c place (fails (eqb place 0) (in_cluster h c place) some).1
 
-pub table_in-real : (h : HeaderFields) (c place : ℕ) → 0 < table_in h c place → place ≢ 0
-table_in-real h c place some e = absurd (let f : eqb place 0 ≡ false = (fails (eqb place 0) (in_cluster h c place) some).0 in let t = eq-eqb place 0 e in cc)
-
 counted_at : (h : HeaderFields) (b : Bytes) (c place : ℕ) → place / cluster_size h ≡ c → IsOwn h b place → count h b c ≡ 1
 counted_at h b c place here own = ap (count h b) (sym here) ∙ own.1
 
@@ -42,8 +35,7 @@ kept_counted h b c (Some k) own some = let t = passes k.1 (in_cluster h c k.0) s
 cover_counted : (h : HeaderFields) (b : Bytes) (c : ℕ) (v : L2Mapping) → CopiedIsOwn h b v → 0 < marked_by_cover h c v → count h b c ≡ 1
 cover_counted h b c (Data host copied) own some = let t = passes copied (in_cluster h c host) some in counted_at h b c host (in_cluster-is h c host t.1) (own t.0)
 cover_counted h b c (Zero kept) own some = kept_counted h b c kept own some
-cover_counted h b c (Compressed host sectors) own some = absurd (omega arith)
-cover_counted h b c Uncovered own some = absurd (omega arith)
+cover_counted h b c _ own some = absurd (omega arith)
 
 module _ (h : HeaderFields) (b : Bytes) (ok : Consistent h b) where
   sizes : Sizes h
@@ -54,11 +46,7 @@ module _ (h : HeaderFields) (b : Bytes) (ok : Consistent h b) where
 
   sole_counted : (c : ℕ) → 0 < marked_by_l1_table h b c → count h b c ≡ 1
   unfolding marked_by_l1_table
-  sole_counted c some =
-      let t = some_term h.l1_entries (λ i. cond (is_copied (l1_entry h b i)) (table_in h c (table_at h b i)) 0) some in
-      let is = passes (is_copied (l1_entry h b t.0)) (table_in h c (table_at h b t.0)) t.2 in
-      counted_at h b c (table_at h b t.0) (table_in-is h c (table_at h b t.0) is.1)
-      (ok.copied_tables t.0 t.1 (table_in-real h c (table_at h b t.0) is.1) is.0)
+  sole_counted c some = grind (arith, some_term)
 
   marks_counted : (c : ℕ) → 0 < over_guests h (marks h b c) → count h b c ≡ 1
   marks_counted c some =
@@ -66,10 +54,7 @@ module _ (h : HeaderFields) (b : Bytes) (ok : Consistent h b) where
       cover_counted h b c (cover h b t.0) (each_cover h b (CopiedIsOwn h b) sizes tt ok.copied_data t.0) (let is : marked_by_guest h c (cover h b t.0) ≡ marked_by_cover h c (cover h b t.0) = cond-false {A = ℕ} _ _ _ own_data in omega (arith, t.2, is))
 
   alone : (c : ℕ) → 0 < marked_by_l1_table h b c + over_guests h (marks h b c) → count h b c ≤ 1
-  alone c some = elim (cases_lt 0 (marked_by_l1_table h b c)) [
-    | inl copied_l1_refs ↦ let e = sole_counted c copied_l1_refs in omega arith
-    | inr none ↦ let e = marks_counted c (omega arith) in omega arith
-  ]
+  alone c some = grind (arith, sole_counted, marks_counted)
 
   twice : (f : ℕ → ℕ) → over_guests h (λ g. max (f g) (f g)) ≡ over_guests h f
   twice f = over_guests-same h _ _ (λ g. omega arith)

@@ -1,8 +1,8 @@
 -- A consistent image with an external data file has the invariant when it is opened.
-use Rattle.std.proofs.Common.{◌≡◌, ◌-◌, ◌<◌, ◌≤◌, ℕ, cond, refl, sym, ap, ◌∙◌, arith, max}
-use Rattle.qcow2_laws.proofs.Common.{cond-true, Bytes, HeaderFields, header, l1_entry, is_copied, count, cover, named_for_tables, named_by_l1_table, table_in, CoverIsAligned, L2Mapping, Neither, ClusterInvariant, guests, over_guests, names, marks, named_by_guest, marked_by_guest, marked_by_l1_table, table_at, cluster, CrashInvariant, nothing_pending}
+use Rattle.std.proofs.Common.{◌≡◌, ◌<◌, ◌≤◌, ℕ, refl, arith, max}
+use Rattle.qcow2_laws.proofs.Common.{cond-true, Bytes, HeaderFields, header, count, cover, named_for_tables, named_by_l1_table, CoverIsAligned, L2Mapping, Neither, ClusterInvariant, guests, over_guests, names, marks, named_by_guest, marked_by_guest, marked_by_l1_table, cluster, CrashInvariant, nothing_pending}
 use Rattle.qcow2_laws.specs.Beside.{ConsistentBeside, table_surplus_of}
-use Rattle.qcow2_laws.proofs.Lemmas.{some_term, sum_below-zero, Sizes, Sizes-from, l1_marks-le, marks-all, SameTop-refl, each_cover, passes, table_in-is, table_in-real}
+use Rattle.qcow2_laws.proofs.Lemmas.{some_term, sum_below-zero, Sizes, Sizes-from, l1_marks-le, marks-all, SameTop-refl, each_cover}
 
 module _ (h : HeaderFields) (b : Bytes) (ok : ConsistentBeside h b) where
   sizes : Sizes h
@@ -30,12 +30,7 @@ module _ (h : HeaderFields) (b : Bytes) (ok : ConsistentBeside h b) where
 
   alone : (c : ℕ) → 0 < marked_by_l1_table h b c → count h b c ≤ 1
   unfolding marked_by_l1_table
-  alone c some =
-      let t = some_term h.l1_entries (λ i. cond (is_copied (l1_entry h b i)) (table_in h c (table_at h b i)) 0) some in
-      let is = passes (is_copied (l1_entry h b t.0)) (table_in h c (table_at h b t.0)) t.2 in
-      let own = ok.copied_tables t.0 t.1 (table_in-real h c (table_at h b t.0) is.1) is.0 in
-      let e : count h b c ≡ 1 = ap (count h b) (sym (table_in-is h c (table_at h b t.0) is.1)) ∙ own.1 in
-      omega arith
+  alone c some = grind (arith, some_term)
 
   fixed_l1 : (c : ℕ) → named_by_l1_table h b c ≤ named_for_tables h b c
   unfolding named_for_tables

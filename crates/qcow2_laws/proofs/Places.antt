@@ -1,6 +1,7 @@
 -- Numbers, entries, refcounts and mappings depend only on the bytes of their clusters.
-use Rattle.std.proofs.Common.{◌≡◌, ◌+◌, ◌-◌, ◌*◌, ◌/◌, ◌%◌, ◌^◌, ◌<◌, ◌≤◌, ◌≢◌, ℕ, zero, suc, true, false, cond, ltb, eqb, Bool, refl, sym, ap, ◌∙◌, arith, inl, inr}
+use Rattle.std.proofs.Common.{◌≡◌, ◌+◌, ◌-◌, ◌*◌, ◌/◌, ◌%◌, ◌^◌, ◌<◌, ◌≤◌, ◌≢◌, ℕ, suc, true, false, cond, ltb, eqb, Bool, refl, sym, ap, ◌∙◌, arith, inl, inr}
 use Rattle.qcow2_laws.proofs.Common.{ltb-true, eqb-false, cases_lt, cond-true, cond-false, le-ltb, eq-eqb, ne_eqb, div-mul-add, div-add-mod', mod_below, mod-mul-add, pow_pos, pow-add, le-div, pow_mono, Bytes, number_at, SameFrom, HeaderFields, HeaderReads, cluster_size, entries_per_cluster, reftable_entries, count_width, counts_per_block, l1_entry, l2_entry, reftable_entry, block_count, count_under, count, host_offset, block_offset, cover, cover_under, entry_cover, Uncovered, number_at-same, SameIn, table_at}
+use Rattle.qcow2_metadata.proofs.TableEntries.{number_at-moved}
 
 -- what sizes of clusters and counts there are
 pub record Sizes (h : HeaderFields) : Type 0 where
@@ -131,15 +132,6 @@ has_block h b k real = elim (cases_lt k (reftable_entries h)) [ inl lt ↦ lt | 
 abbrev CountWithin : ℕ → ℕ → ℕ → Type 0
 CountWithin width i n = (i * width / 8 < n) × (i * (width / 8) + width / 8 ≤ n)
 
--- a number is the same wherever its bytes lie
-pub number_at-moved : (b c : Bytes) (p q n : ℕ) → ((i : ℕ) → i < n → b (p + i) ≡ c (q + i)) → number_at b p n ≡ number_at c q n
-unfolding number_at
-number_at-moved b c p q zero h = refl
-number_at-moved b c p q (suc n) h =
-    let front = number_at-moved b c p q n (λ i lt. h i (omega arith)) in
-    let last = h n (omega arith) in
-    cc
-
 -- a refcount is the same wherever its refblock lies
 block_count-within : (b c : Bytes) (width p q i n : ℕ) → CountWithin width i n → ((k : ℕ) → k < n → b (p + k) ≡ c (q + k)) → block_count b width p i ≡ block_count c width q i
 unfolding block_count
@@ -154,14 +146,8 @@ block_count-within b c width p q i n within same =
 
 -- every count of a cluster is within it
 count_within : (order i size : ℕ) → order ≤ 6 → size % 8 ≡ 0 → i < size * 8 / 2 ^ order → CountWithin (2 ^ order) i size
-count_within zero i size le whole lt = omega arith
-count_within (suc zero) i size le whole lt = omega arith
-count_within (suc (suc zero)) i size le whole lt = omega arith
-count_within (suc (suc (suc zero))) i size le whole lt = omega arith
-count_within (suc (suc (suc (suc zero)))) i size le whole lt = omega arith
-count_within (suc (suc (suc (suc (suc zero))))) i size le whole lt = omega arith
-count_within (suc (suc (suc (suc (suc (suc zero)))))) i size le whole lt = omega arith
 count_within (suc (suc (suc (suc (suc (suc (suc order))))))) i size le whole lt = absurd (omega arith)
+count_within _ i size le whole lt = omega arith
 
 -- a refblock's refcount, wherever its bytes lie
 pub block_count-moved : (h : HeaderFields) (b c : Bytes) (p q i : ℕ) → Sizes h → i < counts_per_block h → ((k : ℕ) → k < cluster_size h → b (p + k) ≡ c (q + k))

@@ -1,7 +1,7 @@
 -- One storage write over a run of clusters: in place, into clusters that zero entries keep, and into new data.
 use Rattle.std.proofs.Common.{◌≡◌, ◌+◌, ◌-◌, ◌*◌, ◌/◌, ◌%◌, ◌<◌, ◌≤◌, ◌≢◌, ◌⊎◌, ◌∷◌, ℕ, zero, suc, Bool, true, false, cond, List, [], length, refl, sym, ap, ◌∙◌, arith, inl, inr, subst, Some}
-use Rattle.qcow2_laws.proofs.Common.{fun_ext, cases_eq, cases_lt, div-add-mod', div-mul-add, mod_below, pow_pos, Bytes, byte_at, laid_over, cluster_size, cover, known_byte, in_cluster, named_for_tables, named_by_guest, CoverIsAligned, Data, Zero, disk, with_values, GivenBytes, IsGiven, given_of, names, marks, marked_by_guest, named_in_either, SameCovers, SameIn, IsSameOutside, WritesAt, IsWritten, DriverState, StateInvariant, SafeStep, SameL1Table, IsDataAt, Hosting, InPlace, Kept, Held, IsHostedAt, IsHeld, is_private_hosting, IsGivenAt, WritesRun, RunIsWritten, laid_inside, laid_outside}
-use Rattle.qcow2_laws.proofs.Lemmas.{own_names, own_marks, own_data_of, in_one, tied, in_own, new_data_is_unnamed, marked_alone, storage_stays, known_covers, its_own, top_stays, data_is_written, named_some, size_stays, value_stays}
+use Rattle.qcow2_laws.proofs.Common.{fun_ext, cases_eq, cases_lt, div-add-mod', div-mul-add, mod_below, pow_pos, Bytes, byte_at, laid_over, cluster_size, cover, known_byte, in_cluster, named_for_tables, Zero, disk, with_values, GivenBytes, IsGiven, given_of, names, marks, named_in_either, SameCovers, SameIn, IsSameOutside, WritesAt, IsWritten, DriverState, StateInvariant, SafeStep, SameL1Table, IsDataAt, Hosting, InPlace, Kept, Held, IsHostedAt, IsHeld, is_private_hosting, IsGivenAt, WritesRun, RunIsWritten, laid_inside, laid_outside}
+use Rattle.qcow2_laws.proofs.Lemmas.{in_one, tied, in_own, new_data_is_unnamed, marked_alone, storage_stays, known_covers, its_own, top_stays, data_is_written, named_some, size_stays, value_stays}
 use Rattle.qcow2_laws.proofs.Shown.{Writes, shown_zero}
 use Rattle.qcow2_laws.proofs.Alike.{at_shown}
 
@@ -40,22 +40,10 @@ record IsOwnAt (s : DriverState) (o place : ℕ) : Type 0 where
 
 module _ (s : DriverState) (sound : StateInvariant s) (inside : s.header.incompatible ≡ 0) (o place : ℕ) where
   own_in_place : IsDataAt s.header s.known true o place → IsOwnAt s o place
-  own_in_place at = record {
-    host = at.0;
-    begins = at.2;
-    aligned = subst (CoverIsAligned s.header) at.1 (sound.known_aligned (o / cluster_size s.header));
-    named = λ c. ap (named_by_guest s.header c) at.1 ∙ own_names s.header c (Data at.0 true) (own_data_of s.header inside);
-    marked = ap (marked_by_guest s.header (at.0 / cluster_size s.header)) at.1 ∙ own_marks s.header (at.0 / cluster_size s.header) (Data at.0 true) (own_data_of s.header inside) ∙ in_own s.header at.0;
-  }
+  own_in_place at = grind arith
 
   own_kept : IsHostedAt s Kept o place → IsOwnAt s o place
-  own_kept at = record {
-    host = at.0;
-    begins = at.2;
-    aligned = subst (CoverIsAligned s.header) at.1 (sound.known_aligned (o / cluster_size s.header));
-    named = λ c. ap (named_by_guest s.header c) at.1 ∙ own_names s.header c (Zero (Some (at.0, true))) (own_data_of s.header inside);
-    marked = ap (marked_by_guest s.header (at.0 / cluster_size s.header)) at.1 ∙ own_marks s.header (at.0 / cluster_size s.header) (Zero (Some (at.0, true))) (own_data_of s.header inside) ∙ in_own s.header at.0;
-  }
+  own_kept at = grind arith
 
   -- it is held, or its own and given
   sorted : (given : List GivenBytes) (byte : ℕ) (k : Hosting) → IsHostedAt s k o place → IsGivenAt given k o byte
@@ -313,11 +301,7 @@ given_has offset bytes i lt = let e : i ≡ offset + i - offset = omega arith in
 module _ (s : DriverState) (on_storage' known' : Bytes) (sound : StateInvariant s) (inside : s.header.incompatible ≡ 0) (c : ℕ) (new_data : 0 < s.pending.new_data c) (outside : IsSameOutside (cluster_size s.header) c s.on_storage on_storage')
     (known_outside : IsSameOutside (cluster_size s.header) c s.known known') (agree : (o : ℕ) → s.on_storage o ≡ s.known o → on_storage' o ≡ known' o) where
   beyond : (o : ℕ) → (o < c * cluster_size s.header) ⊎ (c * cluster_size s.header + cluster_size s.header ≤ o) → o / cluster_size s.header ≢ c
-  beyond o out here =
-      let is : o / cluster_size s.header * cluster_size s.header + o % cluster_size s.header ≡ o = div-add-mod' o (cluster_size s.header) in
-      let same : o / cluster_size s.header * cluster_size s.header ≡ c * cluster_size s.header = ap (λ n. n * cluster_size s.header) here in
-      let below = mod_below o (cluster_size s.header) (pow_pos s.header.cluster_bits) in
-      elim out [ inl before ↦ absurd (omega arith) | inr past ↦ absurd (omega arith) ]
+  beyond o out here = grind (arith, pow_pos)
 
   writes_cluster : WritesAt (c * cluster_size s.header) (cluster_size s.header) s.on_storage s.known on_storage' known'
   writes_cluster = record { others = λ o out. outside o (beyond o out); known_others = λ o out. known_outside o (beyond o out); agree = agree }

@@ -1,14 +1,15 @@
 -- The header's pointer to a new reftable, with new refblocks, is written.
 use Rattle.std.proofs.Common.{◌≡◌, ◌+◌, ◌-◌, ◌*◌, ◌/◌, ◌%◌, ◌<◌, ◌≤◌, ◌≢◌, ℕ, [], refl, sym, ap, ◌∙◌, arith, inl, inr, subst}
-use Rattle.qcow2_laws.proofs.Common.{cases_eq, cases_lt, mod_below, Bytes, HeaderFields, cluster_size, counts_per_block, count_width, l1_entry, reftable_entry, count, count_under, block_count, host_offset, block_offset, L1EntryReads, ReftableEntryReads, cover, cover_under, in_cluster, in_run, table_in, named_for_tables, named_by_reftable, named_by_l1_table, IsAligned, Checkpoint, StopOkEverywhere, Direction, named_in_either, marked_by_l1_table, Pending, CrashInvariant, IsTop, SameTop, SameIn, renamed, IsUnnamed, with_places, KeepsCovers, WritesHeader, with_reftable_at, IsNewReftable}
+use Rattle.qcow2_laws.proofs.Common.{cases_eq, cases_lt, mod_below, Bytes, HeaderFields, cluster_size, counts_per_block, count_width, l1_entry, reftable_entry, count, count_under, block_count, host_offset, block_offset, L1EntryReads, ReftableEntryReads, cover, cover_under, in_cluster, in_run, table_in, named_for_tables, named_by_reftable, named_by_l1_table, IsAligned, SafeStep, Direction, named_in_either, marked_by_l1_table, Pending, CrashInvariant, IsTop, SameTop, IsSameOutside, renamed, IsUnnamed, with_places, KeepsCovers, WritesHeader, with_reftable_at, IsNewReftable}
 use Rattle.qcow2_laws.proofs.Sums.{sum_below-same}
 use Rattle.qcow2_laws.proofs.Places.{Sizes, Sizes-from, SameFrom-in, reftable-same, block_count-moved, count_in, count_none}
 use Rattle.qcow2_laws.proofs.Tops.{l1_marks-same}
 use Rattle.qcow2_laws.proofs.Consistency.{in_own}
 use Rattle.qcow2_laws.proofs.Writes.{new_tables_is_unnamed, unused_is_unnamed}
 use Rattle.qcow2_laws.proofs.Shares.{shares, in_reftable, reftable_has, block_has}
-use Rattle.qcow2_laws.proofs.Renaming.{tables_renamed, moved_kept, moved_known_kept}
-use Rattle.qcow2_laws.proofs.Headers.{header_sizes, header_fixed, header_same, header_known_same, header_l1, header_known_l1, header_reftable, header_known_reftable, header_covers, header_known_covers, header_counts, header_known_counts, header_elsewhere, header_unlaid, unnamed_elsewhere}
+use Rattle.qcow2_laws.proofs.Renaming.{tables_renamed, moved_step}
+use Rattle.qcow2_laws.proofs.SafeSteps.{state}
+use Rattle.qcow2_laws.proofs.Headers.{header_sizes, header_fixed, header_l1, header_known_l1, header_reftable, header_known_reftable, header_covers, header_known_covers, header_counts, header_known_counts, header_elsewhere, header_unlaid, unnamed_elsewhere}
 
 module _ (h : HeaderFields) (offset clusters : ℕ) (blocks counted : ℕ → ℕ) (d : Direction) (p : Pending) (on_storage known on_storage' known' : Bytes) (crash_invariant : CrashInvariant h d p on_storage known)
     (writes : WritesHeader h (with_reftable_at h offset clusters) on_storage known on_storage' known') (new : IsNewReftable h d p on_storage known offset clusters blocks counted) where
@@ -17,12 +18,6 @@ module _ (h : HeaderFields) (offset clusters : ℕ) (blocks counted : ℕ → �
 
   now_sizes : Sizes (with_places h (with_reftable_at h offset clusters))
   now_sizes = Sizes-from (with_places h (with_reftable_at h offset clusters)) on_storage' writes.reads
-
-  same : (c : ℕ) → c ≢ 0 → SameIn (cluster_size h) c on_storage on_storage'
-  same = header_same h (with_reftable_at h offset clusters) d p on_storage known on_storage' known' crash_invariant writes
-
-  known_same : (c : ℕ) → c ≢ 0 → SameIn (cluster_size h) c known known'
-  known_same = header_known_same h (with_reftable_at h offset clusters) d p on_storage known on_storage' known' crash_invariant writes
 
   known_block : (k : ℕ) → block_offset (reftable_entry h known k) ≡ block_offset (reftable_entry h on_storage k)
   known_block k = ap block_offset (sym (crash_invariant.same_top.reftable k))
@@ -42,17 +37,17 @@ module _ (h : HeaderFields) (offset clusters : ℕ) (blocks counted : ℕ → �
   others : (c : ℕ) → 0 < in_run h c offset (clusters * cluster_size h) + blocks c → c ≢ 0
   others c some = unnamed_elsewhere h (with_reftable_at h offset clusters) d p on_storage known on_storage' known' crash_invariant writes c (unnamed c some).no_table
 
-  stays : (b b' : Bytes) → ((c : ℕ) → c ≢ 0 → SameIn (cluster_size h) c b b') → (k : ℕ)
+  stays : (b b' : Bytes) → IsSameOutside (cluster_size h) 0 b b' → (k : ℕ)
       → reftable_entry (with_places h (with_reftable_at h offset clusters)) b k ≡ reftable_entry (with_places h (with_reftable_at h offset clusters)) b' k
   stays b b' alike k =
-      reftable-same (with_places h (with_reftable_at h offset clusters)) b b' k now_sizes new.aligned (λ lt.
-      alike _ (others _ (let one = reftable_has (with_places h (with_reftable_at h offset clusters)) k now_sizes new.aligned lt in omega arith)))
+      reftable-same (with_places h (with_reftable_at h offset clusters)) b b' k now_sizes new.aligned (λ lt o in_c.
+      alike o (λ e. others _ (let one = reftable_has (with_places h (with_reftable_at h offset clusters)) k now_sizes new.aligned lt in omega arith) (sym in_c ∙ e)))
 
   pub now_reftable : (k : ℕ) → reftable_entry (with_places h (with_reftable_at h offset clusters)) on_storage k ≡ reftable_entry (with_places h (with_reftable_at h offset clusters)) on_storage' k
-  now_reftable = stays on_storage on_storage' same
+  now_reftable = stays on_storage on_storage' writes.others
 
   now_known_reftable : (k : ℕ) → reftable_entry (with_places h (with_reftable_at h offset clusters)) on_storage k ≡ reftable_entry (with_places h (with_reftable_at h offset clusters)) known' k
-  now_known_reftable k = sym (new.known_same k) ∙ stays known known' known_same k
+  now_known_reftable k = sym (new.known_same k) ∙ stays known known' writes.known_others k
 
   -- a new refblock doesn't lie in the header's cluster
   block_elsewhere : (k : ℕ) → block_offset (reftable_entry (with_places h (with_reftable_at h offset clusters)) on_storage k) ≢ 0
@@ -74,7 +69,7 @@ module _ (h : HeaderFields) (offset clusters : ℕ) (blocks counted : ℕ → �
   unfolding count count_under
   count_of b c e is is' = ap (λ x. count_under h b x c) is' ∙ sym (ap (λ x. count_under h b x c) is)
 
-  count_anew : (b b' : Bytes) → ((c : ℕ) → c ≢ 0 → SameIn (cluster_size h) c b b') → (c : ℕ)
+  count_anew : (b b' : Bytes) → IsSameOutside (cluster_size h) 0 b b' → (c : ℕ)
       → reftable_entry (with_places h (with_reftable_at h offset clusters)) on_storage (c / counts_per_block h) ≡ reftable_entry (with_places h (with_reftable_at h offset clusters)) b' (c / counts_per_block h)
       → block_offset (reftable_entry (with_places h (with_reftable_at h offset clusters)) on_storage (c / counts_per_block h)) ≢ 0
       → block_count b (count_width h) (block_offset (reftable_entry (with_places h (with_reftable_at h offset clusters)) on_storage (c / counts_per_block h))) (c % counts_per_block h) ≡ counted c
@@ -85,7 +80,7 @@ module _ (h : HeaderFields) (offset clusters : ℕ) (blocks counted : ℕ → �
       count_in (with_places h (with_reftable_at h offset clusters)) b' c (λ none. real (at ∙ none))
       ∙ ap (λ t. block_count b' (count_width h) t (c % counts_per_block h)) (sym at)
       ∙ sym (block_count-moved h b b' place place (c % counts_per_block h) sizes (mod_below c (counts_per_block h) sizes.counts)
-      (SameFrom-in (cluster_size h) _ place b b' (alike (place / cluster_size h) (block_elsewhere (c / counts_per_block h) real)) (new.blocks_aligned (c / counts_per_block h)) refl))
+      (SameFrom-in (cluster_size h) _ place b b' (λ o in_c. alike o (λ e. block_elsewhere (c / counts_per_block h) real (sym in_c ∙ e))) (new.blocks_aligned (c / counts_per_block h)) refl))
       ∙ says
 
   not_anew : (c : ℕ) → block_offset (reftable_entry h on_storage (c / counts_per_block h)) ≢ 0 → counted c ≡ 0
@@ -104,7 +99,7 @@ module _ (h : HeaderFields) (offset clusters : ℕ) (blocks counted : ℕ → �
               | inl still ↦
                   let after = count_none (with_places h (with_reftable_at h offset clusters)) on_storage' c (ap block_offset (sym (now_reftable k)) ∙ still) in
                   elim (cases_lt 0 (counted c)) [ inl some ↦ absurd ((new.counted_anew c some).1 still) | inr zero ↦ omega arith ]
-              | inr real ↦ let after = count_anew on_storage on_storage' same c (now_reftable k) real (new.says c none real).0 in omega arith
+              | inr real ↦ let after = count_anew on_storage on_storage' writes.others c (now_reftable k) real (new.says c none real).0 in omega arith
             ]
         | inr real ↦
             let zero = not_anew c real in
@@ -123,7 +118,7 @@ module _ (h : HeaderFields) (offset clusters : ℕ) (blocks counted : ℕ → �
               | inl still ↦
                   let after = count_none (with_places h (with_reftable_at h offset clusters)) known' c (ap block_offset (sym (now_known_reftable k)) ∙ still) in
                   elim (cases_lt 0 (counted c)) [ inl some ↦ absurd ((new.counted_anew c some).1 still) | inr zero ↦ omega arith ]
-              | inr real ↦ let after = count_anew known known' known_same c (now_known_reftable k) real (new.says c none real).1 in omega arith
+              | inr real ↦ let after = count_anew known known' writes.known_others c (now_known_reftable k) real (new.says c none real).1 in omega arith
             ]
         | inr real ↦
             let zero = not_anew c real in
@@ -198,26 +193,18 @@ module _ (h : HeaderFields) (offset clusters : ℕ) (blocks counted : ℕ → �
       let le = new.counted_there c in
       omega arith
 
-  pub reftable_moved : CrashInvariant (with_places h (with_reftable_at h offset clusters)) d (renamed p (λ c. in_run h c offset (clusters * cluster_size h) + blocks c - counted c) (in_reftable h)) on_storage' known'
+  elsewhere : (o : ℕ) → 0 < named_in_either h on_storage known (o / cluster_size h) → o / cluster_size h ≢ 0
+  elsewhere o some = header_elsewhere h (with_reftable_at h offset clusters) d p on_storage known on_storage' known' crash_invariant writes o (omega arith)
+
+  pub reftable_moved : SafeStep (state h d p on_storage known)
+      (state (with_places h (with_reftable_at h offset clusters)) d (renamed p (λ c. in_run h c offset (clusters * cluster_size h) + blocks c - counted c) (in_reftable h)) on_storage' known') (λ _. []) []
   reftable_moved =
-      tables_renamed h (with_reftable_at h offset clusters) d p (renamed p (λ c. in_run h c offset (clusters * cluster_size h) + blocks c - counted c) (in_reftable h)) on_storage known on_storage' known' crash_invariant
+      moved_step h (with_reftable_at h offset clusters) d p (renamed p (λ c. in_run h c offset (clusters * cluster_size h) + blocks c - counted c) (in_reftable h)) on_storage known on_storage' known' crash_invariant
+      top_now same_top_now (omega arith) covers known_covers not_overlaid
+      (tables_renamed h (with_reftable_at h offset clusters) d p (renamed p (λ c. in_run h c offset (clusters * cluster_size h) + blocks c - counted c) (in_reftable h)) on_storage known on_storage' known' crash_invariant
       top_now same_top_now (omega arith) covers known_covers not_overlaid
       (λ c. in_run h c offset (clusters * cluster_size h) + blocks c - counted c) counted (in_reftable h) (λ c. (refl, refl, refl, refl, refl))
       (λ c. let one = new.once c in let le = new.counted_there c in omega arith) fixed_changed
       (λ c. let e = marks_too c ∙ sym (l1_marks-same h on_storage on_storage' c (header_l1 h (with_reftable_at h offset clusters) d p on_storage known on_storage' known' crash_invariant writes)) in omega arith)
-      counts known_counts (λ c some. let f = new.new_tables c (omega arith) in (f.0, f.1, new.written)) none_counted
-
-  elsewhere : (o : ℕ) → 0 < named_in_either h on_storage known (o / cluster_size h) → o / cluster_size h ≢ 0
-  elsewhere o some = header_elsewhere h (with_reftable_at h offset clusters) d p on_storage known on_storage' known' crash_invariant writes o (omega arith)
-
-  pub reftable_moved_kept : (backing : Bytes) (m : Checkpoint) → StopOkEverywhere backing m on_storage → StopOkEverywhere backing m on_storage'
-  reftable_moved_kept backing m kept =
-      moved_kept h (with_reftable_at h offset clusters) d p (renamed p (λ c. in_run h c offset (clusters * cluster_size h) + blocks c - counted c) (in_reftable h)) on_storage known on_storage' known' crash_invariant
-      top_now same_top_now (omega arith) covers known_covers not_overlaid reftable_moved
-      (λ o some. writes.others o (elsewhere o some)) (λ o some. writes.known_others o (elsewhere o some)) writes.rest backing m [] (inl refl) kept
-
-  pub reftable_moved_known_kept : (backing : Bytes) (m : Checkpoint) → StopOkEverywhere backing m known → StopOkEverywhere backing m known'
-  reftable_moved_known_kept backing m kept =
-      moved_known_kept h (with_reftable_at h offset clusters) d p (renamed p (λ c. in_run h c offset (clusters * cluster_size h) + blocks c - counted c) (in_reftable h)) on_storage known on_storage' known' crash_invariant
-      top_now same_top_now (omega arith) covers known_covers not_overlaid reftable_moved
-      (λ o some. writes.others o (elsewhere o some)) (λ o some. writes.known_others o (elsewhere o some)) writes.rest backing m [] (inl refl) kept
+      counts known_counts (λ c some. let f = new.new_tables c (omega arith) in (f.0, f.1, new.written)) none_counted)
+      (λ o some. writes.others o (elsewhere o some)) (λ o some. writes.known_others o (elsewhere o some)) writes.rest [] (inl refl)

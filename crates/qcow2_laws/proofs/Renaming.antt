@@ -1,6 +1,6 @@
 -- The header, the L1 table or the reftable changes, on the storage and in the known contents, and all guest clusters keep their mappings.
-use Rattle.std.proofs.Common.{◌≡◌, ◌+◌, ◌-◌, ◌*◌, ◌/◌, ◌<◌, ◌≤◌, ◌⊎◌, ℕ, List, [], refl, sym, ap, ◌∙◌, arith, inl, inr, subst, max}
-use Rattle.qcow2_laws.proofs.Common.{mul-le, Bytes, sum_below, HeaderFields, header, cluster_size, entries_per_cluster, count, cover, guest_value, value_under, named_for_tables, named_by_guest, CoverIsAligned, L2Mapping, Uncovered, disk, IsOfHeaderRest, IsAsked, Checkpoint, checkpoint_with, StopOkEverywhere, Direction, RbDependsOnL2, guests, over_guests, names, named_in_either, marked_by_guest, marked_by_l1_table, IsTop, SameTop, Pending, cluster, CrashInvariant, SameCovers, Places, with_places, KeepsCovers, kept_on}
+use Rattle.std.proofs.Common.{◌≡◌, ◌+◌, ◌-◌, ◌*◌, ◌/◌, ◌<◌, ◌≤◌, ◌⊎◌, ℕ, List, [], refl, sym, ap, ◌∙◌, arith, inl, inr, ⊎_elim, subst, max}
+use Rattle.qcow2_laws.proofs.Common.{mul-le, Bytes, sum_below, HeaderFields, header, cluster_size, entries_per_cluster, count, cover, guest_value, value_under, named_for_tables, named_by_guest, CoverIsAligned, L2Mapping, Uncovered, disk, IsOfHeaderRest, IsAsked, Direction, RbDependsOnL2, guests, over_guests, names, named_in_either, marked_by_guest, marked_by_l1_table, IsTop, SameTop, Pending, cluster, CrashInvariant, SafeStep, SameCovers, Places, with_places, KeepsCovers, kept_on}
 use Rattle.qcow2_laws.proofs.Clusters.{Good, rename}
 use Rattle.qcow2_laws.proofs.Sums.{sum_below-same, sum_below-longer}
 use Rattle.qcow2_laws.proofs.Places.{Sizes, Sizes-from}
@@ -11,6 +11,7 @@ use Rattle.qcow2_laws.proofs.Writes.{written_covers}
 use Rattle.qcow2_laws.proofs.Tops.{IsTop-top, rest_kept, from_start}
 use Rattle.qcow2_laws.proofs.Consistency.{crash_invariant_consistent, known_consistent, own_of_kept}
 use Rattle.qcow2_laws.proofs.Values.{shown, value_is, size_is}
+use Rattle.qcow2_laws.proofs.SafeSteps.{state}
 
 -- a sum over the guest clusters of a longer L1 table
 over_guests-longer : (h : HeaderFields) (a : Places) (f g : ℕ → ℕ) → h.l1_entries ≤ a.l1_entries → ((k : ℕ) → f k ≡ g k) → ((k : ℕ) → guests h ≤ k → f k ≡ 0)
@@ -135,36 +136,33 @@ module _ (h : HeaderFields) (a : Places) (d : Direction) (p p' : Pending) (on_st
       (storage_bytes : (o : ℕ) → 0 < named_in_either h on_storage known (o / cluster_size h) → on_storage o ≡ on_storage' o)
       (known_bytes : (o : ℕ) → 0 < named_in_either h on_storage known (o / cluster_size h) → known o ≡ known' o)
       (rest : (o : ℕ) → o < cluster_size h → IsOfHeaderRest h o → on_storage' o ≡ on_storage o)
-      (backing : Bytes) (m : Checkpoint) (asked : List ℕ) (size : (a.size ≡ h.size) ⊎ IsAsked asked a.size) where
+      (asked : List ℕ) (size : (a.size ≡ h.size) ⊎ IsAsked asked a.size) where
     in_sum : (b : Bytes) (c g : ℕ) → 0 < names h b c g → (names h b c g ≤ max (names h on_storage c g) (names h known c g)) → 0 < named_in_either h on_storage known c
     in_sum b c g some le = let sum = guest_le h (λ k. max (names h on_storage c k) (names h known c k)) g (names_within h b c g sizes some) in omega arith
 
-    size_too : (b b' : Bytes) → header b ≡ h → header b' ≡ with_places h a → ((disk b' backing).size ≡ (disk b backing).size) ⊎ IsAsked asked (disk b' backing).size
-    size_too b b' is is' =
+    size_too : (b b' backing : Bytes) → header b ≡ h → header b' ≡ with_places h a → ((disk b' backing).size ≡ (disk b backing).size) ⊎ IsAsked asked (disk b' backing).size
+    size_too b b' backing is is' =
         let e = size_is (with_places h a) b' backing is' in
-        ⊎-map (λ s. e ∙ s ∙ sym (size_is h b backing is)) (λ s. subst (λ n. IsAsked asked n) (sym e) s) size
-      where
-        ⊎-map : {A B C D : Type 0} → (A → C) → (B → D) → A ⊎ B → C ⊎ D
-        ⊎-map f g (inl x) = inl (f x)
-        ⊎-map f g (inr y) = inr (g y)
+        ⊎_elim (λ s. inl (e ∙ s ∙ sym (size_is h b backing is))) (λ s. inr (subst (λ n. IsAsked asked n) (sym e) s)) size
 
-    pub moved_kept : StopOkEverywhere backing m on_storage → StopOkEverywhere backing (checkpoint_with [] asked m) on_storage'
-    moved_kept kept =
-        let own = own_of_kept h backing m on_storage crash_invariant.top.header_is kept in
-        kept_on backing m [] asked on_storage on_storage' (crash_invariant_consistent (with_places h a) d p' on_storage' known' crash_invariant' own)
-        (rest_kept h (with_places h a) on_storage on_storage' crash_invariant.top.header_is top.header_is refl refl rest) (size_too on_storage on_storage' crash_invariant.top.header_is top.header_is)
-        (λ o. inl (value_is (with_places h a) on_storage' backing o top.header_is
-        ∙ sym (same_value own on_storage on_storage' backing covers crash_invariant.aligned (λ g place some. storage_bytes place (in_sum on_storage (place / cluster_size h) g some (omega arith))) o)
-        ∙ sym (value_is h on_storage backing o crash_invariant.top.header_is))) kept
-
-    pub moved_known_kept : StopOkEverywhere backing m known → StopOkEverywhere backing (checkpoint_with [] asked m) known'
-    moved_known_kept kept =
-        let was = (IsTop-top h on_storage known crash_invariant.same_top crash_invariant.top).header_is in
-        let own = own_of_kept h backing m known was kept in
-        let is = (IsTop-top (with_places h a) on_storage' known' same_top top).header_is in
-        kept_on backing m [] asked known known' (known_consistent (with_places h a) d p' on_storage' known' crash_invariant' own)
-        (rest_kept h (with_places h a) known known' was is refl refl (λ o lt of_rest.
-        sym (from_start (cluster_size h) on_storage' known' same_top.first_cluster o lt) ∙ rest o lt of_rest ∙ from_start (cluster_size h) on_storage known crash_invariant.same_top.first_cluster o lt)) (size_too known known' was is)
-        (λ o. inl (value_is (with_places h a) known' backing o is
-        ∙ sym (same_value own known known' backing known_covers crash_invariant.known_aligned (λ g place some. known_bytes place (in_sum known (place / cluster_size h) g some (omega arith))) o)
-        ∙ sym (value_is h known backing o was))) kept
+    pub moved_step : SafeStep (state h d p on_storage known) (state (with_places h a) d p' on_storage' known') (λ _. []) asked
+    moved_step = record {
+      sound = crash_invariant';
+      on_storage = λ backing m kept _.
+          let own = own_of_kept h backing m on_storage crash_invariant.top.header_is kept in
+          kept_on backing m [] asked on_storage on_storage' (crash_invariant_consistent (with_places h a) d p' on_storage' known' crash_invariant' own)
+          (rest_kept h (with_places h a) on_storage on_storage' crash_invariant.top.header_is top.header_is refl refl rest) (size_too on_storage on_storage' backing crash_invariant.top.header_is top.header_is)
+          (λ o. inl (value_is (with_places h a) on_storage' backing o top.header_is
+          ∙ sym (same_value own on_storage on_storage' backing covers crash_invariant.aligned (λ g place some. storage_bytes place (in_sum on_storage (place / cluster_size h) g some (omega arith))) o)
+          ∙ sym (value_is h on_storage backing o crash_invariant.top.header_is))) kept;
+      known = λ backing m _ kept.
+          let was = (IsTop-top h on_storage known crash_invariant.same_top crash_invariant.top).header_is in
+          let own = own_of_kept h backing m known was kept in
+          let is = (IsTop-top (with_places h a) on_storage' known' same_top top).header_is in
+          kept_on backing m [] asked known known' (known_consistent (with_places h a) d p' on_storage' known' crash_invariant' own)
+          (rest_kept h (with_places h a) known known' was is refl refl (λ o lt of_rest.
+          sym (from_start (cluster_size h) on_storage' known' same_top.first_cluster o lt) ∙ rest o lt of_rest ∙ from_start (cluster_size h) on_storage known crash_invariant.same_top.first_cluster o lt)) (size_too known known' backing was is)
+          (λ o. inl (value_is (with_places h a) known' backing o is
+          ∙ sym (same_value own known known' backing known_covers crash_invariant.known_aligned (λ g place some. known_bytes place (in_sum known (place / cluster_size h) g some (omega arith))) o)
+          ∙ sym (value_is h known backing o was))) kept;
+    }

@@ -1,6 +1,6 @@
 -- Steps one after another, and the moments of a storage on the way: a function for each elementary step, which gets the step's own fact whole.
-use Rattle.std.proofs.Common.{◌≡◌, ◌⊎◌, ◌++◌, inl, inr, ⊎_elim, ℕ, List, [], Result, sym, ◌∙◌, subst, append_assoc}
-use Rattle.qcow2_laws.proofs.Common.{overwritten, whole_or_nothing, passes_none, passes_on, passes_if, passes_change, Bytes, byte_at, Value, disk, GivenBytes, IsGiven, Checkpoint, checkpoint_with, StopOkEverywhere, SafeThroughout, LeavesKept, IsSafeAfter, L2Mapping, MapsInTurn, DriverState, StateInvariant, SafeStep, CountRises, CountFalls, EntryChanges, given_more, given_front, given_split, kept_more}
+use Rattle.std.proofs.Common.{◌≡◌, ◌⊎◌, ◌++◌, ⊎_elim, ℕ, List, [], Result, arith, sym, subst, append_assoc}
+use Rattle.qcow2_laws.proofs.Common.{HeaderFields, Direction, Pending, CrashInvariant, overwritten, whole_or_nothing, passes_none, passes_on, passes_if, passes_change, Bytes, byte_at, Value, disk, GivenBytes, IsGiven, Checkpoint, checkpoint_with, StopOkEverywhere, SafeThroughout, LeavesKept, IsSafeAfter, L2Mapping, MapsInTurn, DriverState, StateInvariant, SafeStep, CountRises, CountFalls, EntryChanges, given_more, given_front, given_split, kept_more}
 use Rattle.image_access.specs.declared.error.StorageError.{StorageError}
 use Rattle.image_access.specs.Moments.{StorageView, EachMomentSince, Calls, Changes, IsLeftBy}
 
@@ -9,13 +9,18 @@ abbrev pub both_given : (Bytes → List GivenBytes) → (Bytes → List GivenByt
 both_given first then backing = then backing ++ first backing
 
 pub more_twice : (gs hs : List GivenBytes) (ns ms : List ℕ) (m : Checkpoint) → checkpoint_with (hs ++ gs) (ms ++ ns) m ≡ checkpoint_with hs ms (checkpoint_with gs ns m)
-more_twice gs hs ns ms m =
-    let given : (hs ++ gs) ++ m.given ≡ hs ++ (gs ++ m.given) = append_assoc hs gs m.given in
-    let asked : (ms ++ ns) ++ m.asked ≡ ms ++ (ns ++ m.asked) = append_assoc ms ns m.asked in
-    λ i. record m { given = given i; asked = asked i }
+more_twice gs hs ns ms m = grind (arith, append_assoc)
+
+-- the state of these parts
+abbrev pub state : HeaderFields → Direction → Pending → Bytes → Bytes → DriverState
+state h d p on_storage known = record { header = h; direction = d; pending = p; on_storage = on_storage; known = known }
+
+-- the storage and the known contents stay
+pub safe_step_still : (s : DriverState) (d : Direction) (p : Pending) → CrashInvariant s.header d p s.on_storage s.known → SafeStep s (state s.header d p s.on_storage s.known) (λ _. []) []
+safe_step_still s d p sound = record { sound = sound; on_storage = λ backing m ok known_ok. ok; known = λ backing m ok known_ok. known_ok }
 
 pub safe_step_none : (s : DriverState) → StateInvariant s → SafeStep s s (λ _. []) []
-safe_step_none s sound = record { sound = sound; on_storage = λ backing m ok known_ok. ok; known = λ backing m ok known_ok. known_ok }
+safe_step_none s sound = safe_step_still s s.direction s.pending sound
 
 pub safe_step_then : (a b c : DriverState) (first then : Bytes → List GivenBytes) (asked asks : List ℕ) → SafeStep a b first asked → SafeStep b c then asks → SafeStep a c (both_given first then) (asks ++ asked)
 safe_step_then a b c first then asked asks one two = record {
@@ -143,21 +148,7 @@ steps_safe_throughout old mid new s s' first then asked asks is one safe_step tw
 
 kept_less : (backing : Bytes) (given fewer : List GivenBytes) (asked : List ℕ) (m : Checkpoint) (known b : Bytes) → ((o : ℕ) (v : Value) → IsGiven given o v → (v ≡ (disk known backing).value o) ⊎ IsGiven fewer o v)
     → StopOkEverywhere backing m known → StopOkEverywhere backing (checkpoint_with given asked m) b → StopOkEverywhere backing (checkpoint_with fewer asked m) b
-kept_less backing given fewer asked m known b within known_kept kept = record {
-  consistent = kept.consistent;
-  rest = kept.rest;
-  size = kept.size;
-  values = λ o. ⊎_elim (λ same. inl same)
-      (λ any. ⊎_elim
-      (λ g. ⊎_elim
-      (λ (e : (disk b backing).value o ≡ (disk known backing).value o). ⊎_elim (λ (l : (disk known backing).value o ≡ m.last.value o). inl (e ∙ l))
-      (λ (q : IsGiven m.given o ((disk known backing).value o)). inr (given_more fewer m.given o _ (subst (λ v. IsGiven m.given o v) (sym e) q))) (known_kept.values o))
-      (λ (f : IsGiven fewer o ((disk b backing).value o)). inr (given_front fewer m.given o _ f))
-      (within o _ g))
-      (λ q. inr (given_more fewer m.given o _ q))
-      (given_split given m.given o _ any))
-      (kept.values o);
-}
+kept_less backing given fewer asked m known b within known_kept kept = grind (arith, given_more, given_front, given_split)
 
 -- a step that gives only what is shown already, or is one of fewer gifts, gives those
 pub safe_step_less : (s s' : DriverState) (given fewer : Bytes → List GivenBytes) (asked : List ℕ) → ((backing : Bytes) (o : ℕ) (v : Value) → IsGiven (given backing) o v → (v ≡ (disk s.known backing).value o) ⊎ IsGiven (fewer backing) o v)

@@ -1,6 +1,6 @@
 -- What a cluster holds: the header, a part of the L1 table or of the reftable, a refblock or an L2 table. Changes of other bytes don't affect it.
 use Rattle.std.proofs.Common.{◌≡◌, ◌+◌, ◌-◌, ◌*◌, ◌/◌, ◌%◌, ◌<◌, ◌≤◌, ◌≢◌, ◌&&◌, ℕ, Bool, true, false, ltb, leb, refl, sym, ap, ◌∙◌, arith, subst}
-use Rattle.qcow2_laws.proofs.Common.{cond-true, le-leb, lt-ltb, and_from, div-add-mod', div-mul-add, mod_below, le-div, Bytes, SameFrom, one_if, HeaderFields, cluster_size, entries_per_cluster, reftable_entries, counts_per_block, l1_entry, reftable_entry, count, block_offset, cover, in_cluster, in_run, table_in, named_by_header, named_by_reftable, named_by_l1_table, named_for_tables, table_at, IsTop, SameTop, SameCovers, SameCounts, SameIn}
+use Rattle.qcow2_laws.proofs.Common.{cond-true, le-leb, lt-ltb, and_from, div-add-mod', div-mul-add, mod_below, le-div, Bytes, SameFrom, one_if, HeaderFields, cluster_size, entries_per_cluster, reftable_entries, counts_per_block, l1_entry, reftable_entry, count, block_offset, cover, in_cluster, in_run, table_in, named_by_header, named_by_reftable, named_by_l1_table, named_for_tables, table_at, IsTop, SameTop, SameCovers, SameCounts, SameIn, IsSameOutside}
 use Rattle.qcow2_laws.proofs.Sums.{term_le-sum_below, two_terms_le-sum_below}
 use Rattle.qcow2_laws.proofs.Places.{Sizes, Sizes-from, div_mono, SameFrom-in, l1-same, reftable-same, has_table, has_block, count-same, cover-same}
 use Rattle.qcow2_laws.proofs.Consistency.{in_own, table_in_own}
@@ -15,7 +15,7 @@ pub shares : (h : HeaderFields) (b : Bytes) (c : ℕ) → named_for_tables h b c
 unfolding named_for_tables named_by_header
 shares h b c = omega arith
 
-one_or_none : (t : Bool) → one_if t ≤ 1
+pub one_or_none : (t : Bool) → one_if t ≤ 1
 one_or_none true = omega arith
 one_or_none false = omega arith
 
@@ -120,121 +120,42 @@ module _ (h : HeaderFields) (b b' : Bytes) (top : IsTop h b) where
     pub counts_stay : SameCounts h b b'
     counts_stay c = count_stays c (top_stays.reftable _) (λ real. same _ (let s = shares h b (block_offset (reftable_entry h b (c / counts_per_block h)) / cluster_size h) in let one = block_has h b _ real in omega arith))
 
-  -- one cluster, in which an L2 table lies, may change
-  module _ (i0 : ℕ) (real : table_at h b i0 ≢ 0) (once : named_for_tables h b (table_at h b i0 / cluster_size h) ≤ 1)
-      (same : (c : ℕ) → c ≢ table_at h b i0 / cluster_size h → SameIn (cluster_size h) c b b') where
-    alone : (c : ℕ) → 0 < in_cluster h c 0 + in_l1 h c + in_reftable h c + named_by_reftable h b c → c ≢ table_at h b i0 / cluster_size h
-    alone c some e =
-        let here : 0 < in_cluster h (table_at h b i0 / cluster_size h) 0 + in_l1 h (table_at h b i0 / cluster_size h) + in_reftable h (table_at h b i0 / cluster_size h) + named_by_reftable h b (table_at h b i0 / cluster_size h) =
-        subst (λ n. 0 < in_cluster h n 0 + in_l1 h n + in_reftable h n + named_by_reftable h b n) e some in
-        let s = shares h b (table_at h b i0 / cluster_size h) in
-        let one = table_has h b i0 real in
-        absurd (omega arith)
+  -- one cluster, in which a table lies, may change: what has no part in it stays
+  module _ (c0 : ℕ) (once : named_for_tables h b c0 ≤ 1) (outside : IsSameOutside (cluster_size h) c0 b b') where
+    elsewhere : (part : ℕ → ℕ) → part c0 < named_for_tables h b c0 → (c : ℕ) → 0 < part c → SameIn (cluster_size h) c b b'
+    elsewhere part other c some o in_c = outside o (λ e. let here = subst (λ n. 0 < part n) (sym in_c ∙ e) some in omega arith)
 
-    pub table_top : SameTop h b b'
-    table_top = record {
-      first_cluster = first_stays (λ c some. same c (alone c (omega arith)));
-      l1 = l1_stays (λ c some. same c (alone c (omega arith)));
-      reftable = reftable_stays (λ c some. same c (alone c (omega arith)));
-    }
+    pub first_beside : in_cluster h c0 0 < named_for_tables h b c0 → SameFrom 0 (cluster_size h) b b'
+    first_beside other = first_stays (elsewhere (λ c. in_cluster h c 0) other)
 
-    pub table_counts : SameCounts h b b'
-    table_counts c = count_stays c (table_top.reftable _) (λ real_k. same _ (alone _ (let one = block_has h b _ real_k in omega arith)))
+    pub l1_beside : in_l1 h c0 < named_for_tables h b c0 → (i : ℕ) → l1_entry h b i ≡ l1_entry h b' i
+    l1_beside other = l1_stays (elsewhere (in_l1 h) other)
 
-    pub table_others : (g : ℕ) → g / entries_per_cluster h ≢ i0 → cover h b g ≡ cover h b' g
-    table_others g other = cover_stays g (table_top.l1 _) (λ real_g. same _ (λ e.
-        let two = two_tables h b (table_at h b i0 / cluster_size h) (g / entries_per_cluster h) i0 other real_g real e refl in
-        let s = shares h b (table_at h b i0 / cluster_size h) in
-        absurd (omega arith)))
+    pub reftable_beside : in_reftable h c0 < named_for_tables h b c0 → (k : ℕ) → reftable_entry h b k ≡ reftable_entry h b' k
+    reftable_beside other = reftable_stays (elsewhere (in_reftable h) other)
 
-  -- one cluster, in which a refblock lies, may change
-  module _ (k0 : ℕ) (real : block_offset (reftable_entry h b k0) ≢ 0) (once : named_for_tables h b (block_offset (reftable_entry h b k0) / cluster_size h) ≤ 1)
-      (same : (c : ℕ) → c ≢ block_offset (reftable_entry h b k0) / cluster_size h → SameIn (cluster_size h) c b b') where
-    alone_block : (c : ℕ) → 0 < in_cluster h c 0 + in_l1 h c + in_reftable h c + named_by_l1_table h b c → c ≢ block_offset (reftable_entry h b k0) / cluster_size h
-    alone_block c some e =
-        let here : 0 < in_cluster h (block_offset (reftable_entry h b k0) / cluster_size h) 0 + in_l1 h (block_offset (reftable_entry h b k0) / cluster_size h) + in_reftable h (block_offset (reftable_entry h b k0) / cluster_size h) + named_by_l1_table h b (block_offset (reftable_entry h b k0) / cluster_size h) =
-        subst (λ n. 0 < in_cluster h n 0 + in_l1 h n + in_reftable h n + named_by_l1_table h b n) e some in
-        let s = shares h b (block_offset (reftable_entry h b k0) / cluster_size h) in
-        let one = block_has h b k0 real in
-        absurd (omega arith)
+    pub cover_beside : named_by_l1_table h b c0 < named_for_tables h b c0 → (g : ℕ) → l1_entry h b (g / entries_per_cluster h) ≡ l1_entry h b' (g / entries_per_cluster h) → cover h b g ≡ cover h b' g
+    cover_beside other g entry = cover_stays g entry (λ real. elsewhere (named_by_l1_table h b) other _ (let one = table_has h b _ real in omega arith))
 
-    pub block_top : SameTop h b b'
-    block_top = record {
-      first_cluster = first_stays (λ c some. same c (alone_block c (omega arith)));
-      l1 = l1_stays (λ c some. same c (alone_block c (omega arith)));
-      reftable = reftable_stays (λ c some. same c (alone_block c (omega arith)));
-    }
+    pub count_beside : named_by_reftable h b c0 < named_for_tables h b c0 → (c : ℕ) → reftable_entry h b (c / counts_per_block h) ≡ reftable_entry h b' (c / counts_per_block h) → count h b c ≡ count h b' c
+    count_beside other c entry = count_stays c entry (λ real. elsewhere (named_by_reftable h b) other _ (let one = block_has h b _ real in omega arith))
 
-    pub block_covers : SameCovers h b b'
-    block_covers g = cover_stays g (block_top.l1 _) (λ real_g. same _ (alone_block _ (let one = table_has h b _ real_g in omega arith)))
+    -- an L2 table or a refblock lies in it
+    pub top_beside : in_cluster h c0 0 + in_l1 h c0 + in_reftable h c0 < named_for_tables h b c0 → SameTop h b b'
+    top_beside other = record { first_cluster = first_beside (omega arith); l1 = l1_beside (omega arith); reftable = reftable_beside (omega arith) }
 
-    pub block_others : (c : ℕ) → c / counts_per_block h ≢ k0 → count h b c ≡ count h b' c
-    block_others c other = count_stays c (block_top.reftable _) (λ real_c. same _ (λ e.
-        let two = two_blocks h b (block_offset (reftable_entry h b k0) / cluster_size h) (c / counts_per_block h) k0 other real_c real e refl in
-        let s = shares h b (block_offset (reftable_entry h b k0) / cluster_size h) in
-        absurd (omega arith)))
-
-  -- one cluster, in which a part of the L1 table lies, may change
-  module _ (c0 : ℕ) (part : 1 ≤ in_l1 h c0) (once : named_for_tables h b c0 ≤ 1) (same : (c : ℕ) → c ≢ c0 → SameIn (cluster_size h) c b b') where
-    alone_l1 : (c : ℕ) → 0 < in_cluster h c 0 + in_reftable h c + named_by_reftable h b c + named_by_l1_table h b c → c ≢ c0
-    alone_l1 c some e =
-        let here : 0 < in_cluster h c0 0 + in_reftable h c0 + named_by_reftable h b c0 + named_by_l1_table h b c0 =
-        subst (λ n. 0 < in_cluster h n 0 + in_reftable h n + named_by_reftable h b n + named_by_l1_table h b n) e some in
+    pub table_others : (i0 : ℕ) → table_at h b i0 ≢ 0 → table_at h b i0 / cluster_size h ≡ c0 → SameTop h b b' → (g : ℕ) → g / entries_per_cluster h ≢ i0 → cover h b g ≡ cover h b' g
+    table_others i0 real here top g other = cover_stays g (top.l1 _) (λ real_g o in_c. outside o (λ e.
+        let two = two_tables h b c0 (g / entries_per_cluster h) i0 other real_g real (sym in_c ∙ e) here in
         let s = shares h b c0 in
-        absurd (omega arith)
+        omega arith))
 
-    pub l1_first : SameFrom 0 (cluster_size h) b b'
-    l1_first = first_stays (λ c some. same c (alone_l1 c (omega arith)))
-
-    pub l1_reftable : (k : ℕ) → reftable_entry h b k ≡ reftable_entry h b' k
-    l1_reftable = reftable_stays (λ c some. same c (alone_l1 c (omega arith)))
-
-    pub l1_covers : (g : ℕ) → l1_entry h b (g / entries_per_cluster h) ≡ l1_entry h b' (g / entries_per_cluster h) → cover h b g ≡ cover h b' g
-    l1_covers g entry = cover_stays g entry (λ real. same _ (alone_l1 _ (let one = table_has h b _ real in omega arith)))
-
-    pub l1_counts : SameCounts h b b'
-    l1_counts c = count_stays c (l1_reftable _) (λ real. same _ (alone_l1 _ (let one = block_has h b _ real in omega arith)))
-
-  -- one cluster, in which a part of the reftable lies, may change
-  module _ (c0 : ℕ) (part : 1 ≤ in_reftable h c0) (once : named_for_tables h b c0 ≤ 1) (same : (c : ℕ) → c ≢ c0 → SameIn (cluster_size h) c b b') where
-    alone_reftable : (c : ℕ) → 0 < in_cluster h c 0 + in_l1 h c + named_by_reftable h b c + named_by_l1_table h b c → c ≢ c0
-    alone_reftable c some e =
-        let here : 0 < in_cluster h c0 0 + in_l1 h c0 + named_by_reftable h b c0 + named_by_l1_table h b c0 =
-        subst (λ n. 0 < in_cluster h n 0 + in_l1 h n + named_by_reftable h b n + named_by_l1_table h b n) e some in
+    pub block_others : (k0 : ℕ) → block_offset (reftable_entry h b k0) ≢ 0 → block_offset (reftable_entry h b k0) / cluster_size h ≡ c0 → SameTop h b b' → (c : ℕ) → c / counts_per_block h ≢ k0 → count h b c ≡ count h b' c
+    block_others k0 real here top c other = count_stays c (top.reftable _) (λ real_c o in_c. outside o (λ e.
+        let two = two_blocks h b c0 (c / counts_per_block h) k0 other real_c real (sym in_c ∙ e) here in
         let s = shares h b c0 in
-        absurd (omega arith)
+        omega arith))
 
-    pub reftable_first : SameFrom 0 (cluster_size h) b b'
-    reftable_first = first_stays (λ c some. same c (alone_reftable c (omega arith)))
-
-    pub reftable_l1 : (i : ℕ) → l1_entry h b i ≡ l1_entry h b' i
-    reftable_l1 = l1_stays (λ c some. same c (alone_reftable c (omega arith)))
-
-    pub reftable_covers : SameCovers h b b'
-    reftable_covers g = cover_stays g (reftable_l1 _) (λ real. same _ (alone_reftable _ (let one = table_has h b _ real in omega arith)))
-
-    pub reftable_counts : (c : ℕ) → reftable_entry h b (c / counts_per_block h) ≡ reftable_entry h b' (c / counts_per_block h) → count h b c ≡ count h b' c
-    reftable_counts c entry = count_stays c entry (λ real. same _ (alone_reftable _ (let one = block_has h b _ real in omega arith)))
-
-  -- the first cluster may change
-  module _ (once : named_for_tables h b 0 ≤ 1) (same : (c : ℕ) → c ≢ 0 → SameIn (cluster_size h) c b b') where
-    alone_first : (c : ℕ) → 0 < in_l1 h c + in_reftable h c + named_by_reftable h b c + named_by_l1_table h b c → c ≢ 0
-    alone_first c some e =
-        let here : 0 < in_l1 h 0 + in_reftable h 0 + named_by_reftable h b 0 + named_by_l1_table h b 0 =
-        subst (λ n. 0 < in_l1 h n + in_reftable h n + named_by_reftable h b n + named_by_l1_table h b n) e some in
-        let s = shares h b 0 in
-        let zero : 0 / cluster_size h ≡ 0 = let some_size = sizes.some in omega arith in
-        let one : in_cluster h 0 0 ≡ 1 = ap (λ n. in_cluster h n 0) (sym zero) ∙ in_own h 0 in
-        absurd (omega arith)
-
-    pub first_l1 : (i : ℕ) → l1_entry h b i ≡ l1_entry h b' i
-    first_l1 = l1_stays (λ c some. same c (alone_first c (omega arith)))
-
-    pub first_reftable : (k : ℕ) → reftable_entry h b k ≡ reftable_entry h b' k
-    first_reftable = reftable_stays (λ c some. same c (alone_first c (omega arith)))
-
-    pub first_covers : SameCovers h b b'
-    first_covers g = cover_stays g (first_l1 _) (λ real. same _ (alone_first _ (let one = table_has h b _ real in omega arith)))
-
-    pub first_counts : SameCounts h b b'
-    first_counts c = count_stays c (first_reftable _) (λ real. same _ (alone_first _ (let one = block_has h b _ real in omega arith)))
+  -- a part of the L1 table lies in it
+  pub l1_reftable : (c0 : ℕ) → 1 ≤ in_l1 h c0 → named_for_tables h b c0 ≤ 1 → ((c : ℕ) → c ≢ c0 → SameIn (cluster_size h) c b b') → (k : ℕ) → reftable_entry h b k ≡ reftable_entry h b' k
+  l1_reftable c0 part once same = reftable_beside c0 once (λ o other. same (o / cluster_size h) other o refl) (let s = shares h b c0 in omega arith)

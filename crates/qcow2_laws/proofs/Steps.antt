@@ -1,6 +1,6 @@
 -- Each step of the driver is a safe step.
-use Rattle.std.proofs.Common.{◌∷◌, ◌++◌, inl, inr, [], refl, sym, subst}
-use Rattle.qcow2_laws.proofs.Common.{header, L2DependsOnRb, RbDependsOnL2, CrashInvariant, one_at, with_new_data, with_new_tables, without_old_tables, without_old_data, stop_of_kept, kept_more}
+use Rattle.std.proofs.Common.{◌∷◌, ◌++◌, inl, inr, [], refl}
+use Rattle.qcow2_laws.proofs.Common.{header, one_at, with_new_data, with_new_tables, without_old_tables, without_old_data, new_data_to_old_data, new_data_to_old_tables, new_tables_to_old_tables, stop_of_kept, kept_more}
 use Rattle.qcow2_laws.specs.Laws.{SoundIsConsistent, MixIsSafe, TableIsWritten, CountIsChanged, PendingIsChanged, EntryIsChanged, DataIsWritten, TableIsNamed, HeaderIsWritten, StepsCompose}
 use Rattle.qcow2_laws.proofs.Mixes.{mixed_crash_invariant, turned_crash_invariant}
 use Rattle.qcow2_laws.proofs.Consistency.{crash_invariant_consistent, known_consistent}
@@ -8,14 +8,14 @@ use Rattle.qcow2_laws.proofs.Opened.{opened_crash_invariant}
 use Rattle.qcow2_laws.proofs.Values.{mixed_kept}
 use Rattle.qcow2_laws.proofs.Changes.{old_data_instead, old_tables_instead, never_named}
 use Rattle.qcow2_laws.proofs.Writes.{new_data_is_unnamed, new_tables_is_unnamed, unused_is_unnamed, written_crash_invariant, written_kept, written_known_kept}
-use Rattle.qcow2_laws.proofs.Blocks.{data_allocated, table_allocated, table_released, data_released, counts_kept, entry_set, entry_kept}
-use Rattle.qcow2_laws.proofs.NewTables.{l1_named, l1_named_kept, l1_named_known_kept}
-use Rattle.qcow2_laws.proofs.NewBlocks.{block_named, block_named_kept, block_named_known_kept, block_counts_itself, block_counts_itself_kept, block_counts_itself_known_kept}
-use Rattle.qcow2_laws.proofs.Headers.{size_written, size_written_kept, size_written_known_kept}
-use Rattle.qcow2_laws.proofs.L1Moves.{l1_moved, l1_moved_kept, l1_moved_known_kept}
-use Rattle.qcow2_laws.proofs.ReftableMoves.{reftable_moved, reftable_moved_kept, reftable_moved_known_kept}
+use Rattle.qcow2_laws.proofs.Blocks.{data_allocated, table_allocated, table_released, data_released, counts_step, entry_set, entry_kept}
+use Rattle.qcow2_laws.proofs.NewTables.{l1_named}
+use Rattle.qcow2_laws.proofs.NewBlocks.{block_named, block_counts_itself}
+use Rattle.qcow2_laws.proofs.Headers.{size_written}
+use Rattle.qcow2_laws.proofs.L1Moves.{l1_moved}
+use Rattle.qcow2_laws.proofs.ReftableMoves.{reftable_moved}
 use Rattle.qcow2_laws.proofs.Caches.{block_written, table_written}
-use Rattle.qcow2_laws.proofs.SafeSteps.{safe_step_then, safe_step_less}
+use Rattle.qcow2_laws.proofs.SafeSteps.{safe_step_still, safe_step_then, safe_step_less}
 
 pub sound_is_consistent : SoundIsConsistent
 sound_is_consistent = record {
@@ -31,11 +31,7 @@ mix_is_safe = record {
     on_storage = λ backing m ok known_ok. mixed_kept s.header s.direction s.pending s.on_storage s.known b sound mixed backing m ok known_ok;
     known = λ backing m ok known_ok. known_ok;
   };
-  turned = λ s to sound may. record {
-    sound = turned_crash_invariant s.header s.direction to s.pending s.on_storage s.known may sound;
-    on_storage = λ backing m ok known_ok. ok;
-    known = λ backing m ok known_ok. known_ok;
-  };
+  turned = λ s to sound may. safe_step_still s to s.pending (turned_crash_invariant s.header s.direction to s.pending s.on_storage s.known may sound);
 }
 
 pub table_is_written : TableIsWritten
@@ -46,53 +42,21 @@ table_is_written = record {
 
 pub count_is_changed : CountIsChanged
 count_is_changed = record {
-  data_allocated = λ s known' c sound is rises not_overlaid.
-      let now = data_allocated s.header s.direction s.pending s.on_storage s.known known' sound c rises.real rises.outside rises.more rises.free is not_overlaid in
-      record {
-        sound = subst (λ d. CrashInvariant s.header d (with_new_data s.pending (one_at c)) s.on_storage known') (sym is) now;
-        on_storage = λ backing m ok known_ok. ok;
-        known = λ backing m ok known_ok. counts_kept s.header s.direction s.pending s.on_storage s.known known' sound c rises.real rises.outside L2DependsOnRb (with_new_data s.pending (one_at c)) now backing m known_ok;
-      };
-  table_allocated = λ s known' c sound rises.
-      let now = table_allocated s.header s.direction s.pending s.on_storage s.known known' sound c rises.real rises.outside rises.more rises.free in
-      record {
-        sound = now;
-        on_storage = λ backing m ok known_ok. ok;
-        known = λ backing m ok known_ok. counts_kept s.header s.direction s.pending s.on_storage s.known known' sound c rises.real rises.outside s.direction (with_new_tables s.pending (one_at c)) now backing m known_ok;
-      };
-  table_freed = λ s known' c sound falls some.
-      let now = table_released s.header s.direction s.pending s.on_storage s.known known' sound c falls.real falls.outside falls.less some in
-      record {
-        sound = now;
-        on_storage = λ backing m ok known_ok. ok;
-        known = λ backing m ok known_ok. counts_kept s.header s.direction s.pending s.on_storage s.known known' sound c falls.real falls.outside s.direction (without_old_tables s.pending (one_at c)) now backing m known_ok;
-      };
-  data_freed = λ s known' c sound is falls some.
-      let now = data_released s.header s.direction s.pending s.on_storage s.known known' sound c falls.real falls.outside falls.less is some in
-      record {
-        sound = subst (λ d. CrashInvariant s.header d (without_old_data s.pending (one_at c)) s.on_storage known') (sym is) now;
-        on_storage = λ backing m ok known_ok. ok;
-        known = λ backing m ok known_ok. counts_kept s.header s.direction s.pending s.on_storage s.known known' sound c falls.real falls.outside RbDependsOnL2 (without_old_data s.pending (one_at c)) now backing m known_ok;
-      };
+  data_allocated = λ s known' c sound is rises not_overlaid. counts_step s.header s.direction s.pending s.on_storage s.known known' sound c rises.real rises.outside (with_new_data s.pending (one_at c))
+      (data_allocated s.header s.direction s.pending s.on_storage s.known known' sound c rises.real rises.outside rises.more rises.free is not_overlaid);
+  table_allocated = λ s known' c sound rises. counts_step s.header s.direction s.pending s.on_storage s.known known' sound c rises.real rises.outside (with_new_tables s.pending (one_at c))
+      (table_allocated s.header s.direction s.pending s.on_storage s.known known' sound c rises.real rises.outside rises.more rises.free);
+  table_freed = λ s known' c sound falls some. counts_step s.header s.direction s.pending s.on_storage s.known known' sound c falls.real falls.outside (without_old_tables s.pending (one_at c))
+      (table_released s.header s.direction s.pending s.on_storage s.known known' sound c falls.real falls.outside falls.less some);
+  data_freed = λ s known' c sound is falls some. counts_step s.header s.direction s.pending s.on_storage s.known known' sound c falls.real falls.outside (without_old_data s.pending (one_at c))
+      (data_released s.header s.direction s.pending s.on_storage s.known known' sound c falls.real falls.outside falls.less is some);
 }
 
 pub pending_is_changed : PendingIsChanged
 pending_is_changed = record {
-  old_data = λ s n sound few some. record {
-    sound = old_data_instead s.header s.direction s.pending s.on_storage s.known sound n few some;
-    on_storage = λ backing m ok known_ok. ok;
-    known = λ backing m ok known_ok. known_ok;
-  };
-  undone = λ s n sound few some. record {
-    sound = old_tables_instead s.header s.direction s.pending s.on_storage s.known sound n few some;
-    on_storage = λ backing m ok known_ok. ok;
-    known = λ backing m ok known_ok. known_ok;
-  };
-  abandoned = λ s n sound few some. record {
-    sound = never_named s.header s.direction s.pending s.on_storage s.known sound n few some;
-    on_storage = λ backing m ok known_ok. ok;
-    known = λ backing m ok known_ok. known_ok;
-  };
+  old_data = λ s n sound few some. safe_step_still s s.direction (new_data_to_old_data s.pending n) (old_data_instead s.header s.direction s.pending s.on_storage s.known sound n few some);
+  undone = λ s n sound few some. safe_step_still s s.direction (new_data_to_old_tables s.pending n) (old_tables_instead s.header s.direction s.pending s.on_storage s.known sound n few some);
+  abandoned = λ s n sound few some. safe_step_still s s.direction (new_tables_to_old_tables s.pending n) (never_named s.header s.direction s.pending s.on_storage s.known sound n few some);
 }
 
 pub entry_is_changed : EntryIsChanged
@@ -118,45 +82,18 @@ data_is_written = record {
 
 pub table_is_named : TableIsNamed
 table_is_named = record {
-  l2_table = λ s on_storage' known' i entry sound writes new. record {
-    sound = l1_named s.header s.direction s.pending s.on_storage s.known on_storage' known' sound i entry writes new;
-    on_storage = λ backing m ok known_ok. l1_named_kept s.header s.direction s.pending s.on_storage s.known on_storage' known' sound i entry writes new backing m ok;
-    known = λ backing m ok known_ok. l1_named_known_kept s.header s.direction s.pending s.on_storage s.known on_storage' known' sound i entry writes new backing m known_ok;
-  };
-  refblock = λ s on_storage' known' k entry sound writes new new_tables counted written. record {
-    sound = block_named s.header s.direction s.pending s.on_storage s.known on_storage' known' sound k entry writes new new_tables counted written;
-    on_storage = λ backing m ok known_ok. block_named_kept s.header s.direction s.pending s.on_storage s.known on_storage' known' sound k entry writes new new_tables counted written backing m ok;
-    known = λ backing m ok known_ok. block_named_known_kept s.header s.direction s.pending s.on_storage s.known on_storage' known' sound k entry writes new new_tables counted written backing m known_ok;
-  };
-  itself = λ s on_storage' known' k entry sound writes new range. record {
-    sound = block_counts_itself s.header s.direction s.pending s.on_storage s.known on_storage' known' sound k entry writes new range;
-    on_storage = λ backing m ok known_ok. block_counts_itself_kept s.header s.direction s.pending s.on_storage s.known on_storage' known' sound k entry writes new range backing m ok;
-    known = λ backing m ok known_ok. block_counts_itself_known_kept s.header s.direction s.pending s.on_storage s.known on_storage' known' sound k entry writes new range backing m known_ok;
-  };
+  l2_table = λ s on_storage' known' i entry sound writes new. l1_named s.header s.direction s.pending s.on_storage s.known on_storage' known' sound i entry writes new;
+  refblock = λ s on_storage' known' k entry sound writes new new_tables counted written. block_named s.header s.direction s.pending s.on_storage s.known on_storage' known' sound k entry writes new new_tables counted written;
+  itself = λ s on_storage' known' k entry sound writes new range. block_counts_itself s.header s.direction s.pending s.on_storage s.known on_storage' known' sound k entry writes new range;
 }
 
 pub header_is_written : HeaderIsWritten
 header_is_written = record {
-  size = λ s on_storage' known' size autoclear sound writes. record {
-    sound = size_written s.header size autoclear s.direction s.pending s.on_storage s.known on_storage' known' sound writes;
-    on_storage = λ backing m ok known_ok. size_written_kept s.header size autoclear s.direction s.pending s.on_storage s.known on_storage' known' sound writes backing m (size ∷ []) (inr (inl refl)) ok;
-    known = λ backing m ok known_ok. size_written_known_kept s.header size autoclear s.direction s.pending s.on_storage s.known on_storage' known' sound writes backing m (size ∷ []) (inr (inl refl)) known_ok;
-  };
-  same_size = λ s on_storage' known' autoclear sound writes. record {
-    sound = size_written s.header s.header.size autoclear s.direction s.pending s.on_storage s.known on_storage' known' sound writes;
-    on_storage = λ backing m ok known_ok. size_written_kept s.header s.header.size autoclear s.direction s.pending s.on_storage s.known on_storage' known' sound writes backing m [] (inl refl) ok;
-    known = λ backing m ok known_ok. size_written_known_kept s.header s.header.size autoclear s.direction s.pending s.on_storage s.known on_storage' known' sound writes backing m [] (inl refl) known_ok;
-  };
-  l1_table = λ s on_storage' known' offset entries sound writes new. record {
-    sound = l1_moved s.header offset entries s.direction s.pending s.on_storage s.known on_storage' known' sound writes new;
-    on_storage = λ backing m ok known_ok. l1_moved_kept s.header offset entries s.direction s.pending s.on_storage s.known on_storage' known' sound writes new backing m ok;
-    known = λ backing m ok known_ok. l1_moved_known_kept s.header offset entries s.direction s.pending s.on_storage s.known on_storage' known' sound writes new backing m known_ok;
-  };
-  reftable = λ s on_storage' known' offset clusters blocks counted sound writes new. record {
-    sound = reftable_moved s.header offset clusters blocks counted s.direction s.pending s.on_storage s.known on_storage' known' sound writes new;
-    on_storage = λ backing m ok known_ok. reftable_moved_kept s.header offset clusters blocks counted s.direction s.pending s.on_storage s.known on_storage' known' sound writes new backing m ok;
-    known = λ backing m ok known_ok. reftable_moved_known_kept s.header offset clusters blocks counted s.direction s.pending s.on_storage s.known on_storage' known' sound writes new backing m known_ok;
-  };
+  size = λ s on_storage' known' size autoclear sound writes. size_written s.header size autoclear s.direction s.pending s.on_storage s.known on_storage' known' sound writes (size ∷ []) (inr (inl refl));
+  same_size = λ s on_storage' known' autoclear sound writes. size_written s.header s.header.size autoclear s.direction s.pending s.on_storage s.known on_storage' known' sound writes [] (inl refl);
+  l1_table = λ s on_storage' known' offset entries sound writes new. l1_moved s.header offset entries s.direction s.pending s.on_storage s.known on_storage' known' sound writes new;
+  reftable = λ s on_storage' known' offset clusters blocks counted sound writes new.
+      reftable_moved s.header offset clusters blocks counted s.direction s.pending s.on_storage s.known on_storage' known' sound writes new;
 }
 
 pub steps_compose : StepsCompose

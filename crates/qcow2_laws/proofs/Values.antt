@@ -1,6 +1,6 @@
 -- Guest bytes stay the same if the mappings and the bytes that these refer to do.
 use Rattle.std.proofs.Common.{◌≡◌, ◌+◌, ◌-◌, ◌*◌, ◌/◌, ◌%◌, ◌<◌, ◌⊎◌, false, ℕ, List, [], refl, sym, ap, ◌∙◌, arith, inl, inr, subst, max}
-use Rattle.qcow2_laws.proofs.Common.{cond-true, le-leb, and_from, mod_below, pow_pos, Bytes, SameFrom, HeaderFields, header, cluster_size, has_data_file, cover, known_byte, compressed_byte, guest_value, value_under, bytes_of_sectors, in_cluster, named_by_cover, CoverIsAligned, IsConsistent, L2Mapping, Data, Zero, Compressed, Uncovered, disk, disk_with, GivenBytes, IsGiven, Checkpoint, checkpoint_with, StopOkEverywhere, Direction, names, Pending, CrashInvariant, IsMixed, kept_on, kept_either}
+use Rattle.qcow2_laws.proofs.Common.{cond-true, le-leb, and_from, mod_below, pow_pos, Bytes, SameFrom, HeaderFields, header, cluster_size, has_data_file, cover, known_byte, compressed_byte, guest_value, value_under, bytes_of_sectors, in_cluster, named_by_cover, CoverIsAligned, IsConsistent, L2Mapping, Data, Compressed, disk, disk_with, GivenBytes, IsGiven, Checkpoint, checkpoint_with, StopOkEverywhere, Direction, names, Pending, CrashInvariant, IsMixed, kept_on, kept_either}
 use Rattle.qcow2_laws.proofs.Places.{Sizes, Sizes-from, in_one, div_mono}
 use Rattle.qcow2_laws.proofs.Tops.{bytes_from-same, first_keeps_rest, IsTop-top}
 use Rattle.qcow2_laws.proofs.Guests.{guest_le, names_within, own_names, own_data_of}
@@ -13,7 +13,6 @@ pub shown : (h : HeaderFields) (b c backing : Bytes) (o : ℕ) (v : L2Mapping) �
 shown h b c backing o (Data host copied) aligned same =
     let inside = in_one (cluster_size h) host (o % cluster_size h) aligned (mod_below o (cluster_size h) (pow_pos h.cluster_bits)) in
     ap known_byte (same (host + o % cluster_size h) (let one : in_cluster h ((host + o % cluster_size h) / cluster_size h) host ≡ 1 = ap (λ n. in_cluster h n host) inside ∙ in_own h host in omega arith))
-shown h b c backing o (Zero kept) aligned same = refl
 shown h b c backing o (Compressed host sectors) aligned same =
     ap (λ bytes. compressed_byte bytes (o % cluster_size h)) (bytes_from-same b c host (bytes_of_sectors host sectors) (λ i lt.
     same (host + i) (
@@ -22,7 +21,7 @@ shown h b c backing o (Compressed host sectors) aligned same =
     let to = div_mono (host + i) ((host / 512 + sectors) * 512 - 1) (cluster_size h) some (omega arith) in
     let one = cond-true {A = ℕ} _ 1 0 (and_from _ _ (le-leb (host / cluster_size h) ((host + i) / cluster_size h) from) (le-leb ((host + i) / cluster_size h) (((host / 512 + sectors) * 512 - 1) / cluster_size h) to)) in
     omega (arith, one))))
-shown h b c backing o Uncovered aligned same = refl
+shown h b c backing o _ aligned same = refl
 
 pub guest_value-same : (h : HeaderFields) (b c backing : Bytes) (o : ℕ) → has_data_file h ≡ false → cover h b (o / cluster_size h) ≡ cover h c (o / cluster_size h)
     → CoverIsAligned h (cover h b (o / cluster_size h)) → ((place : ℕ) → 0 < names h b (place / cluster_size h) (o / cluster_size h) → b place ≡ c place)

@@ -1,11 +1,11 @@
 -- Writes to clusters without a table keep the invariant, and leave a stop as safe as before, with what they give.
 use Rattle.std.proofs.Common.{◌≡◌, ◌+◌, ◌*◌, ◌/◌, ◌%◌, ◌<◌, ◌≤◌, ◌⊎◌, false, ℕ, List, [], refl, sym, ap, ◌∙◌, arith, inl, inr, subst, max}
-use Rattle.qcow2_laws.proofs.Common.{cases_eq, cases_lt, div-add-mod', mod_below, mod-mul-add, pow_pos, Bytes, HeaderFields, cluster_size, has_data_file, count, cover, Value, known_byte, guest_value, value_under, named_for_tables, in_cluster, named_by_cover, named_by_guest, marked_by_cover, CoverIsAligned, L2Mapping, Data, Zero, Compressed, Uncovered, GivenBytes, IsGiven, Checkpoint, checkpoint_with, StopOkEverywhere, Direction, Neither, L2DependsOnRb, RbDependsOnL2, over_guests, names, marks, named_in_either, marked_by_guest, Pending, cluster, CrashInvariant, SameTop, SameCovers, SameCounts, SameIn, IsUnnamed, IsWritten}
+use Rattle.qcow2_laws.proofs.Common.{cases_eq, cases_lt, div-add-mod', mod_below, mod-mul-add, pow_pos, Bytes, HeaderFields, cluster_size, has_data_file, count, cover, known_byte, guest_value, value_under, named_for_tables, in_cluster, named_by_cover, named_by_guest, marked_by_cover, CoverIsAligned, L2Mapping, Data, Compressed, GivenBytes, IsGiven, Checkpoint, checkpoint_with, StopOkEverywhere, Direction, RbDependsOnL2, over_guests, names, marks, named_in_either, marked_by_guest, Pending, cluster, CrashInvariant, SameTop, SameCovers, SameCounts, SameIn, IsUnnamed, IsWritten}
 use Rattle.qcow2_laws.proofs.Clusters.{Good, Written, new_data_unnamed, new_tables_unnamed, unused_unnamed, named_once}
 use Rattle.qcow2_laws.proofs.Places.{Sizes, Sizes-from, in_one}
-use Rattle.qcow2_laws.proofs.Guests.{own_names, own_marks, own_data_of, over_guests-same, guest_le, two_guests_le, names_within, marks-le}
+use Rattle.qcow2_laws.proofs.Guests.{own_data_of, over_guests-same, guest_le, two_guests_le, names_within, marks-le}
 use Rattle.qcow2_laws.proofs.Tops.{SameTop-sym, SameTop-trans, for_tables-top, copied_l1_refs-top, IsTop-top}
-use Rattle.qcow2_laws.proofs.Mixes.{tied, good, as_known}
+use Rattle.qcow2_laws.proofs.Mixes.{tied, good}
 use Rattle.qcow2_laws.proofs.Consistency.{in_own, crash_invariant_consistent, known_consistent, own_of_kept}
 use Rattle.qcow2_laws.proofs.Shares.{top_stays, covers_stay, counts_stay}
 use Rattle.qcow2_laws.proofs.Values.{shown, kept_shown}
@@ -63,13 +63,7 @@ module _ (h : HeaderFields) (d : Direction) (p : Pending) (on_storage known : By
 
   -- where what is known of entries is on the storage, no mix has more
   pub written_covers : (d ≡ RbDependsOnL2 → SameCovers h on_storage known) → Written d (cluster h p on_storage known c)
-  written_covers = written d
-    where
-      written : (e : Direction) → (e ≡ RbDependsOnL2 → SameCovers h on_storage known) → Written e (cluster h p on_storage known c)
-      written Neither covers = tt
-      written L2DependsOnRb covers = tt
-      written RbDependsOnL2 covers =
-          (as_known h known on_storage (λ k. sym (covers refl k)) (named_by_guest h c), as_known h known on_storage (λ k. sym (covers refl k)) (marked_by_guest h c))
+  written_covers = grind arith
 
   -- a fresh cluster may still be named by an entry on the storage, unless L2 tables are written
   pub new_tables_is_unnamed : 0 < p.new_tables c → (d ≡ RbDependsOnL2 → SameCovers h on_storage known) → IsUnnamed h on_storage known c
@@ -110,27 +104,16 @@ shown_given h b b' backing o given (Data host copied) aligned each =
       | inl same ↦ inl (ap known_byte (sym same))
       | inr change ↦ elim (change.1 rest) [ inl same ↦ inl (ap known_byte (sym same)) | inr bytes_given ↦ inr bytes_given ]
     ]
-shown_given h b b' backing o given (Zero kept) aligned each = inl refl
 shown_given h b b' backing o given (Compressed host sectors) aligned each =
     inl (sym (shown h b b' backing o (Compressed host sectors) tt (λ place some. elim (each place some) [ inl same ↦ same | inr change ↦ absurd (omega (arith, change.0)) ])))
-shown_given h b b' backing o given Uncovered aligned each = inl refl
+shown_given h b b' backing o given _ aligned each = inl refl
 
 guest_given : (h : HeaderFields) (b b' backing : Bytes) (o : ℕ) (given : List GivenBytes) → has_data_file h ≡ false → cover h b (o / cluster_size h) ≡ cover h b' (o / cluster_size h) → CoverIsAligned h (cover h b (o / cluster_size h))
     → ((place : ℕ) → 0 < names h b (place / cluster_size h) (o / cluster_size h)
     → (b place ≡ b' place) ⊎ ((0 < marks h b (place / cluster_size h) (o / cluster_size h)) × (place % cluster_size h ≡ o % cluster_size h → (b place ≡ b' place) ⊎ IsGiven given o (known_byte (b' place)))))
     → (guest_value h b' b' backing o ≡ guest_value h b b backing o) ⊎ IsGiven given o (guest_value h b' b' backing o)
 unfolding guest_value
-guest_given h b b' backing o given own same aligned each =
-    let e : value_under h b' b' backing o (cover h b (o / cluster_size h)) ≡ value_under h b' b' backing o (cover h b' (o / cluster_size h)) = ap (λ v. value_under h b' b' backing o v) same in
-    elim (shown_given h b b' backing o given (cover h b (o / cluster_size h)) aligned (λ place some.
-    let v = cover h b (o / cluster_size h) in
-    elim (each place (let e = own_names h (place / cluster_size h) (cover h b (o / cluster_size h)) own in omega (arith, some, e))) [
-      | inl is ↦ inl is
-      | inr marked ↦ inr (let m = own_marks h (place / cluster_size h) (cover h b (o / cluster_size h)) own in omega (arith, marked.0, m), marked.1)
-    ])) [
-      | inl is ↦ inl (sym e ∙ is)
-      | inr bytes_given ↦ inr (subst (λ (v : Value). IsGiven given o v) e bytes_given)
-    ]
+guest_given h b b' backing o given own same aligned each = grind (arith, shown_given)
 
 -- ---- a write of data
 module _ (h : HeaderFields) (d : Direction) (p : Pending) (on_storage known on_storage' known' : Bytes) (given : List GivenBytes) (crash_invariant : CrashInvariant h d p on_storage known)
@@ -189,10 +172,7 @@ module _ (h : HeaderFields) (d : Direction) (p : Pending) (on_storage known on_s
 
   -- what was given for a guest cluster that has the place to itself
   given_at : (place o g : ℕ) → g ≡ o / cluster_size h → place % cluster_size h ≡ o % cluster_size h → IsGiven given (g * cluster_size h + place % cluster_size h) (known_byte (known' place)) → IsGiven given o (known_byte (known' place))
-  given_at place o g here rest bytes_given =
-      let is : o / cluster_size h * cluster_size h + o % cluster_size h ≡ o = div-add-mod' o (cluster_size h) in
-      let e : g * cluster_size h + place % cluster_size h ≡ o = ap (λ n. n * cluster_size h + place % cluster_size h) here ∙ ap (λ n. o / cluster_size h * cluster_size h + n) rest ∙ is in
-      subst (λ n. IsGiven given n (known_byte (known' place))) e bytes_given
+  given_at place o g here rest bytes_given = grind (arith, div-add-mod')
 
   storage_place : (o place : ℕ) → 0 < names h on_storage (place / cluster_size h) (o / cluster_size h)
       → (on_storage place ≡ on_storage' place) ⊎ ((0 < marks h on_storage (place / cluster_size h) (o / cluster_size h)) × (place % cluster_size h ≡ o % cluster_size h → (on_storage place ≡ on_storage' place) ⊎ IsGiven given o (known_byte (on_storage' place))))

@@ -1,6 +1,6 @@
 -- Tables of entries of 64 bits.
 use Rattle.std.proofs.Common.{◌≡◌, ◌+◌, ◌-◌, ◌*◌, ◌/◌, ◌%◌, ◌^◌, ◌≤◌, ◌++◌, if◌then◌else◌, ℕ, inl, inr, subst, lit<, List, [], Option, nat_lt, length, replicate, refl, sym, ap, ◌∙◌, arith}
-use Rattle.qcow2_metadata.proofs.Common.{bit_and, drop-replicate, get_or_append_left, get_or-append_right, length-replicate, nil_from_length, cases_eq, cases_lt, cond-false, cond-true, le-ltb, lt-ltb, and_block, and_le_l, and_mask, mod_below, pow-add, shr_split, bytes_at, overwritten, byte_at_past, length-bytes_at, put_mid-overwritten, byte_at, number_at, HeaderFields, reftable_entries, l1_entry, l2_entry, reftable_entry, L1EntryReads, ReftableEntryReads, entry_at, ChangesEntry, EntryTableView, EachReads, HasRoomIfPlaced, IsClear, IsL1TableOf, IsReasonNotToLoad, IsRefTableOf, NamesL1Table, NamesRefTable, PassesLimit, SomeUnread, MetadataError, Storage, Memory, Version, Unaligned, Limit, Format}
+use Rattle.qcow2_metadata.proofs.Common.{bit_and, drop-replicate, get_or_append_left, get_or-append_right, length-replicate, nil_from_length, and_block, and_le_l, and_mask, mod_below, pow-add, shr_split, bytes_at, overwritten, byte_at_past, length-bytes_at, put_mid-overwritten, byte_at, number_at, HeaderFields, reftable_entries, l1_entry, l2_entry, reftable_entry, L1EntryReads, ReftableEntryReads, entry_at, ChangesEntry, EntryTableView, EachReads, HasRoomIfPlaced, IsClear, IsL1TableOf, IsReasonNotToLoad, IsRefTableOf, NamesL1Table, NamesRefTable, PassesLimit, SomeUnread, MetadataError, Limit, Format}
 use Rattle.qcow2_metadata.proofs.TableEntries.{byte_at-zeros, entry_at-loaded, entry_at-zeros, number_at-moved, number_at-zeros}
 
 -- past its end a table has no entry
@@ -62,35 +62,22 @@ EachReads-zeros Reads none n = λ i. subst Reads (sym (entry_at-zeros n i)) none
 
 pub entry_at-grown : (bytes : List ℕ) (n i : ℕ) → entry_at (bytes ++ replicate n 0) i ≡ entry_at bytes i
 unfolding l2_entry
-entry_at-grown bytes n i =
-    number_at-moved _ _ (0 + 8 * i) (0 + 8 * i) 8 (λ k lt. elim (cases_lt (0 + 8 * i + k) (length bytes)) [
-      | inl within ↦ get_or_append_left bytes (replicate n 0) 0 (0 + 8 * i + k) within
-      | inr past ↦
-          get_or-append_right bytes (replicate n 0) (length bytes) (0 + 8 * i + k) 0 refl past
-          ∙ byte_at-zeros n (0 + 8 * i + k - length bytes)
-          ∙ sym (byte_at_past bytes (0 + 8 * i + k) past)
-    ])
+entry_at-grown bytes n i = grind (arith, get_or_append_left, get_or-append_right, byte_at-zeros, byte_at_past)
 
 pub EachReads-grown : (Reads : ℕ → Type 0) (bytes : List ℕ) (n : ℕ) → EachReads Reads bytes → EachReads Reads (bytes ++ replicate n 0)
 EachReads-grown Reads bytes n reads = λ i. subst Reads (sym (entry_at-grown bytes n i)) (reads i)
 
 pub EachReads-set : (Reads : ℕ → Type 0) (old new : List ℕ) (i entry : ℕ) → ChangesEntry old new i entry → Reads entry → EachReads Reads old → EachReads Reads new
-EachReads-set Reads old new i entry changes here reads = λ j. elim (cases_eq j i) [
-  | inl same ↦ subst Reads (sym (ap (entry_at new) same ∙ changes.entry_is)) here
-  | inr apart ↦ subst Reads (sym (changes.others j apart)) (reads j)
-]
+EachReads-set Reads old new i entry changes here reads = grind arith
 
 -- ---- why a table isn't loaded
 
 -- an entry with a reserved bit is one that doesn't read
 pub IsReasonNotToLoad-reads : (Reads Clear : ℕ → Type 0) (bytes : List ℕ) (passes passes' honest : Type 0) (e : MetadataError) → (passes → passes') → ((entry : ℕ) → Reads entry → Clear entry)
     → IsReasonNotToLoad passes (honest → SomeUnread Clear bytes) e → IsReasonNotToLoad passes' (honest → SomeUnread Reads bytes) e
-IsReasonNotToLoad-reads Reads Clear bytes passes passes' honest (Storage _) so clear why = why
-IsReasonNotToLoad-reads Reads Clear bytes passes passes' honest Memory so clear why = why
 IsReasonNotToLoad-reads Reads Clear bytes passes passes' honest Limit so clear why = so why
 IsReasonNotToLoad-reads Reads Clear bytes passes passes' honest Format so clear why = λ h. let some = why h in (some.0, some.1, λ reads. some.2 (clear _ reads))
-IsReasonNotToLoad-reads Reads Clear bytes passes passes' honest Version so clear why = why
-IsReasonNotToLoad-reads Reads Clear bytes passes passes' honest Unaligned so clear why = why
+IsReasonNotToLoad-reads Reads Clear bytes passes passes' honest _ so clear why = why
 
 -- what passes the limit by where it begins passes it by where it ends
 pub passes_further : (greatest bits n cluster entries : ℕ) → PassesLimit greatest bits 0 cluster entries → PassesLimit greatest bits n cluster entries
@@ -101,10 +88,7 @@ passes_further greatest bits n cluster entries passes = elim passes [ inl many �
 -- each entry is that at its place in the file, and past the end there is none
 loaded : (contents : List ℕ) (at n : ℕ) (bytes : List ℕ) → bytes ≡ bytes_at contents at (8 * n) → (i : ℕ) → entry_at bytes i ≡ (if nat_lt i n then number_at (byte_at contents) (at + 8 * i) 8 else 0)
 unfolding l2_entry
-loaded contents at n bytes is i = ap (λ (l : List ℕ). entry_at l i) is ∙ elim (cases_lt i n) [
-  | inl within ↦ entry_at-loaded contents at (8 * n) i (omega arith) ∙ sym (cond-true _ _ _ (lt-ltb i n within))
-  | inr past ↦ entry_at_past _ i (omega (arith, length-bytes_at contents at (8 * n))) ∙ sym (cond-false _ _ _ (le-ltb i n past))
-]
+loaded contents at n bytes is i = grind (arith, entry_at-loaded, entry_at_past, length-bytes_at)
 
 pub l1_entries-loaded : (h : HeaderFields) (contents bytes : List ℕ) → bytes ≡ bytes_at contents h.l1_offset (8 * h.l1_entries)
     → (i : ℕ) → entry_at bytes i ≡ l1_entry h (byte_at contents) i

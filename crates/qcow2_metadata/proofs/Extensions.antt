@@ -1,5 +1,5 @@
 -- A walk over the extensions of a header.
-use Rattle.std.proofs.Common.{◌≡◌, ◌≢◌, ◌+◌, ◌<◌, ◌≤◌, ◌==◌, ◌∷◌, if◌then◌else◌, ℕ, Bool, true, false, List, [], length, get_or, take, drop, Option, Some, None, refl, sym, ap, ◌∙◌, subst, ⊎_elim, arith}
+use Rattle.std.proofs.Common.{◌≡◌, ◌≢◌, ◌+◌, ◌<◌, ◌≤◌, ◌∷◌, ℕ, List, [], length, get_or, take, drop, Option, Some, None, refl, sym, ap, ◌∙◌, subst, ⊎_elim, arith}
 use Rattle.qcow2_metadata.proofs.Common.{length-take, length-drop, get_or-take, get_or-drop, ext_get_or, length-map-range_with_len, get_or-map-range_with_len, Bytes, byte_at, bytes_from, number_at, IsUtf8, IsExtension, AreExtensions, ExtensionsRead, IsNameKind, behind_extension, first_of_kind, backing_format_kind, data_file_kind, first_so_far, AreNamed}
 
 -- no extension and no end begins where less than eight bytes are left
@@ -24,16 +24,7 @@ bytes_from-part bytes part place n is fits =
 -- what a step of the walk found is an extension
 pub found : (bytes : List ℕ) (place kind n m : ℕ) → kind ≢ 0 → kind ≡ number_at (byte_at bytes) place 4 → n ≡ number_at (byte_at bytes) (place + 4) 4 → m ≡ n → place + 8 + n ≤ length bytes
     → IsExtension (byte_at bytes) (length bytes) place (kind, take m (drop (place + 8) bytes))
-found bytes place kind n m some is_kind is_size same fits =
-    let part : List ℕ = take m (drop (place + 8) bytes) in
-    let len : length part ≡ n = omega (arith, length-take m (drop (place + 8) bytes), length-drop (place + 8) bytes) in
-    record {
-      not_the_end = some;
-      kind = sym is_kind;
-      size = sym is_size ∙ sym len;
-      bytes = bytes_from-part bytes part (place + 8) m refl (omega arith);
-      inside = omega arith;
-    }
+found bytes place kind n m some is_kind is_size same fits = grind (arith, length-take, length-drop, bytes_from-part)
 
 -- what was read from the start up to a place: extensions from there on complete it, and none else do
 pub record IsReadSoFar (b : Bytes) (limit start place : ℕ) (format data_file : Option (List ℕ)) : Type 0 where
@@ -46,10 +37,7 @@ pub record IsReadSoFar (b : Bytes) (limit start place : ℕ) (format data_file :
 more_so_far : (kind : ℕ) (so_far name : Option (List ℕ)) (e : ℕ × List ℕ) (rest : List (ℕ × List ℕ))
     → name ≡ first_so_far kind so_far (e ∷ []) → first_so_far kind so_far (e ∷ rest) ≡ first_so_far kind name rest
 more_so_far kind (Some x) name e rest is = sym (ap (λ n. first_so_far kind n rest) is)
-more_so_far kind None name e rest is = of_test (e.0 == kind) is where
-  of_test : (is_kind : Bool) → name ≡ (if is_kind then Some e.1 else None) → (if is_kind then Some e.1 else first_of_kind kind rest) ≡ first_so_far kind name rest
-  of_test true same = sym (ap (λ n. first_so_far kind n rest) same)
-  of_test false same = sym (ap (λ n. first_so_far kind n rest) same)
+more_so_far kind None name e rest is = grind arith
 
 -- The extensions from a place on begin with the one that was found there.
 rest_of : (b : Bytes) (limit place : ℕ) (e : ℕ × List ℕ) → IsExtension b limit place e → ExtensionsRead b limit place

@@ -18,15 +18,8 @@ all_ones b place (suc n) fits is k lt =
 
 -- a bit of 255 is 1
 bit_of_ones : (s : ℕ) → s < 8 → 255 / 2 ^ s % 2 ≡ 1
-bit_of_ones zero lt = refl
-bit_of_ones (suc zero) lt = refl
-bit_of_ones (suc (suc zero)) lt = refl
-bit_of_ones (suc (suc (suc zero))) lt = refl
-bit_of_ones (suc (suc (suc (suc zero)))) lt = refl
-bit_of_ones (suc (suc (suc (suc (suc zero))))) lt = refl
-bit_of_ones (suc (suc (suc (suc (suc (suc zero)))))) lt = refl
-bit_of_ones (suc (suc (suc (suc (suc (suc (suc zero))))))) lt = refl
 bit_of_ones (suc (suc (suc (suc (suc (suc (suc (suc n)))))))) lt = absurd (omega arith)
+bit_of_ones _ lt = refl
 
 -- eight bytes that spell the greatest number are 64 one-bit counts of 1
 pub ones_counted : (bytes : List ℕ) (index : ℕ) → ((k : ℕ) → byte_at bytes k < 256) → index % 64 ≡ 0 → number_at (byte_at bytes) (index / 8) 8 ≡ 2 ^ 64 - 1

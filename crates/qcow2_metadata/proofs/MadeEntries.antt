@@ -1,6 +1,6 @@
 -- The meaning of entries that are encoded here.
 use Rattle.std.proofs.Common.{◌≡◌, ◌+◌, ◌-◌, ◌*◌, ◌/◌, ◌%◌, ◌^◌, ◌<◌, ◌≤◌, ◌&&◌, ◌||◌, if◌then◌else◌, ℕ, Bool, true, false, not, eqb, Option, Some, None, refl, sym, ap, ◌∙◌, arith, inl, inr, lit<, mul_assoc, mul-pos, IfSome}
-use Rattle.qcow2_metadata.proofs.Common.{IsTrue, bit_or, cases_eq, eq-eqb, ne_eqb, cond-true, cond-false, and_right, or_shifted, pow-add, pow_pos, has_bit, host_offset, is_copied, cover_of, has_host, entry_at, ChangesEntry, L2TableView, cover_at, IsEntryHost, copied_entry, zero_entry, zero_cover, copied_host, Data, Zero, Compressed, Uncovered}
+use Rattle.qcow2_metadata.proofs.Common.{IsTrue, bit_or, cases_eq, ne_eqb, or_shifted, pow-add, pow_pos, has_bit, host_offset, is_copied, cover_of, has_host, entry_at, ChangesEntry, L2TableView, cover_at, IsEntryHost, copied_entry, zero_entry, zero_cover, copied_host, Data, Zero, Compressed, Uncovered}
 use Rattle.qcow2_metadata.specs.L2Mapping.{greatest_offset}
 
 or_true : (b : Bool) → b || true ≡ true
@@ -17,35 +17,16 @@ there_is false host there = or_left (not (eqb host 0)) (false && true) (ap not (
 
 -- an entry with a host offset that is marked copied, and with the zero bit or without
 module _ (external : Bool) (host checkpoint : ℕ) (is : IsEntryHost external host) (small : checkpoint ≤ 1) where
-  bit_62 : has_bit (2 ^ 63 + host + checkpoint) 62 ≡ false
-  bit_62 = ne_eqb _ _ (λ one. omega (arith, one, is.near, is.whole))
-
-  bit_63 : has_bit (2 ^ 63 + host + checkpoint) 63 ≡ true
-  bit_63 = eq-eqb _ _ (omega (arith, is.near, is.whole))
-
   offset_is : host_offset (2 ^ 63 + host + checkpoint) ≡ host
   offset_is = omega (arith, is.near, is.whole)
 
-  has_one : has_host external (2 ^ 63 + host + checkpoint) ≡ true
-  has_one =
-      ap (λ n. not (eqb n 0) || (external && has_bit (2 ^ 63 + host + checkpoint) 63)) offset_is
-      ∙ ap (λ b. not (eqb host 0) || (external && b)) bit_63 ∙ there_is external host is.there
-
   data_cover : (bits : ℕ) (has_zero : Bool) → checkpoint ≡ 0 → cover_of bits has_zero external (2 ^ 63 + host + checkpoint) ≡ Data host true
   unfolding cover_of
-  data_cover bits has_zero none =
-      cond-false _ _ _ bit_62
-      ∙ cond-false _ _ _ (and_right has_zero (has_bit (2 ^ 63 + host + checkpoint) 0) (ne_eqb _ _ (λ one. omega (arith, one, none, is.whole))))
-      ∙ cond-true _ _ _ has_one
-      ∙ ap (λ h. Data h (has_bit (2 ^ 63 + host + checkpoint) 63)) offset_is ∙ ap (λ b. Data host b) bit_63
+  data_cover bits has_zero none = grind arith
 
   kept_cover : (bits : ℕ) → checkpoint ≡ 1 → cover_of bits true external (2 ^ 63 + host + checkpoint) ≡ Zero (Some (host, true))
   unfolding cover_of
-  kept_cover bits one =
-      cond-false _ _ _ bit_62
-      ∙ cond-true _ _ _ (eq-eqb ((2 ^ 63 + host + checkpoint) / 1 % 2) 1 (omega (arith, one, is.whole)))
-      ∙ ap Zero (cond-true _ _ _ has_one)
-      ∙ ap (λ h. Zero (Some (h, has_bit (2 ^ 63 + host + checkpoint) 63))) offset_is ∙ ap (λ b. Zero (Some (host, b))) bit_63
+  kept_cover bits one = grind arith
 
 pub cover_of-copied_entry : (bits : ℕ) (has_zero external : Bool) (host : ℕ) → IsEntryHost external host → cover_of bits has_zero external (copied_entry host) ≡ Data host true
 cover_of-copied_entry bits has_zero external host is =
@@ -68,30 +49,15 @@ pub cover_of-zero_entry : (bits : ℕ) (external : Bool) (kept : Option ℕ) →
 cover_of-zero_entry bits external None is = cover_of-1 bits external
 cover_of-zero_entry bits external (Some host) is = kept_cover external host 1 is (omega arith) bits refl
 
-external_of : (external b : Bool) (n : ℕ) → n ≡ 0 → not (eqb n 0) || (external && b) ≡ true → external ≡ true
-external_of true b n none has = refl
-external_of false b n none has =
-    let zero : eqb n 0 ≡ true = eq-eqb n 0 none in
-    let no : not true || false ≡ true = ap (λ z. not z || false) (sym zero) ∙ has in
-    cc
-
 -- the host offset of an entry that has one
 host_of : (entry : ℕ) (external : Bool) → has_host external entry ≡ true → IsEntryHost external (host_offset entry)
-host_of entry external has = record {
-  near = omega arith;
-  whole = omega arith;
-  there = λ none. external_of external (is_copied entry) (host_offset entry) none has;
-}
+host_of entry external has = grind arith
 
 copied_in : (c z there copied : Bool) (place sectors host : ℕ)
     → IfSome (copied_host (if c then Compressed place sectors else if z then Zero (if there then Some (host, copied) else None) else if there then Data host copied else Uncovered)) (λ h. (h ≡ host) × (there ≡ true))
-copied_in true z there copied place sectors host = tt
 copied_in false true true true place sectors host = (refl, refl)
-copied_in false true true false place sectors host = tt
-copied_in false true false copied place sectors host = tt
 copied_in false false true true place sectors host = (refl, refl)
-copied_in false false true false place sectors host = tt
-copied_in false false false copied place sectors host = tt
+copied_in _ _ _ _ place sectors host = tt
 
 at_host : (kept : Option ℕ) (entry : ℕ) (external : Bool) → IfSome kept (λ h. (h ≡ host_offset entry) × (has_host external entry ≡ true)) → IfSome kept (IsEntryHost external)
 at_host None entry external is = tt

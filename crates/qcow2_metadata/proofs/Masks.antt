@@ -1,19 +1,10 @@
 -- Masks and shifts against the bits of a number.
-use Rattle.std.proofs.Common.{◌≡◌, ◌+◌, ◌-◌, ◌*◌, ◌/◌, ◌%◌, ◌^◌, ◌<◌, ◌≤◌, ℕ, not, eqb, sym, ap, ◌∙◌, arith, inl, inr}
-use Rattle.qcow2_metadata.proofs.Common.{bit_and, bit_at, cases_eq, eq-eqb, ne_eqb, one_shl, and_mask, field_of, pow_pos, and_le_r, mod_below, pow_mono, and_pow, bit_at-lt, bits_of, has_bit}
+use Rattle.std.proofs.Common.{◌≡◌, ◌+◌, ◌-◌, ◌*◌, ◌/◌, ◌%◌, ◌^◌, ◌<◌, ◌≤◌, ℕ, not, eqb, ap, ◌∙◌, arith}
+use Rattle.qcow2_metadata.proofs.Common.{bit_and, one_shl, and_mask, field_of, pow_pos, and_le_r, mod_below, pow_mono, and_pow, bits_of, has_bit}
 
 -- `n & (1 << k) != 0`
 pub mask_tests_bit : (n k : ℕ) → not (eqb (bit_and n (2 ^ k)) 0) ≡ has_bit n k
-mask_tests_bit n k =
-    elim (cases_eq (bit_at n k) 0) [
-      | inl zero ↦
-          let product : bit_at n k * 2 ^ k ≡ 0 = rw zero (omega arith) in
-          ap not (eq-eqb _ _ (and_pow n k ∙ product)) ∙ sym (ne_eqb _ _ (λ one. omega (arith, one, zero)))
-      | inr set ↦
-          let one : bit_at n k ≡ 1 = omega (arith, bit_at-lt n k, set) in
-          let product : bit_at n k * 2 ^ k ≡ 2 ^ k = rw one (omega arith) in
-          ap not (ne_eqb _ _ (λ none. omega (arith, pow_pos k, and_pow n k, product, none))) ∙ sym (eq-eqb _ _ one)
-    ]
+mask_tests_bit n k = grind (arith, and_pow)
 
 -- `n & ((1 << x) - 1)`
 pub low_mask : (n x : ℕ) → 1 ≤ x → x < 64 → bit_and n (1 * 2 ^ x % 2 ^ 64 - 1) ≡ bits_of 0 (x - 1) n
@@ -30,10 +21,7 @@ middle_bits n low high le =
     ap (λ m. m / 2 ^ low) (and_mask n high) ∙ ap (λ m. n % 2 ^ m / 2 ^ low) split ∙ field_of n (high - low) low
 
 pub low_mask_below : (n x : ℕ) → x ≤ 61 → bit_and n (1 * 2 ^ x % 2 ^ 64 - 1) < 2 ^ 61
-low_mask_below n x le =
-    let is : 1 * 2 ^ x % 2 ^ 64 ≡ 2 ^ x = one_shl x 64 (omega arith) in
-    let small : 2 ^ x ≤ 2 ^ 61 = pow_mono le in
-    omega (arith, and_le_r n (1 * 2 ^ x % 2 ^ 64 - 1), pow_pos x)
+low_mask_below n x le = grind (arith, pow_mono, and_le_r)
 
 pub middle_bits_below : (n low high k : ℕ) → low ≤ high → high - low ≤ k → bit_and n (2 ^ high - 1) / 2 ^ low < 2 ^ k
 middle_bits_below n low high k le few =

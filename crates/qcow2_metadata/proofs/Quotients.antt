@@ -1,6 +1,6 @@
 -- Quotients by cluster sizes and table sizes.
 use Rattle.std.proofs.Common.{◌≡◌, ◌+◌, ◌-◌, ◌*◌, ◌/◌, ◌%◌, ◌^◌, ◌<◌, ◌≤◌, ◌≢◌, ℕ, zero, suc, min, ap, ◌∙◌, arith, inl, inr}
-use Rattle.qcow2_metadata.proofs.Common.{cases_eq, cases_lt, pow_mono, ones_shr, pow-add, pow_pos, shl-shr, div-mul-add, mod-mul-add, div-add-mod'}
+use Rattle.qcow2_metadata.proofs.Common.{cases_lt, pow_mono, ones_shr, pow-add, pow_pos, shl-shr, mod-mul-add}
 
 -- the entries of a cluster are a power of two
 pub eighth_is : (k : ℕ) → 3 ≤ k → 2 ^ k / 8 ≡ 2 ^ (k - 3)
@@ -38,16 +38,7 @@ next_fits n k low high fits more =
 
 -- a quotient that is rounded up
 pub div_ceil_is : (n k : ℕ) → n / 2 ^ k + min 1 (n % 2 ^ k) ≡ (n + 2 ^ k - 1) / 2 ^ k
-div_ceil_is n k =
-    let split = div-add-mod' n (2 ^ k) in
-    elim (cases_eq (n % 2 ^ k) 0) [
-      | inl whole ↦
-          let is : n + 2 ^ k - 1 ≡ n / 2 ^ k * 2 ^ k + (2 ^ k - 1) = omega (arith, split, whole, pow_pos k) in
-          omega (arith, whole, ap (λ x. x / 2 ^ k) is, div-mul-add (n / 2 ^ k) (2 ^ k) (2 ^ k - 1) (omega (arith, pow_pos k)))
-      | inr part ↦
-          let is : n + 2 ^ k - 1 ≡ (n / 2 ^ k + 1) * 2 ^ k + (n % 2 ^ k - 1) = omega (arith, split, part, pow_pos k) in
-          omega (arith, part, ap (λ x. x / 2 ^ k) is, div-mul-add (n / 2 ^ k + 1) (2 ^ k) (n % 2 ^ k - 1) (omega (arith, pow_pos k)))
-    ]
+div_ceil_is n k = grind (arith, pow_pos)
 
 -- `u64::MAX >> (64 - width)` is the greatest number of a width
 pub pow_within : (order : ℕ) → order ≤ 6 → 2 ^ order ≤ 64

@@ -1,6 +1,6 @@
 -- A header that was written with its names at their new offsets reads back.
-use Rattle.std.proofs.Common.{◌≡◌, ◌≢◌, ◌+◌, ◌-◌, ◌^◌, ◌<◌, ◌≤◌, ◌==◌, ◌∷◌, ◌++◌, if◌then◌else◌, ℕ, Bool, false, List, [], length, replicate, Option, Some, None, is_some, unwrap_or, refl, sym, ap, ◌∙◌, subst, zero-add, arith, lit<}
-use Rattle.qcow2_metadata.proofs.Common.{IsUtf8, w32, w64, to_be_bytes, eq-eqb, ne_eqb, length-append, length-replicate, Four, Eight, Bytes, byte_at, bytes_from, number_at, HeaderFields, HeaderView, header, cluster_size, backing_name, backing_format_kind, data_file_kind, first_of_kind, behind_extension, rounded_up, IsInRange, IsWithinLimits, IsExtension, AreExtensions, BackingNameReads, IsHeaderOf, IsHeaderIn, numbers_of, bytes_of_numbers, AllFit, extension_bytes, name_extension, header_bytes, header_written, extension_size, name_place, HasNewNames, IsText}
+use Rattle.std.proofs.Common.{◌≡◌, ◌≢◌, ◌+◌, ◌-◌, ◌^◌, ◌<◌, ◌≤◌, ◌∷◌, ◌++◌, if◌then◌else◌, ℕ, List, [], length, replicate, Option, Some, None, is_some, unwrap_or, refl, sym, ◌∙◌, subst, zero-add, arith, lit<}
+use Rattle.qcow2_metadata.proofs.Common.{w32, w64, to_be_bytes, length-append, length-replicate, Four, Eight, Bytes, byte_at, number_at, HeaderFields, HeaderView, header, cluster_size, backing_name, backing_format_kind, data_file_kind, first_of_kind, behind_extension, rounded_up, IsInRange, IsWithinLimits, IsExtension, AreExtensions, BackingNameReads, IsHeaderOf, IsHeaderIn, numbers_of, bytes_of_numbers, AllFit, extension_bytes, name_extension, header_bytes, header_written, extension_size, name_place, HasNewNames, IsText}
 use Rattle.qcow2_metadata.specs.declared.header.write.Number.{Number}
 use Rattle.qcow2_metadata.proofs.ShortNames.{cluster_small}
 use Rattle.qcow2_metadata.proofs.HeldBytes.{Holds, holds_written, holds_left, holds_right, held_4, held_8, held_bytes}
@@ -24,20 +24,9 @@ pub length-numbers : (h : HeaderFields) → length (bytes_of_numbers (numbers_of
 unfolding bytes_of_numbers numbers_of
 length-numbers h = refl
 
-new_version : (test : Bool) (a n : ℕ) → test ≡ false → (if test then a else n) ≡ n
-new_version test a n is = ap (λ t. if t then a else n) is
-
 fields_back : (b : Bytes) (h : HeaderFields) → h.version ≡ 3 → AreNumbers b 0 (numbers_of h) → header b ≡ h
 unfolding header numbers_of
-fields_back b h version is =
-    let not_old : (number_at b 4 4 == 2) ≡ false = ne_eqb _ _ (omega (arith, is.1.0, version)) in
-    let e1 = new_version (number_at b 4 4 == 2) 0 (number_at b 72 8) not_old in
-    let e2 = new_version (number_at b 4 4 == 2) 0 (number_at b 80 8) not_old in
-    let e3 = new_version (number_at b 4 4 == 2) 0 (number_at b 88 8) not_old in
-    let e4 = new_version (number_at b 4 4 == 2) 4 (number_at b 96 4) not_old in
-    let e5 = new_version (number_at b 4 4 == 2) 72 (number_at b 100 4) not_old in
-    let each : header b ≡ record { magic = h.magic; version = h.version; backing_offset = h.backing_offset; backing_length = h.backing_length; cluster_bits = h.cluster_bits; size = h.size; crypt_method = h.crypt_method; l1_entries = h.l1_entries; l1_offset = h.l1_offset; reftable_offset = h.reftable_offset; reftable_clusters = h.reftable_clusters; snapshots = h.snapshots; snapshots_offset = h.snapshots_offset; incompatible = h.incompatible; compatible = h.compatible; autoclear = h.autoclear; refcount_order = h.refcount_order; header_length = h.header_length } = cc in
-    each
+fields_back b h version is = grind arith
 
 -- ---- the extensions
 length-extension : (kind : ℕ) (name : List ℕ) → length (extension_bytes kind name) ≡ 8 + rounded_up 8 (length name)
@@ -84,9 +73,7 @@ end_back b limit place fits holds = (fits, held_4 b place 0 (lit< tt) (holds_lef
 
 format_first : (format data_file : Option (List ℕ)) → format ≡ first_of_kind backing_format_kind (named_list backing_format_kind format (named_list data_file_kind data_file []))
 format_first None None = refl
-format_first None (Some d) = refl
-format_first (Some f) None = refl
-format_first (Some f) (Some d) = refl
+format_first _ _ = refl
 
 data_file_first : (format data_file : Option (List ℕ)) → data_file ≡ first_of_kind data_file_kind (named_list backing_format_kind format (named_list data_file_kind data_file []))
 data_file_first None None = refl
@@ -98,23 +85,8 @@ data_file_first (Some f) (Some d) = refl
 backing_back : (b : Bytes) (h : HeaderFields) (place : ℕ) (name : Option (List ℕ)) → h.backing_offset ≡ (if is_some name then place else 0) → h.backing_length ≡ length (unwrap_or name [])
     → place + length (unwrap_or name []) ≤ cluster_size h → h.header_length ≤ place → 0 < place → IsText name → Holds b place (unwrap_or name []) → BackingNameReads h b × (name ≡ backing_name h b)
 unfolding backing_name
-backing_back b h place None offset len room behind some text holds = (
-  record {
-    inside = λ is. absurd (is offset);
-    behind_header = λ is. absurd (is offset);
-    text = λ is. absurd (is offset);
-  },
-  sym (ap (λ test. if test then None else Some (bytes_from b h.backing_offset h.backing_length)) (eq-eqb _ _ offset)),
-)
-backing_back b h place (Some name) offset len room behind some text holds =
-    let bytes : bytes_from b h.backing_offset h.backing_length ≡ name = ap (λ n. bytes_from b h.backing_offset n) len ∙ ap (λ p. bytes_from b p (length name)) offset ∙ held_bytes b place name holds in (
-      record {
-        inside = λ is. omega arith;
-        behind_header = λ is long. omega arith;
-        text = λ is. subst IsUtf8 (sym bytes) text;
-      },
-      sym (ap (λ test. if test then None else Some (bytes_from b h.backing_offset h.backing_length)) (ne_eqb _ _ (λ none. omega arith)) ∙ ap (λ l. Some l) bytes),
-    )
+backing_back b h place None offset len room behind some text holds = grind arith
+backing_back b h place (Some name) offset len room behind some text holds = grind (arith, held_bytes)
 
 -- ---- the whole
 record Pieces (b : Bytes) (v : HeaderView) : Type 0 where

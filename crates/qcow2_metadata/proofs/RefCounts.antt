@@ -1,6 +1,6 @@
 -- Refcounts in the bytes of refblocks.
-use Rattle.std.proofs.Common.{◌≡◌, ◌≢◌, ◌+◌, ◌-◌, ◌*◌, ◌/◌, ◌%◌, ◌^◌, ◌<◌, ◌≤◌, ◌∷◌, ℕ, zero, suc, inl, inr, List, [], length, get_or, set, replicate, Bool, true, false, cond, refl, sym, ap, ◌∙◌, arith, lit<, zero-add}
-use Rattle.qcow2_metadata.proofs.Common.{w16, w32, w64, from_be_bytes, to_be_bytes, mul-le-mul_right, div-mul-le_self, zero-div, zero-mod, cases_eq, cases_lt, length-set, get_or-set_same, get_or-set_other, pow_pos, pow-add, le-div, shl_whole, shr-shr, shr_below, field_of, mod-pow-add, mod_low, mod_below, div-add-mod', div-mul-add, mod-mul-add, from_be_bytes-to_be_bytes_2, from_be_bytes-to_be_bytes_4, from_be_bytes-to_be_bytes_8, overwritten, byte_at-overwritten, byte_at-overwritten_outside, length-overwritten_within, Bytes, byte_at, number_at, block_count, count_in, ChangesCount}
+use Rattle.std.proofs.Common.{◌≡◌, ◌≢◌, ◌+◌, ◌-◌, ◌*◌, ◌/◌, ◌%◌, ◌^◌, ◌<◌, ◌≤◌, ◌∷◌, ℕ, zero, suc, inl, inr, List, [], length, get_or, set, replicate, refl, sym, ap, ◌∙◌, arith, lit<, zero-add}
+use Rattle.qcow2_metadata.proofs.Common.{w16, w32, w64, from_be_bytes, to_be_bytes, mul-le-mul_right, div-mul-le_self, cases_eq, cases_lt, length-set, get_or-set_same, get_or-set_other, pow_pos, pow-add, le-div, shl_whole, shr-shr, shr_below, field_of, mod-pow-add, mod_low, mod_below, div-add-mod', div-mul-add, mod-mul-add, from_be_bytes-to_be_bytes_2, from_be_bytes-to_be_bytes_4, from_be_bytes-to_be_bytes_8, overwritten, byte_at-overwritten, byte_at-overwritten_outside, length-overwritten_within, Bytes, byte_at, number_at, block_count, count_in, ChangesCount}
 use Rattle.qcow2_metadata.proofs.BigEndian.{number_at-same, from_be_bytes-4, from_be_bytes-8}
 use Rattle.qcow2_metadata.proofs.TableEntries.{number_at-moved, number_at-zeros, byte_at-zeros}
 
@@ -75,10 +75,7 @@ unfolding block_count number_at
 narrow_count bytes zero i le small = ap (λ place. byte_at bytes place / 2 ^ (i * 1 % 8) % 2 ^ 1) (zero-add (i * 1 / 8))
 narrow_count bytes (suc zero) i le small = ap (λ place. byte_at bytes place / 2 ^ (i * 2 % 8) % 2 ^ 2) (zero-add (i * 2 / 8))
 narrow_count bytes (suc (suc zero)) i le small = ap (λ place. byte_at bytes place / 2 ^ (i * 4 % 8) % 2 ^ 4) (zero-add (i * 4 / 8))
-narrow_count bytes (suc (suc (suc zero))) i le small =
-    let place : 0 + i * 1 + 0 ≡ i * 8 / 8 = omega arith in
-    let bit : i * 8 % 8 ≡ 0 = omega arith in
-    omega (arith, ap (byte_at bytes) place, ap (λ n. byte_at bytes (i * 8 / 8) / 2 ^ n) bit, small)
+narrow_count bytes (suc (suc (suc zero))) i le small = grind arith
 narrow_count bytes (suc (suc (suc (suc order)))) i le small = absurd (omega arith)
 
 -- it depends on its byte alone
@@ -113,19 +110,14 @@ pair_of_bytes bytes place =
     let first : place + 0 ≡ place = omega arith in
     omega (arith, ap (byte_at bytes) first)
 
-either_zero : (b : Bool) (x y : ℕ) → x ≡ 0 → y ≡ 0 → cond b x y ≡ 0
-either_zero true x y first second = first
-either_zero false x y first second = second
+-- in bytes that are all 0
+pub zero_count : (order : ℕ) (bytes : List ℕ) (j : ℕ) → ((k : ℕ) → byte_at bytes k ≡ 0) → count_in order bytes j ≡ 0
+unfolding block_count
+zero_count order bytes j zeros = grind (arith, number_at-zeros)
 
 -- a cleared refblock
 pub count_in-zeros : (order n i : ℕ) → count_in order (replicate n 0) i ≡ 0
-unfolding block_count
-count_in-zeros order n i =
-    let w = 2 ^ order in
-    let bit = i * w % 8 in
-    either_zero _ _ _
-    (ap (λ b. b / 2 ^ bit % 2 ^ w) (byte_at-zeros n (0 + i * w / 8)) ∙ ap (λ b. b % 2 ^ w) (zero-div (2 ^ bit)) ∙ zero-mod (2 ^ w))
-    (number_at-zeros (byte_at (replicate n 0)) (0 + i * (w / 8)) (w / 8) (byte_at-zeros n))
+count_in-zeros order n i = zero_count order (replicate n 0) i (byte_at-zeros n)
 
 -- ---- one count set
 
@@ -163,28 +155,11 @@ narrow_changes : (bytes : List ℕ) (order i v : ℕ) → order ≤ 3 → byte_a
     → (new : ℕ)
     → new ≡ byte_at bytes (i * 2 ^ order / 8) - byte_at bytes (i * 2 ^ order / 8) / 2 ^ (i * 2 ^ order % 8) % 2 ^ (2 ^ order) * 2 ^ (i * 2 ^ order % 8) + v * 2 ^ (i * 2 ^ order % 8)
     → ChangesCount order bytes (set bytes (i * 2 ^ order / 8) new) i v
-narrow_changes bytes order i v le byte within fits in_byte new is =
-    let here = i * 2 ^ order / 8 in
-    let bit = i * 2 ^ order % 8 in
-    let old = byte_at bytes here in
-    let sets : SetsBits old new bit (2 ^ order) v = rw is (sets_bits old bit (2 ^ order) v fits) in
-    let small : new < 256 = rw is (set_byte_fits old bit (2 ^ order) v byte fits in_byte) in
-    let now : byte_at (set bytes here new) here ≡ new = get_or-set_same bytes here new 0 within in
-    record {
-      count_is =
-          narrow_count (set bytes here new) order i le (omega (arith, now, small))
-          ∙ ap (λ b. b / 2 ^ bit % 2 ^ (2 ^ order)) now
-          ∙ sets.bits;
-      others = λ j apart. narrow_others bytes order i j v new le byte within small sets apart;
-      as_long = length-set bytes here new;
-    }
+narrow_changes bytes order i v le byte within fits in_byte new is = grind (arith, sets_bits, set_byte_fits, get_or-set_same, narrow_count, narrow_others, length-set)
 
 -- a number put in the place of another: it is there, and those beside it stay
 put_same : (bytes xs : List ℕ) (i n : ℕ) → length xs ≡ n → number_at (byte_at (overwritten bytes (i * n) xs)) (i * n) n ≡ number_at (byte_at xs) 0 n
-put_same bytes xs i n long =
-    number_at-moved _ _ (i * n) 0 n (λ k lt.
-    let front : 0 + k ≡ k = omega arith in
-    byte_at-overwritten bytes (i * n) xs k (omega arith) ∙ ap (byte_at xs) (sym front))
+put_same bytes xs i n long = grind (arith, number_at-moved, byte_at-overwritten)
 
 put_other : (bytes xs : List ℕ) (i j n : ℕ) → length xs ≡ n → j ≢ i → number_at (byte_at (overwritten bytes (i * n) xs)) (j * n) n ≡ number_at (byte_at bytes) (j * n) n
 put_other bytes xs i j n long apart =
@@ -195,52 +170,29 @@ put_other bytes xs i j n long apart =
       | inr above ↦ let rows : (i + 1) * n ≤ j * n = mul-le-mul_right n (omega arith) in inr (omega arith)
     ]))
 
-changes_16 : (bytes : List ℕ) (i v : ℕ) → i * 2 + 2 ≤ length bytes → v < 2 ^ 16 → ChangesCount 4 bytes (overwritten bytes (i * 2) (to_be_bytes w16 v)) i v
-changes_16 bytes i v within fits =
-    let xs = to_be_bytes w16 v in
-    record {
-      count_is = count_of_16 (overwritten bytes (i * 2) xs) i ∙ put_same bytes xs i 2 refl
-          ∙ sym (from_be_bytes-2 xs (byte_at xs) 0 (λ k lt. ap (byte_at xs) (sym (zero-add k)))) ∙ from_be_bytes-to_be_bytes_2 v fits;
-      others = λ j apart. count_of_16 (overwritten bytes (i * 2) xs) j ∙ put_other bytes xs i j 2 refl apart ∙ sym (count_of_16 bytes j);
-      as_long = length-overwritten_within bytes (i * 2) xs within;
-    }
-
-changes_32 : (bytes : List ℕ) (i v : ℕ) → i * 4 + 4 ≤ length bytes → v < 2 ^ 32 → ChangesCount 5 bytes (overwritten bytes (i * 4) (to_be_bytes w32 v)) i v
-changes_32 bytes i v within fits =
-    let xs = to_be_bytes w32 v in
-    record {
-      count_is = count_of_32 (overwritten bytes (i * 4) xs) i ∙ put_same bytes xs i 4 refl
-          ∙ sym (from_be_bytes-4 xs (byte_at xs) 0 (λ k lt. ap (byte_at xs) (sym (zero-add k)))) ∙ from_be_bytes-to_be_bytes_4 v fits;
-      others = λ j apart. count_of_32 (overwritten bytes (i * 4) xs) j ∙ put_other bytes xs i j 4 refl apart ∙ sym (count_of_32 bytes j);
-      as_long = length-overwritten_within bytes (i * 4) xs within;
-    }
-
-changes_64 : (bytes : List ℕ) (i v : ℕ) → i * 8 + 8 ≤ length bytes → v < 2 ^ 64 → ChangesCount 6 bytes (overwritten bytes (i * 8) (to_be_bytes w64 v)) i v
-changes_64 bytes i v within fits =
-    let xs = to_be_bytes w64 v in
-    record {
-      count_is = count_of_64 (overwritten bytes (i * 8) xs) i ∙ put_same bytes xs i 8 refl
-          ∙ sym (from_be_bytes-8 xs (byte_at xs) 0 (λ k lt. ap (byte_at xs) (sym (zero-add k)))) ∙ from_be_bytes-to_be_bytes_8 v fits;
-      others = λ j apart. count_of_64 (overwritten bytes (i * 8) xs) j ∙ put_other bytes xs i j 8 refl apart ∙ sym (count_of_64 bytes j);
-      as_long = length-overwritten_within bytes (i * 8) xs within;
-    }
+changes_wide : (order n : ℕ) → ((bytes : List ℕ) (i : ℕ) → count_in order bytes i ≡ number_at (byte_at bytes) (i * n) n) → (bytes xs : List ℕ) (i v : ℕ) → length xs ≡ n → number_at (byte_at xs) 0 n ≡ v
+    → i * n + n ≤ length bytes → ChangesCount order bytes (overwritten bytes (i * n) xs) i v
+changes_wide order n count_of bytes xs i v long is within = grind (arith, put_same, put_other, length-overwritten_within)
 
 -- the same at an order that the code has tested
 module _ (bytes new : List ℕ) (order i v : ℕ) (whole : length bytes % 8 ≡ 0) (inside : i < length bytes * 8 / 2 ^ order) (fits : v < 2 ^ (2 ^ order)) where
   pub wide_changes_16 : order ≡ 4 → new ≡ overwritten bytes (i * 2) (to_be_bytes w16 v) → ChangesCount order bytes new i v
   wide_changes_16 is put =
       let there = rw is at inside in
-      rw (is, put) (changes_16 bytes i v (omega (arith, whole, there)) (rw is at fits))
+      let xs : List ℕ = to_be_bytes w16 v in
+      rw (is, put) (changes_wide 4 2 count_of_16 bytes xs i v refl (sym (from_be_bytes-2 xs (byte_at xs) 0 (λ k lt. ap (byte_at xs) (sym (zero-add k)))) ∙ from_be_bytes-to_be_bytes_2 v (rw is at fits)) (omega (arith, whole, there)))
 
   pub wide_changes_32 : order ≡ 5 → new ≡ overwritten bytes (i * 4) (to_be_bytes w32 v) → ChangesCount order bytes new i v
   wide_changes_32 is put =
       let there = rw is at inside in
-      rw (is, put) (changes_32 bytes i v (omega (arith, whole, there)) (rw is at fits))
+      let xs : List ℕ = to_be_bytes w32 v in
+      rw (is, put) (changes_wide 5 4 count_of_32 bytes xs i v refl (sym (from_be_bytes-4 xs (byte_at xs) 0 (λ k lt. ap (byte_at xs) (sym (zero-add k)))) ∙ from_be_bytes-to_be_bytes_4 v (rw is at fits)) (omega (arith, whole, there)))
 
   pub wide_changes_64 : order ≡ 6 → new ≡ overwritten bytes (i * 8) (to_be_bytes w64 v) → ChangesCount order bytes new i v
   wide_changes_64 is put =
       let there = rw is at inside in
-      rw (is, put) (changes_64 bytes i v (omega (arith, whole, there)) (rw is at fits))
+      let xs : List ℕ = to_be_bytes w64 v in
+      rw (is, put) (changes_wide 6 8 count_of_64 bytes xs i v refl (sym (from_be_bytes-8 xs (byte_at xs) 0 (λ k lt. ap (byte_at xs) (sym (zero-add k)))) ∙ from_be_bytes-to_be_bytes_8 v (rw is at fits)) (omega (arith, whole, there)))
 
 -- the byte of a count is within the block
 narrow_within : (n i w : ℕ) → 0 < w → i < n * 8 / w → i * w / 8 < n

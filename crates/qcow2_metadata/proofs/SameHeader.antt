@@ -1,6 +1,6 @@
 -- The header depends only on the bytes of cluster 0.
-use Rattle.std.proofs.Common.{◌≡◌, ◌≢◌, ◌+◌, ◌<◌, ◌≤◌, ◌==◌, ◌∷◌, if◌then◌else◌, ℕ, Bool, List, [], length, Some, None, refl, sym, ap, ◌∙◌, subst, inl, inr, arith}
-use Rattle.qcow2_metadata.proofs.Common.{IsUtf8, ext_get_or, length-map-range_with_len, get_or-map-range_with_len, cases_eq, eq-eqb, Bytes, byte_at, bytes_from, number_at, HeaderFields, HeaderView, header, cluster_size, backing_name, IsInRange, IsExtension, AreExtensions, BackingNameReads, IsWellFormed, HeaderReads, behind_extension, IsHeaderOf, IsReasonToRefuse, IsReasonNotToRead, MetadataError, Storage, Memory, Version, Unaligned, Limit, Format, bytes_at, byte_at-bytes_at}
+use Rattle.std.proofs.Common.{◌≡◌, ◌≢◌, ◌+◌, ◌<◌, ◌≤◌, ◌==◌, ◌∷◌, if◌then◌else◌, ℕ, Bool, List, [], length, refl, sym, ap, ◌∙◌, subst, arith}
+use Rattle.qcow2_metadata.proofs.Common.{IsUtf8, ext_get_or, length-map-range_with_len, get_or-map-range_with_len, Bytes, byte_at, bytes_from, number_at, HeaderFields, HeaderView, header, cluster_size, backing_name, IsInRange, IsExtension, AreExtensions, BackingNameReads, IsWellFormed, HeaderReads, behind_extension, IsHeaderOf, IsReasonToRefuse, IsReasonNotToRead, MetadataError, Unaligned, Limit, Format, bytes_at, byte_at-bytes_at}
 use Rattle.qcow2_metadata.proofs.BigEndian.{number_at-same}
 
 -- the bytes from one place to another are the same
@@ -26,29 +26,40 @@ bytes-same low high b c same place k le fits =
     ∙ same (place + i) (omega arith) (omega arith)
     ∙ sym (get_or-map-range_with_len c place k i (place + i) 0 within refl))
 
+-- The bytes are the same, but for those of the size, the pointers and the autoclear bits.
+abbrev pub SameElsewhere : Bytes → Bytes → Type 0
+SameElsewhere b c =
+    (i : ℕ) → i < 104 → (24 ≤ i → i < 32 → ⊥) → (36 ≤ i → i < 60 → ⊥) → (88 ≤ i → i < 96 → ⊥) → b i ≡ c i
+
+pub header_after : (b c : Bytes) → SameElsewhere b c → header c ≡ record (header b) {
+  size = number_at c 24 8;
+  l1_entries = number_at c 36 4;
+  l1_offset = number_at c 40 8;
+  reftable_offset = number_at c 48 8;
+  reftable_clusters = number_at c 56 4;
+  autoclear = if number_at b 4 4 == 2 then 0 else number_at c 88 8;
+}
+unfolding header
+header_after b c same =
+    let n : (place k : ℕ) → ((i : ℕ) → i < k → (place + i < 104) × (24 ≤ place + i → place + i < 32 → ⊥) × (36 ≤ place + i → place + i < 60 → ⊥) × (88 ≤ place + i → place + i < 96 → ⊥)) → number_at b place k ≡ number_at c place k =
+    λ place k apart. number_at-same b c place k (λ i lt. let a = apart i lt in same (place + i) a.0 a.1 a.2 a.3) in
+    let magic = n 0 4 (λ i lt. (omega arith, λ a e. omega arith, λ a e. omega arith, λ a e. omega arith)) in
+    let version = n 4 4 (λ i lt. (omega arith, λ a e. omega arith, λ a e. omega arith, λ a e. omega arith)) in
+    let backing_offset = n 8 8 (λ i lt. (omega arith, λ a e. omega arith, λ a e. omega arith, λ a e. omega arith)) in
+    let backing_length = n 16 4 (λ i lt. (omega arith, λ a e. omega arith, λ a e. omega arith, λ a e. omega arith)) in
+    let cluster_bits = n 20 4 (λ i lt. (omega arith, λ a e. omega arith, λ a e. omega arith, λ a e. omega arith)) in
+    let crypt_method = n 32 4 (λ i lt. (omega arith, λ a e. omega arith, λ a e. omega arith, λ a e. omega arith)) in
+    let snapshots = n 60 4 (λ i lt. (omega arith, λ a e. omega arith, λ a e. omega arith, λ a e. omega arith)) in
+    let snapshots_offset = n 64 8 (λ i lt. (omega arith, λ a e. omega arith, λ a e. omega arith, λ a e. omega arith)) in
+    let incompatible = n 72 8 (λ i lt. (omega arith, λ a e. omega arith, λ a e. omega arith, λ a e. omega arith)) in
+    let compatible = n 80 8 (λ i lt. (omega arith, λ a e. omega arith, λ a e. omega arith, λ a e. omega arith)) in
+    let refcount_order = n 96 4 (λ i lt. (omega arith, λ a e. omega arith, λ a e. omega arith, λ a e. omega arith)) in
+    let header_length = n 100 4 (λ i lt. (omega arith, λ a e. omega arith, λ a e. omega arith, λ a e. omega arith)) in
+    cc
+
 pub header-same : (b c : Bytes) → SameBelow 104 b c → header b ≡ header c
 unfolding header
-header-same b c same =
-    let n : (place k : ℕ) → place + k ≤ 104 → number_at b place k ≡ number_at c place k = λ place k. number-same 0 104 b c (λ i le. same i) place k (omega arith) in
-    let magic = n 0 4 (omega arith) in
-    let version = n 4 4 (omega arith) in
-    let backing_offset = n 8 8 (omega arith) in
-    let backing_length = n 16 4 (omega arith) in
-    let cluster_bits = n 20 4 (omega arith) in
-    let size = n 24 8 (omega arith) in
-    let crypt_method = n 32 4 (omega arith) in
-    let l1_entries = n 36 4 (omega arith) in
-    let l1_offset = n 40 8 (omega arith) in
-    let reftable_offset = n 48 8 (omega arith) in
-    let reftable_clusters = n 56 4 (omega arith) in
-    let snapshots = n 60 4 (omega arith) in
-    let snapshots_offset = n 64 8 (omega arith) in
-    let incompatible = n 72 8 (omega arith) in
-    let compatible = n 80 8 (omega arith) in
-    let autoclear = n 88 8 (omega arith) in
-    let refcount_order = n 96 4 (omega arith) in
-    let header_length = n 100 4 (omega arith) in
-    cc
+header-same b c same = grind (arith, number-same)
 
 module _ (low limit : ℕ) (b c : Bytes) (same : SameBetween low limit b c) where
   extension-same : (place : ℕ) (e : ℕ × List ℕ) → low ≤ place → IsExtension b limit place e → IsExtension c limit place e
@@ -82,11 +93,7 @@ module _ (h : HeaderFields) (b c : Bytes) (same : SameBetween h.header_length (c
 
   pub backing_name-same : BackingNameReads h b → backing_name h b ≡ backing_name h c
   unfolding backing_name
-  backing_name-same reads = elim (cases_eq h.backing_offset 0) [
-    | inl none ↦ ap (λ (test : Bool). if test then None else Some (bytes_from b h.backing_offset h.backing_length)) (eq-eqb _ _ none)
-        ∙ sym (ap (λ (test : Bool). if test then None else Some (bytes_from c h.backing_offset h.backing_length)) (eq-eqb _ _ none))
-    | inr some ↦ ap (λ l. if h.backing_offset == 0 then None else Some l) (name-same reads some)
-  ]
+  backing_name-same reads = grind (arith, name-same)
 
   pub reads-same : HeaderReads h b → HeaderReads h c
   reads-same reads = record { well_formed = well_formed-same reads.well_formed; within_limits = reads.within_limits }
@@ -105,17 +112,12 @@ pub reason-same : (h : HeaderFields) (b c : Bytes) → SameBetween h.header_leng
 reason-same h b c same writable Format is = λ formed. is (well_formed-same h c b (other_way _ _ b c same) formed)
 reason-same h b c same writable Limit is = (well_formed-same h b c same is.0, is.1)
 reason-same h b c same writable Unaligned is = (reads-same h b c same is.0, is.1)
-reason-same h b c same writable Version is = is
-reason-same h b c same writable Memory is = is
-reason-same h b c same writable (Storage e) is = is
+reason-same h b c same writable _ is = is
 
 pub unread-same : (h : HeaderFields) (b c : Bytes) → SameBetween h.header_length (cluster_size h) b c → (e : MetadataError) → IsReasonNotToRead h b e → IsReasonNotToRead h c e
 unread-same h b c same Format is = λ formed. is (well_formed-same h c b (other_way _ _ b c same) formed)
 unread-same h b c same Limit is = (well_formed-same h b c same is.0, is.1)
-unread-same h b c same Unaligned is = is
-unread-same h b c same Version is = is
-unread-same h b c same Memory is = is
-unread-same h b c same (Storage e) is = is
+unread-same h b c same _ is = is
 
 -- a read of the first bytes
 pub same_read : (contents buf : List ℕ) (n : ℕ) → buf ≡ bytes_at contents 0 n → SameBelow n (byte_at buf) (byte_at contents)

@@ -1,6 +1,6 @@
 -- Names in cluster 0 are short.
-use Rattle.std.proofs.Common.{◌≡◌, ◌^◌, ◌≤◌, ◌==◌, ◌∷◌, if◌then◌else◌, ℕ, Bool, true, false, List, [], length, Option, Some, None, sym, subst, inl, inr, arith}
-use Rattle.qcow2_metadata.proofs.Common.{cases_eq, eq-eqb, ne_eqb, length-map-range_with_len, pow_mono, Bytes, bytes_from, HeaderFields, IsInRange, IsWithinLimits, IsShort, IsKept, AreExtensions, BackingNameReads, backing_name, behind_extension, first_of_kind, cluster_size, AreNamed}
+use Rattle.std.proofs.Common.{◌≡◌, ◌^◌, ◌≤◌, ◌==◌, ◌∷◌, if◌then◌else◌, ℕ, Bool, true, false, List, [], length, Option, Some, arith}
+use Rattle.qcow2_metadata.proofs.Common.{length-map-range_with_len, pow_mono, Bytes, HeaderFields, IsInRange, IsWithinLimits, IsShort, IsKept, AreExtensions, BackingNameReads, backing_name, behind_extension, first_of_kind, cluster_size, AreNamed}
 
 one_short : (is_kind : Bool) (name : List ℕ) (others : Option (List ℕ)) → length name ≤ 2097152 → IsShort others → IsShort (if is_kind then Some name else others)
 one_short true name others short rest = short
@@ -13,13 +13,7 @@ first_short b limit kind small (e ∷ rest) place stand =
 
 backing_short : (h : HeaderFields) (b : Bytes) → cluster_size h ≤ 2097152 → BackingNameReads h b → IsShort (backing_name h b)
 unfolding backing_name
-backing_short h b small reads = elim (cases_eq h.backing_offset 0) [
-  | inl none ↦ subst (λ test. IsShort (if test then None else Some (bytes_from b h.backing_offset h.backing_length))) (sym (eq-eqb _ _ none)) tt
-  | inr some ↦
-      let short : length (bytes_from b h.backing_offset h.backing_length) ≤ 2097152 =
-      omega (arith, length-map-range_with_len b h.backing_offset h.backing_length, reads.inside some) in
-      subst (λ test. IsShort (if test then None else Some (bytes_from b h.backing_offset h.backing_length))) (sym (ne_eqb _ _ some)) short
-]
+backing_short h b small reads = grind (arith, length-map-range_with_len)
 
 pub cluster_small : (h : HeaderFields) → IsInRange h → cluster_size h ≤ 2097152
 cluster_small h in_range = let high : 2 ^ h.cluster_bits ≤ 2 ^ 21 = pow_mono in_range.cluster_bits.1 in omega arith
@@ -28,12 +22,4 @@ cluster_small h in_range = let high : 2 ^ h.cluster_bits ≤ 2 ^ 21 = pow_mono i
 pub kept : (h : HeaderFields) (b : Bytes) (backing format data_file : Option (List ℕ)) → IsInRange h → IsWithinLimits h
     → BackingNameReads h b → backing ≡ backing_name h b → AreNamed b (cluster_size h) h.header_length format data_file
     → IsKept h backing format data_file
-kept h b backing format data_file in_range limits reads is named =
-    let small = cluster_small h in_range in
-    record {
-      in_range = in_range;
-      within_limits = limits;
-      backing_name = subst IsShort (sym is) (backing_short h b small reads);
-      backing_format = subst IsShort (sym named.backing_format) (first_short b _ _ small named.reads.list _ named.reads.stand);
-      data_file_name = subst IsShort (sym named.data_file_name) (first_short b _ _ small named.reads.list _ named.reads.stand);
-    }
+kept h b backing format data_file in_range limits reads is named = grind (arith, cluster_small, backing_short, first_short)

@@ -67,48 +67,36 @@ module _ (size l1_entries l1_offset reftable_offset reftable_clusters autoclear 
     data_file_name = is.data_file_name;
   }
 
--- a write over the header's numbers alone
-module _ (contents bytes : List ℕ) (at : ℕ) where
-  behind : (v : HeaderView) (h : HeaderFields) → at + length bytes ≤ h.header_length → IsHeaderOf v h (byte_at contents) → IsHeaderOf v h (byte_at (overwritten contents at bytes))
-  behind v h fits is = is_header_of-same h _ _ (λ i le lt. sym (byte_at-overwritten_behind contents at bytes i (omega arith))) v is
+  -- a write among the header's numbers, after which they are these
+  still_written : (contents bytes : List ℕ) (at : ℕ) (v : HeaderView) → header (byte_at (overwritten contents at bytes)) ≡ changed (header (byte_at contents)) → at + length bytes ≤ (header (byte_at contents)).header_length
+      → IsWithinLimits (changed v.fields) → IsHeaderIn v contents → IsHeaderIn (with_fields v (changed v.fields)) (overwritten contents at bytes)
+  still_written contents bytes at v after fits limits is =
+      subst (λ k. IsHeaderOf (with_fields v (changed v.fields)) k (byte_at (overwritten contents at bytes))) (sym after)
+      (still v (header (byte_at contents)) _ (is_header_of-same (header (byte_at contents)) _ _ (λ i le lt. sym (byte_at-overwritten_behind contents at bytes i (omega arith))) v is) limits)
 
 module _ (contents : List ℕ) (v : HeaderView) where
   pub size_still : (old : ℕ) → v.fields.size < 2 ^ 64 → IsWithinLimits v.fields → IsHeaderIn (with_fields v (with_size v.fields old)) contents → IsHeaderIn v (size_written v.fields contents)
   size_still old fits limits is =
-      let h = header (byte_at contents) in
-      let long = header_long (byte_at contents) is.reads.well_formed.in_range in
-      let there = behind contents (to_be_bytes w64 v.fields.size) 24 (with_fields v (with_size v.fields old)) h (omega arith) is in
-      subst (λ k. IsHeaderOf v k (byte_at (size_written v.fields contents))) (sym (size_after contents v.fields.size fits))
-      (still (λ _. v.fields.size) (λ k. k.l1_entries) (λ k. k.l1_offset) (λ k. k.reftable_offset) (λ k. k.reftable_clusters) (λ k. k.autoclear)
-      (with_fields v (with_size v.fields old)) h _ there limits)
+      still_written (λ _. v.fields.size) (λ k. k.l1_entries) (λ k. k.l1_offset) (λ k. k.reftable_offset) (λ k. k.reftable_clusters) (λ k. k.autoclear) contents (to_be_bytes w64 v.fields.size) 24
+      (with_fields v (with_size v.fields old)) (size_after contents v.fields.size fits) (let long = header_long (byte_at contents) is.reads.well_formed.in_range in omega arith) limits is
 
   pub l1_table_still : (offset entries : ℕ) → v.fields.l1_entries < 2 ^ 32 → v.fields.l1_offset < 2 ^ 64 → IsWithinLimits v.fields
       → IsHeaderIn (with_fields v (with_l1_table v.fields offset entries)) contents → IsHeaderIn v (l1_table_pointer_written v.fields contents)
   l1_table_still offset entries fits_entries fits_offset limits is =
-      let h = header (byte_at contents) in
-      let long = header_long (byte_at contents) is.reads.well_formed.in_range in
-      let there = behind contents (bytes_of_numbers (Four v.fields.l1_entries ∷ Eight v.fields.l1_offset ∷ [])) 36 (with_fields v (with_l1_table v.fields offset entries)) h
-      (omega (arith, four_eight v.fields.l1_entries v.fields.l1_offset)) is in
-      subst (λ k. IsHeaderOf v k (byte_at (l1_table_pointer_written v.fields contents))) (sym (l1_table_after contents v.fields.l1_entries v.fields.l1_offset fits_entries fits_offset))
-      (still (λ k. k.size) (λ _. v.fields.l1_entries) (λ _. v.fields.l1_offset) (λ k. k.reftable_offset) (λ k. k.reftable_clusters) (λ k. k.autoclear)
-      (with_fields v (with_l1_table v.fields offset entries)) h _ there limits)
+      still_written (λ k. k.size) (λ _. v.fields.l1_entries) (λ _. v.fields.l1_offset) (λ k. k.reftable_offset) (λ k. k.reftable_clusters) (λ k. k.autoclear)
+      contents (bytes_of_numbers (Four v.fields.l1_entries ∷ Eight v.fields.l1_offset ∷ [])) 36 (with_fields v (with_l1_table v.fields offset entries)) (l1_table_after contents v.fields.l1_entries v.fields.l1_offset fits_entries fits_offset)
+      (let long = header_long (byte_at contents) is.reads.well_formed.in_range in omega (arith, four_eight v.fields.l1_entries v.fields.l1_offset)) limits is
 
   pub reftable_still : (offset clusters : ℕ) → v.fields.reftable_offset < 2 ^ 64 → v.fields.reftable_clusters < 2 ^ 32 → IsWithinLimits v.fields
       → IsHeaderIn (with_fields v (with_reftable v.fields offset clusters)) contents → IsHeaderIn v (reftable_pointer_written v.fields contents)
   reftable_still offset clusters fits_offset fits_clusters limits is =
-      let h = header (byte_at contents) in
-      let long = header_long (byte_at contents) is.reads.well_formed.in_range in
-      let there = behind contents (bytes_of_numbers (Eight v.fields.reftable_offset ∷ Four v.fields.reftable_clusters ∷ [])) 48 (with_fields v (with_reftable v.fields offset clusters)) h
-      (omega (arith, eight_four v.fields.reftable_offset v.fields.reftable_clusters)) is in
-      subst (λ k. IsHeaderOf v k (byte_at (reftable_pointer_written v.fields contents))) (sym (reftable_after contents v.fields.reftable_offset v.fields.reftable_clusters fits_offset fits_clusters))
-      (still (λ k. k.size) (λ k. k.l1_entries) (λ k. k.l1_offset) (λ _. v.fields.reftable_offset) (λ _. v.fields.reftable_clusters) (λ k. k.autoclear)
-      (with_fields v (with_reftable v.fields offset clusters)) h _ there limits)
+      still_written (λ k. k.size) (λ k. k.l1_entries) (λ k. k.l1_offset) (λ _. v.fields.reftable_offset) (λ _. v.fields.reftable_clusters) (λ k. k.autoclear)
+      contents (bytes_of_numbers (Eight v.fields.reftable_offset ∷ Four v.fields.reftable_clusters ∷ [])) 48 (with_fields v (with_reftable v.fields offset clusters)) (reftable_after contents v.fields.reftable_offset v.fields.reftable_clusters fits_offset fits_clusters)
+      (let long = header_long (byte_at contents) is.reads.well_formed.in_range in omega (arith, eight_four v.fields.reftable_offset v.fields.reftable_clusters)) limits is
 
   pub autoclear_still : v.fields.autoclear ≢ 0 → IsHeaderIn v contents → IsHeaderIn (with_fields v (without_autoclear v.fields)) (autoclear_cleared contents)
   autoclear_still some is =
-      let h = header (byte_at contents) in
-      let long = header_new (byte_at contents) is.reads.well_formed.in_range (λ none. some (ap (λ (k : HeaderFields). k.autoclear) is.fields ∙ none)) in
       let limits = subst IsWithinLimits (sym is.fields) is.reads.within_limits in
-      subst (λ k. IsHeaderOf (with_fields v (without_autoclear v.fields)) k (byte_at (autoclear_cleared contents))) (sym (autoclear_after contents))
-      (still (λ k. k.size) (λ k. k.l1_entries) (λ k. k.l1_offset) (λ k. k.reftable_offset) (λ k. k.reftable_clusters) (λ _. 0) v h _ (behind contents (replicate 8 0) 88 v h (omega arith) is)
-      record { few_l1_entries = limits.few_l1_entries; few_reftable_entries = limits.few_reftable_entries })
+      still_written (λ k. k.size) (λ k. k.l1_entries) (λ k. k.l1_offset) (λ k. k.reftable_offset) (λ k. k.reftable_clusters) (λ _. 0) contents (replicate 8 0) 88 v (autoclear_after contents)
+      (let long = header_new (byte_at contents) is.reads.well_formed.in_range (λ none. some (ap (λ (k : HeaderFields). k.autoclear) is.fields ∙ none)) in omega arith)
+      (record { few_l1_entries = limits.few_l1_entries; few_reftable_entries = limits.few_reftable_entries }) is

@@ -21,10 +21,7 @@ number_at-zeros b place (suc n) none =
     omega arith
 
 pub byte_at-zeros : (n i : ℕ) → byte_at (replicate n 0) i ≡ 0
-byte_at-zeros n i = elim (cases_lt i n) [
-  | inl lt ↦ get_or-replicate n i 0 0 lt
-  | inr past ↦ get_or_past (replicate n 0) i 0 (omega (arith, length-replicate {A = ℕ} n 0))
-]
+byte_at-zeros n i = grind (arith, get_or-replicate, get_or_past, length-replicate)
 
 -- a cleared table
 pub entry_at-zeros : (n i : ℕ) → entry_at (replicate n 0) i ≡ 0
@@ -34,11 +31,7 @@ entry_at-zeros n i = number_at-zeros (byte_at (replicate n 0)) (0 + 8 * i) 8 (by
 -- an entry of a loaded table is that of the file
 pub entry_at-loaded : (contents : List ℕ) (at n i : ℕ) → 8 * i + 8 ≤ n → entry_at (bytes_at contents at n) i ≡ l2_entry (byte_at contents) at i
 unfolding l2_entry
-entry_at-loaded contents at n i within =
-    number_at-moved _ _ (0 + 8 * i) (at + 8 * i) 8 (λ k lt.
-    let here : 0 + 8 * i + k ≡ 8 * i + k = omega arith in
-    let there : at + (8 * i + k) ≡ at + 8 * i + k = omega arith in
-    ap (byte_at (bytes_at contents at n)) here ∙ byte_at-bytes_at contents at n (8 * i + k) (omega arith) ∙ ap (byte_at contents) there)
+entry_at-loaded contents at n i within = grind (arith, number_at-moved, byte_at-bytes_at)
 
 pub set_entry_changes : (bytes : List ℕ) (i entry : ℕ) → 8 * i + 8 ≤ length bytes → entry < 2 ^ 64 → ChangesEntry bytes (overwritten bytes (8 * i) (to_be_bytes w64 entry)) i entry
 unfolding l2_entry

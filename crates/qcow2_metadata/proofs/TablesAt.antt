@@ -22,10 +22,7 @@ stand_at-written old new at place bytes held is there same k lt =
 
 pub entry_stands : (b : Bytes) (place : ℕ) (bytes : List ℕ) (i : ℕ) → HasBytesAt b place bytes → 8 * i + 8 ≤ length bytes → entry_at bytes i ≡ l2_entry b place i
 unfolding l2_entry
-entry_stands b place bytes i stands within =
-    number_at-moved _ _ (0 + 8 * i) (place + 8 * i) 8 (λ k lt.
-    let there : place + (0 + 8 * i + k) ≡ place + 8 * i + k = omega arith in
-    stands (0 + 8 * i + k) (omega arith) ∙ ap b there)
+entry_stands b place bytes i stands within = grind (arith, number_at-moved)
 
 pub l2_table_at : (b : Bytes) (place : ℕ) (table : L2TableView) → IsL2Table table → HasBytesAt b place table.bytes → IsL2TableAt b place table
 l2_table_at b place table is stands i lt = entry_stands b place table.bytes i stands (omega (arith, lt, is.whole))
@@ -33,10 +30,7 @@ l2_table_at b place table is stands i lt = entry_stands b place table.bytes i st
 -- ---- counts
 
 number_stands : (b : Bytes) (place : ℕ) (bytes : List ℕ) (i n : ℕ) → HasBytesAt b place bytes → i * n + n ≤ length bytes → number_at (byte_at bytes) (0 + i * n) n ≡ number_at b (place + i * n) n
-number_stands b place bytes i n stands within =
-    number_at-moved _ _ (0 + i * n) (place + i * n) n (λ k lt.
-    let there : place + (0 + i * n + k) ≡ place + i * n + k = omega arith in
-    stands (0 + i * n + k) (omega arith) ∙ ap b there)
+number_stands b place bytes i n stands within = grind (arith, number_at-moved)
 
 bits_stand : (b : Bytes) (place : ℕ) (bytes : List ℕ) (k bit w : ℕ) → HasBytesAt b place bytes → k < length bytes → byte_at bytes (0 + k) / 2 ^ bit % 2 ^ w ≡ b (place + k) / 2 ^ bit % 2 ^ w
 bits_stand b place bytes k bit w stands within =

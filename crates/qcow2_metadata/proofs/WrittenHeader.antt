@@ -1,39 +1,9 @@
 -- The numbers of a header after some of them were written.
 use Rattle.std.proofs.Common.{◌≡◌, ◌+◌, ◌^◌, ◌<◌, ◌≤◌, ◌==◌, ◌∷◌, ◌++◌, if◌then◌else◌, inl, inr, ℕ, Bool, true, false, List, [], length, replicate, refl, sym, arith, lit<}
-use Rattle.qcow2_metadata.proofs.Common.{cases_lt, overwritten, byte_at-overwritten_below, byte_at-overwritten_behind, Bytes, byte_at, number_at, Four, Eight, bytes_of_numbers, header, with_size, with_l1_table, with_reftable, without_autoclear, w32, w64, to_be_bytes}
+use Rattle.qcow2_metadata.proofs.Common.{cases_lt, overwritten, byte_at-overwritten_below, byte_at-overwritten_behind, byte_at, number_at, Four, Eight, bytes_of_numbers, header, with_size, with_l1_table, with_reftable, without_autoclear, w32, w64, to_be_bytes}
 use Rattle.qcow2_metadata.proofs.BigEndian.{number_at-same}
+use Rattle.qcow2_metadata.proofs.SameHeader.{SameElsewhere, header_after}
 use Rattle.qcow2_metadata.proofs.HeldBytes.{holds_written, holds_left, holds_right, held_4, held_8}
-
--- The bytes are the same, but for those of the size, the pointers and the autoclear bits.
-abbrev pub SameElsewhere : Bytes → Bytes → Type 0
-SameElsewhere b c =
-    (i : ℕ) → (24 ≤ i → i < 32 → ⊥) → (36 ≤ i → i < 60 → ⊥) → (88 ≤ i → i < 96 → ⊥) → b i ≡ c i
-
-header_after : (b c : Bytes) → SameElsewhere b c → header c ≡ record (header b) {
-  size = number_at c 24 8;
-  l1_entries = number_at c 36 4;
-  l1_offset = number_at c 40 8;
-  reftable_offset = number_at c 48 8;
-  reftable_clusters = number_at c 56 4;
-  autoclear = if number_at b 4 4 == 2 then 0 else number_at c 88 8;
-}
-unfolding header
-header_after b c same =
-    let n : (place k : ℕ) → ((i : ℕ) → i < k → (24 ≤ place + i → place + i < 32 → ⊥) × (36 ≤ place + i → place + i < 60 → ⊥) × (88 ≤ place + i → place + i < 96 → ⊥)) → number_at b place k ≡ number_at c place k =
-    λ place k apart. number_at-same b c place k (λ i lt. let a = apart i lt in same (place + i) a.0 a.1 a.2) in
-    let magic = n 0 4 (λ i lt. (λ a e. omega arith, λ a e. omega arith, λ a e. omega arith)) in
-    let version = n 4 4 (λ i lt. (λ a e. omega arith, λ a e. omega arith, λ a e. omega arith)) in
-    let backing_offset = n 8 8 (λ i lt. (λ a e. omega arith, λ a e. omega arith, λ a e. omega arith)) in
-    let backing_length = n 16 4 (λ i lt. (λ a e. omega arith, λ a e. omega arith, λ a e. omega arith)) in
-    let cluster_bits = n 20 4 (λ i lt. (λ a e. omega arith, λ a e. omega arith, λ a e. omega arith)) in
-    let crypt_method = n 32 4 (λ i lt. (λ a e. omega arith, λ a e. omega arith, λ a e. omega arith)) in
-    let snapshots = n 60 4 (λ i lt. (λ a e. omega arith, λ a e. omega arith, λ a e. omega arith)) in
-    let snapshots_offset = n 64 8 (λ i lt. (λ a e. omega arith, λ a e. omega arith, λ a e. omega arith)) in
-    let incompatible = n 72 8 (λ i lt. (λ a e. omega arith, λ a e. omega arith, λ a e. omega arith)) in
-    let compatible = n 80 8 (λ i lt. (λ a e. omega arith, λ a e. omega arith, λ a e. omega arith)) in
-    let refcount_order = n 96 4 (λ i lt. (λ a e. omega arith, λ a e. omega arith, λ a e. omega arith)) in
-    let header_length = n 100 4 (λ i lt. (λ a e. omega arith, λ a e. omega arith, λ a e. omega arith)) in
-    cc
 
 -- ---- numbers after a write
 pub number_below : (contents bytes : List ℕ) (at place n : ℕ) → place + n ≤ at → number_at (byte_at (overwritten contents at bytes)) place n ≡ number_at (byte_at contents) place n
@@ -46,8 +16,8 @@ number_behind contents bytes at place n le = number_at-same _ _ place n (λ i lt
 apart_from : (contents bytes : List ℕ) (at : ℕ)
     → ((i : ℕ) → (24 ≤ i → i < 32 → ⊥) → (36 ≤ i → i < 60 → ⊥) → (88 ≤ i → i < 96 → ⊥) → at ≤ i → at + length bytes ≤ i)
     → SameElsewhere (byte_at contents) (byte_at (overwritten contents at bytes))
-apart_from contents bytes at behind i x y z = elim (cases_lt i at) [
-  | inl lt ↦ sym (byte_at-overwritten_below contents at bytes i lt)
+apart_from contents bytes at behind i lt x y z = elim (cases_lt i at) [
+  | inl low ↦ sym (byte_at-overwritten_below contents at bytes i low)
   | inr le ↦ sym (byte_at-overwritten_behind contents at bytes i (behind i x y z le))
 ]
 

@@ -1,6 +1,6 @@
 -- What the file holds of a written table.
-use Rattle.std.proofs.Common.{◌≡◌, ◌≢◌, ◌+◌, ◌*◌, ◌%◌, ◌^◌, ◌<◌, ◌≤◌, if◌then◌else◌, ℕ, inl, inr, List, Option, Some, None, Result, Ok, Err, nat_lt, length, sym, ap, ◌∙◌, subst, arith, IfSome, OnOk}
-use Rattle.qcow2_metadata.proofs.Common.{w64, to_be_bytes, cases_eq, cases_lt, cond-false, cond-true, le-ltb, lt-ltb, from_be_bytes-to_be_bytes_8, overwritten, StorageView, ContentsBecome, Changes, StorageError, byte_at-overwritten, byte_at-overwritten_outside, byte_at, number_at, HeaderFields, reftable_entries, l1_entry, l2_entry, reftable_entry, entry_at, EntryTableView, entry_count, IsL1TableOf, IsL1TableBut, IsRefTableOf, IsRefTableBut, NamesL1Table, NamesRefTable}
+use Rattle.std.proofs.Common.{◌≡◌, ◌≢◌, ◌+◌, ◌*◌, ◌%◌, ◌^◌, ◌<◌, ◌≤◌, if◌then◌else◌, ℕ, List, Option, Some, None, Result, Ok, Err, nat_lt, length, sym, ◌∙◌, subst, arith, IfSome, OnOk}
+use Rattle.qcow2_metadata.proofs.Common.{w64, to_be_bytes, from_be_bytes-to_be_bytes_8, overwritten, StorageView, ContentsBecome, Changes, StorageError, byte_at-overwritten, byte_at-overwritten_outside, byte_at, number_at, HeaderFields, reftable_entries, l1_entry, l2_entry, reftable_entry, entry_at, EntryTableView, entry_count, IsL1TableOf, IsL1TableBut, IsRefTableOf, IsRefTableBut, NamesL1Table, NamesRefTable}
 use Rattle.qcow2_metadata.proofs.BigEndian.{number_at-same, from_be_bytes-8}
 use Rattle.qcow2_metadata.proofs.TableEntries.{number_at-moved}
 use Rattle.qcow2_metadata.proofs.EntryTables.{entry_at_past}
@@ -19,17 +19,10 @@ after_write (Some c) result old new change Named P holds honest changes = λ nam
 
 number_at-written : (contents : List ℕ) (at : ℕ) (bytes : List ℕ) (i : ℕ) → 8 * i + 8 ≤ length bytes → number_at (byte_at (overwritten contents at bytes)) (at + 8 * i) 8 ≡ entry_at bytes i
 unfolding l2_entry
-number_at-written contents at bytes i within =
-    number_at-moved _ _ (at + 8 * i) (0 + 8 * i) 8 (λ k lt.
-    let place : at + 8 * i + k ≡ at + (8 * i + k) = omega arith in
-    let inside : 8 * i + k ≡ 0 + 8 * i + k = omega arith in
-    ap (byte_at (overwritten contents at bytes)) place ∙ byte_at-overwritten contents at bytes (8 * i + k) (omega arith) ∙ ap (byte_at bytes) inside)
+number_at-written contents at bytes i within = grind (arith, number_at-moved, byte_at-overwritten)
 
 written : (contents : List ℕ) (at n : ℕ) (bytes : List ℕ) → length bytes ≡ 8 * n → (i : ℕ) → entry_at bytes i ≡ (if nat_lt i n then number_at (byte_at (overwritten contents at bytes)) (at + 8 * i) 8 else 0)
-written contents at n bytes whole i = elim (cases_lt i n) [
-  | inl within ↦ sym (number_at-written contents at bytes i (omega arith)) ∙ sym (cond-true _ _ _ (lt-ltb i n within))
-  | inr past ↦ entry_at_past bytes i (omega arith) ∙ sym (cond-false _ _ _ (le-ltb i n past))
-]
+written contents at n bytes whole i = grind (arith, number_at-written, entry_at_past)
 
 pub IsL1TableOf-written : (h : HeaderFields) (contents : List ℕ) (place : ℕ) (t : EntryTableView) → length t.bytes % 8 ≡ 0 → NamesL1Table h place (entry_count t)
     → IsL1TableOf h (byte_at (overwritten contents place t.bytes)) t
@@ -51,22 +44,13 @@ module _ (contents : List ℕ) (at i entry : ℕ) where
       ∙ from_be_bytes-to_be_bytes_8 entry fits
 
   elsewhere : (j : ℕ) → j ≢ i → number_at (byte_at (overwritten contents (at + 8 * i) (to_be_bytes w64 entry))) (at + 8 * j) 8 ≡ number_at (byte_at contents) (at + 8 * j) 8
-  elsewhere j apart =
-      number_at-same _ _ (at + 8 * j) 8 (λ k lt.
-      byte_at-overwritten_outside contents (at + 8 * i) (to_be_bytes w64 entry) (at + 8 * j + k)
-      (elim (cases_lt j i) [ inl below ↦ inl (omega arith) | inr above ↦ inr (omega arith) ]))
+  elsewhere j apart = grind (arith, number_at-same, byte_at-overwritten_outside)
 
 -- the others were there before
 written_entry : (contents : List ℕ) (at n : ℕ) (bytes : List ℕ) (i : ℕ) → i < n → entry_at bytes i < 2 ^ 64
     → ((j : ℕ) → j ≢ i → entry_at bytes j ≡ (if nat_lt j n then number_at (byte_at contents) (at + 8 * j) 8 else 0))
     → (j : ℕ) → entry_at bytes j ≡ (if nat_lt j n then number_at (byte_at (overwritten contents (at + 8 * i) (to_be_bytes w64 (entry_at bytes i)))) (at + 8 * j) 8 else 0)
-written_entry contents at n bytes i within fits before j = elim (cases_eq j i) [
-  | inl same ↦
-      let entry : ℕ = entry_at bytes i in
-      ap (entry_at bytes) same ∙ sym (here contents at i entry fits) ∙ sym (cond-true _ _ _ (lt-ltb i n within))
-      ∙ ap (λ k. if nat_lt k n then number_at (byte_at (overwritten contents (at + 8 * i) (to_be_bytes w64 entry))) (at + 8 * k) 8 else 0) (sym same)
-  | inr apart ↦ before j apart ∙ ap (λ v. if nat_lt j n then v else 0) (sym (elsewhere contents at i (entry_at bytes i) j apart))
-]
+written_entry contents at n bytes i within fits before j = grind (arith, here, elsewhere)
 
 pub IsL1TableOf-written_entry : (h : HeaderFields) (contents : List ℕ) (place : ℕ) (t : EntryTableView) (i : ℕ) → i < entry_count t → entry_at t.bytes i < 2 ^ 64
     → NamesL1Table h place (entry_count t) × IsL1TableBut i h (byte_at contents) t → IsL1TableOf h (byte_at (overwritten contents (place + 8 * i) (to_be_bytes w64 (entry_at t.bytes i)))) t

@@ -1,5 +1,6 @@
 -- The clusters between two offsets are cleared, as a part of a call.
 use Rattle.std.proofs.Common.{◌≡◌, ◌+◌, ◌-◌, ◌*◌, ◌/◌, ◌%◌, ◌<◌, ◌≤◌, ◌∷◌, ◌++◌, ◌↔◌, inl, inr, ℕ, suc, Bool, true, false, List, [], Option, Some, None, refl, sym, ap, ◌∙◌, subst, arith, cond, mul_assoc, IsSome, IsTrue}
+use Rattle.std.proofs.Math.Nat.{mul-le-mul_right}
 use Rattle.qcow2_image.proofs.Common.{slice_get, cases_eq, cases_lt, div-add-mod', div-mul-add, mod-mul-add, mod_below, pow_pos, BackingView, StorageView, Bytes, HeaderFields, cluster_size, entries_per_cluster, cover, IsInReach, old_data_run, Guest, Setting, guest_of, EffectOnSound, cleared, with_disk, Pending, Disk, table_at, given_shown, guest_at, works_less, works_then, Sizes-from, l2_pins, ClustersToFreeEntry, contents_in, known_in, IsEntryAt, own_cluster, InternalCall, ClearsImageCovers, ClearsPart, ClearsTable, IsUnderMapping, IsClearable, MayClear, ReadsAll, ReadsDropped, cover_once_cleared, given_bytes_between, is_between, listed_by, setting_of, shown_by, AreCleared, ClearMode, Qcow2, Prepared, l1_index_of, l2_index_of, IsPending, IsReadyWith, abstract_of, disk_of, listed_run, pending_in, pins_by, MovesTables, CoversStay, HoldsTable}
 use Rattle.qcow2_image.proofs.Images.Apart.{pins_own}
 use Rattle.qcow2_image.proofs.Clear.Cleared.{all_cleared}
@@ -11,11 +12,7 @@ use Rattle.qcow2_image.proofs.Images.ClusterMappings.{over_all_at}
 module _ (size row : ℕ) (some : 0 < size) where
   -- products in order
   more : (a b : ℕ) → a < b → a * size + size ≤ b * size
-  more a b lt =
-      let e : b ≡ a + 1 + (b - a - 1) = omega (arith, lt) in
-      let m : b * size ≡ (a + 1 + (b - a - 1)) * size = ap (λ x. x * size) e in
-      let r : (a + 1 + (b - a - 1)) * size ≡ a * size + size + (b - a - 1) * size = omega arith in
-      omega (arith, m, r)
+  more a b lt = let m : (a + 1) * size ≤ b * size = mul-le-mul_right size (omega (arith, lt)) in omega (arith, m)
 
   module _ (from to : ℕ) (begins : from % size ≡ 0) (ends : to % size ≡ 0) (lt : from < to) where
     pub from_is : from / size * size ≡ from
@@ -27,13 +24,7 @@ module _ (size row : ℕ) (some : 0 < size) where
     rising : from / size < to / size
     rising = elim (cases_lt (from / size) (to / size)) [
       | inl is ↦ is
-      | inr not ↦
-          let e : from / size ≡ to / size + (from / size - to / size) = omega (arith, not) in
-          let m : from / size * size ≡ (to / size + (from / size - to / size)) * size = ap (λ x. x * size) e in
-          let r : (to / size + (from / size - to / size)) * size ≡ to / size * size + (from / size - to / size) * size = omega arith in
-          let a = from_is in
-          let b = last_is in
-          absurd (omega (arith, m, r, a, b, lt))
+      | inr not ↦ let m : to / size * size ≤ from / size * size = mul-le-mul_right size not in let a = from_is in let b = last_is in absurd (omega (arith, m, a, b, lt))
     ]
 
     between_is : to - from ≡ (to / size - from / size) * size + 0

@@ -58,8 +58,7 @@ none_laid from to values d le =
 
 none_cleared : (x : Setting) (d : Disk) (how : Clearing) (from to : ℕ) → to ≤ from → cleared x d how from to ≡ d
 none_cleared x d to_backing from to le = none_laid from to (λ f i. known_byte (x.backing (f + i))) d le
-none_cleared x d to_zero from to le = none_laid from to (λ f i. known_byte 0) d le
-none_cleared x d to_kept_zero from to le = none_laid from to (λ f i. known_byte 0) d le
+none_cleared x d _ from to le = none_laid from to (λ f i. known_byte 0) d le
 
 -- what is refused gives nothing more
 pub refuses_more : (v w : AbstractImage) (gs : List GivenBytes) (e : Refusal) (still : Type 0) → RefusedEffect v w [] [] e still → RefusedEffect v w gs [] e still

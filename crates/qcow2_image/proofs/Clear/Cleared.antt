@@ -1,5 +1,6 @@
 -- Entries of a cached table are cleared one after another, and the clusters that they named wait to be freed.
 use Rattle.std.proofs.Common.{◌≡◌, ◌+◌, ◌-◌, ◌*◌, ◌^◌, ◌<◌, ◌≤◌, ◌∷◌, ◌++◌, inl, inr, ℕ, zero, suc, true, false, List, [], Option, refl, sym, ap, ◌∙◌, subst, arith, min, IsSome, IsTrue, nat_le, nat_lt}
+use Rattle.std.proofs.Math.Nat.{mul-le-mul_right}
 use Rattle.qcow2_image.proofs.Common.{cases_eq, cases_lt, and_from, and_left, and_right, cond-true, cond-false, le-leb, lt-leb, lt-ltb, le-ltb, pow_pos, pow_mono, BackingView, StorageView, Bytes, HeaderFields, cluster_size, cover, IsInReach, old_data_run, Setting, EffectOnSound, cleared, Pending, Disk, disk, uncovered, zeroed_between, ClearsRange, MapsEntry, MapsInTurn, given_shown, DriverState, guest_at, GivenBytes, entries_safe_throughout, KeepsPinsAndNotes, MetadataCaches, ClustersToFreeEntry, state_in, view_in, contents_in, known_in, IsEntryAt, l2_at, AreCleared, ClearsImageCovers, ClearsEntry, ClearsPart, ClearsTable, MayClear, cover_once_cleared, given_bytes_between, is_between, is_cleared, listed_by, setting_of, shown_by, with_caches, ClearMode, Zeros, KeptZeros, Qcow2, Prepared, ImageInvariant, abstract_of, backing_bytes, disk_of, listed_run, of_data, of_tables, pending_in, to_free, IsUngiven, file_invariant_of}
 use Rattle.qcow2_laws.proofs.MappedRanges.{clusters_in_turn_are_a_range}
 use Rattle.qcow2_alloc.proofs.CachePins.{marks_none, marks_then}
@@ -215,13 +216,9 @@ module _ {S F : Type 0} (view : S → StorageView) (backing : F → BackingView)
       | inr le ↦ elim (cases_lt c (g + n)) [
         | inl inside ↦
             let some : 0 < cluster_size h' = pow_pos h'.cluster_bits in
-            let first : c ≡ g + (c - g) = omega (arith, le) in
-            let last : g + n ≡ c + 1 + (g + n - c - 1) = omega (arith, inside) in
-            let first_at : c * cluster_size h' ≡ (g + (c - g)) * cluster_size h' = ap (λ x. x * cluster_size h') first in
-            let last_at : to ≡ (c + 1 + (g + n - c - 1)) * cluster_size h' = ap (λ x. x * cluster_size h') last in
-            let first_sum : (g + (c - g)) * cluster_size h' ≡ from + (c - g) * cluster_size h' = omega arith in
-            let last_sum : (c + 1 + (g + n - c - 1)) * cluster_size h' ≡ c * cluster_size h' + cluster_size h' + (g + n - c - 1) * cluster_size h' = omega arith in
-            absurd (untouched.0 (omega (arith, some, first_at, last_at, first_sum, last_sum), omega (arith, some, first_at, first_sum), omega (arith, some, first_at, last_at, first_sum, last_sum)))
+            let first_at : g * cluster_size h' ≤ c * cluster_size h' = mul-le-mul_right (cluster_size h') le in
+            let last_at : (c + 1) * cluster_size h' ≤ (g + n) * cluster_size h' = mul-le-mul_right (cluster_size h') (omega (arith, inside)) in
+            absurd (untouched.0 (omega (arith, some, first_at, last_at), omega (arith, some, first_at), omega (arith, some, last_at)))
         | inr past ↦ all.stays c (inr past)
       ]
     ]
@@ -261,33 +258,21 @@ module _ {S F : Type 0} (view : S → StorageView) (backing : F → BackingView)
     module _ (c : ℕ) where
       below_first : c < g → is_between h' from to c ≡ false
       below_first lt =
-          let e : g ≡ c + 1 + (g - c - 1) = omega (arith, lt) in
-          let m : g * cluster_size h' ≡ (c + 1 + (g - c - 1)) * cluster_size h' = ap (λ x. x * cluster_size h') e in
           let some : 0 < cluster_size h' = pow_pos h'.cluster_bits in
-          let r : (c + 1 + (g - c - 1)) * cluster_size h' ≡ c * cluster_size h' + cluster_size h' + (g - c - 1) * cluster_size h' = omega arith in
-          and_left (nat_le from (c * cluster_size h')) (nat_lt (c * cluster_size h') to) (lt-leb from (c * cluster_size h') (omega (arith, m, r, some)))
+          let m : (c + 1) * cluster_size h' ≤ g * cluster_size h' = mul-le-mul_right (cluster_size h') (omega (arith, lt)) in
+          and_left (nat_le from (c * cluster_size h')) (nat_lt (c * cluster_size h') to) (lt-leb from (c * cluster_size h') (omega (arith, m, some)))
 
       from_first : g ≤ c → from ≤ c * cluster_size h'
-      from_first le =
-          let e : c ≡ g + (c - g) = omega (arith, le) in
-          let m : c * cluster_size h' ≡ (g + (c - g)) * cluster_size h' = ap (λ x. x * cluster_size h') e in
-          let r : (g + (c - g)) * cluster_size h' ≡ g * cluster_size h' + (c - g) * cluster_size h' = omega arith in
-          omega (arith, m, r)
+      from_first le = mul-le-mul_right (cluster_size h') le
 
       past_last : g + n ≤ c → is_between h' from to c ≡ false
-      past_last le =
-          let e : c ≡ g + n + (c - (g + n)) = omega (arith, le) in
-          let m : c * cluster_size h' ≡ (g + n + (c - (g + n))) * cluster_size h' = ap (λ x. x * cluster_size h') e in
-          let r : (g + n + (c - (g + n))) * cluster_size h' ≡ (g + n) * cluster_size h' + (c - (g + n)) * cluster_size h' = omega arith in
-          and_right (nat_le from (c * cluster_size h')) (nat_lt (c * cluster_size h') to) (le-ltb (c * cluster_size h') to (omega (arith, m, r)))
+      past_last le = and_right (nat_le from (c * cluster_size h')) (nat_lt (c * cluster_size h') to) (le-ltb (c * cluster_size h') to (mul-le-mul_right (cluster_size h') le))
 
       within_both : g ≤ c → c < g + n → is_between h' from to c ≡ true
       within_both le lt =
-          let e : g + n ≡ c + 1 + (g + n - c - 1) = omega (arith, lt) in
-          let m : (g + n) * cluster_size h' ≡ (c + 1 + (g + n - c - 1)) * cluster_size h' = ap (λ x. x * cluster_size h') e in
           let some : 0 < cluster_size h' = pow_pos h'.cluster_bits in
-          let r : (c + 1 + (g + n - c - 1)) * cluster_size h' ≡ c * cluster_size h' + cluster_size h' + (g + n - c - 1) * cluster_size h' = omega arith in
-          and_from (nat_le from (c * cluster_size h')) (nat_lt (c * cluster_size h') to) (le-leb from (c * cluster_size h') (from_first le)) (lt-ltb (c * cluster_size h') to (omega (arith, m, r, some)))
+          let m : (c + 1) * cluster_size h' ≤ (g + n) * cluster_size h' = mul-le-mul_right (cluster_size h') (omega (arith, lt)) in
+          and_from (nat_le from (c * cluster_size h')) (nat_lt (c * cluster_size h') to) (le-leb from (c * cluster_size h') (from_first le)) (lt-ltb (c * cluster_size h') to (omega (arith, m, some)))
 
     covers_now : ClearsImageCovers how from to h' (known_in view a.file) h' (known_in view final.file)
     covers_now c = elim (cases_lt c g) [

@@ -79,14 +79,11 @@ entry_says KeptZeros bits has_zero external e zeros =
 -- the host cluster that is kept is aligned
 kept_aligned : (h : HeaderFields) (v : L2Mapping) (host : ℕ) → CoverIsAligned h v → copied_host v ≡ Some host → host % cluster_size h ≡ 0
 kept_aligned h (Data place true) host aligned is = let e : place ≡ host = cc in subst (λ n. n % cluster_size h ≡ 0) e aligned
-kept_aligned h (Data place false) host aligned is = absurd cc
-kept_aligned h (Zero None) host aligned is = absurd cc
 kept_aligned h (Zero (Some k)) host aligned is = by_mark k.0 k.1 aligned is where
   by_mark : (place : ℕ) (checkpoint : Bool) → place % cluster_size h ≡ 0 → cond checkpoint (Some place) None ≡ Some host → host % cluster_size h ≡ 0
   by_mark place true at e = let p : place ≡ host = cc in subst (λ n. n % cluster_size h ≡ 0) p at
   by_mark place false at e = absurd cc
-kept_aligned h (Compressed place sectors) host aligned is = absurd cc
-kept_aligned h M.Uncovered host aligned is = absurd cc
+kept_aligned h _ host aligned is = absurd cc
 
 takes_kept : (h : HeaderFields) (new_data : ℕ → ℕ) (v : L2Mapping) (kept : Option ℕ) → copied_host v ≡ kept → CoverIsAligned h v → Takes h new_data v (zero_cover kept)
 takes_kept h new_data v None is aligned = (takes_nothing h new_data v).1
@@ -180,14 +177,11 @@ module _ {S F : Type 0} (view : S → StorageView) (backing : F → BackingView)
 
   zeros_mapped : (v : L2Mapping) → cover h known guest ≡ v → IsZeros v → Mapped
   zeros_mapped (Zero kept) is zeros = let m = entry_zeroed s known row column crash_invariant changes sound.inside kept is in record { sound_then = m.safe_step.sound; covers = m.unseen.covers }
-  zeros_mapped (Data host checkpoint) is zeros = absurd zeros
-  zeros_mapped (Compressed host sectors) is zeros = absurd zeros
-  zeros_mapped M.Uncovered is zeros = absurd zeros
+  zeros_mapped _ is zeros = absurd zeros
 
   mapped_as : (x : ClearMode) → is_cleared x (cover h known guest) → Mapped
   mapped_as Uncovered is = let m = entry_uncovered s known row column crash_invariant changes sound.inside is in record { sound_then = m.safe_step.sound; covers = m.unseen.covers }
-  mapped_as Zeros is = zeros_mapped (cover h known guest) refl is
-  mapped_as KeptZeros is = zeros_mapped (cover h known guest) refl is
+  mapped_as _ is = zeros_mapped (cover h known guest) refl is
 
   is_now : is_cleared how (cover h known guest)
   is_now = subst (is_cleared how) (sym covered) (cleared_is how old)
@@ -241,9 +235,6 @@ module _ {S F : Type 0} (view : S → StorageView) (backing : F → BackingView)
     once = sound.once;
   }
 
-  final_turn : MapsEntry (is_cleared how) guest s (state_in view final.file after)
-  final_turn = record { known = known; row = row; column = column; here = refl; changes = changes; maps = is_now; is = same_stand }
-
   named_then : (k : ℕ) → names h known k guest ≡ named_by_cover h k (cover_once_cleared how old)
   named_then k = names_inside h sound.inside known k guest ∙ ap (named_by_cover h k) covered
 
@@ -254,7 +245,7 @@ module _ {S F : Type 0} (view : S → StorageView) (backing : F → BackingView)
   final_cleared = record {
     now = after;
     sound_now = final_sound;
-    turn = final_turn;
+    turn = record { known = known; row = row; column = column; here = refl; changes = changes; maps = is_now; is = same_stand };
     cleared = covered;
     stays = mapped.covers;
     table_stays = ap host_offset (same_l1 row);

@@ -1,5 +1,6 @@
 -- The range that a call touches: whole clusters within one L2 table.
 use Rattle.std.proofs.Common.{◌≡◌, ◌+◌, ◌-◌, ◌*◌, ◌/◌, ◌%◌, ◌<◌, ◌≤◌, ◌==◌, inl, inr, ℕ, Bool, true, false, sym, ap, ◌∙◌, arith, cond, min, mul_assoc}
+use Rattle.std.proofs.Math.Nat.{mul-le-mul_right}
 use Rattle.qcow2_image.proofs.Common.{cases_lt, div-add-mod', mod-mul-add, mod_below, HeaderFields, cluster_size, entries_per_cluster, rounded_up, rounded_down, rest_of_table, touched_from, touched_to}
 
 -- where the touched range ends, by the rest of a table
@@ -11,11 +12,7 @@ module _ (h : HeaderFields) (some : 0 < cluster_size h) (rows : 0 < entries_per_
   table_is = omega arith
 
   some_table : 0 < table
-  some_table =
-      let e : entries_per_cluster h ≡ 1 + (entries_per_cluster h - 1) = omega (arith, rows) in
-      let m : entries_per_cluster h * cluster_size h ≡ (1 + (entries_per_cluster h - 1)) * cluster_size h = ap (λ x. x * cluster_size h) e in
-      let r : (1 + (entries_per_cluster h - 1)) * cluster_size h ≡ cluster_size h + (entries_per_cluster h - 1) * cluster_size h = omega arith in
-      omega (arith, m, r, some)
+  some_table = let m : 1 * cluster_size h ≤ entries_per_cluster h * cluster_size h = mul-le-mul_right (cluster_size h) (omega (arith, rows)) in omega (arith, m, some)
 
   pub table_end : from + rest_of_table h from ≡ rounded_down (cluster_size h / 8 * cluster_size h) from + cluster_size h / 8 * cluster_size h
   table_end =

@@ -13,10 +13,7 @@ none_below backing view (Some f) alone = absurd (cc alone)
 -- the mode that shows the old bytes, or another
 by_mode : (P : PreallocateMode → Type 0) (mode : PreallocateMode) → (shows_old mode ≡ true → P Mode.None) → (shows_old mode ≡ false → P mode) → P mode
 by_mode P Mode.None shown hidden = shown refl
-by_mode P Mode.Zero shown hidden = hidden refl
-by_mode P Mode.FormatAllocate shown hidden = hidden refl
-by_mode P Mode.FullAllocate shown hidden = hidden refl
-by_mode P Mode.WriteData shown hidden = hidden refl
+by_mode P _ shown hidden = hidden refl
 
 -- whatever a growth answers
 grows_works : {S F : Type 0} (view : S → StorageView) (backing : F → BackingView) (old new : Qcow2 S F) (size : ℕ) (mode : PreallocateMode) (r : Result (Unit {0}) ImageError) → GrowsTo view backing old new size mode r → (abstract_of view backing old []).is_sound

@@ -9,12 +9,9 @@ use Rattle.qcow2_image.specs.CountedOpening.{OpeningCounts}
 use Rattle.qcow2_image.proofs.Create.Faults.{opening_fault}
 use Rattle.qcow2_image.proofs.Create.NewDisks.{new_disk_consistent}
 
-fault_met : (e : ImageError) → IsFault e → MayFail e
-fault_met e fault = elim fault [ inl storage ↦ subst MayFail (sym storage) tt | inr memory ↦ subst MayFail (sym memory) tt ]
-
 pub faults_met : {T : Type 0} (r : Result T ImageError) → IfErr r IsFault → IfErr r MayFail
 faults_met (Ok x) fault = tt
-faults_met (Err e) fault = fault_met e fault
+faults_met (Err e) fault = elim fault [ inl storage ↦ subst MayFail (sym storage) tt | inr memory ↦ subst MayFail (sym memory) tt ]
 
 -- the opening of a consistent image isn't refused for a limit
 no_limit : (contents : _) → IsConsistent (byte_at contents) → IsJustifiedRefusal contents true N.Nothing I.Limit → ⊥

@@ -38,23 +38,18 @@ module _ (contents : List ℕ) (consistent : IsConsistent (byte_at contents)) wh
 takes_none : {S F : Type 0} (image : Qcow2 S F) (mode : PreallocateMode) → is_some image.backing ≡ false → IsTrue (takes_over image mode) → ⊥
 takes_none image Mode.None alone takes = absurd (let bad : false ≡ true = takes in cc)
 takes_none image Mode.Zero alone takes = absurd (let bad : false ≡ true = takes in cc)
-takes_none image Mode.FormatAllocate alone takes = absurd (let bad : false ≡ true = sym alone ∙ takes in cc)
-takes_none image Mode.FullAllocate alone takes = absurd (let bad : false ≡ true = sym alone ∙ takes in cc)
-takes_none image Mode.WriteData alone takes = absurd (let bad : false ≡ true = sym alone ∙ takes in cc)
+takes_none image _ alone takes = absurd (let bad : false ≡ true = sym alone ∙ takes in cc)
 
 pub none_prepared : HasPinnedMapping [] → ⊥
 none_prepared some = absurd (let none = some.there in cc)
 
 module _ {S F : Type 0} (view : S → StorageView) (old : Qcow2 S F) (unmapped : IsUnmapped view old) where
-  none_compressed : (from to : ℕ) → HasCompressedIn from to old.file.header.fields (known_in view old.file) → ⊥
-  none_compressed from to some = subst (λ (v : L2Mapping). IsCompressed v) (unmapped.covers some.guest) some.is
-
   filling_fault : (mode : PreallocateMode) (from to : ℕ) (e : ImageError) → MayFailGrowing [] mode from to old.file.header.fields (known_in view old.file) e → IsFaultOrLimit e
   filling_fault mode from to e may_fail = elim may_fail [
     | inl taking ↦ elim taking [
       | inl alone ↦ elim alone [
         | inl plain ↦ plain
-        | inr other ↦ elim other [ inl compressed ↦ absurd (none_compressed from _ compressed.1) | inr far ↦ absurd far.1 ]
+        | inr other ↦ elim other [ inl compressed ↦ absurd (subst (λ (v : L2Mapping). IsCompressed v) (unmapped.covers compressed.1.guest) compressed.1.is) | inr far ↦ absurd far.1 ]
       ]
       | inr other ↦ elim other [ inl held ↦ absurd (none_prepared held.1) | inr kept ↦ absurd (none_prepared kept.1) ]
     ]

@@ -15,24 +15,15 @@ unwritten_zeros n b unwritten = record { consistent = unwritten.consistent; size
 
 pub unwritten_new : (mode : PreallocateMode) (n : ℕ) (b : Bytes) → IsUnwritten n b → IsNewDisk mode n b
 unwritten_new Mode.None n b unwritten = unwritten
-unwritten_new Mode.Zero n b unwritten = unwritten_zeros n b unwritten
-unwritten_new Mode.FormatAllocate n b unwritten = unwritten_zeros n b unwritten
-unwritten_new Mode.FullAllocate n b unwritten = unwritten_zeros n b unwritten
-unwritten_new Mode.WriteData n b unwritten = unwritten_zeros n b unwritten
+unwritten_new _ n b unwritten = unwritten_zeros n b unwritten
 
 pub zeros_new : (mode : PreallocateMode) (n : ℕ) (b : Bytes) → shows_old mode ≡ false → ShowsZeros n b → IsNewDisk mode n b
 zeros_new Mode.None n b hides zeros = absurd (cc hides)
-zeros_new Mode.Zero n b hides zeros = zeros
-zeros_new Mode.FormatAllocate n b hides zeros = zeros
-zeros_new Mode.FullAllocate n b hides zeros = zeros
-zeros_new Mode.WriteData n b hides zeros = zeros
+zeros_new _ n b hides zeros = zeros
 
 pub new_disk_consistent : (mode : PreallocateMode) (n : ℕ) (b : Bytes) → IsNewDisk mode n b → IsConsistent b
 new_disk_consistent Mode.None n b new = new.consistent
-new_disk_consistent Mode.Zero n b new = new.consistent
-new_disk_consistent Mode.FormatAllocate n b new = new.consistent
-new_disk_consistent Mode.FullAllocate n b new = new.consistent
-new_disk_consistent Mode.WriteData n b new = new.consistent
+new_disk_consistent _ n b new = new.consistent
 
 -- a cover that shows whatever disk is below is none
 shown_by : (h : HeaderFields) (b : Bytes) (o : ℕ) (v : L2Mapping) → ((backing : Bytes) → value_under h b b backing o v ≡ known_byte (backing o)) → v ≡ Uncovered

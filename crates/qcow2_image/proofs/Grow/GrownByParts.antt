@@ -16,10 +16,7 @@ reaches_so h size i sizes is lt =
 -- one mode alone shows the old bytes
 pub shown_none : (mode : PreallocateMode) → shows_old mode ≡ true → mode ≡ Mode.None
 shown_none Mode.None shows = refl
-shown_none Mode.Zero shows = absurd cc
-shown_none Mode.FormatAllocate shows = absurd cc
-shown_none Mode.FullAllocate shows = absurd cc
-shown_none Mode.WriteData shows = absurd cc
+shown_none _ shows = absurd cc
 
 module _ {S F : Type 0} (view : S → StorageView) where
   -- ---- over every disk below

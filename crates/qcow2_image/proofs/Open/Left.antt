@@ -3,19 +3,13 @@ use Rattle.std.proofs.Common.{◌≡◌, ◌≢◌, ◌⊎◌, ◌≤◌, ◌&&�
 use Rattle.qcow2_image.proofs.Common.{not, IsOk, cases_eq, ne_eqb, Calls, Changes, ContentsBecome, ContentsStay, EachMomentSince, HasCause, StorageView, IsLeftBy, StorageError, passes_if, passes_on, rose_since, whole_or_nothing, byte_at, HeaderView, header, with_fields, without_autoclear, IsHeaderIn, autoclear_cleared, OnlyReads, MetadataError, autoclear_still, of_storage, view_in, storage_of, ImageError, ImageFile, ImageStorage, Qcow2, LeavesFile, LeavesStorage, OpensAtOnce, StandsOpened, StandsRefused, opened_contents}
 use Rattle.image_access.specs.declared.error.StorageError.TheVariants.{Fault, Memory}
 
-cleared_if : (n : ℕ) → n ≡ 0 → (c d : List ℕ) → (if true && not (n == 0) then c else d) ≡ d
-cleared_if n none c d = subst (λ (k : ℕ). (if true && not (k == 0) then c else d) ≡ d) (sym none) refl
-
-cleared_else : (n : ℕ) → n ≢ 0 → (c d : List ℕ) → (if true && not (n == 0) then c else d) ≡ c
-cleared_else n some c d = subst (λ (t : Bool). (if true && not t then c else d) ≡ c) (sym (ne_eqb n 0 some)) refl
-
 -- where no bit is set they stay
 pub opened_none : (writable : Bool) (contents : List ℕ) → (header (byte_at contents)).autoclear ≡ 0 → opened_contents writable contents ≡ contents
-opened_none true contents none = cleared_if (header (byte_at contents)).autoclear none (autoclear_cleared contents) contents
+opened_none true contents none = subst (λ (k : ℕ). (if true && not (k == 0) then (autoclear_cleared contents) else contents) ≡ contents) (sym none) refl
 opened_none false contents none = refl
 
 pub opened_some : (contents : List ℕ) → (header (byte_at contents)).autoclear ≢ 0 → opened_contents true contents ≡ autoclear_cleared contents
-opened_some contents some = cleared_else (header (byte_at contents)).autoclear some (autoclear_cleared contents) contents
+opened_some contents some = subst (λ (t : Bool). (if true && not t then (autoclear_cleared contents) else contents) ≡ (autoclear_cleared contents)) (sym (ne_eqb (header (byte_at contents)).autoclear 0 some)) refl
 
 -- ---- a storage that was read
 pub moments_read : (writable : Bool) (old new : StorageView) → EachMomentSince old new (IsLeftBy new) → new.contents ≡ old.contents → OpensAtOnce writable old new

@@ -17,12 +17,11 @@ needs_so v w contents is it =
 -- no header that reads is refused but for an offset, a fault or want of memory
 pub refused_before : (h : HeaderFields) (b : Bytes) (writable : Bool) (e : MetadataError) → HeaderReads h b → IsReasonToRefuse h b writable e → (of_metadata e ≡ UnalignedTable) ⊎ IsFault (of_metadata e)
 refused_before h b writable (M.Storage T.Fault) reads why = inr (inl refl)
-refused_before h b writable (M.Storage T.Memory) reads why = inr (inr refl)
-refused_before h b writable M.Memory reads why = inr (inr refl)
 refused_before h b writable M.Version reads why = absurd why
 refused_before h b writable M.Unaligned reads why = inl refl
 refused_before h b writable M.Limit reads why = absurd (why.1 reads.within_limits)
 refused_before h b writable M.Format reads why = absurd (why reads.well_formed)
+refused_before h b writable _ reads why = inr (inr refl)
 
 pub lacks_so : (missing : Missing) (v w : HeaderView) (contents : List ℕ) → IsHeaderIn v contents → IsHeaderIn w contents → needs_missing missing v ≡ needs_missing missing w
 lacks_so N.Nothing v w contents is it = refl

@@ -1,5 +1,6 @@
 -- The mappings of guest clusters after parts of a range are filled.
 use Rattle.std.proofs.Common.{◌≡◌, ◌⊎◌, ◌+◌, ◌-◌, ◌*◌, ◌/◌, ◌%◌, ◌<◌, ◌≤◌, inl, inr, ℕ, true, false, Option, Some, None, refl, sym, ap, ◌∙◌, arith}
+use Rattle.std.proofs.Math.Nat.{mul-le-mul_right}
 use Rattle.qcow2_image.proofs.Common.{and_from, and_left, and_right, cases_lt, cond-false, cond-true, le-leb, le-ltb, lt-leb, lt-ltb, div-add-mod', mod-mul-add, mod_below, pow_pos, Bytes, HeaderFields, L2Mapping, cover, cluster_size, copied_host, zero_cover, is_copied_data, ClearsImageCovers, cover_once_cleared, is_between, KeptZeros, CoversStay, FilledCovers}
 use Rattle.qcow2_image.specs.Preallocation.{Touches}
 
@@ -11,16 +12,8 @@ boundary cs from to some whole lt =
     let t : to / cs * cs + to % cs ≡ to = div-add-mod' to cs in
     let b = mod_below from cs some in
     elim (cases_lt (from / cs) (to / cs)) [
-      | inl before ↦
-          let e : to / cs ≡ from / cs + 1 + (to / cs - from / cs - 1) = omega (arith, before) in
-          let m : to / cs * cs ≡ (from / cs + 1 + (to / cs - from / cs - 1)) * cs = ap (λ x. x * cs) e in
-          let r : (from / cs + 1 + (to / cs - from / cs - 1)) * cs ≡ from / cs * cs + cs + (to / cs - from / cs - 1) * cs = omega arith in
-          omega (arith, f, t, b, m, r, whole)
-      | inr behind ↦
-          let e : from / cs ≡ to / cs + (from / cs - to / cs) = omega (arith, behind) in
-          let m : from / cs * cs ≡ (to / cs + (from / cs - to / cs)) * cs = ap (λ x. x * cs) e in
-          let r : (to / cs + (from / cs - to / cs)) * cs ≡ to / cs * cs + (from / cs - to / cs) * cs = omega arith in
-          absurd (omega (arith, f, t, m, r, whole, lt))
+      | inl before ↦ let m : (from / cs + 1) * cs ≤ to / cs * cs = mul-le-mul_right cs (omega (arith, before)) in omega (arith, f, t, b, m, whole)
+      | inr behind ↦ let m : to / cs * cs ≤ from / cs * cs = mul-le-mul_right cs behind in absurd (omega (arith, f, t, m, whole, lt))
     ]
 
 module _ (cs : ℕ) (some : 0 < cs) where
@@ -41,10 +34,8 @@ module _ (cs : ℕ) (some : 0 < cs) where
     | inr past ↦
         let f : from / cs * cs + from % cs ≡ from = div-add-mod' from cs in
         let b = mod_below from cs some in
-        let e : g ≡ from / cs + (g - from / cs) = omega (arith, past) in
-        let m : g * cs ≡ (from / cs + (g - from / cs)) * cs = ap (λ x. x * cs) e in
-        let r : (from / cs + (g - from / cs)) * cs ≡ from / cs * cs + (g - from / cs) * cs = omega arith in
-        absurd (omega (arith, f, b, m, r, before))
+        let m : from / cs * cs ≤ g * cs = mul-le-mul_right cs past in
+        absurd (omega (arith, f, b, m, before))
   ]
 
   pub touches_or : (from to g : ℕ) → Touches cs from to g ⊎ (Touches cs from to g → ⊥)

@@ -26,10 +26,8 @@ under_prepared h offset out under = record { place = under.place; mapping = unde
 
 -- copied data isn't, nor are zeros
 copied_plain : (v : L2Mapping) → is_copied_data v ≡ true → IsCompressed v → ⊥
-copied_plain (Data host copied) copied_is is = is
-copied_plain (Zero kept) copied_is is = is
 copied_plain (Compressed place sectors) copied_is is = let no : false ≡ true = copied_is in absurd cc
-copied_plain Uncovered copied_is is = is
+copied_plain _ copied_is is = is
 
 zeros_plain : (kept : Option ℕ) → IsCompressed (zero_cover kept) → ⊥
 zeros_plain None is = is

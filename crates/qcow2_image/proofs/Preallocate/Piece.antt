@@ -1,4 +1,5 @@
 -- The first bytes of a range are filled: a mapping is prepared, zeros are written into it, and it is committed.
+use Rattle.std.proofs.Math.Nat.{mul-le-mul_right}
 use Rattle.qcow2_image.proofs.Common.{IsNone, slice_get, slice_set, cases_lt, length-replicate, div-add-mod', div-mul-add, mod_below, pow_pos, BackingView, overwritten, StorageView, EachMomentSince, IsLeftBy, entry_count, Bytes, HeaderFields, cover, cluster_size, Setting, guest_of, AreDataAt, IsDataAt, EffectOnSound, with_slot, given_by_commit, is_copied_data, works_then, ImageError, ImageStorage, contents_in, known_in, view_in, storage_of, Qcow2, Prepared, AreCopied, EntersAll, IsEntered, IsReadied, IsWriteOutcome, PutsPart, RefusedCall, StaysBeside, WritesBytes, Discards, ReleasesOneMapping, InPlace, ImageInvariant, IsPending, IsReadyWith, cluster_of, abstract_of, disk_of, image_abstraction, meaning, pending_in, ReachingStays, KeepsL1Place, MovesTables, ChangesFree, FilledCovers, CommitsWhole, FillsPart, FillsSome, InterruptedGiving, given_by_zeros, file_sizes, IsUnderMapping, l1_index_of, IsAnswered}
 use Rattle.std.proofs.Common.{◌≡◌, ◌⊎◌, ◌+◌, ◌-◌, ◌*◌, ◌/◌, ◌%◌, ◌^◌, ◌<◌, ◌≤◌, ◌∷◌, ⊎_elim, inl, inr, ℕ, min, true, false, Bool, List, [], length, refl, sym, ap, ◌∙◌, subst, arith, IsSome, replicate, Option, Some, None, Result, Ok, Err, pow_mono}
 use Rattle.qcow2_alloc.specs.declared.error.ImageError.TheVariants as I
@@ -50,18 +51,14 @@ touched_mapping cs first guest len many g some is enough low high =
     let reach : guest / cs ≤ g = elim (cases_lt g (guest / cs)) [
       | inr le ↦ le
       | inl past ↦
-          let e : guest / cs ≡ g + 1 + (guest / cs - g - 1) = omega (arith, past) in
-          let m : guest / cs * cs ≡ (g + 1 + (guest / cs - g - 1)) * cs = ap (λ x. x * cs) e in
-          let r : (g + 1 + (guest / cs - g - 1)) * cs ≡ g * cs + cs + (guest / cs - g - 1) * cs = omega arith in
-          absurd (omega (arith, f, m, r, low))
+          let m : (g + 1) * cs ≤ guest / cs * cs = mul-le-mul_right cs (omega (arith, past)) in
+          absurd (omega (arith, f, m, low))
     ] in
     let near : g - guest / cs < many = elim (cases_lt (g - guest / cs) many) [
       | inl lt ↦ lt
       | inr past ↦
-          let e : g ≡ guest / cs + many + (g - guest / cs - many) = omega (arith, past, reach) in
-          let m : g * cs ≡ (guest / cs + many + (g - guest / cs - many)) * cs = ap (λ x. x * cs) e in
-          let r : (guest / cs + many + (g - guest / cs - many)) * cs ≡ guest / cs * cs + many * cs + (g - guest / cs - many) * cs = omega arith in
-          absurd (omega (arith, f, m, r, enough, high))
+          let m : (guest / cs + many) * cs ≤ g * cs = mul-le-mul_right cs (omega (arith, past, reach)) in
+          absurd (omega (arith, f, m, enough, high))
     ] in
     (omega (arith, is, reach), omega (arith, is, near))
 

@@ -16,9 +16,6 @@ behind_first g = record { disk = g.disk; slots = λ k. g.slots (suc k) }
 pub behind_slot : (g : Guest) (m : Option PreparedMapping) → behind_first (with_slot g 0 m) ≡ behind_first g
 behind_slot g m = ap (λ (f : ℕ → Option PreparedMapping). record g { slots = f }) (fun_ext (λ k. cond-false (eqb (suc k) 0) m (g.slots (suc k)) (ne_eqb (suc k) 0 (λ e. absurd (omega arith)))))
 
-some_same : {X : Type 0} {a b : X} → Some a ≡ Some b → a ≡ b
-some_same e = cc
-
 module _ {D P : Type 0} (spec : Abstraction D P) (has : HasFreePlaces spec) (in_image : (d : D) → spec.data_bytes d ≡ spec.known d) where
   abbrev at_place : D → Option P → List (Option P) → AbstractImage
   at_place d p out = abstract_image spec d (p ∷ out)
@@ -97,7 +94,7 @@ module _ {D P : Type 0} (spec : Abstraction D P) (has : HasFreePlaces spec) (in_
         mapping2 = put_mapping m 0 zeros
 
         means_is : spec.means d2 p ≡ mapping2
-        means_is = some_same (ap (λ (g : Guest). g.slots 0) put_is)
+        means_is = let same = ap (λ (g : Guest). g.slots 0) put_is in cc
 
         guest2 : behind_first (guest_of (at_place d2 (Some p) out)) ≡ with_disk (guest_of (abstract_image spec d0 out)) disk2
         guest2 =
