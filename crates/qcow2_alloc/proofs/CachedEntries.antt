@@ -12,3 +12,4 @@ pub mod Room
 pub mod Turns
 pub mod Staying
 pub mod Hits
+pub mod Keeping

@@ -4,6 +4,8 @@ use Rattle.qcow2_alloc.proofs.Common.{le_refl, le_trans, StorageView, HeaderView
 use Rattle.qcow2_alloc.proofs.AllocationSteps.{allocator_step_none, is_sound_now, may_lower_still}
 use Rattle.qcow2_alloc.proofs.Freeing.{behind_first, but_more, but_same, first_owed, frees_as, frees_then, listed_none, run_freed, run_refused, with_both, with_one, with_relisted}
 use Rattle.qcow2_alloc.proofs.Steps.{fails_ok, fails_since, free_step_listed, free_step_none, free_step_of, free_step_then}
+use Rattle.qcow2_alloc.proofs.FreedEach.{blocks_same, off_as, off_beside, off_done, off_first, off_none, off_of, off_refused, off_then}
+use Rattle.qcow2_alloc.specs.Leaks.{DecrementsOrLeaks, FreesOff}
 use Rattle.qcow2_alloc.proofs.UnalignedLeaks.{leaks_as, leaks_before, leaks_behind, leaks_done, leaks_first, leaks_none, leaks_then}
 
 module _ {S : Type 0} {view : S → StorageView} {kind : ClusterKind} where
@@ -15,6 +17,7 @@ module _ {S : Type 0} {view : S → StorageView} {kind : ClusterKind} where
     sound = λ p sound may. record { gives = allocator_step_none view (with_listed p l) f t sound; leaks = refl; hint = λ hint. hint };
     grows = le_refl _;
     unaligned = leaks_none f.header.fields t.reftable t t l (le_refl _);
+    each = off_none f.header.fields t.reftable t f.caches f.caches l (blocks_same f.caches);
   }
 
   pub listed_then : {t t' t'' : Allocator} {a b c : ImageFile S} {l m r : List ClustersToFreeEntry} {result : Result (Unit {0}) ImageError} → FreesListed view kind t a l t' b m (Ok tt) → FreesListed view kind t' b m t'' c r result → FreesListed view kind t a l t'' c r result
@@ -33,6 +36,8 @@ module _ {S : Type 0} {view : S → StorageView} {kind : ClusterKind} where
     grows = le_trans first.grows then.grows;
     unaligned = leaks_then a.header.fields t.reftable t t' t'' l m r first.unaligned
         (leaks_as a.header.fields b.header.fields t.reftable t'.reftable t' t'' m m r r (ap (λ (x : HeaderView). x.fields) first.step.header) first.step.reftable refl refl then.unaligned);
+    each = off_then a.header.fields t.reftable t t' t'' a.caches b.caches c.caches l m r result first.each
+        (off_of a.header.fields b.header.fields t.reftable t'.reftable t' t'' b.caches c.caches m r result (ap (λ (x : HeaderView). x.fields) first.step.header) first.step.reftable then.each);
   }
 
   -- beside entries that are taken
@@ -50,6 +55,7 @@ module _ {S : Type 0} {view : S → StorageView} {kind : ClusterKind} where
         };
     grows = frees.grows;
     unaligned = leaks_before a.header.fields t.reftable t t' l m rest frees.unaligned;
+    each = off_beside a.header.fields t.reftable t t' a.caches b.caches l m rest result frees.each;
   }
 
   -- the lists said in another way, and other ones in the files
@@ -68,6 +74,7 @@ module _ {S : Type 0} {view : S → StorageView} {kind : ClusterKind} where
         };
     grows = frees.grows;
     unaligned = leaks_as a.header.fields a.header.fields t.reftable t.reftable t t' l' l m' m refl refl same same' frees.unaligned;
+    each = off_as a.header.fields t.reftable t t' a.caches b.caches l' l m' m result same same' frees.each;
   }
 
   -- the first of the entries that are taken
@@ -91,6 +98,7 @@ module _ {S : Type 0} {view : S → StorageView} {kind : ClusterKind} where
         };
     grows = frees.grows;
     unaligned = leaks_done a.header.fields t.reftable t t' m l run none frees.unaligned;
+    each = off_done a.header.fields t.reftable t t' a.caches b.caches m l run (Ok tt) none frees.each;
   }
 
 -- what lowering the count of a cluster gives
@@ -102,8 +110,9 @@ module _ {S : Type 0} {view : S → StorageView} {t t' : Allocator} {a b : Image
   -- a run behind the others on a list
   run_listed : {result : Result (Unit {0}) ImageError} (next : ClustersToFreeEntry) → next.kind ≡ run.kind → TableStep view t.reftable a t'.reftable b → t'.reftable ≡ t.reftable → Fails view a.storage b.storage result IsOfTables
       → ((p : Pending) → AllocatorInvariant view t (listed_as run.kind p (run_of run)) a → MayFree run.kind a → GivesSoundly view (Frees view (listed_as run.kind p (run_of run)) a t' b (listed_as run.kind p (run_of next)) result) t a t' b result)
-      → t.leaked_clusters ≤ t'.leaked_clusters → LeaksUnaligned a.header.fields t.reftable t t' (run ∷ []) (next ∷ []) → FreesListed view run.kind t a (l ++ run ∷ []) t' b (l ++ next ∷ []) result
-  run_listed {result} next of_kind step same fails sound grows unaligned = record {
+      → t.leaked_clusters ≤ t'.leaked_clusters → LeaksUnaligned a.header.fields t.reftable t t' (run ∷ []) (next ∷ [])
+      → FreesOff a.header.fields t.reftable t a.caches (l ++ run ∷ []) t' b.caches (l ++ next ∷ []) result → FreesListed view run.kind t a (l ++ run ∷ []) t' b (l ++ next ∷ []) result
+  run_listed {result} next of_kind step same fails sound grows unaligned each = record {
     step = free_step_of same step;
     fails = fails;
     others = but_same run.kind l next of_kind ∙ sym (but_same run.kind l run refl);
@@ -118,13 +127,14 @@ module _ {S : Type 0} {view : S → StorageView} {t t' : Allocator} {a b : Image
         };
     grows = grows;
     unaligned = leaks_behind a.header.fields t.reftable t t' l (run ∷ []) (next ∷ []) unaligned;
+    each = each;
   }
 
   module _ {at : ℕ} (some : 0 < run.count) (is : at ≡ run.first_cluster) (step : TableStep view t.reftable a t'.reftable b) (same : t'.reftable ≡ t.reftable) (grows : t.leaked_clusters ≤ t'.leaked_clusters) where
     -- its first cluster is freed
     pub run_lowered : (next : ClustersToFreeEntry) → Fails view {T = Unit {0}} a.storage b.storage (Ok tt) IsOfTables → DecrementsSoundly view at t a t' b (Ok tt) → (run.first_cluster + 1 < 2 ^ 64 → next.first_cluster ≡ run.first_cluster + 1) → next.count ≡ run.count - 1 → next.kind ≡ run.kind
-        → (IsUnaligned a.header.fields t.reftable (at / counts_per_block a.header.fields) → LeaksOne t t') → FreesListed view run.kind t a (l ++ run ∷ []) t' b (l ++ next ∷ []) (Ok tt)
-    run_lowered next fails sound first count of_kind leaks = run_listed next of_kind step same fails
+        → (IsUnaligned a.header.fields t.reftable (at / counts_per_block a.header.fields) → LeaksOne t t') → DecrementsOrLeaks a.header.fields t.reftable t a.caches t' b.caches at (Ok tt) → FreesListed view run.kind t a (l ++ run ∷ []) t' b (l ++ next ∷ []) (Ok tt)
+    run_lowered next fails sound first count of_kind leaks lowers = run_listed next of_kind step same fails
         (λ p begun may.
         let q = listed_as run.kind p (run_of run) in
         let low = sound (behind_first run run.kind p) (Listed run.kind) (first_owed view run.kind p run some at is a t begun) may in
@@ -134,10 +144,11 @@ module _ {S : Type 0} {view : S → StorageView} {t t' : Allocator} {a b : Image
           hint = low.hint;
         })
         grows (leaks_first a.header.fields t.reftable run next some first count t t' grows (λ u. leaks (subst (λ n. IsUnaligned a.header.fields t.reftable (n / counts_per_block a.header.fields)) (sym is) u)))
+        (off_first a.header.fields t.reftable t t' a.caches b.caches l run next at is some first count lowers)
 
     -- it can't be freed
-    pub run_stays : {e : ImageError} → Fails view {T = Unit {0}} a.storage b.storage (Err e) IsOfTables → DecrementsSoundly view at t a t' b (Err e) → FreesListed view run.kind t a (l ++ run ∷ []) t' b (l ++ run ∷ []) (Err e)
-    run_stays {e} fails sound = run_listed run refl step same fails
+    pub run_stays : {e : ImageError} → Fails view {T = Unit {0}} a.storage b.storage (Err e) IsOfTables → DecrementsSoundly view at t a t' b (Err e) → DecrementsOrLeaks a.header.fields t.reftable t a.caches t' b.caches at (Err e) → FreesListed view run.kind t a (l ++ run ∷ []) t' b (l ++ run ∷ []) (Err e)
+    run_stays {e} fails sound stopped = run_listed run refl step same fails
         (λ p begun may.
         let q = listed_as run.kind p (run_of run) in
         let low = sound (behind_first run run.kind p) (Listed run.kind) (first_owed view run.kind p run some at is a t begun) may in
@@ -147,3 +158,4 @@ module _ {S : Type 0} {view : S → StorageView} {t t' : Allocator} {a b : Image
           hint = low.hint;
         })
         grows (leaks_none a.header.fields t.reftable t t' (run ∷ []) grows)
+        (off_refused a.header.fields t.reftable t t' a.caches b.caches (l ++ run ∷ []) e stopped.0 stopped.1)

@@ -30,6 +30,7 @@ pub mod PuttingBlocks
 pub mod Ordering
 pub mod InOrder
 pub mod Quiet
+pub mod Promoting
 pub mod AllWritten
 pub mod OneChanged
 pub mod ApartOff

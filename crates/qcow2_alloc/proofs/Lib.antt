@@ -25,6 +25,7 @@ pub mod FreedLists
 pub mod MadeClusters
 pub mod Leaks
 pub mod UnalignedLeaks
+pub mod FreedEach
 pub mod Lengths
 pub mod Rooms
 pub mod FullRooms

@@ -16,7 +16,7 @@ told_unaligned h t range is =
     no_zero n so none = let is : (n == 0) ≡ true = ap (λ k. k == 0) none in let bad : false ≡ true = ap not (sym is) ∙ so in cc
 
 -- a list behind another one
-listed_both : (l m : List ClustersToFreeEntry) (k : ℕ) → listed_at (l ++ m) k ≡ listed_at l k + listed_at m k
+pub listed_both : (l m : List ClustersToFreeEntry) (k : ℕ) → listed_at (l ++ m) k ≡ listed_at l k + listed_at m k
 listed_both [] m k = let none : listed_at [] k ≡ 0 = refl in omega (arith, none)
 listed_both (e ∷ es) m k = let rest = listed_both es m k in omega (arith, rest)
 

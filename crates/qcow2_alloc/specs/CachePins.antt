@@ -31,6 +31,10 @@ module _ {S : Type 0} where
   abbrev pub CountsTableChanges : MetadataCaches S → MetadataCaches S → Type 0
   CountsTableChanges old new = CountsChanges old.is_changed old.changes new.is_changed new.changes
 
+  -- No change of a table is recorded.
+  abbrev pub SameChanges : MetadataCaches S → MetadataCaches S → Type 0
+  SameChanges old new = (new.is_changed ≡ old.is_changed) × (new.changes ≡ old.changes)
+
   -- Pins stay the same. A recorded change stays recorded, and a newly recorded one was counted.
   pub record KeepsPinsAndNotes (old new : MetadataCaches S) : Type 0 where
     pub pins : (cluster : ℕ) → l2_pins new cluster ≡ l2_pins old cluster

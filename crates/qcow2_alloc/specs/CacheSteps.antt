@@ -11,7 +11,9 @@ use Rattle.qcow2_laws.specs.Caches.{AreClean, AreNamedBlocks, BlocksMayGo, Table
 use Rattle.qcow2_laws.specs.Clusters.{Direction, Neither, L2DependsOnRb, RbDependsOnL2}
 use Rattle.qcow2_laws.specs.CrashInvariant.{Pending, CrashInvariant}
 use Rattle.qcow2_alloc.specs.ApartCaches.{KeepsKnownApart, ChangesBlockApart, OverlaysBlockApart, OverlaysTableApart, AllocatesBlockApart}
-use Rattle.qcow2_alloc.specs.CachePins.{l2_pins, CachesHaveRoom, KeepsPinsAndNotes}
+use Rattle.qcow2_alloc.specs.AsyncLruCache.{Cache}
+use Rattle.qcow2_alloc.specs.CachePins.{l2_pins, CachesHaveRoom, KeepsPinsAndNotes, SameChanges}
+use Rattle.qcow2_alloc.specs.KeptEntries.{KeepsCached, OnlyPromotes}
 use Rattle.qcow2_alloc.specs.KeptMarks.{KeepMarks}
 use Rattle.qcow2_alloc.specs.KeptNotes.{KeepsNotes}
 use Rattle.qcow2_alloc.specs.MetadataCaches.{order_of, l2_at, rb_at, l2_tables, refblocks, known_of, AreAllWritten, CacheInvariant, KeepSound, OverlaysBlock, OverlaysTable, DecrementsCount, DecrementsSome, PutRefusesBy, InsertKeeps, IncrementsCount, IncrementsZero, RefusesBy, RefusesBlocksBy, AllocatesBlock, WritesInOrder}
@@ -88,6 +90,7 @@ module _ {S : Type 0} (view : S → StorageView) where
     pub direction : caches'.direction ≡ caches.direction
     pub others_stay : others caches' ≡ others caches
     pub written : OnOk result (AreClean (tables caches'))
+    pub changes : SameChanges caches caches'
     pub quiet : AreClean (tables caches) → WritesNothing view old new
 
   -- The tables that must be written before those of one kind are written, and that kind stays the same. The other kind changes only if it must be written first.
@@ -95,6 +98,7 @@ module _ {S : Type 0} (view : S → StorageView) where
     pub stays : own caches' ≡ own caches
     pub others_stay : order_of caches ≢ asks → others caches' ≡ others caches
     pub first : OnOk result (MayGo caches')
+    pub changes : SameChanges caches caches'
     pub quiet : MayGo caches → WritesNothing view old new
 
   -- The order of writes becomes `to`. If it was `from`, the tables of one kind are written first. Only that can be refused, and then the order stays the same.
@@ -104,6 +108,7 @@ module _ {S : Type 0} (view : S → StorageView) where
     pub turned : OnErr result (order_of caches ≡ from)
     pub written : order_of caches ≡ from → OnOk result (AreClean (tables caches'))
     pub others_stay : others caches' ≡ others caches
+    pub changes : SameChanges caches caches'
     pub storage_stays : order_of caches ≢ from → new ≡ old
     pub quiet : MayGo caches → WritesNothing view old new
 
@@ -131,10 +136,13 @@ module _ {S : Type 0} (view : S → StorageView) where
     abbrev pub PutRbRefusesBy : Result (Unit {0}) ImageError → Type 0
     PutRbRefusesBy result = (h : HeaderFields) → RefusesBlocksBy IsCause view old caches h result
 
-  -- The table of a cluster is cached. The others of its kind that are still cached are unchanged; the other kind changes only if it must be written first.
-  pub record GetsTable {V B : Type 0} (at : MetadataCaches S → ℕ → Option V) (others : MetadataCaches S → B) (asks : Direction) (Quietly : MetadataCaches S → ℕ → Type 0) (cluster : ℕ) (old : ImageStorage S) (caches : MetadataCaches S) (new : ImageStorage S) (caches' : MetadataCaches S) (result : Result (Unit {0}) ImageError) : Type 0 where
+  -- The table of a cluster is cached. If it was cached before, it only moves to the front. The others of its kind stay, except the least recently used one if there was no room; the other kind changes only if it must be written first.
+  pub record GetsTable {V A B : Type 0} (at : MetadataCaches S → ℕ → Option V) (is_modified : V → Bool) (own : MetadataCaches S → Cache A ℕ V) (with_own : MetadataCaches S → Cache A ℕ V → MetadataCaches S) (others : MetadataCaches S → B) (asks : Direction) (Quietly : MetadataCaches S → ℕ → Type 0) (cluster : ℕ) (old : ImageStorage S) (caches : MetadataCaches S) (new : ImageStorage S) (caches' : MetadataCaches S) (result : Result (Unit {0}) ImageError) : Type 0 where
     pub cached : OnOk result (IsSome (at caches' cluster))
     pub stay : OthersStayHeld at caches caches' cluster
+    pub kept : KeepsCached is_modified cluster (own caches) (own caches')
+    pub changes : SameChanges caches caches'
+    pub hit : IsSome (at caches cluster) → OnlyPromotes own with_own cluster old caches new caches' result
     pub others_stay : order_of caches ≢ asks → others caches' ≡ others caches
     pub quiet : Quietly caches cluster → WritesNothing view old new
 
@@ -167,7 +175,7 @@ module _ {S : Type 0} (view : S → StorageView) where
       SwitchesToRb = SwitchesOrder L2DependsOnRb RbDependsOnL2 l2_tables (λ c. c.rb) BlocksGo old caches new caches' result
 
       abbrev pub GetsL2 : ℕ → Type 0
-      GetsL2 cluster = GetsTable l2_at (λ c. c.rb) L2DependsOnRb GetsTableQuietly cluster old caches new caches' result
+      GetsL2 cluster = GetsTable l2_at (λ (t : L2TableView). t.is_modified) (λ c. c.l2) (λ c l2. record c { l2 = l2 }) (λ c. c.rb) L2DependsOnRb GetsTableQuietly cluster old caches new caches' result
 
       abbrev pub PutsL2 : L2TableView → Type 0
       PutsL2 t = PutsTable l2_at (λ c. c.rb) L2DependsOnRb PutsTableQuietly t.cluster t old caches new caches' result
@@ -187,7 +195,7 @@ module _ {S : Type 0} (view : S → StorageView) where
       SwitchesToL2 = SwitchesOrder RbDependsOnL2 L2DependsOnRb refblocks (λ c. c.l2) TablesGo old caches new caches' result
 
       abbrev pub GetsRb : ℕ → Type 0
-      GetsRb cluster = GetsTable rb_at (λ c. c.l2) RbDependsOnL2 GetsBlockQuietly cluster old caches new caches' result
+      GetsRb cluster = GetsTable rb_at (λ (b : RefBlockView). b.is_modified) (λ c. c.rb) (λ c rb. record c { rb = rb }) (λ c. c.l2) RbDependsOnL2 GetsBlockQuietly cluster old caches new caches' result
 
       abbrev pub PutsRb : RefBlockView → Type 0
       PutsRb b = PutsTable rb_at (λ c. c.l2) RbDependsOnL2 PutsBlockQuietly b.cluster b old caches new caches' result

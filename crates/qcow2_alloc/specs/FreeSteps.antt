@@ -6,7 +6,7 @@ use Rattle.qcow2_alloc.specs.Allocation.{Frees, MayFree}
 use Rattle.qcow2_alloc.specs.FreeList.{but, with_listed}
 use Rattle.qcow2_alloc.specs.ImageError.{IsOfTables}
 use Rattle.qcow2_alloc.specs.ImageFile.{AllocatorInvariant}
-use Rattle.qcow2_alloc.specs.Leaks.{LeaksUnaligned}
+use Rattle.qcow2_alloc.specs.Leaks.{FreesOff, LeaksUnaligned}
 use Rattle.qcow2_alloc.specs.Steps.{Fails, FreeStep, GivesSoundly}
 use Rattle.qcow2_alloc.specs.declared.allocation.Allocator.{Allocator}
 use Rattle.qcow2_alloc.specs.declared.clusters_to_free.ClusterKind.{ClusterKind}
@@ -23,3 +23,4 @@ pub record FreesListed {S : Type 0} (view : S → StorageView) (kind : ClusterKi
       → GivesSoundly view (Frees view (with_listed p list) old allocator' new (with_listed p list') result) allocator old allocator' new result
   pub grows : allocator.leaked_clusters ≤ allocator'.leaked_clusters
   pub unaligned : LeaksUnaligned old.header.fields allocator.reftable allocator allocator' list list'
+  pub each : FreesOff old.header.fields allocator.reftable allocator old.caches list allocator' new.caches list' result

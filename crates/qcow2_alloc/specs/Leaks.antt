@@ -1,5 +1,5 @@
 -- Freeing a cluster: its refcount is decremented, or the cluster is counted as leaked.
-use Rattle.std.specs.Prelude.{ℕ, zero, suc, ◌+◌, ◌-◌, ◌/◌, ◌%◌, ◌^◌, ◌≡◌, ◌⊎◌, ◌<◌, ◌≤◌, ◌&&◌, ◌==◌, nat_lt, not, min, if◌then◌else◌, Bool, true, false, List, Some, Result, Ok, Err}
+use Rattle.std.specs.Prelude.{ℕ, zero, suc, ◌+◌, ◌-◌, ◌/◌, ◌%◌, ◌^◌, ◌≡◌, ◌⊎◌, ◌<◌, ◌≤◌, ◌&&◌, ◌==◌, nat_lt, not, min, if◌then◌else◌, Bool, true, false, List, [], ◌∷◌, Some, Result, Ok, Err, IfSome, MatchOption, MatchResult, count_by}
 use Rattle.qcow2_metadata.specs.declared.header.HeaderFields.{HeaderFields}
 use Rattle.qcow2_metadata.specs.Entries.{block_offset}
 use Rattle.qcow2_metadata.specs.EntryTable.{EntryTableView, entry_count}
@@ -8,14 +8,16 @@ use Rattle.qcow2_metadata.specs.TableBytes.{entry_at}
 use Rattle.qcow2_alloc.specs.MadeClusters.{listed_at}
 use Rattle.qcow2_alloc.specs.declared.clusters_to_free.ClustersToFreeEntry.{ClustersToFreeEntry}
 use Rattle.qcow2_metadata.specs.RefBlock.{RefBlockView, count_at}
-use Rattle.qcow2_alloc.specs.Allocation.{SameLeaks}
+use Rattle.qcow2_alloc.specs.Allocation.{NamesBlock, SameLeaks}
+use Rattle.qcow2_alloc.specs.CachePins.{SameChanges}
+use Rattle.qcow2_alloc.specs.CacheSteps.{KeepsHeldBlocks}
+use Rattle.qcow2_alloc.specs.CountedChanges.{IsOneChange}
 use Rattle.qcow2_alloc.specs.ImageError.{IsFault}
 use Rattle.qcow2_alloc.specs.MetadataCaches.{rb_at}
 use Rattle.qcow2_alloc.specs.TableChanges.{SetsCount}
 use Rattle.qcow2_alloc.specs.declared.allocation.Allocator.{Allocator}
 use Rattle.qcow2_alloc.specs.declared.cache.MetadataCaches.{MetadataCaches}
 use Rattle.qcow2_alloc.specs.declared.error.ImageError.{ImageError}
-use Rattle.qcow2_alloc.specs.declared.image_file.ImageFile.{ImageFile}
 
 -- One more cluster is leaked. The counter stops at the greatest u64.
 abbrev pub LeaksOne : Allocator → Allocator → Type 0
@@ -36,22 +38,47 @@ LeaksUnaligned h reftable old new list list' =
     (n : ℕ) → n ≤ 2 ^ 64 → min (old.leaked_clusters + unaligned_below h reftable list n) (2 ^ 64 - 1) ≤ new.leaked_clusters + unaligned_below h reftable list' n
 
 module _ {S : Type 0} where
-  -- The refcount of the cluster in its cached refblock was above 0, and is one less.
-  pub record IsDecremented (file : ImageFile S) (cluster : ℕ) : Type 0 where
-    pub before : MetadataCaches S
-    pub at : ℕ
-    pub block : RefBlockView
-    pub new_data : rb_at before at ≡ Some block
-    pub some : 0 < count_at block (cluster % counts_per_block file.header.fields)
-    pub falls : SetsCount before file.caches at (cluster % counts_per_block file.header.fields) block (count_at block (cluster % counts_per_block file.header.fields) - 1)
+  -- Each refblock that is cached now was cached before, with the same bytes, or is unmodified, as one that was just loaded. No change is recorded.
+  pub record LoadsBlocks (old new : MetadataCaches S) : Type 0 where
+    pub held : (c : ℕ) → IfSome (rb_at new c) (λ b. MatchOption (rb_at old c) (b.is_modified ≡ false) (λ was. b.bytes ≡ was.bytes))
+    pub changes : SameChanges old new
 
-  -- Whether a refcount was decremented. No cluster is leaked by this.
-  abbrev pub TriesToDecrement : ImageFile S → ℕ → Result Bool ImageError → Type 0
-  TriesToDecrement file cluster (Ok true) = IsDecremented file cluster
-  TriesToDecrement file cluster (Ok false) = Unit {0}
-  TriesToDecrement file cluster (Err e) = Unit {0}
+  -- The same refblocks are cached, with the same bytes. No change is recorded.
+  pub record KeepsBlockBytes (old new : MetadataCaches S) : Type 0 where
+    pub held : KeepsHeldBlocks old new
+    pub changes : SameChanges old new
 
-  -- A refcount is decremented, or one cluster more is leaked. Only a fault ends the call before.
-  abbrev pub DecrementsOrLeaks : Allocator → Allocator → ImageFile S → ℕ → Result (Unit {0}) ImageError → Type 0
-  DecrementsOrLeaks old new file cluster (Ok _) = (SameLeaks old new × IsDecremented file cluster) ⊎ LeaksOne old new
-  DecrementsOrLeaks old new file cluster (Err e) = SameLeaks old new × IsFault e
+  module _ (h : HeaderFields) (reftable : EntryTableView) where
+    -- The refblock of the cluster's range was cached, or was loaded. The refcount of the cluster was above 0, and is one less. Nothing else changes in the caches, and one change is recorded.
+    pub record IsDecremented (old new : MetadataCaches S) (cluster : ℕ) : Type 0 where
+      pub before : MetadataCaches S
+      pub loads : LoadsBlocks old before
+      pub at : ℕ
+      pub names : NamesBlock h reftable (cluster / counts_per_block h) (Some at)
+      pub block : RefBlockView
+      pub new_data : rb_at before at ≡ Some block
+      pub some : 0 < count_at block (cluster % counts_per_block h)
+      pub falls : SetsCount before new at (cluster % counts_per_block h) block (count_at block (cluster % counts_per_block h) - 1)
+      pub recorded : IsOneChange new.is_changed before.changes new.changes
+
+    -- Whether a refcount was decremented. If not, no refcount changes. No cluster is leaked by this.
+    abbrev pub TriesToDecrement : MetadataCaches S → MetadataCaches S → ℕ → Result Bool ImageError → Type 0
+    TriesToDecrement old new cluster (Ok true) = IsDecremented old new cluster
+    TriesToDecrement old new cluster (Ok false) = LoadsBlocks old new
+    TriesToDecrement old new cluster (Err e) = LoadsBlocks old new
+
+    -- A refcount is decremented, or one cluster more is leaked and no refcount changes. Only a fault ends the call before.
+    abbrev pub DecrementsOrLeaks : Allocator → MetadataCaches S → Allocator → MetadataCaches S → ℕ → Result (Unit {0}) ImageError → Type 0
+    DecrementsOrLeaks allocator old allocator' new cluster (Ok _) = (SameLeaks allocator allocator' × IsDecremented old new cluster) ⊎ (LeaksOne allocator allocator' × LoadsBlocks old new)
+    DecrementsOrLeaks allocator old allocator' new cluster (Err e) = SameLeaks allocator allocator' × LoadsBlocks old new × IsFault e
+
+    -- Clusters are freed one after another: the refcount of each is decremented, or one cluster more is leaked. No other refcount changes in a cached refblock.
+    abbrev pub FreesEach : List ℕ → Allocator → MetadataCaches S → Allocator → MetadataCaches S → Result (Unit {0}) ImageError → Type 0
+    FreesEach [] allocator old allocator' new result = SameLeaks allocator allocator' × MatchResult result (λ _. KeepsBlockBytes old new) (λ _. LoadsBlocks old new)
+    FreesEach (c ∷ cs) allocator old allocator' new result = (next : Allocator) × (mid : MetadataCaches S) × DecrementsOrLeaks allocator old next mid c (Ok tt) × FreesEach cs next mid allocator' new result
+
+    -- The clusters that left the list were freed one after another.
+    pub record FreesOff (allocator : Allocator) (old : MetadataCaches S) (list : List ClustersToFreeEntry) (allocator' : Allocator) (new : MetadataCaches S) (list' : List ClustersToFreeEntry) (result : Result (Unit {0}) ImageError) : Type 0 where
+      pub off : List ℕ
+      pub left : (n : ℕ) → n < 2 ^ 64 → listed_at list n ≤ count_by (λ k. k == n) off + listed_at list' n
+      pub each : FreesEach off allocator old allocator' new result

@@ -16,6 +16,7 @@ pub mod KeptTables
 pub mod MetadataCaches
 pub mod ApartCaches
 pub mod Quiet
+pub mod KeptEntries
 pub mod TableChanges
 pub mod BehindHeader
 pub mod CachePins

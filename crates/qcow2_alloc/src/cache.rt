@@ -143,6 +143,7 @@ impl<S: Storage> MetadataCaches<S> {
         ensures faults { (h : HeaderFields) → RefusesBy IsFault S.view storage.old self.old h result }
         ensures sound { KeepsSoundly S.view storage.old self.old storage.new self.new }
         ensures turns { SwitchesToL2 S.view storage.old self.old storage.new self.new result }
+        ensures held { KeepsHeldBlocks self.old self.new }
     {
         match self.direction {
             Direction::RbDependsOnL2 => {}

@@ -7,7 +7,7 @@ ghost use Rattle.qcow2_alloc.specs.Allocation.{run_at, taken_as, IsUnaligned, Ma
 ghost use Rattle.qcow2_alloc.specs.Allocation.{MayDecrement, SameLeaks, Frees, DecrementsOne, GivesBack, GivesBackRun};
 ghost use Rattle.qcow2_alloc.specs.FreeList.{run_of, with_listed, but, GoOffInOrder};
 ghost use Rattle.qcow2_alloc.specs.FreeSteps.{FreesListed};
-ghost use Rattle.qcow2_alloc.specs.Leaks.{LeaksOne, LeaksUnaligned, TriesToDecrement, DecrementsOrLeaks};
+ghost use Rattle.qcow2_alloc.specs.Leaks.{LeaksOne, LeaksUnaligned, TriesToDecrement, DecrementsOrLeaks, FreesOff};
 ghost use Rattle.qcow2_alloc.specs.LowestRuns.{NoFreeBelowHint, KeepsNoFreeBelowHint, KeepsUsedBut};
 ghost use Rattle.qcow2_alloc.specs.LowestRuns.{IsPassed, SearchStays};
 ghost use Rattle.qcow2_alloc.specs.ImageError.{IsOfTables};
@@ -66,7 +66,8 @@ impl Allocator {
             → GivesSoundly S.view
             (GivesBack S.view (owed_as owed p (one_at cluster)) file.old self.new file.new p result)
             self.old file.old self.new file.new result }
-        ensures or_leaks { DecrementsOrLeaks self.old self.new file.new cluster result }
+        ensures or_leaks { DecrementsOrLeaks file.old.header.fields self.old.reftable
+            self.old file.old.caches self.new file.new.caches cluster result }
         ensures grows { self.old.leaked_clusters ≤ self.new.leaked_clusters }
         ensures fails { Fails S.view file.old.storage file.new.storage result IsOfTables }
         ensures unaligned { IsUnaligned file.old.header.fields self.old.reftable
@@ -102,6 +103,8 @@ impl Allocator {
         ensures fails { Fails S.view file.old.storage file.new.storage result IsOfTables }
         ensures unaligned { LeaksUnaligned file.old.header.fields self.old.reftable self.old self.new
             file.old.free_list file.new.free_list }
+        ensures each { FreesOff file.old.header.fields self.old.reftable self.old file.old.caches file.old.free_list
+            self.new file.new.caches file.new.free_list result }
     {
         self.free_kind(file, ClusterKind::Metadata)?;
         if file.free_list.is_empty() {
@@ -214,7 +217,8 @@ impl Allocator {
         ensures step { TableStep S.view self.old.reftable file.old self.new.reftable file.new }
         ensures reftable { self.new.reftable ≡ self.old.reftable }
         ensures leaked { self.new.leaked_clusters ≡ self.old.leaked_clusters }
-        ensures tries { TriesToDecrement file.new cluster result }
+        ensures tries { TriesToDecrement file.old.header.fields self.old.reftable
+            file.old.caches file.new.caches cluster result }
         ensures first { self.old.first_free_cluster ≤ cluster → SearchStays self.old self.new }
         ensures sound { (p : Pending) (owed : Owed)
             → AllocatorInvariant S.view self.old (owed_as owed p (one_at cluster)) file.old → MayDecrement owed file.old

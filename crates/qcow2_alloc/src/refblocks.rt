@@ -8,6 +8,7 @@ ghost use Rattle.qcow2_alloc.specs.Allocation.{SameLeaks};
 ghost use Rattle.qcow2_alloc.specs.KeptMarks.{KeepsMarks};
 ghost use Rattle.qcow2_alloc.specs.CachePins.{LeavesPinned};
 ghost use Rattle.qcow2_alloc.specs.SparedHeaders.{KeepBehindHeader};
+ghost use Rattle.qcow2_alloc.specs.Leaks.{LoadsBlocks};
 ghost use Rattle.qcow2_alloc.specs.Steps.{EnsuresSoundly, Fails, FindsBlock, GetsSoundly, TableStep, AllocatesGivenSoundly};
 ghost use Rattle.qcow2_alloc.specs.Steps.{BlockStep, FileStep, RangeStep, ReachesSoundly};
 ghost use Rattle.qcow2_alloc.specs.LowestRuns.{NoFreeBelowHint, KeepsNoFreeBelowHint, SearchesAnew, SearchStays};
@@ -108,6 +109,7 @@ impl Allocator {
         ensures unaligned { IsUnaligned file.old.header.fields self.now.reftable range
             → IsErrOf result ImageError.UnalignedTable × (file.new ≡ file.old) }
         ensures none { HasNone self.now.reftable range → (result ≡ Ok None) × (file.new ≡ file.old) }
+        ensures loads { LoadsBlocks file.old.caches file.new.caches }
     {
         let Some(offset) = self.reftable.get(range as usize) else {
             return Ok(None);

@@ -3,7 +3,7 @@ use Rattle.std.proofs.Common.{◌≡◌, ◌∷◌, inl, inr, ℕ, Bool, true, f
 use Rattle.qcow2_alloc.proofs.Common.{IsEquivalence, option_map, IsNone, lookup, eq-eqb, eqb-true, promoted, Slot, CacheError, value_at, IsInFront, Steps, GetsNew}
 use Rattle.qcow2_alloc.proofs.Lemmas.{lookup-promoted, none_or_some}
 
-slot_there : {V : Type 0} (o : Option (Slot V)) → IsSome (option_map (λ s. s.value) o) → IsSome o
+pub slot_there : {V : Type 0} (o : Option (Slot V)) → IsSome (option_map (λ s. s.value) o) → IsSome o
 slot_there None there = absurd (cc)
 slot_there (Some s) there = refl
 

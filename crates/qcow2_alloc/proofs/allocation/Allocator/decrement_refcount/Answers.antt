@@ -1,5 +1,5 @@
-use Rattle.std.proofs.Common.{◌≡◌, ◌==◌, ◌/◌, ◌%◌, ◌^◌, ℕ, true, Option, Some, None, Ok, refl, ap, ◌∙◌, sym, IfSome, IsSome}
-use Rattle.qcow2_alloc.proofs.Common.{unwrap_or, one_at, owed_as, DecrementsOne, KeepsNoFreeBelowHint, contents_in, ReportsCount, counts_per_block}
+use Rattle.std.proofs.Common.{◌≡◌, ◌==◌, ◌/◌, ◌%◌, ◌^◌, ℕ, true, Option, Some, None, Ok, refl, ap, ◌∙◌, sym, subst, IfSome, IsSome}
+use Rattle.qcow2_alloc.proofs.Common.{unwrap_or, one_at, owed_as, DecrementsOne, KeepsNoFreeBelowHint, contents_in, ReportsCount, counts_per_block, NamesBlock, TriesToDecrement}
 use Rattle.qcow2_alloc.proofs.Lemmas.{hint_lowered, is_zero, lowered_so, passed_still, stands_still, hint_refused, handed_on, of_equal, allocator_step_as, may_lower_still, counted_at, given_one, owed_counted, owed_has_block, marks_of_caches, handed_unaligned, ok_no_err, fails_ok, fails_on, table_step_as, table_step_tables, table_step_then}
 use Rattle.qcow2_alloc.proofs.Leaks.{tried}
 use Rattle.qcow2_alloc.specs.declared.error.ImageError.TheVariants as I
@@ -57,10 +57,19 @@ returns-clause-hint g c = λ p owed sound may hint.
 
 pub returns-clause-tries : goal.returns-clause-tries
 returns-clause-tries g c =
-    let counts = ap (λ h. counts_per_block h.fields) c.load_block.ensures.step.header ∙ c.rb_bits-bits.ensures.counts in
-    let index = c.rb_index-index.ensures.value ∙ ap (λ n. n % 2 ^ c.rb_bits-bits.result) c.new.ensures ∙ sym (ap (λ n. c.args.cluster % n) counts) in
-    rw c.is_some.ensures (tried c.load_block.new.file.caches (record c.load_block.new.file { caches = c.rb_release-left.new.self }) c.in-Some.block c.rb_index-index.result c.args.cluster index c.rb_release-left.result
-    c.rb_release-left.ensures.counts c.rb_release-left.ensures.missing)
+    let h = c.args.file.now.header.fields in
+    let index = c.rb_index-index.ensures.value ∙ ap (λ n. n % 2 ^ c.rb_bits-bits.result) c.new.ensures ∙ sym (ap (λ n. c.args.cluster % n) c.rb_bits-bits.ensures.counts) in
+    let found = rw c.in-Some.is at c.in_ok-block.ensures.finds in
+    let names = subst (λ n. NamesBlock h c.args.self.now.reftable (c.args.cluster / n) (Some c.in-Some.block)) (sym c.rb_bits-bits.ensures.counts) found.names in
+    rw c.is_some.ensures (tried h c.args.self.now.reftable c.args.file.now.caches c.load_block.new.file.caches c.rb_release-left.new.self c.load_block.ensures.loads c.in-Some.block c.rb_index-index.result c.args.cluster index names c.rb_release-left.result
+    c.rb_release-left.ensures.counts c.rb_release-left.ensures.missing c.rb_release-left.ensures.recorded c.rb_release-left.ensures.refused)
+
+pub returns-in_err-block-clause-tries : goal.returns-in_err-block-clause-tries
+returns-in_err-block-clause-tries g c =
+    handed_on (TriesToDecrement c.args.file.now.header.fields c.args.self.now.reftable c.args.file.now.caches c.load_block.new.file.caches c.args.cluster) c.from_residual.result c.in_err-block.field-0.0 c.from_residual.ensures c.load_block.ensures.loads
+
+pub returns-in_default-clause-tries : goal.returns-in_default-clause-tries
+returns-in_default-clause-tries g c = c.load_block.ensures.loads
 
 pub returns-in_err-block-clause-step : goal.returns-in_err-block-clause-step
 returns-in_err-block-clause-step g c = c.load_block.ensures.step

@@ -1,6 +1,8 @@
-use Rattle.qcow2_alloc.proofs.Common.{refl, inl, ap, ◌∙◌, Pending, Data, ImageFile, Frees, with_listed, but, KeepsNoFreeBelowHint, HeaderView}
+use Rattle.qcow2_alloc.proofs.Common.{refl, inl, Err, ap, ◌∙◌, Pending, Data, ImageFile, Frees, with_listed, but, KeepsNoFreeBelowHint, HeaderView}
 use Rattle.qcow2_alloc.proofs.Lemmas.{handed_on, is_sound_now, allocator_step_cached, hint_stays, passed_still, but_both, frees_then, leaks_as, leaks_then, fails_ok, fails_on, fails_since, free_in_turn, turn_cached, turn_then}
 use Rattle.qcow2_alloc.proofs.Freeing.{on_ok, allocator_step_on}
+use Rattle.qcow2_alloc.proofs.FreedEach.{blocks_loaded, off_none, off_of, off_refused, off_then}
+use Rattle.qcow2_alloc.specs.Leaks.{FreesOff, KeepsBlockBytes}
 use Rattle.qcow2_alloc.proofs.allocation.Allocator.free.Goals as goal
 
 pub returns-clause-emptied : goal.returns-clause-emptied
@@ -96,3 +98,30 @@ returns-clause-unaligned g c =
     leaks_then c.args.file.now.header.fields c.args.self.now.reftable c.args.self.now c.free_kind.new.self c.free_kind-2.new.self c.args.file.now.free_list c.free_kind.new.file.free_list c.free_kind-2.new.file.free_list c.free_kind.ensures.frees.unaligned
     (leaks_as c.args.file.now.header.fields c.free_kind.new.file.header.fields c.args.self.now.reftable c.free_kind.new.self.reftable c.free_kind.new.self c.free_kind-2.new.self c.free_kind.new.file.free_list c.free_kind.new.file.free_list c.free_kind-2.new.file.free_list c.free_kind-2.new.file.free_list
     (ap (λ (x : HeaderView). x.fields) c.free_kind.ensures.frees.step.header) c.free_kind.ensures.frees.step.reftable refl refl c.free_kind-2.ensures.frees.unaligned)
+
+pub returns-in_err-free_kind-clause-each : goal.returns-in_err-free_kind-clause-each
+returns-in_err-free_kind-clause-each g c =
+    handed_on (FreesOff c.args.file.now.header.fields c.args.self.now.reftable c.args.self.now c.args.file.now.caches c.args.file.now.free_list c.free_kind.new.self c.free_kind.new.file.caches c.free_kind.new.file.free_list)
+    c.from_residual.result c.in_err-free_kind.field-0.0 c.from_residual.ensures c.in_err-free_kind.ensures.frees.each
+
+pub returns-then-is_empty-clause-each : goal.returns-then-is_empty-clause-each
+returns-then-is_empty-clause-each g c = c.in_ok-free_kind.ensures.frees.each
+
+pub returns-in_err-rb_depends_on_l2-clause-each : goal.returns-in_err-rb_depends_on_l2-clause-each
+returns-in_err-rb_depends_on_l2-clause-each g c =
+    let turned : KeepsBlockBytes c.free_kind.new.file.caches c.rb_depends_on_l2.new.self = record { held = c.rb_depends_on_l2.ensures.held; changes = c.rb_depends_on_l2.ensures.turns.changes } in
+    handed_on (FreesOff c.args.file.now.header.fields c.args.self.now.reftable c.args.self.now c.args.file.now.caches c.args.file.now.free_list c.free_kind.new.self c.rb_depends_on_l2.new.self c.free_kind.new.file.free_list)
+    c.from_residual-in_err-rb_depends_on_l2.result c.in_err-rb_depends_on_l2.field-0.0 c.from_residual-in_err-rb_depends_on_l2.ensures
+    (off_then c.args.file.now.header.fields c.args.self.now.reftable c.args.self.now c.free_kind.new.self c.free_kind.new.self c.args.file.now.caches c.free_kind.new.file.caches c.rb_depends_on_l2.new.self c.args.file.now.free_list c.free_kind.new.file.free_list c.free_kind.new.file.free_list (Err c.in_err-rb_depends_on_l2.field-0.0)
+    c.in_ok-free_kind.ensures.frees.each
+    (off_refused c.args.file.now.header.fields c.args.self.now.reftable c.free_kind.new.self c.free_kind.new.self c.free_kind.new.file.caches c.rb_depends_on_l2.new.self c.free_kind.new.file.free_list c.in_err-rb_depends_on_l2.field-0.0 refl (blocks_loaded c.free_kind.new.file.caches c.rb_depends_on_l2.new.self turned)))
+
+pub returns-clause-each : goal.returns-clause-each
+returns-clause-each g c =
+    let turned : KeepsBlockBytes c.free_kind.new.file.caches c.rb_depends_on_l2.new.self = record { held = c.rb_depends_on_l2.ensures.held; changes = c.rb_depends_on_l2.ensures.turns.changes } in
+    let list = c.free_kind.new.file.free_list in
+    off_then c.args.file.now.header.fields c.args.self.now.reftable c.args.self.now c.free_kind.new.self c.free_kind-2.new.self c.args.file.now.caches c.free_kind.new.file.caches c.free_kind-2.new.file.caches c.args.file.now.free_list list c.free_kind-2.new.file.free_list c.free_kind-2.result c.in_ok-free_kind.ensures.frees.each
+    (off_then c.args.file.now.header.fields c.args.self.now.reftable c.free_kind.new.self c.free_kind.new.self c.free_kind-2.new.self c.free_kind.new.file.caches c.rb_depends_on_l2.new.self c.free_kind-2.new.file.caches list list c.free_kind-2.new.file.free_list c.free_kind-2.result
+    (off_none c.args.file.now.header.fields c.args.self.now.reftable c.free_kind.new.self c.free_kind.new.file.caches c.rb_depends_on_l2.new.self list turned)
+    (off_of c.args.file.now.header.fields c.free_kind.new.file.header.fields c.args.self.now.reftable c.free_kind.new.self.reftable c.free_kind.new.self c.free_kind-2.new.self c.rb_depends_on_l2.new.self c.free_kind-2.new.file.caches list c.free_kind-2.new.file.free_list c.free_kind-2.result
+    (ap (λ (x : HeaderView). x.fields) c.free_kind.ensures.frees.step.header) c.free_kind.ensures.frees.step.reftable c.free_kind-2.ensures.frees.each))

@@ -16,7 +16,7 @@ freeing-preserved g c =
     record {
       frees = listed_then i.frees
           (subst (λ (k : ClusterKind). FreesListed g.S.Storage.view k c.freeing.self c.freeing.file (l ++ c.freeing.run ∷ []) c.decrement_or_leak.new.self c.decrement_or_leak.new.file (l ++ c.drop_first.new.self ∷ []) (Ok tt)) i.kind
-          (run_lowered l c.freeing.run some at low.step low.reftable low.grows c.drop_first.new.self c.in_ok-decrement_or_leak.ensures.fails c.in_ok-decrement_or_leak.ensures.sound c.drop_first.ensures.first c.drop_first.ensures.count c.drop_first.ensures.kind (λ u. (low.unaligned u).1)));
+          (run_lowered l c.freeing.run some at low.step low.reftable low.grows c.drop_first.new.self c.in_ok-decrement_or_leak.ensures.fails c.in_ok-decrement_or_leak.ensures.sound c.drop_first.ensures.first c.drop_first.ensures.count c.drop_first.ensures.kind (λ u. (low.unaligned u).1) c.in_ok-decrement_or_leak.ensures.or_leaks));
       list = low.step.list ∙ i.list;
       kind = c.drop_first.ensures.kind ∙ i.kind;
     }
@@ -31,7 +31,7 @@ returns-in_err-decrement_or_leak-clause-frees g c =
     handed_on (FreesListed g.S.Storage.view c.args.run.now.kind c.args.self.now c.args.file.now (l ++ c.args.run.now ∷ []) c.decrement_or_leak.new.self c.decrement_or_leak.new.file (l ++ c.freeing.run ∷ []))
     c.from_residual.result c.in_err-decrement_or_leak.field-0.0 c.from_residual.ensures (listed_then i.frees
     (subst (λ (k : ClusterKind). FreesListed g.S.Storage.view k c.freeing.self c.freeing.file (l ++ c.freeing.run ∷ []) c.decrement_or_leak.new.self c.decrement_or_leak.new.file (l ++ c.freeing.run ∷ []) (Err c.in_err-decrement_or_leak.field-0.0)) i.kind
-    (run_stays l c.freeing.run some at low.step low.reftable low.grows c.in_err-decrement_or_leak.ensures.fails c.in_err-decrement_or_leak.ensures.sound)))
+    (run_stays l c.freeing.run some at low.step low.reftable low.grows c.in_err-decrement_or_leak.ensures.fails c.in_err-decrement_or_leak.ensures.sound c.in_err-decrement_or_leak.ensures.or_leaks)))
 
 pub returns-in_err-decrement_or_leak-clause-list : goal.returns-in_err-decrement_or_leak-clause-list
 returns-in_err-decrement_or_leak-clause-list g c = c.decrement_or_leak.ensures.step.list ∙ c.freeing.invariant.list

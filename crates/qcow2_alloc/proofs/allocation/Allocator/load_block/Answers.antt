@@ -2,6 +2,7 @@ use Rattle.std.proofs.Common.{◌^◌, refl, inl}
 use Rattle.qcow2_alloc.proofs.Common.{LoadsBlock, contents_in}
 use Rattle.qcow2_alloc.proofs.Lemmas.{file_step_cached, reftable_cached, handed_on, place_fits, names_refblock, named_have_places, not_first, fails_ok, fails_on, table_step_cached, table_step_none}
 use Rattle.qcow2_alloc.proofs.AlignedBlocks.{not_off}
+use Rattle.qcow2_alloc.proofs.FreedEach.{blocks_loaded, blocks_same, loads_got}
 use Rattle.qcow2_alloc.proofs.allocation.Allocator.load_block.Goals as goal
 
 pub returns-in_err-rb_get_or_insert-clause-sound : goal.returns-in_err-rb_get_or_insert-clause-sound
@@ -51,3 +52,15 @@ returns-in_err-rb_get_or_insert-clause-fails g c = fails_on c.from_residual.resu
 
 pub returns-clause-fails : goal.returns-clause-fails
 returns-clause-fails g c = fails_ok c.in_ok-rb_get_or_insert.ensures.fails.told
+
+pub returns-in_err-rb_get_or_insert-clause-loads : goal.returns-in_err-rb_get_or_insert-clause-loads
+returns-in_err-rb_get_or_insert-clause-loads g c = loads_got c.args.file.now.caches c.rb_get_or_insert.new.self c.rb_get_or_insert.ensures.gets.kept.loads c.rb_get_or_insert.ensures.gets.changes
+
+pub returns-clause-loads : goal.returns-clause-loads
+returns-clause-loads g c = loads_got c.args.file.now.caches c.rb_get_or_insert.new.self c.rb_get_or_insert.ensures.gets.kept.loads c.rb_get_or_insert.ensures.gets.changes
+
+pub returns-in_default-clause-loads : goal.returns-in_default-clause-loads
+returns-in_default-clause-loads g c = blocks_loaded c.args.file.now.caches c.args.file.now.caches (blocks_same c.args.file.now.caches)
+
+pub returns-in_default-checked_cluster-clause-loads : goal.returns-in_default-checked_cluster-clause-loads
+returns-in_default-checked_cluster-clause-loads g c = blocks_loaded c.args.file.now.caches c.args.file.now.caches (blocks_same c.args.file.now.caches)

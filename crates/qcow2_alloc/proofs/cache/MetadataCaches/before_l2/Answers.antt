@@ -12,6 +12,7 @@ returns-in-L2DependsOnRb-clause-sound g c = c.write_blocks.ensures.sound (blocks
 pub returns-in-L2DependsOnRb-clause-way : goal.returns-in-L2DependsOnRb-clause-way
 returns-in-L2DependsOnRb-clause-way g c = record {
   stays = c.write_blocks.ensures.flushes.others_stay;
+  changes = c.write_blocks.ensures.flushes.changes;
   others_stay = λ other. absurd (other (ap order c.in-L2DependsOnRb.is));
   first = subst (λ d. OnOk c.write_blocks.result (TablesMayGo (order d) (refblocks c.write_blocks.new.self))) (sym (c.write_blocks.ensures.flushes.direction ∙ c.in-L2DependsOnRb.is)) c.write_blocks.ensures.flushes.written;
   quiet = λ may. c.write_blocks.ensures.flushes.quiet (subst (λ (d : Direction). TablesMayGo d (refblocks c.args.self.now)) (ap order c.in-L2DependsOnRb.is) may);
@@ -24,4 +25,4 @@ pub returns-in-None-clause-sound : goal.returns-in-None-clause-sound
 returns-in-None-clause-sound g c = soundly_none
 
 pub returns-in-None-clause-way : goal.returns-in-None-clause-way
-returns-in-None-clause-way g c = record { stays = refl; others_stay = λ _. refl; first = tables_free c.args.self.now c.in-None.is; quiet = λ _ honest. quiet_none _ honest }
+returns-in-None-clause-way g c = record { stays = refl; changes = (refl, refl); others_stay = λ _. refl; first = tables_free c.args.self.now c.in-None.is; quiet = λ _ honest. quiet_none _ honest }

@@ -8,6 +8,7 @@ returns-in-RbDependsOnL2-clause-sound g c = c.write_tables.ensures.sound (tables
 pub returns-in-RbDependsOnL2-clause-way : goal.returns-in-RbDependsOnL2-clause-way
 returns-in-RbDependsOnL2-clause-way g c = record {
   stays = c.write_tables.ensures.flushes.others_stay;
+  changes = c.write_tables.ensures.flushes.changes;
   others_stay = λ other. absurd (other (ap order c.in-RbDependsOnL2.is));
   first = subst (λ d. OnOk c.write_tables.result (BlocksMayGo (order d) (l2_tables c.write_tables.new.self))) (sym (c.write_tables.ensures.flushes.direction ∙ c.in-RbDependsOnL2.is)) c.write_tables.ensures.flushes.written;
   quiet = λ may. c.write_tables.ensures.flushes.quiet (subst (λ (d : Direction). BlocksMayGo d (l2_tables c.args.self.now)) (ap order c.in-RbDependsOnL2.is) may);
@@ -20,4 +21,4 @@ pub returns-in-None-clause-sound : goal.returns-in-None-clause-sound
 returns-in-None-clause-sound g c = soundly_none
 
 pub returns-in-None-clause-way : goal.returns-in-None-clause-way
-returns-in-None-clause-way g c = record { stays = refl; others_stay = λ _. refl; first = blocks_free c.args.self.now c.in-None.is; quiet = λ _ honest. quiet_none _ honest }
+returns-in-None-clause-way g c = record { stays = refl; changes = (refl, refl); others_stay = λ _. refl; first = blocks_free c.args.self.now c.in-None.is; quiet = λ _ honest. quiet_none _ honest }

@@ -24,6 +24,7 @@ returns-in_err-write_tables-in-RbDependsOnL2-clause-turns g c = record {
   turned = on_err _ c.from_residual.result (ap order c.in-RbDependsOnL2.is);
   written = λ _. on_no_ok _ c.from_residual.result c.in_err-write_tables-in-RbDependsOnL2.field-0.0 c.from_residual.ensures;
   others_stay = c.write_tables.ensures.flushes.others_stay;
+  changes = c.write_tables.ensures.flushes.changes;
   storage_stays = λ other. absurd (other (ap order c.in-RbDependsOnL2.is));
   quiet = λ may. c.write_tables.ensures.flushes.quiet (subst (λ (d : Direction). BlocksMayGo d (l2_tables c.args.self.now)) (ap order c.in-RbDependsOnL2.is) may);
 }
@@ -52,14 +53,15 @@ returns-clause-sound g c = elim c.match-self.branch [
 
 pub returns-clause-turns : goal.returns-clause-turns
 returns-clause-turns g c = elim c.match-self.branch [
-  | in-L2DependsOnRb w ↦ rw (w.self-is, w.storage-is) (record { order = ap order w.in-L2DependsOnRb.is; refused = tt; turned = tt; written = λ was. differ (ap order w.in-L2DependsOnRb.is) was l2_not_rb; others_stay = refl; storage_stays = λ _. refl; quiet = λ _ honest. quiet_none _ honest })
-  | in-None w ↦ rw (w.self-is, w.storage-is) (record { order = refl; refused = tt; turned = tt; written = λ was. differ (ap order w.in-None.is) was neither_rb; others_stay = refl; storage_stays = λ _. refl; quiet = λ _ honest. quiet_none _ honest })
+  | in-L2DependsOnRb w ↦ rw (w.self-is, w.storage-is) (record { order = ap order w.in-L2DependsOnRb.is; refused = tt; turned = tt; written = λ was. differ (ap order w.in-L2DependsOnRb.is) was l2_not_rb; others_stay = refl; changes = (refl, refl); storage_stays = λ _. refl; quiet = λ _ honest. quiet_none _ honest })
+  | in-None w ↦ rw (w.self-is, w.storage-is) (record { order = refl; refused = tt; turned = tt; written = λ was. differ (ap order w.in-None.is) was neither_rb; others_stay = refl; changes = (refl, refl); storage_stays = λ _. refl; quiet = λ _ honest. quiet_none _ honest })
   | in-RbDependsOnL2+in_ok-write_tables-in-RbDependsOnL2 w ↦ rw (w.self-is, w.storage-is) (record {
     order = refl;
     refused = tt;
     turned = tt;
     written = λ _. w.in_ok-write_tables-in-RbDependsOnL2.ensures.flushes.written;
     others_stay = w.write_tables.ensures.flushes.others_stay;
+    changes = w.write_tables.ensures.flushes.changes;
     storage_stays = λ other. absurd (other (ap order w.in-RbDependsOnL2.is));
     quiet = λ may. w.write_tables.ensures.flushes.quiet (subst (λ (d : Direction). BlocksMayGo d (l2_tables c.args.self.now)) (ap order w.in-RbDependsOnL2.is) may);
   })

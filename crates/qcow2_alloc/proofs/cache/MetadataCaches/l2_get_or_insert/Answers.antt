@@ -1,5 +1,8 @@
-use Rattle.qcow2_alloc.proofs.Common.{refl, true, false, inr, Ok, ap, ◌∙◌, eqb, of_cache, byte_at, storage_of, IsInUseOrFault, with_entries, l2_steps}
+use Rattle.qcow2_alloc.proofs.Common.{L2TableView, ImageStorage, IsQuiet, subst, refl, sym, true, false, inr, Ok, ap, ◌∙◌, eqb, of_cache, byte_at, storage_of, IsInUseOrFault, with_entries, l2_steps}
+use Rattle.qcow2_alloc.specs.declared.error.ImageError.TheVariants as I
 use Rattle.qcow2_alloc.proofs.CachedEntries.Hits.{got_at_last, held_in_front}
+use Rattle.qcow2_alloc.proofs.CachedEntries.Keeping.{keeps_none, keeps_from, not_hit, load_keeps}
+use Rattle.qcow2_alloc.proofs.KeptTables.Promoting.{table_promotes}
 use Rattle.qcow2_alloc.proofs.Lemmas.{table_got, given_err, in_use_as, not_fetched, table_load_refused, quiet_then, next_table, table_got_quietly, table_waits, table_got_same, stays_same, stays_then, values_stay, never, on_no_ok, l2_get_tells, fails_ok, fails_on, fails_since, load_step_on, load_step_then, soundly_none, soundly_then, fails_cache, l2_got_step, l2_got_soundly}
 use Rattle.qcow2_alloc.proofs.cache.MetadataCaches.l2_get_or_insert.Goals as goal
 
@@ -19,6 +22,9 @@ pub returns-in_err-branch-clause-gets : goal.returns-in_err-branch-clause-gets
 returns-in_err-branch-clause-gets g c = record {
   cached = on_no_ok _ c.from_residual-in_err-branch.result (of_cache c.in_err-branch.field-0.0) c.from_residual-in_err-branch.ensures;
   stay = values_stay c.args.cluster c.args.self.now.l2.entries c.get_or_insert.new.self.entries c.get_or_insert.ensures.kept.stays;
+  kept = load_keeps c.args.cluster c.args.self.now.l2 c.get_or_insert.new.self c.args.storage.now c.get_or_insert.new.store c.in_ok-get_or_insert.field-0 c.in_ok-get_or_insert.ensures.hit (l2_steps (λ s. g.S.Storage.view (storage_of s)) c.args.self.now.l2.backend.header.fields) false (λ (v : L2TableView). v.is_modified) (λ _ _ _ loaded. loaded.unmodified) c.in_ok-get_or_insert.ensures.miss c.get_or_insert.ensures.kept.stays c.get_or_insert.ensures.eviction;
+  changes = (refl, refl);
+  hit = λ there. absurd (not_hit c.args.cluster c.args.self.now.l2 c.get_or_insert.new.self c.args.storage.now c.get_or_insert.new.store c.in_ok-get_or_insert.field-0 c.in_ok-get_or_insert.ensures.hit (λ is. let bad = sym is ∙ c.in_err-branch.was in cc) there);
   others_stay = λ _. refl;
   quiet = λ may. table_got_quietly g.S.Storage.view c.args.storage.now c.get_or_insert.new.store c.args.self.now false c.args.cluster c.get_or_insert.new.self c.in_ok-get_or_insert.field-0 c.in_ok-get_or_insert.ensures.hit c.in_ok-get_or_insert.ensures.miss (λ flush. never flush);
 }
@@ -36,6 +42,9 @@ pub returns-then-branch-clause-gets : goal.returns-then-branch-clause-gets
 returns-then-branch-clause-gets g c = record {
   cached = held_in_front c.args.cluster c.get_or_insert.new.self.entries (c.in_ok-get_or_insert.ensures.front (c.in_ok-branch.was ∙ ap Ok c.if-branch.true));
   stay = values_stay c.args.cluster c.args.self.now.l2.entries c.get_or_insert.new.self.entries c.get_or_insert.ensures.kept.stays;
+  kept = load_keeps c.args.cluster c.args.self.now.l2 c.get_or_insert.new.self c.args.storage.now c.get_or_insert.new.store c.in_ok-get_or_insert.field-0 c.in_ok-get_or_insert.ensures.hit (l2_steps (λ s. g.S.Storage.view (storage_of s)) c.args.self.now.l2.backend.header.fields) false (λ (v : L2TableView). v.is_modified) (λ _ _ _ loaded. loaded.unmodified) c.in_ok-get_or_insert.ensures.miss c.get_or_insert.ensures.kept.stays c.get_or_insert.ensures.eviction;
+  changes = (refl, refl);
+  hit = table_promotes c.args.storage.now c.get_or_insert.new.store c.args.self.now c.args.cluster c.in_ok-get_or_insert.field-0 c.get_or_insert.new.self c.get_or_insert.ensures.kept.others c.in_ok-get_or_insert.ensures.hit;
   others_stay = λ _. refl;
   quiet = λ may. table_got_quietly g.S.Storage.view c.args.storage.now c.get_or_insert.new.store c.args.self.now false c.args.cluster c.get_or_insert.new.self c.in_ok-get_or_insert.field-0 c.in_ok-get_or_insert.ensures.hit c.in_ok-get_or_insert.ensures.miss (λ flush. never flush);
 }
@@ -64,6 +73,9 @@ pub returns-in_err-before_l2-clause-gets : goal.returns-in_err-before_l2-clause-
 returns-in_err-before_l2-clause-gets g c = record {
   cached = on_no_ok _ c.from_residual-in_err-before_l2.result c.in_err-before_l2.field-0.0 c.from_residual-in_err-before_l2.ensures;
   stay = values_stay c.args.cluster c.args.self.now.l2.entries c.before_l2.new.self.l2.entries (stays_then eqb c.args.cluster c.args.self.now.l2.entries c.get_or_insert.new.self.entries c.before_l2.new.self.l2.entries c.get_or_insert.ensures.kept.stays (stays_same eqb c.args.cluster c.get_or_insert.new.self.entries c.before_l2.new.self.l2.entries (ap (λ x. x.entries) c.before_l2.ensures.way.stays)));
+  kept = keeps_none (λ (v : L2TableView). v.is_modified) c.args.cluster c.args.self.now.l2 c.before_l2.new.self.l2 (c.before_l2.ensures.way.stays ∙ table_got_same g.S.Storage.view c.args.storage.now c.get_or_insert.new.store c.args.self.now false c.args.cluster c.get_or_insert.new.self c.in_ok-get_or_insert.field-0 c.in_ok-get_or_insert.ensures.hit c.in_ok-get_or_insert.ensures.miss c.get_or_insert.ensures.kept.others (c.in_ok-branch.was ∙ ap Ok c.if-branch.false));
+  changes = c.before_l2.ensures.way.changes;
+  hit = λ there. absurd (not_hit c.args.cluster c.args.self.now.l2 c.get_or_insert.new.self c.args.storage.now c.get_or_insert.new.store c.in_ok-get_or_insert.field-0 c.in_ok-get_or_insert.ensures.hit (λ is. let bad = sym is ∙ c.in_ok-branch.was ∙ ap Ok c.if-branch.false in cc) there);
   others_stay = c.before_l2.ensures.way.others_stay;
   quiet = λ may honest.
       let eviction = table_waits g.S.Storage.view c.args.storage.now c.get_or_insert.new.store c.args.self.now false c.args.cluster c.get_or_insert.new.self c.in_ok-get_or_insert.field-0 c.in_ok-get_or_insert.ensures.hit c.in_ok-get_or_insert.ensures.miss (c.in_ok-branch.was ∙ ap Ok c.if-branch.false) may in
@@ -98,10 +110,28 @@ returns-in_err-branch-2-clause-sound g c =
     c.before_l2.ensures.sound)
     (l2_got_soundly g.S.Storage.view c.before_l2.new.storage c.get_or_insert-2.new.store c.before_l2.new.self c.get_or_insert-2.new.self c.get_or_insert-2.ensures.kept.others true c.args.cluster c.in_ok-get_or_insert-2.field-0 c.in_ok-get_or_insert-2.ensures.hit c.in_ok-get_or_insert-2.ensures.miss c.get_or_insert-2.ensures.kept.distinct (λ _. c.in_ok-before_l2.ensures.way.first))
 
+pub returns-in_err-get_or_insert-2-clause-gets : goal.returns-in_err-get_or_insert-2-clause-gets
+returns-in_err-get_or_insert-2-clause-gets g c = record {
+  cached = on_no_ok _ c.from_residual-in_err-get_or_insert-2.result I.Memory c.from_residual-in_err-get_or_insert-2.ensures;
+  stay = values_stay c.args.cluster c.args.self.now.l2.entries c.get_or_insert-2.new.self.entries (stays_then eqb c.args.cluster c.args.self.now.l2.entries c.before_l2.new.self.l2.entries c.get_or_insert-2.new.self.entries (stays_then eqb c.args.cluster c.args.self.now.l2.entries c.get_or_insert.new.self.entries c.before_l2.new.self.l2.entries c.get_or_insert.ensures.kept.stays (stays_same eqb c.args.cluster c.get_or_insert.new.self.entries c.before_l2.new.self.l2.entries (ap (λ x. x.entries) c.before_l2.ensures.way.stays))) c.get_or_insert-2.ensures.kept.stays);
+  kept = keeps_none (λ (v : L2TableView). v.is_modified) c.args.cluster c.args.self.now.l2 c.get_or_insert-2.new.self (c.in_err-get_or_insert-2.ensures.refused.0 ∙ c.before_l2.ensures.way.stays ∙ table_got_same g.S.Storage.view c.args.storage.now c.get_or_insert.new.store c.args.self.now false c.args.cluster c.get_or_insert.new.self c.in_ok-get_or_insert.field-0 c.in_ok-get_or_insert.ensures.hit c.in_ok-get_or_insert.ensures.miss c.get_or_insert.ensures.kept.others (c.in_ok-branch.was ∙ ap Ok c.if-branch.false));
+  changes = c.before_l2.ensures.way.changes;
+  hit = λ there. absurd (not_hit c.args.cluster c.args.self.now.l2 c.get_or_insert.new.self c.args.storage.now c.get_or_insert.new.store c.in_ok-get_or_insert.field-0 c.in_ok-get_or_insert.ensures.hit (λ is. let bad = sym is ∙ c.in_ok-branch.was ∙ ap Ok c.if-branch.false in cc) there);
+  others_stay = c.before_l2.ensures.way.others_stay;
+  quiet = λ may honest.
+      let eviction = table_waits g.S.Storage.view c.args.storage.now c.get_or_insert.new.store c.args.self.now false c.args.cluster c.get_or_insert.new.self c.in_ok-get_or_insert.field-0 c.in_ok-get_or_insert.ensures.hit c.in_ok-get_or_insert.ensures.miss (c.in_ok-branch.was ∙ ap Ok c.if-branch.false) may in
+      let one = table_got_quietly g.S.Storage.view c.args.storage.now c.get_or_insert.new.store c.args.self.now false c.args.cluster c.get_or_insert.new.self c.in_ok-get_or_insert.field-0 c.in_ok-get_or_insert.ensures.hit c.in_ok-get_or_insert.ensures.miss (λ flush. never flush) honest in
+      subst (λ (s : ImageStorage g.row.S.Denot). IsQuiet (g.S.Storage.view (storage_of c.args.storage.now)) (g.S.Storage.view (storage_of s))) (sym c.in_err-get_or_insert-2.ensures.refused.1)
+      (quiet_then (g.S.Storage.view (storage_of c.args.storage.now)) (g.S.Storage.view (storage_of c.get_or_insert.new.store)) (g.S.Storage.view (storage_of c.before_l2.new.storage)) one (c.before_l2.ensures.way.quiet eviction.0 one.honest));
+}
+
 pub returns-in_err-branch-2-clause-gets : goal.returns-in_err-branch-2-clause-gets
 returns-in_err-branch-2-clause-gets g c = record {
   cached = on_no_ok _ c.from_residual-in_err-branch-2.result (of_cache c.in_err-branch-2.field-0.0) c.from_residual-in_err-branch-2.ensures;
   stay = values_stay c.args.cluster c.args.self.now.l2.entries c.get_or_insert-2.new.self.entries (stays_then eqb c.args.cluster c.args.self.now.l2.entries c.before_l2.new.self.l2.entries c.get_or_insert-2.new.self.entries (stays_then eqb c.args.cluster c.args.self.now.l2.entries c.get_or_insert.new.self.entries c.before_l2.new.self.l2.entries c.get_or_insert.ensures.kept.stays (stays_same eqb c.args.cluster c.get_or_insert.new.self.entries c.before_l2.new.self.l2.entries (ap (λ x. x.entries) c.before_l2.ensures.way.stays))) c.get_or_insert-2.ensures.kept.stays);
+  kept = keeps_from (λ (v : L2TableView). v.is_modified) c.args.cluster c.args.self.now.l2 c.before_l2.new.self.l2 c.get_or_insert-2.new.self (c.before_l2.ensures.way.stays ∙ table_got_same g.S.Storage.view c.args.storage.now c.get_or_insert.new.store c.args.self.now false c.args.cluster c.get_or_insert.new.self c.in_ok-get_or_insert.field-0 c.in_ok-get_or_insert.ensures.hit c.in_ok-get_or_insert.ensures.miss c.get_or_insert.ensures.kept.others (c.in_ok-branch.was ∙ ap Ok c.if-branch.false)) (load_keeps c.args.cluster c.before_l2.new.self.l2 c.get_or_insert-2.new.self c.before_l2.new.storage c.get_or_insert-2.new.store c.in_ok-get_or_insert-2.field-0 c.in_ok-get_or_insert-2.ensures.hit (l2_steps (λ s. g.S.Storage.view (storage_of s)) c.before_l2.new.self.l2.backend.header.fields) true (λ (v : L2TableView). v.is_modified) (λ _ _ _ loaded. loaded.unmodified) c.in_ok-get_or_insert-2.ensures.miss c.get_or_insert-2.ensures.kept.stays c.get_or_insert-2.ensures.eviction);
+  changes = c.before_l2.ensures.way.changes;
+  hit = λ there. absurd (not_hit c.args.cluster c.args.self.now.l2 c.get_or_insert.new.self c.args.storage.now c.get_or_insert.new.store c.in_ok-get_or_insert.field-0 c.in_ok-get_or_insert.ensures.hit (λ is. let bad = sym is ∙ c.in_ok-branch.was ∙ ap Ok c.if-branch.false in cc) there);
   others_stay = c.before_l2.ensures.way.others_stay;
   quiet = λ may honest.
       let eviction = table_waits g.S.Storage.view c.args.storage.now c.get_or_insert.new.store c.args.self.now false c.args.cluster c.get_or_insert.new.self c.in_ok-get_or_insert.field-0 c.in_ok-get_or_insert.ensures.hit c.in_ok-get_or_insert.ensures.miss (c.in_ok-branch.was ∙ ap Ok c.if-branch.false) may in
@@ -135,6 +165,9 @@ returns-clause-gets g c = record {
       held_in_front c.args.cluster c.get_or_insert-2.new.self.entries (c.in_ok-get_or_insert-2.ensures.front
       (got_at_last (l2_steps (λ s. g.S.Storage.view (storage_of s)) c.before_l2.new.self.l2.backend.header.fields) c.before_l2.new.self.l2.size c.args.cluster c.before_l2.new.storage c.get_or_insert-2.new.store c.before_l2.new.self.l2.entries c.get_or_insert-2.new.self.entries c.in_ok-get_or_insert-2.field-0 c.in_ok-branch-2.field-0 c.in_ok-branch-2.was c.in_ok-get_or_insert-2.ensures.hit c.in_ok-get_or_insert-2.ensures.miss));
   stay = values_stay c.args.cluster c.args.self.now.l2.entries c.get_or_insert-2.new.self.entries (stays_then eqb c.args.cluster c.args.self.now.l2.entries c.before_l2.new.self.l2.entries c.get_or_insert-2.new.self.entries (stays_then eqb c.args.cluster c.args.self.now.l2.entries c.get_or_insert.new.self.entries c.before_l2.new.self.l2.entries c.get_or_insert.ensures.kept.stays (stays_same eqb c.args.cluster c.get_or_insert.new.self.entries c.before_l2.new.self.l2.entries (ap (λ x. x.entries) c.before_l2.ensures.way.stays))) c.get_or_insert-2.ensures.kept.stays);
+  kept = keeps_from (λ (v : L2TableView). v.is_modified) c.args.cluster c.args.self.now.l2 c.before_l2.new.self.l2 c.get_or_insert-2.new.self (c.before_l2.ensures.way.stays ∙ table_got_same g.S.Storage.view c.args.storage.now c.get_or_insert.new.store c.args.self.now false c.args.cluster c.get_or_insert.new.self c.in_ok-get_or_insert.field-0 c.in_ok-get_or_insert.ensures.hit c.in_ok-get_or_insert.ensures.miss c.get_or_insert.ensures.kept.others (c.in_ok-branch.was ∙ ap Ok c.if-branch.false)) (load_keeps c.args.cluster c.before_l2.new.self.l2 c.get_or_insert-2.new.self c.before_l2.new.storage c.get_or_insert-2.new.store c.in_ok-get_or_insert-2.field-0 c.in_ok-get_or_insert-2.ensures.hit (l2_steps (λ s. g.S.Storage.view (storage_of s)) c.before_l2.new.self.l2.backend.header.fields) true (λ (v : L2TableView). v.is_modified) (λ _ _ _ loaded. loaded.unmodified) c.in_ok-get_or_insert-2.ensures.miss c.get_or_insert-2.ensures.kept.stays c.get_or_insert-2.ensures.eviction);
+  changes = c.before_l2.ensures.way.changes;
+  hit = λ there. absurd (not_hit c.args.cluster c.args.self.now.l2 c.get_or_insert.new.self c.args.storage.now c.get_or_insert.new.store c.in_ok-get_or_insert.field-0 c.in_ok-get_or_insert.ensures.hit (λ is. let bad = sym is ∙ c.in_ok-branch.was ∙ ap Ok c.if-branch.false in cc) there);
   others_stay = c.before_l2.ensures.way.others_stay;
   quiet = λ may honest.
       let eviction = table_waits g.S.Storage.view c.args.storage.now c.get_or_insert.new.store c.args.self.now false c.args.cluster c.get_or_insert.new.self c.in_ok-get_or_insert.field-0 c.in_ok-get_or_insert.ensures.hit c.in_ok-get_or_insert.ensures.miss (c.in_ok-branch.was ∙ ap Ok c.if-branch.false) may in

@@ -24,6 +24,7 @@ returns-in_err-write_blocks-in-L2DependsOnRb-clause-turns g c = record {
   turned = on_err _ c.from_residual.result (ap order c.in-L2DependsOnRb.is);
   written = λ _. on_no_ok _ c.from_residual.result c.in_err-write_blocks-in-L2DependsOnRb.field-0.0 c.from_residual.ensures;
   others_stay = c.write_blocks.ensures.flushes.others_stay;
+  changes = c.write_blocks.ensures.flushes.changes;
   storage_stays = λ other. absurd (other (ap order c.in-L2DependsOnRb.is));
   quiet = λ may. c.write_blocks.ensures.flushes.quiet (subst (λ (d : Direction). TablesMayGo d (refblocks c.args.self.now)) (ap order c.in-L2DependsOnRb.is) may);
 }
@@ -52,15 +53,26 @@ returns-clause-sound g c = elim c.match-self.branch [
 
 pub returns-clause-turns : goal.returns-clause-turns
 returns-clause-turns g c = elim c.match-self.branch [
-  | in-RbDependsOnL2 w ↦ rw (w.self-is, w.storage-is) (record { order = ap order w.in-RbDependsOnL2.is; refused = tt; turned = tt; written = λ was. differ (ap order w.in-RbDependsOnL2.is) was rb_not_l2; others_stay = refl; storage_stays = λ _. refl; quiet = λ _ honest. quiet_none _ honest })
-  | in-None w ↦ rw (w.self-is, w.storage-is) (record { order = refl; refused = tt; turned = tt; written = λ was. differ (ap order w.in-None.is) was neither_l2; others_stay = refl; storage_stays = λ _. refl; quiet = λ _ honest. quiet_none _ honest })
+  | in-RbDependsOnL2 w ↦ rw (w.self-is, w.storage-is) (record { order = ap order w.in-RbDependsOnL2.is; refused = tt; turned = tt; written = λ was. differ (ap order w.in-RbDependsOnL2.is) was rb_not_l2; others_stay = refl; changes = (refl, refl); storage_stays = λ _. refl; quiet = λ _ honest. quiet_none _ honest })
+  | in-None w ↦ rw (w.self-is, w.storage-is) (record { order = refl; refused = tt; turned = tt; written = λ was. differ (ap order w.in-None.is) was neither_l2; others_stay = refl; changes = (refl, refl); storage_stays = λ _. refl; quiet = λ _ honest. quiet_none _ honest })
   | in-L2DependsOnRb+in_ok-write_blocks-in-L2DependsOnRb w ↦ rw (w.self-is, w.storage-is) (record {
     order = refl;
     refused = tt;
     turned = tt;
     written = λ _. w.in_ok-write_blocks-in-L2DependsOnRb.ensures.flushes.written;
     others_stay = w.write_blocks.ensures.flushes.others_stay;
+    changes = w.write_blocks.ensures.flushes.changes;
     storage_stays = λ other. absurd (other (ap order w.in-L2DependsOnRb.is));
     quiet = λ may. w.write_blocks.ensures.flushes.quiet (subst (λ (d : Direction). TablesMayGo d (refblocks c.args.self.now)) (ap order w.in-L2DependsOnRb.is) may);
   })
+]
+
+pub returns-in_err-write_blocks-in-L2DependsOnRb-clause-held : goal.returns-in_err-write_blocks-in-L2DependsOnRb-clause-held
+returns-in_err-write_blocks-in-L2DependsOnRb-clause-held g c = c.write_blocks.ensures.held
+
+pub returns-clause-held : goal.returns-clause-held
+returns-clause-held g c = elim c.match-self.branch [
+  | in-RbDependsOnL2 w ↦ rw w.self-is (λ cluster. refl)
+  | in-None w ↦ rw w.self-is (λ cluster. refl)
+  | in-L2DependsOnRb+in_ok-write_blocks-in-L2DependsOnRb w ↦ rw w.self-is w.write_blocks.ensures.held
 ]

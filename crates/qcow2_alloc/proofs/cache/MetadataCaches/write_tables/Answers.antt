@@ -23,6 +23,7 @@ pub returns-in-Err-clause-flushes : goal.returns-in-Err-clause-flushes
 returns-in-Err-clause-flushes g c = record {
   direction = refl;
   others_stay = refl;
+  changes = (refl, refl);
   written = tt;
   quiet = tables_quiet g.S.Storage.view (record c.args.storage.now { met_fault = false }) c.flush.new.store c.args.self.now c.flush.new.self c.flush.result (rw c.watch_faults.ensures at c.flush.ensures.flushed);
 }
@@ -47,6 +48,7 @@ pub returns-clause-flushes : goal.returns-clause-flushes
 returns-clause-flushes g c = record {
   direction = refl;
   others_stay = refl;
+  changes = (refl, refl);
   written = tables_written g.S.Storage.view (record c.args.storage.now { met_fault = false }) c.flush.new.store c.args.self.now c.flush.new.self c.flush.ensures.others c.flush.result (rw c.watch_faults.ensures at c.flush.ensures.flushed) c.in_default.is;
   quiet = tables_quiet g.S.Storage.view (record c.args.storage.now { met_fault = false }) c.flush.new.store c.args.self.now c.flush.new.self c.flush.result (rw c.watch_faults.ensures at c.flush.ensures.flushed);
 }
