@@ -1,13 +1,13 @@
 -- Clusters leave the list one after another: a refcount falls, or a cluster is leaked.
-use Rattle.std.proofs.Common.{◌≡◌, ◌+◌, ◌-◌, ◌^◌, ◌<◌, ◌≤◌, ◌==◌, ◌∷◌, ◌++◌, min, ℕ, Bool, true, false, cond, inl, inr, List, [], Option, Some, None, Result, Ok, Err, IfSome, refl, sym, ap, ◌∙◌, subst, arith}
+use Rattle.std.proofs.Common.{◌≡◌, ◌+◌, ◌-◌, ◌^◌, ◌<◌, ◌≤◌, ◌==◌, ◌∷◌, ◌++◌, min, ℕ, true, false, cond, inl, inr, List, [], Option, Some, None, Result, Ok, Err, IfSome, refl, ap, ◌∙◌, subst, arith}
 use Rattle.std.specs.Prelude.{count_by}
 use Rattle.std.proofs.lemmas.List.Sums.{sum_by-append}
-use Rattle.qcow2_alloc.proofs.Common.{MatchOption, MatchResult, option_map, eq-eqb, cases_lt, cases_eq, HeaderFields, EntryTableView, rb_at, run_at, run_of, listed_at, RefBlockView, Allocator, ClustersToFreeEntry, ImageError, MetadataCaches}
+use Rattle.qcow2_alloc.proofs.Common.{MatchOption, MatchResult, option_map, eq-eqb, cases_lt, cases_eq, HeaderFields, EntryTableView, rb_at, run_at, run_of, RefBlockView, Allocator, ClustersToFreeEntry, ImageError, MetadataCaches}
 use Rattle.qcow2_alloc.proofs.Runs.{run_after, run_before, run_in, run_none}
 use Rattle.qcow2_alloc.proofs.UnalignedLeaks.{listed_both}
 use Rattle.qcow2_alloc.specs.CachePins.{SameChanges}
 use Rattle.qcow2_alloc.specs.KeptEntries.{OnlyLoads}
-use Rattle.qcow2_alloc.specs.Leaks.{DecrementsOrLeaks, FreesEach, FreesOff, IsDecremented, KeepsBlockBytes, LoadsBlocks}
+use Rattle.qcow2_alloc.specs.Leaks.{DecrementsOrLeaks, FreesEach, FreesOff, KeepsBlockBytes, LoadsBlocks}
 
 -- how often a cluster is in a list
 abbrev times : List ℕ → ℕ → ℕ

@@ -224,9 +224,9 @@ impl<S: Storage> MetadataCaches<S> {
         }
     }
 
-    /// Brings the L2 table of a cluster to the front, and loads it if it isn't cached. Refused 8 (everything is in use) if the cache
-    /// is full of pinned tables, 13 (limit) for a cluster whose offset passes 64 bits, and 14 (memory) and 15 (storage)
-    /// if the work meets them.
+    /// Brings the L2 table of a cluster to the front, and loads it if it isn't cached. Other tables stay cached, but a full cache first drops
+    /// the least recently used one without a pin. Refused 8 (everything is in use) if the cache is full of pinned tables, 13 (limit) for a
+    /// cluster whose offset passes 64 bits, and 14 (memory) and 15 (storage) if the work meets them.
     pub fn l2_get_or_insert(
         &mut self,
         storage: &mut ImageStorage<S>,
@@ -246,9 +246,9 @@ impl<S: Storage> MetadataCaches<S> {
         Ok(())
     }
 
-    /// Brings the refblock of a cluster to the front, and loads it if it isn't cached. Refused 8 (everything is in use) if the cache
-    /// is full of pinned refblocks, 13 (limit) for a cluster whose offset passes 64 bits, and 14 (memory) and 15 (storage)
-    /// if the work meets them.
+    /// Brings the refblock of a cluster to the front, and loads it if it isn't cached. Other refblocks stay cached, but a full cache first
+    /// drops the least recently used one without a pin. Refused 8 (everything is in use) if the cache is full of pinned refblocks, 13 (limit)
+    /// for a cluster whose offset passes 64 bits, and 14 (memory) and 15 (storage) if the work meets them.
     pub fn rb_get_or_insert(
         &mut self,
         storage: &mut ImageStorage<S>,

@@ -1,5 +1,5 @@
 -- A load keeps the other entries. If the cache is full, the least recently used one without a pin may go.
-use Rattle.std.proofs.Common.{◌≡◌, ◌<◌, ◌∷◌, ◌⊎◌, inl, inr, ℕ, Bool, true, false, eqb, List, length, Option, Some, None, Result, Ok, IsSome, IfSome, arith, refl, sym, ap, ◌∙◌, subst}
+use Rattle.std.proofs.Common.{◌≡◌, ◌<◌, ◌∷◌, inl, inr, ℕ, Bool, true, false, eqb, List, length, Option, Some, None, Result, Ok, IsSome, IfSome, arith, refl, sym, ap, subst}
 use Rattle.std.specs.Prelude.{IsSomeAnd}
 use Rattle.qcow2_alloc.proofs.Common.{IsNone, MatchOption, option_map, lookup, eq-eqb, eqb-true, promoted, Slot, CacheError, slot_of, value_at, oldest_free, OnlyOldestGoes, OthersStay, Cache, Steps, HasRoomForEntry, GetsNew}
 use Rattle.qcow2_alloc.proofs.Lemmas.{none_or_some, values_stay}

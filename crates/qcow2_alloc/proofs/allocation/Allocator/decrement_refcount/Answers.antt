@@ -1,5 +1,5 @@
 use Rattle.std.proofs.Common.{◌≡◌, ◌==◌, ◌/◌, ◌%◌, ◌^◌, ℕ, true, Option, Some, None, Ok, refl, ap, ◌∙◌, sym, subst, IfSome, IsSome}
-use Rattle.qcow2_alloc.proofs.Common.{unwrap_or, one_at, owed_as, DecrementsOne, KeepsNoFreeBelowHint, contents_in, ReportsCount, counts_per_block, NamesBlock, TriesToDecrement}
+use Rattle.qcow2_alloc.proofs.Common.{unwrap_or, one_at, owed_as, DecrementsOne, KeepsNoFreeBelowHint, contents_in, ReportsCount, NamesBlock, TriesToDecrement}
 use Rattle.qcow2_alloc.proofs.Lemmas.{hint_lowered, is_zero, lowered_so, passed_still, stands_still, hint_refused, handed_on, of_equal, allocator_step_as, may_lower_still, counted_at, given_one, owed_counted, owed_has_block, marks_of_caches, handed_unaligned, ok_no_err, fails_ok, fails_on, table_step_as, table_step_tables, table_step_then}
 use Rattle.qcow2_alloc.proofs.Leaks.{tried}
 use Rattle.qcow2_alloc.specs.declared.error.ImageError.TheVariants as I
