@@ -778,14 +778,23 @@ def a_disk_that_no_table_maps():
 
 
 def sparse_raw_disks():
-    """Holes of a raw disk take no cluster of an image, and no room of a raw disk that comes back."""
+    """Holes of a raw disk take no cluster of an image, and no room of a raw disk that comes back. What is written stays, also the last byte."""
+    size = 1 << 30
     with open("raw", "wb") as it:
-        it.truncate(1 << 30)
-    put("raw", 300 << 20, b"\x11" * 4096)
-    equal(within(120, "convert", "-O", "qcow2", "raw", "disk"), (0, "", ""), "the import")
-    equal([it["length"] for it in json.loads(told("map", "--json", "disk")) if it["data"]], [65536], "what is mapped")
+        it.truncate(size)
+    for place, count in ((300 << 20, 4096), ((600 << 20) + 12345, 70000), (size - 1, 1)):
+        put("raw", place, b"\x11" * count)
+    for words in ([], ["--verify"]):
+        equal(within(120, "convert", "-O", "qcow2", *words, "raw", "disk"), (0, "", ""), "the import")
+    equal([(it["start"], it["length"]) for it in json.loads(told("map", "--json", "disk")) if it["data"]], [(300 << 20, 65536), (600 << 20, 131072), (size - 65536, 65536)], "what is mapped")
+    equal(os.path.getsize("disk") < 1 << 20, True, "the size of the image")
+    consistent("disk", 0)
+    compared(0, "Images are identical.", "-f", "raw", "-F", "qcow2", "raw", "disk")
     told("convert", "disk", "again")
-    equal((os.path.getsize("again"), os.stat("again").st_blocks * 512 <= 131072), (1 << 30, True), "the raw disk that came back")
+    equal((os.path.getsize("again"), os.stat("again").st_blocks * 512 <= 4 * 65536), (size, True), "the raw disk that came back")
+    equal(told("compare", "-f", "raw", "-F", "raw", "raw", "again"), "Images are identical.\n", "its bytes")
+    os.truncate("again", size - 1)
+    equal(tools("compare", "raw", "again")[:2], (1, "Strict mode: Image size mismatch!\n"), "a disk without the last byte")
 
 
 # Each kind of image that QEMU makes
@@ -1058,6 +1067,8 @@ BAD_WORDS = [
     (["resize", "disk", "+"], "+"), (["resize", "--preallocation=some", "disk", "1M"], "--preallocation=some"), (["resize", "--shrink=1", "disk", "1M"], "--shrink=1"), (["resize", "-F", "raw", "disk", "1M"], "-F"),
     (["convert", "--verify=yes", "a", "b"], "--verify=yes"), (["convert", "-o", "preallocation=full", "-O", "qcow2", "a", "b"], "preallocation=full"), (["create", "--shrink", "disk", "1M"], "--shrink"),
     (["create", "-b", "base", "disk", "1M"], "-b"), (["create", "-F", "raw", "disk", "1M"], "-F"), (["convert", "-b", "base", "disk", "other"], "-b"), (["convert", "-F", "raw", "disk", "other"], "-F"), (["convert", "--backing"], "--backing"), (["map", "--backing", "base", "disk"], "--backing"), (["info", "-1", "disk"], "-1"), (["info", "--", "-1", "disk"], "disk"),
+    (["check", "-r", "leaks", "disk"], "-r"), (["convert", "-c", "a", "b"], "-c"), (["convert", "-n", "a", "b"], "-n"), (["convert", "-l", "one", "a", "b"], "-l"), (["info", "--backing-chain", "disk"], "--backing-chain"), (["create", "-u", "disk", "1M"], "-u"),
+    (["info", "--image-opts", "disk"], "--image-opts"), (["info", "-U", "disk"], "-U"), (["snapshot", "-l", "disk"], "snapshot"), (["create", "-f", "raw", "disk", "1M"], "raw"),
 ]
 
 
@@ -1078,6 +1089,17 @@ def help_and_version():
     equal(os.listdir("."), [], "the files")
 
 
+def words_of_qemu():
+    """What QEMU's users type first is taken."""
+    told("create", "-q", "-f", "qcow2", "--", "disk", "1M")
+    for command in ("info", "map", "check"):
+        for words in (["--json"], ["--output", "json"], ["-f", "qcow2", "--output=json"]):
+            equal(told(command, *words, "disk"), told(command, "--output=json", "disk"), f"{command} {words}")
+        equal(told(command, "--output=human", "disk"), told(command, "disk"), command)
+    equal((told("-V"), told("-h")), (told("--version"), told("--help")), "short words")
+    equal((tools("compare", "disk", "disk")[0], tools("compare", "-s", "disk", "disk")[:2]), (0, (2, "")), "a comparison, and a word that is refused")
+
+
 def words_that_are_no_text():
     """A name that isn't UTF-8 is refused, and it is said."""
     done = subprocess.run([TOOLS, "info", b"\xff"], capture_output=True, timeout=600)
@@ -1093,7 +1115,7 @@ def main():
     for check in (
         info_names_the_backing_file, control_characters_in_names, sizes_as_qemu_rounds_them, sizes_for_people, map_of_an_overlay, map_of_compressed_data, map_of_nothing, check_of_a_consistent_image, check_of_a_leak, check_of_a_missing_count, what_is_no_image,
         why_an_image_is_refused, check_names_each_breach, a_map_that_cannot_be_finished, formats_that_are_given, parts_of_sectors, the_file_that_failed, files_past_a_limit, a_device_that_is_too_small,
-        an_image_that_qemu_has_open, a_conversion_that_is_stopped, a_conversion_that_is_killed, words_that_are_no_text, a_hostile_image_in_little_memory,
+        an_image_that_qemu_has_open, a_conversion_that_is_stopped, a_conversion_that_is_killed, words_that_are_no_text, words_of_qemu, a_hostile_image_in_little_memory,
         info_of_what_is_not_read, images_without_errors, errors_beside_what_is_not_covered, images_that_may_be_taken_in, images_that_may_not_be_taken_in, what_cannot_be_vetted, comparisons, disks_that_cannot_be_compared,
         ranges_that_breaches_touch, ranges_of_unaligned_offsets, images_over_others, names_in_images_are_not_followed, layers_that_are_refused, a_layer_that_fails, thin_disks, thin_disks_from_image_to_image, a_disk_that_no_table_maps, sparse_raw_disks,
         overlays, sizes_of_disks, bytes_that_come_back, an_overlay_is_not_resized, preallocations, images_of_images, images_of_what_cannot_be_read, conversions_that_are_verified,
