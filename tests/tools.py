@@ -741,6 +741,7 @@ def thin_disks():
     told("create", "disk", "10T")
     equal(within(120, "convert", "disk", "raw"), (0, "", ""), "the export")
     equal((os.path.getsize("raw"), os.stat("raw").st_blocks < 100), (10 << 40, True), "the raw disk")
+    equal(tool("qemu-img", "compare", "-f", "raw", "-F", "qcow2", "raw", "disk").strip(), "Images are identical.", "its bytes")
 
 
 def thin_disks_from_image_to_image():
@@ -847,11 +848,18 @@ def created(words, layout):
 
 
 def sizes():
-    for word, size in (("0", 0), ("512", 512), ("64k", 65536), ("64K", 65536), ("3M", 3 << 20), ("10G", 10 << 30), ("2t", 2 << 40)):
+    """Sizes are those of qemu-img, also with a fraction, which is rounded down."""
+    for word, size in (("0", 0), ("512", 512), ("64k", 65536), ("64K", 65536), ("3M", 3 << 20), ("10G", 10 << 30), ("2t", 2 << 40), ("1.5G", 3 << 29), ("0.5k", 512), ("2.250m", 9 << 18), ("0.00048828125M", 512), ("1.0G", 1 << 30)):
         told("create", "disk", word)
-        equal(json.loads(told("info", "--output=json", "disk"))["virtual-size"], size, word)
+        tool("qemu-img", "create", "-q", "-f", "qcow2", "theirs", word)
+        for file in ("disk", "theirs"):
+            equal(json.loads(told("info", "--output=json", file))["virtual-size"], size, f"{file} of {word}")
+    for bound, status in (("1.1M", 2), ("0.0000000000000000001E", 2), ("1023.9999999999999999M", 2), ("15.9999999999999999999E", 0)):
+        equal(tools("vet", "--max-size", bound, "disk")[0], status, f"a bound of {bound}")
+    told("resize", "disk", "+0.5k")
+    equal(json.loads(told("info", "--output=json", "disk"))["virtual-size"], (1 << 30) + 512, "a larger disk")
     os.remove("disk")
-    for word in ("", "k", "10x", "-1", "+1", "1kk", "0x10", "16E", "18446744073709551616", "1 k", "é"):
+    for word in ("", "k", "10x", "-1", "+1", "1kk", "0x10", "16E", "18446744073709551616", "1 k", "é", "1.5", ".5G", "1.G", "1.", ".", "1.5.5G", "1.-5G", "1.5kk", "15.9999999999999999999999E", "0.00000000000000000000k", "16.0E"):
         status, text, messages = tools("create", "disk", word)
         equal((status, text, os.path.exists("disk")), (1, "", False), f"a size of {word!r}, with {messages}")
 
@@ -1062,7 +1070,7 @@ BAD_WORDS = [
     (["info", "--output"], "--output"), (["map"], "a file is missing"), (["check"], "a file is missing"), (["check", "-f", "raw", "disk"], "raw"), (["convert", "disk"], "a second word is missing"),
     (["convert", "a", "b", "c"], "c"), (["convert", "-O", "vmdk", "a", "b"], "vmdk"), (["create", "disk"], "a second word is missing"), (["create", "-o", "size=1", "disk", "1M"], "size=1"),
     (["create", "-o", "cluster_size=x", "disk", "1M"], "cluster_size=x"), (["create", "-o"], "-o"), (["create", "-O", "raw", "disk", "1M"], "-O"), (["Info", "disk"], "Info"), (["--help", "more"], "more"),
-    (["--version", "-p"], "-p"), (["create", "disk", "1x"], "1x"), (["create", "disk", "1.5G"], "1.5G"), (["convert", "-o", "cluster_size=4k", "-O", "raw", "a", "b"], "-o"), (["convert", "-o", "cluster_size=4k", "a", "b"], "-o"),
+    (["--version", "-p"], "-p"), (["create", "disk", "1x"], "1x"), (["create", "disk", "1.5"], "1.5"), (["convert", "-o", "cluster_size=4k", "-O", "raw", "a", "b"], "-o"), (["convert", "-o", "cluster_size=4k", "a", "b"], "-o"),
     (["info", "--frob", "disk"], "--frob"), (["vet"], "a file is missing"), (["vet", "--max-size", "x", "disk"], "x"), (["vet", "-o", "disk"], "-o"), (["resize", "disk"], "a second word is missing"),
     (["resize", "disk", "+"], "+"), (["resize", "--preallocation=some", "disk", "1M"], "--preallocation=some"), (["resize", "--shrink=1", "disk", "1M"], "--shrink=1"), (["resize", "-F", "raw", "disk", "1M"], "-F"),
     (["convert", "--verify=yes", "a", "b"], "--verify=yes"), (["convert", "-o", "preallocation=full", "-O", "qcow2", "a", "b"], "preallocation=full"), (["create", "--shrink", "disk", "1M"], "--shrink"),

@@ -298,7 +298,7 @@ fn run_command(rt: &HostRuntime, words: &Words<'_>, output: &mut impl Write) -> 
 fn no_size(word: &str) -> BadWord<'_> {
     BadWord {
         word,
-        reason: "not a size of 64 bits: a whole number of bytes or of units, as 1536M for 1.5G",
+        reason: "not a size of 64 bits: a number of bytes, or of units of 1024 as in 64k and 1.5G",
     }
 }
 

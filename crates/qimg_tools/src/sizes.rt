@@ -1,20 +1,42 @@
 //! Sizes in words, and in the form for people.
-ghost use Rattle.std.specs.Prelude.{◌≡◌, ◌<◌, ◌≤◌};
+ghost use Rattle.std.specs.Prelude.{◌≡◌, ◌<◌, ◌≤◌, ◌^◌, length};
 ghost use Rattle.program_parts.specs.Numbers.{number_of_word};
-ghost use Rattle.qimg_tools.specs.Sizes.{size_of_word, unit_of_letter, units};
+ghost use Rattle.qimg_tools.specs.Sizes.{added, fractional_size, part_of_unit, size_of_word, unit_of_letter, units, whole_size};
 
 use program_parts::number;
 use std::fmt;
 
-/// The bytes of a word: decimal digits, and at most one letter for a power of 1024. None if it is
-/// something else, or doesn't fit into 64 bits.
+/// The bytes of a word: decimal digits, and at most one letter for a power of 1024. Before a letter the number may have a fraction of at
+/// most 19 digits, which is rounded down to a byte. None if it is something else, or doesn't fit into 64 bits.
 pub fn size(word: &str) -> Option<u64>
     ensures { result ≡ size_of_word word.now }
+{
+    match word.split_once('.') {
+        Some((whole, rest)) => fractional_size(whole, rest),
+        None => whole_size(word),
+    }
+}
+
+fn whole_size(word: &str) -> Option<u64>
+    ensures { result ≡ whole_size word.now }
 {
     match word.as_bytes() {
         [digits @ .., letter] => match unit_of_letter(letter.to_ascii_lowercase()) {
             Some(unit) => units(number_of_digits(digits), unit),
             None => number(word),
+        },
+        [] => None,
+    }
+}
+
+// The bytes of a number of units with a fraction: the word before the point, and the one behind it.
+fn fractional_size(whole: &str, rest: &str) -> Option<u64>
+    ensures { result ≡ fractional_size whole.now rest.now }
+{
+    match rest.as_bytes() {
+        [digits @ .., letter] => match unit_of_letter(letter.to_ascii_lowercase()) {
+            Some(unit) => added(units(number(whole), unit), part_of_unit(digits, unit)),
+            None => None,
         },
         [] => None,
     }
@@ -39,6 +61,24 @@ fn units(count: Option<u64>, unit: u64) -> Option<u64>
     ensures { result ≡ units count unit }
 {
     count?.checked_mul(unit)
+}
+
+// The bytes of a fraction of a unit, rounded down, by the digits behind the point.
+#[tactic(auto, using(crate::proofs::Tens::tens_are_some, crate::proofs::Tens::long_tens))]
+fn part_of_unit(digits: &[u8], unit: u64) -> Option<u64>
+    ensures { result ≡ part_of_unit (number_of_word digits.now) unit (10 ^ length digits.now) }
+{
+    let count = u128::from(number_of_digits(digits)?);
+    let digit_count = u32::try_from(digits.len()).ok()?;
+    let parts = u128::from(10u64.checked_pow(digit_count)?);
+    u64::try_from(count * u128::from(unit) / parts).ok()
+}
+
+// A sum of two numbers of bytes, if it fits into 64 bits.
+fn added(one: Option<u64>, other: Option<u64>) -> Option<u64>
+    ensures { result ≡ added one other }
+{
+    one?.checked_add(other?)
 }
 
 fn number_of_digits(digits: &[u8]) -> Option<u64>

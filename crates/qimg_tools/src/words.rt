@@ -18,7 +18,7 @@ pub const USAGE: &str = "usage: qimg-tools info [-f qcow2] [--output human|json]
        qimg-tools create [-q] [-f qcow2] [-o OPTIONS] [-b FILE -F raw|qcow2] FILE [SIZE]
        qimg-tools resize [-q] [-f qcow2] [--shrink] [--preallocation MODE] FILE [+|-]SIZE
        qimg-tools [COMMAND] --help | --version
-SIZE is a number of bytes, or of units of 1024 as in 64k, 512M and 10G.
+SIZE is a number of bytes, or of units of 1024 as in 64k, 1.5G and 10T.
 OPTIONS are cluster_size=SIZE and refcount_bits=N, and for create preallocation=MODE, with commas between them.
 MODE is off, metadata, falloc or full. -b names a backing file, whose size is taken where none is given. Words behind -- are files and sizes. --json is --output json.
 vet reports whether a stranger's image may be taken in: its bytes are consistent and name no other file.
@@ -484,7 +484,7 @@ fn wanted(command: Command, setting: Setting) -> &'static str {
             "the options of an image are cluster_size=SIZE, refcount_bits=N and preallocation=off|metadata|falloc|full, with commas",
         Setting::Layout => "a layout is cluster_size=SIZE or refcount_bits=N, or both with a comma",
         Setting::MaxSize =>
-            "not a size of 64 bits: a whole number of bytes or of units, as 1536M for 1.5G",
+            "not a size of 64 bits: a number of bytes, or of units of 1024 as in 64k and 1.5G",
         Setting::Preallocation => "a mode is off, metadata, falloc or full",
     }
 }
