@@ -991,6 +991,18 @@ def files_past_a_limit():
     equal((done.returncode, b"refused 15 storage" in done.stderr, os.path.exists("new")), (1, True, False), f"a new image, with {done.stderr}")
 
 
+def an_error_that_comes_late():
+    """The system may report only when a file is synced that it lost bytes. Then a new image is removed, and nothing is told as done."""
+    for words in (["create", "disk", "1M"], ["create", "-b", "base", "-F", "raw", "disk", "1M"], ["resize", "disk", "2M"]):
+        with open("base", "wb") as it:
+            it.write(bytes(512))
+        if words[0] == "resize":
+            told("create", "disk", "1M")
+        done = subprocess.run(["strace", "-f", "-qq", "-o", "calls", "-P", os.path.abspath("disk"), "-e", "inject=fsync:error=EIO:when=1", TOOLS, *words], capture_output=True, timeout=600)
+        said = b"qimg-tools: disk: refused 15 storage\nqimg-tools: disk: Input/output error (os error 5)\n"
+        equal((done.returncode, done.stdout, done.stderr, os.path.exists("disk")), (1, b"", said, words[0] == "resize"), f"{words}")
+
+
 def a_device_that_is_too_small():
     """It is refused, and stays as it is."""
     data = random.Random(1).randbytes(1 << 20)
@@ -1122,7 +1134,7 @@ def main():
         checks.run(f"map of {layout}", map_is_as_qemu_says, layout)
     for check in (
         info_names_the_backing_file, control_characters_in_names, sizes_as_qemu_rounds_them, sizes_for_people, map_of_an_overlay, map_of_compressed_data, map_of_nothing, check_of_a_consistent_image, check_of_a_leak, check_of_a_missing_count, what_is_no_image,
-        why_an_image_is_refused, check_names_each_breach, a_map_that_cannot_be_finished, formats_that_are_given, parts_of_sectors, the_file_that_failed, files_past_a_limit, a_device_that_is_too_small,
+        why_an_image_is_refused, check_names_each_breach, a_map_that_cannot_be_finished, formats_that_are_given, parts_of_sectors, the_file_that_failed, files_past_a_limit, an_error_that_comes_late, a_device_that_is_too_small,
         an_image_that_qemu_has_open, a_conversion_that_is_stopped, a_conversion_that_is_killed, words_that_are_no_text, words_of_qemu, a_hostile_image_in_little_memory,
         info_of_what_is_not_read, images_without_errors, errors_beside_what_is_not_covered, images_that_may_be_taken_in, images_that_may_not_be_taken_in, what_cannot_be_vetted, comparisons, disks_that_cannot_be_compared,
         ranges_that_breaches_touch, ranges_of_unaligned_offsets, images_over_others, names_in_images_are_not_followed, layers_that_are_refused, a_layer_that_fails, thin_disks, thin_disks_from_image_to_image, a_disk_that_no_table_maps, sparse_raw_disks,

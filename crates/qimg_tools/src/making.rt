@@ -55,7 +55,7 @@ fn create_overlay(
     end_creating(rt, file, size, storage, done)
 }
 
-// Ends a creation. If it failed, a new file is removed.
+// Ends a creation: syncs the file, since the system reports some errors only then. If it failed, a new file is removed.
 fn end_creating(
     rt: &HostRuntime,
     file: &str,
@@ -63,6 +63,11 @@ fn end_creating(
     storage: FileStorage,
     done: Result<(), ImageError>,
 ) -> u8 {
+    let mut storage = storage;
+    let done = match done {
+        Ok(()) => storage.sync().map_err(ImageError::from),
+        Err(refusal) => Err(refusal),
+    };
     if done.is_ok() {
         warn_of_sectors(rt, file, size);
     } else if storage.is_new() {

@@ -46,7 +46,7 @@ impl From<NotResized> for Unresized {
     }
 }
 
-/// Resizes the disk of an image, and returns its storage and the new size. New bytes read as zeros, except those of
+/// Resizes the disk of an image, syncs it, and returns its storage and the new size. New bytes read as zeros, except those of
 /// a compressed cluster at the old end. Refused as `open_alone` is for writing, which leaves the storage unchanged: 19 (metadata),
 /// 13 (limit), 4 (unaligned table), 12 (dependency); then `NoSize`, and `WouldShrink`; for a larger size also 13 if no L1 table
 /// is long enough. Refused 14 (memory) and 15 (storage) if the work meets them, and in modes that allocate as `resize_grow` is.
@@ -57,8 +57,10 @@ pub fn resize<S: Storage>(
 ) -> (S, Result<u64, Unresized>) {
     match Qcow2::<S, NoBacking>::open_alone(alloc, storage, true, 1) {
         Ok(mut image) => {
-            let done = resize_image(alloc, &mut image, how);
-            (image.into_storage(), done)
+            let resized = resize_image(alloc, &mut image, how);
+            let mut storage = image.into_storage();
+            let done = synced(&mut storage, resized);
+            (storage, done)
         }
         Err((storage, e)) => (storage, Err(Unresized::Refused(e))),
     }
@@ -76,6 +78,13 @@ fn resize_image<S: Storage>(
     resize_disk(image, size, how.preallocate, how.shrinks)?;
     clear_last(alloc, image, old, size)?;
     image.flush()?;
+    Ok(size)
+}
+
+// Syncs an image that was resized, since the system reports some errors only then.
+fn synced<S: Storage>(storage: &mut S, resized: Result<u64, Unresized>) -> Result<u64, Unresized> {
+    let size = resized?;
+    storage.sync().map_err(ImageError::from)?;
     Ok(size)
 }
 
