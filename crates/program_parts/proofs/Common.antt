@@ -34,7 +34,7 @@ unfoldable pub use Rattle.qcow2_disk.specs.Disk.{disk_with}
 pub use Rattle.qcow2_disk.specs.Disk.{disk, Disk}
 pub use Rattle.qcow2_disk.specs.HeaderRest.{KeepsHeaderRest}
 pub use Rattle.qcow2_disk.specs.Stops.{StopOkEverywhere, checkpoint_at, LeavesKept, GivenBytes, checkpoint_with}
-pub use Rattle.qcow2_image.proofs.Create.Causes.{told_opening, faults_met, opening_reasons, fault_reason}
+pub use Rattle.qcow2_image.proofs.Create.Causes.{told_opening, opening_reasons, fault_reason}
 pub use Rattle.qcow2_image.proofs.Create.NewDisks.{new_disk_consistent}
 pub use Rattle.qcow2_image.proofs.Images.Free.{whole}
 pub use Rattle.qcow2_image.specs.Created.{IsReasonNotToCreateOpen, IsNewDisk, IsStopOfCreating, IsAllowed, IsCreated, allocates_over, backing_format_in, backing_name_in, IsReasonNotToCreate, longest_disk}

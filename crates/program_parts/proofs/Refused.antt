@@ -1,6 +1,6 @@
 -- Why an image is not made from a raw disk, and why a raw disk is not made from an image.
 use Rattle.std.proofs.Common.{◌≡◌, ◌≢◌, ◌⊎◌, ◌+◌, ◌≤◌, ◌^◌, inl, inr, ⊎_elim, ℕ, List, [], None, Result, Ok, Err, refl, sym, ap, ◌∙◌, subst, true, false, arith, Option, length, option_map}
-use Rattle.program_parts.proofs.Common.{IfErr, IsTrue, unwrap_or, option_or, BackingView, StorageView, Bytes, byte_at, IsConsistent, header, HeaderFields, IsOpened, IsFault, known_in, state_in, ImageError, IsAllowed, IsCreated, IsReasonNotToCreateOpen, allocates_over, backing_format_in, backing_name_in, IsSameImage, is_writable, size_of, storage_of_image, abstract_of, pending_in, NoBacking, Qcow2CreateBuilder, Qcow2, faults_met, opening_reasons, MayFailImporting, IsImageOfSize, IsLayout, MayFailExporting, MayFailOnceCreated, MayFailReadingDisk, IsRefusedUntouched, IsUnopened, OpensToExport, asked_for}
+use Rattle.program_parts.proofs.Common.{IfErr, IsTrue, unwrap_or, option_or, BackingView, StorageView, Bytes, byte_at, IsConsistent, header, HeaderFields, IsOpened, IsFault, known_in, state_in, ImageError, IsAllowed, IsCreated, IsReasonNotToCreateOpen, allocates_over, backing_format_in, backing_name_in, IsSameImage, is_writable, size_of, storage_of_image, abstract_of, pending_in, NoBacking, Qcow2CreateBuilder, Qcow2, opening_reasons, MayFailImporting, IsImageOfSize, IsLayout, MayFailExporting, MayFailOnceCreated, MayFailReadingDisk, IsRefusedUntouched, IsUnopened, OpensToExport, asked_for}
 use Rattle.std.specs.String.{string_bytes}
 use Rattle.std.proofs.Math.Pow.{pow_mono}
 use Rattle.qcow2_metadata.specs.HeaderWrite.{name_place}
@@ -10,7 +10,7 @@ use Rattle.qcow2_alloc.specs.declared.error.ImageError.TheVariants as I
 use Rattle.qcow2_image.specs.MayFail.{MayFailReadingRange}
 use Rattle.qcow2_image.specs.Opened.{NeedsAnother}
 use Rattle.qcow2_image.specs.Readable.{HeaderSuits, IsJustifiedRefusal, OpensRightly}
-use Rattle.qcow2_image.specs.Refusals.{passes, refuse_if, refuses_to_read}
+use Rattle.qcow2_image.specs.Refusals.{MayFailToRead, passes, refuse_if, refuses_to_read}
 use Rattle.qcow2_image.specs.declared.image.Missing.TheVariants as M
 use Rattle.qcow2_image.proofs.Create.Faults.{none_prepared}
 use Rattle.qcow2_image.proofs.Images.Sizes.{sound_is_usable}
@@ -149,6 +149,6 @@ pub met_exporting : {R A B : Type 0} (contents : List ℕ) (old new : R) (copied
 met_exporting contents old new copied (Ok n) opens cause reading may_fail = tt
 met_exporting contents old new copied (Err e) opens cause reading may_fail = inr (record {
   opens = opens;
-  of_reading = ⊎_elim (λ is. of_err IsOfReading copied e is reading) (λ fault. inl (faults_met {T = ℕ} (Err e) fault)) cause;
+  of_reading = ⊎_elim (λ is. of_err IsOfReading copied e is reading) (λ fault. inl (⊎_elim (λ (storage : e ≡ I.Storage). subst MayFailToRead (sym storage) tt) (λ (memory : e ≡ I.Memory). subst MayFailToRead (sym memory) tt) fault)) cause;
   may_fail = λ consistent. ⊎_elim (λ is. of_err (MayFailReadingDisk (byte_at contents)) copied e is (may_fail consistent)) (λ fault. inl fault) cause;
 })

@@ -19,7 +19,6 @@ use Rattle.qcow2_alloc.proofs.KeptTables.Putting.{table_kept}
 use Rattle.qcow2_alloc.proofs.KeptTables.PuttingBlocks.{block_kept}
 use Rattle.qcow2_alloc.proofs.Outcomes.{on_err, on_no_ok}
 use Rattle.qcow2_alloc.proofs.Steps.{fails_of}
-use Rattle.qcow2_alloc.proofs.TableErrors.{cache_of_tables}
 
 -- a call that doesn't reach the storage, and does nothing
 pub held_none : {S : Type 0} {c : MetadataCaches S} → HeldStep c c
@@ -113,7 +112,7 @@ rb_not_l2 bad = absurd cc
 -- ---- why a call of a cache is refused, which `?` hands on
 pub fails_cache : {T A : Type 0} {before now : ℕ} (answer : Result A (CacheError ℕ MetadataError)) (e : CacheError ℕ MetadataError) (r : Result T ImageError) → CacheReports before now answer → answer ≡ Err e → IsErr r × IsErrAnd r (λ x. x ≡ of_cache e)
     → FailsFor before now (err_of r) IsOfTables
-fails_cache {before = before} {now = now} answer e r reports is on = fails_of r (cache_told before now answer e r reports is on) (given_err r (of_cache e) IsOfTables on (cache_of_tables e))
+fails_cache {before = before} {now = now} answer e r reports is on = fails_of r (cache_told before now answer e r reports is on) (given_err r (of_cache e) IsOfTables on (reports.cause e is))
 
 -- ---- a call of one cache
 abbrev seen_by : {S : Type 0} → (S → StorageView) → ImageStorage S → StorageView

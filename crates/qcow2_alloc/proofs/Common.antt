@@ -41,7 +41,7 @@ pub use Rattle.qcow2_alloc.specs.FreeSteps.{FreesListed}
 pub use Rattle.qcow2_alloc.specs.Growing.{IsLeastLength, IsCloneOf, IsLongEnough}
 pub use Rattle.qcow2_alloc.specs.GrownTables.{named_by_reftable_entries, counted_run, with_run, without_reftable, NamesReftable, EntersReftable, StandsGrown, reftable_at, IsGrown}
 pub use Rattle.qcow2_alloc.specs.HeaderClusters.{IsInHeaderCluster, BytesStay, KeepsHeaderCluster, SameAt, IsBesidePointer}
-pub use Rattle.qcow2_alloc.specs.ImageError.{of_storage, IsFault, of_cache, IsOfTables, of_metadata}
+pub use Rattle.qcow2_alloc.specs.ImageError.{of_storage, IsFault, of_cache, IsOfReftableLoad, IsOfTables, of_metadata}
 pub use Rattle.qcow2_alloc.specs.ImageFile.{view_in, contents_in, known_in, FileInvariant, AllocatorInvariant, HasReftable, RefusedFileStep, pending_at, nothing_given, state_in, InternalFileStep, InternalFileGrowth, InterruptedFileStep, KeepsHeader}
 pub use Rattle.qcow2_alloc.specs.ImageStorage.{storage_of, met_fault_of, is_changed_of, RecordsWrite, SameNotes, WritesPlaced, changes_of, RecordsFault}
 pub use Rattle.qcow2_alloc.specs.KeptMarks.{KeepMarks, KeepNotes, KeepsMarks}
@@ -63,7 +63,7 @@ pub use Rattle.qcow2_alloc.specs.TableCache.{marks_in, settled, FlushesAt, Chang
 pub use Rattle.qcow2_alloc.specs.TableCaches.{IsTableOf, l2_steps, rb_steps, cleared_l2, cleared_rb, IsBlockOf}
 pub use Rattle.qcow2_alloc.specs.TableChanges.{changed_block, SetsCount, SetsTableCount, SetsTableEntry, LeavesCount, changed_table, ChangesOrStays, SetsEntry, ChangesHeld, CantMap, CountsLess}
 pub use Rattle.qcow2_alloc.specs.TableLaws.{same_number, apart}
-pub use Rattle.qcow2_alloc.specs.TableSteps.{answer_refused, table_steps, answer_done, LoadsTable, FailsToLoad, FlushesTable, FailsToFlush, IsTableFault}
+pub use Rattle.qcow2_alloc.specs.TableSteps.{answer_refused, table_steps, answer_done, LoadsTable, FailsToLoad, FlushesTable, FailsToFlush, IsTableFault, IsOfTable}
 pub use Rattle.qcow2_alloc.specs.UsedCounts.{AreUsed, IsFoundUsed, AddsFree, PassesKnown, passed_hint, SparedStayOut, ReportsUsed, AreFoundFree, StaysSound, SearchContinuesIn, ReportsFirstFree, SearchContinuesAt}
 pub use Rattle.qcow2_alloc.specs.Uses.{first_marked, behind, IsFoundAs, number_at, marks_of, marked_count, IsLastBelow, placed, Rise, count_below, Marked, Fall, AreNumbered, HaveRoom, is_first}
 pub use Rattle.qcow2_alloc.specs.declared.allocation.Allocator.{Allocator}
@@ -129,6 +129,7 @@ unfoldable pub use Rattle.qcow2_metadata.specs.Named.{named_by_reftable, named_f
 pub use Rattle.qcow2_metadata.specs.Named.{in_cluster, table_in, in_run}
 pub use Rattle.qcow2_metadata.specs.RefBlock.{RefBlockView, ChangesCount, count_at, counts_of, IsRefBlock, count_limit, count_in}
 pub use Rattle.qcow2_metadata.specs.TableBytes.{entry_at, HasPlace, ChangesEntry, IsOfStorageOrMemory}
+pub use Rattle.qcow2_metadata.specs.EntryTable.{IsReasonNotToLoad}
 unfoldable pub use Rattle.qcow2_metadata.specs.Tables.{known}
 pub use Rattle.qcow2_metadata.specs.Tables.{CachedTable, overlays}
 pub use Rattle.qcow2_metadata.specs.declared.error.MetadataError.{MetadataError}

@@ -1,6 +1,6 @@
 -- Steps of the allocator one after another, and refusals that are passed on.
-use Rattle.std.proofs.Common.{◌≡◌, ◌≢◌, ℕ, List, Option, Some, None, Result, Ok, Err, IsErr, IsErrAnd, refl, sym, ap, ◌∙◌, subst, arith, IfErr}
-use Rattle.qcow2_alloc.proofs.Common.{StorageView, HasCause, StorageError, MetadataError, storage_result, EntryTableView, FaultsReported, KeepsPinsAndNotes, HeldStep, ReplacesReftable, OldReftablesQueued, KeepsHeaderCluster, view_in, of_storage, of_metadata, IsOfTables, KeepMarks, KeepsMarks, KeepsNotes, kept_then, ClustersToFreeEntry, CachesSpareHeader, KeepBehindHeader, MetadataCaches, ImageStorage, err_of, FailsFor, TableStep, FileStep, KeepsMarksInTurn, DataStep, PointerStep, PointerStepTo, GrowthStep, FreeStep, FreeStepInTurn, PartStep, ImageError, ImageFile}
+use Rattle.std.proofs.Common.{◌≡◌, ◌≢◌, inl, inr, ℕ, List, Option, Some, None, Result, Ok, Err, IsErr, IsErrAnd, refl, sym, ap, ◌∙◌, subst, arith, IfErr}
+use Rattle.qcow2_alloc.proofs.Common.{StorageView, HasCause, StorageError, MetadataError, storage_result, EntryTableView, FaultsReported, KeepsPinsAndNotes, HeldStep, ReplacesReftable, OldReftablesQueued, KeepsHeaderCluster, view_in, of_storage, of_metadata, IsOfReftableLoad, IsOfTables, IsReasonNotToLoad, KeepMarks, KeepsMarks, KeepsNotes, kept_then, ClustersToFreeEntry, CachesSpareHeader, KeepBehindHeader, MetadataCaches, ImageStorage, err_of, FailsFor, TableStep, FileStep, KeepsMarksInTurn, DataStep, PointerStep, PointerStepTo, GrowthStep, FreeStep, FreeStepInTurn, PartStep, ImageError, ImageFile}
 use Rattle.image_access.specs.declared.error.StorageError.TheVariants as S
 use Rattle.qcow2_metadata.specs.declared.error.MetadataError.TheVariants as M
 use Rattle.qcow2_alloc.specs.declared.error.ImageError.TheVariants as I
@@ -208,14 +208,15 @@ fails_storage {T} {A} {before} {now} r e on cause = fails_on r (of_storage e) on
   answered S.Fault cause = record { no_fewer = cause.no_fewer; rose = λ is. cause.fault refl; told = λ other. absurd (other refl); cause = tt }
   answered S.Memory cause = fails_by I.Memory memory_other (cause.told (λ bad. cc)) tt
 
--- what a table's load answered
-pub fails_loaded : {T : Type 0} (A : Type 0) {before now : ℕ} (r : Result T ImageError) (e : MetadataError) → IsErr r × IsErrAnd r (λ x. x ≡ of_metadata e) → HasCause before now (storage_result {T = A} (Err e)) → FailsFor before now (err_of r) IsOfTables
-fails_loaded {T} A {before} {now} r e on cause = fails_on r (of_metadata e) on (answered e cause) where
-  answered : (e : MetadataError) → HasCause before now (storage_result {T = A} (Err e)) → FailsFor before now (Some (of_metadata e)) IsOfTables
-  answered (M.Storage S.Fault) cause = record { no_fewer = cause.no_fewer; rose = λ is. cause.fault refl; told = λ other. absurd (other refl); cause = tt }
-  answered (M.Storage S.Memory) cause = fails_by I.Memory memory_other (cause.told (λ bad. cc)) tt
-  answered M.Memory cause = fails_by I.Memory memory_other (cause.told (λ bad. cc)) tt
-  answered M.Version cause = fails_by (of_metadata M.Version) (λ bad. absurd cc) cause.told tt
-  answered M.Unaligned cause = fails_by (of_metadata M.Unaligned) (λ bad. absurd cc) cause.told tt
-  answered M.Limit cause = fails_by (of_metadata M.Limit) (λ bad. absurd cc) cause.told tt
-  answered M.Format cause = fails_by (of_metadata M.Format) (λ bad. absurd cc) cause.told tt
+-- what the load of the reftable answered
+pub fails_loaded : {T : Type 0} (IsTooLong IsUnread A : Type 0) {before now : ℕ} (r : Result T ImageError) (e : MetadataError) → IsErr r × IsErrAnd r (λ x. x ≡ of_metadata e) → IsReasonNotToLoad IsTooLong IsUnread e → HasCause before now (storage_result {T = A} (Err e))
+    → FailsFor before now (err_of r) IsOfReftableLoad
+fails_loaded {T} IsTooLong IsUnread A {before} {now} r e on why cause = fails_on r (of_metadata e) on (answered e why cause) where
+  answered : (e : MetadataError) → IsReasonNotToLoad IsTooLong IsUnread e → HasCause before now (storage_result {T = A} (Err e)) → FailsFor before now (Some (of_metadata e)) IsOfReftableLoad
+  answered (M.Storage S.Fault) why cause = record { no_fewer = cause.no_fewer; rose = λ is. cause.fault refl; told = λ other. absurd (other refl); cause = inr tt }
+  answered (M.Storage S.Memory) why cause = fails_by I.Memory memory_other (cause.told (λ bad. cc)) (inr tt)
+  answered M.Memory why cause = fails_by I.Memory memory_other (cause.told (λ bad. cc)) (inr tt)
+  answered M.Version why cause = absurd why
+  answered M.Unaligned why cause = absurd why
+  answered M.Limit why cause = fails_by (of_metadata M.Limit) (λ bad. absurd cc) cause.told (inr tt)
+  answered M.Format why cause = fails_by (of_metadata M.Format) (λ bad. absurd cc) cause.told (inl refl)

@@ -10,6 +10,7 @@ module _ {S V : Type 0} (view : S → StorageView) (cluster_bits : ℕ) (bytes :
       → Calls {T = Unit {0}} before (view t) (Err e)
       → FailsToFlush view cluster_bits bytes is_modified cleared IsFit s k v (Storage e) t
   write_fails s t k v e before same modified fits changes calls = record {
+    among = tt;
     modified = modified;
     cause = λ fits here. tt;
     stopped = λ honest. subst (λ (b : StorageView). b.is_honest → ((view t).contents ≡ b.contents) ⊎ ((length (bytes v) ≡ 2 ^ cluster_bits) × ((view t).contents ≡ overwritten b.contents (k * 2 ^ cluster_bits) (bytes v)))) same

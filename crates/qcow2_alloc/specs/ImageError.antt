@@ -80,11 +80,11 @@ of_cache (C.Backend e) = of_metadata e
 abbrev pub IsFault : ImageError → Type 0
 IsFault e = (e ≡ I.Storage) ⊎ (e ≡ I.Memory)
 
--- The refusals of loading, changing and writing tables, and of allocating clusters.
+-- The refusals of loading, changing and writing tables, and of allocating clusters: 4, 8, 13, 14 and 15.
 abbrev pub IsOfTables : ImageError → Type 0
 IsOfTables I.ReadOnly = ⊥
 IsOfTables I.BeyondSize = ⊥
-IsOfTables I.Version = Unit {0}
+IsOfTables I.Version = ⊥
 IsOfTables I.UnalignedTable = Unit {0}
 IsOfTables I.InvalidOption = ⊥
 IsOfTables I.Preallocation = ⊥
@@ -100,6 +100,10 @@ IsOfTables I.Storage = Unit {0}
 IsOfTables I.Failed = ⊥
 IsOfTables I.MappingPrepared = ⊥
 IsOfTables (I.NotCompressed offset) = ⊥
-IsOfTables I.Metadata = Unit {0}
+IsOfTables I.Metadata = ⊥
 IsOfTables I.Overflow = ⊥
-IsOfTables (I.StillInUse tables) = Unit {0}
+IsOfTables (I.StillInUse tables) = ⊥
+
+-- The refusals of loading the reftable: also 19, for an entry that is not readable.
+abbrev pub IsOfReftableLoad : ImageError → Type 0
+IsOfReftableLoad e = (e ≡ I.Metadata) ⊎ IsOfTables e

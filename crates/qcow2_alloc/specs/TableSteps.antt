@@ -5,6 +5,7 @@ use Rattle.image_access.specs.Moments.{StorageView, ContentsStay, Calls, QuietCa
 use Rattle.image_access.specs.declared.error.StorageError.{StorageError}
 use Rattle.image_access.specs.declared.error.StorageError.TheVariants.{Fault}
 use Rattle.qcow2_metadata.specs.declared.error.MetadataError.{MetadataError}
+use Rattle.qcow2_metadata.specs.declared.error.MetadataError.TheVariants as M
 use Rattle.qcow2_metadata.specs.MetadataError.{storage_result}
 use Rattle.qcow2_metadata.specs.TableBytes.{HasPlace, IsOfStorageOrMemory}
 use Rattle.qcow2_alloc.specs.AsyncLruCacheBackend.{Steps}
@@ -15,6 +16,15 @@ answer_done = Ok tt
 
 abbrev pub answer_refused : MetadataError → Result (Unit {0}) StorageError
 answer_refused e = storage_result {T = Unit {0}} (Err e)
+
+-- The refusals of loading and flushing a table: an error of the storage, want of memory, and a cluster or a table that doesn't fit.
+abbrev pub IsOfTable : MetadataError → Type 0
+IsOfTable (M.Storage e) = Unit {0}
+IsOfTable M.Memory = Unit {0}
+IsOfTable M.Version = ⊥
+IsOfTable M.Unaligned = ⊥
+IsOfTable M.Limit = Unit {0}
+IsOfTable M.Format = ⊥
 
 -- The storage failed.
 abbrev pub IsTableFault : MetadataError → Type 0
@@ -35,6 +45,7 @@ module _ {S V : Type 0} (view : S → StorageView) (cluster_bits : ℕ) (bytes :
 
   -- Loading from a cluster that has a place is refused by the storage, or because memory ran out.
   pub record FailsToLoad (s : S) (k : ℕ) (e : MetadataError) (t : S) : Type 0 where
+    pub among : IsOfTable e
     pub cause : HasPlace cluster_bits k → IsOfStorageOrMemory e
     pub calls : QuietCalls (view s) (view t) (answer_refused e)
     pub keeps : ContentsStay (view s) (view t)
@@ -54,6 +65,7 @@ module _ {S V : Type 0} (view : S → StorageView) (cluster_bits : ℕ) (bytes :
   -- Flushing fails only for a modified table. It was written whole or not at all.
   pub record FailsToFlush (s : S) (k : ℕ) (v : V) (e : MetadataError) (t : S) : Type 0 where
     pub modified : is_modified v ≡ true
+    pub among : IsOfTable e
     pub cause : IsFit v → HasPlace cluster_bits k → IsOfStorageOrMemory e
     pub stopped : (view s).is_honest → ((view t).contents ≡ (view s).contents)
         ⊎ ((length (bytes v) ≡ 2 ^ cluster_bits) × ((view t).contents ≡ overwritten (view s).contents (place_of_cluster k) (bytes v)))

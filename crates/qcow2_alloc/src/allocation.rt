@@ -6,7 +6,7 @@ ghost use Rattle.qcow2_alloc.specs.Allocation.{MayAllocate, AllocatesSomeRun, is
 ghost use Rattle.qcow2_alloc.specs.FreeList.{pending_then};
 ghost use Rattle.qcow2_alloc.specs.Steps.{Fails, FileStep, AllocatesClusterSoundly, AllocatesRunSoundly, DataStep, AllocatesAtSoundly};
 ghost use Rattle.qcow2_alloc.specs.Steps.{AllocatesSoundly, BeginsFrom, ReadsFile, AllocatesLowestSoundly};
-ghost use Rattle.qcow2_alloc.specs.ImageError.{IsOfTables};
+ghost use Rattle.qcow2_alloc.specs.ImageError.{IsOfReftableLoad, IsOfTables};
 ghost use Rattle.qcow2_alloc.specs.ImageFile.{view_in, contents_in, AllocatorInvariant};
 ghost use Rattle.qcow2_alloc.specs.LoadedTables.{IsReasonAgainstReftable, ReftableReads};
 ghost use Rattle.qcow2_alloc.specs.ImageStorage.{SameNotes};
@@ -39,13 +39,13 @@ pub struct Allocator {
     pub(crate) crowded: u64,
 }
 
-#[tactic(auto, using(crate::proofs::TableErrors::storage_of_tables, crate::proofs::TableErrors::metadata_of_tables, crate::proofs::TableErrors::cache_of_tables))]
+#[tactic(auto, using(crate::proofs::TableErrors::storage_of_tables, crate::proofs::TableErrors::stored_of_tables))]
 impl Allocator {
     /// Loads the reftable. Refused 4 (unaligned table) if its offset is not aligned, 13 (limit) if it would end past 64 bits,
     /// 19 (metadata) if an entry has a reserved bit, and 14 (memory) or 15 (storage) during the work.
     pub fn new<S: Storage>(file: &mut ImageFile<S>) -> Result<Allocator, ImageError>
         ensures step { ReadsFile S.view file.old file.new }
-        ensures fails { Fails S.view file.old.storage file.new.storage result IsOfTables }
+        ensures fails { Fails S.view file.old.storage file.new.storage result IsOfReftableLoad }
         ensures why { (view_in S.view file.old).is_honest
             → MatchResult result (λ allocator. ReftableReads file.old.header.fields (contents_in S.view file.old))
             (IsReasonAgainstReftable file.old.header.fields (contents_in S.view file.old)) }
@@ -76,7 +76,7 @@ impl Allocator {
     pub fn load_anew<S: Storage>(&mut self, file: &mut ImageFile<S>) -> Result<(), ImageError>
         ensures step { ReadsFile S.view file.old file.new }
         ensures unrecorded { SameNotes file.old.storage file.new.storage }
-        ensures fails { Fails S.view file.old.storage file.new.storage result IsOfTables }
+        ensures fails { Fails S.view file.old.storage file.new.storage result IsOfReftableLoad }
         ensures why { (view_in S.view file.old).is_honest
             → MatchResult result (λ done. ReftableReads file.old.header.fields (contents_in S.view file.old))
             (IsReasonAgainstReftable file.old.header.fields (contents_in S.view file.old)) }

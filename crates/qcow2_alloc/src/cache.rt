@@ -50,7 +50,7 @@ pub enum Direction {
 
 /// The cached L2 tables and refblocks. Modified ones are written at a flush, or when others need their place.
 /// A call that writes is refused 14 (memory) and 15 (storage), as the storage refuses. A modified table with another cluster size than the
-/// image's, which only a caller can insert, is refused 19 (metadata) then.
+/// image's, which only a caller can insert, is refused 13 (limit) then.
 #[derive(Drop)]
 pub struct MetadataCaches<S: Storage> {
     l2: TableCache<L2CacheBackend<S>>,
@@ -60,7 +60,7 @@ pub struct MetadataCaches<S: Storage> {
     changes: u64,
 }
 
-#[tactic(auto, using(crate::proofs::TableErrors::storage_of_tables, crate::proofs::TableErrors::metadata_of_tables, crate::proofs::TableErrors::cache_of_tables))]
+#[tactic(auto, using(crate::proofs::TableErrors::storage_of_tables, crate::proofs::TableErrors::stored_of_tables))]
 impl<S: Storage> MetadataCaches<S> {
     /// Empty caches for at most this many L2 tables and refblocks. Refused 14 (memory).
     pub fn new(
@@ -380,7 +380,6 @@ impl<S: Storage> MetadataCaches<S> {
     /// 14 (memory), which drops nothing.
     pub fn invalidate_l2(&mut self) -> Result<(), ImageError>
         ensures step { HeldStep self.old self.new }
-        ensures cause { IfErr result IsOfTables }
         ensures left { LeavesPinned self.old.l2.entries result self.new.l2.entries }
         ensures blocks { refblocks self.new ≡ refblocks self.old }
         ensures taken { EvictsTable (AreClean (l2_tables self.old)) self.old self.new }
@@ -394,7 +393,6 @@ impl<S: Storage> MetadataCaches<S> {
     /// 14 (memory), which drops nothing.
     pub fn invalidate_rb(&mut self) -> Result<(), ImageError>
         ensures step { HeldStep self.old self.new }
-        ensures cause { IfErr result IsOfTables }
         ensures left { LeavesPinned self.old.rb.entries result self.new.rb.entries }
         ensures tables { l2_tables self.new ≡ l2_tables self.old }
         ensures taken { EvictsTable (AreClean (refblocks self.old)) self.old self.new }

@@ -18,7 +18,7 @@ use crate::{Allocator, ClusterKind, ImageError, ImageFile, PendingClusters, Take
 use image_access::Storage;
 use qcow2_metadata::HostCluster;
 
-#[tactic(auto, using(crate::proofs::TableErrors::storage_of_tables, crate::proofs::TableErrors::metadata_of_tables, crate::proofs::TableErrors::cache_of_tables))]
+#[tactic(auto, using(crate::proofs::TableErrors::storage_of_tables, crate::proofs::TableErrors::stored_of_tables))]
 impl Allocator {
     // Decrements the refcounts of a run. A cluster whose refcount cannot be decremented is counted as leaked.
     pub(crate) fn give_back<S: Storage>(

@@ -28,7 +28,7 @@ use qcow2_metadata::{Header, HostCluster, RefBlock, RefTable};
 use std::alloc::Global;
 
 // A refblock that counts those clusters of a run that lie in its range.
-#[tactic(auto, using(crate::proofs::TableErrors::metadata_of_tables))]
+#[tactic(auto, using(crate::proofs::TableErrors::stored_of_tables))]
 fn run_block(
     alloc: Global,
     header: &Header,

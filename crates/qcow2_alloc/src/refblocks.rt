@@ -30,7 +30,7 @@ use qcow2_metadata::{Header, HostCluster, RefBlock};
 use std::alloc::Global;
 
 // A refblock of refcounts 0, without a place. If it counts itself, the refcount of its range's first cluster is 1.
-#[tactic(auto, using(crate::proofs::TableErrors::metadata_of_tables))]
+#[tactic(auto, using(crate::proofs::TableErrors::stored_of_tables))]
 fn new_block(alloc: Global, header: &Header, counts_itself: bool) -> Result<RefBlock, ImageError>
     ensures format { IfOk result (IsBlockOf header.now.fields) }
     ensures whole { IfOk result IsRefBlock }
@@ -72,7 +72,7 @@ fn write_block<S: Storage>(
     Ok(())
 }
 
-#[tactic(auto, using(crate::proofs::TableErrors::storage_of_tables, crate::proofs::TableErrors::metadata_of_tables, crate::proofs::TableErrors::cache_of_tables))]
+#[tactic(auto, using(crate::proofs::TableErrors::storage_of_tables, crate::proofs::TableErrors::stored_of_tables))]
 impl Allocator {
     /// Drops the refblocks without a pin, unwritten. Refcounts that were not written are lost, the remembered ones are forgotten, and the
     /// search for free clusters starts at cluster 0 again. Refused 21 (still in use) with the clusters of the pinned ones, and
@@ -81,7 +81,6 @@ impl Allocator {
         &mut self,
         file: &mut ImageFile<S>,
     ) -> Result<(), ImageError>
-        ensures cause { IfErr result IsOfTables }
         ensures tables { l2_tables file.new.caches ≡ l2_tables file.old.caches }
         ensures left { LeavesPinned file.old.caches.rb.entries result file.new.caches.rb.entries }
         ensures marks { KeepsMarks S.view file.old file.new }

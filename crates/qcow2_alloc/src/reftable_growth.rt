@@ -24,7 +24,7 @@ use image_access::Storage;
 use qcow2_metadata::{Header, MAX_HOST_OFFSET, MAX_REFTABLE_ENTRIES, RefTable};
 use std::alloc::Global;
 
-#[tactic(auto, using(crate::proofs::TableErrors::metadata_of_tables))]
+#[tactic(auto, using(crate::proofs::TableErrors::stored_of_tables))]
 impl Allocator {
     /// Makes the reftable long enough for an index. The new table, with the refblocks that it needs, lies in a run of free
     /// clusters: first the refblocks, then the table. The clusters of the old one wait to be freed. Refused 13 (limit) if the table would have

@@ -47,7 +47,7 @@ pub use Rattle.qcow2_alloc.specs.ClustersToFree.{data_entry, metadata_entry}
 pub use Rattle.qcow2_alloc.specs.CountedChanges.{counts_none, CountsChanges}
 pub use Rattle.qcow2_alloc.specs.Faults.{FaultsReported, CountsFaults, faults_of}
 pub use Rattle.qcow2_alloc.specs.FreeList.{with_listed, ListsTables, pending_then}
-pub use Rattle.qcow2_alloc.specs.ImageError.{of_storage, of_metadata, IsOfTables, IsFault}
+pub use Rattle.qcow2_alloc.specs.ImageError.{of_storage, of_metadata, IsOfReftableLoad, IsOfTables, IsFault}
 pub use Rattle.qcow2_alloc.specs.ImageFile.{state_in, contents_in, known_in, nothing_given, view_in, has_noted, FileInvariant, KeepsHeader, InternalFileStep, InternalFileGrowth, HasReftable, InterruptedFileStep, AllocatorInvariant}
 pub use Rattle.qcow2_alloc.specs.ImageStorage.{storage_of, changes_of, is_changed_of, SameNotes}
 pub use Rattle.qcow2_alloc.specs.KeptAllocators.{IsAllocatorOf}
@@ -101,7 +101,7 @@ pub use Rattle.qcow2_image.specs.Image.{is_failed, is_external, is_writable, siz
 pub use Rattle.qcow2_image.specs.ImageInvariant.{below_of, of_data, of_tables, to_free, new_data_by, over_all, pending_in, abstract_of, meaning, is_entered, is_new, is_private, is_hidden, place_of, mapping_of_cluster, backing_bytes, ImageInvariant, faults_below, IsPending, IsReadyWith, disk_of, listed_run, pins_by, cluster_of, new_data_in, host_begin_of, IsNewAt, IsClusterMappingAt, IsReady, IsHonestBacking, pins_of, image_abstraction, HasL1Table, run_of, surplus_in, begin_of, IsKeptAt}
 pub use Rattle.qcow2_image.specs.ImageSteps.{ImageFails, ImageStep, ImageStepWhere, ReadingStep, CallStep, ReadingCall}
 pub use Rattle.qcow2_image.specs.InternalSteps.{pending_with_listed, ListGrows, InternalStep, InternalFreeingStep, NamesOwn, KeepsCopied, Ensures, InternalFillingStep, RefusedFillingStep, RefusedStep, FreesLater, Pins, HoldsTable, old_data_by, freed_by, FreesListed, HoldsAll, is_announced, IsFilled, AllocatesData, SameHeld, IsKeptAlone, IsGained, InterruptedStep, DropsNothing, EntersMapping, AreThere, IsInHeldCluster, InterruptedPart, EntersCluster, Gains}
-pub use Rattle.qcow2_image.specs.Invalidated.{RespectsPrepared, HoldsNoTable, IsAtRest, IsReasonAgainstPlaces, IsReasonAgainstReading, IsOfPrepared, IsStillInUse, KeepsTables, ReadsPlaces, ReplacesTables, reftable_in, ReadsTables, ArePlacesFor, DropsCached, IsAsStored, IsReasonNotToRead, ReadsAnew, HoldsPinnedAlone, WritesNothing}
+pub use Rattle.qcow2_image.specs.Invalidated.{RespectsPrepared, HoldsNoTable, IsAtRest, IsReasonAgainstPlaces, IsReasonAgainstReading, IsOfPrepared, IsStillInUse, MayFailToInvalidate, KeepsTables, ReadsPlaces, ReplacesTables, reftable_in, ReadsTables, ArePlacesFor, DropsCached, IsAsStored, IsReasonNotToRead, ReadsAnew, HoldsPinnedAlone, WritesNothing}
 pub use Rattle.qcow2_image.specs.L1Entries.{ReachesOffset, ReachingStays, HasOwnTable, NeedsOverflowingL1Entry, IsPlacedNear, HasNearEntry, L1EntryOverflows, EndsBefore}
 pub use Rattle.qcow2_image.specs.Limits.{IfLimit, GoesTo, IsLimited, l1_clusters, IsLimitedAmong, IsLimitedIn, IsLimitedTaking, IsLimitedInternal, IsLimitedWith, LacksPlace, entries_reaching}
 pub use Rattle.qcow2_image.specs.ListedClusters.{ListsNoMore}
@@ -118,7 +118,7 @@ pub use Rattle.qcow2_image.specs.PreparedPlaces.{MarkedIsBehind}
 pub use Rattle.qcow2_image.specs.Preparing.{IsTaken, IsAnswered, IsPlaceOf, IsWritableAt, IsHeldAlone, IsKeptBy}
 pub use Rattle.qcow2_image.specs.Ranges.{ReleasesOneMapping, MayGoOn, AllocatesDataAt, Ends, FindsBehind, ClusterMappingsAt, StandsBehind, BeginsInKept, IsExtended, BreaksOff, GainsAt, IsFirst, IsSharedAt, Reaches, HasRoomForRange, IsLongerMapping, IsNext, EndsWithCluster, GoesNext, GoesOn}
 pub use Rattle.qcow2_image.specs.Readable.{IsJustifiedRefusal, IsNewlyOpened, OpeningStep, files_missing, IsReasonAgainstTables, NeededTablesRead, OpensRightly, IsTableRefused, HeaderSuits, IsReadable}
-pub use Rattle.qcow2_image.specs.Refusals.{passes, refuse_if, refuses_to_prepare, unusable, MayFail, FreesRefused, MayFailPreparing, failed_after, MarksFailed, MarksRefused, IsUnlimited, IsFaultOrLimit, failed_by}
+pub use Rattle.qcow2_image.specs.Refusals.{passes, refuse_if, refuses_to_prepare, unusable, MayFail, MayFailToRead, MayFailToGrow, FreesRefused, MayFailPreparing, failed_after, MarksFailed, MarksRefused, IsUnlimited, IsFaultOrLimit, failed_by}
 pub use Rattle.qcow2_image.specs.Resizing.{GrowsTo, all_given_by_grow, refuses_to_resize, takes_over, boundary_in, RefusesUnchanged, SetsSize, WritesSize, WritesSizeLast, GrowsTables, LacksZeros, Shrinks, DiscardsNext, all_given_by_shrink, all_given_by_shrunk, RefusesDiscard, StopsAt, StopsStep, IsTurnEnd, DiscardsPart, DiscardsTail, TurnStep, DiscardsStep, LeavesTables, IsResized, size_after, GrowsLast, MayFailShrinking, CantDiscard, ShowsBelow, MayStand, ShrinksSoundly, DiscardsClusters}
 pub use Rattle.qcow2_image.specs.Unwritten.{ContentsStayThroughout, ReadsQuietly, LoadsQuietly, LooksQuietly}
 pub use Rattle.qcow2_image.specs.WriteSteps.{KeepingStep, AllocatingStep, BeginsSoundly, PuttingCall, FillingStep, AllocatingStepWhere, keeping, CanEnter}

@@ -46,6 +46,10 @@ abbrev pub IsStillInUse : ImageError → Type 0
 IsStillInUse (I.StillInUse tables) = Unit {0}
 IsStillInUse e = ⊥
 
+-- The refusals of reading the tables again during the work, by any storage: those of other calls; 3, for a header; or 21.
+abbrev pub MayFailToInvalidate : ImageError → Type 0
+MayFailToInvalidate e = MayFail e ⊎ ((e ≡ I.Version) ⊎ IsStillInUse e)
+
 -- A refusal 21, or 14 for lack of memory.
 abbrev pub IsOfPrepared : ImageError → Type 0
 IsOfPrepared e = IsStillInUse e ⊎ (e ≡ I.Memory)
@@ -163,7 +167,7 @@ module _ {S F : Type 0} where
         pub record InvalidatingFails : Type 0 where
           pub failed : IsTrue (is_failed old) → (result ≡ Err I.Failed) × (new ≡ old)
           pub kept : OnErr result (KeepsTables old new)
-          pub cause : is_failed old ≡ false → IfErr result MayFail
+          pub cause : is_failed old ≡ false → IfErr result MayFailToInvalidate
           pub prepared : is_failed old ≡ false → RespectsPrepared old result
           pub why : is_failed old ≡ false → (view_in view old.file).is_honest → IfErr result (IsReasonAgainstReading old new)
           pub list : is_failed old ≡ false → HasNothingToFree new

@@ -1,6 +1,8 @@
 -- When calls on an image are refused, and what a refusal leaves.
 use Rattle.std.specs.Prelude.{◌≡◌, ◌⊎◌, ℕ, ◌+◌, ◌==◌, ◌&&◌, ◌||◌, Bool, true, not, nat_lt, Option, Some, None, Result, Ok, Err, if◌then◌else◌}
 use Rattle.std.specs.Option.{option_or}
+use Rattle.image_access.specs.declared.storage.PreallocateMode.{PreallocateMode}
+use Rattle.image_access.specs.declared.storage.PreallocateMode.TheVariants as Mode
 use Rattle.qcow2_alloc.specs.ImageError.{IsFault}
 use Rattle.qcow2_alloc.specs.declared.error.ImageError.{ImageError}
 use Rattle.qcow2_alloc.specs.declared.error.ImageError.TheVariants as I
@@ -33,11 +35,11 @@ module _ {S F : Type 0} (image : Qcow2 S F) where
   abbrev pub refuses_mapping : ℕ → Option ImageError
   refuses_mapping number = option_or unusable (refuse_if (not (number == number_of image)) I.ForeignState)
 
--- The refusals that come during the work, after all checks.
+-- The refusals that come during the work, after all checks: 4, 7, 8, 10, 13, 14, 15, 19 and 20.
 abbrev pub MayFail : ImageError → Type 0
 MayFail I.ReadOnly = ⊥
 MayFail I.BeyondSize = ⊥
-MayFail I.Version = Unit {0}
+MayFail I.Version = ⊥
 MayFail I.UnalignedTable = Unit {0}
 MayFail I.InvalidOption = ⊥
 MayFail I.Preallocation = ⊥
@@ -55,11 +57,39 @@ MayFail I.MappingPrepared = ⊥
 MayFail (I.NotCompressed offset) = ⊥
 MayFail I.Metadata = Unit {0}
 MayFail I.Overflow = Unit {0}
-MayFail (I.StillInUse tables) = Unit {0}
+MayFail (I.StillInUse tables) = ⊥
+
+-- The refusals of a read during its work: 4, 7, 8, 10, 13, 14 and 15.
+abbrev pub MayFailToRead : ImageError → Type 0
+MayFailToRead I.ReadOnly = ⊥
+MayFailToRead I.BeyondSize = ⊥
+MayFailToRead I.Version = ⊥
+MayFailToRead I.UnalignedTable = Unit {0}
+MayFailToRead I.InvalidOption = ⊥
+MayFailToRead I.Preallocation = ⊥
+MayFailToRead I.Compressed = Unit {0}
+MayFailToRead I.InUse = Unit {0}
+MayFailToRead I.TablePrepared = ⊥
+MayFailToRead I.OutdatedMapping = Unit {0}
+MayFailToRead I.ForeignState = ⊥
+MayFailToRead I.Dependency = ⊥
+MayFailToRead I.Limit = Unit {0}
+MayFailToRead I.Memory = Unit {0}
+MayFailToRead I.Storage = Unit {0}
+MayFailToRead I.Failed = ⊥
+MayFailToRead I.MappingPrepared = ⊥
+MayFailToRead (I.NotCompressed offset) = ⊥
+MayFailToRead I.Metadata = ⊥
+MayFailToRead I.Overflow = ⊥
+MayFailToRead (I.StillInUse tables) = ⊥
 
 -- The refusals of a prepare during its work: also 9, that the L2 table is pinned by another mapping.
 abbrev pub MayFailPreparing : ImageError → Type 0
 MayFailPreparing e = MayFail e ⊎ (e ≡ I.TablePrepared)
+
+-- The refusals of growing a disk during the work: as of a prepare; or 3, if zero clusters are asked for.
+abbrev pub MayFailToGrow : PreallocateMode → ImageError → Type 0
+MayFailToGrow mode e = MayFailPreparing e ⊎ ((e ≡ I.Version) × (mode ≡ Mode.Zero))
 
 -- The refusal is not a limit.
 abbrev pub IsUnlimited : ImageError → Type 0

@@ -25,7 +25,7 @@ use image_access::{Storage, WrappedFormat};
 use qcow2_alloc::{ImageError, WriteKind};
 use qcow2_metadata::{GuestOffset, HostCluster, L2Mapping};
 
-#[tactic(auto, using(crate::proofs::Call::FailingErrors::tables_met, crate::proofs::Call::FailingErrors::storage_met, crate::proofs::Call::FailingErrors::metadata_met))]
+#[tactic(auto, using(crate::proofs::Call::FailingErrors::tables_met, crate::proofs::Call::FailingErrors::storage_met, crate::proofs::Call::FailingErrors::read_met))]
 impl<S: Storage, F: WrappedFormat<S>> Qcow2<S, F> {
     // Fills the new cluster of an offset with what its old mapping shows, except where the caller promised to overwrite.
     pub(crate) fn fill_cluster(

@@ -105,7 +105,7 @@ fn list_run(
     Ok(())
 }
 
-#[tactic(auto, using(crate::proofs::Call::FailingErrors::tables_met, crate::proofs::Call::FailingErrors::storage_met, crate::proofs::Call::FailingErrors::metadata_met, crate::proofs::Call::FailingErrors::metadata_of_tables))]
+#[tactic(auto, using(crate::proofs::Call::FailingErrors::tables_met, crate::proofs::Call::FailingErrors::storage_met, crate::proofs::Call::FailingErrors::unaligned_met))]
 impl<S: Storage, F: WrappedFormat<S>> Qcow2<S, F> {
     /// Discards the whole clusters of a range, in bytes, so that the backing disk shows there. Returns where the first whole cluster begins,
     /// and how many bytes of the range were cleared: within one L2 table, and 0 if no cluster is whole. The disk's last cluster counts as

@@ -35,7 +35,7 @@ fn of_one(cluster_mapping: ClusterMapping, mut room: Vec<ClusterMapping>) -> Vec
     room
 }
 
-#[tactic(auto, using(crate::proofs::Call::FailingErrors::tables_met, crate::proofs::Call::FailingErrors::storage_met, crate::proofs::Call::FailingErrors::metadata_met, crate::proofs::Call::FailingErrors::metadata_of_tables))]
+#[tactic(auto, using(crate::proofs::Call::FailingErrors::tables_met, crate::proofs::Call::FailingErrors::storage_met))]
 impl<S: Storage, F: WrappedFormat<S>> Qcow2<S, F> {
     // Prepares the first cluster of a range, with memory for the mappings of the clusters after it.
     pub(crate) fn prepare_first(

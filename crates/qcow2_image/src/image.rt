@@ -68,7 +68,7 @@ fn lacks_another(missing: Missing, header: &Header) -> bool
     }
 }
 
-#[tactic(auto, using(crate::proofs::Call::FailingErrors::tables_met, crate::proofs::Call::FailingErrors::storage_met, crate::proofs::Call::FailingErrors::metadata_met))]
+#[tactic(auto, using(crate::proofs::Call::FailingErrors::tables_met, crate::proofs::Call::FailingErrors::storage_met, crate::proofs::Call::FailingErrors::memory_met, crate::proofs::Call::FailingErrors::length_met, crate::proofs::Call::FailingErrors::reftable_met))]
 impl<S: Storage, F: WrappedFormat<S>> Qcow2<S, F> {
     ghost use Rattle.std.specs.Prelude.{◌≡◌, ◌≤◌, [], IfOk, IfErr, OnOk, IsTrue, MatchOption, MatchResult, true, Ok, Err, Some, None, false, nat_le, option_map, if◌then◌else◌, List, Option};
     ghost use Rattle.std.specs.String.{string_bytes};

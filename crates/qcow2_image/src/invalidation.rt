@@ -13,7 +13,7 @@ ghost use Rattle.qcow2_image.specs.Invalidated.{IsAtRest, KeepsTables, ReplacesT
 ghost use Rattle.qcow2_image.specs.Invalidated.{IsReasonAgainstPlaces, IsReasonAgainstReading};
 ghost use Rattle.qcow2_image.specs.Invalidated.{ReadsPlaces, ReadsTables};
 ghost use Rattle.qcow2_image.specs.Invalidated.{InvalidatesSoundly, InvalidatingFails, InvalidatingStep};
-ghost use Rattle.qcow2_image.specs.Invalidated.{ReadsAnew};
+ghost use Rattle.qcow2_image.specs.Invalidated.{IsOfPrepared, MayFailToInvalidate, ReadsAnew};
 ghost use Rattle.qcow2_image.specs.Readable.{IsReasonAgainstTables};
 ghost use Rattle.qcow2_image.specs.Refusals.{MayFail};
 ghost use Rattle.qcow2_image.specs.InternalSteps.{InternalStep};
@@ -43,7 +43,7 @@ fn copy_table_pointers(header: &mut Header, other: &Header)
     }
 }
 
-#[tactic(auto, using(crate::proofs::Call::FailingErrors::tables_met, crate::proofs::Call::FailingErrors::storage_met, crate::proofs::Call::FailingErrors::metadata_met))]
+#[tactic(auto, using(crate::proofs::Call::FailingErrors::tables_met, crate::proofs::Call::FailingErrors::storage_met, crate::proofs::Call::FailingErrors::reftable_met, crate::proofs::Call::FailingErrors::header_anew, crate::proofs::Call::FailingErrors::prepared_anew))]
 impl<S: Storage, F: WrappedFormat<S>> Qcow2<S, F> {
     /// Drops everything that is cached, unwritten, and reads the pointers to the tables, the L1 table and the reftable again:
     /// for an image that another program wrote to. Call `flush` before, with no mapping prepared: everything that is not flushed is
@@ -67,7 +67,7 @@ impl<S: Storage, F: WrappedFormat<S>> Qcow2<S, F> {
 
     fn drop_and_read(&mut self) -> Result<(), ImageError>
         ensures step { ReadsAnew S.view self.old self.new }
-        ensures fails { ImageFails S.view F.backing self.old self.new result MayFail }
+        ensures fails { ImageFails S.view F.backing self.old self.new result MayFailToInvalidate }
         ensures prepared { RespectsPrepared self.old result }
         ensures kept { OnErr result (KeepsTables self.old self.new) }
         ensures why { (view_in S.view self.old.file).is_honest
@@ -87,7 +87,7 @@ impl<S: Storage, F: WrappedFormat<S>> Qcow2<S, F> {
     fn drop_cached(&mut self) -> Result<(), ImageError>
         ensures step { ImageStep S.view self.old self.new }
         ensures rest { DropsCached self.old self.new }
-        ensures fails { ImageFails S.view F.backing self.old self.new result IsOfTables }
+        ensures fails { ImageFails S.view F.backing self.old self.new result IsOfPrepared }
         ensures prepared { RespectsPrepared self.old result }
         ensures why { IfErr result (IsReasonAgainstReading S.view self.old self.new) }
         ensures dropped { OnOk result (HoldsNoTable self.new) }
@@ -105,7 +105,7 @@ impl<S: Storage, F: WrappedFormat<S>> Qcow2<S, F> {
     // Reads the pointers to the L1 table and the reftable. Returns the header in memory with these pointers, without its names.
     fn read_places(&mut self) -> Result<Header, ImageError>
         ensures step { ReadsPlaces S.view self.old self.new }
-        ensures fails { ImageFails S.view F.backing self.old self.new result IsOfTables }
+        ensures fails { ImageFails S.view F.backing self.old self.new result MayFailToInvalidate }
         ensures places { IfOk result (ArePlacesFor self.old) }
         ensures read { (view_in S.view self.old.file).is_honest
             → IfOk result (λ places. with_tables_of self.old.file.header.fields

@@ -25,7 +25,7 @@ ghost use Rattle.qcow2_image.specs.declared.mapping.Place.TheVariants.{Image};
 ghost use Rattle.qcow2_image.specs.declared.prepared.Prepared.{Prepared};
 ghost use Rattle.qcow2_image.specs.Image.{size_of};
 ghost use Rattle.qcow2_image.specs.Prepared.{image_of, table_of};
-ghost use Rattle.qcow2_image.specs.Refusals.{unusable, refuses_mapping, refuses_to_read, MayFail};
+ghost use Rattle.qcow2_image.specs.Refusals.{unusable, refuses_mapping, refuses_to_read, MayFail, MayFailToRead};
 ghost use Rattle.qcow2_alloc.specs.declared.error.ImageError.TheVariants.{Compressed, NotCompressed, OutdatedMapping};
 ghost use Rattle.qcow2_alloc.specs.declared.error.ImageError.TheVariants.{ReadOnly};
 ghost use Rattle.qcow2_image.specs.Noted.{PutsOnce};
@@ -37,7 +37,7 @@ use crate::{Mapping, MappingKind, Place, Prepared, Qcow2};
 use image_access::{Storage, WrappedFormat};
 use qcow2_alloc::{ImageError, WriteKind};
 
-#[tactic(auto, using(crate::proofs::Call::FailingErrors::tables_met, crate::proofs::Call::FailingErrors::storage_met, crate::proofs::Call::FailingErrors::metadata_met))]
+#[tactic(auto, using(crate::proofs::Call::FailingErrors::tables_met, crate::proofs::Call::FailingErrors::storage_met, crate::proofs::Call::FailingErrors::tables_read, crate::proofs::Call::FailingErrors::storage_read, crate::proofs::Call::FailingErrors::read_met))]
 impl<S: Storage, F: WrappedFormat<S>> Qcow2<S, F> {
     /// Refuses a range that can't be read, in this order: 16 (failed), 12 (dependency), 2 (beyond size). Refusal 2 is for a range of at least one
     /// byte that ends past the disk's size. Nothing is read.
@@ -66,7 +66,7 @@ impl<S: Storage, F: WrappedFormat<S>> Qcow2<S, F> {
         requires { at + length bytes.old ≤ mapping.now.length }
         ensures step { ReadingCall S.view F.backing self.old self.new result }
         ensures refusals { RefusesOrSkips self.old self.new result (refuses_mapping self.old mapping.now.image)
-            (length bytes.old) tt MayFail }
+            (length bytes.old) tt MayFailToRead }
         ensures sound { ReadsMapping S.view F.backing self.old self.new mapping.now.image (mapping.now.offset + at)
             (length bytes.old) (further_by at mapping.now.kind) result }
         ensures sees { AnswersCall S.view F.backing self.old self.new []
@@ -96,7 +96,7 @@ impl<S: Storage, F: WrappedFormat<S>> Qcow2<S, F> {
         bytes: &mut [u8],
     ) -> Result<(), ImageError>
         ensures step { ReadingStep S.view self.old self.new }
-        ensures fails { ImageFails S.view F.backing self.old self.new result MayFail }
+        ensures fails { ImageFails S.view F.backing self.old self.new result MayFailToRead }
         ensures sound { ReadsRange S.view F.backing self.old self.new (mapping.now.offset + at) (length bytes.old)
             (further_by at mapping.now.kind) bytes.new result }
         ensures held { 0 < length bytes.old
@@ -133,7 +133,7 @@ impl<S: Storage, F: WrappedFormat<S>> Qcow2<S, F> {
         wanted: &MappingKind,
     ) -> Result<(), ImageError>
         ensures step { ReadingStep S.view self.old self.new }
-        ensures fails { ImageFails S.view F.backing self.old self.new result MayFail }
+        ensures fails { ImageFails S.view F.backing self.old self.new result MayFailToRead }
         ensures sound { ChecksRange S.view F.backing self.old self.new offset length wanted.now result }
         ensures held { 0 < length → FitsTables self.new offset wanted.now length result }
         ensures quiet { LooksQuietly S.view offset self.old self.new }
@@ -146,7 +146,7 @@ impl<S: Storage, F: WrappedFormat<S>> Qcow2<S, F> {
     }
 
     // Reads bytes of a range with this mapping.
-    #[tactic(auto, using(crate::proofs::Call::FailingErrors::tables_met, crate::proofs::Call::FailingErrors::storage_met, crate::proofs::Call::FailingErrors::metadata_met, crate::proofs::Call::Unlimited::storage_unlimited))]
+    #[tactic(auto, using(crate::proofs::Call::FailingErrors::tables_met, crate::proofs::Call::FailingErrors::storage_met, crate::proofs::Call::FailingErrors::tables_read, crate::proofs::Call::FailingErrors::storage_read, crate::proofs::Call::FailingErrors::read_met, crate::proofs::Call::Unlimited::storage_unlimited))]
     pub(crate) fn read_as(
         &mut self,
         offset: u64,
@@ -154,7 +154,7 @@ impl<S: Storage, F: WrappedFormat<S>> Qcow2<S, F> {
         bytes: &mut [u8],
     ) -> Result<(), ImageError>
         ensures step { ReadingStep S.view self.old self.new }
-        ensures fails { FailsUnlimited S.view F.backing self.old self.new result MayFail }
+        ensures fails { FailsUnlimited S.view F.backing self.old self.new result MayFailToRead }
         ensures may_fail { IfErr result (MayFailReading kind.now) }
         ensures allocator { self.new.allocator ≡ self.old.allocator }
         ensures keeps { (p : Pending) (out : List (Option Prepared)) → ImageInvariant S.view F.backing p self.old out
@@ -187,10 +187,10 @@ impl<S: Storage, F: WrappedFormat<S>> Qcow2<S, F> {
         }
     }
 
-    #[tactic(auto, using(crate::proofs::Call::FailingErrors::tables_met, crate::proofs::Call::FailingErrors::storage_met, crate::proofs::Call::FailingErrors::metadata_met, crate::proofs::Call::Unlimited::storage_unlimited))]
+    #[tactic(auto, using(crate::proofs::Call::FailingErrors::tables_met, crate::proofs::Call::FailingErrors::storage_met, crate::proofs::Call::FailingErrors::tables_read, crate::proofs::Call::FailingErrors::storage_read, crate::proofs::Call::FailingErrors::read_met, crate::proofs::Call::Unlimited::storage_unlimited))]
     pub(crate) fn read_backing(&mut self, offset: u64, bytes: &mut [u8]) -> Result<(), ImageError>
         ensures step { ImageStep S.view self.old self.new }
-        ensures fails { FailsUnlimited S.view F.backing self.old self.new result MayFail }
+        ensures fails { FailsUnlimited S.view F.backing self.old self.new result MayFailToRead }
         ensures fault { IfErr result IsFault }
         ensures current { result ≢ Err OutdatedMapping }
         ensures file { self.new.file ≡ self.old.file }
@@ -218,7 +218,7 @@ impl<S: Storage, F: WrappedFormat<S>> Qcow2<S, F> {
     pub fn readv_special(&mut self, bytes: &mut [u8], offset: u64) -> Result<(), ImageError>
         ensures step { ReadingCall S.view F.backing self.old self.new result }
         ensures refusals { RefusesOrSkips self.old self.new result (unusable self.old) (length bytes.old) tt
-            (λ e. MayFail e ⊎ (e ≡ NotCompressed offset)) }
+            (λ e. MayFailToRead e ⊎ (e ≡ NotCompressed offset)) }
         ensures sound { ReadsSpecial S.view F.backing self.old self.new offset (length bytes.old) result }
         ensures some { 0 < length bytes.old → IsErr result }
         ensures slice { bytes.new ≡ bytes.old }
@@ -240,7 +240,7 @@ impl<S: Storage, F: WrappedFormat<S>> Qcow2<S, F> {
         offset: u64,
     ) -> Result<Option<u64>, ImageError>
         ensures step { ReadingCall S.view F.backing self.old self.new result }
-        ensures refusals { RefusesOrSkips self.old self.new result (unusable self.old) (length bytes.old) None MayFail }
+        ensures refusals { RefusesOrSkips self.old self.new result (unusable self.old) (length bytes.old) None MayFailToRead }
         ensures sound { TriesSpecial S.view F.backing self.old self.new offset (length bytes.old) result }
         ensures some { 0 < length bytes.old → IfOk result (λ at. at ≡ Some offset) }
         ensures slice { bytes.new ≡ bytes.old }
@@ -259,7 +259,7 @@ impl<S: Storage, F: WrappedFormat<S>> Qcow2<S, F> {
     // The offset, if its guest cluster is not compressed. It may lie past the disk's size.
     fn check_not_compressed(&mut self, offset: u64) -> Result<Option<u64>, ImageError>
         ensures step { ReadingStep S.view self.old self.new }
-        ensures fails { ImageFails S.view F.backing self.old self.new result MayFail }
+        ensures fails { ImageFails S.view F.backing self.old self.new result MayFailToRead }
         ensures sound { ChecksWhether S.view F.backing self.old self.new offset result }
         ensures answer { IfOk result (λ at. at ≡ Some offset) }
         ensures quiet { LooksQuietly S.view offset self.old self.new }

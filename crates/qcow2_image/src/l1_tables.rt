@@ -31,7 +31,7 @@ use qcow2_alloc::{
 };
 use qcow2_metadata::{GuestOffset, HostCluster, L1Table, MAX_L1_ENTRIES};
 
-#[tactic(auto, using(crate::proofs::Call::FailingErrors::tables_met, crate::proofs::Call::FailingErrors::storage_met, crate::proofs::Call::FailingErrors::metadata_met))]
+#[tactic(auto, using(crate::proofs::Call::FailingErrors::tables_met, crate::proofs::Call::FailingErrors::storage_met, crate::proofs::Call::FailingErrors::memory_met, crate::proofs::Call::FailingErrors::length_met))]
 impl<S: Storage, F: WrappedFormat<S>> Qcow2<S, F> {
     // Makes sure that there is an L1 entry for an offset. An L1 table that is too short is replaced by a longer one, and
     // then the clusters on the list are freed.

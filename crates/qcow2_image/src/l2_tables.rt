@@ -34,7 +34,7 @@ use image_access::{Storage, WrappedFormat};
 use qcow2_alloc::{ClustersToFreeEntry, ClustersToFreeList, ImageError, WriteKind};
 use qcow2_metadata::{ClusterCount, GuestOffset, HostCluster, L2Table};
 
-#[tactic(auto, using(crate::proofs::Call::FailingErrors::tables_met, crate::proofs::Call::FailingErrors::storage_met, crate::proofs::Call::FailingErrors::metadata_met))]
+#[tactic(auto, using(crate::proofs::Call::FailingErrors::tables_met, crate::proofs::Call::FailingErrors::storage_met, crate::proofs::Call::FailingErrors::memory_met))]
 impl<S: Storage, F: WrappedFormat<S>> Qcow2<S, F> {
     // The L2 table of an offset, cached and marked copied. If a new one is made, the clusters on the list are freed afterwards. An L1 entry whose
     // own offset would pass 64 bits is not written.

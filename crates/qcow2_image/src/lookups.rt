@@ -59,7 +59,7 @@ fn cluster_size(table: &L2Table) -> u64
     1 << table.cluster_bits()
 }
 
-#[tactic(auto, using(crate::proofs::Call::FailingErrors::tables_met, crate::proofs::Call::FailingErrors::storage_met, crate::proofs::Call::FailingErrors::metadata_met, crate::proofs::Call::FailingErrors::metadata_of_tables))]
+#[tactic(auto, using(crate::proofs::Call::FailingErrors::tables_met, crate::proofs::Call::FailingErrors::storage_met, crate::proofs::Call::FailingErrors::unaligned_of_tables))]
 impl<S: Storage, F: WrappedFormat<S>> Qcow2<S, F> {
     /// Returns the mapping of a guest offset, and how many bytes, up to `max`, are mapped alike: within one L2 table, and below the disk's
     /// size. At or past the size it is `Eof`, with 0 bytes.
@@ -177,7 +177,7 @@ impl<S: Storage, F: WrappedFormat<S>> Qcow2<S, F> {
     }
 
     // The run of clusters that are mapped alike from an offset on, in the cached table that covers it.
-    #[tactic(auto, using(crate::proofs::Call::FailingErrors::tables_met, crate::proofs::Call::FailingErrors::storage_met, crate::proofs::Call::FailingErrors::metadata_met, crate::proofs::Call::FailingErrors::metadata_of_tables, crate::proofs::Call::Unlimited::unaligned_unlimited))]
+    #[tactic(auto, using(crate::proofs::Call::FailingErrors::tables_met, crate::proofs::Call::FailingErrors::storage_met, crate::proofs::Call::FailingErrors::unaligned_of_tables, crate::proofs::Call::Unlimited::unaligned_unlimited))]
     pub(crate) fn run_in_table(
         &self,
         table: HostCluster,
@@ -218,7 +218,7 @@ impl<S: Storage, F: WrappedFormat<S>> Qcow2<S, F> {
     }
 
     // Whether two guest clusters of a table, `distance` bytes apart, are mapped alike.
-    #[tactic(auto, using(crate::proofs::Call::FailingErrors::tables_met, crate::proofs::Call::FailingErrors::storage_met, crate::proofs::Call::FailingErrors::metadata_met, crate::proofs::Call::FailingErrors::metadata_of_tables, crate::proofs::Call::Unlimited::unaligned_unlimited))]
+    #[tactic(auto, using(crate::proofs::Call::FailingErrors::tables_met, crate::proofs::Call::FailingErrors::storage_met, crate::proofs::Call::FailingErrors::unaligned_of_tables, crate::proofs::Call::Unlimited::unaligned_unlimited))]
     fn are_alike(
         &self,
         table: &L2Table,
@@ -239,7 +239,7 @@ impl<S: Storage, F: WrappedFormat<S>> Qcow2<S, F> {
     }
 
     // How many bytes, at least up to `max`, are in clusters after one that are mapped like it.
-    #[tactic(auto, using(crate::proofs::Call::FailingErrors::tables_met, crate::proofs::Call::FailingErrors::storage_met, crate::proofs::Call::FailingErrors::metadata_met, crate::proofs::Call::FailingErrors::metadata_of_tables, crate::proofs::Call::Unlimited::unaligned_unlimited))]
+    #[tactic(auto, using(crate::proofs::Call::FailingErrors::tables_met, crate::proofs::Call::FailingErrors::storage_met, crate::proofs::Call::FailingErrors::unaligned_of_tables, crate::proofs::Call::Unlimited::unaligned_unlimited))]
     fn alike_behind(
         &self,
         table: &L2Table,

@@ -147,12 +147,12 @@ pub(crate) fn keeps(mapping: &L2Mapping, place: u64) -> bool
     preallocated_offset(mapping) == Some(place)
 }
 
-#[tactic(auto, using(crate::proofs::Call::FailingErrors::tables_met, crate::proofs::Call::FailingErrors::storage_met, crate::proofs::Call::FailingErrors::metadata_met, crate::proofs::Call::FailingErrors::metadata_of_tables))]
+#[tactic(auto, using(crate::proofs::Call::FailingErrors::tables_met, crate::proofs::Call::FailingErrors::storage_met, crate::proofs::Call::FailingErrors::unaligned_met))]
 impl<S: Storage, F: WrappedFormat<S>> Qcow2<S, F> {
     /// Prepares a range to be written at one place in the file. With `overwrite` the caller promises to write all of it, and old bytes are not
     /// copied. The mapping may be shorter than the range, and must be committed or discarded. A mapping that isn't existing has at least the
-    /// rest of its first cluster. None of its bytes lies in the header's cluster. A mapping is existing only where the tables in memory mark
-    /// all of the range as copied data.
+    /// rest of its first cluster. None of its bytes lies in the header's cluster. If the L1 entry is marked copied before the call, a mapping is
+    /// existing only where the tables in memory mark all of the range as copied data.
     /// Refused in this order: 16 (failed), 12 (dependency), 2 (beyond size), 1 (read-only). A length of 0 succeeds before 1. Then
     /// 9 (table prepared), if another mapping that isn't existing is prepared in the same L2 table. May be refused
     /// 4 (unaligned table), 7 (compressed) if a compressed cluster would have to be copied, 8 (everything is in use), 13 (limit),
@@ -373,7 +373,7 @@ impl<S: Storage, F: WrappedFormat<S>> Qcow2<S, F> {
     }
 
     // The mapping of a guest cluster in a cached table. An entry that is marked copied in the header's cluster is refused 19 (metadata).
-    #[tactic(auto, using(crate::proofs::Call::FailingErrors::tables_met, crate::proofs::Call::FailingErrors::storage_met, crate::proofs::Call::FailingErrors::metadata_met, crate::proofs::Call::FailingErrors::metadata_of_tables, crate::proofs::Call::Unlimited::unaligned_unlimited))]
+    #[tactic(auto, using(crate::proofs::Call::FailingErrors::tables_met, crate::proofs::Call::FailingErrors::storage_met, crate::proofs::Call::FailingErrors::unaligned_met, crate::proofs::Call::Unlimited::unaligned_unlimited))]
     pub(crate) fn cover_in(
         &self,
         table: HostCluster,

@@ -20,7 +20,7 @@ ghost use Rattle.qcow2_image.specs.Image.{HasNothingToFree, is_writable, size_of
 ghost use Rattle.qcow2_image.specs.ImageInvariant.{ImageInvariant, pending_in};
 ghost use Rattle.qcow2_image.specs.Preallocation.{AreZeros, CommitsWhole, FillsFirst, FillsGrownOrRefuses};
 ghost use Rattle.qcow2_image.specs.Preallocation.{FillsOrRefuses, IsWholeRange, most_of};
-ghost use Rattle.qcow2_image.specs.Refusals.{FreesRefused, MayFail, MayFailPreparing};
+ghost use Rattle.qcow2_image.specs.Refusals.{FreesRefused, MayFail, MayFailPreparing, MayFailToGrow};
 ghost use Rattle.qcow2_image.specs.Faults.{IsNotOfStorage, SameFaults};
 
 use crate::discarding::{ClearMode, rounded_up};
@@ -90,7 +90,7 @@ impl ZeroWrites {
     }
 }
 
-#[tactic(auto, using(crate::proofs::Call::FailingErrors::tables_met, crate::proofs::Call::FailingErrors::storage_met, crate::proofs::Call::FailingErrors::metadata_met, crate::proofs::Call::FailingErrors::metadata_of_tables))]
+#[tactic(auto, using(crate::proofs::Call::FailingErrors::tables_met, crate::proofs::Call::FailingErrors::storage_met))]
 impl<S: Storage, F: WrappedFormat<S>> Qcow2<S, F> {
     // Puts zeros past the end of a disk that will grow, up to the end of its last cluster, as a mode says. After
     // a refusal, the clusters on the list are freed, except after a fault and after 9.
@@ -104,7 +104,7 @@ impl<S: Storage, F: WrappedFormat<S>> Qcow2<S, F> {
         requires end { old ≡ size_of self.old }
         requires larger { old < size }
         ensures step { ImageStep S.view self.old self.new }
-        ensures fails { ImageFails S.view F.backing self.old self.new result MayFailPreparing }
+        ensures fails { ImageFails S.view F.backing self.old self.new result (MayFailToGrow mode) }
         ensures sound { (out : List (Option Prepared))
             → ImageInvariant S.view F.backing (pending_in S.view F.backing self.old out) self.old out
             → FillsPart (FillsGrownOrRefuses S.view F.backing size mode self.old self.new out result)
@@ -132,7 +132,7 @@ impl<S: Storage, F: WrappedFormat<S>> Qcow2<S, F> {
         requires end { old ≡ size_of self.old }
         requires larger { old < size }
         ensures step { ImageStep S.view self.old self.new }
-        ensures fails { ImageFails S.view F.backing self.old self.new result MayFailPreparing }
+        ensures fails { ImageFails S.view F.backing self.old self.new result (MayFailToGrow mode) }
         ensures sound { (out : List (Option Prepared))
             → ImageInvariant S.view F.backing (pending_in S.view F.backing self.old out) self.old out
             → FillsPart (FillsGrownOrRefuses S.view F.backing size mode self.old self.new out result)
@@ -186,7 +186,7 @@ impl<S: Storage, F: WrappedFormat<S>> Qcow2<S, F> {
     fn zero_grown(&mut self, old: u64, size: u64) -> Result<(), ImageError>
         requires writable { IsTrue (is_writable self.old) }
         ensures step { ImageStep S.view self.old self.new }
-        ensures fails { ImageFails S.view F.backing self.old self.new result MayFailPreparing }
+        ensures fails { ImageFails S.view F.backing self.old self.new result (MayFailToGrow Zero) }
         ensures sound { (out : List (Option Prepared))
             → ImageInvariant S.view F.backing (pending_in S.view F.backing self.old out) self.old out → old ≤ size
             → FillsPart (FillsOrRefuses S.view F.backing

@@ -24,7 +24,7 @@ use image_access::{Storage, WrappedFormat};
 use qcow2_alloc::{ClustersToFreeList, ImageError, PendingClusters};
 use qcow2_metadata::{GuestOffset, HostCluster, HostOffset, L2Mapping};
 
-#[tactic(auto, using(crate::proofs::Call::FailingErrors::tables_met, crate::proofs::Call::FailingErrors::storage_met, crate::proofs::Call::FailingErrors::metadata_met, crate::proofs::Call::FailingErrors::metadata_of_tables))]
+#[tactic(auto, using(crate::proofs::Call::FailingErrors::tables_met, crate::proofs::Call::FailingErrors::storage_met, crate::proofs::Call::FailingErrors::unaligned_met))]
 impl<S: Storage, F: WrappedFormat<S>> Qcow2<S, F> {
     // For how many clusters memory is allocated: at least those of a range within its first L2 table.
     pub(crate) fn clusters_in(&self, offset: u64, length: u64) -> usize

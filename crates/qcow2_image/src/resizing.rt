@@ -22,7 +22,7 @@ ghost use Rattle.qcow2_image.specs.Growing.{LastsCall, LastsPart};
 ghost use Rattle.qcow2_image.specs.Image.{HasNothingToFree, IsSameImage, has_noted_change, is_failed, is_writable};
 ghost use Rattle.qcow2_image.specs.Image.{size_of, with_marks};
 ghost use Rattle.qcow2_image.specs.ImageInvariant.{ImageInvariant, abstract_of, pending_in};
-ghost use Rattle.qcow2_image.specs.Refusals.{MayFail, MayFailPreparing, MarksFailed};
+ghost use Rattle.qcow2_image.specs.Refusals.{MayFail, MayFailToGrow, MarksFailed};
 ghost use Rattle.qcow2_image.specs.Refusals.{MarksRefused};
 ghost use Rattle.qcow2_image.specs.Resizing.{GrowsTo, MayFailShrinking, IsResized, Shrinks, WritesSize};
 ghost use Rattle.qcow2_image.specs.Resizing.{refuses_to_resize, size_after};
@@ -184,7 +184,7 @@ impl<S: Storage, F: WrappedFormat<S>> Qcow2<S, F> {
         ensures preallocation { refuses_to_resize self.old ≡ None → size_of self.old < size
             → IsTrue (takes_over self.old mode) → (result ≡ Err Preallocation) × (self.new ≡ self.old) }
         ensures late { refuses_to_resize self.old ≡ None
-            → IfErr result (λ e. MayFailPreparing e ⊎ ((e ≡ Preallocation) × IsTrue (takes_over self.old mode))) }
+            → IfErr result (λ e. MayFailToGrow mode e ⊎ ((e ≡ Preallocation) × IsTrue (takes_over self.old mode))) }
         ensures image { size_of self.old < size
             → IsResized (size_after result (size_of self.old) size) self.old self.new }
         ensures sees { GrowsTo S.view F.backing self.old self.new size mode result }
@@ -219,7 +219,7 @@ impl<S: Storage, F: WrappedFormat<S>> Qcow2<S, F> {
         requires writable { IsTrue (is_writable self.old) }
         requires larger { size_of self.old < size }
         ensures step { MarkedStep S.view F.backing self.old self.new result }
-        ensures cause { IfErr result MayFailPreparing }
+        ensures cause { IfErr result (MayFailToGrow mode) }
         ensures sound { (out : List (Option Prepared)) → (abstract_of S.view F.backing self.old out).is_sound
             → GrowsSoundly S.view F.backing mode size self.old self.new out result }
         ensures image { IsResized (size_after result (size_of self.old) size) self.old self.new }

@@ -3,7 +3,7 @@ use Rattle.qcow2_alloc.specs.declared.error.ImageError.TheVariants as I
 use Rattle.qcow2_session.specs.declared.session.Command.TheVariants as C
 use Rattle.qcow2_session.specs.declared.session.Reply.TheVariants as R
 use Rattle.std.proofs.Common.{◌≡◌, ◌⊎◌, ◌+◌, ◌<◌, ◌≤◌, ◌&&◌, ◌==◌, inl, inr, ℕ, Bool, true, false, not, IsTrue, List, Option, Some, None, Bor, refl, sym, ap, ◌∙◌, subst, arith, IfErr, Result, Ok, Err, is_some}
-use Rattle.qcow2_session.proofs.Common.{Global, Vec, nat_lt, IfSome, IfOk, IsSome, MatchOption, slice_get, option_or, cases_lt, eq-eqb, lt-ltb, ltb-true, common_steps, BackingView, StorageView, Clearing, known_in, ImageError, IsUnderMapping, from_in, refuses_clearing, to_in, is_external, is_failed, number_of, abstract_of, MayFailAlone, MayFailReadingRange, MayFailAllocating, Qcow2, Mapping, CommitRefused, Kept, Prepared, IsHandedBackBy, MayFail, MayFailPreparing, passes, refuse_if, refuses_mapping, refuses_to_read, unusable, HasNothingToDo, MayFailOnSound, RefusalJustified, IsUntouchedUnder, MayFailWith, ReportsMisuse, first_cause, ClearingMayFail, CommandMayFailAllocating, reply_of_clearing, refusal_in, IsOfReading, Command, Reply, and_parts}
+use Rattle.qcow2_session.proofs.Common.{Global, Vec, nat_lt, IfSome, IfOk, IsSome, MatchOption, slice_get, option_or, cases_lt, eq-eqb, lt-ltb, ltb-true, common_steps, BackingView, StorageView, Clearing, known_in, ImageError, IsUnderMapping, from_in, refuses_clearing, to_in, is_external, is_failed, number_of, abstract_of, MayFailAlone, MayFailReadingRange, MayFailAllocating, Qcow2, Mapping, CommitRefused, Kept, Prepared, IsHandedBackBy, MayFailToRead, MayFailPreparing, passes, refuse_if, refuses_mapping, refuses_to_read, unusable, HasNothingToDo, MayFailOnSound, RefusalJustified, IsUntouchedUnder, MayFailWith, ReportsMisuse, first_cause, ClearingMayFail, CommandMayFailAllocating, reply_of_clearing, refusal_in, IsOfReading, Command, Reply, and_parts}
 use Rattle.qcow2_alloc.proofs.CachedEntries.Lists.{option_or-none}
 
 -- ---- what was refused at once
@@ -32,10 +32,10 @@ not_failed true none = absurd (let no : Some I.Failed ≡ None = none in cc)
 not_failed false none = refl
 
 -- what a lookup is refused for, a read may be
-pub mapping_reading : {S F : Type 0} (A X : Type 0) (image : Qcow2 S F) (e : ImageError) → IfSome (unusable image) (λ x. (◌≡◌ {A = Result A ImageError} (Err e) (Err x)) × X) → (unusable image ≡ None → MayFail e) → IsOfReading e
+pub mapping_reading : {S F : Type 0} (A X : Type 0) (image : Qcow2 S F) (e : ImageError) → IfSome (unusable image) (λ x. (◌≡◌ {A = Result A ImageError} (Err e) (Err x)) × X) → (unusable image ≡ None → MayFailToRead e) → IsOfReading e
 mapping_reading A X image e early late = by (is_failed image) (is_external image) early late
   where
-    by : (a b : Bool) → IfSome (option_or (refuse_if a I.Failed) (refuse_if b I.Dependency)) (λ x. (◌≡◌ {A = Result A ImageError} (Err e) (Err x)) × X) → (option_or (refuse_if a I.Failed) (refuse_if b I.Dependency) ≡ None → MayFail e) → IsOfReading e
+    by : (a b : Bool) → IfSome (option_or (refuse_if a I.Failed) (refuse_if b I.Dependency)) (λ x. (◌≡◌ {A = Result A ImageError} (Err e) (Err x)) × X) → (option_or (refuse_if a I.Failed) (refuse_if b I.Dependency) ≡ None → MayFailToRead e) → IsOfReading e
     by true b early late = inr (inr (inl (same_error early.0)))
     by false true early late = inr (inr (inr (same_error early.0)))
     by false false early late = inl (late refl)
@@ -118,7 +118,7 @@ module _ {S F : Type 0} (view : S → StorageView) (backing : F → BackingView)
   pub read_answered : (Same : Type 0) (offset n : ℕ) (bytes : Vec ℕ Global) → IfSome (refuses_to_read old offset n) (λ x. (◌≡◌ {A = Result (Vec ℕ Global) ImageError} (Ok bytes) (Err x)) × Same) → RefusalJustified view backing old new before found (C.Read offset n) (R.Bytes bytes)
   read_answered Same offset n bytes early = is_answered view backing old new before (C.Read offset n) Same bytes (R.Bytes bytes) (λ is. absurd cc) (λ is. absurd cc, λ is. absurd is) refl early (λ _ _. tt)
 
-  pub read_refused : (offset n : ℕ) (e : ImageError) → IfSome (refuses_to_read old offset n) (λ x. (◌≡◌ {A = Result (Vec ℕ Global) ImageError} (Err e) (Err x)) × (new ≡ old)) → (refuses_to_read old offset n ≡ None → MayFail e × (0 < n))
+  pub read_refused : (offset n : ℕ) (e : ImageError) → IfSome (refuses_to_read old offset n) (λ x. (◌≡◌ {A = Result (Vec ℕ Global) ImageError} (Err e) (Err x)) × (new ≡ old)) → (refuses_to_read old offset n ≡ None → MayFailToRead e × (0 < n))
       → (refuses_to_read old offset n ≡ None → (out : List (Option Prepared)) → (abstract_of view backing old out).is_sound → MayFailReadingRange out offset (offset + n) old.file.header.fields (known_in view old.file) e)
       → RefusalJustified view backing old new before found (C.Read offset n) (R.Refused e)
   read_refused offset n e early late may_fail =

@@ -34,7 +34,7 @@ pub use Rattle.qcow2_disk.specs.Runs.{get_mapping, prepare, done, prepared_is, r
 pub use Rattle.qcow2_disk.specs.Stops.{IsGiven, GivenBytes, Checkpoint, checkpoint_at, IsSafeAfter, StopOkEverywhere}
 pub use Rattle.qcow2_disk.specs.UngivenCovers.{Touches, IsUngiven}
 pub use Rattle.qcow2_image.proofs.Call.BehindHeader.{behind_none, behind_then}
-pub use Rattle.qcow2_image.proofs.Call.FailingErrors.{storage_met, tables_met}
+pub use Rattle.qcow2_image.proofs.Call.FailingErrors.{read_met, storage_met, storage_read, tables_met, tables_read}
 pub use Rattle.qcow2_image.proofs.Call.FaultCounts.{faults_then, counted_on, counted_since, each_since, fewer_of, rose_after, tells_since, untouched, counted_still}
 pub use Rattle.qcow2_image.proofs.Call.OnceWritten.{changes_before, counts_on, counts_still, counts_released, changes_later, once_none}
 pub use Rattle.qcow2_image.proofs.Call.Unlimited.{fault_unlimited, storage_unlimited}
@@ -64,7 +64,7 @@ pub use Rattle.qcow2_image.specs.Preallocation.{IsUnderMappingIn}
 pub use Rattle.qcow2_image.specs.Prepared.{IsHandedBackBy, guest_offset_of, length_of, offset_of, table_of, image_of}
 pub use Rattle.qcow2_image.specs.Preparing.{IsAnswered, IsTaken, IsOfNothing}
 pub use Rattle.qcow2_image.specs.Ranges.{ReleasesOneMapping}
-pub use Rattle.qcow2_image.specs.Refusals.{refuse_if, passes, unusable, refuses_to_read, refuses_to_prepare, refuses_mapping, MayFail, MayFailPreparing, IsUnlimited, MarksFailed, MarksRefused, failed_after}
+pub use Rattle.qcow2_image.specs.Refusals.{refuse_if, passes, unusable, refuses_to_read, refuses_to_prepare, refuses_mapping, MayFail, MayFailToRead, MayFailPreparing, IsUnlimited, MarksFailed, MarksRefused, failed_after}
 pub use Rattle.qcow2_image.specs.Resizing.{refuses_to_resize, GrowsTo, Shrinks, WritesSizeLast, IsResized, takes_over}
 pub use Rattle.qcow2_image.specs.Unwritten.{ReadsQuietly, ContentsStayThroughout, HoldsNothingModified}
 pub use Rattle.qcow2_image.specs.declared.image.Missing.{Missing}

@@ -1,6 +1,6 @@
 -- Bytes that the disk already has are never refused as ones that may not be written.
 use Rattle.std.proofs.Common.{◌≡◌, ◌+◌, ◌<◌, ◌≤◌, ◌∷◌, inl, inr, ℕ, Bool, true, false, List, [], take, length, refl, sym, ap, ◌∙◌, subst, arith, IfErr, Option, Result, Ok, Err}
-use Rattle.qcow2_session.proofs.Common.{MatchOption, option_or, BackingView, bytes_at, HasCause, StorageView, StorageError, same_contents, length-bytes_at, byte_at-bytes_at, known_byte, Disk, with_bytes, given_of, Guest, guest_of, AnsweredEffect, Shows, with_disk, of_storage, ImageError, is_external, is_failed, size_of, MayFail, passes, refuse_if, refuses_to_read, Qcow2, Prepared, abstract_of, IsOfReading, ReadsInto, DiffersWhereKept, IsKeptFromWriting, IsRefusedUnequal}
+use Rattle.qcow2_session.proofs.Common.{MatchOption, option_or, BackingView, bytes_at, HasCause, StorageView, StorageError, same_contents, length-bytes_at, byte_at-bytes_at, known_byte, Disk, with_bytes, given_of, Guest, guest_of, AnsweredEffect, Shows, with_disk, of_storage, ImageError, is_external, is_failed, size_of, MayFailToRead, passes, refuse_if, refuses_to_read, Qcow2, Prepared, abstract_of, IsOfReading, ReadsInto, DiffersWhereKept, IsKeptFromWriting, IsRefusedUnequal}
 use Rattle.image_access.specs.declared.error.StorageError.TheVariants as S
 use Rattle.qcow2_alloc.specs.declared.error.ImageError.TheVariants as I
 use Rattle.qcow2_session.proofs.Lemmas.{cut_part, cut_short, shows_as, shown_same}
@@ -16,8 +16,8 @@ size_untold early S.Memory before now cause = inr (inr (inl refl))
 
 -- a read isn't
 pub reading_other : (e : ImageError) → IsOfReading e → IsKeptFromWriting e → ⊥
-reading_other e (inl may_fail) (inl is) = let no : MayFail I.ReadOnly = subst MayFail is may_fail in no
-reading_other e (inl may_fail) (inr is) = let no : MayFail I.TablePrepared = subst MayFail is may_fail in no
+reading_other e (inl may_fail) (inl is) = let no : MayFailToRead I.ReadOnly = subst MayFailToRead is may_fail in no
+reading_other e (inl may_fail) (inr is) = let no : MayFailToRead I.TablePrepared = subst MayFailToRead is may_fail in no
 reading_other e (inr (inl beyond)) (inl is) = let no : I.ReadOnly ≡ I.BeyondSize = sym is ∙ beyond in cc
 reading_other e (inr (inl beyond)) (inr is) = let no : I.TablePrepared ≡ I.BeyondSize = sym is ∙ beyond in cc
 reading_other e (inr (inr (inl failed))) (inl is) = let no : I.ReadOnly ≡ I.Failed = sym is ∙ failed in cc

@@ -1,6 +1,6 @@
 -- What special reads mean.
 use Rattle.std.proofs.Common.{◌≡◌, ◌⊎◌, ◌<◌, false, true, inl, inr, refl, sym, ◌∙◌, subst, ℕ, zero, suc, arith, Option, Some, None, IfErr, Result, Ok, Err}
-use Rattle.qcow2_session.proofs.Common.{IsErr, IfOk, MatchOption, Bytes, not_compressed, IsCompressedAt, IsRightlySpecial, ImageError, refusal_of, MayFail, ReportsPlain, ReportsSpecial}
+use Rattle.qcow2_session.proofs.Common.{IsErr, IfOk, MatchOption, Bytes, not_compressed, IsCompressedAt, IsRightlySpecial, ImageError, refusal_of, MayFailToRead, ReportsPlain, ReportsSpecial}
 use Rattle.qcow2_alloc.specs.declared.error.ImageError.TheVariants as I
 use Rattle.qcow2_image.specs.SpecialReads.{ReportsCompressed, ReportsWhether}
 
@@ -48,14 +48,14 @@ own_offset offset (suc n) (Ok None) some none = absurd (let no : None ≡ Some o
 own_offset offset (suc n) (Ok (Some at)) some none = let same : Some at ≡ Some offset = some (omega arith) in cc
 
 -- what an image's call reports is reported
-pub told_specially : (known : Bytes) (offset n : ℕ) (r : Result (Unit {0}) ImageError) → (0 < n → IsErr r) → (n ≡ 0 → r ≡ Ok tt) → IfErr r (λ e. MayFail e ⊎ (e ≡ I.NotCompressed offset)) → (0 < n → IfErr r (ReportsCompressed known offset)) → ReportsSpecial known offset n r
+pub told_specially : (known : Bytes) (offset n : ℕ) (r : Result (Unit {0}) ImageError) → (0 < n → IsErr r) → (n ≡ 0 → r ≡ Ok tt) → IfErr r (λ e. MayFailToRead e ⊎ (e ≡ I.NotCompressed offset)) → (0 < n → IfErr r (ReportsCompressed known offset)) → ReportsSpecial known offset n r
 told_specially known offset n (Ok _) some none may_fail reports = done_empty n (Ok tt) some
 told_specially known offset n (Err e) fails none may_fail reports =
     let some = some_bytes n e (Err e) tt refl none in
     refused_specially known offset n e (λ is. (some, (reports some).0 is)) (λ at is. plain at is may_fail)
   where
-    plain : (at : ℕ) → e ≡ I.NotCompressed at → MayFail e ⊎ (e ≡ I.NotCompressed offset) → IsRightlySpecial known offset n (not_compressed at)
-    plain at is (inl may_fail) = absurd (subst MayFail is may_fail)
+    plain : (at : ℕ) → e ≡ I.NotCompressed at → MayFailToRead e ⊎ (e ≡ I.NotCompressed offset) → IsRightlySpecial known offset n (not_compressed at)
+    plain at is (inl may_fail) = absurd (subst MayFailToRead is may_fail)
     plain at is (inr own) =
         let same : I.NotCompressed at ≡ I.NotCompressed offset = sym is ∙ own in
         let here : at ≡ offset = cc in
@@ -66,9 +66,9 @@ some_plain : (n at : ℕ) (r : Result (Option ℕ) ImageError) → r ≡ Ok (Som
 some_plain zero at r is none = absurd (let no : Ok (Some at) ≡ Ok None = sym is ∙ none refl in let inner : Some at ≡ None = cc in cc)
 some_plain (suc n) at r is none = omega arith
 
-pub told_plainly : (known : Bytes) (offset n : ℕ) (r : Result (Option ℕ) ImageError) → (0 < n → IfOk r (λ at. at ≡ Some offset)) → (n ≡ 0 → r ≡ Ok None) → IfErr r MayFail → (0 < n → ReportsWhether known offset r) → ReportsPlain known offset n r
+pub told_plainly : (known : Bytes) (offset n : ℕ) (r : Result (Option ℕ) ImageError) → (0 < n → IfOk r (λ at. at ≡ Some offset)) → (n ≡ 0 → r ≡ Ok None) → IfErr r MayFailToRead → (0 < n → ReportsWhether known offset r) → ReportsPlain known offset n r
 told_plainly known offset n (Ok None) own none may_fail reports = own_offset offset n (Ok None) own none
 told_plainly known offset n (Ok (Some at)) own none may_fail reports = let some = some_plain n at (Ok (Some at)) refl none in (some, own_offset offset n (Ok (Some at)) own none, reports some)
 told_plainly known offset n (Err e) own none may_fail reports =
     let some = some_bytes n e (Err e) None refl none in
-    refused_specially known offset n e (λ is. (some, reports some is)) (λ at is. absurd (subst MayFail is may_fail))
+    refused_specially known offset n e (λ is. (some, reports some is)) (λ at is. absurd (subst MayFailToRead is may_fail))

@@ -17,13 +17,13 @@ use Rattle.qcow2_image.specs.Clearing.{IsUnderMapping, from_in, refuses_clearing
 use Rattle.qcow2_image.specs.Found.{IsFoundWhole, further_by}
 use Rattle.qcow2_image.specs.Image.{is_failed, is_writable, size_of}
 use Rattle.qcow2_image.specs.ImageInvariant.{abstract_of}
-use Rattle.qcow2_image.specs.Invalidated.{IsOfPrepared, IsStillInUse}
+use Rattle.qcow2_image.specs.Invalidated.{IsOfPrepared, IsStillInUse, MayFailToInvalidate}
 use Rattle.qcow2_image.specs.L1Entries.{NeedsOverflowingL1Entry}
 use Rattle.qcow2_image.specs.MayFail.{CopiesCompressed, IsCacheHeld, MayFailLooking, MayFailMapped, MayFailPutting, MayFailReadingRange, MayFailSpecial, MayFailGrowing, MayFailAllocating}
 use Rattle.qcow2_image.specs.Preallocation.{IsUnderMappingIn}
 use Rattle.qcow2_image.specs.Prepared.{length_of, table_of}
 use Rattle.qcow2_image.specs.Preparing.{IsTaken}
-use Rattle.qcow2_image.specs.Refusals.{MayFail, MayFailPreparing, refuse_if, refuses_to_prepare, refuses_to_read, unusable}
+use Rattle.qcow2_image.specs.Refusals.{MayFail, MayFailPreparing, MayFailToGrow, MayFailToRead, refuse_if, refuses_to_prepare, refuses_to_read, unusable}
 use Rattle.qcow2_image.specs.Resizing.{boundary_in, refuses_to_resize, takes_over}
 use Rattle.qcow2_image.specs.declared.image.Qcow2.{Qcow2}
 use Rattle.qcow2_image.specs.declared.mapping.Mapping.{Mapping}
@@ -90,9 +90,11 @@ ReportsMisuse before found command reply = (reply ≡ R.Misuse) ↔ IsMisused be
 
 -- The refusals of a command that no check refused.
 abbrev pub MayFailWith : Command → ImageError → Type 0
+MayFailWith (C.Read offset n) e = MayFailToRead e
 MayFailWith (C.Write offset bytes) e = MayFailPreparing e
 MayFailWith (C.Fill offset n byte) e = MayFailPreparing e
 MayFailWith (C.GetMapping slot offset max) e = IsOfTables e
+MayFailWith (C.ReadMapped slot at n) e = MayFailToRead e
 MayFailWith (C.PrepareDataMapping slot offset n overwrite) e = MayFailPreparing e
 MayFailWith (C.CommitDataMapping slot) e = IsOfTables e
 MayFailWith (C.DiscardDataMapping slot) e = ⊥
@@ -100,10 +102,12 @@ MayFailWith (C.EnsureZeroMapping offset n) e = MayFailPreparing e
 MayFailWith (C.DiscardToZero offset n) e = MayFailPreparing e
 MayFailWith (C.DiscardToAny offset n) e = MayFailPreparing e
 MayFailWith (C.DiscardToBacking offset n) e = MayFailPreparing e
-MayFailWith (C.ReadvSpecial offset n) e = MayFail e ⊎ (e ≡ I.NotCompressed offset)
+MayFailWith (C.ReadvSpecial offset n) e = MayFailToRead e ⊎ (e ≡ I.NotCompressed offset)
+MayFailWith (C.TryReadvSpecial offset n) e = MayFailToRead e
 MayFailWith C.Flush e = IsOfTables e
 MayFailWith C.Sync e = IsFault e
-MayFailWith (C.ResizeGrow size mode) e = MayFailPreparing e
+MayFailWith C.InvalidateCache e = MayFailToInvalidate e
+MayFailWith (C.ResizeGrow size mode) e = MayFailToGrow mode e
 MayFailWith (C.ResizeShrink size) e = IsFault e ⊎ (e ≡ I.MappingPrepared)
 MayFailWith C.Size e = ⊥
 MayFailWith C.Leaked e = ⊥

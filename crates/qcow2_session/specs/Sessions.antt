@@ -27,7 +27,7 @@ use Rattle.qcow2_image.specs.Image.{size_of}
 use Rattle.qcow2_image.specs.L1Entries.{NeedsOverflowingL1Entry}
 use Rattle.qcow2_image.specs.Prepared.{length_of, offset_of}
 use Rattle.qcow2_image.specs.Preparing.{IsTaken}
-use Rattle.qcow2_image.specs.Refusals.{passes, MayFail}
+use Rattle.qcow2_image.specs.Refusals.{passes, MayFail, MayFailToRead}
 use Rattle.qcow2_image.specs.ImageInvariant.{abstract_of, image_abstraction}
 use Rattle.qcow2_session.specs.Commands.{command_of, reply_of}
 use Rattle.qcow2_session.specs.declared.session.Command.{Command}
@@ -76,11 +76,11 @@ IsRightlyBeyond image offset n e = e ≡ BeyondSize → IsTrue (passes (size_of 
 
 -- The refusals of a read: an unusable image, a range beyond the size, or a cause that comes during the work.
 abbrev pub IsOfReading : ImageError → Type 0
-IsOfReading e = MayFail e ⊎ ((e ≡ BeyondSize) ⊎ ((e ≡ Failed) ⊎ (e ≡ Dependency)))
+IsOfReading e = MayFailToRead e ⊎ ((e ≡ BeyondSize) ⊎ ((e ≡ Failed) ⊎ (e ≡ Dependency)))
 
--- The refusals of a write: those of a read, an image opened for reading, and a pinned L2 table.
+-- The refusals of a write: an unusable image, a range beyond the size, a cause that comes during the work, an image opened for reading, or a pinned L2 table.
 abbrev pub IsOfWriting : ImageError → Type 0
-IsOfWriting e = IsOfReading e ⊎ ((e ≡ ReadOnly) ⊎ (e ≡ TablePrepared))
+IsOfWriting e = (MayFail e ⊎ ((e ≡ BeyondSize) ⊎ ((e ≡ Failed) ⊎ (e ≡ Dependency)))) ⊎ ((e ≡ ReadOnly) ⊎ (e ≡ TablePrepared))
 
 -- The cluster size of an image, in bytes.
 abbrev pub cluster_size_of : {S F : Type 0} → Qcow2 S F → ℕ

@@ -80,7 +80,7 @@ impl<S: Storage> AsyncLruCacheBackend for L2CacheBackend<S> {
             return Ok(());
         }
         if value.cluster_bits() != self.header.cluster_bits() {
-            return Err(MetadataError::Format);
+            return Err(MetadataError::Limit);
         }
         if key.checked_offset(value.cluster_bits()).is_none() {
             return Err(MetadataError::Limit);
@@ -205,7 +205,7 @@ impl<S: Storage> AsyncLruCacheBackend for RefBlockCacheBackend<S> {
             return Ok(());
         }
         if value.cluster_bits() != self.header.cluster_bits() {
-            return Err(MetadataError::Format);
+            return Err(MetadataError::Limit);
         }
         if key.checked_offset(value.cluster_bits()).is_none() {
             return Err(MetadataError::Limit);

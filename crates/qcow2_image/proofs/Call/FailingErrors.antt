@@ -1,5 +1,6 @@
--- Refusals of tables are among the refusals that come during the work of a call.
-use Rattle.qcow2_image.proofs.Common.{StorageError, MetadataError, ImageError, of_storage, of_metadata, IsOfTables, MayFail}
+-- Refusals of tables and of lower layers are among the refusals that come during the work of a call.
+use Rattle.std.proofs.Common.{◌≡◌, inl, inr, refl, sym, subst}
+use Rattle.qcow2_image.proofs.Common.{StorageError, MetadataError, ImageError, IsOfLengthOrMemory, IsOfPrepared, of_storage, of_metadata, IsOfReftableLoad, IsOfTables, MayFail, MayFailToInvalidate, MayFailToRead}
 use Rattle.image_access.specs.declared.error.StorageError.TheVariants as S
 use Rattle.qcow2_metadata.specs.declared.error.MetadataError.TheVariants as M
 use Rattle.qcow2_alloc.specs.declared.error.ImageError.TheVariants as I
@@ -7,7 +8,7 @@ use Rattle.qcow2_alloc.specs.declared.error.ImageError.TheVariants as I
 pub tables_met : (e : ImageError) → IsOfTables e → MayFail e
 tables_met I.ReadOnly h = absurd h
 tables_met I.BeyondSize h = absurd h
-tables_met I.Version h = tt
+tables_met I.Version h = absurd h
 tables_met I.UnalignedTable h = tt
 tables_met I.InvalidOption h = absurd h
 tables_met I.Preallocation h = absurd h
@@ -23,31 +24,99 @@ tables_met I.Storage h = tt
 tables_met I.Failed h = absurd h
 tables_met I.MappingPrepared h = absurd h
 tables_met (I.NotCompressed offset) h = absurd h
-tables_met I.Metadata h = tt
+tables_met I.Metadata h = absurd h
 tables_met I.Overflow h = absurd h
-tables_met (I.StillInUse tables) h = tt
+tables_met (I.StillInUse tables) h = absurd h
 
--- why tables are not loaded
+pub tables_read : (e : ImageError) → IsOfTables e → MayFailToRead e
+tables_read I.ReadOnly h = absurd h
+tables_read I.BeyondSize h = absurd h
+tables_read I.Version h = absurd h
+tables_read I.UnalignedTable h = tt
+tables_read I.InvalidOption h = absurd h
+tables_read I.Preallocation h = absurd h
+tables_read I.Compressed h = absurd h
+tables_read I.InUse h = tt
+tables_read I.TablePrepared h = absurd h
+tables_read I.OutdatedMapping h = absurd h
+tables_read I.ForeignState h = absurd h
+tables_read I.Dependency h = absurd h
+tables_read I.Limit h = tt
+tables_read I.Memory h = tt
+tables_read I.Storage h = tt
+tables_read I.Failed h = absurd h
+tables_read I.MappingPrepared h = absurd h
+tables_read (I.NotCompressed offset) h = absurd h
+tables_read I.Metadata h = absurd h
+tables_read I.Overflow h = absurd h
+tables_read (I.StillInUse tables) h = absurd h
+
+pub read_met : (e : ImageError) → MayFailToRead e → MayFail e
+read_met I.ReadOnly h = absurd h
+read_met I.BeyondSize h = absurd h
+read_met I.Version h = absurd h
+read_met I.UnalignedTable h = tt
+read_met I.InvalidOption h = absurd h
+read_met I.Preallocation h = absurd h
+read_met I.Compressed h = tt
+read_met I.InUse h = tt
+read_met I.TablePrepared h = absurd h
+read_met I.OutdatedMapping h = tt
+read_met I.ForeignState h = absurd h
+read_met I.Dependency h = absurd h
+read_met I.Limit h = tt
+read_met I.Memory h = tt
+read_met I.Storage h = tt
+read_met I.Failed h = absurd h
+read_met I.MappingPrepared h = absurd h
+read_met (I.NotCompressed offset) h = absurd h
+read_met I.Metadata h = absurd h
+read_met I.Overflow h = absurd h
+read_met (I.StillInUse tables) h = absurd h
+
+pub reftable_met : (e : ImageError) → IsOfReftableLoad e → MayFail e
+reftable_met e (inl is) = subst MayFail (sym is) tt
+reftable_met e (inr tables) = tables_met e tables
+
+-- ---- errors of the storage
 pub storage_of_tables : (e : StorageError) → IsOfTables (of_storage e)
 storage_of_tables S.Fault = tt
 storage_of_tables S.Memory = tt
 
-pub metadata_of_tables : (e : MetadataError) → IsOfTables (of_metadata e)
-metadata_of_tables (M.Storage e) = storage_of_tables e
-metadata_of_tables M.Memory = tt
-metadata_of_tables M.Version = tt
-metadata_of_tables M.Unaligned = tt
-metadata_of_tables M.Limit = tt
-metadata_of_tables M.Format = tt
+pub storage_read : (e : StorageError) → MayFailToRead (of_storage e)
+storage_read S.Fault = tt
+storage_read S.Memory = tt
 
 pub storage_met : (e : StorageError) → MayFail (of_storage e)
 storage_met S.Fault = tt
 storage_met S.Memory = tt
 
-pub metadata_met : (e : MetadataError) → MayFail (of_metadata e)
-metadata_met (M.Storage e) = storage_met e
-metadata_met M.Memory = tt
-metadata_met M.Version = tt
-metadata_met M.Unaligned = tt
-metadata_met M.Limit = tt
-metadata_met M.Format = tt
+-- ---- errors of tables
+pub unaligned_of_tables : (e : MetadataError) → e ≡ M.Unaligned → IsOfTables (of_metadata e)
+unaligned_of_tables e is = subst (λ (x : MetadataError). IsOfTables (of_metadata x)) (sym is) tt
+
+pub unaligned_met : (e : MetadataError) → e ≡ M.Unaligned → MayFail (of_metadata e)
+unaligned_met e is = subst (λ (x : MetadataError). MayFail (of_metadata x)) (sym is) tt
+
+pub memory_met : (e : MetadataError) → e ≡ M.Memory → MayFail (of_metadata e)
+memory_met e is = subst (λ (x : MetadataError). MayFail (of_metadata x)) (sym is) tt
+
+pub length_met : (IsTooLong : Type 0) (e : MetadataError) → IsOfLengthOrMemory IsTooLong e → MayFail (of_metadata e)
+length_met IsTooLong (M.Storage e) h = absurd h
+length_met IsTooLong M.Memory h = tt
+length_met IsTooLong M.Version h = absurd h
+length_met IsTooLong M.Unaligned h = absurd h
+length_met IsTooLong M.Limit h = tt
+length_met IsTooLong M.Format h = absurd h
+
+pub header_anew : (e : MetadataError) → MayFailToInvalidate (of_metadata e)
+header_anew (M.Storage e) = inl (storage_met e)
+header_anew M.Memory = inl tt
+header_anew M.Version = inr (inl refl)
+header_anew M.Unaligned = inl tt
+header_anew M.Limit = inl tt
+header_anew M.Format = inl tt
+
+pub prepared_anew : (e : ImageError) → IsOfPrepared e → MayFailToInvalidate e
+prepared_anew e (inl used) = inr (inr used)
+prepared_anew e (inr memory) = inl (subst MayFail (sym memory) tt)

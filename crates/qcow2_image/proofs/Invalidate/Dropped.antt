@@ -1,6 +1,6 @@
 -- Tables of an image at rest are dropped, which guests don't see.
 use Rattle.std.proofs.Common.{◌≡◌, ◌<◌, ◌/◌, ◌==◌, ◌∷◌, ℕ, Bool, inl, inr, List, [], length, map, Option, Some, None, Result, Ok, Err, refl, sym, ap, ◌∙◌, subst, arith, IfErr}
-use Rattle.qcow2_image.proofs.Common.{cases_Bool, IfSome, OnOk, fun_ext, BackingView, StorageView, Bytes, byte_at, EntryTableView, entry_count, cluster_size, L2TableView, HeaderFields, AreClean, Direction, Pending, CrashInvariant, is_pinned, pinned, value_at, l2_pins, CachesHaveRoom, LeavesPinned, KeepBehindHeader, contents_in, view_in, known_of, l2_tables, order_of, refblocks, AreAllWritten, CacheInvariant, Evict, EvictsTable, InternalCacheStep, Slot, ClustersToFreeEntry, ImageError, IsAllocatorOf, SearchesAnew, Allocator, MetadataCaches, safe_none, pinned_gone, pinned_kept, bytes_stay, IsBesideNumbers, KeepsTablesBehind, leaked_by, leaked_in, HoldsNoTable, IsAtRest, IsReasonAgainstReading, HasPinnedTable, HasL1Table, ImageInvariant, InternalStep, Qcow2, Prepared, anew_kept}
+use Rattle.qcow2_image.proofs.Common.{cases_Bool, IfSome, OnOk, fun_ext, BackingView, StorageView, Bytes, byte_at, EntryTableView, entry_count, cluster_size, L2TableView, HeaderFields, AreClean, Direction, Pending, CrashInvariant, is_pinned, pinned, value_at, IsOfPrepared, IsStillInUse, l2_pins, CachesHaveRoom, LeavesPinned, KeepBehindHeader, contents_in, view_in, known_of, l2_tables, order_of, refblocks, AreAllWritten, CacheInvariant, Evict, EvictsTable, InternalCacheStep, Slot, ClustersToFreeEntry, ImageError, IsAllocatorOf, SearchesAnew, Allocator, MetadataCaches, safe_none, pinned_gone, pinned_kept, bytes_stay, IsBesideNumbers, KeepsTablesBehind, leaked_by, leaked_in, HoldsNoTable, IsAtRest, IsReasonAgainstReading, HasPinnedTable, HasL1Table, ImageInvariant, InternalStep, Qcow2, Prepared, anew_kept}
 use Rattle.qcow2_alloc.specs.KeptTables.{cached_tables}
 use Rattle.qcow2_alloc.proofs.CachedEntries.Pins.{pinned_twice}
 use Rattle.qcow2_image.proofs.Lemmas.{keeps_then, caches_moved}
@@ -72,6 +72,13 @@ module _ {S F : Type 0} (view : S → StorageView) (backing : F → BackingView)
 
 -- ---- what dropping the tables of a cache answers
 module _ {V : Type 0} where
+  pub left_prepared : (es fs : List (ℕ × Slot V)) (r : Result (Unit {0}) ImageError) → LeavesPinned es r fs → IfErr r IsOfPrepared
+  left_prepared es fs (Ok _) left = tt
+  left_prepared es fs (Err e) left = elim left.1 [
+    | inl memory ↦ inr memory.0
+    | inr used ↦ inl (subst IsStillInUse (sym used.1) tt)
+  ]
+
   pub left_none : (es fs : List (ℕ × Slot V)) (r : Result (Unit {0}) ImageError) → LeavesPinned es r fs → OnOk r (fs ≡ [])
   left_none es fs (Ok x) left = left.1
   left_none es fs (Err e) left = tt

@@ -1,9 +1,19 @@
 -- A growth is refused, and clusters are freed after the refusal.
 use Rattle.std.proofs.Common.{◌≡◌, ◌⊎◌, ◌∙◌, inl, inr, ℕ, true, List, [], sym, subst, Option, Result, Err}
-use Rattle.qcow2_image.proofs.Common.{BackingView, StorageView, PreallocateMode, GivenBytes, works_less, works_then, IsFault, ImageError, RefusedCall, Qcow2, Prepared, ImageInvariant, abstract_of, pending_in, FillsGrownInPart, InterruptedGiving, all_given_by_growing, FreesRefused}
+use Rattle.qcow2_image.proofs.Common.{BackingView, StorageView, PreallocateMode, GivenBytes, works_less, works_then, IsFault, ImageError, RefusedCall, Qcow2, Prepared, ImageInvariant, abstract_of, pending_in, FillsGrownInPart, InterruptedGiving, all_given_by_growing, FreesRefused, IsOfTables, MayFailToGrow, TablePrepared}
+use Rattle.qcow2_image.proofs.Call.FailingErrors.{tables_met}
 
 pub same_refusal : {A : Type 0} (r : Result A ImageError) (e e' : ImageError) → r ≡ Err e → r ≡ Err e' → e ≡ e'
 same_refusal r e e' was is = let both : Err e ≡ Err e' = sym was ∙ is in cc
+
+-- what is reported afterwards is the refusal, or one of freeing clusters
+pub grow_told : (mode : PreallocateMode) (e e' : ImageError) → MayFailToGrow mode e → (e' ≡ e) ⊎ IsOfTables e' → MayFailToGrow mode e'
+grow_told mode e e' may_fail (inl same) = subst (MayFailToGrow mode) (sym same) may_fail
+grow_told mode e e' may_fail (inr tables) = inl (inl (tables_met e' tables))
+
+pub taken_told : (e e' : ImageError) → (e' ≡ e) ⊎ IsOfTables e' → e' ≡ TablePrepared → e ≡ TablePrepared
+taken_told e e' (inl same) taken = sym same ∙ taken
+taken_told e e' (inr tables) taken = absurd (subst IsOfTables taken tables)
 
 module _ {S F : Type 0} (view : S → StorageView) (backing : F → BackingView) (out : List (Option Prepared)) (old mid new : Qcow2 S F) (size : ℕ) (mode : PreallocateMode) (e e' : ImageError) where
   abbrev given : List GivenBytes

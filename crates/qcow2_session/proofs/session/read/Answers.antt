@@ -1,5 +1,5 @@
 use Rattle.std.proofs.Common.{◌++◌, ◌<◌, ◌≡◌, ◌+◌, Some, arith, drop, length, refl, subst, sym, take, rules, inl, IfErr}
-use Rattle.qcow2_session.proofs.Common.{Memory, common_steps, Shows, guest_of, abstract_of, Reads, MayFail, refuses_to_read, behind_none, MayFailReadingRange, known_in}
+use Rattle.qcow2_session.proofs.Common.{Memory, common_steps, Shows, guest_of, abstract_of, Reads, MayFailToRead, refuses_to_read, behind_none, MayFailReadingRange, known_in}
 use Rattle.qcow2_session.proofs.Lemmas.{refused_is, does_if, at_rest, in_parts, memory_marks, parts_handed, unmarked, refused_none, memory_looking}
 use Rattle.qcow2_session.proofs.session.read.Goals as goal
 
@@ -35,7 +35,7 @@ pub returns-in_err-read_into-clause-fails : goal.returns-in_err-read_into-clause
 returns-in_err-read_into-clause-fails g c = record {
   early = search rules;
   late = λ none.
-      subst (λ r. IfErr r (λ e. MayFail e × (0 < c.args.length))) (sym (refused_is _ c.in_err-read_into.field-0.0 c.from_residual-in_err-read_into.ensures))
+      subst (λ r. IfErr r (λ e. MayFailToRead e × (0 < c.args.length))) (sym (refused_is _ c.in_err-read_into.field-0.0 c.from_residual-in_err-read_into.ensures))
       (let may_fail = c.in_err-read_into.ensures.fails.late (grind (arith, common_steps)) in (may_fail.0, grind (arith, common_steps)));
   may_fail = λ none out sound.
       let long : length c.deref_mut.result.now ≡ c.args.length = grind (arith, common_steps) in

@@ -1,5 +1,5 @@
 use Rattle.std.proofs.Common.{◌≡◌, ◌+◌, ◌++◌, ◌<◌, ◌∙◌, Some, sym, subst, ap, [], take, drop, arith, rules, inl, Err, IfErr, length}
-use Rattle.qcow2_session.proofs.Common.{counts_on, common_steps, another, Guest, abstract_of, IsOfReading, ReadsFirst, size_of, MayFail, unusable, passes, BeyondSize, tables_met, behind_then, written_then, counted_on, IsFoundWhole, further_by, MayFailReadingRange, known_in}
+use Rattle.qcow2_session.proofs.Common.{counts_on, common_steps, another, Guest, abstract_of, IsOfReading, ReadsFirst, size_of, MayFailToRead, unusable, passes, BeyondSize, tables_read, behind_then, written_then, counted_on, IsFoundWhole, further_by, MayFailReadingRange, known_in}
 use Rattle.qcow2_session.proofs.Lemmas.{in_parts, parts_answered, parts_behind, parts_beyond, parts_handed, refused_at_once, shows_as, refused_is, refuses_here, none_within, does_if, refuses_if, does_then, refuses_then, mapping_reading, fits_below, then_none, mapping_usable, found_there, looking_prepared, reads_found}
 use Rattle.qcow2_session.proofs.session.read_some.Goals as goal
 
@@ -28,12 +28,12 @@ returns-clause-sees g c = λ out.
 
 pub returns-in_err-mapping-clause-cause : goal.returns-in_err-mapping-clause-cause
 returns-in_err-mapping-clause-cause g c = subst (λ r. IfErr r IsOfReading) (sym (refused_is _ c.in_err-mapping.field-0.0 c.from_residual.ensures))
-    (mapping_reading _ _ c.args.image.now c.in_err-mapping.field-0.0 c.in_err-mapping.ensures.refusals.early (λ none. tables_met c.in_err-mapping.field-0.0 (c.in_err-mapping.ensures.refusals.late none)))
+    (mapping_reading _ _ c.args.image.now c.in_err-mapping.field-0.0 c.in_err-mapping.ensures.refusals.early (λ none. tables_read c.in_err-mapping.field-0.0 (c.in_err-mapping.ensures.refusals.late none)))
 
 pub returns-in_err-mapping-clause-late : goal.returns-in_err-mapping-clause-late
 returns-in_err-mapping-clause-late g c = λ none some.
     let first = then_none (unusable c.args.image.now) (passes (size_of c.args.image.now) c.args.offset (length c.args.bytes.now)) BeyondSize none in
-    subst (λ r. IfErr r MayFail) (sym (refused_is _ c.in_err-mapping.field-0.0 c.from_residual.ensures)) (tables_met c.in_err-mapping.field-0.0 (c.in_err-mapping.ensures.refusals.late first.0))
+    subst (λ r. IfErr r MayFailToRead) (sym (refused_is _ c.in_err-mapping.field-0.0 c.from_residual.ensures)) (tables_read c.in_err-mapping.field-0.0 (c.in_err-mapping.ensures.refusals.late first.0))
 
 pub returns-then-count-eq0-clause-late : goal.returns-then-count-eq0-clause-late
 returns-then-count-eq0-clause-late g c = λ none some.
@@ -44,7 +44,7 @@ returns-then-count-eq0-clause-late g c = λ none some.
 pub returns-in_err-read_mapped-clause-late : goal.returns-in_err-read_mapped-clause-late
 returns-in_err-read_mapped-clause-late g c = λ none some.
     let first = then_none (unusable c.args.image.now) (passes (size_of c.args.image.now) c.args.offset (length c.args.bytes.now)) BeyondSize none in
-    subst (λ r. IfErr r MayFail) (sym (refused_is _ c.in_err-read_mapped.field-0.0 c.from_residual-in_err-read_mapped.ensures))
+    subst (λ r. IfErr r MayFailToRead) (sym (refused_is _ c.in_err-read_mapped.field-0.0 c.from_residual-in_err-read_mapped.ensures))
     (c.in_err-read_mapped.ensures.refusals.late (mapping_usable c.args.image.now c.get_mapping.new.self c.get_mapping.ensures.step.image c.in_ok-mapping.mapping.image c.in_ok-mapping.ensures.found.own.0 c.in_ok-mapping.ensures.step.marks first.0))
 
 pub returns-in_err-mapping-clause-may_fail : goal.returns-in_err-mapping-clause-may_fail

@@ -36,10 +36,10 @@ returns-in_err-reftable-clause-why g c = λ honest.
     (subst (λ m. IsReasonAgainst h h.reftable_offset (2 ^ 64 ≤ h.reftable_offset + 8 * m) ((h.reftable_offset + 8 * m < 2 ^ 64) × HasUnreadEntry m (λ k. ReftableEntryReads (reftable_entry h b k))) (of_metadata e)) entries why)
 
 pub returns-in_default-clause-fails : goal.returns-in_default-clause-fails
-returns-in_default-clause-fails g c = fails_by I.UnalignedTable (λ bad. absurd cc) refl tt
+returns-in_default-clause-fails g c = fails_by I.UnalignedTable (λ bad. absurd cc) refl (inr tt)
 
 pub returns-in_err-reftable-clause-fails : goal.returns-in_err-reftable-clause-fails
-returns-in_err-reftable-clause-fails g c = fails_loaded EntryTableView c.from_residual.result c.in_err-reftable.field-0.0 c.from_residual.ensures c.in_err-reftable.ensures.calls.cause
+returns-in_err-reftable-clause-fails g c = fails_loaded _ _ EntryTableView c.from_residual.result c.in_err-reftable.field-0.0 c.from_residual.ensures c.in_err-reftable.ensures.err c.in_err-reftable.ensures.calls.cause
 
 pub returns-clause-fails : goal.returns-clause-fails
 returns-clause-fails g c = fails_ok c.in_ok-reftable.ensures.calls.cause.told

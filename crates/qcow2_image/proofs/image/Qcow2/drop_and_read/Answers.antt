@@ -1,4 +1,5 @@
-use Rattle.qcow2_image.proofs.Common.{Bool, ◌∙◌, List, ℕ, Result, sym, ap, subst, IfErr, IfErr-weaker, byte_at, header, with_tables_of, HeaderFields, contents_in, ImageError, handed_on, is_writable, IsReasonAgainstPlaces, IsReasonAgainstReading, IsReasonAgainstTables, Qcow2, always_ok}
+use Rattle.std.proofs.Common.{inl}
+use Rattle.qcow2_image.proofs.Common.{Bool, ◌∙◌, List, ℕ, Result, sym, ap, subst, IfErr, IfErr-weaker, byte_at, header, with_tables_of, HeaderFields, contents_in, ImageError, handed_on, is_writable, MayFail, MayFailToInvalidate, IsReasonAgainstPlaces, IsReasonAgainstReading, IsReasonAgainstTables, Qcow2, always_ok}
 use Rattle.qcow2_image.proofs.Lemmas.{keeps_then, counted_since, faults_then, same_places, kept_then, on_refused, on_refused_map}
 use Rattle.qcow2_image.proofs.Invalidate.Calls.{anew_then, as_stored, honest_places, anew_dropped, anew_places, kept_dropped, kept_places, none_held_then, on_both, places_for, places_reason, silent_places, tables_reason}
 use Rattle.qcow2_image.proofs.image.Qcow2.drop_and_read.Goals as goal
@@ -102,4 +103,4 @@ returns-clause-fails g c =
     let view = g.S.Storage.view in
     let below = g.F.BackingDisk.backing in
     let first = faults_then view below c.args.self.now c.drop_cached.new.self c.read_places.new.self c.in_ok-drop_cached.ensures.fails.faults.told c.in_ok-places.ensures.fails.faults.told in
-    record { faults = counted_since view below c.args.self.now c.read_places.new.self c.replace_tables.new.self c.replace_tables.result first c.replace_tables.ensures.fails.faults; cause = c.replace_tables.ensures.fails.cause }
+    record { faults = counted_since view below c.args.self.now c.read_places.new.self c.replace_tables.new.self c.replace_tables.result first c.replace_tables.ensures.fails.faults; cause = IfErr-weaker c.replace_tables.result MayFail MayFailToInvalidate (λ e met. inl met) c.replace_tables.ensures.fails.cause }

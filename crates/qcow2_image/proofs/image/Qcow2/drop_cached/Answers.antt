@@ -1,6 +1,6 @@
-use Rattle.qcow2_image.proofs.Common.{◌∙◌, List, Option, Result, Some, refl, sym, ap, subst, rules, IfErr, option_map, LeavesPinned, kept_same, EntryTableView, Allocator, ClustersToFreeEntry, ImageError, ImageFile, handed_on, notes_of_marks, notes_then, leaked_by, IsReasonAgainstReading, InternalStep, Qcow2}
+use Rattle.qcow2_image.proofs.Common.{◌∙◌, Err, List, Option, Result, Some, refl, sym, ap, subst, rules, IfErr, option_map, IsOfPrepared, LeavesPinned, kept_same, EntryTableView, Allocator, ClustersToFreeEntry, ImageError, ImageFile, handed_on, notes_of_marks, notes_then, leaked_by, IsReasonAgainstReading, InternalStep, Qcow2}
 use Rattle.qcow2_image.proofs.Lemmas.{behind_by, behind_tables, behind_then, keeps_then}
-use Rattle.qcow2_image.proofs.Invalidate.Dropped.{anew_moved, behind_dropped, dropped_moved, holds_none, left_none, no_entries, rests_there, unmodified_l2, unmodified_rb, why_blocks, why_left}
+use Rattle.qcow2_image.proofs.Invalidate.Dropped.{anew_moved, behind_dropped, dropped_moved, holds_none, left_none, left_prepared, no_entries, rests_there, unmodified_l2, unmodified_rb, why_blocks, why_left}
 use Rattle.qcow2_image.proofs.image.Qcow2.drop_cached.Goals as goal
 
 pub returns-in_err-invalidate_l2-clause-why : goal.returns-in_err-invalidate_l2-clause-why
@@ -138,3 +138,25 @@ returns-clause-rest g c =
       leaks = refl;
       unmodified = λ all. unmodified_rb c.invalidate_l2.new.self c.invalidate_rb.new.self c.invalidate_rb.result rb.left rb.tables (unmodified_l2 old.file.caches c.invalidate_l2.new.self c.invalidate_l2.result l2.left l2.blocks all);
     }
+
+pub returns-in_err-invalidate_l2-clause-fails : goal.returns-in_err-invalidate_l2-clause-fails
+returns-in_err-invalidate_l2-clause-fails g c =
+    let old = c.args.self.now in
+    let e = c.in_err-invalidate_l2.field-0.0 in
+    record {
+      faults = search rules;
+      cause = handed_on (λ (r : Result _ ImageError). IfErr r IsOfPrepared) c.from_residual.result e c.from_residual.ensures
+          (left_prepared old.file.caches.l2.entries c.invalidate_l2.new.self.l2.entries (Err e) (subst (λ (r : Result _ ImageError). LeavesPinned old.file.caches.l2.entries r c.invalidate_l2.new.self.l2.entries) c.in_err-invalidate_l2.was c.invalidate_l2.ensures.left));
+    }
+
+pub returns-in-Some-clause-fails : goal.returns-in-Some-clause-fails
+returns-in-Some-clause-fails g c = record {
+  faults = search rules;
+  cause = left_prepared c.invalidate_l2.new.self.rb.entries c.invalidate_rb_cache.new.file.caches.rb.entries c.invalidate_rb_cache.result c.invalidate_rb_cache.ensures.left;
+}
+
+pub returns-clause-fails : goal.returns-clause-fails
+returns-clause-fails g c = record {
+  faults = search rules;
+  cause = left_prepared c.invalidate_l2.new.self.rb.entries c.invalidate_rb.new.self.rb.entries c.invalidate_rb.result c.invalidate_rb.ensures.left;
+}

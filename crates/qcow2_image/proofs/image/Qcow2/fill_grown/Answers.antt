@@ -2,7 +2,7 @@ use Rattle.qcow2_image.proofs.Lemmas.{other_limit, fault_unlimited, step_then, m
 use Rattle.qcow2_image.proofs.image.Qcow2.fill_grown.Goals as goal
 use Rattle.qcow2_image.proofs.Common.{◌∙◌, ap, subst, sym, Err, inl, inr, IsTrue, Version, cluster_size, rounded_up, Qcow2, known_in}
 use Rattle.qcow2_image.proofs.Call.Fails.{fails_freed}
-use Rattle.qcow2_image.proofs.Preallocate.FreedBehind.{grown_freed, grown_left, grown_told, same_refusal}
+use Rattle.qcow2_image.proofs.Preallocate.FreedBehind.{grow_told, grown_freed, grown_left, grown_told, same_refusal, taken_told}
 
 pub returns-in-Err-clause-version : goal.returns-in-Err-clause-version
 returns-in-Err-clause-version g c = λ none zero low.
@@ -32,7 +32,7 @@ returns-in-Err-clause-sound g c = λ out sound.
           let size = c.args.size in
           record {
             left = grown_freed view below out old mid new size c.args.mode c.in-Err.refusal c.process_free_list_after.result refused.left c.process_free_list_after.ensures.refused.fault (c.process_free_list_after.ensures.frees out);
-            taken = λ is. refused.taken (c.process_free_list_after.ensures.refused.taken c.in-Err.ensures.fails.cause is);
+            taken = λ is. refused.taken (taken_told c.in-Err.refusal c.process_free_list_after.result c.process_free_list_after.ensures.told.0 is);
             limit = λ is. elim (grown_told view below out old mid new size c.args.mode c.in-Err.refusal c.process_free_list_after.result refused.left c.process_free_list_after.ensures.refused.fault (c.process_free_list_after.ensures.told.1 out)) [
               | inl same ↦ refused.limit (sym same ∙ is)
               | inr fault ↦ other_limit _ c.process_free_list_after.result (fault_unlimited c.process_free_list_after.result fault) is
@@ -45,4 +45,4 @@ returns-in-Err-clause-sound g c = λ out sound.
     }
 
 pub returns-in-Err-clause-fails : goal.returns-in-Err-clause-fails
-returns-in-Err-clause-fails g c = fails_freed c.fill_behind.result c.in-Err.refusal c.process_free_list_after.result c.fill_behind.ensures.fails c.in-Err.is c.process_free_list_after.ensures.faults (c.process_free_list_after.ensures.refused.cause c.in-Err.ensures.fails.cause)
+returns-in-Err-clause-fails g c = fails_freed c.fill_behind.result c.in-Err.refusal c.process_free_list_after.result c.fill_behind.ensures.fails c.in-Err.is c.process_free_list_after.ensures.faults (grow_told c.args.mode c.in-Err.refusal c.process_free_list_after.result c.in-Err.ensures.fails.cause c.process_free_list_after.ensures.told.0)

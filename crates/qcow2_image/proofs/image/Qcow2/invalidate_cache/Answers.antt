@@ -1,5 +1,5 @@
 use Rattle.std.proofs.Common.{◌≡◌, ◌∙◌, true, false, [], Result, sym, ap, subst, IfErr, IsErrAnd}
-use Rattle.qcow2_image.proofs.Common.{OnErr, IfErr-weaker, IsSame, IsFault, AnswersCall, is_failed, pending_in, RespectsPrepared, IsOfPrepared, IsReasonAgainstReading, IsStillInUse, KeepsTables, reftable_in, MayFail, Qcow2, HasPinnedMapping}
+use Rattle.qcow2_image.proofs.Common.{OnErr, IfErr-weaker, IsSame, IsFault, AnswersCall, is_failed, pending_in, RespectsPrepared, IsOfPrepared, IsReasonAgainstReading, IsStillInUse, KeepsTables, reftable_in, MayFailToInvalidate, Qcow2, HasPinnedMapping}
 use Rattle.qcow2_image.proofs.Lemmas.{some_prepared, table_prepared, keeps_then, told_answers, tells_quietly, may_mark, if_ok_any, on_refused_map}
 use Rattle.qcow2_image.proofs.Invalidate.Calls.{heeds_all, heeds_begun, reading_fault, rests_begun, told_in_use, why_begun}
 use Rattle.qcow2_image.proofs.image.Qcow2.invalidate_cache.Goals as goal
@@ -21,7 +21,7 @@ returns-clause-fails g c =
         l1_table = ap (λ (i : Qcow2 _ _). i.l1_table) c.mark_failure.ensures.rest ∙ kept.l1_table ∙ ap (λ (i : Qcow2 _ _). i.l1_table) c.begin_call.ensures.rest;
         reftable = ap (λ (i : Qcow2 _ _). reftable_in i) c.mark_failure.ensures.rest ∙ kept.reftable ∙ ap (λ (i : Qcow2 _ _). reftable_in i) c.begin_call.ensures.rest;
       }) c.drop_and_read-done.ensures.kept);
-      cause = λ _. subst (λ (x : Result _ _). IfErr x MayFail) answer c.drop_and_read-done.ensures.fails.cause;
+      cause = λ _. subst (λ (x : Result _ _). IfErr x MayFailToInvalidate) answer c.drop_and_read-done.ensures.fails.cause;
       prepared = λ _. subst (λ (x : Result _ _). RespectsPrepared old x) answer (heeds_begun view old begun c.begin_call.ensures.begun r c.drop_and_read-done.ensures.prepared);
       why =
           λ _ honest.

@@ -3,9 +3,8 @@ use Rattle.qcow2_image.proofs.Common.{byte_at, nothing_pending, surplus_of, Imag
 use Rattle.qcow2_image.proofs.Open.Left.{left_loaded, left_opened, left_refused}
 use Rattle.qcow2_image.proofs.Open.Opening.{new_tables_new, opened, kept_loaded, kept_opened, named_still}
 use Rattle.qcow2_alloc.specs.declared.error.ImageError.TheVariants as I
-use Rattle.qcow2_image.proofs.Call.FailingErrors.{metadata_met}
 use Rattle.qcow2_image.proofs.Open.Reading.{header_refused, needs_so, opened_rightly, refused_rightly}
-use Rattle.qcow2_image.proofs.Open.SameHeaders.{not_missing, not_needed, refused_before, some_missing, stays_so}
+use Rattle.qcow2_image.proofs.Open.SameHeaders.{metadata_not_missing, not_missing, not_needed, refused_before, some_missing, stays_so}
 use Rattle.qcow2_alloc.specs.ImageFile.{l2_pins}
 use Rattle.qcow2_image.proofs.image.Qcow2.open.Goals as goal
 
@@ -26,7 +25,7 @@ returns-in-Err-clause-step g c = record {
       let why = c.in-Err.ensures.refused honest in
       (subst (λ (e : ImageError). (e ≡ Dependency) ⊎ (e ≡ UnalignedTable) ⊎ IsFault e) (sym c.from.ensures) (inr (refused_before _ _ c.args.writable c.in-Err.e reads why)), stays_so view c.args.storage.storage c.args.storage.storage c.load.new.storage.storage _ c.load.result refl c.into_inner.ensures c.load.ensures.reads honest);
   cause = (
-    λ is. absurd (not_missing (of_metadata c.in-Err.e) (metadata_met c.in-Err.e) (sym c.from.ensures ∙ is)),
+    λ is. absurd (metadata_not_missing c.in-Err.e (sym c.from.ensures ∙ is)),
     λ honest.
         let view = g.S.Storage.view in
         let why = c.in-Err.ensures.refused honest in

@@ -1,5 +1,5 @@
 use Rattle.std.proofs.Common.{◌≡◌, ◌⊎◌, ◌∙◌, inl, inr, [], IfErr, length, subst, arith, rules}
-use Rattle.qcow2_image.proofs.Common.{cases_lt, not_compressed, storage, known_in, handed_on, NotCompressed, Memory, MayFail, FailsOnceWritten, err_as, IsCacheHeld, MayFailLooking}
+use Rattle.qcow2_image.proofs.Common.{cases_lt, not_compressed, storage, known_in, handed_on, NotCompressed, Memory, MayFailToRead, FailsOnceWritten, err_as, IsCacheHeld, MayFailLooking}
 use Rattle.qcow2_alloc.specs.declared.error.ImageError.TheVariants.{Compressed}
 use Rattle.qcow2_image.specs.SpecialReads.{ReportsCompressed}
 use Rattle.qcow2_image.proofs.Call.Answers.{answers_err}
@@ -15,7 +15,7 @@ returns-in_err-try_readv_special-clause-sound g c = λ out sound.
       may_fail = hands_met (λ e. MayFailLooking (IsCacheHeld old out) e ⊎ ((e ≡ Compressed) ⊎ (e ≡ NotCompressed c.args.offset))) c.from_residual.result c.in_err-try_readv_special.field-0.0 c.from_residual.ensures
           (elim ((c.in_err-try_readv_special.ensures.sound out sound).may_fail) [ inl may_fail ↦ inl may_fail | inr compressed ↦ inr (inl compressed) ]);
       reports = λ some. handed_on (λ r. IfErr r (ReportsCompressed (known_in view old.file) c.args.offset)) c.from_residual.result c.in_err-try_readv_special.field-0.0 c.from_residual.ensures
-          ((c.in_err-try_readv_special.ensures.sound out sound).reports some, λ is. absurd (subst MayFail is (c.in_err-try_readv_special.ensures.refusals.late (sound_is_usable view g.F.BackingDisk.backing old out sound))));
+          ((c.in_err-try_readv_special.ensures.sound out sound).reports some, λ is. absurd (subst MayFailToRead is (c.in_err-try_readv_special.ensures.refusals.late (sound_is_usable view g.F.BackingDisk.backing old out sound))));
     }
 
 pub returns-in-Some-clause-sound : goal.returns-in-Some-clause-sound
