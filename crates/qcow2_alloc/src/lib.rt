@@ -17,7 +17,7 @@ mod reftable_growth;
 mod reftable_length;
 mod reftable_naming;
 mod spared_clusters;
-pub mod table_cache;
+mod table_cache;
 mod used_clusters;
 
 pub use allocation::Allocator;
