@@ -14,6 +14,7 @@ from promises import read
 LIST = "must-fail/wrong_bodies.md"
 START = re.compile(r"\s*(pub(\([^)]*\))? )?fn ")
 BLOCK = re.compile(r"(pub(\([^)]*\))? )?(impl|trait)\b")
+PUBLIC = re.compile(r"^pub (?:mod|struct|enum|trait|const|fn|use \w+(?:::\w+)*::) ?(\w+|\{[^}]*\})", re.MULTILINE)
 OF_A_TRAIT = re.compile(r"\btrait\b|\bfor\s+(?!<)")
 
 
@@ -94,9 +95,16 @@ class WrongBody:
         """Whether its function can be copied: a method of a trait or of its impl can't, and neither can `main`."""
         return self.own_name() != "main" and not self.is_of_a_trait(text)
 
-    def is_public(self, text):
-        """Whether its function is called by other crates: it is public, or a method of a trait or of its impl."""
-        return text.split("\n")[self.first(text)].lstrip().startswith("pub fn ") or self.is_of_a_trait(text)
+    def is_public(self, text, root):
+        """Whether its function is called by other crates, whose root this is: it is a method of a trait or of its impl, or public where the root has its module or passes its type on."""
+        is_pub = text.split("\n")[self.first(text)].lstrip().startswith("pub fn ")
+        return self.is_of_a_trait(text) or is_pub and any(it in passed_on(root) for it in self.function.split("::"))
+
+
+@lru_cache
+def passed_on(root):
+    """The names that a library's root makes public: of its modules, types and functions, and of those that it passes on from others. A program has none."""
+    return {name for line in PUBLIC.findall(root) for name in re.findall(r"\w+", line)}
 
 
 def bodies_of(folder):

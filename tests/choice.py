@@ -123,9 +123,10 @@ def touched(root, crates):
 
 def firsts(crate, bodies, named):
     """The names of the first wrong body of each public function and of each method of a trait's impl, but for the functions of which a page names one."""
-    first = {}
+    first, root = {}, f"{crate.folder}/src/lib.rt"
+    of_root = text_of(root) if os.path.isfile(root) else ""
     for body in bodies:
-        if body.is_public(text_of(f"{crate.folder}/{body.file}")):
+        if body.is_public(text_of(f"{crate.folder}/{body.file}"), of_root):
             first.setdefault(body.function, body.name)
     has_one = {it.function for it in bodies if it.name in named}
     return {name for function, name in first.items() if function not in has_one}
