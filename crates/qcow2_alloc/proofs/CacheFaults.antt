@@ -2,10 +2,9 @@
 use Rattle.std.proofs.Common.{◌≡◌, ◌≤◌, ◌∷◌, ℕ, Bool, true, false, List, [], Option, Some, None, Result, Ok, Err, ⊎_elim, ap, sym, ◌∙◌, subst, arith}
 use Rattle.qcow2_alloc.proofs.Common.{option_or, Rose, rose_since, rose_still, Slot, CacheError, InUse, StillInUse, Memory, Backend, Steps, Unit₀, FlushesEntry, FlushesAll, Flushes, Replaces, HasRoomForEntry, HasNoRoom, InsertsNew, GetsNew, Evicts}
 
-module _ {S K V E : Type 0} (steps : Steps S K V E) (faults : S → ℕ) (IsFault IsAmong : E → Type 0) where
+module _ {S K V E : Type 0} (steps : Steps S K V E) (faults : S → ℕ) (IsFault : E → Type 0) where
   -- a failure with this error, where there was one, raised the number
   pub record Fails (s : S) (x : E) (t : S) : Type 0 where
-    pub among : IsAmong x
     pub no_fewer : faults s ≤ faults t
     pub rose : IsFault x → Rose (faults s) (faults t)
 
@@ -44,7 +43,6 @@ module _ {S K V E : Type 0} (steps : Steps S K V E) (faults : S → ℕ) (IsFaul
   module _ (counts : CountsFaults) where
     fails_after : (s r t : S) (x : E) → faults r ≡ faults s → Fails r x t → Fails s x t
     fails_after s r t x same f = record {
-      among = f.among;
       no_fewer = omega (arith, same, f.no_fewer);
       rose = λ h. rose_since (faults s) (faults r) (faults t) (omega (arith, same)) (f.rose h);
     }
@@ -54,7 +52,6 @@ module _ {S K V E : Type 0} (steps : Steps S K V E) (faults : S → ℕ) (IsFaul
 
     fails_before : (s r t : S) (x : E) → Fails s x r → faults r ≤ faults t → Fails s x t
     fails_before s r t x f le = record {
-      among = f.among;
       no_fewer = omega (arith, f.no_fewer);
       rose = λ h. rose_still (faults s) (faults r) (faults t) (f.rose h) le;
     }

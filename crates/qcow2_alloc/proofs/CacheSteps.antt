@@ -1,15 +1,16 @@
 -- How steps of the caches compose, and how one cache call is such a step.
-use Rattle.std.proofs.Common.{◌≡◌, ◌≢◌, ℕ, Bool, true, eqb, List, Option, Some, Result, Ok, Err, IsErr, IsErrAnd, IsSome, refl, sym, ◌∙◌, subst, IfSome, IsFalse}
-use Rattle.qcow2_alloc.proofs.Common.{IsNone, keys_of, lookup, lookup_entry, remove_entry, IsDistinct, promoted, StorageView, MetadataError, byte_at, L2TableView, RefBlockView, HeaderFields, Pending, MayTurn, AreClean, BlocksMayGo, TablesMayGo, CacheError, L2CacheBackend, RefBlockCacheBackend, MetadataCaches, ImageError, ImageStorage, Cache, KeepsPins, OthersStay, with_entries, Unit₀, Flushes, GetsNew, InsertsNew, Replaces, TablesGo, BlocksGo, CacheStep, TurnStep, LoadStep, PutStep, HeldStep, KeepsSoundly, PutsSoundly, KeepsL2Written, of_cache, IsOfTables, storage_of, KeepsNotes, order, order_of, l2_tables, refblocks, known_of, CacheInvariant, err_of, FailsFor, l2_steps, rb_steps}
+use Rattle.std.proofs.Common.{◌≡◌, ◌≢◌, ◌⊎◌, inr, ℕ, Bool, true, eqb, List, Option, Some, Result, Ok, Err, IsErr, IsErrAnd, IsSome, refl, sym, ◌∙◌, subst, IfSome, IsFalse}
+use Rattle.qcow2_alloc.proofs.Common.{IsNone, keys_of, lookup, lookup_entry, remove_entry, IsDistinct, promoted, StorageView, MetadataError, byte_at, L2TableView, RefBlockView, HeaderFields, Pending, MayTurn, AreClean, BlocksMayGo, TablesMayGo, CacheError, L2CacheBackend, RefBlockCacheBackend, MetadataCaches, ImageError, ImageStorage, Cache, KeepsPins, OthersStay, with_entries, Unit₀, Flushes, GetsNew, InsertsNew, Replaces, TablesGo, BlocksGo, CacheStep, TurnStep, LoadStep, PutStep, HeldStep, KeepsSoundly, PutsSoundly, KeepsL2Written, of_cache, IsFaultOr, IsOfTables, storage_of, KeepsNotes, order, order_of, l2_tables, refblocks, known_of, CacheInvariant, err_of, FailsFor, l2_steps, rb_steps}
 use Rattle.qcow2_laws.specs.Clusters as Order
 use Rattle.qcow2_alloc.specs.declared.cache.Direction.{Direction}
+use Rattle.qcow2_alloc.specs.declared.error.ImageError.TheVariants as I
 use Rattle.qcow2_alloc.proofs.CachePins.{marks_none, marks_tables, marks_blocks}
 use Rattle.qcow2_alloc.proofs.Faults.{CacheReports, cache_told}
 use Rattle.qcow2_alloc.proofs.KeptMarks.{kept_marks_none, kept_marks_then, marks_of_both}
 use Rattle.qcow2_alloc.proofs.KeptTables.AllWritten.{written_none, written_then, written_turned, tables_flushed_written, blocks_flushed_written, table_got_written, block_got_written}
 use Rattle.qcow2_alloc.proofs.KeptTables.ApartCalls.{apart_none, apart_then, apart_turned, tables_flushed_apart, blocks_flushed_apart, table_got_apart, block_got_apart, table_kept_apart, block_kept_apart}
 use Rattle.qcow2_alloc.proofs.KeptTables.BehindHeader.{caches_none, caches_then, turned_behind, tables_flushed_behind, blocks_flushed_behind, table_got_behind, block_got_behind, table_put_behind, block_put_behind}
-use Rattle.qcow2_alloc.proofs.KeptTables.Causes.{given_err}
+use Rattle.qcow2_alloc.proofs.KeptTables.Causes.{given_err, fits_less, fault_or_of_tables, in_use_of_tables}
 use Rattle.qcow2_alloc.proofs.KeptTables.Clean.{blocks_go, tables_go}
 use Rattle.qcow2_alloc.proofs.KeptTables.Fetching.{table_got, block_got}
 use Rattle.qcow2_alloc.proofs.KeptTables.Flushing.{tables_flushed, blocks_flushed}
@@ -18,7 +19,7 @@ use Rattle.qcow2_alloc.proofs.KeptTables.Switching.{keep_none, keep_then, keep_t
 use Rattle.qcow2_alloc.proofs.KeptTables.Putting.{table_kept}
 use Rattle.qcow2_alloc.proofs.KeptTables.PuttingBlocks.{block_kept}
 use Rattle.qcow2_alloc.proofs.Outcomes.{on_err, on_no_ok}
-use Rattle.qcow2_alloc.proofs.Steps.{fails_of}
+use Rattle.qcow2_alloc.proofs.Steps.{fails_of, fails_as}
 
 -- a call that doesn't reach the storage, and does nothing
 pub held_none : {S : Type 0} {c : MetadataCaches S} → HeldStep c c
@@ -110,9 +111,22 @@ pub rb_not_l2 : Order.RbDependsOnL2 ≢ Order.L2DependsOnRb
 rb_not_l2 bad = absurd cc
 
 -- ---- why a call of a cache is refused, which `?` hands on
-pub fails_cache : {T A : Type 0} {before now : ℕ} (answer : Result A (CacheError ℕ MetadataError)) (e : CacheError ℕ MetadataError) (r : Result T ImageError) → CacheReports before now answer → answer ≡ Err e → IsErr r × IsErrAnd r (λ x. x ≡ of_cache e)
-    → FailsFor before now (err_of r) IsOfTables
-fails_cache {before = before} {now = now} answer e r reports is on = fails_of r (cache_told before now answer e r reports is on) (given_err r (of_cache e) IsOfTables on (reports.cause e is))
+pub fails_cache : {T A : Type 0} {Refuses : ImageError → Type 0} {before now : ℕ} (answer : Result A (CacheError ℕ MetadataError)) (e : CacheError ℕ MetadataError) (r : Result T ImageError) → CacheReports before now answer → answer ≡ Err e
+    → IsErr r × IsErrAnd r (λ x. x ≡ of_cache e) → Refuses (of_cache e) → FailsFor before now (err_of r) Refuses
+fails_cache {Refuses = Refuses} {before = before} {now = now} answer e r reports is on cause = fails_of r (cache_told before now answer e r reports is on) (given_err r (of_cache e) Refuses on cause)
+
+-- with less in the way, and among the refusals of tables
+pub fails_less : {P Q : Type 0} {before now : ℕ} {r : Option ImageError} → (Q → P) → FailsFor before now r (IsFaultOr (¬ P)) → FailsFor before now r (IsFaultOr (¬ Q))
+fails_less {P} {Q} less fails = fails_as (λ e. fits_less P Q e less) fails
+
+pub fails_putting : {Full P Q : Type 0} {before now : ℕ} {r : Option ImageError} → (Q → P) → FailsFor before now r (IsFaultOr (¬ P)) → FailsFor before now r (λ e. ((e ≡ I.InUse) × Full) ⊎ IsFaultOr (¬ Q) e)
+fails_putting {Full} {P} {Q} less fails = fails_as (λ e is. inr (fits_less P Q e less is)) fails
+
+pub fails_of_tables : {P : Type 0} {before now : ℕ} {r : Option ImageError} → FailsFor before now r (IsFaultOr P) → FailsFor before now r IsOfTables
+fails_of_tables {P} fails = fails_as (fault_or_of_tables P) fails
+
+pub loads_of_tables : {Full P : Type 0} {before now : ℕ} {r : Option ImageError} → FailsFor before now r (λ e. ((e ≡ I.InUse) × Full) ⊎ IsFaultOr P e) → FailsFor before now r IsOfTables
+loads_of_tables {Full} {P} fails = fails_as (in_use_of_tables Full P) fails
 
 -- ---- a call of one cache
 abbrev seen_by : {S : Type 0} → (S → StorageView) → ImageStorage S → StorageView

@@ -30,6 +30,7 @@ pub use Rattle.qcow2_alloc.specs.ApartCaches.{ChangesTableApart, ChangesBlockApa
 pub use Rattle.qcow2_alloc.specs.AsyncLruCache.{Cache, slot_of, value_at, set_at, pins_at, pin_at, unpin_at, with_entries, KeepsPins, OthersStay, IsInFront, pinned, is_pinned, oldest_free, can_remove, cache_of, can_pin, can_unpin, OnlyOldestGoes, KeepsOthers}
 pub use Rattle.qcow2_alloc.specs.AsyncLruCacheBackend.{Steps, IsLawful, KeepsBytes, value_laid_over, known_under_key, KeepsKnown, OverlaysBytes}
 pub use Rattle.qcow2_alloc.specs.CacheAnswers.{Unit₀, FlushesEntry, FlushesAll, Flushes, Replaces, HasRoomForEntry, HasNoRoom, InsertsNew, GetsNew, Evicts, FlushesKey, MustEvict, FailsToEvict, MakesRoom, Invalidates}
+pub use Rattle.qcow2_alloc.specs.CacheCauses.{TablesFit, BlocksFit, AllFit, AreBlocksPinned, MayFailInsertingL2, MayFailInsertingRb, MayFailLoadingL2, MayFailLoadingRb}
 pub use Rattle.qcow2_alloc.specs.CachePins.{KeepsPinsAndNotes, CachesHaveRoom, IsInUseOrFault, l2_pins, SameTables, SetsPins, AreAllPinned, LeavesPinned}
 pub use Rattle.qcow2_alloc.specs.CacheSteps.{HeldStep, KeepsSoundly, TablesGo, BlocksGo, CacheStep, TurnStep, LoadStep, PutStep, PutsSoundly, KeepsL2Written}
 pub use Rattle.qcow2_alloc.specs.CachedEntries.{FlushesFound}
@@ -41,14 +42,14 @@ pub use Rattle.qcow2_alloc.specs.FreeSteps.{FreesListed}
 pub use Rattle.qcow2_alloc.specs.Growing.{IsLeastLength, IsCloneOf, IsLongEnough}
 pub use Rattle.qcow2_alloc.specs.GrownTables.{named_by_reftable_entries, counted_run, with_run, without_reftable, NamesReftable, EntersReftable, StandsGrown, reftable_at, IsGrown}
 pub use Rattle.qcow2_alloc.specs.HeaderClusters.{IsInHeaderCluster, BytesStay, KeepsHeaderCluster, SameAt, IsBesidePointer}
-pub use Rattle.qcow2_alloc.specs.ImageError.{of_storage, IsFault, of_cache, IsOfReftableLoad, IsOfTables, of_metadata}
+pub use Rattle.qcow2_alloc.specs.ImageError.{of_storage, IsFault, IsFaultOr, of_cache, IsOfReftableLoad, IsOfTables, of_metadata}
 pub use Rattle.qcow2_alloc.specs.ImageFile.{view_in, contents_in, known_in, FileInvariant, AllocatorInvariant, HasReftable, RefusedFileStep, pending_at, nothing_given, state_in, InternalFileStep, InternalFileGrowth, InterruptedFileStep, KeepsHeader}
 pub use Rattle.qcow2_alloc.specs.ImageStorage.{storage_of, met_fault_of, is_changed_of, RecordsWrite, SameNotes, WritesPlaced, changes_of, RecordsFault}
 pub use Rattle.qcow2_alloc.specs.KeptMarks.{KeepMarks, KeepNotes, KeepsMarks}
 pub use Rattle.qcow2_alloc.specs.KeptNotes.{KeepsNotes, kept_then, kept_same}
 pub use Rattle.qcow2_alloc.specs.KeptTables.{cached_table, cached_tables, AllValuesFit, IsSafeSince, AreElsewhere, AreLoaded, AreKept, IsCurrent, IsInOrderSince}
 pub use Rattle.qcow2_alloc.specs.Leaks.{LeaksOne, LeaksUnaligned, IsDecremented, TriesToDecrement, is_unaligned, unaligned_below}
-pub use Rattle.qcow2_alloc.specs.Limits.{nameable_clusters, HasNoRoomBelow, HasNoRoomFor, CantGrow, LiesLowest, IsFaultOr, CantCount, HasNoPlace, IsLowestRoom, IsFull, IsPastLimits, CantCountRun}
+pub use Rattle.qcow2_alloc.specs.Limits.{nameable_clusters, HasNoRoomBelow, HasNoRoomFor, CantGrow, LiesLowest, CantCount, HasNoPlace, IsLowestRoom, IsFull, IsPastLimits, CantCountRun}
 pub use Rattle.qcow2_alloc.specs.LoadedTables.{HasUnreadEntry, IsReasonAgainst, EntriesRead, IsReasonAgainstReftable, ReftableReads}
 pub use Rattle.qcow2_alloc.specs.LowestRuns.{IsUsed, KeepsUsed, IsPassed, SearchStays, IsLowestRun, NoFreeBelowHint, KeepsNoFreeBelowHint, BrokeOff, IsCovered, StaysUsed, KeepsUsedBut, SearchesAnew, KeepsRuns, NoCluster, PassesNoOthers}
 pub use Rattle.qcow2_alloc.specs.MadeClusters.{IsAllocatedMetadata, IsMadeInTurn, listed_at, run_in, AllocatesOnly, IsOfNewRefblock, IsOfReftable, IsListedSince, CountsListed, ListsUsed}

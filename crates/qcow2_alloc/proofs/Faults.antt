@@ -1,12 +1,11 @@
 -- Which calls count a failure of the image's storage, and how such calls compose.
 use Rattle.std.proofs.Common.{◌≡◌, ◌≢◌, ◌≤◌, ℕ, Bool, true, false, eqb, inl, inr, List, Option, Some, None, Result, Ok, Err, IsErr, IsErrAnd, IsSome, refl, sym, ap, ◌∙◌, subst, arith, IfSome}
-use Rattle.qcow2_alloc.proofs.Common.{IsNone, lookup, lookup_entry, remove_entry, promoted, IsErrOf, StorageView, HasCause, Rose, UnlessErr, StorageError, storage_result, MetadataError, CacheError, Slot, ImageError, Steps, Unit₀, Flushes, GetsNew, InsertsNew, Replaces, FaultsReported, faults_of, storage_of, met_fault_of, RecordsFaults, l2_steps, rb_steps, cleared_l2, cleared_rb, IsTableOf, IsBlockOf, ImageStorage, L2TableView, RefBlockView, HeaderFields, of_storage, of_metadata, of_cache, IsTableFault, IsOfTable, IsOfTables, answer_refused, table_steps}
+use Rattle.qcow2_alloc.proofs.Common.{IsNone, lookup, lookup_entry, remove_entry, promoted, IsErrOf, StorageView, HasCause, Rose, UnlessErr, StorageError, storage_result, MetadataError, CacheError, Slot, ImageError, Steps, Unit₀, Flushes, GetsNew, InsertsNew, Replaces, FaultsReported, faults_of, storage_of, met_fault_of, RecordsFaults, l2_steps, rb_steps, cleared_l2, cleared_rb, IsTableOf, IsBlockOf, ImageStorage, L2TableView, RefBlockView, HeaderFields, of_storage, of_metadata, of_cache, IsTableFault, answer_refused, table_steps}
 use Rattle.image_access.specs.declared.error.StorageError.TheVariants as S
 use Rattle.qcow2_metadata.specs.declared.error.MetadataError.TheVariants as M
 use Rattle.qcow2_alloc.specs.declared.async_lru_cache.error.CacheError.TheVariants as C
 use Rattle.qcow2_alloc.specs.declared.error.ImageError.TheVariants as I
 use Rattle.qcow2_alloc.proofs.CacheFaults as F
-use Rattle.qcow2_alloc.proofs.TableErrors.{table_of_tables}
 use Rattle.qcow2_alloc.proofs.KeptTables.Fetching.{none_or_some}
 use Rattle.qcow2_alloc.proofs.KeptTables.Inserting.{found_or_not, lookup_none}
 
@@ -54,13 +53,11 @@ metadata_told A M.Format is = absurd (cc)
 pub record FlushReports {A : Type 0} (before now : ℕ) (answer : Result A (CacheError ℕ MetadataError)) : Type 0 where
   pub no_fewer : before ≤ now
   pub rose : (e : CacheError ℕ MetadataError) → answer ≡ Err e → of_cache e ≡ I.Storage → Rose before now
-  pub cause : (e : CacheError ℕ MetadataError) → answer ≡ Err e → IsOfTables (of_cache e)
   pub same : (x : A) → answer ≡ Ok x → now ≡ before
 
 pub record CacheReports {A : Type 0} (before now : ℕ) (answer : Result A (CacheError ℕ MetadataError)) : Type 0 where
   pub no_fewer : before ≤ now
   pub rose : (e : CacheError ℕ MetadataError) → answer ≡ Err e → of_cache e ≡ I.Storage → Rose before now
-  pub cause : (e : CacheError ℕ MetadataError) → answer ≡ Err e → IsOfTables (of_cache e)
   pub same : (x : A) → answer ≡ Ok x → now ≡ before
   pub stays : (e : CacheError ℕ MetadataError) → answer ≡ Err e → of_cache e ≢ I.Storage → now ≡ before
 
@@ -76,78 +73,70 @@ module _ {S V : Type 0} (view : S → StorageView) (bits : ℕ) (bytes : V → L
   abbrev faults : S → ℕ
   faults s = (view s).faults
 
-  once : (s t : S) (x : MetadataError) → IsOfTable x → HasCause (faults s) (faults t) (answer_refused x) → F.FailsOnce steps faults IsTableFault IsOfTable s x t
-  once s t x among cause = record { fails = record { among = among; no_fewer = cause.no_fewer; rose = cause.fault }; stays = unless_fault (answer_refused x) (faults t ≡ faults s) cause.told }
+  once : (s t : S) (x : MetadataError) → HasCause (faults s) (faults t) (answer_refused x) → F.FailsOnce steps faults IsTableFault s x t
+  once s t x cause = record { fails = record { no_fewer = cause.no_fewer; rose = cause.fault }; stays = unless_fault (answer_refused x) (faults t ≡ faults s) cause.told }
 
-  counts : F.CountsFaults steps faults IsTableFault IsOfTable
+  counts : F.CountsFaults steps faults IsTableFault
   counts = record {
     loaded = λ s t k v h. h.calls.cause.told;
-    load_failed = λ s t k x h. once s t x h.among h.calls.cause;
+    load_failed = λ s t k x h. once s t x h.calls.cause;
     flushed = λ s t k v w h. h.calls.cause.told;
-    flush_failed = λ s t k v x h. once s t x h.among h.calls.cause;
+    flush_failed = λ s t k v x h. once s t x h.calls.cause;
   }
 
   -- an answer that isn't a failure leaves the number, whatever failures tell
   module _ (Told : S → MetadataError → S → Type 0) (A : Type 0) (s t : S) (fewer : (x : MetadataError) → Told s x t → faults s ≤ faults t) (raises : (x : MetadataError) → Told s x t → IsTableFault x → Rose (faults s) (faults t)) where
-    fewest : (answer : Result A (CacheError ℕ MetadataError)) → F.AnswersBy steps faults IsTableFault IsOfTable Told s answer t → faults s ≤ faults t
+    fewest : (answer : Result A (CacheError ℕ MetadataError)) → F.AnswersBy steps faults IsTableFault Told s answer t → faults s ≤ faults t
     fewest (Ok _) told = omega (arith, told)
     fewest (Err C.InUse) told = omega (arith, told)
     fewest (Err (C.StillInUse _)) told = absurd told
     fewest (Err C.Memory) told = omega (arith, told)
     fewest (Err (C.Backend x)) told = fewer x told
 
-    raised : (e : CacheError ℕ MetadataError) → F.AnswersBy steps faults IsTableFault IsOfTable Told {A = A} s (Err e) t → of_cache e ≡ I.Storage → Rose (faults s) (faults t)
+    raised : (e : CacheError ℕ MetadataError) → F.AnswersBy steps faults IsTableFault Told {A = A} s (Err e) t → of_cache e ≡ I.Storage → Rose (faults s) (faults t)
     raised C.InUse told is = absurd (cc)
     raised (C.StillInUse _) told is = absurd told
     raised C.Memory told is = absurd (cc)
     raised (C.Backend x) told is = raises x told (metadata_fault (Unit {0}) x is)
 
-    kept : (stays : (x : MetadataError) → Told s x t → ¬ IsTableFault x → faults t ≡ faults s) (e : CacheError ℕ MetadataError) → F.AnswersBy steps faults IsTableFault IsOfTable Told {A = A} s (Err e) t → of_cache e ≢ I.Storage → faults t ≡ faults s
+    kept : (stays : (x : MetadataError) → Told s x t → ¬ IsTableFault x → faults t ≡ faults s) (e : CacheError ℕ MetadataError) → F.AnswersBy steps faults IsTableFault Told {A = A} s (Err e) t → of_cache e ≢ I.Storage → faults t ≡ faults s
     kept stays C.InUse told other = told
     kept stays (C.StillInUse _) told other = absurd told
     kept stays C.Memory told other = told
     kept stays (C.Backend x) told other = stays x told (λ is. other (metadata_told (Unit {0}) x is))
 
-    caused : (among : (x : MetadataError) → Told s x t → IsOfTable x) (e : CacheError ℕ MetadataError) → F.AnswersBy steps faults IsTableFault IsOfTable Told {A = A} s (Err e) t → IsOfTables (of_cache e)
-    caused among C.InUse told = tt
-    caused among (C.StillInUse _) told = absurd told
-    caused among C.Memory told = tt
-    caused among (C.Backend x) told = table_of_tables x (among x told)
-
-  reports : {A : Type 0} (s t : S) (answer : Result A (CacheError ℕ MetadataError)) → F.Answers steps faults IsTableFault IsOfTable s answer t → CacheReports (faults s) (faults t) answer
+  reports : {A : Type 0} (s t : S) (answer : Result A (CacheError ℕ MetadataError)) → F.Answers steps faults IsTableFault s answer t → CacheReports (faults s) (faults t) answer
   reports {A = A} s t answer told =
-      let fewer = λ (x : MetadataError) (f : F.FailsOnce steps faults IsTableFault IsOfTable s x t). f.fails.no_fewer in
-      let raises = λ (x : MetadataError) (f : F.FailsOnce steps faults IsTableFault IsOfTable s x t). f.fails.rose in
+      let fewer = λ (x : MetadataError) (f : F.FailsOnce steps faults IsTableFault s x t). f.fails.no_fewer in
+      let raises = λ (x : MetadataError) (f : F.FailsOnce steps faults IsTableFault s x t). f.fails.rose in
       record {
-        no_fewer = fewest (F.FailsOnce steps faults IsTableFault IsOfTable) A s t fewer raises answer told;
-        rose = λ e is. raised (F.FailsOnce steps faults IsTableFault IsOfTable) A s t fewer raises e (subst (λ a. F.Answers steps faults IsTableFault IsOfTable s a t) is told);
-        cause = λ e is. caused (F.FailsOnce steps faults IsTableFault IsOfTable) A s t fewer raises (λ x f. f.fails.among) e (subst (λ a. F.Answers steps faults IsTableFault IsOfTable s a t) is told);
-        same = λ x is. subst (λ a. F.Answers steps faults IsTableFault IsOfTable s a t) is told;
-        stays = λ e is. kept (F.FailsOnce steps faults IsTableFault IsOfTable) A s t fewer raises (λ x f. f.stays) e (subst (λ a. F.Answers steps faults IsTableFault IsOfTable s a t) is told);
+        no_fewer = fewest (F.FailsOnce steps faults IsTableFault) A s t fewer raises answer told;
+        rose = λ e is. raised (F.FailsOnce steps faults IsTableFault) A s t fewer raises e (subst (λ a. F.Answers steps faults IsTableFault s a t) is told);
+        same = λ x is. subst (λ a. F.Answers steps faults IsTableFault s a t) is told;
+        stays = λ e is. kept (F.FailsOnce steps faults IsTableFault) A s t fewer raises (λ x f. f.stays) e (subst (λ a. F.Answers steps faults IsTableFault s a t) is told);
       }
 
-  flush_told : {A : Type 0} (s t : S) (answer : Result A (CacheError ℕ MetadataError)) → F.FlushAnswers steps faults IsTableFault IsOfTable s answer t → FlushReports (faults s) (faults t) answer
+  flush_told : {A : Type 0} (s t : S) (answer : Result A (CacheError ℕ MetadataError)) → F.FlushAnswers steps faults IsTableFault s answer t → FlushReports (faults s) (faults t) answer
   flush_told {A = A} s t answer told =
-      let fewer = λ (x : MetadataError) (f : F.Fails steps faults IsTableFault IsOfTable s x t). f.no_fewer in
-      let raises = λ (x : MetadataError) (f : F.Fails steps faults IsTableFault IsOfTable s x t). f.rose in
+      let fewer = λ (x : MetadataError) (f : F.Fails steps faults IsTableFault s x t). f.no_fewer in
+      let raises = λ (x : MetadataError) (f : F.Fails steps faults IsTableFault s x t). f.rose in
       record {
-        no_fewer = fewest (F.Fails steps faults IsTableFault IsOfTable) A s t fewer raises answer told;
-        rose = λ e is. raised (F.Fails steps faults IsTableFault IsOfTable) A s t fewer raises e (subst (λ a. F.FlushAnswers steps faults IsTableFault IsOfTable s a t) is told);
-        cause = λ e is. caused (F.Fails steps faults IsTableFault IsOfTable) A s t fewer raises (λ x f. f.among) e (subst (λ a. F.FlushAnswers steps faults IsTableFault IsOfTable s a t) is told);
-        same = λ x is. subst (λ a. F.FlushAnswers steps faults IsTableFault IsOfTable s a t) is told;
+        no_fewer = fewest (F.Fails steps faults IsTableFault) A s t fewer raises answer told;
+        rose = λ e is. raised (F.Fails steps faults IsTableFault) A s t fewer raises e (subst (λ a. F.FlushAnswers steps faults IsTableFault s a t) is told);
+        same = λ x is. subst (λ a. F.FlushAnswers steps faults IsTableFault s a t) is told;
       }
 
   pub flush_tells : (s t : S) (es fs : List (ℕ × Slot V)) (answer : Result Unit₀ (CacheError ℕ MetadataError)) → Flushes steps s es answer t fs → FlushReports (faults s) (faults t) answer
-  flush_tells s t es fs answer h = flush_told s t answer (F.flush_answers steps faults IsTableFault IsOfTable counts s t es fs answer h)
+  flush_tells s t es fs answer h = flush_told s t answer (F.flush_answers steps faults IsTableFault counts s t es fs answer h)
 
   module _ (size : ℕ) (may_flush : Bool) (key : ℕ) (s t : S) (es fs : List (ℕ × Slot V)) (answer : Result Bool (CacheError ℕ MetadataError)) where
     still : (b : Bool) → answer ≡ Ok b → t ≡ s → CacheReports (faults s) (faults t) answer
-    still b is same = subst (λ t. CacheReports (faults s) (faults t) answer) (sym same) (record { no_fewer = omega arith; rose = λ e bad. absurd (let f = sym is ∙ bad in cc); cause = λ e bad. absurd (let f = sym is ∙ bad in cc); same = λ x is. refl; stays = λ e bad. absurd (let f = sym is ∙ bad in cc) })
+    still b is same = subst (λ t. CacheReports (faults s) (faults t) answer) (sym same) (record { no_fewer = omega arith; rose = λ e bad. absurd (let f = sym is ∙ bad in cc); same = λ x is. refl; stays = λ e bad. absurd (let f = sym is ∙ bad in cc) })
 
     pub get_tells : (IsSome (lookup (eqb key) es) → (answer ≡ Ok true) × (fs ≡ promoted (eqb key) es) × (t ≡ s)) → (IsNone (lookup (eqb key) es) → GetsNew steps eqb size may_flush key s es answer t fs) → CacheReports (faults s) (faults t) answer
     get_tells hit miss = elim (none_or_some (lookup (eqb key) es)) [
       | inl there ↦ still true (hit there).0 (hit there).2
-      | inr missing ↦ reports s t answer (F.get_answers steps faults IsTableFault IsOfTable counts eqb size may_flush s t key es fs answer (miss missing))
+      | inr missing ↦ reports s t answer (F.get_answers steps faults IsTableFault counts eqb size may_flush s t key es fs answer (miss missing))
     ]
 
     pub put_tells : (value left : Option V) (P : Type 0) → (IsNone value → (answer ≡ Ok false) × P × (t ≡ s) × (left ≡ None))
@@ -156,8 +145,8 @@ module _ {S V : Type 0} (view : S → StorageView) (bits : ℕ) (bytes : V → L
     put_tells None left P nothing there missing = still false (nothing refl).0 (nothing refl).2
     put_tells (Some v) left P nothing there missing =
         found_or_not (lookup_entry (eqb key) es)
-        (λ none. reports s t answer (F.insert_answers steps faults IsTableFault IsOfTable counts eqb size may_flush s t key v es fs left answer (missing (rw (lookup_none (eqb key) es none) refl))))
-        (λ x some. reports s t answer (F.replace_answers steps faults IsTableFault IsOfTable counts s t key x (remove_entry (eqb key) es) v may_flush es fs left answer (rw some at there)))
+        (λ none. reports s t answer (F.insert_answers steps faults IsTableFault counts eqb size may_flush s t key v es fs left answer (missing (rw (lookup_none (eqb key) es none) refl))))
+        (λ x some. reports s t answer (F.replace_answers steps faults IsTableFault counts s t key x (remove_entry (eqb key) es) v may_flush es fs left answer (rw some at there)))
 
 -- ---- those of the two caches
 module _ {S : Type 0} (view : S → StorageView) (h : HeaderFields) where

@@ -1,7 +1,7 @@
 -- The lemmas that several proofs cite, passed on from one place. Declares nothing.
 pub use Rattle.qcow2_alloc.proofs.AllocationSteps.{on_of, allocator_step_on, leaves_as, of_equal, on_none, handed_on, leaves_on, may_still, is_sound_on, takes_on, allocator_step_cached, is_sound_now, allocates_then, allocator_step_none, still_sound, allocator_step_as, still_as, place_fits, lacking_none, lacking_more, entries_entered, may_lower_still, counted_at, given_one, owed_counted, owed_has_block, named_then, named_covered, none_named, allocator_step_then, gets_then, gets_taken, none_in_memory, stands_none, gets_placed, lacking_clone, taken_one, names_refblock, fault_of_storage, table_loaded, entered_has, behind_none, entries_then, entries_less, other_range}
 pub use Rattle.qcow2_alloc.proofs.CachePins.{marks_tables, marks_blocks, marks_then}
-pub use Rattle.qcow2_alloc.proofs.CacheSteps.{cache_step_none, soundly_none, cache_step_then, soundly_then, step_in_turn, step_turned, soundly_turned, differ, l2_not_rb, neither_rb, held_none, load_step_on, load_step_then, fails_cache, l2_got_step, l2_got_soundly, put_step_as, put_step_on, put_step_then, puts_refused, keeps_written, l2_put_step, l2_kept_soundly, rb_not_l2, neither_l2, rb_got_step, rb_got_soundly, rb_put_step, rb_kept_soundly, watched_step, watched_soundly, rb_flushed_step, rb_flushed_soundly, l2_flushed_step, l2_flushed_soundly}
+pub use Rattle.qcow2_alloc.proofs.CacheSteps.{cache_step_none, soundly_none, cache_step_then, soundly_then, step_in_turn, step_turned, soundly_turned, differ, l2_not_rb, neither_rb, held_none, load_step_on, load_step_then, fails_cache, fails_less, fails_putting, fails_of_tables, loads_of_tables, l2_got_step, l2_got_soundly, put_step_as, put_step_on, put_step_then, puts_refused, keeps_written, l2_put_step, l2_kept_soundly, rb_not_l2, neither_l2, rb_got_step, rb_got_soundly, rb_put_step, rb_kept_soundly, watched_step, watched_soundly, rb_flushed_step, rb_flushed_soundly, l2_flushed_step, l2_flushed_soundly}
 pub use Rattle.qcow2_alloc.proofs.CachedEntries.Flushing.{Flushing, flushing_more, flushing_all, length_flushed, flushed_at, failed_at}
 pub use Rattle.qcow2_alloc.proofs.CachedEntries.Knowing.{lookup-promoted, removed_apart, all_keeps, flushed_entry_keeps, failed_entry_keeps, hit_keeps, gets_keeps, inserted, replaced}
 pub use Rattle.qcow2_alloc.proofs.CachedEntries.Lists.{lookup-from_entry, pinned_kept, pinned_gone, demoted_front, removed_front, set_front, lookup_front, option_or-none, length-promoted, none_of, promoted_none, entry_none, length-pinned, none_is_none}
@@ -9,7 +9,7 @@ pub use Rattle.qcow2_alloc.proofs.CachedEntries.Pins.{all_keep_pins, pins_promot
 pub use Rattle.qcow2_alloc.proofs.CachedEntries.Staying.{stays_promoted, gets_stay, stays_same, inserts_stay, replaces_stay, stays_then, values_stay}
 pub use Rattle.qcow2_alloc.proofs.ChangedTables.{changed_by, entry_apart, entry_made_so, entry_set, entry_step, entry_there, if_some_then, stays, table_stays_apart, block_stays_apart, count_after, count_apart, count_set, count_step, count_there, unchanged_by}
 pub use Rattle.qcow2_alloc.proofs.Faults.{l2_get_tells, l2_put_tells, rb_get_tells, rb_put_tells, flush_refused, told_as, rb_flush_tells, l2_flush_tells}
-pub use Rattle.qcow2_alloc.proofs.FileInvariants.{file_invariant_of}
+pub use Rattle.qcow2_alloc.proofs.FileInvariants.{file_invariant_of, file_fits}
 pub use Rattle.qcow2_alloc.proofs.FileSteps.{pending_same, one_here, leaves_then, file_step_on, on_then, on_interrupted_after, file_step_cached, reftable_cached, file_step_then, interrupted_then}
 pub use Rattle.qcow2_alloc.proofs.FormerReftables.{former_none, former_one, former_still}
 pub use Rattle.qcow2_alloc.proofs.FreedLists.{listed_stay, listed_then, run_lowered, run_stays, listed_as_well, listed_first}
@@ -22,7 +22,7 @@ pub use Rattle.qcow2_alloc.proofs.KeptRuns.{hint_kept, invariant_for, search_kep
 pub use Rattle.qcow2_alloc.proofs.KeptTables.ApartCalls.{apart_then, table_kept_apart, table_put_apart, tables_under_then, block_kept_apart, block_put_apart, blocks_under_then}
 pub use Rattle.qcow2_alloc.proofs.KeptTables.ApartOff.{tables_taken_apart, blocks_taken_apart, removed_apart_block}
 pub use Rattle.qcow2_alloc.proofs.KeptTables.BehindHeader.{tables_left_behind, blocks_left_behind, removed_behind}
-pub use Rattle.qcow2_alloc.proofs.KeptTables.Causes.{given_err, in_use_as, not_fetched, table_load_refused, not_put, table_put_refused, block_load_refused, block_put_refused, blocks_flush_refused, tables_flush_refused}
+pub use Rattle.qcow2_alloc.proofs.KeptTables.Causes.{given_err, not_fetched, table_load_refused, not_put, table_put_refused, block_load_refused, block_put_refused, blocks_flush_refused, tables_flush_refused, tables_fit_as, blocks_fit_as, table_load_as, table_put_as, block_load_as, block_put_as, tables_fit, all_fit, rb_place, fault_alone, faults_alone, block_alone}
 pub use Rattle.qcow2_alloc.proofs.KeptTables.Changing.{still_new_data}
 pub use Rattle.qcow2_alloc.proofs.KeptTables.Clean.{tables_as, table_put_clean, clean_as, flush_clean, flush_free}
 pub use Rattle.qcow2_alloc.proofs.KeptTables.Counting.{count_is, raised, lowered}

@@ -183,6 +183,13 @@ fails_on {T} {Refuses} {before} {now} r e on fails = handed_on (λ (x : Result T
 pub fails_since : {Refuses : ImageError → Type 0} {before mid now : ℕ} {e : Option ImageError} → mid ≡ before → FailsFor mid now e Refuses → FailsFor before now e Refuses
 fails_since {Refuses} {before} {mid} {now} {e} same then = subst (λ n. FailsFor n now e Refuses) same then
 
+-- by a cause that implies another
+pub fails_as : {P Q : ImageError → Type 0} {before now : ℕ} {r : Option ImageError} → ((e : ImageError) → P e → Q e) → FailsFor before now r P → FailsFor before now r Q
+fails_as {P} {Q} {before} {now} {r} more fails = by r fails where
+  by : (r : Option ImageError) → FailsFor before now r P → FailsFor before now r Q
+  by None fails = record { no_fewer = fails.no_fewer; rose = fails.rose; told = fails.told; cause = tt }
+  by (Some e) fails = record { no_fewer = fails.no_fewer; rose = fails.rose; told = fails.told; cause = more e fails.cause }
+
 -- followed by one that counted none
 pub fails_still : {Refuses : ImageError → Type 0} {before mid now : ℕ} {e : Option ImageError} → FailsFor before mid e Refuses → now ≡ mid → FailsFor before now e Refuses
 fails_still {Refuses} {before} {mid} {now} {e} fails same = subst (λ n. FailsFor before n e Refuses) (sym same) fails

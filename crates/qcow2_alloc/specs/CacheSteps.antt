@@ -4,7 +4,6 @@ use Rattle.image_access.specs.Moments.{StorageView}
 use Rattle.qcow2_metadata.specs.Bytes.{Bytes}
 use Rattle.qcow2_metadata.specs.L2Table.{L2TableView}
 use Rattle.qcow2_metadata.specs.RefBlock.{RefBlockView}
-use Rattle.qcow2_metadata.specs.TableBytes.{HasPlace}
 use Rattle.qcow2_metadata.specs.Tables.{CachedTable}
 use Rattle.qcow2_metadata.specs.declared.header.HeaderFields.{HeaderFields}
 use Rattle.qcow2_laws.specs.Caches.{AreClean, AreNamedBlocks, BlocksMayGo, TablesMayGo}
@@ -16,7 +15,7 @@ use Rattle.qcow2_alloc.specs.CachePins.{l2_pins, CachesHaveRoom, KeepsPinsAndNot
 use Rattle.qcow2_alloc.specs.KeptEntries.{KeepsCached, OnlyPromotes}
 use Rattle.qcow2_alloc.specs.KeptMarks.{KeepMarks}
 use Rattle.qcow2_alloc.specs.KeptNotes.{KeepsNotes}
-use Rattle.qcow2_alloc.specs.MetadataCaches.{order_of, l2_at, rb_at, l2_tables, refblocks, known_of, AreAllWritten, CacheInvariant, KeepSound, OverlaysBlock, OverlaysTable, DecrementsCount, DecrementsSome, PutRefusesBy, InsertKeeps, IncrementsCount, IncrementsZero, RefusesBy, RefusesBlocksBy, AllocatesBlock, WritesInOrder}
+use Rattle.qcow2_alloc.specs.MetadataCaches.{order_of, l2_at, rb_at, l2_tables, refblocks, known_of, AreAllWritten, CacheInvariant, KeepSound, OverlaysBlock, OverlaysTable, DecrementsCount, DecrementsSome, InsertKeeps, IncrementsCount, IncrementsZero, AllocatesBlock, WritesInOrder}
 use Rattle.qcow2_alloc.specs.Quiet.{KeepAllWritten, OthersStayHeld, WritesNothing, GetsBlockQuietly, GetsTableQuietly, PutsBlockQuietly, PutsTableQuietly}
 use Rattle.qcow2_alloc.specs.SparedHeaders.{LeaveHeaderCluster, CachesSpareHeader, KeepBehindHeader}
 use Rattle.qcow2_alloc.specs.TableCaches.{IsBlockOf, IsTableOf}
@@ -121,20 +120,6 @@ module _ {S : Type 0} (view : S → StorageView) where
     pub quiet : AreClean (refblocks caches) → BlocksGo caches → WritesNothing view old new
 
   -- ---- loading and inserting
-
-  -- The causes of refusals over an honest storage, on sound caches: of loading an L2 table and a refblock for a cluster that has a place, and of inserting an L2 table and a refblock.
-  module _ (IsCause : ImageError → Type 0) (old : ImageStorage S) (caches : MetadataCaches S) where
-    abbrev pub LoadRefusesBy : ℕ → Result (Unit {0}) ImageError → Type 0
-    LoadRefusesBy cluster result = (h : HeaderFields) → HasPlace h.cluster_bits cluster → RefusesBy IsCause view old caches h result
-
-    abbrev pub LoadRbRefusesBy : ℕ → Result (Unit {0}) ImageError → Type 0
-    LoadRbRefusesBy cluster result = (h : HeaderFields) → HasPlace h.cluster_bits cluster → RefusesBlocksBy IsCause view old caches h result
-
-    abbrev pub PutL2RefusesBy : L2TableView → Result (Unit {0}) ImageError → Type 0
-    PutL2RefusesBy t result = PutRefusesBy IsCause view old caches (λ h. IsTableOf h t) t.cluster t.bytes t.is_modified result
-
-    abbrev pub PutRbRefusesBy : Result (Unit {0}) ImageError → Type 0
-    PutRbRefusesBy result = (h : HeaderFields) → RefusesBlocksBy IsCause view old caches h result
 
   -- The table of a cluster is cached. If it was cached before, it only moves to the front. The others of its kind stay, except the least recently used one if there was no room; the other kind changes only if it must be written first.
   pub record GetsTable {V A B : Type 0} (at : MetadataCaches S → ℕ → Option V) (is_modified : V → Bool) (own : MetadataCaches S → Cache A ℕ V) (with_own : MetadataCaches S → Cache A ℕ V → MetadataCaches S) (others : MetadataCaches S → B) (asks : Direction) (Quietly : MetadataCaches S → ℕ → Type 0) (cluster : ℕ) (old : ImageStorage S) (caches : MetadataCaches S) (new : ImageStorage S) (caches' : MetadataCaches S) (result : Result (Unit {0}) ImageError) : Type 0 where

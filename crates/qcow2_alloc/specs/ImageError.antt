@@ -80,6 +80,10 @@ of_cache (C.Backend e) = of_metadata e
 abbrev pub IsFault : ImageError → Type 0
 IsFault e = (e ≡ I.Storage) ⊎ (e ≡ I.Memory)
 
+-- The refusal is a fault, or a limit (13) with this cause.
+abbrev pub IsFaultOr : Type 0 → ImageError → Type 0
+IsFaultOr Cause e = IsFault e ⊎ ((e ≡ I.Limit) × Cause)
+
 -- The refusals of loading, changing and writing tables, and of allocating clusters: 4, 8, 13, 14 and 15.
 abbrev pub IsOfTables : ImageError → Type 0
 IsOfTables I.ReadOnly = ⊥

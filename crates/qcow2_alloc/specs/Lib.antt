@@ -20,6 +20,7 @@ pub mod KeptEntries
 pub mod TableChanges
 pub mod BehindHeader
 pub mod CachePins
+pub mod CacheCauses
 pub mod KeptMarks
 pub mod ImageFile
 pub mod Allocation

@@ -6,16 +6,10 @@ use Rattle.qcow2_metadata.specs.Header.{counts_per_block, entries_per_cluster}
 use Rattle.qcow2_metadata.specs.L2Mapping.{greatest_offset, IsHostCluster}
 use Rattle.qcow2_alloc.specs.Allocation.{run_at}
 use Rattle.qcow2_alloc.specs.Growing.{IsLeastLength}
-use Rattle.qcow2_alloc.specs.ImageError.{IsFault}
+pub use Rattle.qcow2_alloc.specs.ImageError.{IsFaultOr}
 use Rattle.qcow2_alloc.specs.LowestRuns.{IsLowestRun}
 use Rattle.qcow2_alloc.specs.Rooms.{opened}
 use Rattle.qcow2_alloc.specs.declared.allocation.Allocator.{Allocator}
-use Rattle.qcow2_alloc.specs.declared.error.ImageError.{ImageError}
-use Rattle.qcow2_alloc.specs.declared.error.ImageError.TheVariants as I
-
--- The refusal is a fault, or a limit (13) with this cause.
-abbrev pub IsFaultOr : Type 0 → ImageError → Type 0
-IsFaultOr Cause e = IsFault e ⊎ ((e ≡ I.Limit) × Cause)
 
 -- The number of clusters whose offsets an entry can hold.
 abbrev pub nameable_clusters : HeaderFields → ℕ

@@ -1,5 +1,5 @@
 -- The view of the caches of L2 tables and refblocks in contracts, over the bytes of the storage.
-use Rattle.std.specs.Prelude.{ℕ, ◌+◌, ◌*◌, ◌/◌, ◌%◌, ◌≡◌, ◌≢◌, ◌<◌, ◌==◌, ◌⊎◌, Bool, true, false, List, [], ◌∷◌, Option, None, Result, IfSome, IfErr, IsSome, IsTrue, if◌then◌else◌}
+use Rattle.std.specs.Prelude.{ℕ, ◌+◌, ◌*◌, ◌/◌, ◌%◌, ◌≡◌, ◌≢◌, ◌<◌, ◌==◌, ◌⊎◌, Bool, true, false, List, [], ◌∷◌, Option, None, IfSome, IsSome, IsTrue, if◌then◌else◌}
 use Rattle.image_access.specs.Moments.{StorageView}
 use Rattle.qcow2_metadata.specs.Bytes.{Bytes, byte_at}
 use Rattle.qcow2_metadata.specs.declared.header.HeaderFields.{HeaderFields}
@@ -22,7 +22,6 @@ use Rattle.qcow2_alloc.specs.AsyncLruCache.{value_at}
 use Rattle.qcow2_alloc.specs.declared.cache.Direction.{Direction}
 use Rattle.qcow2_alloc.specs.declared.cache.Direction.TheVariants as D
 use Rattle.qcow2_alloc.specs.declared.cache.MetadataCaches.{MetadataCaches}
-use Rattle.qcow2_alloc.specs.declared.error.ImageError.{ImageError}
 use Rattle.qcow2_alloc.specs.declared.image_storage.ImageStorage.{ImageStorage}
 use Rattle.qcow2_alloc.specs.ImageStorage.{storage_of}
 use Rattle.qcow2_alloc.specs.TableCaches.{IsTableOf, IsBlockOf}
@@ -132,32 +131,9 @@ module _ {S : Type 0} where
       (h : HeaderFields) (p : Pending) → (view (storage_of old)).is_honest → CacheInvariant h p caches (byte_at (view (storage_of old)).contents)
       → IsInOrderSince h (order_of caches) (view (storage_of old)) (view (storage_of new)) (known_of h caches (byte_at (view (storage_of old)).contents))
 
-  -- ---- why calls are refused, over an honest storage, on sound caches without a new refblock
-
-  -- A call is refused only for such a cause.
-  abbrev pub RefusesBy : (ImageError → Type 0) → (S → StorageView) → ImageStorage S → MetadataCaches S → HeaderFields → Result (Unit {0}) ImageError → Type 0
-  RefusesBy IsCause view old caches h result =
-      (p : Pending) → (view (storage_of old)).is_honest → CacheInvariant h p caches (byte_at (view (storage_of old)).contents) → AreNamedBlocks h (refblocks caches) (byte_at (view (storage_of old)).contents) → IfErr result IsCause
-
-  -- The same of a call that writes only L2 tables. The refblocks may be new ones.
-  abbrev pub RefusesTablesBy : (ImageError → Type 0) → (S → StorageView) → ImageStorage S → MetadataCaches S → HeaderFields → Result (Unit {0}) ImageError → Type 0
-  RefusesTablesBy IsCause view old caches h result =
-      (p : Pending) → (view (storage_of old)).is_honest → CacheInvariant h p caches (byte_at (view (storage_of old)).contents) → IfErr result IsCause
-
   -- The offset of each modified refblock fits 64 bits.
   abbrev pub HavePlaces : HeaderFields → MetadataCaches S → Type 0
   HavePlaces h caches = (c : ℕ) → IfSome (rb_at caches c) (λ b. b.is_modified ≡ true → HasPlace h.cluster_bits c)
-
-  -- The same of a call that writes refblocks, which may be new ones.
-  abbrev pub RefusesBlocksBy : (ImageError → Type 0) → (S → StorageView) → ImageStorage S → MetadataCaches S → HeaderFields → Result (Unit {0}) ImageError → Type 0
-  RefusesBlocksBy IsCause view old caches h result =
-      (p : Pending) → (view (storage_of old)).is_honest → CacheInvariant h p caches (byte_at (view (storage_of old)).contents) → HavePlaces h caches → IfErr result IsCause
-
-  -- Inserting a table as in `InsertKeeps` is refused only for such a cause.
-  abbrev pub PutRefusesBy : (ImageError → Type 0) → (S → StorageView) → ImageStorage S → MetadataCaches S → (HeaderFields → Type 0) → Option ℕ → List ℕ → Bool → Result (Unit {0}) ImageError → Type 0
-  PutRefusesBy IsCause view old caches IsFitFor cluster bytes is_modified result =
-      (h : HeaderFields) (p : Pending) → (view (storage_of old)).is_honest → CacheInvariant h p caches (byte_at (view (storage_of old)).contents) → AreNamedBlocks h (refblocks caches) (byte_at (view (storage_of old)).contents)
-      → IsFitFor h → is_modified ≡ false → IfSome cluster (HoldsKnown h caches (byte_at (view (storage_of old)).contents) bytes) → IfErr result IsCause
 
   -- ---- refcounts in cached refblocks
 

@@ -2,28 +2,29 @@
 ghost use Rattle.std.specs.Prelude.{◌≡◌, ◌⊎◌, ◌↔◌, ℕ, ◌+◌, ◌-◌, ◌^◌, ◌<◌, ◌≤◌, ◌==◌, IsSome, IsNone, IfSome};
 ghost use Rattle.std.specs.Prelude.{IfOk, IfErr, OnOk, IsTrue, IsFalse, false};
 ghost use Rattle.std.specs.Prelude.{is_some, option_copied};
-ghost use Rattle.qcow2_metadata.specs.declared.header.HeaderFields.{HeaderFields};
 ghost use Rattle.qcow2_laws.specs.Caches.{IsFreeOf, AreClean};
-ghost use Rattle.qcow2_alloc.specs.ImageError.{IsOfTables, IsFault};
+ghost use Rattle.qcow2_alloc.specs.ImageError.{IsFaultOr};
+ghost use Rattle.qcow2_alloc.specs.CacheCauses.{TablesFit, BlocksFit, AllFit};
+ghost use Rattle.qcow2_alloc.specs.CacheCauses.{MayFailInsertingL2, MayFailInsertingRb, MayFailLoadingL2, MayFailLoadingRb};
 ghost use Rattle.qcow2_alloc.specs.CountedChanges.{IsOneChange};
 ghost use Rattle.qcow2_alloc.specs.AsyncLruCache.{can_remove};
 ghost use Rattle.qcow2_alloc.specs.MetadataCaches.{l2_at, rb_at, l2_tables, refblocks};
-ghost use Rattle.qcow2_alloc.specs.MetadataCaches.{AreAllWritten, RefusesBy, RefusesBlocksBy, RefusesTablesBy, ReportsZero, ReportsCount};
+ghost use Rattle.qcow2_alloc.specs.MetadataCaches.{AreAllWritten, ReportsZero, ReportsCount};
 ghost use Rattle.qcow2_alloc.specs.MetadataCaches.{MapsCachedEntry, ZeroesEntry, DiscardsEntry, RecordsEntry};
 ghost use Rattle.qcow2_alloc.specs.MetadataCaches.{RecordsHeld, ShowsKnown, EvictsTable};
 ghost use Rattle.qcow2_alloc.specs.CacheSteps.{CacheStep, TurnStep, KeepsSoundly, TablesGo, BlocksGo, FlushesL2, FlushesRb};
 ghost use Rattle.qcow2_alloc.specs.CacheSteps.{LoadStep, PutStep, HeldStep, GetsL2, GetsRb, PutsL2, PutsRb, PutsL2Soundly, PutsRbSoundly};
 ghost use Rattle.qcow2_alloc.specs.CacheSteps.{KeepsL2Written, KeepsBlocks, KeepsHeldBlocks, FlushesBlocks};
 ghost use Rattle.qcow2_alloc.specs.CacheSteps.{RemovesBlock, IncrementsSoundly, DecrementsSoundly, AreNewCaches};
-ghost use Rattle.qcow2_alloc.specs.CacheSteps.{LoadRefusesBy, LoadRbRefusesBy, PutL2RefusesBy, PutRbRefusesBy, MakesWayForL2, MakesWayForRb, SwitchesToRb, SwitchesToL2};
+ghost use Rattle.qcow2_alloc.specs.CacheSteps.{MakesWayForL2, MakesWayForRb, SwitchesToRb, SwitchesToL2};
 ghost use Rattle.qcow2_alloc.specs.Steps.{Fails};
 ghost use Rattle.qcow2_alloc.specs.ApartCaches.{ChangesTableApart, EvictsTableApart};
 ghost use Rattle.qcow2_metadata.specs.L2Table.{entries_of};
 ghost use Rattle.qcow2_alloc.specs.UsedCounts.{ReportsUsed, ReportsFirstFree};
 ghost use Rattle.qcow2_alloc.specs.TableChanges.{CountsMore, CountsFirst, CountsLess, LeavesCount, MapsHeldEntry, ZeroesHeldEntry, DiscardsHeldEntry};
 ghost use Rattle.qcow2_alloc.specs.TableChanges.{LeavesEntry, CantMap};
-ghost use Rattle.qcow2_alloc.specs.CachePins.{l2_pins, CachesHaveRoom, SameTables, SetsPins};
-ghost use Rattle.qcow2_alloc.specs.CachePins.{IsInUseOrFault, LeavesPinned};
+ghost use Rattle.qcow2_alloc.specs.CachePins.{l2_pins, SameTables, SetsPins};
+ghost use Rattle.qcow2_alloc.specs.CachePins.{LeavesPinned};
 
 mod backends;
 mod changes;
@@ -85,8 +86,7 @@ impl<S: Storage> MetadataCaches<S> {
     // Writes the modified L2 tables.
     fn write_tables(&mut self, storage: &mut ImageStorage<S>) -> Result<(), ImageError>
         ensures step { CacheStep S.view storage.old self.old storage.new self.new }
-        ensures fails { Fails S.view storage.old storage.new result IsOfTables }
-        ensures faults { (h : HeaderFields) → RefusesTablesBy IsFault S.view storage.old self.old h result }
+        ensures fails { Fails S.view storage.old storage.new result (IsFaultOr (¬ TablesFit self.old)) }
         ensures sound { TablesGo self.old → KeepsSoundly S.view storage.old self.old storage.new self.new }
         ensures flushes { FlushesL2 S.view storage.old self.old storage.new self.new result }
         ensures free { (size c : ℕ) → IsFreeOf size (l2_tables self.old) c → IsFreeOf size (l2_tables self.new) c }
@@ -101,8 +101,7 @@ impl<S: Storage> MetadataCaches<S> {
     // Writes the modified refblocks.
     fn write_blocks(&mut self, storage: &mut ImageStorage<S>) -> Result<(), ImageError>
         ensures step { CacheStep S.view storage.old self.old storage.new self.new }
-        ensures fails { Fails S.view storage.old storage.new result IsOfTables }
-        ensures faults { (h : HeaderFields) → RefusesBlocksBy IsFault S.view storage.old self.old h result }
+        ensures fails { Fails S.view storage.old storage.new result (IsFaultOr (¬ BlocksFit self.old)) }
         ensures sound { BlocksGo self.old → KeepsSoundly S.view storage.old self.old storage.new self.new }
         ensures flushes { FlushesRb S.view storage.old self.old storage.new self.new result }
         ensures clean { AreClean (refblocks self.old) → AreClean (refblocks self.new) }
@@ -119,8 +118,7 @@ impl<S: Storage> MetadataCaches<S> {
     /// 14 (memory) and 15 (storage) if that fails, and then the order stays the same.
     pub fn l2_depends_on_rb(&mut self, storage: &mut ImageStorage<S>) -> Result<(), ImageError>
         ensures step { TurnStep S.view storage.old self.old storage.new self.new }
-        ensures fails { Fails S.view storage.old storage.new result IsOfTables }
-        ensures faults { (h : HeaderFields) → RefusesBy IsFault S.view storage.old self.old h result }
+        ensures fails { Fails S.view storage.old storage.new result (IsFaultOr (¬ TablesFit self.old)) }
         ensures sound { KeepsSoundly S.view storage.old self.old storage.new self.new }
         ensures turns { SwitchesToRb S.view storage.old self.old storage.new self.new result }
     {
@@ -139,8 +137,7 @@ impl<S: Storage> MetadataCaches<S> {
     /// 14 (memory) and 15 (storage) if that fails, and then the order stays the same.
     pub fn rb_depends_on_l2(&mut self, storage: &mut ImageStorage<S>) -> Result<(), ImageError>
         ensures step { TurnStep S.view storage.old self.old storage.new self.new }
-        ensures fails { Fails S.view storage.old storage.new result IsOfTables }
-        ensures faults { (h : HeaderFields) → RefusesBy IsFault S.view storage.old self.old h result }
+        ensures fails { Fails S.view storage.old storage.new result (IsFaultOr (¬ BlocksFit self.old)) }
         ensures sound { KeepsSoundly S.view storage.old self.old storage.new self.new }
         ensures turns { SwitchesToL2 S.view storage.old self.old storage.new self.new result }
         ensures held { KeepsHeldBlocks self.old self.new }
@@ -159,8 +156,7 @@ impl<S: Storage> MetadataCaches<S> {
     /// Writes both caches, in the order of writes. Refused 14 (memory) and 15 (storage), as the storage refuses.
     pub fn flush_all(&mut self, storage: &mut ImageStorage<S>) -> Result<(), ImageError>
         ensures step { CacheStep S.view storage.old self.old storage.new self.new }
-        ensures fails { Fails S.view storage.old storage.new result IsOfTables }
-        ensures faults { (h : HeaderFields) → RefusesBy IsFault S.view storage.old self.old h result }
+        ensures fails { Fails S.view storage.old storage.new result (IsFaultOr (¬ AllFit self.old)) }
         ensures sound { KeepsSoundly S.view storage.old self.old storage.new self.new }
         ensures written { OnOk result (AreAllWritten self.new) }
     {
@@ -180,8 +176,7 @@ impl<S: Storage> MetadataCaches<S> {
     /// storage refuses.
     pub fn flush_rb(&mut self, storage: &mut ImageStorage<S>) -> Result<(), ImageError>
         ensures step { CacheStep S.view storage.old self.old storage.new self.new }
-        ensures fails { Fails S.view storage.old storage.new result IsOfTables }
-        ensures faults { (h : HeaderFields) → RefusesBlocksBy IsFault S.view storage.old self.old h result }
+        ensures fails { Fails S.view storage.old storage.new result (IsFaultOr (¬ AllFit self.old)) }
         ensures sound { KeepsSoundly S.view storage.old self.old storage.new self.new }
         ensures flushes { FlushesBlocks S.view storage.old self.old storage.new self.new result }
     {
@@ -197,8 +192,7 @@ impl<S: Storage> MetadataCaches<S> {
     // Writes what must be written before an L2 table.
     fn before_l2(&mut self, storage: &mut ImageStorage<S>) -> Result<(), ImageError>
         ensures step { CacheStep S.view storage.old self.old storage.new self.new }
-        ensures fails { Fails S.view storage.old storage.new result IsOfTables }
-        ensures faults { (h : HeaderFields) → RefusesBy IsFault S.view storage.old self.old h result }
+        ensures fails { Fails S.view storage.old storage.new result (IsFaultOr (¬ BlocksFit self.old)) }
         ensures sound { KeepsSoundly S.view storage.old self.old storage.new self.new }
         ensures way { MakesWayForL2 S.view storage.old self.old storage.new self.new result }
         ensures blocks { AreClean (refblocks self.old) → AreClean (refblocks self.new) }
@@ -212,8 +206,7 @@ impl<S: Storage> MetadataCaches<S> {
     // Writes what must be written before a refblock.
     pub(crate) fn before_rb(&mut self, storage: &mut ImageStorage<S>) -> Result<(), ImageError>
         ensures step { CacheStep S.view storage.old self.old storage.new self.new }
-        ensures fails { Fails S.view storage.old storage.new result IsOfTables }
-        ensures faults { (h : HeaderFields) → RefusesTablesBy IsFault S.view storage.old self.old h result }
+        ensures fails { Fails S.view storage.old storage.new result (IsFaultOr (¬ TablesFit self.old)) }
         ensures sound { KeepsSoundly S.view storage.old self.old storage.new self.new }
         ensures way { MakesWayForRb S.view storage.old self.old storage.new self.new result }
         ensures free { (size c : ℕ) → IsFreeOf size (l2_tables self.old) c → IsFreeOf size (l2_tables self.new) c }
@@ -233,8 +226,7 @@ impl<S: Storage> MetadataCaches<S> {
         cluster: HostCluster,
     ) -> Result<(), ImageError>
         ensures step { LoadStep S.view storage.old self.old storage.new self.new cluster }
-        ensures fails { Fails S.view storage.old storage.new result IsOfTables }
-        ensures refusals { LoadRefusesBy S.view (IsInUseOrFault self.old) storage.old self.old cluster result }
+        ensures fails { Fails S.view storage.old storage.new result (MayFailLoadingL2 self.old self.new cluster) }
         ensures sound { KeepsSoundly S.view storage.old self.old storage.new self.new }
         ensures gets { GetsL2 S.view storage.old self.old storage.new self.new result cluster }
     {
@@ -255,8 +247,7 @@ impl<S: Storage> MetadataCaches<S> {
         cluster: HostCluster,
     ) -> Result<(), ImageError>
         ensures step { LoadStep S.view storage.old self.old storage.new self.new cluster }
-        ensures fails { Fails S.view storage.old storage.new result IsOfTables }
-        ensures faults { CachesHaveRoom self.old → LoadRbRefusesBy S.view IsFault storage.old self.old cluster result }
+        ensures fails { Fails S.view storage.old storage.new result (MayFailLoadingRb self.old cluster) }
         ensures sound { KeepsSoundly S.view storage.old self.old storage.new self.new }
         ensures gets { GetsRb S.view storage.old self.old storage.new self.new result cluster }
         ensures held { IsSome (rb_at self.old cluster) → KeepsBlocks storage.old self.old storage.new self.new }
@@ -279,8 +270,7 @@ impl<S: Storage> MetadataCaches<S> {
     ) -> Result<(), ImageError>
         requires { IsSome table.cluster }
         ensures step { PutStep S.view storage.old self.old storage.new self.new table.cluster }
-        ensures fails { Fails S.view storage.old storage.new result IsOfTables }
-        ensures refusals { PutL2RefusesBy S.view (IsInUseOrFault self.old) storage.old self.old table result }
+        ensures fails { Fails S.view storage.old storage.new result (MayFailInsertingL2 self.old) }
         ensures sound { PutsL2Soundly S.view storage.old self.old storage.new self.new result table }
         ensures puts { PutsL2 S.view storage.old self.old storage.new self.new result table }
         ensures written { KeepsL2Written table.is_modified self.old self.new }
@@ -307,8 +297,7 @@ impl<S: Storage> MetadataCaches<S> {
     ) -> Result<(), ImageError>
         requires { IsSome block.cluster }
         ensures step { PutStep S.view storage.old self.old storage.new self.new block.cluster }
-        ensures fails { Fails S.view storage.old storage.new result IsOfTables }
-        ensures faults { CachesHaveRoom self.old → PutRbRefusesBy S.view IsFault storage.old self.old result }
+        ensures fails { Fails S.view storage.old storage.new result (MayFailInsertingRb self.old) }
         ensures sound { PutsRbSoundly S.view storage.old self.old storage.new self.new result block }
         ensures puts { PutsRb S.view storage.old self.old storage.new self.new result block }
     {

@@ -4,6 +4,7 @@ pub mod Called
 pub mod Answers
 pub mod Answered
 pub mod FailingErrors
+pub mod CacheErrors
 pub mod Marked
 pub mod Stepped
 pub mod CallOutcomes

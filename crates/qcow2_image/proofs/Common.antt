@@ -22,13 +22,14 @@ pub use Rattle.image_access.specs.declared.error.StorageError.{StorageError}
 pub use Rattle.image_access.specs.declared.storage.PreallocateMode.{PreallocateMode}
 pub use Rattle.qcow2_alloc.proofs.AllocationSteps.{handed_on, fault_of_storage}
 pub use Rattle.qcow2_alloc.proofs.CachedEntries.Lists.{pinned_gone, pinned_kept, length-pinned, none_of}
-pub use Rattle.qcow2_alloc.proofs.FileInvariants.{file_invariant_of}
+pub use Rattle.qcow2_alloc.proofs.FileInvariants.{file_invariant_of, file_fits, file_inserts, file_loads}
 pub use Rattle.qcow2_alloc.proofs.FileSteps.{file_step_on, pending_same, one_here, cached_safe_throughout, one_few}
 pub use Rattle.qcow2_alloc.proofs.HeaderClusters.{bytes_stay, same_kept, below_others, bytes_then, call_keeps, fewer_stay, quiet_keeps}
 pub use Rattle.qcow2_alloc.proofs.KeptAllocators.{allocator_kept, refused_kept, spared_kept, freed_kept, anew_kept}
 pub use Rattle.qcow2_alloc.proofs.KeptMarks.{notes_none, notes_then, notes_of_storage, notes_of_both, notes_of_marks, placed_kept, told_kept}
 pub use Rattle.qcow2_alloc.proofs.KeptNotes.{read_kept}
 pub use Rattle.qcow2_alloc.proofs.KeptTables.AllWritten.{written_then, written_none}
+pub use Rattle.qcow2_alloc.proofs.KeptTables.Causes.{faults_alone}
 pub use Rattle.qcow2_alloc.proofs.KeptTables.Getting.{cluster_aligned}
 pub use Rattle.qcow2_alloc.proofs.KeptTables.Named.{AreCurrentIn, current_entry, loaded_named}
 pub use Rattle.qcow2_alloc.proofs.KeptTables.Places.{named_have_places}
@@ -47,16 +48,17 @@ pub use Rattle.qcow2_alloc.specs.ClustersToFree.{data_entry, metadata_entry}
 pub use Rattle.qcow2_alloc.specs.CountedChanges.{counts_none, CountsChanges}
 pub use Rattle.qcow2_alloc.specs.Faults.{FaultsReported, CountsFaults, faults_of}
 pub use Rattle.qcow2_alloc.specs.FreeList.{with_listed, ListsTables, pending_then}
-pub use Rattle.qcow2_alloc.specs.ImageError.{of_storage, of_metadata, IsOfReftableLoad, IsOfTables, IsFault}
+pub use Rattle.qcow2_alloc.specs.CacheCauses.{MayFailInsertingL2, MayFailLoadingL2}
+pub use Rattle.qcow2_alloc.specs.ImageError.{of_storage, of_metadata, IsOfReftableLoad, IsOfTables, IsFault, IsFaultOr}
 pub use Rattle.qcow2_alloc.specs.ImageFile.{state_in, contents_in, known_in, nothing_given, view_in, has_noted, FileInvariant, KeepsHeader, InternalFileStep, InternalFileGrowth, HasReftable, InterruptedFileStep, AllocatorInvariant}
 pub use Rattle.qcow2_alloc.specs.ImageStorage.{storage_of, changes_of, is_changed_of, SameNotes}
 pub use Rattle.qcow2_alloc.specs.KeptAllocators.{IsAllocatorOf}
 pub use Rattle.qcow2_alloc.specs.KeptMarks.{KeepsFileNotes, HaveRisen}
 pub use Rattle.qcow2_alloc.specs.KeptNotes.{KeepsNotes, kept_same}
-pub use Rattle.qcow2_alloc.specs.Limits.{IsFaultOr, IsPastLimits, HasNoPlace, CantCount}
+pub use Rattle.qcow2_alloc.specs.Limits.{IsPastLimits, HasNoPlace, CantCount}
 pub use Rattle.qcow2_alloc.specs.LoadedTables.{IsReasonAgainstL1Table, IsReasonAgainstReftable, L1TableReads, ReftableReads, HasUnreadEntry}
 pub use Rattle.qcow2_alloc.specs.LowestRuns.{KeepsNoFreeBelowHint, NoFreeBelowHint, BrokeOff, SearchesAnew, IsUsed, IsPassed}
-pub use Rattle.qcow2_alloc.specs.MetadataCaches.{IsEntryAt, l2_at, MadeEntry, known_of, MapsCachedEntry, order_of, CacheInvariant, l2_tables, refblocks, AreAllWritten, InternalCacheStep, ShowsKnown, ChangesKnownEntry, rb_at, Evict, EvictsTable, PutRefusesBy, HoldsKnown, RecordsEntry, InsertKeeps}
+pub use Rattle.qcow2_alloc.specs.MetadataCaches.{IsEntryAt, l2_at, MadeEntry, known_of, MapsCachedEntry, order_of, CacheInvariant, l2_tables, refblocks, AreAllWritten, InternalCacheStep, ShowsKnown, ChangesKnownEntry, rb_at, Evict, EvictsTable, HoldsKnown, RecordsEntry, InsertKeeps}
 pub use Rattle.qcow2_alloc.specs.Quiet.{IsQuiet, KeepAllWritten, GetsTableQuietly}
 pub use Rattle.qcow2_alloc.specs.SparedHeaders.{CachesSpareHeader, StandsBehindHeader, SparesBytes, SparesHeader, PreservesHeaderButPointer, NamesReftableBehind}
 pub use Rattle.qcow2_alloc.specs.TableCaches.{IsTableOf}
@@ -103,6 +105,7 @@ pub use Rattle.qcow2_image.specs.ImageSteps.{ImageFails, ImageStep, ImageStepWhe
 pub use Rattle.qcow2_image.specs.InternalSteps.{pending_with_listed, ListGrows, InternalStep, InternalFreeingStep, NamesOwn, KeepsCopied, Ensures, InternalFillingStep, RefusedFillingStep, RefusedStep, FreesLater, Pins, HoldsTable, old_data_by, freed_by, FreesListed, HoldsAll, is_announced, IsFilled, AllocatesData, SameHeld, IsKeptAlone, IsGained, InterruptedStep, DropsNothing, EntersMapping, AreThere, IsInHeldCluster, InterruptedPart, EntersCluster, Gains}
 pub use Rattle.qcow2_image.specs.Invalidated.{RespectsPrepared, HoldsNoTable, IsAtRest, IsReasonAgainstPlaces, IsReasonAgainstReading, IsOfPrepared, IsStillInUse, MayFailToInvalidate, KeepsTables, ReadsPlaces, ReplacesTables, reftable_in, ReadsTables, ArePlacesFor, DropsCached, IsAsStored, IsReasonNotToRead, ReadsAnew, HoldsPinnedAlone, WritesNothing}
 pub use Rattle.qcow2_image.specs.L1Entries.{ReachesOffset, ReachingStays, HasOwnTable, NeedsOverflowingL1Entry, IsPlacedNear, HasNearEntry, L1EntryOverflows, EndsBefore}
+pub use Rattle.qcow2_image.specs.LookupCauses.{HasUnalignedBehind, HasUnalignedEntry, HasUnalignedFrom, IsHeldCompressed, IsTableUnaligned, IsUnalignedIn, MayFailFinding, MayFailFindingAgain, MayFailPuttingAt, MayFailReadingFound, MayFailTelling}
 pub use Rattle.qcow2_image.specs.Limits.{IfLimit, GoesTo, IsLimited, l1_clusters, IsLimitedAmong, IsLimitedIn, IsLimitedTaking, IsLimitedInternal, IsLimitedWith, LacksPlace, entries_reaching}
 pub use Rattle.qcow2_image.specs.ListedClusters.{ListsNoMore}
 pub use Rattle.qcow2_image.specs.LongerTables.{RefusedMove, with_table, without_l1, StandsWhole, InternalMove, NamesTable, clusters_of, IsLongerL1, PlacesTable, AllocatesTable, MakesEntry, run_of_table, listed, InterruptedMove, NamesTaken, Lengthens}

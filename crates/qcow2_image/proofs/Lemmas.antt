@@ -1,6 +1,7 @@
 -- The lemmas that several proofs cite, passed on from one place. Declares nothing.
 pub use Rattle.qcow2_image.proofs.Call.Answered.{same_guest, same_slot, same_mapping, same_meaning, freeing_step_kept}
 pub use Rattle.qcow2_image.proofs.Call.BehindHeader.{behind_call, behind_none, behind_then, behind_allocated, behind_by, behind_tables, behind_begun, behind_caches, behind_l1, behind_placed, entry_behind, l1_entered, behind_bits, behind_pointer, begins_behind, l1_placed, behind_zero, behind_freed, behind_guard, behind_wrote, behind_read, behind_first, above_zero, table_behind}
+pub use Rattle.qcow2_image.proofs.Call.CacheErrors.{finding_read, found_read, telling_read, unaligned_as}
 pub use Rattle.qcow2_image.proofs.Call.CallOutcomes.{outcome_answered, is_fault, outcome, outcome_refused}
 pub use Rattle.qcow2_image.proofs.Call.Called.{Quietly, quiet_same, quiet_sound, quiet_works, keeps_then, refuses_early, works_none, listed, quietly_then, quiet_does, quiet_refuses, told_answers, tells_quietly}
 pub use Rattle.qcow2_image.proofs.Call.FaultCounts.{counted_marked, counted_ok, fewer_of, untouched, counted_on, counted_since, counted_as, counted_still, same_told, faults_then, same_of, counted_of}
@@ -42,6 +43,7 @@ pub use Rattle.qcow2_image.proofs.Images.UngivenCovers.{touches_less, all_stay}
 pub use Rattle.qcow2_image.proofs.Invalidate.Reading.{silent_none, silent_then, stays_over, same_places, notes_through, places_read, same_notes, silent_moved, silent_read, begins_of, both_behind, l1_behind, l1_still, tables_read}
 pub use Rattle.qcow2_image.proofs.Invalidate.TakenOver.{kept_then, on_refused, on_refused_map, not_above}
 pub use Rattle.qcow2_image.proofs.Map.FailingLookups.{held_since, named_aligned, answers_met, cache_looking, named_entry}
+pub use Rattle.qcow2_image.proofs.Map.FailingFinds.{unaligned_from, finding_more, finding_other, finding_call, found_call, telling_call, putting_call, reading_found}
 pub use Rattle.qcow2_image.proofs.Map.Held.{writable_held, held_whole, heeds_else, same_found, heeds_then, held_as, none_eof, heeds_on, keeps_marked, uncovered_held, run_held, keeps_storage}
 pub use Rattle.qcow2_image.proofs.Map.Loading.{caches_moved, still_moved, with_caches, if_ok_any, read_moved, all_known}
 pub use Rattle.qcow2_image.proofs.Map.Looked.{found_after, found_before, found_whole, mapped_as, none_past, none_found, cluster_near, says_known, run_found}
@@ -58,7 +60,7 @@ pub use Rattle.qcow2_image.proofs.Preallocate.Zeros.{may_none, zeros_of}
 pub use Rattle.qcow2_image.proofs.Prepare.FailingAllocations.{looking_taking, taking_as, if_err_both, taking_kept}
 pub use Rattle.qcow2_image.proofs.Prepare.FailingCopies.{limit_alone, met_as, hands_met, kept_behind, behind_start, reading_met, told_sum, within_cluster, filling_met, new_behind, mapped_met, mapped_met_at}
 pub use Rattle.qcow2_image.proofs.Prepare.FailingRanges.{alone_as, guest_fits, next_reads, place_aligned, place_fits, place_kept, place_then}
-pub use Rattle.qcow2_image.proofs.Prepare.FailingTables.{met_freed, reading_fault, far_before, hands_alone, faults_looking, put_refused}
+pub use Rattle.qcow2_image.proofs.Prepare.FailingTables.{met_freed, reading_fault, far_before, hands_alone, faults_looking}
 pub use Rattle.qcow2_image.proofs.Prepare.FirstCluster.{listed_after_same, still_holds, taken_new_data, takes_data, takes_data_at, listed_after_on, image_step_left, taken_unused, filled_as}
 pub use Rattle.qcow2_image.proofs.Prepare.FollowingCluster.{filled_there, host_is, next_cluster, table_is, behind_in_place, ends_elsewhere, finds_shared, next_says, next_begins}
 pub use Rattle.qcow2_image.proofs.Prepare.InternalWrites.{image_step_kept, there_written, written_or_not, image_step_none, image_step_then, disk_kept, image_step_data, own_of, alike_within, same_new_data}

@@ -7,3 +7,4 @@ pub mod Unmodified
 pub mod Quiet
 pub mod Held
 pub mod FailingLookups
+pub mod FailingFinds

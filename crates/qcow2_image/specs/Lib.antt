@@ -28,6 +28,7 @@ pub mod Preallocation
 pub mod Unwritten
 pub mod L1Entries
 pub mod PinnedTables
+pub mod LookupCauses
 pub mod ListedClusters
 pub mod MayFail
 pub mod Limits

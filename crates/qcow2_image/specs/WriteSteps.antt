@@ -35,13 +35,14 @@ use Rattle.qcow2_metadata.specs.TableBytes.{HasPlace}
 use Rattle.qcow2_alloc.specs.declared.clusters_to_free.ClustersToFreeEntry.{ClustersToFreeEntry}
 use Rattle.qcow2_image.specs.declared.prepared.ClusterMapping.{ClusterMapping}
 use Rattle.qcow2_image.specs.ListedClusters.{ListStays, ListsNoMore}
+use Rattle.qcow2_image.specs.LookupCauses.{MayFailFinding}
 use Rattle.qcow2_image.specs.MayFail.{CopiesCompressed, IsCacheHeld, IsCopiedCompressed, MayFailLooking, MayFailLookingAgain, MayFailMapped, MayFailPutting, MayFailSpecial, MayFailAllocating, MayFailAlone}
 use Rattle.qcow2_image.specs.Noted.{CommitFailsOnceWritten, FailsOnceWritten}
 use Rattle.qcow2_image.specs.Prepared.{IsHandedBackBy, guest_offset_of, image_of, length_of, offset_of, table_of}
 use Rattle.qcow2_image.specs.PreparedPlaces.{MarkedIsBehind}
 use Rattle.qcow2_image.specs.Preparing.{IsAnswered, IsOfNothing, IsTaken}
 use Rattle.qcow2_image.specs.Ranges.{BeginsInKept, GainsAt, IsFirst, ClusterMappingsAt, AllocatesDataAt}
-use Rattle.qcow2_image.specs.Refusals.{FreesRefused, IsFaultOrLimit, MayFail, MayFailPreparing, MarksFailed, MarksRefused, refuses_mapping, refuses_to_prepare, unusable}
+use Rattle.qcow2_image.specs.Refusals.{FreesRefused, IsFaultOrLimit, MayFailPreparing, MarksFailed, MarksRefused, refuses_mapping, refuses_to_prepare, unusable}
 use Rattle.qcow2_image.specs.SpecialReads.{ReportsCompressed, ReportsWhether}
 use Rattle.qcow2_image.specs.declared.image.Qcow2.{Qcow2}
 use Rattle.qcow2_image.specs.declared.mapping.Mapping.{Mapping}
@@ -162,11 +163,11 @@ pub record RefusesOrSkips {S F T : Type 0} (old new : Qcow2 S F) (result : Resul
   pub late : refusal ≡ None → IfErr result Causes
 
 -- A put is also refused if the image was opened for reading (1), unless it has no bytes.
-pub record RefusesPut {S F : Type 0} (old new : Qcow2 S F) (result : Result (Unit {0}) ImageError) (refusal : Option ImageError) (n : ℕ) : Type 0 where
+pub record RefusesPut {S F : Type 0} (old new : Qcow2 S F) (result : Result (Unit {0}) ImageError) (refusal : Option ImageError) (n : ℕ) (Causes : ImageError → Type 0) : Type 0 where
   pub early : IfSome refusal (λ e. (result ≡ Err e) × (new ≡ old))
   pub nothing : refusal ≡ None → n ≡ 0 → (result ≡ Ok tt) × (new ≡ old)
   pub read_only : 0 < n → refusal ≡ None → is_writable old ≡ false → (result ≡ Err ReadOnly) × (new ≡ old)
-  pub late : refusal ≡ None → IsTrue (is_writable old) → IfErr result MayFail
+  pub late : refusal ≡ None → IsTrue (is_writable old) → IfErr result Causes
 
 module _ {S F : Type 0} (view : S → StorageView) (backing : F → BackingView) (old new : Qcow2 S F) where
   -- A put leaves the header in memory and the list of clusters to free the same.
@@ -299,10 +300,10 @@ pub record IsLookedUp {S F : Type 0} (image : Qcow2 S F) (offset max : ℕ) (ans
   pub some : offset < size_of image → 0 < max → 0 < answer.1
 
 -- A lookup is refused before its work only for an unusable image. At or past the size it finds the end.
-pub record RefusesLookup {S F : Type 0} (old new : Qcow2 S F) (offset : ℕ) (result : Result (Mapping × ℕ) ImageError) : Type 0 where
+pub record RefusesLookup {S F : Type 0} (old new : Qcow2 S F) (offset max : ℕ) (result : Result (Mapping × ℕ) ImageError) : Type 0 where
   pub early : IfSome (unusable old) (λ e. (result ≡ Err e) × (new ≡ old))
   pub past : unusable old ≡ None → size_of old ≤ offset → IsOk result × IfOk result (λ (mapping, n). (mapping.kind ≡ Eof) × (n ≡ 0))
-  pub late : unusable old ≡ None → IfErr result IsOfTables
+  pub late : unusable old ≡ None → IfErr result (MayFailFinding old new offset max)
 
 module _ {S F : Type 0} (view : S → StorageView) (backing : F → BackingView) (old new : Qcow2 S F) where
   -- A lookup changes nothing that is known, and finds the longest range that is mapped alike.

@@ -152,6 +152,7 @@ impl<S: Storage, F: WrappedFormat<S>> Qcow2<S, F> {
     }
 
     // Loads a table into the cache.
+    #[tactic(auto, using(crate::proofs::Call::CacheErrors::in_use_met))]
     fn load_l2(&mut self, table: HostCluster) -> Result<(), ImageError>
         ensures step { ImageStepWhere S.view (0 < table) self.old self.new }
         ensures fails { ImageFails S.view F.backing self.old self.new result MayFail }

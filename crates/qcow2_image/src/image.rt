@@ -439,7 +439,7 @@ impl<S: Storage, F: WrappedFormat<S>> Qcow2<S, F> {
         self.mark_failure(done)
     }
 
-    #[tactic(auto, using(crate::proofs::Call::FailingErrors::storage_of_tables))]
+    #[tactic(auto, using(crate::proofs::Call::FailingErrors::storage_of_tables, crate::proofs::Call::CacheErrors::fault_or_tables))]
     fn write_back(&mut self) -> Result<(), ImageError>
         ensures step { ImageStep S.view self.old self.new }
         ensures fails { ImageFails S.view F.backing self.old self.new result IsOfTables }

@@ -9,7 +9,9 @@ ghost use Rattle.std.specs.Prelude.{IfErr, IsErr, IsSome, MatchOption, Ok, Err, 
 ghost use Rattle.std.specs.Prelude.{is_some, true, OnOk};
 ghost use Rattle.qcow2_metadata.specs.Header.{cluster_size};
 ghost use Rattle.qcow2_alloc.specs.ImageError.{IsFault};
-ghost use Rattle.qcow2_image.specs.MayFail.{MayFailReading};
+ghost use Rattle.qcow2_image.specs.MayFail.{IsSpecial, MayFailReading};
+ghost use Rattle.qcow2_image.specs.LookupCauses.{IsHeldCompressed, MayFailFindingAgain};
+ghost use Rattle.qcow2_image.specs.LookupCauses.{MayFailPuttingAt, MayFailReadingFound, MayFailTelling};
 ghost use Rattle.qcow2_disk.specs.Calls.{Shows};
 ghost use Rattle.qcow2_laws.specs.CrashInvariant.{Pending};
 ghost use Rattle.qcow2_image.specs.Calls.{AnswersCall, Puts};
@@ -66,7 +68,8 @@ impl<S: Storage, F: WrappedFormat<S>> Qcow2<S, F> {
         requires { at + length bytes.old ≤ mapping.now.length }
         ensures step { ReadingCall S.view F.backing self.old self.new result }
         ensures refusals { RefusesOrSkips self.old self.new result (refuses_mapping self.old mapping.now.image)
-            (length bytes.old) tt MayFailToRead }
+            (length bytes.old) tt
+            (MayFailReadingFound self.old self.new (mapping.now.offset + at) (length bytes.old)) }
         ensures sound { ReadsMapping S.view F.backing self.old self.new mapping.now.image (mapping.now.offset + at)
             (length bytes.old) (further_by at mapping.now.kind) result }
         ensures sees { AnswersCall S.view F.backing self.old self.new []
@@ -96,7 +99,8 @@ impl<S: Storage, F: WrappedFormat<S>> Qcow2<S, F> {
         bytes: &mut [u8],
     ) -> Result<(), ImageError>
         ensures step { ReadingStep S.view self.old self.new }
-        ensures fails { ImageFails S.view F.backing self.old self.new result MayFailToRead }
+        ensures fails { ImageFails S.view F.backing self.old self.new result
+            (MayFailReadingFound self.old self.new (mapping.now.offset + at) (length bytes.old)) }
         ensures sound { ReadsRange S.view F.backing self.old self.new (mapping.now.offset + at) (length bytes.old)
             (further_by at mapping.now.kind) bytes.new result }
         ensures held { 0 < length bytes.old
@@ -133,9 +137,11 @@ impl<S: Storage, F: WrappedFormat<S>> Qcow2<S, F> {
         wanted: &MappingKind,
     ) -> Result<(), ImageError>
         ensures step { ReadingStep S.view self.old self.new }
-        ensures fails { ImageFails S.view F.backing self.old self.new result MayFailToRead }
+        ensures fails { ImageFails S.view F.backing self.old self.new result
+            (MayFailFindingAgain self.old self.new offset length) }
         ensures sound { ChecksRange S.view F.backing self.old self.new offset length wanted.now result }
         ensures held { 0 < length → FitsTables self.new offset wanted.now length result }
+        ensures special { OnOk result (IsSpecial wanted.now → IsHeldCompressed self.new offset) }
         ensures quiet { LooksQuietly S.view offset self.old self.new }
     {
         let (kind, found) = self.look_up(offset, length)?;
@@ -218,7 +224,7 @@ impl<S: Storage, F: WrappedFormat<S>> Qcow2<S, F> {
     pub fn readv_special(&mut self, bytes: &mut [u8], offset: u64) -> Result<(), ImageError>
         ensures step { ReadingCall S.view F.backing self.old self.new result }
         ensures refusals { RefusesOrSkips self.old self.new result (unusable self.old) (length bytes.old) tt
-            (λ e. MayFailToRead e ⊎ (e ≡ NotCompressed offset)) }
+            (λ e. MayFailTelling self.old self.new offset 1 e ⊎ (e ≡ NotCompressed offset)) }
         ensures sound { ReadsSpecial S.view F.backing self.old self.new offset (length bytes.old) result }
         ensures some { 0 < length bytes.old → IsErr result }
         ensures slice { bytes.new ≡ bytes.old }
@@ -240,7 +246,8 @@ impl<S: Storage, F: WrappedFormat<S>> Qcow2<S, F> {
         offset: u64,
     ) -> Result<Option<u64>, ImageError>
         ensures step { ReadingCall S.view F.backing self.old self.new result }
-        ensures refusals { RefusesOrSkips self.old self.new result (unusable self.old) (length bytes.old) None MayFailToRead }
+        ensures refusals { RefusesOrSkips self.old self.new result (unusable self.old) (length bytes.old) None
+            (MayFailTelling self.old self.new offset 1) }
         ensures sound { TriesSpecial S.view F.backing self.old self.new offset (length bytes.old) result }
         ensures some { 0 < length bytes.old → IfOk result (λ at. at ≡ Some offset) }
         ensures slice { bytes.new ≡ bytes.old }
@@ -259,7 +266,7 @@ impl<S: Storage, F: WrappedFormat<S>> Qcow2<S, F> {
     // The offset, if its guest cluster is not compressed. It may lie past the disk's size.
     fn check_not_compressed(&mut self, offset: u64) -> Result<Option<u64>, ImageError>
         ensures step { ReadingStep S.view self.old self.new }
-        ensures fails { ImageFails S.view F.backing self.old self.new result MayFailToRead }
+        ensures fails { ImageFails S.view F.backing self.old self.new result (MayFailTelling self.old self.new offset 1) }
         ensures sound { ChecksWhether S.view F.backing self.old self.new offset result }
         ensures answer { IfOk result (λ at. at ≡ Some offset) }
         ensures quiet { LooksQuietly S.view offset self.old self.new }
@@ -285,7 +292,7 @@ impl<S: Storage, F: WrappedFormat<S>> Qcow2<S, F> {
         requires { at + length bytes.now ≤ prepared.now.length }
         ensures step { PuttingCall S.view F.backing self.old self.new result }
         ensures refusals { RefusesPut self.old self.new result (refuses_mapping self.old (image_of prepared.now))
-            (length bytes.now) }
+            (length bytes.now) (MayFailPuttingAt self.old self.new prepared.now at (length bytes.now)) }
         ensures sound { PutsInMapping S.view F.backing self.old self.new prepared.now at (length bytes.now) result }
         ensures private { IsSome (table_of prepared.now) → result ≢ Err OutdatedMapping }
         ensures sees { Puts S.view F.backing self.old self.new prepared.now at bytes.now result }
@@ -316,7 +323,8 @@ impl<S: Storage, F: WrappedFormat<S>> Qcow2<S, F> {
         bytes: &[u8],
     ) -> Result<(), ImageError>
         ensures step { KeepingStep S.view self.old self.new }
-        ensures fails { ImageFails S.view F.backing self.old self.new result MayFail }
+        ensures fails { ImageFails S.view F.backing self.old self.new result
+            (MayFailPuttingAt self.old self.new prepared.now at (length bytes.now)) }
         ensures in_place { PutsInPlace S.view F.backing self.old self.new prepared.now at (length bytes.now) result }
         ensures puts { PutsBytes S.view F.backing self.old self.new prepared.now at bytes.now result }
         ensures private { IsSome (table_of prepared.now) → result ≢ Err OutdatedMapping }
@@ -341,7 +349,8 @@ impl<S: Storage, F: WrappedFormat<S>> Qcow2<S, F> {
         length: u64,
     ) -> Result<(), ImageError>
         ensures step { KeepingStep S.view self.old self.new }
-        ensures fails { ImageFails S.view F.backing self.old self.new result MayFail }
+        ensures fails { ImageFails S.view F.backing self.old self.new result (λ e. (table_of prepared.now ≡ None)
+            × MayFailFindingAgain self.old self.new (prepared.now.guest + at) length e) }
         ensures sound { ChecksInPlace S.view F.backing self.old self.new prepared.now at host length result }
         ensures private { IsSome (table_of prepared.now) → (result ≡ Ok tt) × (self.new ≡ self.old) }
         ensures held { table_of prepared.now ≡ None → 0 < length

@@ -181,6 +181,7 @@ impl<S: Storage, F: WrappedFormat<S>> Qcow2<S, F> {
     }
 
     // Writes an L1 table to its clusters, after all refcounts.
+    #[tactic(auto, using(crate::proofs::Call::FailingErrors::storage_met, crate::proofs::Call::CacheErrors::fault_or_met))]
     fn place_l1_table(
         &mut self,
         table: &mut L1Table,

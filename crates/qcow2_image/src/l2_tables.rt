@@ -83,6 +83,7 @@ impl<S: Storage, F: WrappedFormat<S>> Qcow2<S, F> {
     }
 
     // The L2 table of an offset, cached and marked copied. It is made if there is none, and copied if it isn't marked copied.
+    #[tactic(auto, using(crate::proofs::Call::CacheErrors::in_use_met))]
     pub(crate) fn ensure_cached_l2(&mut self, offset: u64) -> Result<HostCluster, ImageError>
         requires writable { IsTrue (is_writable self.old) }
         ensures step { ImageStep S.view self.old self.new }
@@ -143,6 +144,7 @@ impl<S: Storage, F: WrappedFormat<S>> Qcow2<S, F> {
     }
 
     // Replaces a table that isn't marked copied by a copy.
+    #[tactic(auto, using(crate::proofs::Call::FailingErrors::storage_met, crate::proofs::Call::FailingErrors::memory_met, crate::proofs::Call::CacheErrors::in_use_met))]
     fn replace_l2(&mut self, index: usize, old: HostCluster) -> Result<HostCluster, ImageError>
         requires writable { IsTrue (is_writable self.old) }
         ensures step { ImageStepWhere S.view (0 < old) self.old self.new }
@@ -262,6 +264,7 @@ impl<S: Storage, F: WrappedFormat<S>> Qcow2<S, F> {
 
     // Writes what must be on the storage before an L1 entry names a new table: refblocks, and before them L2 tables if the order of
     // writes requires it.
+    #[tactic(auto, using(crate::proofs::Call::CacheErrors::fault_or_met))]
     fn store_first(&mut self) -> Result<(), ImageError>
         ensures step { ImageStep S.view self.old self.new }
         ensures fails { ImageFails S.view F.backing self.old self.new result MayFail }
@@ -283,6 +286,7 @@ impl<S: Storage, F: WrappedFormat<S>> Qcow2<S, F> {
 
     // Writes a table's bytes to a cluster, and puts the table into the cache. A table with another cluster size than the image's, which
     // no cache holds, is refused 19 (metadata).
+    #[tactic(auto, using(crate::proofs::Call::FailingErrors::storage_met, crate::proofs::Call::CacheErrors::in_use_met))]
     fn write_l2_bytes(&mut self, cluster: HostCluster, mut table: L2Table) -> Result<(), ImageError>
         ensures step { ImageStepWhere S.view (0 < cluster) self.old self.new }
         ensures fails { ImageFails S.view F.backing self.old self.new result MayFail }

@@ -2,7 +2,7 @@
 ghost use Rattle.qcow2_image.specs.WriteSteps.{FindsInTable, FindsRun, IsLookedUp, LooksUp, RefusesLookup};
 ghost use Rattle.qcow2_image.specs.ImageSteps.{ImageFails, ReadingCall, ReadingStep};
 ghost use Rattle.qcow2_disk.specs.Alike.{IsAlike};
-ghost use Rattle.std.specs.Prelude.{◌↔◌, List, Option, is_some, ◌≡◌, ◌+◌, ◌*◌, ◌-◌, ◌%◌, true, Some, ◌^◌, ◌<◌, ◌≤◌, []};
+ghost use Rattle.std.specs.Prelude.{◌↔◌, ◌⊎◌, List, Option, is_some, ◌≡◌, ◌+◌, ◌*◌, ◌-◌, ◌%◌, true, Some, ◌^◌, ◌<◌, ◌≤◌, []};
 ghost use Rattle.std.specs.Prelude.{length, IfOk, IfErr, IfSome, IsOk, IsSome, IsTrue, Ok, Err, None, false};
 ghost use Rattle.std.specs.Prelude.{MatchOption, min, ℕ};
 ghost use Rattle.qcow2_metadata.specs.L2Mapping.{HasAlignedHost, IsInReach};
@@ -12,7 +12,10 @@ ghost use Rattle.qcow2_alloc.specs.MetadataCaches.{IsEntryAt, l2_at};
 ghost use Rattle.qcow2_alloc.specs.ImageFile.{known_in, FileInvariant};
 ghost use Rattle.qcow2_image.specs.declared.prepared.Prepared.{Prepared};
 ghost use Rattle.qcow2_image.specs.Calls.{AnswersCall};
-ghost use Rattle.qcow2_alloc.specs.ImageError.{IsOfTables};
+ghost use Rattle.qcow2_alloc.specs.declared.error.ImageError.TheVariants.{UnalignedTable};
+ghost use Rattle.qcow2_image.specs.LookupCauses.{HasUnalignedBehind, HasUnalignedEntry, IsHeldCompressed};
+ghost use Rattle.qcow2_image.specs.LookupCauses.{IsTableUnaligned, IsUnalignedIn, MayFailFinding};
+ghost use Rattle.qcow2_image.specs.MayFail.{IsSpecial};
 ghost use Rattle.qcow2_disk.specs.Found.{kind_at, rest_of_table};
 ghost use Rattle.qcow2_image.specs.Faults.{IsNotOfStorage};
 ghost use Rattle.qcow2_image.specs.Found.{found_kind, mapping_of, IsRunBehind, NamesL2Table, IsRunFrom};
@@ -22,7 +25,6 @@ ghost use Rattle.qcow2_image.specs.PinnedTables.{own_table};
 ghost use Rattle.qcow2_image.specs.ImageInvariant.{HasL1Table, ImageInvariant};
 ghost use Rattle.qcow2_metadata.specs.Header.{cluster_size};
 ghost use Rattle.qcow2_image.specs.declared.mapping.MappingKind.TheVariants.{Eof};
-ghost use Rattle.qcow2_image.specs.Refusals.{IsUnlimited};
 ghost use Rattle.qcow2_image.specs.Unwritten.{LooksQuietly};
 
 use crate::{Mapping, MappingKind, Place, Qcow2};
@@ -59,15 +61,14 @@ fn cluster_size(table: &L2Table) -> u64
     1 << table.cluster_bits()
 }
 
-#[tactic(auto, using(crate::proofs::Call::FailingErrors::tables_met, crate::proofs::Call::FailingErrors::storage_met, crate::proofs::Call::FailingErrors::unaligned_of_tables))]
 impl<S: Storage, F: WrappedFormat<S>> Qcow2<S, F> {
     /// Returns the mapping of a guest offset, and how many bytes, up to `max`, are mapped alike: within one L2 table, and below the disk's
     /// size. At or past the size it is `Eof`, with 0 bytes.
-    /// Refused 16 (failed), 12 (dependency), in this order. May be refused 4 (unaligned table), 8 (everything is in use),
-    /// 14 (memory) or 15 (storage) during the work.
+    /// Refused 16 (failed), 12 (dependency), in this order. During the work it may be refused 14 (memory) or 15 (storage), 8 (everything
+    /// is in use) if all cached L2 tables are pinned, and 4 (unaligned table) if its L2 table or a cluster that is looked at is not aligned.
     pub fn get_mapping(&mut self, offset: u64, max: u64) -> Result<(Mapping, u64), ImageError>
         ensures step { ReadingCall S.view F.backing self.old self.new result }
-        ensures refusals { RefusesLookup self.old self.new offset result }
+        ensures refusals { RefusesLookup self.old self.new offset max result }
         ensures sound { LooksUp S.view F.backing self.old self.new offset max result }
         ensures found { IfOk result (IsLookedUp self.old offset max) }
         ensures sees { AnswersCall S.view F.backing self.old self.new [] (λ found old new. new ≡ old) result }
@@ -93,12 +94,13 @@ impl<S: Storage, F: WrappedFormat<S>> Qcow2<S, F> {
         max: u64,
     ) -> Result<(MappingKind, u64), ImageError>
         ensures step { ReadingStep S.view self.old self.new }
-        ensures fails { ImageFails S.view F.backing self.old self.new result IsOfTables }
+        ensures fails { ImageFails S.view F.backing self.old self.new result (MayFailFinding self.old self.new offset max) }
         ensures sound { FindsRun S.view F.backing self.old self.new offset max result }
         ensures within { IfOk result (λ (kind, n). n ≤ max) }
         ensures some { IfOk result (λ (kind, n). offset < size_of self.old → 0 < max → 0 < n) }
         ensures past { size_of self.old ≤ offset → result ≡ Ok (Eof, 0) }
         ensures held { offset < size_of self.old → IfOk result (λ (kind, n). IsHeldRun self.new offset max kind n) }
+        ensures special { IfOk result (λ (kind, n). IsSpecial kind → IsHeldCompressed self.new offset) }
         ensures quiet { LooksQuietly S.view offset self.old self.new }
     {
         let size = self.file.header.size();
@@ -115,12 +117,13 @@ impl<S: Storage, F: WrappedFormat<S>> Qcow2<S, F> {
         max: u64,
     ) -> Result<(MappingKind, u64), ImageError>
         ensures step { ReadingStep S.view self.old self.new }
-        ensures fails { ImageFails S.view F.backing self.old self.new result IsOfTables }
+        ensures fails { ImageFails S.view F.backing self.old self.new result (MayFailFinding self.old self.new offset max) }
         ensures sound { FindsInTable S.view F.backing self.old self.new offset max result }
         ensures within { IfOk result (λ (kind, n). n ≤ max) }
         ensures some { IfOk result (λ (kind, n). 0 < max → 0 < n) }
         ensures held { (limit : ℕ) → max ≡ min limit (size_of self.old - offset) → offset < size_of self.old
             → IfOk result (λ (kind, n). IsHeldRun self.new offset limit kind n) }
+        ensures special { IfOk result (λ (kind, n). IsSpecial kind → IsHeldCompressed self.new offset) }
         ensures quiet { LooksQuietly S.view offset self.old self.new }
     {
         let max = max.min(self.rest_of_table(offset));
@@ -147,7 +150,7 @@ impl<S: Storage, F: WrappedFormat<S>> Qcow2<S, F> {
 
     // The cluster of the L2 table of an offset, or None if there is none.
     fn l2_cluster(&self, offset: u64) -> Result<Option<HostCluster>, ImageError>
-        ensures cause { IfErr result IsOfTables }
+        ensures cause { IfErr result (λ e. (e ≡ UnalignedTable) × IsTableUnaligned self.now offset) }
         ensures reads { (p : Pending) (out : List (Option Prepared)) → ImageInvariant S.view F.backing p self.now out → IsOk result }
         ensures names { HasL1Table S.view F.backing self.now.file self.now.l1_table → IfOk result (NamesL2Table S.view self.now offset) }
         ensures elsewhere { IfOk result (λ table. IfSome table (λ cluster. 0 < cluster)) }
@@ -177,7 +180,6 @@ impl<S: Storage, F: WrappedFormat<S>> Qcow2<S, F> {
     }
 
     // The run of clusters that are mapped alike from an offset on, in the cached table that covers it.
-    #[tactic(auto, using(crate::proofs::Call::FailingErrors::tables_met, crate::proofs::Call::FailingErrors::storage_met, crate::proofs::Call::FailingErrors::unaligned_of_tables, crate::proofs::Call::Unlimited::unaligned_unlimited))]
     pub(crate) fn run_in_table(
         &self,
         table: HostCluster,
@@ -186,12 +188,12 @@ impl<S: Storage, F: WrappedFormat<S>> Qcow2<S, F> {
     ) -> Result<(MappingKind, u64), ImageError>
         requires near { max ≤ 2 ^ 40 }
         requires cached { IsSome (l2_at self.now.file.caches table) }
-        ensures cause { IfErr result IsOfTables }
+        ensures cause { IfErr result (λ e. (e ≡ UnalignedTable)
+            × (table ≡ own_table self.now offset → HasUnalignedEntry self.now offset max)) }
         ensures reads { (p : Pending) → FileInvariant S.view p self.now.file
             → IsEntryAt self.now.file.header.fields (known_in S.view self.now.file)
             (l1_index_of self.now.file.header.fields offset) table (l2_index_of self.now.file.header.fields offset)
             → max ≤ rest_of_table self.now.file.header.fields offset → IsOk result }
-        ensures limited { IfErr result IsUnlimited }
         ensures within { IfOk result (λ (kind, n). n ≤ max) }
         ensures some { IfOk result (λ (kind, n). 0 < max → 0 < n) }
         ensures run { (p : Pending) → FileInvariant S.view p self.now.file
@@ -199,6 +201,8 @@ impl<S: Storage, F: WrappedFormat<S>> Qcow2<S, F> {
             (l1_index_of self.now.file.header.fields offset) table (l2_index_of self.now.file.header.fields offset)
             → max ≤ rest_of_table self.now.file.header.fields offset
             → IfOk result (λ (kind, n). IsRunFrom S.view self.now offset max kind n) }
+        ensures special { table ≡ own_table self.now offset
+            → IfOk result (λ (kind, n). IsSpecial kind → IsHeldCompressed self.now offset) }
         ensures faults { IfErr result IsNotOfStorage }
         ensures held { (limit : ℕ) → max ≡ min (min limit (size_of self.now - offset))
             (rest_of_table self.now.file.header.fields offset) → offset < size_of self.now
@@ -218,7 +222,6 @@ impl<S: Storage, F: WrappedFormat<S>> Qcow2<S, F> {
     }
 
     // Whether two guest clusters of a table, `distance` bytes apart, are mapped alike.
-    #[tactic(auto, using(crate::proofs::Call::FailingErrors::tables_met, crate::proofs::Call::FailingErrors::storage_met, crate::proofs::Call::FailingErrors::unaligned_of_tables, crate::proofs::Call::Unlimited::unaligned_unlimited))]
     fn are_alike(
         &self,
         table: &L2Table,
@@ -228,9 +231,9 @@ impl<S: Storage, F: WrappedFormat<S>> Qcow2<S, F> {
     ) -> Result<bool, ImageError>
         requires near { distance ≤ 2 ^ 42 }
         ensures alike { IfOk result (λ alike. IsTrue alike ↔ IsAlike distance (mapping_of table.now first) (mapping_of table.now next)) }
-        ensures cause { IfErr result IsOfTables }
+        ensures cause { IfErr result (λ e. (e ≡ UnalignedTable)
+            × (IsUnalignedIn table.now first ⊎ IsUnalignedIn table.now next)) }
         ensures reads { ((g : ℕ) → HasAlignedHost table.now.cluster_bits (mapping_of table.now g)) → IsOk result }
-        ensures limited { IfErr result IsUnlimited }
         ensures faults { IfErr result IsNotOfStorage }
     {
         let first = table.get_mapping(first)?;
@@ -239,7 +242,6 @@ impl<S: Storage, F: WrappedFormat<S>> Qcow2<S, F> {
     }
 
     // How many bytes, at least up to `max`, are in clusters after one that are mapped like it.
-    #[tactic(auto, using(crate::proofs::Call::FailingErrors::tables_met, crate::proofs::Call::FailingErrors::storage_met, crate::proofs::Call::FailingErrors::unaligned_of_tables, crate::proofs::Call::Unlimited::unaligned_unlimited))]
     fn alike_behind(
         &self,
         table: &L2Table,
@@ -250,9 +252,8 @@ impl<S: Storage, F: WrappedFormat<S>> Qcow2<S, F> {
         requires near { cluster < 2 ^ 62 }
         ensures bounded { IfOk result (λ n. n ≤ 2 ^ 41) }
         ensures run { IfOk result (IsRunBehind table.now cluster max) }
-        ensures cause { IfErr result IsOfTables }
+        ensures cause { IfErr result (λ e. (e ≡ UnalignedTable) × HasUnalignedBehind table.now cluster max) }
         ensures reads { ((g : ℕ) → HasAlignedHost table.now.cluster_bits (mapping_of table.now g)) → IsOk result }
-        ensures limited { IfErr result IsUnlimited }
         ensures faults { IfErr result IsNotOfStorage }
     {
         let size = cluster_size(table);

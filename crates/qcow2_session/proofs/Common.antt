@@ -34,6 +34,7 @@ pub use Rattle.qcow2_disk.specs.Runs.{get_mapping, prepare, done, prepared_is, r
 pub use Rattle.qcow2_disk.specs.Stops.{IsGiven, GivenBytes, Checkpoint, checkpoint_at, IsSafeAfter, StopOkEverywhere}
 pub use Rattle.qcow2_disk.specs.UngivenCovers.{Touches, IsUngiven}
 pub use Rattle.qcow2_image.proofs.Call.BehindHeader.{behind_none, behind_then}
+pub use Rattle.qcow2_image.proofs.Call.CacheErrors.{finding_read, found_read, putting_met, telling_or, telling_read}
 pub use Rattle.qcow2_image.proofs.Call.FailingErrors.{read_met, storage_met, storage_read, tables_met, tables_read}
 pub use Rattle.qcow2_image.proofs.Call.FaultCounts.{faults_then, counted_on, counted_since, each_since, fewer_of, rose_after, tells_since, untouched, counted_still}
 pub use Rattle.qcow2_image.proofs.Call.OnceWritten.{changes_before, counts_on, counts_still, counts_released, changes_later, once_none}
@@ -57,6 +58,7 @@ pub use Rattle.qcow2_image.specs.ImageInvariant.{abstract_of, ImageInvariant, di
 pub use Rattle.qcow2_image.specs.L1Entries.{NeedsOverflowingL1Entry}
 pub use Rattle.qcow2_image.specs.Limits.{IsLimited, IfLimit}
 pub use Rattle.qcow2_image.specs.ListedClusters.{ListsNoMore}
+pub use Rattle.qcow2_image.specs.LookupCauses.{MayFailFinding, MayFailReadingFound, MayFailTelling}
 pub use Rattle.qcow2_image.specs.MayFail.{CopiesCompressed, MayFailReadingRange, MayFailAllocating, IsCacheHeld, MayFailLooking, MayFailMapped, MayFailAlone, HasCompressedIn, MayFailPutting, IsSpecial, MayFailLookingAgain, MayFailSpecial}
 pub use Rattle.qcow2_image.specs.Noted.{CountsImageChanges, CommitFailsOnceWritten, FailsOnceWritten}
 pub use Rattle.qcow2_image.specs.Opened.{IsKeptSince, Opens}
@@ -83,6 +85,7 @@ pub use Rattle.qcow2_metadata.specs.Header.{cluster_size, entries_per_cluster, r
 pub use Rattle.qcow2_metadata.specs.declared.header.HeaderFields.{HeaderFields}
 pub use Rattle.qcow2_metadata.specs.declared.l2_mapping.L2Mapping.{L2Mapping}
 pub use Rattle.qcow2_metadata.specs.declared.l2_mapping.L2Mapping.TheVariants.{Data, Zero, Compressed, Uncovered}
+pub use Rattle.qcow2_session.specs.ReadCauses.{MayFailReadingFrom}
 pub use Rattle.qcow2_session.specs.Causes.{RefusalJustified, HasNothingToDo, MayFailOnSound, IsUntouchedUnder, MayFailWith, ReportsMisuse, first_cause, ClearingMayFail, CommandMayFailAllocating}
 pub use Rattle.qcow2_session.specs.Commands.{reply_of_clearing, reply_of, command_of, ReportsPlain, ReportsSpecial}
 pub use Rattle.qcow2_session.specs.Conversions.{RefusedConversion, IsRawOf, Imports, ImportsAll, ImportsAnyOf, DiffersWhereKept, IsRefusedUnequal, IsFilledUpTo, Fills, MayFailImporting, IsReasonNotToWrite, HasSome, ImportsAt, ImportsAny, ImportsAnyAt, IsKeptFromWriting, IsUnchanged, IsLeft}

@@ -25,6 +25,7 @@ mod ImportLimits
 mod Cleared
 mod Resized
 mod SpecialReads
+mod ReadCauses
 mod Causing
 mod Untaken
 mod Parts

@@ -19,10 +19,11 @@ use Rattle.qcow2_image.specs.ImageInvariant.{abstract_of}
 use Rattle.qcow2_image.specs.ListedClusters.{ListsNoMore}
 use Rattle.qcow2_image.specs.MayFail.{CopiesCompressed, MayFailReadingRange, MayFailAllocating}
 use Rattle.qcow2_image.specs.Preallocation.{IsUnderMappingIn}
-use Rattle.qcow2_image.specs.Refusals.{MayFailPreparing, MayFailToRead, refuses_to_prepare, refuses_to_read}
+use Rattle.qcow2_image.specs.Refusals.{MayFailPreparing, refuses_to_prepare, refuses_to_read}
 use Rattle.qcow2_image.specs.Unwritten.{ReadsQuietly}
 use Rattle.qcow2_image.specs.declared.image.Qcow2.{Qcow2}
 use Rattle.qcow2_image.specs.declared.prepared.Prepared.{Prepared}
+use Rattle.qcow2_session.specs.ReadCauses.{MayFailReadingFrom}
 use Rattle.qcow2_session.specs.Conversions.{DiffersWhereKept, IsLeft, MayFailImporting, IsOfImporting, IsReasonNotToWrite, IsRefusedUnequal, IsUnchanged}
 use Rattle.qcow2_session.specs.CountedFaults.{CommandCounts, ConversionCounts, RunCounts, refusal_in}
 use Rattle.qcow2_session.specs.Causes.{RefusalJustified}
@@ -90,7 +91,7 @@ module _ {S F : Type 0} (view : S → StorageView) (backing : F → BackingView)
     -- Why a read is refused. The causes that are checked before any work leave the image the same. On a sound image, each other refusal has its cause.
     pub record RefusesToRead (offset n : ℕ) : Type 0 where
       pub early : IfSome (refuses_to_read old offset n) (λ e. (result ≡ Err e) × (new ≡ old))
-      pub late : refuses_to_read old offset n ≡ None → IfErr result (λ e. MayFailToRead e × (0 < n))
+      pub late : refuses_to_read old offset n ≡ None → IfErr result (λ e. MayFailReadingFrom new offset (offset + n) e × (0 < n))
       pub may_fail : refuses_to_read old offset n ≡ None → (out : List (Option Prepared)) → (abstract_of view backing old out).is_sound
           → IfErr result (MayFailReadingRange out offset (offset + n) old.file.header.fields (known_in view old.file))
       pub beyond : IfErr result (IsRightlyBeyond old offset n)

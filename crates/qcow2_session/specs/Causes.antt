@@ -1,5 +1,6 @@
 -- Why the commands of a run are refused: checks before any work, in their order, and causes that come during the work.
 use Rattle.qcow2_alloc.specs.declared.error.ImageError.TheVariants as I
+use Rattle.qcow2_session.specs.ReadCauses.{MayFailReadingFrom}
 use Rattle.qcow2_session.specs.declared.session.Command.TheVariants as C
 use Rattle.qcow2_session.specs.declared.session.Reply.TheVariants as R
 use Rattle.std.specs.Prelude.{ℕ, ◌+◌, ◌<◌, ◌≤◌, ◌≡◌, ◌↔◌, ◌⊎◌, ◌&&◌, not, nat_lt, true, false, length, replicate, List, [], ◌∷◌, Option, Some, None, Ok, Err, IfSome, IsNone, IsSomeAnd, MatchOption, slice_get}
@@ -19,11 +20,12 @@ use Rattle.qcow2_image.specs.Image.{is_failed, is_writable, size_of}
 use Rattle.qcow2_image.specs.ImageInvariant.{abstract_of}
 use Rattle.qcow2_image.specs.Invalidated.{IsOfPrepared, IsStillInUse, MayFailToInvalidate}
 use Rattle.qcow2_image.specs.L1Entries.{NeedsOverflowingL1Entry}
+use Rattle.qcow2_image.specs.LookupCauses.{MayFailFinding, MayFailReadingFound, MayFailTelling}
 use Rattle.qcow2_image.specs.MayFail.{CopiesCompressed, IsCacheHeld, MayFailLooking, MayFailMapped, MayFailPutting, MayFailReadingRange, MayFailSpecial, MayFailGrowing, MayFailAllocating}
 use Rattle.qcow2_image.specs.Preallocation.{IsUnderMappingIn}
 use Rattle.qcow2_image.specs.Prepared.{length_of, table_of}
 use Rattle.qcow2_image.specs.Preparing.{IsTaken}
-use Rattle.qcow2_image.specs.Refusals.{MayFail, MayFailPreparing, MayFailToGrow, MayFailToRead, refuse_if, refuses_to_prepare, refuses_to_read, unusable}
+use Rattle.qcow2_image.specs.Refusals.{MayFail, MayFailPreparing, MayFailToGrow, refuse_if, refuses_to_prepare, refuses_to_read, unusable}
 use Rattle.qcow2_image.specs.Resizing.{boundary_in, refuses_to_resize, takes_over}
 use Rattle.qcow2_image.specs.declared.image.Qcow2.{Qcow2}
 use Rattle.qcow2_image.specs.declared.mapping.Mapping.{Mapping}
@@ -88,30 +90,31 @@ ReportsMisuse before found command reply = (reply ≡ R.Misuse) ↔ IsMisused be
 
 -- ---- during the work
 
--- The refusals of a command that no check refused.
-abbrev pub MayFailWith : Command → ImageError → Type 0
-MayFailWith (C.Read offset n) e = MayFailToRead e
-MayFailWith (C.Write offset bytes) e = MayFailPreparing e
-MayFailWith (C.Fill offset n byte) e = MayFailPreparing e
-MayFailWith (C.GetMapping slot offset max) e = IsOfTables e
-MayFailWith (C.ReadMapped slot at n) e = MayFailToRead e
-MayFailWith (C.PrepareDataMapping slot offset n overwrite) e = MayFailPreparing e
-MayFailWith (C.CommitDataMapping slot) e = IsOfTables e
-MayFailWith (C.DiscardDataMapping slot) e = ⊥
-MayFailWith (C.EnsureZeroMapping offset n) e = MayFailPreparing e
-MayFailWith (C.DiscardToZero offset n) e = MayFailPreparing e
-MayFailWith (C.DiscardToAny offset n) e = MayFailPreparing e
-MayFailWith (C.DiscardToBacking offset n) e = MayFailPreparing e
-MayFailWith (C.ReadvSpecial offset n) e = MayFailToRead e ⊎ (e ≡ I.NotCompressed offset)
-MayFailWith (C.TryReadvSpecial offset n) e = MayFailToRead e
-MayFailWith C.Flush e = IsOfTables e
-MayFailWith C.Sync e = IsFault e
-MayFailWith C.InvalidateCache e = MayFailToInvalidate e
-MayFailWith (C.ResizeGrow size mode) e = MayFailToGrow mode e
-MayFailWith (C.ResizeShrink size) e = IsFault e ⊎ (e ≡ I.MappingPrepared)
-MayFailWith C.Size e = ⊥
-MayFailWith C.Leaked e = ⊥
-MayFailWith command e = MayFail e
+module _ {S F : Type 0} (old new : Qcow2 S F) (found : ℕ → Option Mapping) where
+  -- The refusals of a command that no check refused, whatever the image contains.
+  abbrev pub MayFailWith : Command → ImageError → Type 0
+  MayFailWith (C.Read offset n) e = MayFailReadingFrom new offset (offset + n) e
+  MayFailWith (C.Write offset bytes) e = MayFailPreparing e
+  MayFailWith (C.Fill offset n byte) e = MayFailPreparing e
+  MayFailWith (C.GetMapping slot offset max) e = MayFailFinding old new offset max e
+  MayFailWith (C.ReadMapped slot at n) e = (m : Mapping) × (found slot ≡ Some m) × MayFailReadingFound old new (m.offset + at) n e
+  MayFailWith (C.PrepareDataMapping slot offset n overwrite) e = MayFailPreparing e
+  MayFailWith (C.CommitDataMapping slot) e = IsOfTables e
+  MayFailWith (C.DiscardDataMapping slot) e = ⊥
+  MayFailWith (C.EnsureZeroMapping offset n) e = MayFailPreparing e
+  MayFailWith (C.DiscardToZero offset n) e = MayFailPreparing e
+  MayFailWith (C.DiscardToAny offset n) e = MayFailPreparing e
+  MayFailWith (C.DiscardToBacking offset n) e = MayFailPreparing e
+  MayFailWith (C.ReadvSpecial offset n) e = MayFailTelling old new offset 1 e ⊎ (e ≡ I.NotCompressed offset)
+  MayFailWith (C.TryReadvSpecial offset n) e = MayFailTelling old new offset 1 e
+  MayFailWith C.Flush e = IsOfTables e
+  MayFailWith C.Sync e = IsFault e
+  MayFailWith C.InvalidateCache e = MayFailToInvalidate e
+  MayFailWith (C.ResizeGrow size mode) e = MayFailToGrow mode e
+  MayFailWith (C.ResizeShrink size) e = IsFault e ⊎ (e ≡ I.MappingPrepared)
+  MayFailWith C.Size e = ⊥
+  MayFailWith C.Leaked e = ⊥
+  MayFailWith command e = MayFail e
 
 module _ {S F : Type 0} (view : S → StorageView) (old new : Qcow2 S F) (before : List (Option Prepared)) where
   -- Why clearing a range of a sound image is refused: a fault; a limit; 20; 8, if a mapping is pinned; or 9, if one is pinned in the L2 table of the first offset.
@@ -231,7 +234,7 @@ module _ {S F : Type 0} (view : S → StorageView) (backing : F → BackingView)
     pub misuse : ReportsMisuse before found command reply
     pub still : reply ≡ R.Misuse → new ≡ old
     pub early : IfSome (first_cause old command) (λ e. ((refusal_in reply ≡ Some e) ⊎ (reply ≡ R.Misuse)) × (new ≡ old))
-    pub late : first_cause old command ≡ None → IfSome (refusal_in reply) (MayFailWith command)
+    pub late : first_cause old command ≡ None → IfSome (refusal_in reply) (MayFailWith old new found command)
     pub may_fail : first_cause old command ≡ None → (abstract_of view backing old before).is_sound → IfSome (refusal_in reply) (CommandMayFailAllocating view old new before command)
     pub idle : first_cause old command ≡ None → HasNothingToDo command → refusal_in reply ≡ None
     pub respects : first_cause old command ≡ None → (abstract_of view backing old before).is_sound → MayFailOnSound found command reply

@@ -2,6 +2,7 @@ pub mod Commands
 pub mod CountedFaults
 pub mod Conversions
 pub mod Sessions
+pub mod ReadCauses
 pub mod Causes
 pub mod Told
 pub mod Opening

@@ -13,7 +13,9 @@ ghost use Rattle.qcow2_image.specs.Image.{IsSameImage, is_failed, number_of, Kee
 ghost use Rattle.qcow2_image.specs.Prepared.{image_of};
 ghost use Rattle.qcow2_image.specs.ImageInvariant.{abstract_of};
 ghost use Rattle.qcow2_image.specs.Calls.{Discards};
-ghost use Rattle.qcow2_image.specs.Refusals.{MayFailToRead, unusable, refuses_mapping, refuses_to_read};
+ghost use Rattle.qcow2_image.specs.LookupCauses.{MayFailReadingFound};
+ghost use Rattle.qcow2_session.specs.ReadCauses.{MayFailReadingFrom};
+ghost use Rattle.qcow2_image.specs.Refusals.{unusable, refuses_mapping, refuses_to_read};
 ghost use Rattle.qcow2_image.specs.Faults.{SameFaults};
 ghost use Rattle.qcow2_session.specs.Sessions.{IsRightlyBeyond, IsOfReading};
 ghost use Rattle.qcow2_session.specs.Sessions.{Reads, ReadsInto};
@@ -249,7 +251,8 @@ fn read_some<S: Storage, F: WrappedFormat<S>>(
     ensures step { ReadingParts S.view F.backing image.old image.new result }
     ensures some { IfOk result (λ n. 0 < n) }
     ensures within { IfOk result (λ n. n ≤ length bytes.old) }
-    ensures late { refuses_to_read image.old offset (length bytes.old) ≡ None → 0 < length bytes.old → IfErr result MayFailToRead }
+    ensures late { refuses_to_read image.old offset (length bytes.old) ≡ None → 0 < length bytes.old
+        → IfErr result (MayFailReadingFrom image.new offset (offset + length bytes.old)) }
     ensures may_fail { refuses_to_read image.old offset (length bytes.old) ≡ None → 0 < length bytes.old
         → (out : List (Option Prepared)) → (abstract_of S.view F.backing image.old out).is_sound
         → IfErr result (MayFailReadingRange out offset (offset + length bytes.old) image.old.file.header.fields
@@ -517,7 +520,8 @@ fn read_range<S: Storage, F: WrappedFormat<S>>(
     requires { at + length ≤ mapping.now.length }
     ensures step { SpecialStep S.view F.backing image.old image.new result }
     ensures early { IfSome (unusable image.old) (λ e. (result ≡ Err e) × (image.new ≡ image.old)) }
-    ensures late { refuses_mapping image.old mapping.now.image ≡ None → IfErr result (λ e. MayFailToRead e × (0 < length)) }
+    ensures late { refuses_mapping image.old mapping.now.image ≡ None → IfErr result (λ e.
+        MayFailReadingFound image.old image.new (mapping.now.offset + at) length e × (0 < length)) }
     ensures may_fail { refuses_mapping image.old mapping.now.image ≡ None → (out : List (Option Prepared))
         → (abstract_of S.view F.backing image.old out).is_sound
         → IfErr result (MayFailMapped (IsCacheHeld image.old out) (further_by at mapping.now.kind)

@@ -4,7 +4,8 @@ ghost use Rattle.std.specs.Prelude.{◌≡◌, ◌<◌, ◌⊎◌, [], List, Opt
 ghost use Rattle.qcow2_alloc.specs.ImageFile.{known_in};
 ghost use Rattle.qcow2_image.specs.Calls.{AnswersCall};
 ghost use Rattle.qcow2_image.specs.MayFail.{IsCacheHeld, MayFailLooking, MayFailSpecial};
-ghost use Rattle.qcow2_image.specs.Refusals.{MayFailToRead, unusable};
+ghost use Rattle.qcow2_image.specs.LookupCauses.{MayFailTelling};
+ghost use Rattle.qcow2_image.specs.Refusals.{unusable};
 ghost use Rattle.qcow2_alloc.specs.declared.error.ImageError.TheVariants.{Compressed, NotCompressed};
 ghost use Rattle.qcow2_image.specs.ImageInvariant.{abstract_of};
 ghost use Rattle.qcow2_image.specs.declared.prepared.Prepared.{Prepared};
@@ -56,7 +57,8 @@ fn read_range<S: Storage, F: WrappedFormat<S>>(
 ) -> Result<(), ImageError>
     ensures step { SpecialStep S.view F.backing image.old image.new result }
     ensures early { IfSome (unusable image.old) (λ e. (result ≡ Err e) × (image.new ≡ image.old)) }
-    ensures late { unusable image.old ≡ None → IfErr result (λ e. (MayFailToRead e ⊎ (e ≡ NotCompressed offset)) × (0 < length)) }
+    ensures late { unusable image.old ≡ None → IfErr result (λ e.
+        (MayFailTelling image.old image.new offset 1 e ⊎ (e ≡ NotCompressed offset)) × (0 < length)) }
     ensures may_fail { (out : List (Option Prepared)) → (abstract_of S.view F.backing image.old out).is_sound
         → IfErr result (MayFailSpecial (IsCacheHeld image.old out) offset) }
     ensures empty { IfOk result (λ done. length ≡ 0) }
@@ -78,7 +80,8 @@ fn try_range<S: Storage, F: WrappedFormat<S>>(
 ) -> Result<Option<u64>, ImageError>
     ensures step { SpecialStep S.view F.backing image.old image.new result }
     ensures early { IfSome (unusable image.old) (λ e. (result ≡ Err e) × (image.new ≡ image.old)) }
-    ensures late { unusable image.old ≡ None → IfErr result (λ e. MayFailToRead e × (0 < length)) }
+    ensures late { unusable image.old ≡ None → IfErr result (λ e.
+        MayFailTelling image.old image.new offset 1 e × (0 < length)) }
     ensures may_fail { (out : List (Option Prepared)) → (abstract_of S.view F.backing image.old out).is_sound
         → IfErr result (λ e. MayFailLooking (IsCacheHeld image.old out) e ⊎ (e ≡ Compressed)) }
     ensures answer { IfOk result (λ plain. MatchOption plain (length ≡ 0) (λ at. at ≡ offset)) }

@@ -1,53 +1,45 @@
 -- The modified tables of a cache lie where the image has tables, whatever is flushed, loaded or inserted. So flushes and loads are refused only by the storage or because memory runs out.
 use Rattle.std.proofs.Common.{◌≡◌, ◌⊎◌, ◌+◌, ◌*◌, ◌/◌, ◌^◌, ◌≤◌, ◌&&◌, ◌∷◌, ◌++◌, inl, inr, ℕ, Bool, true, false, eqb, List, [], length, Option, Some, None, Result, Ok, Err, IfErr, refl, sym, ap, ◌∙◌, subst, arith, IfSome}
-use Rattle.qcow2_alloc.proofs.Common.{cases_Bool, cases_eq, option_or, lookup_entry, remove_entry, div-mul-add, pow_pos, promoted, Contains-lookup_entry, StorageView, is_within, MetadataError, HasPlace, IsOfStorageOrMemory, CachedTable, overlays, IsFreeOf, overlays_within, within_cluster, cluster_within, no_overlay, unmodified_over, differs, Slot, CacheError, InUse, StillInUse, Memory, Backend, slot_of, oldest_free, Steps, table_steps, Unit₀, FlushesEntry, FlushesAll, Flushes, HasNoRoom, GetsNew, InsertsNew, Replaces, cached_table, cached_tables, AllValuesFit, same_number}
+use Rattle.qcow2_alloc.proofs.Common.{cases_Bool, cases_eq, option_or, lookup_entry, remove_entry, div-mul-add, pow_pos, promoted, Contains-lookup_entry, StorageView, is_within, MetadataError, HasPlace, IsOfStorageOrMemory, CachedTable, overlays, IsFreeOf, overlays_within, within_cluster, cluster_within, no_overlay, unmodified_over, differs, Slot, CacheError, InUse, StillInUse, Memory, Backend, slot_of, oldest_free, Steps, table_steps, Unit₀, FlushesEntry, FlushesAll, Flushes, HasNoRoom, GetsNew, InsertsNew, Replaces, cached_table, cached_tables, AllValuesFit, same_number, IsOfTable}
+pub use Rattle.qcow2_alloc.specs.CacheCauses.{IsStanding, AreStanding}
 use Rattle.qcow2_alloc.proofs.KeptTables.Entries.{split_oldest}
 use Rattle.qcow2_alloc.proofs.KeptTables.Getting.{cluster_aligned}
 use Rattle.qcow2_alloc.proofs.CachedEntries.Each.{IsOfEach, each_flushed, each_found, each_got, each_inserted, each_promoted, each_replaced}
 
--- what refuses a call of a cache; that all is in use only where this holds
-abbrev pub IsCause : Type 0 → CacheError ℕ MetadataError → Type 0
-IsCause in_use InUse = in_use
-IsCause in_use (StillInUse _) = ⊥
-IsCause in_use Memory = Unit {0}
-IsCause in_use (Backend x) = IsOfStorageOrMemory x
+-- what refuses a call of a cache; that all is in use only where this holds, and a limit only where the tables don't fit
+abbrev pub IsCause : Type 0 → Type 0 → CacheError ℕ MetadataError → Type 0
+IsCause fit in_use InUse = in_use
+IsCause fit in_use (StillInUse _) = ⊥
+IsCause fit in_use Memory = Unit {0}
+IsCause fit in_use (Backend x) = IsOfTable x × (fit → IsOfStorageOrMemory x)
 
 -- there is no room, and no entry may go
 abbrev pub IsFull : {V : Type 0} → ℕ → List (ℕ × Slot V) → Type 0
 IsFull size es = (size ≤ length es) × (oldest_free es ≡ None)
 
 module _ {V : Type 0} (is_modified : V → Bool) (IsFit : V → Type 0) (Named : ℕ → Type 0) where
-  -- the table is of the format, and where it is modified its cluster is named
-  pub record IsStanding (k : ℕ) (v : V) : Type 0 where
-    pub fits : IsFit v
-    pub named : is_modified v ≡ true → Named k
-
-  abbrev pub AreStanding : List (ℕ × Slot V) → Type 0
-  AreStanding [] = Unit {0}
-  AreStanding (e ∷ es) = IsStanding e.0 e.1.value × AreStanding es
-
-  pub clean_stands : (k : ℕ) (v : V) → IsFit v → is_modified v ≡ false → IsStanding k v
+  pub clean_stands : (k : ℕ) (v : V) → IsFit v → is_modified v ≡ false → IsStanding is_modified IsFit Named k v
   clean_stands k v fits clean = record { fits = fits; named = λ m. absurd (differ (is_modified v) m clean) }
     where
       differ : (b : Bool) → b ≡ true → b ≡ false → ⊥
       differ b is isnt = cc
 
-  pub stands_each : IsOfEach IsStanding AreStanding
+  pub stands_each : IsOfEach (IsStanding is_modified IsFit Named) (AreStanding is_modified IsFit Named)
   stands_each = record { none = tt; more = λ e es one all. (one, all); first = λ e es all. all.0; rest = λ e es all. all.1 }
 
-  pub stand_promoted : (test : ℕ → Bool) (es : List (ℕ × Slot V)) → AreStanding es → AreStanding (promoted test es)
+  pub stand_promoted : (test : ℕ → Bool) (es : List (ℕ × Slot V)) → AreStanding is_modified IsFit Named es → AreStanding is_modified IsFit Named (promoted test es)
   stand_promoted test es all = each_promoted stands_each test es all
 
   -- the oldest entry with no pin
-  pub stand_oldest : (es : List (ℕ × Slot V)) (e : ℕ × Slot V) → oldest_free es ≡ Some e → AreStanding es → IsStanding e.0 e.1.value
-  stand_oldest es e eviction all = let s = split_oldest es e eviction in in_list s.front s.back (subst AreStanding s.is all)
+  pub stand_oldest : (es : List (ℕ × Slot V)) (e : ℕ × Slot V) → oldest_free es ≡ Some e → AreStanding is_modified IsFit Named es → IsStanding is_modified IsFit Named e.0 e.1.value
+  stand_oldest es e eviction all = let s = split_oldest es e eviction in in_list s.front s.back (subst (AreStanding is_modified IsFit Named) s.is all)
     where
-      in_list : (front back : List (ℕ × Slot V)) → AreStanding (front ++ e ∷ back) → IsStanding e.0 e.1.value
+      in_list : (front back : List (ℕ × Slot V)) → AreStanding is_modified IsFit Named (front ++ e ∷ back) → IsStanding is_modified IsFit Named e.0 e.1.value
       in_list [] back all = all.0
       in_list (f ∷ front) back all = in_list front back all.1
 
   -- another value in the place of one
-  pub stand_set : (key : ℕ) (front back : List (ℕ × Slot V)) (v w : V) (pins : ℕ) → IsStanding key w → AreStanding (front ++ (key, slot_of v pins) ∷ back) → AreStanding (front ++ (key, slot_of w pins) ∷ back)
+  pub stand_set : (key : ℕ) (front back : List (ℕ × Slot V)) (v w : V) (pins : ℕ) → IsStanding is_modified IsFit Named key w → AreStanding is_modified IsFit Named (front ++ (key, slot_of v pins) ∷ back) → AreStanding is_modified IsFit Named (front ++ (key, slot_of w pins) ∷ back)
   stand_set key [] back v w pins is all = (is, all.1)
   stand_set key (f ∷ front) back v w pins is all = (all.0, stand_set key front back v w pins is all.1)
 
@@ -63,79 +55,90 @@ module _ {S V : Type 0} (view : S → StorageView) (bits : ℕ) (bytes : V → L
   All = AreStanding is_modified IsFit Named
 
   module _ (place : (k : ℕ) → Named k → HasPlace bits k) where
-    one_cause : (s t : S) (e : ℕ × Slot V) (x : Option MetadataError) (d : Slot V) → One e.0 e.1.value → FlushesEntry Steps₀ s e x t d → IfSome x IsOfStorageOrMemory
-    one_cause s t e None d is f = tt
-    one_cause s t e (Some x) d is f = f.0.cause is.fits (place e.0 (is.named f.0.modified))
+    -- the first failure of a flush of all
+    abbrev Fails : Type 0 → Option MetadataError → Type 0
+    Fails fit x = IfSome x (λ e. IsOfTable e × (fit → IsOfStorageOrMemory e))
 
-    first_cause : (a b : Option MetadataError) → IfSome a IsOfStorageOrMemory → IfSome b IsOfStorageOrMemory → IfSome (option_or a b) IsOfStorageOrMemory
-    first_cause None b ha hb = hb
-    first_cause (Some x) b ha hb = ha
+    fails_less : (P Q : Type 0) (x : Option MetadataError) → (Q → P) → Fails P x → Fails Q x
+    fails_less P Q None less is = tt
+    fails_less P Q (Some x) less is = (is.0, λ fit. is.1 (less fit))
 
-    all_cause : (s t : S) (es fs : List (ℕ × Slot V)) (x : Option MetadataError) → All es → FlushesAll Steps₀ s es x t fs → IfSome x IsOfStorageOrMemory
-    all_cause s t [] fs x all f = rw f.0 tt
-    all_cause s t (e ∷ es) fs x all f = rw f.7 (first_cause f.0 f.3 (one_cause s f.1 e f.0 f.2 all.0 f.5) (all_cause f.1 t es f.4 f.3 all.1 f.6))
+    one_cause : (s t : S) (e : ℕ × Slot V) (x : Option MetadataError) (d : Slot V) → FlushesEntry Steps₀ s e x t d → Fails (One e.0 e.1.value) x
+    one_cause s t e None d f = tt
+    one_cause s t e (Some x) d f = (f.0.among, λ is. f.0.cause is.fits (place e.0 (is.named f.0.modified)))
+
+    first_cause : (fit : Type 0) (a b : Option MetadataError) → Fails fit a → Fails fit b → Fails fit (option_or a b)
+    first_cause fit None b ha hb = hb
+    first_cause fit (Some x) b ha hb = ha
+
+    all_cause : (s t : S) (es fs : List (ℕ × Slot V)) (x : Option MetadataError) → FlushesAll Steps₀ s es x t fs → Fails (All es) x
+    all_cause s t [] fs x f = rw f.0 tt
+    all_cause s t (e ∷ es) fs x f = rw f.7 (first_cause (All (e ∷ es)) f.0 f.3 (fails_less (One e.0 e.1.value) (All (e ∷ es)) f.0 (λ all. all.0) (one_cause s f.1 e f.0 f.2 f.5)) (fails_less (All es) (All (e ∷ es)) f.3 (λ all. all.1) (all_cause f.1 t es f.4 f.3 f.6)))
 
     pub flush_stands : (s t : S) (es fs : List (ℕ × Slot V)) (r : Result Unit₀ (CacheError ℕ MetadataError)) → All es → Flushes Steps₀ s es r t fs → All fs
     flush_stands s t es fs r all f =
         each_flushed (stands_each is_modified IsFit Named) Steps₀ (λ s t k v w flushed one. subst (One k) (sym flushed.clean) (clean_stands is_modified IsFit Named k (cleared v) (still v one.fits) (unmodified v))) s t es fs r f all
 
-    pub flush_cause : (s t : S) (es fs : List (ℕ × Slot V)) (r : Result Unit₀ (CacheError ℕ MetadataError)) → All es → Flushes Steps₀ s es r t fs → IfErr r (IsCause ⊥)
-    flush_cause s t es fs (Ok _) all f = tt
-    flush_cause s t es fs (Err (Backend x)) all f = all_cause s t es fs (Some x) all f
-    flush_cause s t es fs (Err InUse) all f = absurd f
-    flush_cause s t es fs (Err Memory) all f = absurd f
-    flush_cause s t es fs (Err (StillInUse _)) all f = absurd f
+    pub flush_cause : (s t : S) (es fs : List (ℕ × Slot V)) (r : Result Unit₀ (CacheError ℕ MetadataError)) → Flushes Steps₀ s es r t fs → IfErr r (IsCause (All es) ⊥)
+    flush_cause s t es fs (Ok _) f = tt
+    flush_cause s t es fs (Err (Backend x)) f = all_cause s t es fs (Some x) f
+    flush_cause s t es fs (Err InUse) f = absurd f
+    flush_cause s t es fs (Err Memory) f = absurd f
+    flush_cause s t es fs (Err (StillInUse _)) f = absurd f
 
     module _ (size : ℕ) (may_flush : Bool) where
-      no_room_cause : (s t : S) (es fs : List (ℕ × Slot V)) (r : Result Bool (CacheError ℕ MetadataError)) → All es → HasNoRoom Steps₀ eqb size may_flush s es r t fs → IfErr r (IsCause (IsFull size es))
-      no_room_cause s t es fs (Ok true) all h = tt
-      no_room_cause s t es fs (Ok false) all h = tt
-      no_room_cause s t es fs (Err InUse) all h = (h.0.full, h.1)
-      no_room_cause s t es fs (Err (StillInUse _)) all h = absurd h
-      no_room_cause s t es fs (Err Memory) all h = absurd h
-      no_room_cause s t es fs (Err (Backend x)) all h = let is = stand_oldest is_modified IsFit Named es h.entry h.eviction all in h.failed.cause is.fits (place h.entry.0 (is.named h.failed.modified))
+      no_room_cause : (s t : S) (es fs : List (ℕ × Slot V)) (r : Result Bool (CacheError ℕ MetadataError)) → HasNoRoom Steps₀ eqb size may_flush s es r t fs → IfErr r (IsCause (All es) (IsFull size es × (fs ≡ es)))
+      no_room_cause s t es fs (Ok true) h = tt
+      no_room_cause s t es fs (Ok false) h = tt
+      no_room_cause s t es fs (Err InUse) h = ((h.0.full, h.1), h.3)
+      no_room_cause s t es fs (Err (StillInUse _)) h = absurd h
+      no_room_cause s t es fs (Err Memory) h = absurd h
+      no_room_cause s t es fs (Err (Backend x)) h = (h.failed.among, λ all. let is = stand_oldest is_modified IsFit Named es h.entry h.eviction all in h.failed.cause is.fits (place h.entry.0 (is.named h.failed.modified)))
 
       pub get_stands : (s t : S) (k : ℕ) (es fs : List (ℕ × Slot V)) (r : Result Bool (CacheError ℕ MetadataError)) → All es → GetsNew Steps₀ eqb size may_flush k s es r t fs → All fs
       get_stands s t k es fs r all h =
           each_got (stands_each is_modified IsFit Named) Steps₀ may_flush k s t es fs r all size (λ q v loads. clean_stands is_modified IsFit Named k v loads.fits loads.unmodified) h
 
-      pub get_cause : (s t : S) (k : ℕ) (es fs : List (ℕ × Slot V)) (r : Result Bool (CacheError ℕ MetadataError)) → HasPlace bits k → All es → GetsNew Steps₀ eqb size may_flush k s es r t fs → IfErr r (IsCause (IsFull size es))
-      get_cause s t k es fs (Ok _) here all h = tt
-      get_cause s t k es fs (Err InUse) here all h = no_room_cause s t es fs (Err InUse) all h
-      get_cause s t k es fs (Err (StillInUse _)) here all h = absurd h
-      get_cause s t k es fs (Err Memory) here all h = tt
-      get_cause s t k es fs (Err (Backend x)) here all h = elim h [
-        | inl none ↦ no_room_cause s t es fs (Err (Backend x)) all none
-        | inr failed ↦ failed.2.cause here
+      pub get_cause : (s t : S) (k : ℕ) (es fs : List (ℕ × Slot V)) (r : Result Bool (CacheError ℕ MetadataError)) → GetsNew Steps₀ eqb size may_flush k s es r t fs → IfErr r (IsCause (All es × HasPlace bits k) (IsFull size es × (fs ≡ es)))
+      get_cause s t k es fs (Ok _) h = tt
+      get_cause s t k es fs (Err InUse) h = no_room_cause s t es fs (Err InUse) h
+      get_cause s t k es fs (Err (StillInUse _)) h = absurd h
+      get_cause s t k es fs (Err Memory) h = tt
+      get_cause s t k es fs (Err (Backend x)) h = elim h [
+        | inl none ↦ let cause = no_room_cause s t es fs (Err (Backend x)) none in (cause.0, λ fit. cause.1 fit.0)
+        | inr failed ↦ (failed.2.among, λ fit. failed.2.cause fit.1)
       ]
 
       pub insert_stands : (s t : S) (k : ℕ) (v : V) (es fs : List (ℕ × Slot V)) (r : Result Bool (CacheError ℕ MetadataError)) (left : Option V) → (r ≡ Ok true → IsStanding is_modified IsFit Named k v) → All es
           → InsertsNew Steps₀ eqb size may_flush k v s es r t fs left → All fs
       insert_stands s t k v es fs r left is all h = each_inserted (stands_each is_modified IsFit Named) Steps₀ may_flush k s t es fs r all size v left is h
 
-      pub insert_cause : (s t : S) (k : ℕ) (v : V) (es fs : List (ℕ × Slot V)) (r : Result Bool (CacheError ℕ MetadataError)) (left : Option V) → All es
-          → InsertsNew Steps₀ eqb size may_flush k v s es r t fs left → IfErr r (IsCause (IsFull size es))
-      insert_cause s t k v es fs (Ok _) left all h = tt
-      insert_cause s t k v es fs (Err Memory) left all h = tt
-      insert_cause s t k v es fs (Err InUse) left all h = no_room_cause s t es fs (Err InUse) all h.0
-      insert_cause s t k v es fs (Err (StillInUse _)) left all h = absurd h
-      insert_cause s t k v es fs (Err (Backend x)) left all h = no_room_cause s t es fs (Err (Backend x)) all h.0
+      pub insert_cause : (s t : S) (k : ℕ) (v : V) (es fs : List (ℕ × Slot V)) (r : Result Bool (CacheError ℕ MetadataError)) (left : Option V)
+          → InsertsNew Steps₀ eqb size may_flush k v s es r t fs left → IfErr r (IsCause (All es) (IsFull size es × (fs ≡ es)))
+      insert_cause s t k v es fs (Ok _) left h = tt
+      insert_cause s t k v es fs (Err Memory) left h = tt
+      insert_cause s t k v es fs (Err InUse) left h = no_room_cause s t es fs (Err InUse) h.0
+      insert_cause s t k v es fs (Err (StillInUse _)) left h = absurd h
+      insert_cause s t k v es fs (Err (Backend x)) left h = no_room_cause s t es fs (Err (Backend x)) h.0
 
     module _ (may_flush : Bool) (s t : S) (k : ℕ) (v : V) (es fs : List (ℕ × Slot V)) (e : ℕ × Slot V) where
       pub replace_stands : (r : Result Bool (CacheError ℕ MetadataError)) (left : Option V) → lookup_entry (eqb k) es ≡ Some e → (r ≡ Ok true → IsStanding is_modified IsFit Named e.0 v) → All es
           → Replaces Steps₀ k e (remove_entry (eqb k) es) v may_flush s es r t fs left → All fs
       replace_stands r left found is all h = each_replaced (stands_each is_modified IsFit Named) Steps₀ may_flush k s t es fs r all v e left found is h
 
-      pub replace_cause : (r : Result Bool (CacheError ℕ MetadataError)) (left : Option V) → lookup_entry (eqb k) es ≡ Some e → All es
-          → Replaces Steps₀ k e (remove_entry (eqb k) es) v may_flush s es r t fs left → IfErr r (IsCause ⊥)
-      replace_cause (Ok _) left found all h = tt
-      replace_cause (Err (Backend x)) left found all h =
-          let is = each_found (stands_each is_modified IsFit Named) (eqb k) es e found all in
-          let own : e.0 ≡ k = sym (same_number k e.0 (Contains-lookup_entry (eqb k) es e found).1) in
-          h.1.cause is.fits (subst (HasPlace bits) own (place e.0 (is.named h.1.modified)))
-      replace_cause (Err InUse) left found all h = absurd h
-      replace_cause (Err (StillInUse _)) left found all h = absurd h
-      replace_cause (Err Memory) left found all h = absurd h
+      pub replace_cause : (full : Type 0) (r : Result Bool (CacheError ℕ MetadataError)) (left : Option V) → lookup_entry (eqb k) es ≡ Some e
+          → Replaces Steps₀ k e (remove_entry (eqb k) es) v may_flush s es r t fs left → IfErr r (IsCause (All es) full)
+      replace_cause full (Ok _) left found h = tt
+      replace_cause full (Err (Backend x)) left found h = (
+        h.1.among,
+        λ all.
+            let is = each_found (stands_each is_modified IsFit Named) (eqb k) es e found all in
+            let own : e.0 ≡ k = sym (same_number k e.0 (Contains-lookup_entry (eqb k) es e found).1) in
+            h.1.cause is.fits (subst (HasPlace bits) own (place e.0 (is.named h.1.modified))),
+      )
+      replace_cause full (Err InUse) left found h = absurd h
+      replace_cause full (Err (StillInUse _)) left found h = absurd h
+      replace_cause full (Err Memory) left found h = absurd h
 
 -- ---- what the caches keep says that their modified tables stand
 

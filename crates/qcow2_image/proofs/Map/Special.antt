@@ -1,6 +1,7 @@
 -- A lookup finds a special range exactly if the guest cluster is compressed, also past the size.
 use Rattle.std.proofs.Common.{◌≡◌, ◌/◌, inl, ℕ, Bool, true, false, refl, sym, ◌∙◌, subst, []}
-use Rattle.qcow2_image.proofs.Common.{Bytes, cover, header, cluster_size, HeaderFields, L2Mapping, Data, Zero, Compressed, Uncovered, Refusal, AnsweredEffect, RefusedEffect, IsSame, storage, AbstractImage, Kind, raw, indirect, zeros, special, eof, kind_at, IsCompressed, IsCompressedAt}
+use Rattle.qcow2_image.proofs.Common.{Bytes, cover, header, cluster_size, HeaderFields, L2Mapping, Data, Zero, Compressed, Uncovered, Refusal, AnsweredEffect, RefusedEffect, IsSame, storage, AbstractImage, Kind, raw, indirect, zeros, special, eof, kind_at, IsCompressed, IsCompressedAt, IsSpecial, MappingKind, found_kind}
+use Rattle.qcow2_image.specs.declared.mapping.MappingKind.TheVariants as M
 use Rattle.qcow2_image.specs.SpecialReads.{is_special}
 
 special_compressed : (h : HeaderFields) (b : Bool) (offset o : ℕ) (v : L2Mapping) → special o ≡ kind_at h b offset v → IsCompressed v
@@ -34,6 +35,14 @@ module _ (known : Bytes) (b : Bool) (offset : ℕ) where
       let special : is_special kind ≡ true = subst (λ k. is_special k ≡ true) (sym found) (compressed_special (header known) b offset (cover (header known) known (offset / cluster_size (header known))) is) in
       let e : false ≡ true = sym not ∙ special in
       cc
+
+-- such a kind
+pub special_kind : (kind : MappingKind) → is_special (found_kind kind) ≡ true → IsSpecial kind
+special_kind (M.Special o) is = tt
+special_kind (M.Raw file host writable) is = absurd cc
+special_kind (M.Indirect o) is = absurd cc
+special_kind (M.Zero explicit) is = absurd cc
+special_kind M.Eof is = absurd cc
 
 -- a call refuses by itself, after its work was done
 pub refuses_after : {old new : AbstractImage} (e : Refusal) → (e ≡ storage → ⊥) → AnsweredEffect old new [] [] (IsSame old new) → RefusedEffect old new [] [] e (IsSame old new)

@@ -1,9 +1,8 @@
 -- Why finding or making an L2 table, and clearing entries in one, is refused on a sound image.
-use Rattle.std.proofs.Common.{◌≡◌, ◌+◌, ◌-◌, ◌*◌, ◌/◌, ◌%◌, ◌^◌, ◌<◌, ◌≤◌, ◌⊎◌, inl, inr, ℕ, List, length, Option, Some, Result, Ok, Err, false, refl, sym, ap, ◌∙◌, subst, IfErr, IsErr, IsErrAnd, IsSome}
-use Rattle.qcow2_image.proofs.Common.{IfSome, BackingView, overwritten, StorageView, Changes, Calls, StorageError, cluster_size, entries_per_cluster, L2TableView, Pending, IsInUseOrFault, IsFault, FileInvariant, known_in, storage_of, IsEntryAt, PutRefusesBy, l2_at, IsTableOf, ImageError, ImageStorage, handed_on, HasPinnedMapping, RefusedCall, InternalCall, IsClearable, ClearMode, Qcow2, Prepared, l1_index_of, ImageInvariant, pending_in, NeedsOverflowingL1Entry, MayFailAlone, MayFailLooking, IsStored, HoldsTable}
+use Rattle.std.proofs.Common.{◌≡◌, ◌+◌, ◌-◌, ◌/◌, ◌%◌, ◌<◌, ◌≤◌, ◌⊎◌, inl, inr, ℕ, List, Option, Result, Ok, Err, sym, ap, subst, IfErr, IsErr, IsErrAnd, IsSome}
+use Rattle.qcow2_image.proofs.Common.{BackingView, StorageView, cluster_size, entries_per_cluster, Pending, IsInUseOrFault, IsFault, FileInvariant, known_in, IsEntryAt, l2_at, ImageError, handed_on, HasPinnedMapping, RefusedCall, InternalCall, IsClearable, ClearMode, Qcow2, Prepared, l1_index_of, ImageInvariant, pending_in, NeedsOverflowingL1Entry, MayFailAlone, MayFailLooking, HoldsTable}
 use Rattle.qcow2_image.proofs.Clear.Between.{fits_table}
 use Rattle.qcow2_image.proofs.Prepare.MissingL2Table.{loads_looking}
-use Rattle.qcow2_image.proofs.Prepare.NewL2Table.{holds, keeps_placed, keeps_stored, stands_there}
 
 -- ---- refusals
 module _ {A : Type 0} (compressed far : Type 0) where
@@ -24,23 +23,7 @@ module _ {S F : Type 0} (view : S → StorageView) (backing : F → BackingView)
     | inr broken ↦ faults e' (subst IsFault (sym (fault broken.fault).0) broken.fault)
   ]
 
--- ---- a new table, and the entries of a held one
-module _ {S F : Type 0} (view : S → StorageView) (backing : F → BackingView) (old : Qcow2 S F) (out : List (Option Prepared)) (p : Pending) (sound : ImageInvariant view backing p old out)
-    (stored : IsStored view old) (at : ℕ) (some : 0 < p.new_tables at) where
-  -- the bytes of a new table were written to its cluster: its cache refuses it where no table may go, or for a fault
-  pub put_refused : (storage : ImageStorage S) (asked : S) (t t' u : L2TableView) (wrote : Result (Unit {0}) StorageError) (x : Unit {0}) (r : Result (Unit {0}) ImageError) → asked ≡ storage_of old.file.storage → t' ≡ record t { cluster = Some at } → u ≡ record t' { is_modified = false }
-      → IsTableOf old.file.header.fields t → length t.bytes ≡ 2 ^ t.cluster_bits → IfSome t'.cluster (λ k. Changes (view asked) (view (storage_of storage)) wrote (λ b. overwritten b (k * 2 ^ t'.cluster_bits) t'.bytes))
-      → Calls (view asked) (view (storage_of storage)) wrote → wrote ≡ Ok x → PutRefusesBy (IsInUseOrFault old.file.caches) view storage old.file.caches (λ h. IsTableOf h u) u.cluster u.bytes u.is_modified r → IfErr r (IsInUseOrFault old.file.caches)
-  put_refused storage asked t t' u wrote x r same is last format whole written called done refuses =
-      let h = old.file.header.fields in
-      let mid = record old { file = record old.file { storage = storage } } in
-      let placed = keeps_placed view backing old out p sound stored at some storage asked t t' wrote same is format.bits whole written called in
-      let still = keeps_stored view backing old out p sound stored at some storage asked t t' wrote same is format.bits whole written called in
-      let there = stands_there view backing old out p sound stored at some storage asked t t' wrote same is format.bits whole written called x done in
-      let put : u ≡ record t { cluster = Some at; is_modified = false } = last ∙ ap (λ (v : L2TableView). record v { is_modified = false }) is in
-      subst (λ (v : L2TableView). PutRefusesBy (IsInUseOrFault old.file.caches) view storage old.file.caches (λ h. IsTableOf h v) v.cluster v.bytes v.is_modified r) put refuses h p placed.sound.file.honest placed.sound.file.caches placed.sound.file.named_blocks
-      (record { bits = format.bits; zero_bit = format.zero_bit; external = format.external }) refl (holds view backing mid out p placed.sound still at some t.bytes (whole ∙ ap (λ n. 2 ^ n) format.bits) there)
-
+-- ---- the entries of a held table
 module _ {S F : Type 0} (view : S → StorageView) (backing : F → BackingView) (out : List (Option Prepared)) (old mid : Qcow2 S F) (how : ClearMode) (from to table : ℕ) (found : InternalCall view backing old mid out) (held : HoldsTable view backing mid from table) where
   -- the entries of a range that can be cleared lie in the cached table, and reading them is refused only for a fault
   pub reading_fault : IsClearable old.file.header.fields how from to → from < to → (first n : ℕ) (e : ImageError) → first ≡ from / cluster_size mid.file.header.fields → n ≡ (to - from) / cluster_size mid.file.header.fields

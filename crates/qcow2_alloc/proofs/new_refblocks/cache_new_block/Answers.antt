@@ -1,6 +1,6 @@
 use Rattle.std.proofs.Common.{◌^◌, ◌∙◌, ap}
-use Rattle.qcow2_alloc.proofs.Common.{rb_at, OthersStayHeld, CachesBlock}
-use Rattle.qcow2_alloc.proofs.Lemmas.{handed_on, marks_of_caches, put_places, has_cached_block, new_blocks_kept, of_place, overlay_of, at_place, fails_ok, fails_on, table_step_cached, table_step_tables, table_step_then}
+use Rattle.qcow2_alloc.proofs.Common.{rb_at, OthersStayHeld, CachesBlock, contents_in}
+use Rattle.qcow2_alloc.proofs.Lemmas.{handed_on, marks_of_caches, put_places, has_cached_block, new_blocks_kept, of_place, overlay_of, at_place, fails_ok, fails_on, table_step_cached, table_step_tables, table_step_then, all_fit, block_alone, loads_of_tables}
 use Rattle.qcow2_alloc.proofs.new_refblocks.cache_new_block.Goals as goal
 
 pub returns-in_err-rb_insert-clause-sound : goal.returns-in_err-rb_insert-clause-sound
@@ -8,7 +8,7 @@ returns-in_err-rb_insert-clause-sound g c = λ q a old first n at blocks places 
     let view = g.S.Storage.view in
     let f = c.args.file.now in
     handed_on (CachesBlock view q old a (record f { storage = c.rb_insert.new.storage; caches = c.rb_insert.new.self }) f first n at c.args.block.bytes) c.from_residual.result c.in_err-rb_insert.field-0.0 c.from_residual.ensures (
-      c.in_err-rb_insert.ensures.faults blocks.room f.header.fields q blocks.honest blocks.caches places,
+      block_alone f.caches c.in_err-rb_insert.field-0.0 blocks.room (all_fit f.header.fields q f.caches (contents_in view f) blocks.caches places) c.in_err-rb_insert.ensures.fails.cause,
       new_blocks_kept view q a first n old f c.rb_insert.new.storage c.rb_insert.new.self blocks c.rb_insert.ensures.sound.ordered c.rb_insert.ensures.step.marks
           (c.in_err-rb_insert.ensures.sound.refused f.header.fields q blocks.honest blocks.caches),
     )
@@ -32,7 +32,7 @@ returns-clause-step g c = λ t.
     (table_step_tables (marks_of_caches c.record_change.ensures.step.marks c.record_change.ensures.step.order) c.record_change.ensures.step.header_cluster)
 
 pub returns-in_err-rb_insert-clause-fails : goal.returns-in_err-rb_insert-clause-fails
-returns-in_err-rb_insert-clause-fails g c = fails_on c.from_residual.result c.in_err-rb_insert.field-0.0 c.from_residual.ensures c.in_err-rb_insert.ensures.fails
+returns-in_err-rb_insert-clause-fails g c = fails_on c.from_residual.result c.in_err-rb_insert.field-0.0 c.from_residual.ensures (loads_of_tables c.in_err-rb_insert.ensures.fails)
 
 pub returns-clause-fails : goal.returns-clause-fails
 returns-clause-fails g c = fails_ok c.in_ok-rb_insert.ensures.fails.told

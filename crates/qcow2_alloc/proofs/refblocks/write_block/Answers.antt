@@ -1,7 +1,7 @@
-use Rattle.std.proofs.Common.{◌≡◌, ◌+◌, ◌*◌, ◌^◌, ◌<◌, inl, ℕ, Bool, Some, None, Result, Ok, length, IsFalse, IsSome, refl, sym, ap, ◌∙◌, subst, IfSome}
+use Rattle.std.proofs.Common.{ℕ, ◌≡◌, ◌+◌, ◌*◌, ◌^◌, ◌<◌, inl, Bool, Some, None, Result, Ok, length, IsFalse, IsSome, refl, sym, ap, ◌∙◌, subst, IfSome}
 use Rattle.qcow2_alloc.proofs.Common.{overwritten, StorageView, Changes, Calls, StorageError, byte_at-overwritten, HeaderFields, byte_at, cluster_size, RefBlockView, BlocksMayGo, Pending, placing, HasPlaceFor, HasBytesAt, InternalAllocatorStep, WritesBlock, of_storage, MetadataCaches, ImageStorage, KeepsPinsAndNotes, Allocator, ImageFile, contents_in, AllocatorInvariant, storage_of, order_of, l2_tables, rb_at, KeepSound, IsBlockOf, KeepsHeaderCluster}
 use Rattle.qcow2_alloc.specs.CacheSteps.{RemovesBlock}
-use Rattle.qcow2_alloc.proofs.Lemmas.{file_step_then, handed_on, fault_of_storage, allocator_step_then, allocator_step_cached, IsFree, is_free, file_step_rewritten, reftable_rewritten, write_as, allocator_step_removed, spares_cached, spares_tables, spares_then, spares_written, kept_marks_then, placed_kept, marks_of_caches, marks_of_storage, fails_on, fails_ok, fails_since, fails_storage, same_faults, placed_elsewhere, named_have_places}
+use Rattle.qcow2_alloc.proofs.Lemmas.{file_step_then, handed_on, fault_of_storage, allocator_step_then, allocator_step_cached, IsFree, is_free, file_step_rewritten, reftable_rewritten, write_as, allocator_step_removed, spares_cached, spares_tables, spares_then, spares_written, kept_marks_then, placed_kept, marks_of_caches, marks_of_storage, fails_on, fails_ok, fails_since, fails_storage, same_faults, placed_elsewhere, fault_alone, file_fits, fails_of_tables}
 use Rattle.qcow2_alloc.proofs.refblocks.write_block.Goals as goal
 
 -- all counts are written, no refblock is cached for the cluster, and then the block's bytes are written, or they are not
@@ -70,7 +70,7 @@ returns-in_err-flush_rb-clause-sound g c = λ p d t range sound place fits is.
     let one = counted g.S.Storage.view d p range c.args.cluster c.args.file.now t c.flush_rb.new.storage c.flush_rb.new.self sound c.flush_rb.ensures.sound.keeps c.flush_rb.ensures.step.marks.pins in
     handed_on (WritesBlock g.S.Storage.view (placing d p c.args.cluster) c.args.file.now t (record c.args.file.now { storage = c.flush_rb.new.storage; caches = c.flush_rb.new.self }) c.args.block.now c.args.cluster)
     c.from_residual.result c.in_err-flush_rb.field-0.0 c.from_residual.ensures
-    (c.in_err-flush_rb.ensures.faults c.args.file.now.header.fields (placing d p c.args.cluster) sound.sound.honest sound.sound.caches (named_have_places c.args.file.now.header.fields (placing d p c.args.cluster) c.args.file.now.caches (contents_in g.S.Storage.view c.args.file.now) sound.sound.caches sound.sound.named_blocks), inl (one.file_step, one.reftable))
+    (fault_alone c.in_err-flush_rb.field-0.0 (file_fits g.S.Storage.view (placing d p c.args.cluster) c.args.file.now sound.sound) c.in_err-flush_rb.ensures.fails.cause, inl (one.file_step, one.reftable))
 
 pub returns-in_err-write_new_refblock-clause-sound : goal.returns-in_err-write_new_refblock-clause-sound
 returns-in_err-write_new_refblock-clause-sound g c = λ p d t range sound place fits is.
@@ -137,7 +137,7 @@ pub returns-clause-recorded : goal.returns-clause-recorded
 returns-clause-recorded g c = c.in_ok-write_new_refblock.ensures.writes.recorded.0
 
 pub returns-in_err-flush_rb-clause-fails : goal.returns-in_err-flush_rb-clause-fails
-returns-in_err-flush_rb-clause-fails g c = fails_on c.from_residual.result c.in_err-flush_rb.field-0.0 c.from_residual.ensures c.in_err-flush_rb.ensures.fails
+returns-in_err-flush_rb-clause-fails g c = fails_on c.from_residual.result c.in_err-flush_rb.field-0.0 c.from_residual.ensures (fails_of_tables c.in_err-flush_rb.ensures.fails)
 
 pub returns-in_err-write_new_refblock-clause-fails : goal.returns-in_err-write_new_refblock-clause-fails
 returns-in_err-write_new_refblock-clause-fails g c =

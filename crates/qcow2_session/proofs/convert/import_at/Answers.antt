@@ -1,3 +1,4 @@
+use Rattle.qcow2_session.proofs.ReadCauses.{from_read}
 use Rattle.qcow2_session.proofs.convert.import_at.Goals as goal
 use Rattle.std.proofs.Common.{◌≡◌, ◌+◌, ◌-◌, ◌∷◌, ◌∙◌, inl, length, [], None, true, false, refl, sym, ap, subst, arith, rules, IfErr}
 use Rattle.qcow2_session.proofs.Common.{bytes_at, Setting, refuses_to_read, faults_then, read_met, storage_met, storage_read, storage_unlimited, limited_from, other_limit, fault_of_storage, known_in, MayFailReadingRange, MayFailImporting, IsReasonNotToWrite, common_steps, of_storage, given_of, abstract_of, behind_none, behind_then, written_then}
@@ -79,7 +80,7 @@ returns-in_err-read_into-clause-late g c = λ none out sound.
     let e = c.in_err-read_into.field-0.0 in
     let free = subst (λ n. refuses_to_read c.args.image.now c.args.at n ≡ None) (sym c.requires) none in
     subst (λ r. IfErr r (IsReasonNotToWrite g.S.Storage.view g.F.BackingDisk.backing c.args.image.now c.read_into.new.image c.args.at (c.args.at + length c.args.wanted.now) out)) (sym (refused_is _ c.in_err-read_into.field-0.0 c.from_residual-in_err-read_into.ensures))
-    (inl (read_met e (c.in_err-read_into.ensures.fails.late free).0, other_limit _ e (reading_unlimited out c.args.at _ old.file.header.fields (known_in g.S.Storage.view old.file) e (c.in_err-read_into.ensures.fails.may_fail free out sound))))
+    (inl (read_met e (from_read c.read_into.new.image c.args.at _ e (c.in_err-read_into.ensures.fails.late free).0), other_limit _ e (reading_unlimited out c.args.at _ old.file.header.fields (known_in g.S.Storage.view old.file) e (c.in_err-read_into.ensures.fails.may_fail free out sound))))
 
 pub returns-in-Err-clause-late : goal.returns-in-Err-clause-late
 returns-in-Err-clause-late g c = λ none out sound.

@@ -1,5 +1,5 @@
 use Rattle.std.proofs.Common.{◌≡◌, ◌+◌, [], ap, inl, is_some, replicate, rules, sym, subst, arith, IfErr}
-use Rattle.qcow2_session.proofs.Common.{known_in, Guest, Shows, Disk, Kind, IsFoundIn, AnswersCall, found_kind, MayFailReadingRange, tables_read, IsOfReading}
+use Rattle.qcow2_session.proofs.Common.{known_in, Guest, Shows, Disk, Kind, IsFoundIn, AnswersCall, found_kind, MayFailReadingRange, finding_read, IsOfReading}
 use Rattle.qcow2_session.proofs.Lemmas.{mapping_reading, zeros_there, in_parts, parts_answered, parts_handed, refused_at_once, looking_prepared, does_if, does_why, refused_is}
 use Rattle.qcow2_session.proofs.convert.zero_run.Goals as goal
 
@@ -10,7 +10,7 @@ returns-in_err-mapping-clause-sees g c =
 
 pub returns-in_err-mapping-clause-cause : goal.returns-in_err-mapping-clause-cause
 returns-in_err-mapping-clause-cause g c = subst (λ r. IfErr r IsOfReading) (sym (refused_is _ c.in_err-mapping.field-0.0 c.from_residual.ensures))
-    (mapping_reading _ _ c.args.image.now c.in_err-mapping.field-0.0 c.in_err-mapping.ensures.refusals.early (λ none. tables_read c.in_err-mapping.field-0.0 (c.in_err-mapping.ensures.refusals.late none)))
+    (mapping_reading _ _ c.args.image.now c.in_err-mapping.field-0.0 c.in_err-mapping.ensures.refusals.early (λ none. finding_read c.args.image.now c.get_mapping.new.self c.args.at c.args.max c.in_err-mapping.field-0.0 (c.in_err-mapping.ensures.refusals.late none)))
 
 pub returns-in_err-mapping-clause-may_fail : goal.returns-in_err-mapping-clause-may_fail
 returns-in_err-mapping-clause-may_fail g c = λ out sound. subst (λ r. IfErr r (MayFailReadingRange out c.args.at (c.args.at + c.args.max) c.args.image.now.file.header.fields (known_in g.S.Storage.view c.args.image.now.file))) (sym (refused_is _ c.in_err-mapping.field-0.0 c.from_residual.ensures))

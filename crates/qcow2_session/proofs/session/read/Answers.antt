@@ -1,5 +1,5 @@
-use Rattle.std.proofs.Common.{◌++◌, ◌<◌, ◌≡◌, ◌+◌, Some, arith, drop, length, refl, subst, sym, take, rules, inl, IfErr}
-use Rattle.qcow2_session.proofs.Common.{Memory, common_steps, Shows, guest_of, abstract_of, Reads, MayFailToRead, refuses_to_read, behind_none, MayFailReadingRange, known_in}
+use Rattle.std.proofs.Common.{◌++◌, ◌<◌, ◌≡◌, ◌+◌, Some, arith, drop, length, refl, subst, sym, take, rules, inl, IfErr, inr}
+use Rattle.qcow2_session.proofs.Common.{Memory, common_steps, Shows, guest_of, abstract_of, Reads, MayFailReadingFrom, refuses_to_read, behind_none, MayFailReadingRange, known_in}
 use Rattle.qcow2_session.proofs.Lemmas.{refused_is, does_if, at_rest, in_parts, memory_marks, parts_handed, unmarked, refused_none, memory_looking}
 use Rattle.qcow2_session.proofs.session.read.Goals as goal
 
@@ -25,7 +25,7 @@ returns-in_err-check_read-clause-fails g c = record {
 pub returns-in_err-bytes-clause-fails : goal.returns-in_err-bytes-clause-fails
 returns-in_err-bytes-clause-fails g c = record {
   early = search rules;
-  late = search rules;
+  late = λ none. subst (λ r. IfErr r (λ e. MayFailReadingFrom c.args.image.now c.args.offset (c.args.offset + c.args.length) e × (0 < c.args.length))) (sym (refused_is _ c.in_err-bytes.field-0.0 c.from_residual-in_err-bytes.ensures)) (inl (inr c.in_err-bytes.ensures.cause.0), (let some = c.in_err-bytes.ensures.cause.1 in grind (arith, common_steps)));
   may_fail = λ none out sound. subst (λ r. IfErr r (MayFailReadingRange out c.args.offset (c.args.offset + c.args.length) c.args.image.now.file.header.fields (known_in g.S.Storage.view c.args.image.now.file))) (sym (refused_is _ c.in_err-bytes.field-0.0 c.from_residual-in_err-bytes.ensures)) (inl (memory_looking c.in_err-bytes.field-0.0 c.in_err-bytes.ensures.cause.0));
   beyond = search rules;
   cause = search rules;
@@ -35,8 +35,9 @@ pub returns-in_err-read_into-clause-fails : goal.returns-in_err-read_into-clause
 returns-in_err-read_into-clause-fails g c = record {
   early = search rules;
   late = λ none.
-      subst (λ r. IfErr r (λ e. MayFailToRead e × (0 < c.args.length))) (sym (refused_is _ c.in_err-read_into.field-0.0 c.from_residual-in_err-read_into.ensures))
-      (let may_fail = c.in_err-read_into.ensures.fails.late (grind (arith, common_steps)) in (may_fail.0, grind (arith, common_steps)));
+      let long : length c.deref_mut.result.now ≡ c.args.length = grind (arith, common_steps) in
+      subst (λ r. IfErr r (λ e. MayFailReadingFrom c.read_into.new.image c.args.offset (c.args.offset + c.args.length) e × (0 < c.args.length))) (sym (refused_is _ c.in_err-read_into.field-0.0 c.from_residual-in_err-read_into.ensures))
+      ((rw long at c.in_err-read_into.ensures.fails).late none);
   may_fail = λ none out sound.
       let long : length c.deref_mut.result.now ≡ c.args.length = grind (arith, common_steps) in
       subst (λ r. IfErr r (MayFailReadingRange out c.args.offset (c.args.offset + c.args.length) c.args.image.now.file.header.fields (known_in g.S.Storage.view c.args.image.now.file))) (sym (refused_is _ c.in_err-read_into.field-0.0 c.from_residual-in_err-read_into.ensures))

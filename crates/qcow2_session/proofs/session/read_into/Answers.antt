@@ -1,7 +1,8 @@
 use Rattle.std.proofs.Common.{◌≡◌, ◌<◌, ◌+◌, ◌-◌, ◌≤◌, ◌∙◌, refl, length, IfErr, sym, subst, ap, [], take, drop, arith, rules, Some}
-use Rattle.qcow2_session.proofs.Common.{counts_on, counts_still, common_steps, another, Shows, Guest, guest_of, abstract_of, IsRightlyBeyond, behind_none, behind_then, counted_on, faults_then, MayFailToRead, refuses_to_read, written_none, written_then, MayFailReadingRange, known_in, same_image_then}
+use Rattle.qcow2_session.proofs.Common.{counts_on, counts_still, common_steps, another, Shows, Guest, guest_of, abstract_of, IsRightlyBeyond, behind_none, behind_then, counted_on, faults_then, MayFailReadingFrom, refuses_to_read, written_none, written_then, MayFailReadingRange, known_in, same_image_then}
 use Rattle.qcow2_session.proofs.Lemmas.{shows_as, shows_both, first_two, part_refused, refused_is, refuses_here, none_within, does_if, refuses_if, does_then, refuses_then, part_reads, at_rest, in_parts, parts_answered, parts_behind, parts_beyond, parts_handed, unmarked, refused_none, none_counted, does_nothing, reads_part}
 use Rattle.qcow2_session.proofs.Reading.{reads_refused}
+use Rattle.qcow2_session.proofs.ReadCauses.{reading_longer}
 use Rattle.qcow2_session.proofs.session.read_into.Goals as goal
 
 pub returns-in_default-clause-sees : goal.returns-in_default-clause-sees
@@ -80,13 +81,13 @@ pub returns-in_err-done-clause-fails : goal.returns-in_err-done-clause-fails
 returns-in_err-done-clause-fails g c = record {
   early = search rules;
   late = λ none.
-      subst (λ r. IfErr r (λ e. MayFailToRead e × (0 < length c.args.bytes.now))) (sym (refused_is _ c.in_err-done.field-0.0 c.from_residual-in_err-done.ensures))
+      subst (λ r. IfErr r (λ e. MayFailReadingFrom c.read_some.new.image c.args.offset (c.args.offset + length c.args.bytes.now) e × (0 < length c.args.bytes.now))) (sym (refused_is _ c.in_err-done.field-0.0 c.from_residual-in_err-done.ensures))
       (let part = take (length c.loop-done.bytes - c.loop-done.done) (drop c.loop-done.done c.loop-done.bytes) in
-      let rest : length part ≡ length c.loop-done.bytes - c.loop-done.done = grind (arith, common_steps) in (
-        c.in_err-done.ensures.late
-            (part_reads c.args.image.now c.loop-done.image c.loop-done.invariant.image c.args.offset (length c.args.bytes.now) c.in-Some.at (length part) (omega (arith, c.in-Some.ensures.1))
-            (omega (arith, rest, c.in-Some.ensures.1, c.loop-done.invariant.within, c.loop-done.auto.bytes)) c.loop-done.invariant.works none)
-            (omega (arith, rest, c.loop-done-test.true)),
+      let rest : length part ≡ length c.loop-done.bytes - c.loop-done.done = grind (arith, common_steps) in
+      let upto : c.in-Some.at + length part ≤ c.args.offset + length c.args.bytes.now = omega (arith, rest, c.in-Some.ensures.1, c.loop-done.invariant.within, c.loop-done.auto.bytes) in (
+        reading_longer c.read_some.new.image c.in-Some.at (c.in-Some.at + length part) c.args.offset (c.args.offset + length c.args.bytes.now) c.in_err-done.field-0.0 (omega (arith, c.in-Some.ensures.1)) upto (c.in_err-done.ensures.late
+            (part_reads c.args.image.now c.loop-done.image c.loop-done.invariant.image c.args.offset (length c.args.bytes.now) c.in-Some.at (length part) (omega (arith, c.in-Some.ensures.1)) upto c.loop-done.invariant.works none)
+            (omega (arith, rest, c.loop-done-test.true))),
         omega (arith, c.loop-done.auto.bytes, c.loop-done-test.true),
       ));
   may_fail = λ none out sound.

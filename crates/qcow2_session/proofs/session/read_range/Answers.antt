@@ -1,5 +1,5 @@
-use Rattle.std.proofs.Common.{◌≡◌, ◌<◌, ◌+◌, ◌++◌, refl, ap, ◌∙◌, Err, take, drop, length, sym, subst, arith, Some, rules, inl, IfErr}
-use Rattle.qcow2_session.proofs.Common.{common_steps, Shows, guest_of, abstract_of, Reads, MayFailToRead, unusable, IsFoundWhole, further_by, Memory, OutdatedMapping, sound_is_usable, behind_none, IsCacheHeld, MayFailMapped}
+use Rattle.std.proofs.Common.{◌≡◌, ◌<◌, ◌+◌, ◌++◌, refl, ap, ◌∙◌, Err, take, drop, length, sym, subst, arith, Some, rules, inl, IfErr, ℕ}
+use Rattle.qcow2_session.proofs.Common.{common_steps, Shows, guest_of, abstract_of, Reads, MayFailReadingFound, ImageError, unusable, IsFoundWhole, further_by, Memory, OutdatedMapping, sound_is_usable, behind_none, IsCacheHeld, MayFailMapped}
 use Rattle.qcow2_session.proofs.Lemmas.{refused_is, refused_some, does_if, answered_at_once, at_rest, memory_marks, none_answered, once_handed, refused_at_once, unchecked, unmarked, same_error, memory_looking}
 use Rattle.qcow2_session.proofs.session.read_range.Goals as goal
 
@@ -16,8 +16,10 @@ returns-clause-sees g c = λ out.
 pub returns-in_err-read_mapped-clause-late : goal.returns-in_err-read_mapped-clause-late
 returns-in_err-read_mapped-clause-late g c = λ none.
     let long : length c.deref_mut.result.now ≡ c.args.length = grind (arith, common_steps) in
-    subst (λ r. IfErr r (λ e. MayFailToRead e × (0 < c.args.length))) (sym (refused_is _ c.in_err-read_mapped.field-0.0 c.from_residual-in_err-read_mapped.ensures))
-    (refused_some MayFailToRead c.args.length (Err c.in_err-read_mapped.field-0.0) tt (c.in_err-read_mapped.ensures.refusals.late none) (λ empty. (c.in_err-read_mapped.ensures.refusals.nothing none (long ∙ empty)).0))
+    let e = c.in_err-read_mapped.field-0.0 in
+    let Why : ℕ → ImageError → Type 0 = MayFailReadingFound c.args.image.now c.read_mapped.new.self (c.args.mapping.now.offset + c.args.at) in
+    subst (λ r. IfErr r (λ e. Why c.args.length e × (0 < c.args.length))) (sym (refused_is _ e c.from_residual-in_err-read_mapped.ensures))
+    (refused_some (Why c.args.length) c.args.length (Err e) tt (subst (λ n. Why n e) long (c.in_err-read_mapped.ensures.refusals.late none)) (λ empty. (c.in_err-read_mapped.ensures.refusals.nothing none (long ∙ empty)).0))
 
 pub returns-in_err-read_mapped-clause-outdated : goal.returns-in_err-read_mapped-clause-outdated
 returns-in_err-read_mapped-clause-outdated g c = λ out sound is.

@@ -1,13 +1,13 @@
 use Rattle.std.proofs.Common.{◌≢◌, inl, refl, sym, subst, Result, ◌∙◌, IfErr}
 use Rattle.qcow2_alloc.proofs.Common.{Pending, Data, ImageFile, InternalAllocatorGrowth, Allocates, pending_then, run_of, KeepsNoFreeBelowHint, IsUsed, StaysUsed, ImageError, ClustersToFreeEntry, IsFaultOr, HasNoPlace, IsMadeInTurn, AllocatesOnly, count}
-use Rattle.qcow2_alloc.proofs.Lemmas.{hint_stays, ok_as, passed_still, handed_on, on_of, allocator_step_cached, is_sound_now, allocates_then, listed_after_same, on_no_ok, if_no_ok, on_ok, alone_none, alone_since, made_run, data_then, fails_on, fails_since, data_cached}
+use Rattle.qcow2_alloc.proofs.Lemmas.{hint_stays, ok_as, passed_still, handed_on, on_of, allocator_step_cached, is_sound_now, allocates_then, listed_after_same, on_no_ok, if_no_ok, on_ok, alone_none, alone_since, made_run, data_then, fails_on, fails_since, data_cached, fault_alone, file_fits, fails_of_tables}
 use Rattle.qcow2_alloc.proofs.allocation.Allocator.allocate_data.Goals as goal
 
 pub returns-in_err-l2_depends_on_rb-clause-step : goal.returns-in_err-l2_depends_on_rb-clause-step
 returns-in_err-l2_depends_on_rb-clause-step g c = data_cached c.l2_depends_on_rb.ensures.step.marks.pins c.l2_depends_on_rb.ensures.step.marks.notes c.l2_depends_on_rb.ensures.step.header_cluster
 
 pub returns-in_err-l2_depends_on_rb-clause-fails : goal.returns-in_err-l2_depends_on_rb-clause-fails
-returns-in_err-l2_depends_on_rb-clause-fails g c = fails_on c.from_residual.result c.in_err-l2_depends_on_rb.field-0.0 c.from_residual.ensures c.in_err-l2_depends_on_rb.ensures.fails
+returns-in_err-l2_depends_on_rb-clause-fails g c = fails_on c.from_residual.result c.in_err-l2_depends_on_rb.field-0.0 c.from_residual.ensures (fails_of_tables c.in_err-l2_depends_on_rb.ensures.fails)
 
 pub returns-clause-step : goal.returns-clause-step
 returns-clause-step g c = data_then (data_cached c.l2_depends_on_rb.ensures.step.marks.pins c.l2_depends_on_rb.ensures.step.marks.notes c.l2_depends_on_rb.ensures.step.header_cluster) c.allocate.ensures.step
@@ -30,7 +30,7 @@ returns-in_err-l2_depends_on_rb-clause-sound g c = λ p sound.
         hint = λ hint. handed_on (KeepsNoFreeBelowHint g.S.Storage.view c.args.self.now file) c.from_residual.result c.in_err-l2_depends_on_rb.field-0.0 c.from_residual.ensures (inl (hint_stays g.S.Storage.view p c.args.file.now file c.args.self.now c.args.self.now one (passed_still c.args.self.now) hint));
         lowest = λ hint. if_no_ok _ c.from_residual.result c.in_err-l2_depends_on_rb.field-0.0 c.from_residual.ensures;
         limit = λ hint some. handed_on (λ (r : Result ClustersToFreeEntry ImageError). IfErr r (IsFaultOr (HasNoPlace (IsUsed g.S.Storage.view file) file.header.fields c.args.self.now c.args.count))) c.from_residual.result c.in_err-l2_depends_on_rb.field-0.0 c.from_residual.ensures
-            (inl (c.in_err-l2_depends_on_rb.ensures.faults c.args.file.now.header.fields p sound.sound.honest sound.sound.caches sound.sound.named_blocks));
+            (inl (fault_alone c.in_err-l2_depends_on_rb.field-0.0 (file_fits g.S.Storage.view p c.args.file.now sound.sound).0 c.in_err-l2_depends_on_rb.ensures.fails.cause));
       };
       leaks = refl;
       made = let known = (c.l2_depends_on_rb.ensures.sound.keeps c.args.file.now.header.fields p sound.sound.honest sound.sound.caches).known in

@@ -1,6 +1,6 @@
-use Rattle.std.proofs.Common.{◌≡◌, ◌≢◌, ◌/◌, ◌^◌, ◌<◌, ◌≤◌, ◌⊎◌, arith, ℕ, inl, inr, Ok, Err, Some, None, true, refl, sym, ap, ◌∙◌, subst, Result, Option, false, rules, IfErr}
+use Rattle.std.proofs.Common.{ℕ, ◌≡◌, ◌≢◌, ◌/◌, ◌^◌, ◌<◌, ◌≤◌, ◌⊎◌, arith, inl, inr, Ok, Err, Some, None, true, refl, sym, ap, ◌∙◌, subst, Result, Option, false, rules, IfErr}
 use Rattle.qcow2_alloc.proofs.Common.{count, one_at, Pending, ClustersToFreeEntry, ImageFile, taken_as, InternalAllocatorGrowth, AllocatesAt, pending_then, IsUsed, KeepsNoFreeBelowHint, StaysUsed, counts_per_block, ImageError, IsFault, IsFaultOr, CantCount, IsHostCluster, run_in, IsAllocatedMetadata, AllocatesOnly}
-use Rattle.qcow2_alloc.proofs.Lemmas.{handed_on, on_of, allocator_step_on, allocator_step_cached, is_sound_now, leaves_on, of_equal, listed_after_same, header_used, hint_stays, passed_still, taken_alone, on_no_ok, if_no_ok, alone_none, alone_since, lists_used_none, made_before, made_one, made_refused, made_untaken, data_then, fails_by, fails_ok, fails_on, fails_since, memory_other, data_cached}
+use Rattle.qcow2_alloc.proofs.Lemmas.{handed_on, on_of, allocator_step_on, allocator_step_cached, is_sound_now, leaves_on, of_equal, listed_after_same, header_used, hint_stays, passed_still, taken_alone, on_no_ok, if_no_ok, alone_none, alone_since, lists_used_none, made_before, made_one, made_refused, made_untaken, data_then, fails_by, fails_ok, fails_on, fails_since, memory_other, data_cached, fault_alone, file_fits, fails_of_tables}
 use Rattle.qcow2_alloc.specs.declared.error.ImageError.TheVariants as I
 use Rattle.qcow2_alloc.proofs.allocation.Allocator.allocate_data_at.Goals as goal
 
@@ -15,7 +15,7 @@ pub returns-in_err-l2_depends_on_rb-clause-step : goal.returns-in_err-l2_depends
 returns-in_err-l2_depends_on_rb-clause-step g c = data_cached c.l2_depends_on_rb.ensures.step.marks.pins c.l2_depends_on_rb.ensures.step.marks.notes c.l2_depends_on_rb.ensures.step.header_cluster
 
 pub returns-in_err-l2_depends_on_rb-clause-fails : goal.returns-in_err-l2_depends_on_rb-clause-fails
-returns-in_err-l2_depends_on_rb-clause-fails g c = fails_on c.from_residual.result c.in_err-l2_depends_on_rb.field-0.0 c.from_residual.ensures c.in_err-l2_depends_on_rb.ensures.fails
+returns-in_err-l2_depends_on_rb-clause-fails g c = fails_on c.from_residual.result c.in_err-l2_depends_on_rb.field-0.0 c.from_residual.ensures (fails_of_tables c.in_err-l2_depends_on_rb.ensures.fails)
 
 pub returns-then-not-is_nameable-clause-step : goal.returns-then-not-is_nameable-clause-step
 returns-then-not-is_nameable-clause-step g c = data_cached c.l2_depends_on_rb.ensures.step.marks.pins c.l2_depends_on_rb.ensures.step.marks.notes c.l2_depends_on_rb.ensures.step.header_cluster
@@ -167,13 +167,13 @@ returns-in_err-l2_depends_on_rb-clause-sound g c = λ p sound.
           handed_on (AllocatesOnly g.S.Storage.view run_in (IsAllocatedMetadata c.args.file.now.header.fields c.args.self.now.reftable c.args.self.now.reftable) c.args.file.now file) c.from_residual.result c.in_err-l2_depends_on_rb.field-0.0 c.from_residual.ensures (inl ((λ k used. inl (alone.0 k used)), alone.1));
       uses = on_no_ok _ c.from_residual.result c.in_err-l2_depends_on_rb.field-0.0 c.from_residual.ensures;
       kept = handed_on (λ (r : Result (Option ClustersToFreeEntry) ImageError). IfErr r (λ e. IsFault e ⊎ StaysUsed g.S.Storage.view c.args.file.now file)) c.from_residual.result c.in_err-l2_depends_on_rb.field-0.0 c.from_residual.ensures
-          (inl (c.in_err-l2_depends_on_rb.ensures.faults c.args.file.now.header.fields p sound.sound.honest sound.sound.caches sound.sound.named_blocks));
+          (inl (fault_alone c.in_err-l2_depends_on_rb.field-0.0 (file_fits g.S.Storage.view p c.args.file.now sound.sound).0 c.in_err-l2_depends_on_rb.ensures.fails.cause));
       within = handed_on (λ (r : Result (Option ClustersToFreeEntry) ImageError). IfErr r (λ e. IsFault e ⊎ (c.args.cluster / counts_per_block c.args.file.now.header.fields < 2 ^ 20))) c.from_residual.result c.in_err-l2_depends_on_rb.field-0.0 c.from_residual.ensures
-          (inl (c.in_err-l2_depends_on_rb.ensures.faults c.args.file.now.header.fields p sound.sound.honest sound.sound.caches sound.sound.named_blocks));
+          (inl (fault_alone c.in_err-l2_depends_on_rb.field-0.0 (file_fits g.S.Storage.view p c.args.file.now sound.sound).0 c.in_err-l2_depends_on_rb.ensures.fails.cause));
       none = λ hint. if_no_ok _ c.from_residual.result c.in_err-l2_depends_on_rb.field-0.0 c.from_residual.ensures;
       hint = λ hint. handed_on (KeepsNoFreeBelowHint g.S.Storage.view c.args.self.now file) c.from_residual.result c.in_err-l2_depends_on_rb.field-0.0 c.from_residual.ensures (inl (hint_stays g.S.Storage.view p c.args.file.now file c.args.self.now c.args.self.now one (passed_still c.args.self.now) hint));
       limit = λ hint. handed_on (λ (r : Result (Option ClustersToFreeEntry) ImageError). IfErr r (IsFaultOr (CantCount (IsUsed g.S.Storage.view file) file.header.fields (λ k. 0) c.args.self.now c.args.cluster))) c.from_residual.result c.in_err-l2_depends_on_rb.field-0.0 c.from_residual.ensures
-          (inl (c.in_err-l2_depends_on_rb.ensures.faults c.args.file.now.header.fields p sound.sound.honest sound.sound.caches sound.sound.named_blocks));
+          (inl (fault_alone c.in_err-l2_depends_on_rb.field-0.0 (file_fits g.S.Storage.view p c.args.file.now sound.sound).0 c.in_err-l2_depends_on_rb.ensures.fails.cause));
     }
 
 pub returns-in_default-clause-sound : goal.returns-in_default-clause-sound

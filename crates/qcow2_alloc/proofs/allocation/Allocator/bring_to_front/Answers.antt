@@ -1,6 +1,6 @@
 use Rattle.std.proofs.Common.{◌^◌, refl}
-use Rattle.qcow2_alloc.proofs.Common.{FetchesBlock}
-use Rattle.qcow2_alloc.proofs.Lemmas.{handed_on, place_fits, put_places, new_blocks_kept, not_first, fails_ok, fails_on, table_step_cached, table_step_none}
+use Rattle.qcow2_alloc.proofs.Common.{FetchesBlock, contents_in}
+use Rattle.qcow2_alloc.proofs.Lemmas.{handed_on, place_fits, put_places, new_blocks_kept, not_first, fails_ok, fails_on, table_step_cached, table_step_none, all_fit, rb_place, block_alone, loads_of_tables}
 use Rattle.qcow2_alloc.proofs.allocation.Allocator.bring_to_front.Goals as goal
 
 pub returns-in_default-clause-sound : goal.returns-in_default-clause-sound
@@ -14,8 +14,11 @@ returns-in_err-rb_get_or_insert-clause-sound g c = λ q old first n blocks place
     let view = g.S.Storage.view in
     let f = c.args.file.now in
     handed_on (FetchesBlock view q old c.args.self.now (record f { storage = c.rb_get_or_insert.new.storage; caches = c.rb_get_or_insert.new.self }) f first n) c.from_residual.result c.in_err-rb_get_or_insert.field-0.0 c.from_residual.ensures (
-      c.in_err-rb_get_or_insert.ensures.faults blocks.room f.header.fields
-          (place_fits g.S.Storage.view _ c.in-Some.offset c.in-Some-checked_cluster.cluster c.cluster_bits.result c.args.file.now.header.fields.cluster_bits c.in-Some.ensures.offset c.in-Some-checked_cluster.ensures.cluster c.cluster_bits.ensures.value) q blocks.honest blocks.caches places,
+      block_alone f.caches c.in_err-rb_get_or_insert.field-0.0 blocks.room (
+        all_fit f.header.fields q f.caches (contents_in view f) blocks.caches places,
+        rb_place f.header.fields q f.caches (contents_in view f) blocks.caches c.in-Some-checked_cluster.cluster
+            (place_fits g.S.Storage.view _ c.in-Some.offset c.in-Some-checked_cluster.cluster c.cluster_bits.result c.args.file.now.header.fields.cluster_bits c.in-Some.ensures.offset c.in-Some-checked_cluster.ensures.cluster c.cluster_bits.ensures.value),
+      ) c.in_err-rb_get_or_insert.ensures.fails.cause,
       new_blocks_kept view q c.args.self.now first n old f c.rb_get_or_insert.new.storage c.rb_get_or_insert.new.self blocks c.rb_get_or_insert.ensures.sound.ordered c.rb_get_or_insert.ensures.step.marks
           (c.rb_get_or_insert.ensures.sound.keeps f.header.fields q blocks.honest blocks.caches),
     )
@@ -47,7 +50,7 @@ pub returns-in_default-checked_cluster-clause-step : goal.returns-in_default-che
 returns-in_default-checked_cluster-clause-step g c = table_step_none
 
 pub returns-in_err-rb_get_or_insert-clause-fails : goal.returns-in_err-rb_get_or_insert-clause-fails
-returns-in_err-rb_get_or_insert-clause-fails g c = fails_on c.from_residual.result c.in_err-rb_get_or_insert.field-0.0 c.from_residual.ensures c.in_err-rb_get_or_insert.ensures.fails
+returns-in_err-rb_get_or_insert-clause-fails g c = fails_on c.from_residual.result c.in_err-rb_get_or_insert.field-0.0 c.from_residual.ensures (loads_of_tables c.in_err-rb_get_or_insert.ensures.fails)
 
 pub returns-clause-fails : goal.returns-clause-fails
 returns-clause-fails g c = fails_ok c.in_ok-rb_get_or_insert.ensures.fails.told

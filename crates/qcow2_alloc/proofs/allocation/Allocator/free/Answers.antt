@@ -1,5 +1,5 @@
 use Rattle.qcow2_alloc.proofs.Common.{refl, inl, Err, ap, ◌∙◌, Pending, Data, ImageFile, Frees, with_listed, but, KeepsNoFreeBelowHint, HeaderView}
-use Rattle.qcow2_alloc.proofs.Lemmas.{handed_on, is_sound_now, allocator_step_cached, hint_stays, passed_still, but_both, frees_then, leaks_as, leaks_then, fails_ok, fails_on, fails_since, free_in_turn, turn_cached, turn_then}
+use Rattle.qcow2_alloc.proofs.Lemmas.{handed_on, is_sound_now, allocator_step_cached, hint_stays, passed_still, but_both, frees_then, leaks_as, leaks_then, fails_ok, fails_on, fails_since, free_in_turn, turn_cached, turn_then, fault_alone, file_fits, fails_of_tables}
 use Rattle.qcow2_alloc.proofs.Freeing.{on_ok, allocator_step_on}
 use Rattle.qcow2_alloc.proofs.FreedEach.{blocks_loaded, off_none, off_of, off_refused, off_then}
 use Rattle.qcow2_alloc.specs.Leaks.{FreesOff, KeepsBlockBytes}
@@ -61,7 +61,7 @@ returns-in_err-rb_depends_on_l2-clause-sound g c = λ p sound.
     (c.rb_depends_on_l2.ensures.sound.keeps h now s.honest s.caches) c.rb_depends_on_l2.ensures.step.marks.pins in
     record {
       gives = handed_on (Frees view q c.args.file.now c.free_kind.new.self turned now) c.from_residual-in_err-rb_depends_on_l2.result c.in_err-rb_depends_on_l2.field-0.0 c.from_residual-in_err-rb_depends_on_l2.ensures (
-        c.in_err-rb_depends_on_l2.ensures.faults h now s.honest s.caches s.named_blocks,
+        fault_alone c.in_err-rb_depends_on_l2.field-0.0 (file_fits view now c.free_kind.new.file s).1 c.in_err-rb_depends_on_l2.ensures.fails.cause,
         inl (allocator_step_on view q now now c.args.file.now c.free_kind.new.file turned c.free_kind.new.self c.free_kind.new.self (λ k some. some) one two),
       );
       leaks = (c.free_kind.ensures.frees.sound p sound tt).leaks;
@@ -79,7 +79,7 @@ pub returns-in_err-rb_depends_on_l2-clause-step : goal.returns-in_err-rb_depends
 returns-in_err-rb_depends_on_l2-clause-step g c = turn_then (free_in_turn c.free_kind.ensures.frees.step) (turn_cached c.rb_depends_on_l2.ensures.step.marks.pins c.rb_depends_on_l2.ensures.step.marks.notes c.rb_depends_on_l2.ensures.step.header_cluster)
 
 pub returns-in_err-rb_depends_on_l2-clause-fails : goal.returns-in_err-rb_depends_on_l2-clause-fails
-returns-in_err-rb_depends_on_l2-clause-fails g c = fails_on c.from_residual-in_err-rb_depends_on_l2.result c.in_err-rb_depends_on_l2.field-0.0 c.from_residual-in_err-rb_depends_on_l2.ensures (fails_since c.in_ok-free_kind.ensures.frees.fails.told c.in_err-rb_depends_on_l2.ensures.fails)
+returns-in_err-rb_depends_on_l2-clause-fails g c = fails_on c.from_residual-in_err-rb_depends_on_l2.result c.in_err-rb_depends_on_l2.field-0.0 c.from_residual-in_err-rb_depends_on_l2.ensures (fails_since c.in_ok-free_kind.ensures.frees.fails.told (fails_of_tables c.in_err-rb_depends_on_l2.ensures.fails))
 
 pub returns-then-is_empty-clause-step : goal.returns-then-is_empty-clause-step
 returns-then-is_empty-clause-step g c = free_in_turn c.free_kind.ensures.frees.step

@@ -1,6 +1,6 @@
 use Rattle.std.proofs.Common.{◌^◌, refl, inl}
 use Rattle.qcow2_alloc.proofs.Common.{LoadsBlock, contents_in}
-use Rattle.qcow2_alloc.proofs.Lemmas.{file_step_cached, reftable_cached, handed_on, place_fits, names_refblock, named_have_places, not_first, fails_ok, fails_on, table_step_cached, table_step_none}
+use Rattle.qcow2_alloc.proofs.Lemmas.{file_step_cached, reftable_cached, handed_on, place_fits, names_refblock, not_first, fails_ok, fails_on, table_step_cached, table_step_none, rb_place, block_alone, file_fits, loads_of_tables}
 use Rattle.qcow2_alloc.proofs.AlignedBlocks.{not_off}
 use Rattle.qcow2_alloc.proofs.FreedEach.{blocks_loaded, blocks_same, loads_got}
 use Rattle.qcow2_alloc.proofs.allocation.Allocator.load_block.Goals as goal
@@ -9,9 +9,11 @@ pub returns-in_err-rb_get_or_insert-clause-sound : goal.returns-in_err-rb_get_or
 returns-in_err-rb_get_or_insert-clause-sound g c = λ p sound.
     handed_on (LoadsBlock g.S.Storage.view p c.args.file.now c.args.self.now (record c.args.file.now { storage = c.rb_get_or_insert.new.storage; caches = c.rb_get_or_insert.new.self }) c.args.range)
     c.from_residual.result c.in_err-rb_get_or_insert.field-0.0 c.from_residual.ensures (
-      c.in_err-rb_get_or_insert.ensures.faults sound.sound.room c.args.file.now.header.fields
-          (place_fits g.S.Storage.view _ c.in-Some.offset c.in-Some-checked_cluster.cluster c.cluster_bits.result c.args.file.now.header.fields.cluster_bits c.in-Some.ensures.offset c.in-Some-checked_cluster.ensures.cluster c.cluster_bits.ensures.value)
-          p sound.sound.honest sound.sound.caches (named_have_places c.args.file.now.header.fields p c.args.file.now.caches (contents_in g.S.Storage.view c.args.file.now) sound.sound.caches sound.sound.named_blocks),
+      block_alone c.args.file.now.caches c.in_err-rb_get_or_insert.field-0.0 sound.sound.room (
+        file_fits g.S.Storage.view p c.args.file.now sound.sound,
+        rb_place c.args.file.now.header.fields p c.args.file.now.caches (contents_in g.S.Storage.view c.args.file.now) sound.sound.caches c.in-Some-checked_cluster.cluster
+            (place_fits g.S.Storage.view _ c.in-Some.offset c.in-Some-checked_cluster.cluster c.cluster_bits.result c.args.file.now.header.fields.cluster_bits c.in-Some.ensures.offset c.in-Some-checked_cluster.ensures.cluster c.cluster_bits.ensures.value),
+      ) c.in_err-rb_get_or_insert.ensures.fails.cause,
       inl (file_step_cached g.S.Storage.view p c.args.file.now c.rb_get_or_insert.new.storage c.rb_get_or_insert.new.self sound.sound (c.rb_get_or_insert.ensures.sound.keeps c.args.file.now.header.fields p sound.sound.honest sound.sound.caches) c.rb_get_or_insert.ensures.step.marks.pins, reftable_cached g.S.Storage.view p c.args.file.now c.rb_get_or_insert.new.storage c.rb_get_or_insert.new.self sound.sound (c.rb_get_or_insert.ensures.sound.keeps c.args.file.now.header.fields p sound.sound.honest sound.sound.caches) c.args.self.now.reftable sound.reftable),
     )
 
@@ -48,7 +50,7 @@ pub returns-in_default-checked_cluster-clause-step : goal.returns-in_default-che
 returns-in_default-checked_cluster-clause-step g c = table_step_none
 
 pub returns-in_err-rb_get_or_insert-clause-fails : goal.returns-in_err-rb_get_or_insert-clause-fails
-returns-in_err-rb_get_or_insert-clause-fails g c = fails_on c.from_residual.result c.in_err-rb_get_or_insert.field-0.0 c.from_residual.ensures c.in_err-rb_get_or_insert.ensures.fails
+returns-in_err-rb_get_or_insert-clause-fails g c = fails_on c.from_residual.result c.in_err-rb_get_or_insert.field-0.0 c.from_residual.ensures (loads_of_tables c.in_err-rb_get_or_insert.ensures.fails)
 
 pub returns-clause-fails : goal.returns-clause-fails
 returns-clause-fails g c = fails_ok c.in_ok-rb_get_or_insert.ensures.fails.told

@@ -1,6 +1,6 @@
-use Rattle.std.proofs.Common.{◌≡◌, ◌+◌, ◌*◌, ◌/◌, ◌<◌, ◌≤◌, ℕ, sym, ap, ◌∙◌, subst, arith, Some, inl, IfSome}
+use Rattle.std.proofs.Common.{ℕ, ◌≡◌, ◌+◌, ◌*◌, ◌/◌, ◌<◌, ◌≤◌, sym, ap, ◌∙◌, subst, arith, Some, inl, IfSome}
 use Rattle.qcow2_alloc.proofs.Common.{HeaderFields, EntryTableView, entry_count, cluster_size, HeaderView, AreClean, ImageFile, MetadataCaches, run_at, NamesLacking, HasBytesAt, faults_of, with_run, NamesReftable, StandsGrown, contents_in, AllocatorInvariant, KeepsUsed, order_of, l2_tables, refblocks, rb_at, room_length, placed_at, EntersRoom, or_left, is_changed_of}
-use Rattle.qcow2_alloc.proofs.Lemmas.{handed_on, allocator_step_cached, allocator_step_then, is_sound_now, leaves_then, file_sizes, Counting, may_go, new_blocks_refused, counting_beside, table_err, table_ok, stands_ready, names_then, uses_after, ok_as, uses_refused, fails_on, fails_since, fails_still, pointer_step_on, pointer_step_then, table_step_cached, table_step_dropped, table_step_then, table_step_part, pointer_step_to}
+use Rattle.qcow2_alloc.proofs.Lemmas.{handed_on, allocator_step_cached, allocator_step_then, is_sound_now, leaves_then, file_sizes, Counting, may_go, new_blocks_refused, counting_beside, table_err, table_ok, stands_ready, names_then, uses_after, ok_as, uses_refused, fails_on, fails_since, fails_still, pointer_step_on, pointer_step_then, table_step_cached, table_step_dropped, table_step_then, table_step_part, pointer_step_to, fault_alone, file_fits, fails_of_tables}
 use Rattle.qcow2_alloc.proofs.allocation.Allocator.write_reftable.Goals as goal
 
 pub returns-in_err-before_rb-clause-sound : goal.returns-in_err-before_rb-clause-sound
@@ -16,7 +16,7 @@ returns-in_err-before_rb-clause-sound g c = λ p sound longer.
     let f1 = record old { storage = c.before_rb.new.storage; caches = c.before_rb.new.self } in
     record {
       names = handed_on (NamesReftable view q p old a f1) c.from_residual.result c.in_err-before_rb.field-0.0 c.from_residual.ensures
-          (c.in_err-before_rb.ensures.faults h q sound.sound.honest sound.sound.caches, inl (one.file_step, one.reftable));
+          (fault_alone c.in_err-before_rb.field-0.0 (file_fits view q old sound.sound).0 c.in_err-before_rb.ensures.fails.cause, inl (one.file_step, one.reftable));
       uses = handed_on (KeepsUsed view old f1) c.from_residual.result c.in_err-before_rb.field-0.0 c.from_residual.ensures
           (uses_refused view q old f1 a c.in_err-before_rb.field-0.0 (inl (one.file_step, one.reftable)));
     }
@@ -131,7 +131,7 @@ pub returns-in_err-before_rb-clause-step : goal.returns-in_err-before_rb-clause-
 returns-in_err-before_rb-clause-step g c = pointer_step_on (table_step_cached c.before_rb.ensures.step.marks c.before_rb.ensures.step.header_cluster)
 
 pub returns-in_err-before_rb-clause-fails : goal.returns-in_err-before_rb-clause-fails
-returns-in_err-before_rb-clause-fails g c = fails_on c.from_residual.result c.in_err-before_rb.field-0.0 c.from_residual.ensures c.in_err-before_rb.ensures.fails
+returns-in_err-before_rb-clause-fails g c = fails_on c.from_residual.result c.in_err-before_rb.field-0.0 c.from_residual.ensures (fails_of_tables c.in_err-before_rb.ensures.fails)
 
 pub returns-in_err-placed-clause-step : goal.returns-in_err-placed-clause-step
 returns-in_err-placed-clause-step g c = pointer_step_on (table_step_then (table_step_then (table_step_cached c.before_rb.ensures.step.marks c.before_rb.ensures.step.header_cluster) c.place_blocks-placed.ensures.step) (table_step_dropped c.drop_blocks.ensures.rest c.drop_blocks.ensures.step))

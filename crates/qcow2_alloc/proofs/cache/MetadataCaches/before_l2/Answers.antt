@@ -1,10 +1,6 @@
-use Rattle.qcow2_alloc.proofs.Common.{inr, refl, sym, ap, ◌∙◌, subst, OnOk, byte_at, TablesMayGo, Direction, storage_of, order, refblocks}
-use Rattle.qcow2_alloc.proofs.Lemmas.{cache_step_none, soundly_none, quiet_none, tables_free, blocks_free, named_have_places}
+use Rattle.qcow2_alloc.proofs.Common.{inr, refl, sym, ap, ◌∙◌, subst, OnOk, TablesMayGo, Direction, order, refblocks}
+use Rattle.qcow2_alloc.proofs.Lemmas.{cache_step_none, soundly_none, quiet_none, tables_free, blocks_free}
 use Rattle.qcow2_alloc.proofs.cache.MetadataCaches.before_l2.Goals as goal
-
-pub returns-in-L2DependsOnRb-clause-faults : goal.returns-in-L2DependsOnRb-clause-faults
-returns-in-L2DependsOnRb-clause-faults g c = λ h p honest sound named_blocks.
-    c.write_blocks.ensures.faults h p honest sound (named_have_places h p c.args.self.now (byte_at (g.S.Storage.view (storage_of c.args.storage.now)).contents) sound named_blocks)
 
 pub returns-in-L2DependsOnRb-clause-sound : goal.returns-in-L2DependsOnRb-clause-sound
 returns-in-L2DependsOnRb-clause-sound g c = c.write_blocks.ensures.sound (blocks_free c.args.self.now (inr c.in-L2DependsOnRb.is))

@@ -1,5 +1,5 @@
-use Rattle.qcow2_alloc.proofs.Common.{inr, eqb, ap, ◌∙◌, subst, option_map, BlocksMayGo, Direction, value_at, IsFault, storage_of, order, l2_tables}
-use Rattle.qcow2_alloc.proofs.Lemmas.{cache_step_then, soundly_then, given_err, tables_as, quiet_then, tables_free, blocks_free, blocks_clean, blocks_still, always_ok, on_no_ok, fails_on, fails_since, places_as}
+use Rattle.qcow2_alloc.proofs.Common.{inr, eqb, ap, ◌∙◌, subst, option_map, BlocksMayGo, Direction, value_at, storage_of, order, l2_tables}
+use Rattle.qcow2_alloc.proofs.Lemmas.{cache_step_then, soundly_then, tables_as, quiet_then, tables_free, blocks_free, blocks_clean, blocks_still, always_ok, on_no_ok, fails_on, fails_since, blocks_fit_as, fails_less}
 use Rattle.qcow2_alloc.proofs.KeptTables.Clean.{blocks_as}
 use Rattle.qcow2_alloc.proofs.cache.MetadataCaches.flush_rb.Goals as goal
 
@@ -7,10 +7,7 @@ pub returns-in-None-clause-sound : goal.returns-in-None-clause-sound
 returns-in-None-clause-sound g c = c.write_blocks-in-None.ensures.sound (blocks_free c.args.self.now c.in-None.is)
 
 pub returns-in_err-write_tables-in-RbDependsOnL2-clause-fails : goal.returns-in_err-write_tables-in-RbDependsOnL2-clause-fails
-returns-in_err-write_tables-in-RbDependsOnL2-clause-fails g c = fails_on c.from_residual.result c.in_err-write_tables-in-RbDependsOnL2.field-0.0 c.from_residual.ensures c.in_err-write_tables-in-RbDependsOnL2.ensures.fails
-
-pub returns-in_err-write_tables-in-RbDependsOnL2-clause-faults : goal.returns-in_err-write_tables-in-RbDependsOnL2-clause-faults
-returns-in_err-write_tables-in-RbDependsOnL2-clause-faults g c = λ h p honest sound places. given_err c.from_residual.result c.in_err-write_tables-in-RbDependsOnL2.field-0.0 IsFault c.from_residual.ensures (c.in_err-write_tables-in-RbDependsOnL2.ensures.faults h p honest sound)
+returns-in_err-write_tables-in-RbDependsOnL2-clause-fails g c = fails_on c.from_residual.result c.in_err-write_tables-in-RbDependsOnL2.field-0.0 c.from_residual.ensures (fails_less (λ fit. fit.0) c.in_err-write_tables-in-RbDependsOnL2.ensures.fails)
 
 pub returns-in_err-write_tables-in-RbDependsOnL2-clause-sound : goal.returns-in_err-write_tables-in-RbDependsOnL2-clause-sound
 returns-in_err-write_tables-in-RbDependsOnL2-clause-sound g c = c.write_tables.ensures.sound (tables_free c.args.self.now (inr c.in-RbDependsOnL2.is))
@@ -19,12 +16,7 @@ pub returns-in_ok-write_tables-in-RbDependsOnL2-clause-step : goal.returns-in_ok
 returns-in_ok-write_tables-in-RbDependsOnL2-clause-step g c = cache_step_then c.write_tables.ensures.step c.write_blocks.ensures.step
 
 pub returns-in_ok-write_tables-in-RbDependsOnL2-clause-fails : goal.returns-in_ok-write_tables-in-RbDependsOnL2-clause-fails
-returns-in_ok-write_tables-in-RbDependsOnL2-clause-fails g c = fails_since c.in_ok-write_tables-in-RbDependsOnL2.ensures.fails.told c.write_blocks.ensures.fails
-
-pub returns-in_ok-write_tables-in-RbDependsOnL2-clause-faults : goal.returns-in_ok-write_tables-in-RbDependsOnL2-clause-faults
-returns-in_ok-write_tables-in-RbDependsOnL2-clause-faults g c = λ h p honest sound places.
-    let one = (c.write_tables.ensures.sound (tables_free c.args.self.now (inr c.in-RbDependsOnL2.is))).keeps h p honest sound in
-    c.write_blocks.ensures.faults h p one.honest one.sound (places_as h c.args.self.now c.write_tables.new.self c.write_tables.ensures.flushes.others_stay places)
+returns-in_ok-write_tables-in-RbDependsOnL2-clause-fails g c = fails_since c.in_ok-write_tables-in-RbDependsOnL2.ensures.fails.told (fails_less (λ fit. blocks_fit_as c.args.self.now c.write_tables.new.self c.write_tables.ensures.flushes.others_stay fit.1) c.write_blocks.ensures.fails)
 
 pub returns-in_ok-write_tables-in-RbDependsOnL2-clause-sound : goal.returns-in_ok-write_tables-in-RbDependsOnL2-clause-sound
 returns-in_ok-write_tables-in-RbDependsOnL2-clause-sound g c = soundly_then c.write_tables.ensures.step.marks.order (c.write_tables.ensures.sound (tables_free c.args.self.now (inr c.in-RbDependsOnL2.is))) (c.write_blocks.ensures.sound (blocks_clean c.write_tables.new.self (c.write_tables.ensures.flushes.direction ∙ c.in-RbDependsOnL2.is) c.in_ok-write_tables-in-RbDependsOnL2.ensures.flushes.written))
@@ -61,3 +53,6 @@ returns-in_ok-write_tables-in-RbDependsOnL2-clause-flushes g c = record {
       quiet_then (g.S.Storage.view (storage_of c.args.storage.now)) (g.S.Storage.view (storage_of c.write_tables.new.storage)) (g.S.Storage.view (storage_of c.write_blocks.new.storage)) one
       (c.write_blocks.ensures.flushes.quiet (blocks_as c.args.self.now c.write_tables.new.self c.write_tables.ensures.flushes.others_stay clean) one.honest);
 }
+
+pub returns-in-None-clause-fails : goal.returns-in-None-clause-fails
+returns-in-None-clause-fails g c = fails_less (λ fit. fit.1) c.write_blocks-in-None.ensures.fails

@@ -1,7 +1,7 @@
-use Rattle.qcow2_alloc.proofs.Common.{inl, inr, refl, ap, ◌∙◌, subst, BlocksMayGo, Direction, IsFault, order, l2_tables}
+use Rattle.qcow2_alloc.proofs.Common.{inl, inr, refl, ap, ◌∙◌, subst, BlocksMayGo, Direction, order, l2_tables}
 use Rattle.qcow2_alloc.specs.declared.cache.Direction.TheVariants as D
-use Rattle.qcow2_alloc.proofs.Lemmas.{cache_step_none, step_in_turn, step_turned, soundly_none, soundly_turned, differ, l2_not_rb, neither_rb, given_err, quiet_none, tables_free, may_l2_depend, on_err, on_no_ok, fails_ok, fails_on}
-use Rattle.qcow2_alloc.proofs.cache.MetadataCaches.l2_depends_on_rb.Goals.{in-L2DependsOnRb, in-None, in-RbDependsOnL2+in_ok-write_tables-in-RbDependsOnL2}
+use Rattle.qcow2_alloc.proofs.Lemmas.{cache_step_none, step_in_turn, step_turned, soundly_none, soundly_turned, differ, l2_not_rb, neither_rb, quiet_none, tables_free, may_l2_depend, on_err, on_no_ok, fails_ok, fails_on}
+use Rattle.qcow2_alloc.proofs.cache.MetadataCaches.l2_depends_on_rb.Goals.{in-RbDependsOnL2+in_ok-write_tables-in-RbDependsOnL2, in-L2DependsOnRb, in-None}
 use Rattle.qcow2_alloc.proofs.cache.MetadataCaches.l2_depends_on_rb.Goals as goal
 
 pub returns-in_err-write_tables-in-RbDependsOnL2-clause-step : goal.returns-in_err-write_tables-in-RbDependsOnL2-clause-step
@@ -9,9 +9,6 @@ returns-in_err-write_tables-in-RbDependsOnL2-clause-step g c = step_in_turn c.wr
 
 pub returns-in_err-write_tables-in-RbDependsOnL2-clause-fails : goal.returns-in_err-write_tables-in-RbDependsOnL2-clause-fails
 returns-in_err-write_tables-in-RbDependsOnL2-clause-fails g c = fails_on c.from_residual.result c.in_err-write_tables-in-RbDependsOnL2.field-0.0 c.from_residual.ensures c.in_err-write_tables-in-RbDependsOnL2.ensures.fails
-
-pub returns-in_err-write_tables-in-RbDependsOnL2-clause-faults : goal.returns-in_err-write_tables-in-RbDependsOnL2-clause-faults
-returns-in_err-write_tables-in-RbDependsOnL2-clause-faults g c = λ h p honest sound named_blocks. given_err c.from_residual.result c.in_err-write_tables-in-RbDependsOnL2.field-0.0 IsFault c.from_residual.ensures (c.in_err-write_tables-in-RbDependsOnL2.ensures.faults h p honest sound)
 
 pub returns-in_err-write_tables-in-RbDependsOnL2-clause-sound : goal.returns-in_err-write_tables-in-RbDependsOnL2-clause-sound
 returns-in_err-write_tables-in-RbDependsOnL2-clause-sound g c = c.write_tables.ensures.sound (tables_free c.args.self.now (inr c.in-RbDependsOnL2.is))

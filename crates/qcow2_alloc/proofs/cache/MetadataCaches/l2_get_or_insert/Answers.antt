@@ -1,9 +1,9 @@
-use Rattle.qcow2_alloc.proofs.Common.{L2TableView, ImageStorage, IsQuiet, subst, refl, sym, true, false, inr, Ok, ap, ◌∙◌, eqb, of_cache, byte_at, storage_of, IsInUseOrFault, with_entries, l2_steps}
+use Rattle.qcow2_alloc.proofs.Common.{L2TableView, ImageStorage, IsQuiet, subst, refl, sym, true, false, Ok, ap, ◌∙◌, eqb, of_cache, storage_of, l2_steps}
 use Rattle.qcow2_alloc.specs.declared.error.ImageError.TheVariants as I
 use Rattle.qcow2_alloc.proofs.CachedEntries.Hits.{got_at_last, held_in_front}
 use Rattle.qcow2_alloc.proofs.CachedEntries.Keeping.{keeps_none, keeps_from, not_hit, load_keeps}
 use Rattle.qcow2_alloc.proofs.KeptTables.Promoting.{table_promotes}
-use Rattle.qcow2_alloc.proofs.Lemmas.{table_got, given_err, in_use_as, not_fetched, table_load_refused, quiet_then, next_table, table_got_quietly, table_waits, table_got_same, stays_same, stays_then, values_stay, never, on_no_ok, l2_get_tells, fails_ok, fails_on, fails_since, load_step_on, load_step_then, soundly_none, soundly_then, fails_cache, l2_got_step, l2_got_soundly}
+use Rattle.qcow2_alloc.proofs.Lemmas.{table_load_refused, quiet_then, next_table, table_got_quietly, table_waits, table_got_same, stays_same, stays_then, values_stay, never, on_no_ok, l2_get_tells, fails_ok, fails_on, fails_since, load_step_on, load_step_then, soundly_none, soundly_then, fails_cache, l2_got_step, l2_got_soundly, table_load_as, fails_putting}
 use Rattle.qcow2_alloc.proofs.cache.MetadataCaches.l2_get_or_insert.Goals as goal
 
 pub returns-in_err-branch-clause-step : goal.returns-in_err-branch-clause-step
@@ -14,6 +14,7 @@ returns-in_err-branch-clause-fails g c =
     fails_cache c.in_ok-get_or_insert.field-0 c.in_err-branch.field-0.0 c.from_residual-in_err-branch.result
     (l2_get_tells g.S.Storage.view c.args.self.now.l2.backend.header.fields c.args.self.now.l2.size false c.args.cluster c.args.storage.now c.get_or_insert.new.store c.args.self.now.l2.entries c.get_or_insert.new.self.entries c.in_ok-get_or_insert.field-0 c.in_ok-get_or_insert.ensures.hit c.in_ok-get_or_insert.ensures.miss)
     c.in_err-branch.was c.from_residual-in_err-branch.ensures
+    (table_load_as c.args.self.now c.args.self.now (of_cache c.in_err-branch.field-0.0) c.get_or_insert.new.self c.args.cluster refl (table_load_refused g.S.Storage.view c.args.storage.now c.get_or_insert.new.store c.args.self.now false c.args.cluster c.in_ok-get_or_insert.field-0 c.in_err-branch.field-0.0 c.in_err-branch.was c.get_or_insert.new.self c.get_or_insert.ensures.kept.others c.in_ok-get_or_insert.ensures.hit c.in_ok-get_or_insert.ensures.miss))
 
 pub returns-in_err-branch-clause-sound : goal.returns-in_err-branch-clause-sound
 returns-in_err-branch-clause-sound g c = l2_got_soundly g.S.Storage.view c.args.storage.now c.get_or_insert.new.store c.args.self.now c.get_or_insert.new.self c.get_or_insert.ensures.kept.others false c.args.cluster c.in_ok-get_or_insert.field-0 c.in_ok-get_or_insert.ensures.hit c.in_ok-get_or_insert.ensures.miss c.get_or_insert.ensures.kept.distinct (λ flush. never flush)
@@ -57,12 +58,7 @@ returns-in_err-before_l2-clause-step g c =
 pub returns-in_err-before_l2-clause-fails : goal.returns-in_err-before_l2-clause-fails
 returns-in_err-before_l2-clause-fails g c =
     fails_since ((l2_get_tells g.S.Storage.view c.args.self.now.l2.backend.header.fields c.args.self.now.l2.size false c.args.cluster c.args.storage.now c.get_or_insert.new.store c.args.self.now.l2.entries c.get_or_insert.new.self.entries c.in_ok-get_or_insert.field-0 c.in_ok-get_or_insert.ensures.hit c.in_ok-get_or_insert.ensures.miss).same _ c.in_ok-branch.was)
-    (fails_on c.from_residual-in_err-before_l2.result c.in_err-before_l2.field-0.0 c.from_residual-in_err-before_l2.ensures c.in_err-before_l2.ensures.fails)
-
-pub returns-in_err-before_l2-clause-refusals : goal.returns-in_err-before_l2-clause-refusals
-returns-in_err-before_l2-clause-refusals g c = λ h here p honest sound named_blocks.
-    let one = table_got g.S.Storage.view c.args.storage.now c.get_or_insert.new.store c.args.self.now false c.args.cluster c.get_or_insert.new.self c.get_or_insert.ensures.kept.others c.in_ok-get_or_insert.field-0 c.in_ok-get_or_insert.ensures.hit c.in_ok-get_or_insert.ensures.miss (λ flush. never flush) h p honest sound in
-    given_err c.from_residual-in_err-before_l2.result c.in_err-before_l2.field-0.0 (IsInUseOrFault c.args.self.now) c.from_residual-in_err-before_l2.ensures (inr (c.in_err-before_l2.ensures.faults h p one.honest one.sound (one.named_blocks named_blocks)))
+    (fails_on c.from_residual-in_err-before_l2.result c.in_err-before_l2.field-0.0 c.from_residual-in_err-before_l2.ensures (fails_putting (λ fit. fit.0.1) c.in_err-before_l2.ensures.fails))
 
 pub returns-in_err-before_l2-clause-sound : goal.returns-in_err-before_l2-clause-sound
 returns-in_err-before_l2-clause-sound g c =
@@ -94,15 +90,9 @@ returns-in_err-branch-2-clause-fails g c =
     fails_since (c.in_ok-before_l2.ensures.fails.told ∙ (l2_get_tells g.S.Storage.view c.args.self.now.l2.backend.header.fields c.args.self.now.l2.size false c.args.cluster c.args.storage.now c.get_or_insert.new.store c.args.self.now.l2.entries c.get_or_insert.new.self.entries c.in_ok-get_or_insert.field-0 c.in_ok-get_or_insert.ensures.hit c.in_ok-get_or_insert.ensures.miss).same _ c.in_ok-branch.was)
     (fails_cache c.in_ok-get_or_insert-2.field-0 c.in_err-branch-2.field-0.0 c.from_residual-in_err-branch-2.result
     (l2_get_tells g.S.Storage.view c.before_l2.new.self.l2.backend.header.fields c.before_l2.new.self.l2.size true c.args.cluster c.before_l2.new.storage c.get_or_insert-2.new.store c.before_l2.new.self.l2.entries c.get_or_insert-2.new.self.entries c.in_ok-get_or_insert-2.field-0 c.in_ok-get_or_insert-2.ensures.hit c.in_ok-get_or_insert-2.ensures.miss)
-    c.in_err-branch-2.was c.from_residual-in_err-branch-2.ensures)
-
-pub returns-in_err-branch-2-clause-refusals : goal.returns-in_err-branch-2-clause-refusals
-returns-in_err-branch-2-clause-refusals g c = λ h here p honest sound named_blocks.
-    let one = table_got g.S.Storage.view c.args.storage.now c.get_or_insert.new.store c.args.self.now false c.args.cluster c.get_or_insert.new.self c.get_or_insert.ensures.kept.others c.in_ok-get_or_insert.field-0 c.in_ok-get_or_insert.ensures.hit c.in_ok-get_or_insert.ensures.miss (λ flush. never flush) h p honest sound in
-    let two = c.before_l2.ensures.sound.keeps h p one.honest one.sound in
-    let same = c.get_or_insert.ensures.kept.others ∙ ap (with_entries c.args.self.now.l2) (not_fetched (l2_steps (λ s. g.S.Storage.view (storage_of s)) c.args.self.now.l2.backend.header.fields) c.args.self.now.l2.size false c.args.cluster c.args.storage.now c.get_or_insert.new.store c.args.self.now.l2.entries c.get_or_insert.new.self.entries c.in_ok-get_or_insert.field-0 (c.in_ok-branch.was ∙ ap Ok c.if-branch.false) c.in_ok-get_or_insert.ensures.hit c.in_ok-get_or_insert.ensures.miss) in
-    given_err c.from_residual-in_err-branch-2.result (of_cache c.in_err-branch-2.field-0.0) (IsInUseOrFault c.args.self.now) c.from_residual-in_err-branch-2.ensures
-    (in_use_as c.args.self.now c.before_l2.new.self (of_cache c.in_err-branch-2.field-0.0) (c.before_l2.ensures.way.stays ∙ same) (table_load_refused g.S.Storage.view c.before_l2.new.storage c.get_or_insert-2.new.store c.before_l2.new.self h p (byte_at (g.S.Storage.view (storage_of c.before_l2.new.storage)).contents) two.sound true c.args.cluster c.in_ok-get_or_insert-2.field-0 c.in_err-branch-2.field-0.0 c.in_err-branch-2.was c.get_or_insert-2.new.self here c.in_ok-get_or_insert-2.ensures.hit c.in_ok-get_or_insert-2.ensures.miss))
+    c.in_err-branch-2.was c.from_residual-in_err-branch-2.ensures
+    (table_load_as c.args.self.now c.before_l2.new.self (of_cache c.in_err-branch-2.field-0.0) c.get_or_insert-2.new.self c.args.cluster (c.before_l2.ensures.way.stays ∙ table_got_same g.S.Storage.view c.args.storage.now c.get_or_insert.new.store c.args.self.now false c.args.cluster c.get_or_insert.new.self c.in_ok-get_or_insert.field-0 c.in_ok-get_or_insert.ensures.hit c.in_ok-get_or_insert.ensures.miss c.get_or_insert.ensures.kept.others (c.in_ok-branch.was ∙ ap Ok c.if-branch.false))
+    (table_load_refused g.S.Storage.view c.before_l2.new.storage c.get_or_insert-2.new.store c.before_l2.new.self true c.args.cluster c.in_ok-get_or_insert-2.field-0 c.in_err-branch-2.field-0.0 c.in_err-branch-2.was c.get_or_insert-2.new.self c.get_or_insert-2.ensures.kept.others c.in_ok-get_or_insert-2.ensures.hit c.in_ok-get_or_insert-2.ensures.miss)))
 
 pub returns-in_err-branch-2-clause-sound : goal.returns-in_err-branch-2-clause-sound
 returns-in_err-branch-2-clause-sound g c =

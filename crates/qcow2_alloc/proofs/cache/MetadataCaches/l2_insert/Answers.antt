@@ -1,6 +1,6 @@
 use Rattle.std.proofs.Common.{◌≡◌, ◌+◌, ◌*◌, Bool, true, false, inr, Some, Result, Ok, Err, refl, sym, ap, ◌∙◌, eqb}
-use Rattle.qcow2_alloc.proofs.Common.{cluster_size, of_cache, Bytes, byte_at, storage_of, IsInUseOrFault, with_entries, l2_steps, laid_at}
-use Rattle.qcow2_alloc.proofs.Lemmas.{table_put, l2_taken, taken_at_last, if_some, stay_then, given_err, in_use_as, not_put, table_put_refused, put_at_last, laid_then, table_kept, table_laid, tables_as, table_put_clean, order_then, table_put_in_order, quiet_none, quiet_then, table_eviction, table_put_quietly, table_put_waits, table_put_same, stays_same, stays_then, values_stay, never, on_no_ok, apart_then, table_kept_apart, table_put_apart, tables_under_then, l2_put_tells, fails_by, fails_ok, fails_on, fails_since, memory_other, cache_step_none, put_step_as, put_step_on, put_step_then, soundly_none, soundly_then, fails_cache, puts_refused, keeps_written, l2_put_step, l2_kept_soundly}
+use Rattle.qcow2_alloc.proofs.Common.{inl, cluster_size, of_cache, Bytes, storage_of, laid_at}
+use Rattle.qcow2_alloc.proofs.Lemmas.{table_put, l2_taken, taken_at_last, if_some, stay_then, table_put_refused, put_at_last, laid_then, table_kept, table_laid, tables_as, table_put_clean, order_then, table_put_in_order, quiet_none, quiet_then, table_eviction, table_put_quietly, table_put_waits, table_put_same, stays_same, stays_then, values_stay, never, on_no_ok, apart_then, table_kept_apart, table_put_apart, tables_under_then, l2_put_tells, fails_by, fails_ok, fails_on, fails_since, memory_other, cache_step_none, put_step_as, put_step_on, put_step_then, soundly_none, soundly_then, fails_cache, puts_refused, keeps_written, l2_put_step, l2_kept_soundly, table_put_as, fails_putting}
 use Rattle.qcow2_alloc.specs.declared.error.ImageError.TheVariants as I
 use Rattle.qcow2_alloc.proofs.cache.MetadataCaches.l2_insert.Goals as goal
 
@@ -23,11 +23,7 @@ returns-in_err-branch-clause-fails g c =
     fails_cache c.in_ok-insert.field-0 c.in_err-branch.field-0.0 c.from_residual-in_err-branch.result
     (l2_put_tells g.S.Storage.view c.args.self.now.l2.backend.header.fields c.args.self.now.l2.size false c.in-Some.cluster c.args.storage.now c.insert.new.store c.args.self.now.l2.entries c.insert.new.self.entries c.in_ok-insert.field-0 (Some c.args.table) c.insert.new.value _ (λ none. let n = c.insert.ensures.nothing none in (alike c.in_ok-insert.was n.0, n.1, n.2, n.3)) c.in_ok-insert.ensures.there c.in_ok-insert.ensures.missing)
     c.in_err-branch.was c.from_residual-in_err-branch.ensures
-
-pub returns-in_err-branch-clause-refusals : goal.returns-in_err-branch-clause-refusals
-returns-in_err-branch-clause-refusals g c = λ h p honest sound named_blocks fits clean holds.
-    given_err c.from_residual-in_err-branch.result (of_cache c.in_err-branch.field-0.0) (IsInUseOrFault c.args.self.now) c.from_residual-in_err-branch.ensures
-    (table_put_refused g.S.Storage.view c.args.storage.now c.insert.new.store c.args.self.now h p (byte_at (g.S.Storage.view (storage_of c.args.storage.now)).contents) sound false c.in-Some.cluster c.in_ok-insert.field-0 c.in_err-branch.field-0.0 c.in_err-branch.was c.insert.new.self c.args.table (Some c.args.table) c.insert.new.value refl c.in_ok-insert.ensures.there c.in_ok-insert.ensures.missing)
+    (table_put_as c.args.self.now c.args.self.now (of_cache c.in_err-branch.field-0.0) refl (table_put_refused g.S.Storage.view c.args.storage.now c.insert.new.store c.args.self.now false c.in-Some.cluster c.in_ok-insert.field-0 c.in_err-branch.field-0.0 c.in_err-branch.was c.insert.new.self c.args.table (Some c.args.table) c.insert.new.value refl c.in_ok-insert.ensures.there c.in_ok-insert.ensures.missing))
 
 pub returns-in_err-branch-clause-sound : goal.returns-in_err-branch-clause-sound
 returns-in_err-branch-clause-sound g c =
@@ -85,12 +81,7 @@ returns-in_err-before_l2-clause-step g c =
 pub returns-in_err-before_l2-clause-fails : goal.returns-in_err-before_l2-clause-fails
 returns-in_err-before_l2-clause-fails g c =
     fails_since ((l2_put_tells g.S.Storage.view c.args.self.now.l2.backend.header.fields c.args.self.now.l2.size false c.in-Some.cluster c.args.storage.now c.insert.new.store c.args.self.now.l2.entries c.insert.new.self.entries c.in_ok-insert.field-0 (Some c.args.table) c.insert.new.value _ (λ none. let n = c.insert.ensures.nothing none in (alike c.in_ok-insert.was n.0, n.1, n.2, n.3)) c.in_ok-insert.ensures.there c.in_ok-insert.ensures.missing).same _ c.in_ok-branch.was)
-    (fails_on c.from_residual-in_err-before_l2.result c.in_err-before_l2.field-0.0 c.from_residual-in_err-before_l2.ensures c.in_err-before_l2.ensures.fails)
-
-pub returns-in_err-before_l2-clause-refusals : goal.returns-in_err-before_l2-clause-refusals
-returns-in_err-before_l2-clause-refusals g c = λ h p honest sound named_blocks fits clean holds.
-    let one = table_put g.S.Storage.view c.args.storage.now c.insert.new.store c.args.self.now false c.in-Some.cluster c.insert.new.self c.insert.ensures.kept.others c.args.table (Some c.args.table) c.insert.new.value refl c.in_ok-insert.field-0 c.in_ok-insert.ensures.there c.in_ok-insert.ensures.missing (λ flush. never flush) h p honest sound fits clean (rw (sym c.get_cluster.ensures.value ∙ c.in-Some.is) at holds) in
-    given_err c.from_residual-in_err-before_l2.result c.in_err-before_l2.field-0.0 (IsInUseOrFault c.args.self.now) c.from_residual-in_err-before_l2.ensures (inr (c.in_err-before_l2.ensures.faults h p one.honest one.sound (one.named_blocks named_blocks)))
+    (fails_on c.from_residual-in_err-before_l2.result c.in_err-before_l2.field-0.0 c.from_residual-in_err-before_l2.ensures (fails_putting (λ fit. fit.1) c.in_err-before_l2.ensures.fails))
 
 pub returns-in_err-before_l2-clause-sound : goal.returns-in_err-before_l2-clause-sound
 returns-in_err-before_l2-clause-sound g c =
@@ -123,15 +114,9 @@ returns-in_err-branch-2-clause-fails g c =
     fails_since (c.in_ok-before_l2.ensures.fails.told ∙ (l2_put_tells g.S.Storage.view c.args.self.now.l2.backend.header.fields c.args.self.now.l2.size false c.in-Some.cluster c.args.storage.now c.insert.new.store c.args.self.now.l2.entries c.insert.new.self.entries c.in_ok-insert.field-0 (Some c.args.table) c.insert.new.value _ (λ none. let n = c.insert.ensures.nothing none in (alike c.in_ok-insert.was n.0, n.1, n.2, n.3)) c.in_ok-insert.ensures.there c.in_ok-insert.ensures.missing).same _ c.in_ok-branch.was)
     (fails_cache c.in_ok-insert-2.field-0 c.in_err-branch-2.field-0.0 c.from_residual-in_err-branch-2.result
     (l2_put_tells g.S.Storage.view c.before_l2.new.self.l2.backend.header.fields c.before_l2.new.self.l2.size true c.in-Some.cluster c.before_l2.new.storage c.insert-2.new.store c.before_l2.new.self.l2.entries c.insert-2.new.self.entries c.in_ok-insert-2.field-0 c.insert.new.value c.insert-2.new.value _ (λ none. let n = c.insert-2.ensures.nothing none in (alike c.in_ok-insert-2.was n.0, n.1, n.2, n.3)) c.in_ok-insert-2.ensures.there c.in_ok-insert-2.ensures.missing)
-    c.in_err-branch-2.was c.from_residual-in_err-branch-2.ensures)
-
-pub returns-in_err-branch-2-clause-refusals : goal.returns-in_err-branch-2-clause-refusals
-returns-in_err-branch-2-clause-refusals g c = λ h p honest sound named_blocks fits clean holds.
-    let one = table_put g.S.Storage.view c.args.storage.now c.insert.new.store c.args.self.now false c.in-Some.cluster c.insert.new.self c.insert.ensures.kept.others c.args.table (Some c.args.table) c.insert.new.value refl c.in_ok-insert.field-0 c.in_ok-insert.ensures.there c.in_ok-insert.ensures.missing (λ flush. never flush) h p honest sound fits clean (rw (sym c.get_cluster.ensures.value ∙ c.in-Some.is) at holds) in
-    let two = c.before_l2.ensures.sound.keeps h p one.honest one.sound in
-    let same = c.insert.ensures.kept.others ∙ ap (with_entries c.args.self.now.l2) (not_put (l2_steps (λ s. g.S.Storage.view (storage_of s)) c.args.self.now.l2.backend.header.fields) c.args.self.now.l2.size false c.in-Some.cluster c.args.storage.now c.insert.new.store c.args.self.now.l2.entries c.insert.new.self.entries c.in_ok-insert.field-0 (c.in_ok-branch.was ∙ ap Ok c.if-branch.false) c.args.table (Some c.args.table) c.insert.new.value refl c.in_ok-insert.ensures.there c.in_ok-insert.ensures.missing) in
-    given_err c.from_residual-in_err-branch-2.result (of_cache c.in_err-branch-2.field-0.0) (IsInUseOrFault c.args.self.now) c.from_residual-in_err-branch-2.ensures
-    (in_use_as c.args.self.now c.before_l2.new.self (of_cache c.in_err-branch-2.field-0.0) (c.before_l2.ensures.way.stays ∙ same) (table_put_refused g.S.Storage.view c.before_l2.new.storage c.insert-2.new.store c.before_l2.new.self h p (byte_at (g.S.Storage.view (storage_of c.before_l2.new.storage)).contents) two.sound true c.in-Some.cluster c.in_ok-insert-2.field-0 c.in_err-branch-2.field-0.0 c.in_err-branch-2.was c.insert-2.new.self c.args.table c.insert.new.value c.insert-2.new.value ((l2_taken g.S.Storage.view c.args.storage.now c.insert.new.store c.args.self.now false c.in-Some.cluster c.insert.new.self c.insert.ensures.kept.others c.args.table (Some c.args.table) c.insert.new.value refl c.in_ok-insert.field-0 c.in_ok-insert.ensures.there c.in_ok-insert.ensures.missing).kept (c.in_ok-branch.was ∙ ap Ok c.if-branch.false)) c.in_ok-insert-2.ensures.there c.in_ok-insert-2.ensures.missing))
+    c.in_err-branch-2.was c.from_residual-in_err-branch-2.ensures
+    (table_put_as c.args.self.now c.before_l2.new.self (of_cache c.in_err-branch-2.field-0.0) (c.before_l2.ensures.way.stays ∙ table_put_same g.S.Storage.view c.args.storage.now c.insert.new.store c.args.self.now false c.in-Some.cluster c.insert.new.self c.args.table (Some c.args.table) c.insert.new.value refl c.in_ok-insert.field-0 c.in_ok-insert.ensures.there c.in_ok-insert.ensures.missing c.insert.ensures.kept.others (c.in_ok-branch.was ∙ ap Ok c.if-branch.false))
+    (table_put_refused g.S.Storage.view c.before_l2.new.storage c.insert-2.new.store c.before_l2.new.self true c.in-Some.cluster c.in_ok-insert-2.field-0 c.in_err-branch-2.field-0.0 c.in_err-branch-2.was c.insert-2.new.self c.args.table c.insert.new.value c.insert-2.new.value ((l2_taken g.S.Storage.view c.args.storage.now c.insert.new.store c.args.self.now false c.in-Some.cluster c.insert.new.self c.insert.ensures.kept.others c.args.table (Some c.args.table) c.insert.new.value refl c.in_ok-insert.field-0 c.in_ok-insert.ensures.there c.in_ok-insert.ensures.missing).kept (c.in_ok-branch.was ∙ ap Ok c.if-branch.false)) c.in_ok-insert-2.ensures.there c.in_ok-insert-2.ensures.missing)))
 
 pub returns-in_err-branch-2-clause-sound : goal.returns-in_err-branch-2-clause-sound
 returns-in_err-branch-2-clause-sound g c =
@@ -256,14 +241,6 @@ returns-in_err-insert-2-clause-puts g c =
           quiet_then (g.S.Storage.view (storage_of c.args.storage.now)) (g.S.Storage.view (storage_of c.insert.new.store)) (g.S.Storage.view (storage_of c.before_l2.new.storage)) one (c.before_l2.ensures.way.quiet eviction.0 one.honest));
     })
 
-pub returns-in_err-insert-clause-refusals : goal.returns-in_err-insert-clause-refusals
-returns-in_err-insert-clause-refusals g c =
-    λ h p honest sound named_blocks fits clean holds. given_err c.from_residual.result I.Memory (IsInUseOrFault c.args.self.now) c.from_residual.ensures (inr (inr refl))
-
-pub returns-in_err-insert-2-clause-refusals : goal.returns-in_err-insert-2-clause-refusals
-returns-in_err-insert-2-clause-refusals g c =
-    λ h p honest sound named_blocks fits clean holds. given_err c.from_residual-in_err-insert-2.result I.Memory (IsInUseOrFault c.args.self.now) c.from_residual-in_err-insert-2.ensures (inr (inr refl))
-
 pub returns-in_err-insert-clause-written : goal.returns-in_err-insert-clause-written
 returns-in_err-insert-clause-written g c =
     rw c.in_err-insert.ensures.refused.0 (keeps_written refl (λ all clean. all) (λ all. all))
@@ -275,4 +252,4 @@ returns-in_err-insert-2-clause-written g c =
 pub returns-in_err-insert-2-clause-fails : goal.returns-in_err-insert-2-clause-fails
 returns-in_err-insert-2-clause-fails g c =
     rw c.in_err-insert-2.ensures.refused.1 (fails_since (c.in_ok-before_l2.ensures.fails.told ∙ (l2_put_tells g.S.Storage.view c.args.self.now.l2.backend.header.fields c.args.self.now.l2.size false c.in-Some.cluster c.args.storage.now c.insert.new.store c.args.self.now.l2.entries c.insert.new.self.entries c.in_ok-insert.field-0 (Some c.args.table) c.insert.new.value _ (λ none. let n = c.insert.ensures.nothing none in (alike c.in_ok-insert.was n.0, n.1, n.2, n.3)) c.in_ok-insert.ensures.there c.in_ok-insert.ensures.missing).same _ c.in_ok-branch.was)
-    (fails_on c.from_residual-in_err-insert-2.result I.Memory c.from_residual-in_err-insert-2.ensures (fails_by I.Memory memory_other refl tt)))
+    (fails_on c.from_residual-in_err-insert-2.result I.Memory c.from_residual-in_err-insert-2.ensures (fails_by I.Memory memory_other refl (inr (inl (inr refl))))))

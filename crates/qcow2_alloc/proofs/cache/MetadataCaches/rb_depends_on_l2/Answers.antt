@@ -1,7 +1,7 @@
-use Rattle.qcow2_alloc.proofs.Common.{inl, inr, refl, ap, ◌∙◌, subst, TablesMayGo, Direction, IsFault, order, refblocks, byte_at, storage_of}
+use Rattle.qcow2_alloc.proofs.Common.{inl, inr, refl, ap, ◌∙◌, subst, TablesMayGo, Direction, order, refblocks}
 use Rattle.qcow2_alloc.specs.declared.cache.Direction.TheVariants as D
-use Rattle.qcow2_alloc.proofs.Lemmas.{cache_step_none, step_in_turn, step_turned, soundly_none, soundly_turned, differ, rb_not_l2, neither_l2, given_err, quiet_none, blocks_free, may_rb_depend, on_err, on_no_ok, fails_ok, fails_on, named_have_places}
-use Rattle.qcow2_alloc.proofs.cache.MetadataCaches.rb_depends_on_l2.Goals.{in-RbDependsOnL2, in-None, in-L2DependsOnRb+in_ok-write_blocks-in-L2DependsOnRb}
+use Rattle.qcow2_alloc.proofs.Lemmas.{cache_step_none, step_in_turn, step_turned, soundly_none, soundly_turned, differ, rb_not_l2, neither_l2, quiet_none, blocks_free, may_rb_depend, on_err, on_no_ok, fails_ok, fails_on}
+use Rattle.qcow2_alloc.proofs.cache.MetadataCaches.rb_depends_on_l2.Goals.{in-L2DependsOnRb+in_ok-write_blocks-in-L2DependsOnRb, in-RbDependsOnL2, in-None}
 use Rattle.qcow2_alloc.proofs.cache.MetadataCaches.rb_depends_on_l2.Goals as goal
 
 pub returns-in_err-write_blocks-in-L2DependsOnRb-clause-step : goal.returns-in_err-write_blocks-in-L2DependsOnRb-clause-step
@@ -9,9 +9,6 @@ returns-in_err-write_blocks-in-L2DependsOnRb-clause-step g c = step_in_turn c.wr
 
 pub returns-in_err-write_blocks-in-L2DependsOnRb-clause-fails : goal.returns-in_err-write_blocks-in-L2DependsOnRb-clause-fails
 returns-in_err-write_blocks-in-L2DependsOnRb-clause-fails g c = fails_on c.from_residual.result c.in_err-write_blocks-in-L2DependsOnRb.field-0.0 c.from_residual.ensures c.in_err-write_blocks-in-L2DependsOnRb.ensures.fails
-
-pub returns-in_err-write_blocks-in-L2DependsOnRb-clause-faults : goal.returns-in_err-write_blocks-in-L2DependsOnRb-clause-faults
-returns-in_err-write_blocks-in-L2DependsOnRb-clause-faults g c = λ h p honest sound named_blocks. given_err c.from_residual.result c.in_err-write_blocks-in-L2DependsOnRb.field-0.0 IsFault c.from_residual.ensures (c.in_err-write_blocks-in-L2DependsOnRb.ensures.faults h p honest sound (named_have_places h p c.args.self.now (byte_at (g.S.Storage.view (storage_of c.args.storage.now)).contents) sound named_blocks))
 
 pub returns-in_err-write_blocks-in-L2DependsOnRb-clause-sound : goal.returns-in_err-write_blocks-in-L2DependsOnRb-clause-sound
 returns-in_err-write_blocks-in-L2DependsOnRb-clause-sound g c = c.write_blocks.ensures.sound (blocks_free c.args.self.now (inr c.in-L2DependsOnRb.is))

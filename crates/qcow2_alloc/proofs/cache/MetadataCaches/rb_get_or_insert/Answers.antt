@@ -1,5 +1,5 @@
-use Rattle.qcow2_alloc.proofs.Common.{RefBlockView, ImageStorage, IsQuiet, subst, refl, inr, true, false, Ok, ap, sym, ◌∙◌, eqb, rb_steps, of_cache, IsFault, byte_at, storage_of}
-use Rattle.qcow2_alloc.proofs.Lemmas.{block_got, marks_blocks, marks_then, given_err, block_load_refused, quiet_then, next_block, block_got_quietly, block_waits, block_got_same, stays_same, stays_then, values_stay, never, on_no_ok, rb_get_tells, fails_ok, fails_on, fails_since, load_step_on, load_step_then, soundly_none, soundly_then, fails_cache, rb_got_step, rb_got_soundly, places_as}
+use Rattle.qcow2_alloc.proofs.Common.{RefBlockView, ImageStorage, IsQuiet, subst, refl, true, false, Ok, ap, sym, ◌∙◌, eqb, rb_steps, of_cache, storage_of}
+use Rattle.qcow2_alloc.proofs.Lemmas.{block_load_refused, quiet_then, next_block, block_got_quietly, block_waits, block_got_same, stays_same, stays_then, values_stay, never, on_no_ok, rb_get_tells, fails_ok, fails_on, fails_since, load_step_on, load_step_then, soundly_none, soundly_then, fails_cache, rb_got_step, rb_got_soundly, block_load_as, fails_putting}
 use Rattle.qcow2_alloc.specs.declared.error.ImageError.TheVariants as I
 use Rattle.qcow2_alloc.proofs.CachedEntries.Hits.{got_at_last, got_there, held_in_front}
 use Rattle.qcow2_alloc.proofs.CachedEntries.Keeping.{keeps_none, keeps_from, not_hit, load_keeps}
@@ -14,6 +14,7 @@ returns-in_err-branch-clause-fails g c =
     fails_cache c.in_ok-get_or_insert.field-0 c.in_err-branch.field-0.0 c.from_residual-in_err-branch.result
     (rb_get_tells g.S.Storage.view c.args.self.now.rb.backend.header.fields c.args.self.now.rb.size false c.args.cluster c.args.storage.now c.get_or_insert.new.store c.args.self.now.rb.entries c.get_or_insert.new.self.entries c.in_ok-get_or_insert.field-0 c.in_ok-get_or_insert.ensures.hit c.in_ok-get_or_insert.ensures.miss)
     c.in_err-branch.was c.from_residual-in_err-branch.ensures
+    (block_load_as c.args.self.now c.args.self.now (of_cache c.in_err-branch.field-0.0) c.args.cluster refl (block_load_refused g.S.Storage.view c.args.storage.now c.get_or_insert.new.store c.args.self.now false c.args.cluster c.in_ok-get_or_insert.field-0 c.in_err-branch.field-0.0 c.in_err-branch.was c.get_or_insert.new.self c.in_ok-get_or_insert.ensures.hit c.in_ok-get_or_insert.ensures.miss))
 
 pub returns-in_err-branch-clause-sound : goal.returns-in_err-branch-clause-sound
 returns-in_err-branch-clause-sound g c = rb_got_soundly g.S.Storage.view c.args.storage.now c.get_or_insert.new.store c.args.self.now c.get_or_insert.new.self c.get_or_insert.ensures.kept.others false c.args.cluster c.in_ok-get_or_insert.field-0 c.in_ok-get_or_insert.ensures.hit c.in_ok-get_or_insert.ensures.miss c.get_or_insert.ensures.kept.distinct (λ flush. never flush)
@@ -63,12 +64,7 @@ returns-in_err-before_rb-clause-step g c =
 pub returns-in_err-before_rb-clause-fails : goal.returns-in_err-before_rb-clause-fails
 returns-in_err-before_rb-clause-fails g c =
     fails_since ((rb_get_tells g.S.Storage.view c.args.self.now.rb.backend.header.fields c.args.self.now.rb.size false c.args.cluster c.args.storage.now c.get_or_insert.new.store c.args.self.now.rb.entries c.get_or_insert.new.self.entries c.in_ok-get_or_insert.field-0 c.in_ok-get_or_insert.ensures.hit c.in_ok-get_or_insert.ensures.miss).same _ c.in_ok-branch.was)
-    (fails_on c.from_residual-in_err-before_rb.result c.in_err-before_rb.field-0.0 c.from_residual-in_err-before_rb.ensures c.in_err-before_rb.ensures.fails)
-
-pub returns-in_err-before_rb-clause-faults : goal.returns-in_err-before_rb-clause-faults
-returns-in_err-before_rb-clause-faults g c = λ room h here p honest sound places.
-    let one = block_got g.S.Storage.view c.args.storage.now c.get_or_insert.new.store c.args.self.now false c.args.cluster c.get_or_insert.new.self c.get_or_insert.ensures.kept.others c.in_ok-get_or_insert.field-0 c.in_ok-get_or_insert.ensures.hit c.in_ok-get_or_insert.ensures.miss (λ flush. never flush) h p honest sound in
-    given_err c.from_residual-in_err-before_rb.result c.in_err-before_rb.field-0.0 IsFault c.from_residual-in_err-before_rb.ensures (c.in_err-before_rb.ensures.faults h p one.honest one.sound)
+    (fails_on c.from_residual-in_err-before_rb.result c.in_err-before_rb.field-0.0 c.from_residual-in_err-before_rb.ensures (fails_putting (λ fit. fit.0.0) c.in_err-before_rb.ensures.fails))
 
 pub returns-in_err-before_rb-clause-sound : goal.returns-in_err-before_rb-clause-sound
 returns-in_err-before_rb-clause-sound g c =
@@ -103,15 +99,9 @@ returns-in_err-branch-2-clause-fails g c =
     fails_since (c.in_ok-before_rb.ensures.fails.told ∙ (rb_get_tells g.S.Storage.view c.args.self.now.rb.backend.header.fields c.args.self.now.rb.size false c.args.cluster c.args.storage.now c.get_or_insert.new.store c.args.self.now.rb.entries c.get_or_insert.new.self.entries c.in_ok-get_or_insert.field-0 c.in_ok-get_or_insert.ensures.hit c.in_ok-get_or_insert.ensures.miss).same _ c.in_ok-branch.was)
     (fails_cache c.in_ok-get_or_insert-2.field-0 c.in_err-branch-2.field-0.0 c.from_residual-in_err-branch-2.result
     (rb_get_tells g.S.Storage.view c.before_rb.new.self.rb.backend.header.fields c.before_rb.new.self.rb.size true c.args.cluster c.before_rb.new.storage c.get_or_insert-2.new.store c.before_rb.new.self.rb.entries c.get_or_insert-2.new.self.entries c.in_ok-get_or_insert-2.field-0 c.in_ok-get_or_insert-2.ensures.hit c.in_ok-get_or_insert-2.ensures.miss)
-    c.in_err-branch-2.was c.from_residual-in_err-branch-2.ensures)
-
-pub returns-in_err-branch-2-clause-faults : goal.returns-in_err-branch-2-clause-faults
-returns-in_err-branch-2-clause-faults g c = λ room h here p honest sound places.
-    let one = block_got g.S.Storage.view c.args.storage.now c.get_or_insert.new.store c.args.self.now false c.args.cluster c.get_or_insert.new.self c.get_or_insert.ensures.kept.others c.in_ok-get_or_insert.field-0 c.in_ok-get_or_insert.ensures.hit c.in_ok-get_or_insert.ensures.miss (λ flush. never flush) h p honest sound in
-    let two = c.before_rb.ensures.sound.keeps h p one.honest one.sound in
-    let marks = marks_then c.args.self.now (record c.args.self.now { rb = c.get_or_insert.new.self }) c.before_rb.new.self (marks_blocks c.args.self.now c.get_or_insert.new.self c.get_or_insert.ensures.kept.others c.get_or_insert.ensures.kept.pins) c.before_rb.ensures.step.marks.pins in
-    given_err c.from_residual-in_err-branch-2.result (of_cache c.in_err-branch-2.field-0.0) IsFault c.from_residual-in_err-branch-2.ensures
-    (block_load_refused g.S.Storage.view c.before_rb.new.storage c.get_or_insert-2.new.store c.before_rb.new.self h p (byte_at (g.S.Storage.view (storage_of c.before_rb.new.storage)).contents) two.sound true c.args.cluster c.in_ok-get_or_insert-2.field-0 c.in_err-branch-2.field-0.0 c.in_err-branch-2.was (marks.room room) (places_as h c.args.self.now c.before_rb.new.self (c.before_rb.ensures.way.stays ∙ block_got_same g.S.Storage.view c.args.storage.now c.get_or_insert.new.store c.args.self.now false c.args.cluster c.get_or_insert.new.self c.in_ok-get_or_insert.field-0 c.in_ok-get_or_insert.ensures.hit c.in_ok-get_or_insert.ensures.miss c.get_or_insert.ensures.kept.others (c.in_ok-branch.was ∙ ap Ok c.if-branch.false)) places) c.get_or_insert-2.new.self here c.in_ok-get_or_insert-2.ensures.hit c.in_ok-get_or_insert-2.ensures.miss)
+    c.in_err-branch-2.was c.from_residual-in_err-branch-2.ensures
+    (block_load_as c.args.self.now c.before_rb.new.self (of_cache c.in_err-branch-2.field-0.0) c.args.cluster (c.before_rb.ensures.way.stays ∙ block_got_same g.S.Storage.view c.args.storage.now c.get_or_insert.new.store c.args.self.now false c.args.cluster c.get_or_insert.new.self c.in_ok-get_or_insert.field-0 c.in_ok-get_or_insert.ensures.hit c.in_ok-get_or_insert.ensures.miss c.get_or_insert.ensures.kept.others (c.in_ok-branch.was ∙ ap Ok c.if-branch.false))
+    (block_load_refused g.S.Storage.view c.before_rb.new.storage c.get_or_insert-2.new.store c.before_rb.new.self true c.args.cluster c.in_ok-get_or_insert-2.field-0 c.in_err-branch-2.field-0.0 c.in_err-branch-2.was c.get_or_insert-2.new.self c.in_ok-get_or_insert-2.ensures.hit c.in_ok-get_or_insert-2.ensures.miss)))
 
 pub returns-in_err-branch-2-clause-sound : goal.returns-in_err-branch-2-clause-sound
 returns-in_err-branch-2-clause-sound g c =
@@ -211,9 +201,3 @@ returns-in_err-get_or_insert-2-clause-held g c = λ there. absurd (let bad = sym
 
 pub returns-in_err-get_or_insert-clause-held : goal.returns-in_err-get_or_insert-clause-held
 returns-in_err-get_or_insert-clause-held g c = λ there. rw (c.in_err-get_or_insert.ensures.refused.0, c.in_err-get_or_insert.ensures.refused.1) (refl, λ k. refl)
-
-pub returns-in_err-get_or_insert-clause-faults : goal.returns-in_err-get_or_insert-clause-faults
-returns-in_err-get_or_insert-clause-faults g c = λ room h here p honest sound places. given_err c.from_residual.result I.Memory IsFault c.from_residual.ensures (inr refl)
-
-pub returns-in_err-get_or_insert-2-clause-faults : goal.returns-in_err-get_or_insert-2-clause-faults
-returns-in_err-get_or_insert-2-clause-faults g c = λ room h here p honest sound places. given_err c.from_residual-in_err-get_or_insert-2.result I.Memory IsFault c.from_residual-in_err-get_or_insert-2.ensures (inr refl)

@@ -1,6 +1,6 @@
 use Rattle.std.proofs.Common.{◌≡◌, ◌+◌, ◌*◌, inr, Bool, true, false, Some, Result, Ok, Err, refl, sym, ap, ◌∙◌, eqb}
-use Rattle.qcow2_alloc.proofs.Common.{cluster_size, of_cache, IsFault, Bytes, byte_at, storage_of, laid_at}
-use Rattle.qcow2_alloc.proofs.Lemmas.{block_put, rb_taken, taken_at_last, if_some, stay_then, marks_blocks, marks_then, given_err, block_put_refused, put_at_last, laid_then, block_kept, block_laid, order_then, block_put_in_order, quiet_none, quiet_then, block_eviction, block_put_quietly, block_put_waits, block_put_same, stays_same, stays_then, values_stay, never, on_no_ok, apart_then, block_kept_apart, block_put_apart, blocks_under_then, rb_put_tells, fails_by, fails_ok, fails_on, fails_since, memory_other, cache_step_none, put_step_as, put_step_on, put_step_then, soundly_none, soundly_then, fails_cache, puts_refused, rb_put_step, rb_kept_soundly, places_as}
+use Rattle.qcow2_alloc.proofs.Common.{inl, cluster_size, of_cache, Bytes, storage_of, laid_at}
+use Rattle.qcow2_alloc.proofs.Lemmas.{block_put, rb_taken, taken_at_last, if_some, stay_then, block_put_refused, put_at_last, laid_then, block_kept, block_laid, order_then, block_put_in_order, quiet_none, quiet_then, block_eviction, block_put_quietly, block_put_waits, block_put_same, stays_same, stays_then, values_stay, never, on_no_ok, apart_then, block_kept_apart, block_put_apart, blocks_under_then, rb_put_tells, fails_by, fails_ok, fails_on, fails_since, memory_other, cache_step_none, put_step_as, put_step_on, put_step_then, soundly_none, soundly_then, fails_cache, puts_refused, rb_put_step, rb_kept_soundly, block_put_as, fails_putting}
 use Rattle.qcow2_alloc.specs.declared.error.ImageError.TheVariants as I
 use Rattle.qcow2_alloc.proofs.cache.MetadataCaches.rb_insert.Goals as goal
 
@@ -23,11 +23,7 @@ returns-in_err-branch-clause-fails g c =
     fails_cache c.in_ok-insert.field-0 c.in_err-branch.field-0.0 c.from_residual-in_err-branch.result
     (rb_put_tells g.S.Storage.view c.args.self.now.rb.backend.header.fields c.args.self.now.rb.size false c.in-Some.cluster c.args.storage.now c.insert.new.store c.args.self.now.rb.entries c.insert.new.self.entries c.in_ok-insert.field-0 (Some c.args.block) c.insert.new.value _ (λ none. let n = c.insert.ensures.nothing none in (alike c.in_ok-insert.was n.0, n.1, n.2, n.3)) c.in_ok-insert.ensures.there c.in_ok-insert.ensures.missing)
     c.in_err-branch.was c.from_residual-in_err-branch.ensures
-
-pub returns-in_err-branch-clause-faults : goal.returns-in_err-branch-clause-faults
-returns-in_err-branch-clause-faults g c = λ room h p honest sound places.
-    given_err c.from_residual-in_err-branch.result (of_cache c.in_err-branch.field-0.0) IsFault c.from_residual-in_err-branch.ensures
-    (block_put_refused g.S.Storage.view c.args.storage.now c.insert.new.store c.args.self.now h p (byte_at (g.S.Storage.view (storage_of c.args.storage.now)).contents) sound false c.in-Some.cluster c.in_ok-insert.field-0 c.in_err-branch.field-0.0 c.in_err-branch.was room places c.insert.new.self c.args.block (Some c.args.block) c.insert.new.value refl c.in_ok-insert.ensures.there c.in_ok-insert.ensures.missing)
+    (block_put_as c.args.self.now c.args.self.now (of_cache c.in_err-branch.field-0.0) refl (block_put_refused g.S.Storage.view c.args.storage.now c.insert.new.store c.args.self.now false c.in-Some.cluster c.in_ok-insert.field-0 c.in_err-branch.field-0.0 c.in_err-branch.was c.insert.new.self c.args.block (Some c.args.block) c.insert.new.value refl c.in_ok-insert.ensures.there c.in_ok-insert.ensures.missing))
 
 pub returns-in_err-branch-clause-sound : goal.returns-in_err-branch-clause-sound
 returns-in_err-branch-clause-sound g c =
@@ -79,12 +75,7 @@ returns-in_err-before_rb-clause-step g c =
 pub returns-in_err-before_rb-clause-fails : goal.returns-in_err-before_rb-clause-fails
 returns-in_err-before_rb-clause-fails g c =
     fails_since ((rb_put_tells g.S.Storage.view c.args.self.now.rb.backend.header.fields c.args.self.now.rb.size false c.in-Some.cluster c.args.storage.now c.insert.new.store c.args.self.now.rb.entries c.insert.new.self.entries c.in_ok-insert.field-0 (Some c.args.block) c.insert.new.value _ (λ none. let n = c.insert.ensures.nothing none in (alike c.in_ok-insert.was n.0, n.1, n.2, n.3)) c.in_ok-insert.ensures.there c.in_ok-insert.ensures.missing).same _ c.in_ok-branch.was)
-    (fails_on c.from_residual-in_err-before_rb.result c.in_err-before_rb.field-0.0 c.from_residual-in_err-before_rb.ensures c.in_err-before_rb.ensures.fails)
-
-pub returns-in_err-before_rb-clause-faults : goal.returns-in_err-before_rb-clause-faults
-returns-in_err-before_rb-clause-faults g c = λ room h p honest sound places.
-    let one = (rb_kept_soundly g.S.Storage.view c.args.storage.now c.insert.new.store c.args.self.now false c.in-Some.cluster c.insert.new.self c.insert.ensures.kept.others c.args.block (Some c.args.block) c.insert.new.value refl c.in_ok-insert.field-0 c.in_ok-insert.ensures.there c.in_ok-insert.ensures.missing c.insert.ensures.kept.distinct (λ flush. never flush) (λ went. ok_false (c.in_ok-branch.was ∙ ap Ok c.if-branch.false) went)).keeps h p honest sound in
-    given_err c.from_residual-in_err-before_rb.result c.in_err-before_rb.field-0.0 IsFault c.from_residual-in_err-before_rb.ensures (c.in_err-before_rb.ensures.faults h p one.honest one.sound)
+    (fails_on c.from_residual-in_err-before_rb.result c.in_err-before_rb.field-0.0 c.from_residual-in_err-before_rb.ensures (fails_putting (λ fit. fit.0) c.in_err-before_rb.ensures.fails))
 
 pub returns-in_err-before_rb-clause-sound : goal.returns-in_err-before_rb-clause-sound
 returns-in_err-before_rb-clause-sound g c =
@@ -114,15 +105,9 @@ returns-in_err-branch-2-clause-fails g c =
     fails_since (c.in_ok-before_rb.ensures.fails.told ∙ (rb_put_tells g.S.Storage.view c.args.self.now.rb.backend.header.fields c.args.self.now.rb.size false c.in-Some.cluster c.args.storage.now c.insert.new.store c.args.self.now.rb.entries c.insert.new.self.entries c.in_ok-insert.field-0 (Some c.args.block) c.insert.new.value _ (λ none. let n = c.insert.ensures.nothing none in (alike c.in_ok-insert.was n.0, n.1, n.2, n.3)) c.in_ok-insert.ensures.there c.in_ok-insert.ensures.missing).same _ c.in_ok-branch.was)
     (fails_cache c.in_ok-insert-2.field-0 c.in_err-branch-2.field-0.0 c.from_residual-in_err-branch-2.result
     (rb_put_tells g.S.Storage.view c.before_rb.new.self.rb.backend.header.fields c.before_rb.new.self.rb.size true c.in-Some.cluster c.before_rb.new.storage c.insert-2.new.store c.before_rb.new.self.rb.entries c.insert-2.new.self.entries c.in_ok-insert-2.field-0 c.insert.new.value c.insert-2.new.value _ (λ none. let n = c.insert-2.ensures.nothing none in (alike c.in_ok-insert-2.was n.0, n.1, n.2, n.3)) c.in_ok-insert-2.ensures.there c.in_ok-insert-2.ensures.missing)
-    c.in_err-branch-2.was c.from_residual-in_err-branch-2.ensures)
-
-pub returns-in_err-branch-2-clause-faults : goal.returns-in_err-branch-2-clause-faults
-returns-in_err-branch-2-clause-faults g c = λ room h p honest sound places.
-    let one = (rb_kept_soundly g.S.Storage.view c.args.storage.now c.insert.new.store c.args.self.now false c.in-Some.cluster c.insert.new.self c.insert.ensures.kept.others c.args.block (Some c.args.block) c.insert.new.value refl c.in_ok-insert.field-0 c.in_ok-insert.ensures.there c.in_ok-insert.ensures.missing c.insert.ensures.kept.distinct (λ flush. never flush) (λ went. ok_false (c.in_ok-branch.was ∙ ap Ok c.if-branch.false) went)).keeps h p honest sound in
-    let two = c.before_rb.ensures.sound.keeps h p one.honest one.sound in
-    let marks = marks_then c.args.self.now (record c.args.self.now { rb = c.insert.new.self }) c.before_rb.new.self (marks_blocks c.args.self.now c.insert.new.self c.insert.ensures.kept.others c.insert.ensures.kept.pins) c.before_rb.ensures.step.marks.pins in
-    given_err c.from_residual-in_err-branch-2.result (of_cache c.in_err-branch-2.field-0.0) IsFault c.from_residual-in_err-branch-2.ensures
-    (block_put_refused g.S.Storage.view c.before_rb.new.storage c.insert-2.new.store c.before_rb.new.self h p (byte_at (g.S.Storage.view (storage_of c.before_rb.new.storage)).contents) two.sound true c.in-Some.cluster c.in_ok-insert-2.field-0 c.in_err-branch-2.field-0.0 c.in_err-branch-2.was (marks.room room) (places_as h c.args.self.now c.before_rb.new.self (c.before_rb.ensures.way.stays ∙ block_put_same g.S.Storage.view c.args.storage.now c.insert.new.store c.args.self.now false c.in-Some.cluster c.insert.new.self c.args.block (Some c.args.block) c.insert.new.value refl c.in_ok-insert.field-0 c.in_ok-insert.ensures.there c.in_ok-insert.ensures.missing c.insert.ensures.kept.others (c.in_ok-branch.was ∙ ap Ok c.if-branch.false)) places) c.insert-2.new.self c.args.block c.insert.new.value c.insert-2.new.value ((rb_taken g.S.Storage.view c.args.storage.now c.insert.new.store c.args.self.now false c.in-Some.cluster c.insert.new.self c.insert.ensures.kept.others c.args.block (Some c.args.block) c.insert.new.value refl c.in_ok-insert.field-0 c.in_ok-insert.ensures.there c.in_ok-insert.ensures.missing).kept (c.in_ok-branch.was ∙ ap Ok c.if-branch.false)) c.in_ok-insert-2.ensures.there c.in_ok-insert-2.ensures.missing)
+    c.in_err-branch-2.was c.from_residual-in_err-branch-2.ensures
+    (block_put_as c.args.self.now c.before_rb.new.self (of_cache c.in_err-branch-2.field-0.0) (c.before_rb.ensures.way.stays ∙ block_put_same g.S.Storage.view c.args.storage.now c.insert.new.store c.args.self.now false c.in-Some.cluster c.insert.new.self c.args.block (Some c.args.block) c.insert.new.value refl c.in_ok-insert.field-0 c.in_ok-insert.ensures.there c.in_ok-insert.ensures.missing c.insert.ensures.kept.others (c.in_ok-branch.was ∙ ap Ok c.if-branch.false))
+    (block_put_refused g.S.Storage.view c.before_rb.new.storage c.insert-2.new.store c.before_rb.new.self true c.in-Some.cluster c.in_ok-insert-2.field-0 c.in_err-branch-2.field-0.0 c.in_err-branch-2.was c.insert-2.new.self c.args.block c.insert.new.value c.insert-2.new.value ((rb_taken g.S.Storage.view c.args.storage.now c.insert.new.store c.args.self.now false c.in-Some.cluster c.insert.new.self c.insert.ensures.kept.others c.args.block (Some c.args.block) c.insert.new.value refl c.in_ok-insert.field-0 c.in_ok-insert.ensures.there c.in_ok-insert.ensures.missing).kept (c.in_ok-branch.was ∙ ap Ok c.if-branch.false)) c.in_ok-insert-2.ensures.there c.in_ok-insert-2.ensures.missing)))
 
 pub returns-in_err-branch-2-clause-sound : goal.returns-in_err-branch-2-clause-sound
 returns-in_err-branch-2-clause-sound g c =
@@ -237,15 +222,7 @@ returns-in_err-insert-2-clause-puts g c =
           quiet_then (g.S.Storage.view (storage_of c.args.storage.now)) (g.S.Storage.view (storage_of c.insert.new.store)) (g.S.Storage.view (storage_of c.before_rb.new.storage)) one (c.before_rb.ensures.way.quiet eviction.0 one.honest));
     })
 
-pub returns-in_err-insert-clause-faults : goal.returns-in_err-insert-clause-faults
-returns-in_err-insert-clause-faults g c =
-    λ room h p honest sound places. given_err c.from_residual.result I.Memory IsFault c.from_residual.ensures (inr refl)
-
-pub returns-in_err-insert-2-clause-faults : goal.returns-in_err-insert-2-clause-faults
-returns-in_err-insert-2-clause-faults g c =
-    λ room h p honest sound places. given_err c.from_residual-in_err-insert-2.result I.Memory IsFault c.from_residual-in_err-insert-2.ensures (inr refl)
-
 pub returns-in_err-insert-2-clause-fails : goal.returns-in_err-insert-2-clause-fails
 returns-in_err-insert-2-clause-fails g c =
     rw c.in_err-insert-2.ensures.refused.1 (fails_since (c.in_ok-before_rb.ensures.fails.told ∙ (rb_put_tells g.S.Storage.view c.args.self.now.rb.backend.header.fields c.args.self.now.rb.size false c.in-Some.cluster c.args.storage.now c.insert.new.store c.args.self.now.rb.entries c.insert.new.self.entries c.in_ok-insert.field-0 (Some c.args.block) c.insert.new.value _ (λ none. let n = c.insert.ensures.nothing none in (alike c.in_ok-insert.was n.0, n.1, n.2, n.3)) c.in_ok-insert.ensures.there c.in_ok-insert.ensures.missing).same _ c.in_ok-branch.was)
-    (fails_on c.from_residual-in_err-insert-2.result I.Memory c.from_residual-in_err-insert-2.ensures (fails_by I.Memory memory_other refl tt)))
+    (fails_on c.from_residual-in_err-insert-2.result I.Memory c.from_residual-in_err-insert-2.ensures (fails_by I.Memory memory_other refl (inr (inl (inr refl))))))

@@ -1,4 +1,4 @@
-use Rattle.qcow2_alloc.proofs.Common.{false, Err, inl, refl, ◌∙◌, ap, of_cache, IsFault, IsOfTables, byte_at, storage_of, met_fault_of, RefBlockView, rb_steps}
+use Rattle.qcow2_alloc.proofs.Common.{false, Err, inl, refl, ◌∙◌, ap, of_cache, IsFaultOr, BlocksFit, storage_of, met_fault_of, RefBlockView, rb_steps}
 use Rattle.qcow2_alloc.proofs.Lemmas.{blocks_written, blocks_flush_refused, clean_as, flush_clean, blocks_quiet, flush_refused, told_as, rb_flush_tells, watched_step, watched_soundly, rb_flushed_step, rb_flushed_soundly, fails_ok, fails_of}
 use Rattle.qcow2_alloc.proofs.KeptTables.Held.{blocks_held}
 use Rattle.qcow2_alloc.proofs.cache.MetadataCaches.write_blocks.Goals as goal
@@ -13,12 +13,8 @@ pub returns-in-Err-clause-fails : goal.returns-in-Err-clause-fails
 returns-in-Err-clause-fails g c =
     fails_of {T = Unit {0}} (Err c.refusal_to_report.result) (flush_refused g.S.Storage.view (record c.args.storage.now { met_fault = false }) c.flush.new.store c.flush.result c.in-Err.refusal c.refusal_to_report.result refl (rw c.watch_faults.ensures at c.flush.ensures.keeps).1
     (rb_flush_tells g.S.Storage.view c.args.self.now.rb.backend.header.fields (record c.args.storage.now { met_fault = false }) c.flush.new.store c.args.self.now.rb.entries c.flush.new.self.entries c.flush.result (rw c.watch_faults.ensures at c.flush.ensures.flushed)) c.in-Err.is c.refusal_to_report.ensures.met (λ none. c.refusal_to_report.ensures.unmet none ∙ c.into.ensures))
-    (told_as IsOfTables (met_fault_of c.flush.new.store) c.refusal_to_report.result (of_cache c.in-Err.refusal) c.refusal_to_report.ensures.met (λ none. c.refusal_to_report.ensures.unmet none ∙ c.into.ensures) tt ((rb_flush_tells g.S.Storage.view c.args.self.now.rb.backend.header.fields (record c.args.storage.now { met_fault = false }) c.flush.new.store c.args.self.now.rb.entries c.flush.new.self.entries c.flush.result (rw c.watch_faults.ensures at c.flush.ensures.flushed)).cause c.in-Err.refusal c.in-Err.is))
-
-pub returns-in-Err-clause-faults : goal.returns-in-Err-clause-faults
-returns-in-Err-clause-faults g c = λ h p honest sound places.
-    told_as IsFault (met_fault_of c.flush.new.store) c.refusal_to_report.result (of_cache c.in-Err.refusal) c.refusal_to_report.ensures.met (λ none. c.refusal_to_report.ensures.unmet none ∙ c.into.ensures) (inl refl)
-    (blocks_flush_refused g.S.Storage.view (record c.args.storage.now { met_fault = false }) c.flush.new.store c.args.self.now h p (byte_at (g.S.Storage.view (storage_of c.args.storage.now)).contents) sound places c.flush.new.self c.flush.result (rw c.watch_faults.ensures at c.flush.ensures.flushed) c.in-Err.refusal c.in-Err.is)
+    (told_as (IsFaultOr (¬ BlocksFit c.args.self.now)) (met_fault_of c.flush.new.store) c.refusal_to_report.result (of_cache c.in-Err.refusal) c.refusal_to_report.ensures.met (λ none. c.refusal_to_report.ensures.unmet none ∙ c.into.ensures) (inl (inl refl))
+    (blocks_flush_refused g.S.Storage.view (record c.args.storage.now { met_fault = false }) c.flush.new.store c.args.self.now c.flush.new.self c.flush.result (rw c.watch_faults.ensures at c.flush.ensures.flushed) c.in-Err.refusal c.in-Err.is))
 
 pub returns-in-Err-clause-flushes : goal.returns-in-Err-clause-flushes
 returns-in-Err-clause-flushes g c = record {

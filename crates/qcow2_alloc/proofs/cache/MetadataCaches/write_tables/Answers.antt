@@ -1,4 +1,4 @@
-use Rattle.qcow2_alloc.proofs.Common.{false, Err, inl, refl, ◌∙◌, ℕ, sym, ap, subst, of_cache, IsFault, IsOfTables, byte_at, storage_of, met_fault_of, L2TableView, IsFreeOf, Cache, cached_tables, L2CacheBackend, l2_steps}
+use Rattle.qcow2_alloc.proofs.Common.{ℕ, false, Err, inl, refl, ◌∙◌, sym, ap, subst, of_cache, IsFaultOr, TablesFit, storage_of, met_fault_of, L2TableView, IsFreeOf, Cache, cached_tables, L2CacheBackend, l2_steps}
 use Rattle.qcow2_alloc.proofs.Lemmas.{tables_written, tables_flush_refused, flush_free, tables_quiet, flush_refused, told_as, l2_flush_tells, watched_step, watched_soundly, l2_flushed_step, l2_flushed_soundly, fails_ok, fails_of}
 use Rattle.qcow2_alloc.proofs.cache.MetadataCaches.write_tables.Goals as goal
 
@@ -12,12 +12,8 @@ pub returns-in-Err-clause-fails : goal.returns-in-Err-clause-fails
 returns-in-Err-clause-fails g c =
     fails_of {T = Unit {0}} (Err c.refusal_to_report.result) (flush_refused g.S.Storage.view (record c.args.storage.now { met_fault = false }) c.flush.new.store c.flush.result c.in-Err.refusal c.refusal_to_report.result refl (rw c.watch_faults.ensures at c.flush.ensures.keeps).1
     (l2_flush_tells g.S.Storage.view c.args.self.now.l2.backend.header.fields (record c.args.storage.now { met_fault = false }) c.flush.new.store c.args.self.now.l2.entries c.flush.new.self.entries c.flush.result (rw c.watch_faults.ensures at c.flush.ensures.flushed)) c.in-Err.is c.refusal_to_report.ensures.met (λ none. c.refusal_to_report.ensures.unmet none ∙ c.into.ensures))
-    (told_as IsOfTables (met_fault_of c.flush.new.store) c.refusal_to_report.result (of_cache c.in-Err.refusal) c.refusal_to_report.ensures.met (λ none. c.refusal_to_report.ensures.unmet none ∙ c.into.ensures) tt ((l2_flush_tells g.S.Storage.view c.args.self.now.l2.backend.header.fields (record c.args.storage.now { met_fault = false }) c.flush.new.store c.args.self.now.l2.entries c.flush.new.self.entries c.flush.result (rw c.watch_faults.ensures at c.flush.ensures.flushed)).cause c.in-Err.refusal c.in-Err.is))
-
-pub returns-in-Err-clause-faults : goal.returns-in-Err-clause-faults
-returns-in-Err-clause-faults g c = λ h p honest sound.
-    told_as IsFault (met_fault_of c.flush.new.store) c.refusal_to_report.result (of_cache c.in-Err.refusal) c.refusal_to_report.ensures.met (λ none. c.refusal_to_report.ensures.unmet none ∙ c.into.ensures) (inl refl)
-    (tables_flush_refused g.S.Storage.view (record c.args.storage.now { met_fault = false }) c.flush.new.store c.args.self.now h p (byte_at (g.S.Storage.view (storage_of c.args.storage.now)).contents) sound c.flush.new.self c.flush.result (rw c.watch_faults.ensures at c.flush.ensures.flushed) c.in-Err.refusal c.in-Err.is)
+    (told_as (IsFaultOr (¬ TablesFit c.args.self.now)) (met_fault_of c.flush.new.store) c.refusal_to_report.result (of_cache c.in-Err.refusal) c.refusal_to_report.ensures.met (λ none. c.refusal_to_report.ensures.unmet none ∙ c.into.ensures) (inl (inl refl))
+    (tables_flush_refused g.S.Storage.view (record c.args.storage.now { met_fault = false }) c.flush.new.store c.args.self.now c.flush.new.self c.flush.result (rw c.watch_faults.ensures at c.flush.ensures.flushed) c.in-Err.refusal c.in-Err.is))
 
 pub returns-in-Err-clause-flushes : goal.returns-in-Err-clause-flushes
 returns-in-Err-clause-flushes g c = record {

@@ -1,5 +1,6 @@
-use Rattle.std.proofs.Common.{◌≡◌, ◌+◌, ◌*◌, ◌<◌, ◌≤◌, ⊎_elim, ℕ, ap, ◌∙◌, subst, arith, false, true}
-use Rattle.qcow2_image.proofs.Common.{cases_lt, L2TableView, IsAlike, mapping_of, IsAlikeTo, AreAlikeBehind}
+use Rattle.std.proofs.Common.{◌≡◌, ◌+◌, ◌*◌, ◌<◌, ◌≤◌, ⊎_elim, ℕ, ap, ◌∙◌, subst, arith, false, true, inl, inr}
+use Rattle.qcow2_image.proofs.Common.{cases_lt, L2TableView, IsAlike, mapping_of, IsAlikeTo, AreAlikeBehind, HasUnalignedBehind, IsUnalignedIn, UnalignedTable}
+use Rattle.qcow2_image.proofs.Lemmas.{hands_met}
 use Rattle.qcow2_image.proofs.image.Qcow2.alike_behind.Goals as goal
 
 one_more : (n size : ℕ) → (n + 1) * size ≡ n * size + size
@@ -31,3 +32,14 @@ loop-count-preserved g c =
           (subst (λ n. IsAlike n (mapping_of c.args.table.now c.args.cluster) (mapping_of c.args.table.now (c.args.cluster + (c.loop-count.count + 1)))) all
           (subst (λ n. IsAlike ((c.loop-count.count + 1) * c.cluster_size-size.result) (mapping_of c.args.table.now c.args.cluster) (mapping_of c.args.table.now n)) (c.new-next.ensures ∙ omega arith) found));
     }
+
+pub returns-in_err-are_alike-clause-cause : goal.returns-in_err-are_alike-clause-cause
+returns-in_err-are_alike-clause-cause g c =
+    let t = c.args.table.now in
+    let k = c.loop-count.count in
+    let at : c.new-next.result ≡ c.args.cluster + k + 1 = c.new-next.ensures ∙ omega arith in
+    hands_met (λ e. (e ≡ UnalignedTable) × HasUnalignedBehind t c.args.cluster c.args.max) c.from_residual.result c.in_err-are_alike.field-0.0 c.from_residual.ensures (
+      c.in_err-are_alike.ensures.cause.0,
+      ⊎_elim (λ first. inl first)
+          (λ next. inr (k, subst (λ n. k * n < c.args.max) c.cluster_size-size.ensures.value c.loop-count-test.true, subst (IsUnalignedIn t) at next)) c.in_err-are_alike.ensures.cause.1,
+    )

@@ -1,6 +1,6 @@
 use Rattle.qcow2_image.proofs.Lemmas.{filling_none, keeping_of_filling, keeping_of_read, hands_met, met_as, looks_none}
-use Rattle.std.proofs.Common.{◌≡◌, ◌+◌, ◌∙◌, inr, None, true, sym, subst, arith, rules, Result}
-use Rattle.qcow2_image.proofs.Common.{Raw, Image, IsFoundWhole, IsMappedAs, handed_on, none_of, FitsTables, IsCacheHeld, MayFailLookingAgain, table_of, IfOk-weaker, on_ok_weaker, LooksQuietly}
+use Rattle.std.proofs.Common.{◌≡◌, ◌+◌, ◌∙◌, inr, None, true, sym, subst, arith, rules, Result, ℕ}
+use Rattle.qcow2_image.proofs.Common.{Raw, Image, IsFoundWhole, IsMappedAs, handed_on, none_of, FitsTables, IsCacheHeld, MayFailLookingAgain, table_of, IfOk-weaker, on_ok_weaker, LooksQuietly, ImageError, MayFailFindingAgain}
 use Rattle.qcow2_image.proofs.image.Qcow2.check_in_place.Goals as goal
 
 pub returns-in_err-guest-clause-sound : goal.returns-in_err-guest-clause-sound
@@ -50,3 +50,19 @@ returns-in_err-guest-clause-quiet g c = looks_none g.S.Storage.view (c.args.prep
 
 pub returns-clause-quiet : goal.returns-clause-quiet
 returns-clause-quiet g c = subst (λ o. LooksQuietly g.S.Storage.view o c.args.self.now c.check_mapped.new.self) c.in_ok-guest.ensures.place c.check_mapped.ensures.quiet
+
+pub returns-clause-fails : goal.returns-clause-fails
+returns-clause-fails g c = record {
+  faults = search rules;
+  cause = let none : table_of c.args.prepared.now ≡ None = none_of (sym c.if-is_some.false ∙ c.is_some.ensures) in
+      let n = c.args.length in
+      let Again : ℕ → ImageError → Type 0 = λ o. MayFailFindingAgain c.args.self.now c.check_mapped.new.self o n in
+      met_as (Again c.in_ok-guest.guest) (λ e. (table_of c.args.prepared.now ≡ None) × Again (c.args.prepared.now.guest + c.args.at) e) c.check_mapped.result (λ e why. (none, subst (λ o. Again o e) c.in_ok-guest.ensures.place why)) c.check_mapped.ensures.fails.cause;
+}
+
+pub returns-in_err-guest-clause-fails : goal.returns-in_err-guest-clause-fails
+returns-in_err-guest-clause-fails g c = record {
+  faults = search rules;
+  cause = let none : table_of c.args.prepared.now ≡ None = none_of (sym c.if-is_some.false ∙ c.is_some.ensures) in
+      hands_met (λ e. (table_of c.args.prepared.now ≡ None) × MayFailFindingAgain c.args.self.now c.args.self.now (c.args.prepared.now.guest + c.args.at) c.args.length e) c.from_residual.result c.in_err-guest.field-0.0 c.from_residual.ensures (none, inr c.in_err-guest.ensures.cause);
+}

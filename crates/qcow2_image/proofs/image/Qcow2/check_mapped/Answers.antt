@@ -1,6 +1,6 @@
 use Rattle.std.proofs.Common.{◌≡◌, ◌≤◌, ◌<◌, IsTrue, true, false, sym, subst, arith, ⊎_elim, inl, inr, refl, rules, Result, is_some}
-use Rattle.qcow2_image.proofs.Common.{IsFoundInImage, IsFoundWhole, IsMappedAs, handed_on, IsCacheHeld, MayFailLookingAgain, cases_lt, IsOfTables, FitsTables, IsHeldAs, size_of}
-use Rattle.qcow2_image.proofs.Lemmas.{found_after, found_before, found_whole, mapped_as, hands_met, held_whole, heeds_else, same_found}
+use Rattle.qcow2_image.proofs.Common.{IsFoundInImage, IsFoundWhole, IsMappedAs, handed_on, IsCacheHeld, MayFailLookingAgain, cases_lt, FitsTables, IsHeldAs, size_of, MayFailFinding, MayFailFindingAgain, IsSpecial}
+use Rattle.qcow2_image.proofs.Lemmas.{found_after, found_before, found_whole, mapped_as, hands_met, held_whole, heeds_else, same_found, finding_other}
 use Rattle.qcow2_image.proofs.image.Qcow2.check_mapped.Goals.{else-found-length-via-then-found-length+else-is, else-found-length-via-else-found-length}
 use Rattle.qcow2_image.proofs.image.Qcow2.check_mapped.Goals as goal
 
@@ -70,4 +70,18 @@ returns-clause-held g c = λ some outdated whole.
 pub returns-in_err-kind-clause-held : goal.returns-in_err-kind-clause-held
 returns-in_err-kind-clause-held g c = λ some.
     handed_on (λ (r : Result _ _). FitsTables c.look_up.new.self c.args.offset c.args.wanted.now c.args.length r) c.from_residual.result c.in_err-kind.field-0.0 c.from_residual.ensures
-    (heeds_else c.look_up.new.self c.args.offset c.args.wanted.now c.args.length IsOfTables c.in_err-kind.field-0.0 (λ no. no) c.in_err-kind.ensures.fails.cause)
+    (heeds_else c.look_up.new.self c.args.offset c.args.wanted.now c.args.length (MayFailFinding c.args.self.now c.look_up.new.self c.args.offset c.args.length) c.in_err-kind.field-0.0 (finding_other c.args.self.now c.look_up.new.self c.args.offset c.args.length) c.in_err-kind.ensures.fails.cause)
+
+pub returns-in_err-kind-clause-fails : goal.returns-in_err-kind-clause-fails
+returns-in_err-kind-clause-fails g c = record {
+  faults = search rules;
+  cause = hands_met (MayFailFindingAgain c.args.self.now c.look_up.new.self c.args.offset c.args.length) c.from_residual.result c.in_err-kind.field-0.0 c.from_residual.ensures (inl c.in_err-kind.ensures.fails.cause);
+}
+
+pub returns-clause-fails : goal.returns-clause-fails
+returns-clause-fails g c = record { faults = search rules; cause = inr refl }
+
+pub returns-then-is-clause-special : goal.returns-then-is-clause-special
+returns-then-is-clause-special g c = λ so.
+    let same : c.args.wanted.now ≡ c.in_ok-kind.kind = c.is.ensures.0 c.if-is.true in
+    c.in_ok-kind.ensures.special (subst IsSpecial same so)

@@ -1,6 +1,6 @@
-use Rattle.std.proofs.Common.{◌≡◌, ◌⊎◌, ◌/◌, inl, sym, ◌∙◌, subst, is_some, rules}
-use Rattle.qcow2_image.proofs.Common.{IsCompressedAt, cluster_size, cover, kind_at, known_header, known_in, state_in, found_kind, IsCacheHeld, MayFailLooking}
-use Rattle.qcow2_image.proofs.Map.Special.{found_special, found_plain}
+use Rattle.std.proofs.Common.{◌≡◌, ◌⊎◌, ◌/◌, inl, sym, ◌∙◌, subst, is_some, rules, inr, refl}
+use Rattle.qcow2_image.proofs.Common.{IsCompressedAt, cluster_size, cover, kind_at, known_header, known_in, state_in, found_kind, IsCacheHeld, MayFailLooking, MayFailTelling}
+use Rattle.qcow2_image.proofs.Map.Special.{found_special, found_plain, special_kind}
 use Rattle.qcow2_alloc.specs.declared.error.ImageError.TheVariants.{Compressed}
 use Rattle.qcow2_image.proofs.Prepare.FailingCopies.{hands_met}
 use Rattle.qcow2_image.proofs.image.Qcow2.check_not_compressed.Goals as goal
@@ -40,3 +40,12 @@ returns-in_err-kind-clause-sound g c = λ p out sound.
       may_fail = hands_met (λ e. MayFailLooking (IsCacheHeld c.args.self.now out) e ⊎ (e ≡ Compressed)) c.from_residual.result c.in_err-kind.field-0.0 c.from_residual.ensures (inl ((c.in_err-kind.ensures.sound p out sound).may_fail));
       reports = search rules;
     }
+
+pub returns-in_err-kind-clause-fails : goal.returns-in_err-kind-clause-fails
+returns-in_err-kind-clause-fails g c = record {
+  faults = search rules;
+  cause = hands_met (MayFailTelling c.args.self.now c.run_from.new.self c.args.offset 1) c.from_residual.result c.in_err-kind.field-0.0 c.from_residual.ensures (inl c.in_err-kind.ensures.fails.cause);
+}
+
+pub returns-then-is_special-clause-fails : goal.returns-then-is_special-clause-fails
+returns-then-is_special-clause-fails g c = record { faults = search rules; cause = inr (refl, c.in_ok-kind.ensures.special (special_kind c.in_ok-kind.kind (sym c.is_special.ensures ∙ c.if-is_special.true))) }

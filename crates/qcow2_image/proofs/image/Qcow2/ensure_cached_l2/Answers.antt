@@ -1,6 +1,6 @@
 use Rattle.qcow2_image.proofs.Lemmas.{other_limit, hands_limit, with_caches, refused, keeps_loaded, holds_table, fault_alone, named_place, loads_looking, behind_caches, behind_then, in_use_unlimited, hands_met, looking_taking}
 use Rattle.qcow2_image.proofs.image.Qcow2.ensure_cached_l2.Goals as goal
-use Rattle.qcow2_image.proofs.Common.{ap, inl, ◌∙◌, sym, rules, handed_on, Qcow2, Ensures, pending_with_listed, IfErr, IsFaultOrLacksTable, contents_in, l1_index_of, notes_then, notes_of_both, l2_pins, FindsOwn, HasPinnedMapping, MayFailAllocating}
+use Rattle.qcow2_image.proofs.Common.{ap, inl, ◌∙◌, sym, rules, handed_on, Qcow2, Ensures, pending_with_listed, IfErr, IsFaultOrLacksTable, contents_in, l1_index_of, notes_then, notes_of_both, l2_pins, FindsOwn, HasPinnedMapping, MayFailAllocating, file_loads, Err}
 
 pub returns-in_err-cluster-clause-own : goal.returns-in_err-cluster-clause-own
 returns-in_err-cluster-clause-own g c = λ own.
@@ -67,14 +67,14 @@ returns-in_err-l2_get_or_insert-clause-sound g c = λ p out sound.
           (c.l2_get_or_insert.ensures.sound.keeps mid.file.header.fields (pending_with_listed p old mid) owned.0.sound.file.honest owned.0.sound.file.caches) c.l2_get_or_insert.ensures.step.marks.pins.room c.l2_get_or_insert.ensures.step.marks.pins.pins));
       may_fail = λ cause. hands_met (MayFailAllocating (HasPinnedMapping out) ⊥ ⊥ ⊥) c.from_residual-in_err-l2_get_or_insert.result e c.from_residual-in_err-l2_get_or_insert.ensures
           (looking_taking ⊥ ⊥ ⊥ e (loads_looking view below out q mid owned.0.sound e
-          (c.in_err-l2_get_or_insert.ensures.refusals mid.file.header.fields (named_place mid.file.header.fields (contents_in view mid.file) (l1_index_of old.file.header.fields c.args.offset) c.in_ok-cluster.cluster owned.1.place) q file.honest file.caches file.named_blocks)));
+          (file_loads {A = Unit {0}} view q mid.file file (Err e) c.l2_get_or_insert.new.self c.in_ok-cluster.cluster (named_place mid.file.header.fields (contents_in view mid.file) (l1_index_of old.file.header.fields c.args.offset) c.in_ok-cluster.cluster owned.1.place) c.in_err-l2_get_or_insert.ensures.fails)));
       limit = λ cause. hands_limit c.from_residual-in_err-l2_get_or_insert.result e c.from_residual-in_err-l2_get_or_insert.ensures
           (other_limit _ e (in_use_unlimited mid.file.caches e
-          (c.in_err-l2_get_or_insert.ensures.refusals mid.file.header.fields (named_place mid.file.header.fields (contents_in view mid.file) (l1_index_of old.file.header.fields c.args.offset) c.in_ok-cluster.cluster owned.1.place) q file.honest file.caches file.named_blocks)));
+          (file_loads {A = Unit {0}} view q mid.file file (Err e) c.l2_get_or_insert.new.self c.in_ok-cluster.cluster (named_place mid.file.header.fields (contents_in view mid.file) (l1_index_of old.file.header.fields c.args.offset) c.in_ok-cluster.cluster owned.1.place) c.in_err-l2_get_or_insert.ensures.fails)));
       lacks = λ none. let loaded = with_caches view below mid out q owned.0.sound c.l2_get_or_insert.new.storage c.l2_get_or_insert.new.self in
           handed_on (λ r. IfErr r (IsFaultOrLacksTable view loaded c.args.offset)) c.from_residual-in_err-l2_get_or_insert.result e c.from_residual-in_err-l2_get_or_insert.ensures
           (inl (fault_alone view below out q mid owned.0.sound none e
-          (c.in_err-l2_get_or_insert.ensures.refusals mid.file.header.fields (named_place mid.file.header.fields (contents_in view mid.file) (l1_index_of old.file.header.fields c.args.offset) c.in_ok-cluster.cluster owned.1.place) q file.honest file.caches file.named_blocks)));
+          (file_loads {A = Unit {0}} view q mid.file file (Err e) c.l2_get_or_insert.new.self c.in_ok-cluster.cluster (named_place mid.file.header.fields (contents_in view mid.file) (l1_index_of old.file.header.fields c.args.offset) c.in_ok-cluster.cluster owned.1.place) c.in_err-l2_get_or_insert.ensures.fails)));
     }
 
 pub returns-clause-sound : goal.returns-clause-sound

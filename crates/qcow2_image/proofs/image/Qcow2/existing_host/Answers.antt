@@ -1,6 +1,6 @@
 use Rattle.std.proofs.Common.{◌≡◌, ◌-◌, ◌≤◌, Some, sym, ap, ◌∙◌, subst, arith, min, is_some, false, true}
-use Rattle.qcow2_image.proofs.Common.{IfSome, IsLongestRun, known_in, rest_of_table, writable_place, IsPlaceOf, IsWritableInTables}
-use Rattle.qcow2_image.proofs.Lemmas.{writable_held}
+use Rattle.qcow2_image.proofs.Common.{IfSome, IsLongestRun, known_in, rest_of_table, writable_place, IsPlaceOf, IsWritableInTables, MayFail, IsUnlimited}
+use Rattle.qcow2_image.proofs.Lemmas.{writable_held, hands_met, unaligned_as}
 use Rattle.qcow2_alloc.proofs.ChangedTables.{if_some_then}
 use Rattle.qcow2_image.proofs.Prepare.WritableInPlace.{place_found, short_of}
 use Rattle.qcow2_image.proofs.Prepare.LimitCauses.{hands_unlimited}
@@ -27,7 +27,7 @@ returns-clause-place g c = λ p sound inside at some.
     subst (IsPlaceOf h known c.args.offset c.args.length) (sym (c.behind_header.ensures.same (subst (λ n. IfSome c.writable_place.result (λ host. n ≤ host)) (sym c.cluster_size.ensures.value) behind))) found
 
 pub returns-in_err-kind-clause-limited : goal.returns-in_err-kind-clause-limited
-returns-in_err-kind-clause-limited g c = hands_unlimited c.from_residual.result c.in_err-kind.field-0.0 c.from_residual.ensures c.in_err-kind.ensures.limited
+returns-in_err-kind-clause-limited g c = hands_unlimited c.from_residual.result c.in_err-kind.field-0.0 c.from_residual.ensures (unaligned_as IsUnlimited c.in_err-kind.field-0.0 c.in_err-kind.ensures.cause tt)
 
 pub returns-in_err-kind-clause-reads : goal.returns-in_err-kind-clause-reads
 returns-in_err-kind-clause-reads g c = λ p sound at.
@@ -46,3 +46,6 @@ returns-clause-held g c = λ lies own.
     let whole : c.in_ok-kind.found ≡ c.args.length = let most = run.at_most in let least = c.if-found-length.false in omega (arith, most, least) in
     if_some_then (λ host. c.writable_place.result ≡ Some host) (IsWritableInTables image c.args.offset n) c.behind_header.result c.behind_header.ensures.own
     (λ host place. subst (λ m. IsWritableInTables image c.args.offset m host) whole (writable_held h (is_some image.backing) image.l1_table image.file.caches c.args.offset c.in_ok-kind.kind c.in_ok-kind.found host (sym c.writable_place.ensures ∙ place) run.mapped))
+
+pub returns-in_err-kind-clause-cause : goal.returns-in_err-kind-clause-cause
+returns-in_err-kind-clause-cause g c = hands_met MayFail c.from_residual.result c.in_err-kind.field-0.0 c.from_residual.ensures (unaligned_as MayFail c.in_err-kind.field-0.0 c.in_err-kind.ensures.cause tt)

@@ -1,7 +1,7 @@
 use Rattle.std.proofs.Common.{◌≡◌, ◌<◌, [], sym, ap, ◌∙◌, subst, IfOk, is_some, rules, Err, IfErr, None, Some}
-use Rattle.qcow2_image.proofs.Common.{AnsweredEffect, RefusedEffect, IsSame, guest_of, Qcow2, IsFoundIn, known_header, known_in, state_in, IsFoundInImage, found_kind, is_failed, size_of, abstract_of, pending_in, refusal_of, FailsOnceWritten, handed_on, err_as, Memory, IsCacheHeld, MayFailLooking, unusable, IsHeldRun}
+use Rattle.qcow2_image.proofs.Common.{AnsweredEffect, RefusedEffect, IsSame, guest_of, Qcow2, IsFoundIn, known_header, known_in, state_in, IsFoundInImage, found_kind, is_failed, size_of, abstract_of, pending_in, refusal_of, FailsOnceWritten, handed_on, err_as, Memory, IsCacheHeld, MayFailLooking, unusable, IsHeldRun, MayFailFinding}
 use Rattle.qcow2_disk.specs.Found.{IsFound as IsFoundOf}
-use Rattle.qcow2_image.proofs.Lemmas.{MayMarkBy, may_mark, quietly_then, quiet_does, quiet_refuses, answered_once, fails_none, fails_once, behind_call, held_since, hands_met, sound_is_usable, refused_for, reads_call, looks_none, looks_call}
+use Rattle.qcow2_image.proofs.Lemmas.{MayMarkBy, may_mark, quietly_then, quiet_does, quiet_refuses, answered_once, fails_none, fails_once, behind_call, held_since, hands_met, sound_is_usable, refused_for, reads_call, looks_none, looks_call, finding_call}
 use Rattle.qcow2_image.proofs.Call.Answers.{answers_err, usable_works}
 use Rattle.qcow2_image.proofs.image.Qcow2.get_mapping.Goals as goal
 
@@ -109,7 +109,18 @@ pub returns-in_err-check_usable-clause-refusals : goal.returns-in_err-check_usab
 returns-in_err-check_usable-clause-refusals g c = record { early = search rules; past = search rules; late = search rules }
 
 pub returns-in_err-kind-clause-refusals : goal.returns-in_err-kind-clause-refusals
-returns-in_err-kind-clause-refusals g c = record { early = search rules; past = search rules; late = search rules }
+returns-in_err-kind-clause-refusals g c =
+    let old = c.args.self.now in
+    let begun = c.begin_call.new.self in
+    let mid = c.look_up-found.new.self in
+    let last = c.mark_failure.new.self in
+    let e = c.in_err-kind.field-0.0 in
+    record {
+      early = search rules;
+      past = search rules;
+      late = λ usable. hands_met (MayFailFinding old last c.args.offset c.args.max) c.from_residual-in_err-kind.result e c.from_residual-in_err-kind.ensures
+          (finding_call old begun mid last _ c.begin_call.ensures.begun c.mark_failure.ensures.rest c.args.offset c.args.max e (subst (λ r. IfErr r (MayFailFinding begun mid c.args.offset c.args.max)) (sym c.mark_failure.ensures.answer ∙ c.in_err-kind.was) c.look_up-found.ensures.fails.cause));
+    }
 
 pub returns-clause-refusals : goal.returns-clause-refusals
 returns-clause-refusals g c = record { early = search rules; past = search rules; late = search rules }

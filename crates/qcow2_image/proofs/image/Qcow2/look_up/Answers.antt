@@ -1,7 +1,7 @@
 use Rattle.std.proofs.Common.{◌≡◌, ◌-◌, ap, arith, min, refl, rules, subst}
-use Rattle.qcow2_image.proofs.Common.{IfOk-weaker, rest_of_table, IsRunFrom}
+use Rattle.qcow2_image.proofs.Common.{IfOk-weaker, rest_of_table, IsRunFrom, MayFailFinding}
 use Rattle.qcow2_image.proofs.image.Qcow2.look_up.Goals as goal
-use Rattle.qcow2_image.proofs.Lemmas.{looks_none}
+use Rattle.qcow2_image.proofs.Lemmas.{looks_none, met_as, finding_more}
 
 pub returns-clause-sound : goal.returns-clause-sound
 returns-clause-sound g c = λ p out sound.
@@ -38,3 +38,12 @@ returns-then-offset-size-clause-sound g c = λ p out sound. record { keeps = sea
 
 pub returns-then-offset-size-clause-quiet : goal.returns-then-offset-size-clause-quiet
 returns-then-offset-size-clause-quiet g c = looks_none g.S.Storage.view c.args.offset c.args.self.now
+
+pub returns-clause-fails : goal.returns-clause-fails
+returns-clause-fails g c =
+    let old = c.args.self.now in
+    let new = c.run_from.new.self in
+    record {
+      faults = c.run_from.ensures.fails.faults;
+      cause = met_as (MayFailFinding old new c.args.offset c.min.result) (MayFailFinding old new c.args.offset c.args.max) c.run_from.result (finding_more old new c.args.offset c.min.result c.args.max (let a = c.min.ensures in omega arith)) c.run_from.ensures.fails.cause;
+    }

@@ -1,5 +1,5 @@
-use Rattle.std.proofs.Common.{◌*◌, ◌^◌, refl, subst, sym, IsSome, ap}
-use Rattle.qcow2_image.proofs.Common.{of_storage, storage_of, handed_on, with_table, IsLongerL1, PlacesTable, notes_none, notes_then, notes_of_both, notes_of_storage, placed_kept, EntryTableView, not_both, IsHostCluster, contents_in, named_have_places, fault_of_storage}
+use Rattle.std.proofs.Common.{◌*◌, ◌^◌, refl, subst, sym, IsSome, ap, Err}
+use Rattle.qcow2_image.proofs.Common.{of_storage, storage_of, handed_on, with_table, IsLongerL1, PlacesTable, notes_none, notes_then, notes_of_both, notes_of_storage, placed_kept, EntryTableView, not_both, IsHostCluster, faults_alone, file_fits, fault_of_storage}
 use Rattle.qcow2_image.proofs.Lemmas.{keeps_then, caches_moved, with_caches, keeps_none, behind_caches, behind_none, begins_behind, behind_placed, behind_then, l1_placed, hands_fault}
 use Rattle.qcow2_image.proofs.Grow.NewL1Table.{table_write_as, keeps_placed, stands_whole}
 use Rattle.qcow2_image.proofs.image.Qcow2.place_l1_table.Goals as goal
@@ -92,7 +92,7 @@ returns-then-not-is_nameable-clause-fault g c = λ p out sound near. absurd (not
 pub returns-in_err-flush_rb-clause-fault : goal.returns-in_err-flush_rb-clause-fault
 returns-in_err-flush_rb-clause-fault g c = λ p out sound near.
     hands_fault c.from_residual.result c.in_err-flush_rb.field-0.0 c.from_residual.ensures
-    (c.in_err-flush_rb.ensures.faults c.args.self.now.file.header.fields (with_table p c.args.table.now c.args.cluster) sound.file.honest sound.file.caches (named_have_places c.args.self.now.file.header.fields (with_table p c.args.table.now c.args.cluster) c.args.self.now.file.caches (contents_in g.S.Storage.view c.args.self.now.file) sound.file.caches sound.file.named_blocks))
+    (faults_alone {A = Unit {0}} (Err c.in_err-flush_rb.field-0.0) (file_fits g.S.Storage.view (with_table p c.args.table.now c.args.cluster) c.args.self.now.file sound.file) c.in_err-flush_rb.ensures.fails)
 
 pub returns-in_err-write_l1_table-clause-fault : goal.returns-in_err-write_l1_table-clause-fault
 returns-in_err-write_l1_table-clause-fault g c = λ p out sound near.

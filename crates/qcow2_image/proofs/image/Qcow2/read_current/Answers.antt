@@ -1,6 +1,6 @@
 use Rattle.std.proofs.Common.{◌≡◌, ◌+◌, ◌∙◌, inl, inr, length, Err, subst, sym, arith, IfOk, rules, IfErr, Result, is_some}
-use Rattle.qcow2_image.proofs.Common.{Shows, OutdatedMapping, handed_on, always_ok, IsFoundWhole, further_by, disk_of, IsCacheHeld, MayFailMapped, MayFailReading, written_then, FitsTables, IsHeldAs, LooksQuietly, ReadsAs, OnOk}
-use Rattle.qcow2_image.proofs.Lemmas.{keeps_then, none_past, hands_met, mapped_met, met_as, heeds_then, held_as, none_eof, step_then, looks_none, looks_then}
+use Rattle.qcow2_image.proofs.Common.{Shows, OutdatedMapping, handed_on, always_ok, IsFoundWhole, further_by, disk_of, IsCacheHeld, MayFailMapped, MayFailReading, written_then, FitsTables, IsHeldAs, LooksQuietly, ReadsAs, OnOk, MayFailFindingAgain, MayFailReadingFound}
+use Rattle.qcow2_image.proofs.Lemmas.{keeps_then, none_past, hands_met, mapped_met, met_as, heeds_then, held_as, none_eof, step_then, looks_none, looks_then, reading_found}
 use Rattle.qcow2_image.proofs.image.Qcow2.read_current.Goals as goal
 
 pub returns-clause-sound : goal.returns-clause-sound
@@ -102,3 +102,32 @@ returns-clause-quiet g c =
 pub returns-clause-reads : goal.returns-clause-reads
 returns-clause-reads g c = λ honest.
     subst (λ k. OnOk c.read_as.result (ReadsAs g.S.Storage.view c.read_as.new.self k c.read_as.new.bytes)) c.further-kind.ensures (c.read_as.ensures.reads (c.check_mapped.ensures.step.part.notes.storage.honest honest))
+
+pub returns-in_err-offset-clause-fails : goal.returns-in_err-offset-clause-fails
+returns-in_err-offset-clause-fails g c = record {
+  faults = search rules;
+  cause = hands_met (MayFailReadingFound c.args.self.now c.args.self.now (c.args.mapping.now.offset + c.args.at) (length c.args.bytes.now)) c.from_residual.result c.in_err-offset.field-0.0 c.from_residual.ensures (inl (inr c.in_err-offset.ensures.cause));
+}
+
+pub returns-in_err-check_mapped-clause-fails : goal.returns-in_err-check_mapped-clause-fails
+returns-in_err-check_mapped-clause-fails g c =
+    let new = c.check_mapped.new.self in
+    let n = length c.args.bytes.now in
+    let e = c.in_err-check_mapped.field-0.0 in
+    record {
+      faults = search rules;
+      cause = hands_met (MayFailReadingFound c.args.self.now new (c.args.mapping.now.offset + c.args.at) n) c.from_residual-in_err-check_mapped.result e c.from_residual-in_err-check_mapped.ensures
+          (inl (subst (λ o. MayFailFindingAgain c.args.self.now new o n e) c.in_ok-offset.ensures.place c.in_err-check_mapped.ensures.fails.cause));
+    }
+
+pub returns-clause-fails : goal.returns-clause-fails
+returns-clause-fails g c =
+    let old = c.args.self.now in
+    let mid = c.check_mapped.new.self in
+    let new = c.read_as.new.self in
+    let n = length c.args.bytes.now in
+    record {
+      faults = search rules;
+      cause = met_as (MayFailReading c.further-kind.result) (MayFailReadingFound old new (c.args.mapping.now.offset + c.args.at) n) c.read_as.result
+          (λ e why. subst (λ o. MayFailReadingFound old new o n e) c.in_ok-offset.ensures.place (reading_found old mid new c.in_ok-offset.offset n c.further-kind.result c.read_as.ensures.tables c.in_ok-check_mapped.ensures.special e why)) c.read_as.ensures.may_fail;
+    }

@@ -1,7 +1,7 @@
 use Rattle.qcow2_image.proofs.Call.MarkedCalls.{reading_marked}
 use Rattle.std.proofs.Common.{◌≡◌, ◌+◌, ◌<◌, [], sym, ◌∙◌, subst, rules, arith, length, Result, IfErr}
-use Rattle.qcow2_image.proofs.Common.{OnOk, Shows, IsSame, guest_of, AnswersCall, Qcow2, IsFoundWhole, further_by, is_failed, pending_in, IsCacheHeld, MayFailMapped, FitsTables, IfOk-weaker, on_ok_weaker, ReadsAs}
-use Rattle.qcow2_image.proofs.Lemmas.{may_mark, told_answers, tells_quietly, quietly_then, found_after, found_before, fails_none, held_since, mapped_met_at, met_as, heeds_on, keeps_marked, looks_none, looks_call}
+use Rattle.qcow2_image.proofs.Common.{OnOk, Shows, IsSame, guest_of, AnswersCall, Qcow2, IsFoundWhole, further_by, is_failed, pending_in, IsCacheHeld, MayFailMapped, FitsTables, IfOk-weaker, on_ok_weaker, ReadsAs, MayFailReadingFound}
+use Rattle.qcow2_image.proofs.Lemmas.{may_mark, told_answers, tells_quietly, quietly_then, found_after, found_before, fails_none, held_since, mapped_met_at, met_as, heeds_on, keeps_marked, looks_none, looks_call, found_call}
 use Rattle.qcow2_image.proofs.Call.Answers.{usable_works}
 use Rattle.qcow2_image.proofs.image.Qcow2.read_mapped.Goals as goal
 
@@ -86,7 +86,17 @@ pub returns-then-is_empty-clause-refusals : goal.returns-then-is_empty-clause-re
 returns-then-is_empty-clause-refusals g c = record { early = search rules; nothing = search rules; late = search rules }
 
 pub returns-clause-refusals : goal.returns-clause-refusals
-returns-clause-refusals g c = record { early = search rules; nothing = search rules; late = search rules }
+returns-clause-refusals g c =
+    let old = c.args.self.now in
+    let begun = c.begin_call.new.self in
+    let mid = c.read_current-done.new.self in
+    let last = c.mark_failure.new.self in
+    record {
+      early = search rules;
+      nothing = search rules;
+      late = λ usable. subst (λ r. IfErr r (MayFailReadingFound old last (c.args.mapping.now.offset + c.args.at) (length c.args.bytes.now))) (sym c.mark_failure.ensures.answer)
+          (met_as (MayFailReadingFound begun mid (c.args.mapping.now.offset + c.args.at) (length c.args.bytes.now)) (MayFailReadingFound old last (c.args.mapping.now.offset + c.args.at) (length c.args.bytes.now)) c.read_current-done.result (found_call old begun mid last _ c.begin_call.ensures.begun c.mark_failure.ensures.rest (c.args.mapping.now.offset + c.args.at) (length c.args.bytes.now)) c.read_current-done.ensures.fails.cause);
+    }
 
 pub returns-in_err-check_usable-clause-quiet : goal.returns-in_err-check_usable-clause-quiet
 returns-in_err-check_usable-clause-quiet g c = looks_none g.S.Storage.view (c.args.mapping.now.offset + c.args.at) c.args.self.now

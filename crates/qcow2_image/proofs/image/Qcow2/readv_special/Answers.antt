@@ -1,10 +1,10 @@
 use Rattle.std.proofs.Common.{◌≡◌, ◌⊎◌, ◌∙◌, inl, inr, [], IfErr, length, subst, arith, rules}
-use Rattle.qcow2_image.proofs.Common.{cases_lt, not_compressed, storage, known_in, handed_on, NotCompressed, Memory, MayFailToRead, FailsOnceWritten, err_as, IsCacheHeld, MayFailLooking}
+use Rattle.qcow2_image.proofs.Common.{cases_lt, not_compressed, storage, known_in, handed_on, NotCompressed, Memory, MayFailToRead, FailsOnceWritten, err_as, IsCacheHeld, MayFailLooking, MayFailTelling}
 use Rattle.qcow2_alloc.specs.declared.error.ImageError.TheVariants.{Compressed}
 use Rattle.qcow2_image.specs.SpecialReads.{ReportsCompressed}
 use Rattle.qcow2_image.proofs.Call.Answers.{answers_err}
 use Rattle.qcow2_image.proofs.Map.Special.{refuses_after}
-use Rattle.qcow2_image.proofs.Lemmas.{sound_is_usable, hands_met}
+use Rattle.qcow2_image.proofs.Lemmas.{sound_is_usable, hands_met, telling_read}
 use Rattle.qcow2_image.proofs.image.Qcow2.readv_special.Goals as goal
 
 pub returns-in_err-try_readv_special-clause-sound : goal.returns-in_err-try_readv_special-clause-sound
@@ -15,7 +15,7 @@ returns-in_err-try_readv_special-clause-sound g c = λ out sound.
       may_fail = hands_met (λ e. MayFailLooking (IsCacheHeld old out) e ⊎ ((e ≡ Compressed) ⊎ (e ≡ NotCompressed c.args.offset))) c.from_residual.result c.in_err-try_readv_special.field-0.0 c.from_residual.ensures
           (elim ((c.in_err-try_readv_special.ensures.sound out sound).may_fail) [ inl may_fail ↦ inl may_fail | inr compressed ↦ inr (inl compressed) ]);
       reports = λ some. handed_on (λ r. IfErr r (ReportsCompressed (known_in view old.file) c.args.offset)) c.from_residual.result c.in_err-try_readv_special.field-0.0 c.from_residual.ensures
-          ((c.in_err-try_readv_special.ensures.sound out sound).reports some, λ is. absurd (subst MayFailToRead is (c.in_err-try_readv_special.ensures.refusals.late (sound_is_usable view g.F.BackingDisk.backing old out sound))));
+          ((c.in_err-try_readv_special.ensures.sound out sound).reports some, λ is. absurd (subst MayFailToRead is (telling_read old c.try_readv_special.new.self c.args.offset 1 c.in_err-try_readv_special.field-0.0 (c.in_err-try_readv_special.ensures.refusals.late (sound_is_usable view g.F.BackingDisk.backing old out sound)))));
     }
 
 pub returns-in-Some-clause-sound : goal.returns-in-Some-clause-sound
@@ -74,7 +74,11 @@ returns-in-Some-clause-step g c = record {
 }
 
 pub returns-in_err-try_readv_special-clause-refusals : goal.returns-in_err-try_readv_special-clause-refusals
-returns-in_err-try_readv_special-clause-refusals g c = record { early = search rules; nothing = search rules; late = search rules }
+returns-in_err-try_readv_special-clause-refusals g c = record {
+  early = search rules;
+  nothing = search rules;
+  late = λ usable. hands_met (λ e. MayFailTelling c.args.self.now c.try_readv_special.new.self c.args.offset 1 e ⊎ (e ≡ NotCompressed c.args.offset)) c.from_residual.result c.in_err-try_readv_special.field-0.0 c.from_residual.ensures (inl (c.in_err-try_readv_special.ensures.refusals.late usable));
+}
 
 pub returns-in-None-clause-refusals : goal.returns-in-None-clause-refusals
 returns-in-None-clause-refusals g c = record { early = search rules; nothing = search rules; late = search rules }

@@ -1,6 +1,6 @@
 use Rattle.qcow2_image.proofs.Lemmas.{looking_unlimited, as_listed_after, caches_moved, with_caches, followed, refused, says_copy, shared_still, owned_then, behind_caches, behind_then, behind_first, above_zero, hands_limit, limited_in_since, limits_as, other_limit, named_place, loads_looking, hands_met, looking_taking}
-use Rattle.std.proofs.Common.{◌≡◌, inl, refl, rules, sym}
-use Rattle.qcow2_image.proofs.Common.{table_at, GoesTo, OwnsTable, notes_then, notes_of_both, contents_in, HasPinnedMapping, MayFailAllocating}
+use Rattle.std.proofs.Common.{◌≡◌, inl, refl, rules, sym, Err}
+use Rattle.qcow2_image.proofs.Common.{table_at, GoesTo, OwnsTable, notes_then, notes_of_both, contents_in, HasPinnedMapping, MayFailAllocating, file_loads}
 use Rattle.qcow2_image.proofs.image.Qcow2.replace_l2.Goals as goal
 
 pub returns-in_err-l2_get_or_insert-clause-sound : goal.returns-in_err-l2_get_or_insert-clause-sound
@@ -12,7 +12,7 @@ returns-in_err-l2_get_or_insert-clause-sound g c = λ p out sound shared.
     let mid = with_caches view below old out p sound c.l2_get_or_insert.new.storage c.l2_get_or_insert.new.self in
     let kept = caches_moved view below old out p sound c.l2_get_or_insert.new.storage c.l2_get_or_insert.new.self (c.l2_get_or_insert.ensures.sound.keeps h p sound.file.honest sound.file.caches) c.l2_get_or_insert.ensures.step.marks.pins.room c.l2_get_or_insert.ensures.step.marks.pins.pins in
     let e = c.in_err-l2_get_or_insert.field-0.0 in
-    let why = loads_looking view below out p old sound e (c.in_err-l2_get_or_insert.ensures.refusals h (named_place h (contents_in view old.file) c.args.index c.args.old shared.place) p sound.file.honest sound.file.caches sound.file.named_blocks) in
+    let why = loads_looking view below out p old sound e (file_loads {A = Unit {0}} view p old.file sound.file (Err e) c.l2_get_or_insert.new.self c.args.old (named_place h (contents_in view old.file) c.args.index c.args.old shared.place) c.in_err-l2_get_or_insert.ensures.fails) in
     record {
       does = refused (OwnsTable view below p old mid out c.args.index) c.from_residual.result c.from_residual.ensures.0 (λ e. inl (as_listed_after view below out p old mid refl kept));
       may_fail = λ near. hands_met (MayFailAllocating (HasPinnedMapping out) ⊥ ⊥ ⊥) c.from_residual.result e c.from_residual.ensures (looking_taking ⊥ ⊥ ⊥ e why);

@@ -1,7 +1,8 @@
-use Rattle.std.proofs.Common.{◌≡◌, ◌-◌, ◌/◌, ◌<◌, sym, ap, ◌∙◌, subst, arith, min, is_some, Some, None, false, true, rules, ⊎_elim, ℕ}
-use Rattle.qcow2_image.proofs.Common.{IfOk-weaker, cluster_size, host_offset, IsLongestRun, table_at, Sizes-from, cover_none, IsTop-top, contents_in, known_in, kind_at, rest_of_table, l1_index_of, l2_index_of, NamesL2Table, IsRunFrom, IfSome, MatchOption, IsEntryAt, IsCacheHeld, MayFailLooking, own_table, GetsTableQuietly}
-use Rattle.qcow2_image.proofs.Lemmas.{caches_moved, with_caches, none_found, behind_caches, answers_met, cache_looking, named_entry, hands_met, named_place, reads_none, uncovered_held, looks_none}
+use Rattle.std.proofs.Common.{◌≡◌, ◌-◌, ◌/◌, ◌<◌, sym, ap, ◌∙◌, subst, arith, min, is_some, Some, None, false, true, rules, ⊎_elim, ℕ, inl, inr, Err}
+use Rattle.qcow2_image.proofs.Common.{IfOk-weaker, cluster_size, host_offset, IsLongestRun, table_at, Sizes-from, cover_none, IsTop-top, contents_in, known_in, kind_at, rest_of_table, l1_index_of, l2_index_of, NamesL2Table, IsRunFrom, IfSome, MatchOption, IsEntryAt, IsCacheHeld, MayFailLooking, own_table, GetsTableQuietly, HasUnalignedEntry, UnalignedTable, MayFailFinding, MayFailLoadingL2, Uncovered, file_loads}
+use Rattle.qcow2_image.proofs.Lemmas.{caches_moved, with_caches, none_found, behind_caches, answers_met, cache_looking, named_entry, hands_met, named_place, reads_none, uncovered_held, looks_none, met_as, finding_more}
 use Rattle.qcow2_image.specs.HeldMappings.{named_place as place_named}
+use Rattle.qcow2_image.proofs.Map.Looked.{compressed_there}
 use Rattle.qcow2_image.proofs.image.Qcow2.run_from.Goals as goal
 
 pub returns-in_err-l2_get_or_insert-in-Some-clause-sound : goal.returns-in_err-l2_get_or_insert-in-Some-clause-sound
@@ -18,7 +19,7 @@ returns-in_err-l2_get_or_insert-in-Some-clause-sound g c = λ p out sound.
       known = stay.known;
       may_fail = hands_met (MayFailLooking (IsCacheHeld old out)) c.from_residual-in_err-l2_get_or_insert-in-Some.result e c.from_residual-in_err-l2_get_or_insert-in-Some.ensures
           (cache_looking view below out p old sound e
-          (c.in_err-l2_get_or_insert-in-Some.ensures.refusals h (named_place h (contents_in view old.file) (l1_index_of h c.args.offset) c.in-Some.table names.0) p sound.file.honest sound.file.caches sound.file.named_blocks));
+          (file_loads {A = Unit {0}} view p old.file sound.file (Err e) c.l2_get_or_insert.new.self c.in-Some.table (named_place h (contents_in view old.file) (l1_index_of h c.args.offset) c.in-Some.table names.0) c.in_err-l2_get_or_insert-in-Some.ensures.fails));
       run = search rules;
     }
 
@@ -128,3 +129,42 @@ returns-in-None-clause-quiet g c = looks_none g.S.Storage.view c.args.offset c.a
 
 pub returns-in_err-l2_cluster-clause-quiet : goal.returns-in_err-l2_cluster-clause-quiet
 returns-in_err-l2_cluster-clause-quiet g c = looks_none g.S.Storage.view c.args.offset c.args.self.now
+
+pub returns-in_err-l2_cluster-clause-fails : goal.returns-in_err-l2_cluster-clause-fails
+returns-in_err-l2_cluster-clause-fails g c = record {
+  faults = search rules;
+  cause = hands_met (MayFailFinding c.args.self.now c.args.self.now c.args.offset c.args.max) c.from_residual.result c.in_err-l2_cluster.field-0.0 c.from_residual.ensures (inl (c.in_err-l2_cluster.ensures.cause.0, inl c.in_err-l2_cluster.ensures.cause.1));
+}
+
+pub returns-in_err-l2_get_or_insert-in-Some-clause-fails : goal.returns-in_err-l2_get_or_insert-in-Some-clause-fails
+returns-in_err-l2_get_or_insert-in-Some-clause-fails g c =
+    let image = c.args.self.now in
+    let own = subst (λ t. MatchOption t (place_named image.file.header.fields image.l1_table c.args.offset ≡ 0) (λ cluster. (cluster ≡ own_table image c.args.offset) × ¬ (place_named image.file.header.fields image.l1_table c.args.offset ≡ 0))) c.in-Some.is c.in_ok-l2_cluster.ensures.own in
+    let e = c.in_err-l2_get_or_insert-in-Some.field-0.0 in
+    let new = record image { file = record image.file { storage = c.l2_get_or_insert.new.storage; caches = c.l2_get_or_insert.new.self } } in
+    record {
+      faults = search rules;
+      cause = hands_met (MayFailFinding image new c.args.offset c.args.max) c.from_residual-in_err-l2_get_or_insert-in-Some.result e c.from_residual-in_err-l2_get_or_insert-in-Some.ensures
+          (inr (subst (λ k. MayFailLoadingL2 image.file.caches c.l2_get_or_insert.new.self k e) own.0 c.in_err-l2_get_or_insert-in-Some.ensures.fails.cause));
+    }
+
+pub returns-in_ok-l2_get_or_insert-in-Some-clause-fails : goal.returns-in_ok-l2_get_or_insert-in-Some-clause-fails
+returns-in_ok-l2_get_or_insert-in-Some-clause-fails g c =
+    let image = c.args.self.now in
+    let own = subst (λ t. MatchOption t (place_named image.file.header.fields image.l1_table c.args.offset ≡ 0) (λ cluster. (cluster ≡ own_table image c.args.offset) × ¬ (place_named image.file.header.fields image.l1_table c.args.offset ≡ 0))) c.in-Some.is c.in_ok-l2_cluster.ensures.own in
+    let new = record image { file = record image.file { storage = c.l2_get_or_insert.new.storage; caches = c.l2_get_or_insert.new.self } } in
+    record {
+      faults = search rules;
+      cause = met_as (λ e. (e ≡ UnalignedTable) × (c.in-Some.table ≡ own_table new c.args.offset → HasUnalignedEntry new c.args.offset c.min-max.result)) (MayFailFinding image new c.args.offset c.args.max) c.run_in_table.result
+          (λ e why. finding_more image new c.args.offset c.min-max.result c.args.max (let a = c.min-max.ensures in omega arith) e (inl (why.0, inr (why.1 own.0)))) c.run_in_table.ensures.cause;
+    }
+
+pub returns-in_ok-l2_get_or_insert-in-Some-clause-special : goal.returns-in_ok-l2_get_or_insert-in-Some-clause-special
+returns-in_ok-l2_get_or_insert-in-Some-clause-special g c =
+    let image = c.args.self.now in
+    let own = subst (λ t. MatchOption t (place_named image.file.header.fields image.l1_table c.args.offset ≡ 0) (λ cluster. (cluster ≡ own_table image c.args.offset) × ¬ (place_named image.file.header.fields image.l1_table c.args.offset ≡ 0))) c.in-Some.is c.in_ok-l2_cluster.ensures.own in
+    c.run_in_table.ensures.special own.0
+
+pub returns-in-None-clause-special : goal.returns-in-None-clause-special
+returns-in-None-clause-special g c = λ so.
+    absurd (compressed_there c.args.self.now.file.header.fields (is_some c.args.self.now.backing) c.args.offset c.uncovered.result Uncovered c.uncovered.ensures.value so)

@@ -1,4 +1,4 @@
-use Rattle.qcow2_image.proofs.Common.{rules, notes_of_both, contents_in, named_have_places}
+use Rattle.qcow2_image.proofs.Common.{rules, notes_of_both, faults_alone, file_fits}
 use Rattle.qcow2_image.proofs.Lemmas.{caches_moved, with_caches, behind_caches}
 use Rattle.qcow2_image.proofs.Prepare.WrittenBeforeNaming.{stores_counts}
 use Rattle.qcow2_image.proofs.image.Qcow2.store_first.Goals as goal
@@ -12,7 +12,7 @@ returns-clause-stores g c = λ p out sound.
     c.flush_rb.result c.flush_rb.ensures.flushes.written c.flush_rb.ensures.flushes.first
 
 pub returns-clause-fault : goal.returns-clause-fault
-returns-clause-fault g c = λ p out sound. c.flush_rb.ensures.faults c.args.self.now.file.header.fields p sound.file.honest sound.file.caches (named_have_places c.args.self.now.file.header.fields p c.args.self.now.file.caches (contents_in g.S.Storage.view c.args.self.now.file) sound.file.caches sound.file.named_blocks)
+returns-clause-fault g c = λ p out sound. faults_alone c.flush_rb.result (file_fits g.S.Storage.view p c.args.self.now.file sound.file) c.flush_rb.ensures.fails
 
 pub returns-clause-step : goal.returns-clause-step
 returns-clause-step g c = record { stays = search rules; notes = (notes_of_both c.flush_rb.ensures.step.marks.pins c.flush_rb.ensures.step.marks.notes); header_cluster = behind_caches c.flush_rb.ensures.step.header_cluster }

@@ -1,9 +1,9 @@
 use Rattle.qcow2_image.proofs.Call.MarkedCalls.{reading_marked}
 use Rattle.std.proofs.Common.{◌≡◌, ◌⊎◌, [], sym, ◌∙◌, subst, rules, Result, IfErr, None, Some}
-use Rattle.qcow2_image.proofs.Common.{IsSame, AnswersCall, Qcow2, known_in, is_failed, pending_in, IsCacheHeld, MayFailLooking, unusable, IfOk-weaker}
+use Rattle.qcow2_image.proofs.Common.{IsSame, AnswersCall, Qcow2, known_in, is_failed, pending_in, IsCacheHeld, MayFailLooking, unusable, IfOk-weaker, MayFailTelling}
 use Rattle.qcow2_image.specs.SpecialReads.{ReportsWhether}
 use Rattle.qcow2_image.proofs.Call.Answers.{usable_works}
-use Rattle.qcow2_image.proofs.Lemmas.{told_answers, tells_quietly, quietly_then, may_mark, fails_none, held_since, sound_is_usable, refused_for, looks_none, looks_call}
+use Rattle.qcow2_image.proofs.Lemmas.{told_answers, tells_quietly, quietly_then, may_mark, fails_none, held_since, sound_is_usable, refused_for, looks_none, looks_call, telling_call, met_as}
 use Rattle.qcow2_alloc.specs.declared.error.ImageError.TheVariants.{Compressed}
 use Rattle.qcow2_image.proofs.image.Qcow2.try_readv_special.Goals as goal
 
@@ -57,7 +57,17 @@ pub returns-then-is_empty-clause-refusals : goal.returns-then-is_empty-clause-re
 returns-then-is_empty-clause-refusals g c = record { early = search rules; nothing = search rules; late = search rules }
 
 pub returns-clause-refusals : goal.returns-clause-refusals
-returns-clause-refusals g c = record { early = search rules; nothing = search rules; late = search rules }
+returns-clause-refusals g c =
+    let old = c.args.self.now in
+    let begun = c.begin_call.new.self in
+    let mid = c.check_not_compressed-plain.new.self in
+    let last = c.mark_failure.new.self in
+    record {
+      early = search rules;
+      nothing = search rules;
+      late = λ usable. subst (λ r. IfErr r (MayFailTelling old last c.args.offset 1)) (sym c.mark_failure.ensures.answer)
+          (met_as (MayFailTelling begun mid c.args.offset 1) (MayFailTelling old last c.args.offset 1) c.check_not_compressed-plain.result (telling_call old begun mid last _ c.begin_call.ensures.begun c.mark_failure.ensures.rest c.args.offset 1) c.check_not_compressed-plain.ensures.fails.cause);
+    }
 
 pub returns-in_err-check_usable-clause-quiet : goal.returns-in_err-check_usable-clause-quiet
 returns-in_err-check_usable-clause-quiet g c = looks_none g.S.Storage.view c.args.offset c.args.self.now

@@ -1,4 +1,4 @@
-use Rattle.qcow2_image.proofs.Common.{refl, ap, rules, Pending, with_listed, contents_in, handed_on, FreesListed, Qcow2, notes_then, notes_of_both, notes_of_storage, read_kept, IfErr, Result, IsFault, of_storage, written_then, ReadsQuietly, fault_of_storage}
+use Rattle.qcow2_image.proofs.Common.{refl, ap, rules, Pending, with_listed, contents_in, handed_on, FreesListed, Qcow2, notes_then, notes_of_both, notes_of_storage, read_kept, IfErr, Result, IsFault, of_storage, written_then, ReadsQuietly, fault_of_storage, faults_alone, file_fits, Err}
 use Rattle.qcow2_image.proofs.Lemmas.{keeps_then, with_caches, caches_moved, read_moved, all_known, frees_any, freeing_step_on, behind_caches, behind_then, behind_read, reads_bytes, reads_same}
 use Rattle.qcow2_image.proofs.image.Qcow2.write_back.Goals as goal
 
@@ -55,7 +55,7 @@ returns-in_err-flush_all-clause-fault g c = λ p out sound.
     let freed = c.process_free_list.new.self in
     let first = c.in_ok-process_free_list.ensures.frees p out sound in
     handed_on (λ r. IfErr r IsFault) c.from_residual-in_err-flush_all.result c.in_err-flush_all.field-0.0 c.from_residual-in_err-flush_all.ensures
-    (c.in_err-flush_all.ensures.faults freed.file.header.fields (with_listed p freed.file.free_list) first.sound.file.honest first.sound.file.caches first.sound.file.named_blocks)
+    (faults_alone {A = Unit {0}} (Err c.in_err-flush_all.field-0.0) (file_fits g.S.Storage.view (with_listed p freed.file.free_list) freed.file first.sound.file) c.in_err-flush_all.ensures.fails)
 
 pub returns-in_err-flush-clause-fault : goal.returns-in_err-flush-clause-fault
 returns-in_err-flush-clause-fault g c = λ p out sound. handed_on (λ (r : Result _ _). IfErr r IsFault) c.from_residual-in_err-flush.result (of_storage c.in_err-flush.field-0.0) c.from_residual-in_err-flush.ensures (fault_of_storage c.in_err-flush.field-0.0)

@@ -1,7 +1,7 @@
 use Rattle.qcow2_image.proofs.Lemmas.{filling_none, filling_written, keeping_of_filling, keeping_then, Quietly, quiet_sound, heeds_then, held_as, keeps_storage, hands_met, met_as, told_sum, past_existing}
 use Rattle.qcow2_image.proofs.image.Qcow2.write_current.Goals as goal
 use Rattle.std.proofs.Common.{◌≡◌, ◌+◌, ◌^◌, ◌≤◌, inl, inr, None, Err, length, refl, sym, ap, subst, true, arith, rules, Result}
-use Rattle.qcow2_image.proofs.Common.{overwritten, view_in, OutdatedMapping, Overflow, handed_on, always_ok, Qcow2, Raw, Image, IsFoundWhole, IsMappedAs, PutsPart, IsWriteOutcome, pending_in, FitsTables, IsHeldAs, cases_lt, IsFault, IsCacheHeld, MayFailPutting, changes_of, storage_of_image, PutsOnce}
+use Rattle.qcow2_image.proofs.Common.{overwritten, view_in, OutdatedMapping, Overflow, handed_on, always_ok, Qcow2, Raw, Image, IsFoundWhole, IsMappedAs, PutsPart, IsWriteOutcome, pending_in, FitsTables, IsHeldAs, cases_lt, IsFault, IsCacheHeld, MayFailPutting, changes_of, storage_of_image, PutsOnce, MayFail, MayFailPuttingAt, cluster_size, HeaderView}
 use Rattle.qcow2_image.proofs.Write.PutParts.{mapped_in_place, puts_nothing, puts_refused, puts_then, puts_written}
 use Rattle.qcow2_image.proofs.Write.Hosted.{hosts_behind_header}
 use Rattle.qcow2_image.proofs.Write.ToldPuts.{checked_unseen, put_refused, put_unwritten}
@@ -133,3 +133,32 @@ returns-in_default-clause-step g c = keeping_of_filling filling_none
 
 pub returns-in_default-clause-in_place : goal.returns-in_default-clause-in_place
 returns-in_default-clause-in_place g c = λ none p out sound. record { outdated = λ some is. absurd (cc); mapped = tt }
+
+pub returns-in_default-clause-fails : goal.returns-in_default-clause-fails
+returns-in_default-clause-fails g c = record {
+  faults = search rules;
+  cause = let p = c.args.prepared.now in
+      let past : 2 ^ 64 ≤ p.offset + c.args.at = elim (cases_lt (p.offset + c.args.at) (2 ^ 64)) [ inl lt ↦ absurd (told_sum c.checked_add.result (p.offset + c.args.at) c.checked_add.ensures lt c.in_default.is) | inr past ↦ past ] in
+      inr (inr (inl (refl, past)));
+}
+
+pub returns-in_err-check_in_place-clause-fails : goal.returns-in_err-check_in_place-clause-fails
+returns-in_err-check_in_place-clause-fails g c = record {
+  faults = search rules;
+  cause = hands_met (MayFailPuttingAt c.args.self.now c.check_in_place.new.self c.args.prepared.now c.args.at (length c.args.bytes.now)) c.from_residual.result c.in_err-check_in_place.field-0.0 c.from_residual.ensures (inr (inl c.in_err-check_in_place.ensures.fails.cause));
+}
+
+pub returns-clause-fails : goal.returns-clause-fails
+returns-clause-fails g c =
+    let old = c.args.self.now in
+    let mid = c.check_in_place.new.self in
+    let p = c.args.prepared.now in
+    let Why = MayFailPuttingAt old c.write_data.new.self p c.args.at (length c.args.bytes.now) in
+    let size : cluster_size mid.file.header.fields ≡ cluster_size old.file.header.fields = ap (λ (h : HeaderView). cluster_size h.fields) c.check_in_place.ensures.step.header in
+    record {
+      faults = search rules;
+      cause = elim (cases_lt c.in-Some.host (cluster_size mid.file.header.fields)) [
+        | inl lt ↦ met_as MayFail Why c.write_data.result (λ e why. inr (inr (inr (why, let at = c.in-Some.ensures.1 in omega (arith, lt, at, size))))) c.write_data.ensures.fails.cause
+        | inr le ↦ met_as IsFault Why c.write_data.result (λ e fault. inl fault) (c.write_data.ensures.fault le)
+      ];
+    }

@@ -1,7 +1,7 @@
 use Rattle.qcow2_image.proofs.image.Qcow2.write_l2_bytes.Goals as goal
 use Rattle.std.proofs.Common.{◌≡◌, ◌^◌, ◌<◌, ◌*◌, inl, arith, false, length, refl, ap, ◌∙◌, subst, sym, IsSome, rules, Some}
-use Rattle.qcow2_image.proofs.Common.{IfSome, OnOk, L2TableView, of_storage, storage_of, l2_at, InsertKeeps, IsTableOf, handed_on, PlacesNewTable, notes_none, notes_then, notes_of_both, notes_of_storage, placed_kept, CachesSpareHeader, not_both, IsHostCluster, HasPinnedMapping, MayFailLooking, IfOk-weaker, fault_of_storage}
-use Rattle.qcow2_image.proofs.Lemmas.{keeps_then, holds, keeps_placed, keeps_put, keeps_stored, places_when, stands_ready, stands_there, behind_caches, behind_none, behind_placed, behind_then, table_behind, faults_looking, put_refused, hands_met}
+use Rattle.qcow2_image.proofs.Common.{IfSome, OnOk, L2TableView, of_storage, storage_of, l2_at, InsertKeeps, IsTableOf, handed_on, PlacesNewTable, notes_none, notes_then, notes_of_both, notes_of_storage, placed_kept, CachesSpareHeader, not_both, IsHostCluster, HasPinnedMapping, MayFailLooking, IfOk-weaker, fault_of_storage, file_inserts}
+use Rattle.qcow2_image.proofs.Lemmas.{keeps_then, holds, keeps_placed, keeps_put, keeps_stored, places_when, stands_ready, stands_there, behind_caches, behind_none, behind_placed, behind_then, table_behind, faults_looking, hands_met}
 
 pub returns-in_err-write_new_l2_table-clause-places : goal.returns-in_err-write_new_l2_table-clause-places
 returns-in_err-write_new_l2_table-clause-places g c = λ p out sound some format stored.
@@ -45,8 +45,7 @@ returns-clause-places g c = λ p out sound some format stored.
 pub returns-clause-may_fail : goal.returns-clause-may_fail
 returns-clause-may_fail g c = λ p out sound some format stored near.
     faults_looking g.S.Storage.view g.F.BackingDisk.backing out p c.args.self.now sound c.l2_insert.result
-    (put_refused g.S.Storage.view g.F.BackingDisk.backing c.args.self.now out p sound stored c.args.cluster some c.write_new_l2_table.new.self (storage_of c.set_write_kind.new.self) c.args.table c.set_cluster.new.self c.clear_modified.new.self c.write_new_l2_table.result c.in_ok-write_new_l2_table.field-0 c.l2_insert.result
-    c.set_write_kind.ensures.storage c.set_cluster.ensures c.clear_modified.ensures format (subst (λ (t : L2TableView). length t.bytes ≡ 2 ^ t.cluster_bits) c.table.view_is c.table.invariant.whole) c.write_new_l2_table.ensures.writes.written c.write_new_l2_table.ensures.writes.calls c.in_ok-write_new_l2_table.was c.l2_insert.ensures.refusals)
+    (file_inserts g.S.Storage.view p c.args.self.now.file sound.file c.l2_insert.result c.l2_insert.ensures.fails)
 
 pub returns-then-not-is_nameable-clause-may_fail : goal.returns-then-not-is_nameable-clause-may_fail
 returns-then-not-is_nameable-clause-may_fail g c = λ p out sound some format stored near. not_both c.is_nameable.result (c.is_nameable.ensures.1 (subst (λ n. IsHostCluster n c.args.cluster) (sym c.cluster_bits.ensures.value) near)) c.if-not-is_nameable.true

@@ -1,8 +1,8 @@
 use Rattle.qcow2_image.proofs.Call.MarkedCalls.{putting_marked}
 use Rattle.qcow2_image.proofs.image.Qcow2.write_mapped.Goals as goal
 use Rattle.std.proofs.Common.{◌≡◌, ◌+◌, ◌<◌, [], true, length, sym, ◌∙◌, subst, rules, arith, refl, Result, IfErr}
-use Rattle.qcow2_image.proofs.Common.{OnOk, nil_from_length, Qcow2, Puts, ForeignState, ReadOnly, Raw, Image, IsFoundWhole, is_failed, pending_in, FitsTables, IsCacheHeld, MayFailPutting, handed_on, PutsOnce, on_ok_weaker}
-use Rattle.qcow2_image.proofs.Lemmas.{may_mark, Quietly, quiet_sound, found_after, found_before, fails_none, behind_none, heeds_on, keeps_marked, held_since}
+use Rattle.qcow2_image.proofs.Common.{OnOk, nil_from_length, Qcow2, Puts, ForeignState, ReadOnly, Raw, Image, IsFoundWhole, is_failed, pending_in, FitsTables, IsCacheHeld, MayFailPutting, handed_on, PutsOnce, on_ok_weaker, MayFailPuttingAt}
+use Rattle.qcow2_image.proofs.Lemmas.{may_mark, Quietly, quiet_sound, found_after, found_before, fails_none, behind_none, heeds_on, keeps_marked, held_since, putting_call, met_as}
 use Rattle.qcow2_image.proofs.Call.Answers.{usable_works}
 use Rattle.qcow2_image.proofs.Write.PutParts.{puts_early, puts_none, puts_then, puts_with_outcome}
 use Rattle.qcow2_image.proofs.Write.ToldPuts.{checked_unseen, put_in_call, put_nothing, put_refused}
@@ -125,4 +125,17 @@ pub returns-then-not-writable-clause-refusals : goal.returns-then-not-writable-c
 returns-then-not-writable-clause-refusals g c = record { early = search rules; nothing = search rules; read_only = search rules; late = search rules }
 
 pub returns-clause-refusals : goal.returns-clause-refusals
-returns-clause-refusals g c = record { early = search rules; nothing = search rules; read_only = search rules; late = search rules }
+returns-clause-refusals g c =
+    let old = c.args.self.now in
+    let begun = c.begin_call.new.self in
+    let mid = c.write_current-done.new.self in
+    let last = c.mark_failure.new.self in
+    let p = c.args.prepared.now in
+    let n = length c.args.bytes.now in
+    record {
+      early = search rules;
+      nothing = search rules;
+      read_only = search rules;
+      late = λ usable writable. subst (λ r. IfErr r (MayFailPuttingAt old last p c.args.at n)) (sym c.mark_failure.ensures.answer)
+          (met_as (MayFailPuttingAt begun mid p c.args.at n) (MayFailPuttingAt old last p c.args.at n) c.write_current-done.result (λ e. putting_call old begun mid last _ c.begin_call.ensures.begun c.mark_failure.ensures.rest c.args.at n e p) c.write_current-done.ensures.fails.cause);
+    }

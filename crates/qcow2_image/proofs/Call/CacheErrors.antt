@@ -1,0 +1,57 @@
+-- Refusals of the caches, of lookups and of reads are among the refusals that come during the work of a call.
+use Rattle.std.proofs.Common.{◌≡◌, ◌⊎◌, ◌+◌, inl, inr, ℕ, sym, subst}
+use Rattle.qcow2_image.proofs.Common.{ImageError, IsFaultOr, IsOfTables, IsUnlimited, MayFail, MayFailFinding, MayFailFindingAgain, MayFailPuttingAt, MayFailReadingFound, MayFailTelling, MayFailToRead, Prepared, Qcow2}
+use Rattle.qcow2_alloc.specs.declared.error.ImageError.TheVariants as I
+use Rattle.qcow2_image.proofs.Call.FailingErrors.{read_met}
+
+pub fault_or_tables : (P : Type 0) (e : ImageError) → IsFaultOr P e → IsOfTables e
+fault_or_tables P e (inl (inl is)) = subst IsOfTables (sym is) tt
+fault_or_tables P e (inl (inr is)) = subst IsOfTables (sym is) tt
+fault_or_tables P e (inr limit) = subst IsOfTables (sym limit.0) tt
+
+fault_or_read : (P : Type 0) (e : ImageError) → IsFaultOr P e → MayFailToRead e
+fault_or_read P e (inl (inl is)) = subst MayFailToRead (sym is) tt
+fault_or_read P e (inl (inr is)) = subst MayFailToRead (sym is) tt
+fault_or_read P e (inr limit) = subst MayFailToRead (sym limit.0) tt
+
+in_use_read : (Full P : Type 0) (e : ImageError) → ((e ≡ I.InUse) × Full) ⊎ IsFaultOr P e → MayFailToRead e
+in_use_read Full P e (inl used) = subst MayFailToRead (sym used.0) tt
+in_use_read Full P e (inr is) = fault_or_read P e is
+
+pub fault_or_met : (P : Type 0) (e : ImageError) → IsFaultOr P e → MayFail e
+fault_or_met P e is = read_met e (fault_or_read P e is)
+
+pub in_use_met : (Full P : Type 0) (e : ImageError) → ((e ≡ I.InUse) × Full) ⊎ IsFaultOr P e → MayFail e
+in_use_met Full P e is = read_met e (in_use_read Full P e is)
+
+module _ {S F : Type 0} (old new : Qcow2 S F) (offset n : ℕ) (e : ImageError) where
+  pub finding_read : MayFailFinding old new offset n e → MayFailToRead e
+  finding_read (inl unaligned) = subst MayFailToRead (sym unaligned.0) tt
+  finding_read (inr load) = in_use_read _ _ e load
+
+  again_read : MayFailFindingAgain old new offset n e → MayFailToRead e
+  again_read (inl finding) = finding_read finding
+  again_read (inr outdated) = subst MayFailToRead (sym outdated) tt
+
+  pub found_read : MayFailReadingFound old new offset n e → MayFailToRead e
+  found_read (inl again) = again_read again
+  found_read (inr compressed) = subst MayFailToRead (sym compressed.0) tt
+
+  pub telling_read : MayFailTelling old new offset n e → MayFailToRead e
+  telling_read (inl finding) = finding_read finding
+  telling_read (inr compressed) = subst MayFailToRead (sym compressed.0) tt
+
+  pub telling_or : (P : Type 0) → MayFailTelling old new offset n e ⊎ P → MayFailToRead e ⊎ P
+  telling_or P (inl telling) = inl (telling_read telling)
+  telling_or P (inr is) = inr is
+
+pub putting_met : {S F : Type 0} (old new : Qcow2 S F) (p : Prepared) (at n : ℕ) (e : ImageError) → MayFailPuttingAt old new p at n e → MayFail e
+putting_met old new p at n e (inl (inl is)) = subst MayFail (sym is) tt
+putting_met old new p at n e (inl (inr is)) = subst MayFail (sym is) tt
+putting_met old new p at n e (inr (inl again)) = read_met e (again_read old new (p.guest + at) n e again.1)
+putting_met old new p at n e (inr (inr (inl past))) = subst MayFail (sym past.0) tt
+putting_met old new p at n e (inr (inr (inr first))) = first.0
+
+-- a refusal for an entry that is not on a cluster
+pub unaligned_as : {P : Type 0} (C : ImageError → Type 0) (e : ImageError) → (e ≡ I.UnalignedTable) × P → C I.UnalignedTable → C e
+unaligned_as C e is holds = subst C (sym is.0) holds

@@ -1,0 +1,67 @@
+-- Why lookups and reads are refused, whatever the image contains.
+use Rattle.std.specs.Prelude.{ℕ, ◌+◌, ◌-◌, ◌*◌, ◌/◌, ◌%◌, ◌^◌, ◌≡◌, ◌<◌, ◌≤◌, ◌⊎◌, Some, None}
+use Rattle.qcow2_metadata.specs.Header.{cluster_size}
+use Rattle.qcow2_metadata.specs.L2Mapping.{HasAlignedHost}
+use Rattle.qcow2_metadata.specs.L2Table.{L2TableView}
+use Rattle.qcow2_metadata.specs.declared.header.HeaderFields.{HeaderFields}
+use Rattle.qcow2_disk.specs.Found.{IsCompressed}
+use Rattle.qcow2_alloc.specs.CacheCauses.{MayFailLoadingL2}
+use Rattle.qcow2_alloc.specs.ImageError.{IsFault}
+use Rattle.qcow2_alloc.specs.MetadataCaches.{l2_at}
+use Rattle.qcow2_alloc.specs.declared.error.ImageError.{ImageError}
+use Rattle.qcow2_alloc.specs.declared.error.ImageError.TheVariants as I
+use Rattle.qcow2_image.specs.Found.{mapping_of}
+use Rattle.qcow2_image.specs.HeldMappings.{named_place}
+use Rattle.qcow2_image.specs.PinnedTables.{own_table}
+use Rattle.qcow2_image.specs.Prepared.{guest_offset_of, offset_of, table_of}
+use Rattle.qcow2_image.specs.Refusals.{MayFail}
+use Rattle.qcow2_image.specs.declared.image.Qcow2.{Qcow2}
+use Rattle.qcow2_image.specs.declared.prepared.Prepared.{Prepared}
+
+-- The host offset of a guest cluster is not on a cluster, by an L2 table.
+abbrev pub IsUnalignedIn : L2TableView → ℕ → Type 0
+IsUnalignedIn table guest = ¬ HasAlignedHost table.cluster_bits (mapping_of table guest)
+
+-- So it is of the guest cluster, or of a later one that begins less than so many bytes after its end.
+abbrev pub HasUnalignedBehind : L2TableView → (guest max : ℕ) → Type 0
+HasUnalignedBehind table guest max = IsUnalignedIn table guest ⊎ ((k : ℕ) × (k * 2 ^ table.cluster_bits < max) × IsUnalignedIn table (guest + k + 1))
+
+-- So it is of the guest cluster of an offset, or of a later one that the n bytes from the offset on touch.
+abbrev pub HasUnalignedFrom : HeaderFields → L2TableView → (offset n : ℕ) → Type 0
+HasUnalignedFrom h table offset n =
+    IsUnalignedIn table (offset / cluster_size h) ⊎ ((k : ℕ) × (cluster_size h - offset % cluster_size h + k * 2 ^ table.cluster_bits < n) × IsUnalignedIn table (offset / cluster_size h + k + 1))
+
+module _ {S F : Type 0} (image : Qcow2 S F) (offset : ℕ) where
+  -- The offset of the L2 table is not on a cluster, by the L1 table in memory.
+  abbrev pub IsTableUnaligned : Type 0
+  IsTableUnaligned = ¬ (named_place image.file.header.fields image.l1_table offset % cluster_size image.file.header.fields ≡ 0)
+
+  -- The L2 table of the offset is cached, and has such an entry for the n bytes.
+  abbrev pub HasUnalignedEntry : ℕ → Type 0
+  HasUnalignedEntry n = (table : L2TableView) × (l2_at image.file.caches (own_table image offset) ≡ Some table) × HasUnalignedFrom image.file.header.fields table offset n
+
+  -- The L2 table of the offset is cached, and the offset's guest cluster is compressed by it.
+  abbrev pub IsHeldCompressed : Type 0
+  IsHeldCompressed = (table : L2TableView) × (l2_at image.file.caches (own_table image offset) ≡ Some table) × IsCompressed (mapping_of table (offset / cluster_size image.file.header.fields))
+
+module _ {S F : Type 0} (old new : Qcow2 S F) (offset n : ℕ) where
+  -- Why a lookup is refused: 4, if the L2 table or a cluster that the n bytes touch is not on a cluster; or as the load of that L2 table.
+  abbrev pub MayFailFinding : ImageError → Type 0
+  MayFailFinding e = ((e ≡ I.UnalignedTable) × (IsTableUnaligned new offset ⊎ HasUnalignedEntry new offset n)) ⊎ MayFailLoadingL2 old.file.caches new.file.caches (own_table old offset) e
+
+  -- Why a range that was looked up before is refused: as a lookup; or 10, if it is mapped differently by now.
+  abbrev pub MayFailFindingAgain : ImageError → Type 0
+  MayFailFindingAgain e = MayFailFinding e ⊎ (e ≡ I.OutdatedMapping)
+
+  -- Why a read of a mapping is refused: as a range that was looked up before; or 7, if its first byte is compressed.
+  abbrev pub MayFailReadingFound : ImageError → Type 0
+  MayFailReadingFound e = MayFailFindingAgain e ⊎ ((e ≡ I.Compressed) × IsHeldCompressed new offset)
+
+  -- Why a special read is refused: as a lookup; or 7, if the offset's guest cluster is compressed.
+  abbrev pub MayFailTelling : ImageError → Type 0
+  MayFailTelling e = MayFailFinding e ⊎ ((e ≡ I.Compressed) × IsHeldCompressed new offset)
+
+-- Why a put of n bytes is refused: a fault; for an existing mapping, as a range that was looked up before; 20, if its host offset passes 64 bits; or because it lies in the header's cluster, where no mapping is.
+abbrev pub MayFailPuttingAt : {S F : Type 0} → (old new : Qcow2 S F) → Prepared → (at n : ℕ) → ImageError → Type 0
+MayFailPuttingAt old new p at n e =
+    IsFault e ⊎ (((table_of p ≡ None) × MayFailFindingAgain old new (guest_offset_of p + at) n e) ⊎ (((e ≡ I.Overflow) × (2 ^ 64 ≤ offset_of p + at)) ⊎ (MayFail e × (offset_of p + at < cluster_size old.file.header.fields))))
