@@ -1,5 +1,5 @@
-"""Which wrong bodies a run tries where it doesn't try all: those that a page names, all of the checker, one of each public function and of each method of a trait's impl, those of which the
-last commits changed what their trial reads, but for names, and of the others each tenth, in turn. What is taken in turn hangs on the tree that the last commit left: other commits take others."""
+"""Which wrong bodies a run tries where it doesn't try all: those that a page names, all of the checker, those of which the last commits changed what their trial reads, but for names, of the
+others each tenth, in turn, and of each public function and each method of a trait's impl at least one. What is taken in turn hangs on the tree that the last commit left: other commits take others."""
 
 import contextlib
 import hashlib
@@ -20,12 +20,12 @@ ONE_OF = 10
 TRIED_WHOLE = "qcow2_check"
 PAGE = "docs/WRONG_BODIES.md"
 ROW = re.compile(r"^\|[^|]*\| `(\w+)` \| \[`\w+`\]\(\.\./crates/(\w+)/", re.MULTILINE)
-NAMED, WHOLE, PUBLIC, TOUCHED, IN_TURN = RULES = (
+NAMED, WHOLE, TOUCHED, IN_TURN, PUBLIC = RULES = (
     f"named by {PAGE}",
     "of the checker",
-    "of a public function or a method of a trait",
     f"touched by the last {COMMITS} commits",
     f"in turn, one of {ONE_OF}",
+    "of a public function or a method of a trait",
 )
 # what a clause or an answer becomes that stands for those that were cut
 EMPTY = re.compile(r"ensures \w+ \{ (?:(\S+) ≡ \1|⊥ → ⊥) \}|\w+ = search rules;")
@@ -121,14 +121,14 @@ def touched(root, crates):
     return found
 
 
-def firsts(crate, bodies, named):
-    """The names of the first wrong body of each public function and of each method of a trait's impl, but for the functions of which a page names one."""
+def firsts(crate, bodies, others):
+    """The names of the first wrong body of each public function and of each method of a trait's impl, but for the functions of which another one is tried."""
     first, root = {}, f"{crate.folder}/src/lib.rt"
     of_root = text_of(root) if os.path.isfile(root) else ""
     for body in bodies:
         if body.is_public(text_of(f"{crate.folder}/{body.file}"), of_root):
             first.setdefault(body.function, body.name)
-    has_one = {it.function for it in bodies if it.name in named}
+    has_one = {it.function for it in bodies if it.name in others}
     return {name for function, name in first.items() if function not in has_one}
 
 
@@ -139,9 +139,9 @@ def choose(root, crates):
         named.setdefault(crate, set()).add(name)
     changed, tree, chosen = touched(root, crates), git(root, "rev-parse", "HEAD^{tree}") or b"", {}
     for crate, bodies in crates:
-        by_rule = {NAMED: named[crate.name], WHOLE: {it.name for it in bodies} if crate.name == TRIED_WHOLE else set()}
-        by_rule |= {PUBLIC: firsts(crate, bodies, named[crate.name]), TOUCHED: changed[crate.name]}
+        by_rule = {NAMED: named[crate.name], WHOLE: {it.name for it in bodies} if crate.name == TRIED_WHOLE else set(), TOUCHED: changed[crate.name]}
         by_rule[IN_TURN] = {it.name for it in bodies if int(hashlib.sha256(tree + f"{crate.name}/{it.name}".encode()).hexdigest(), 16) % ONE_OF == 0}
+        by_rule[PUBLIC] = firsts(crate, bodies, set().union(*by_rule.values()))
         rules = {it.name: next((rule for rule in RULES if it.name in by_rule[rule]), None) for it in bodies}
         chosen[crate.name] = {name: rule for name, rule in rules.items() if rule}
     return chosen
