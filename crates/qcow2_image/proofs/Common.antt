@@ -98,23 +98,23 @@ pub use Rattle.qcow2_image.specs.Created.{Enlarges, IsNewDisk, IsPreallocated, I
 pub use Rattle.qcow2_image.specs.Faults.{CountsImageFaults, SameFaults, ReportsEachIn, ReportsFault, NoFewerFaults, OneRose, IsNotOfStorage, ReportsEach}
 pub use Rattle.qcow2_image.specs.Found.{l1_index_of, l2_index_of, mapping_of, NamesL2Table, found_kind, IsRunBehind, AreAlikeBehind, IsAlikeTo, IsFoundInImage, IsFoundWhole, IsMappedAs, writable_place, further_by, IsRunFrom, is_data_file}
 pub use Rattle.qcow2_image.specs.Growing.{FitsSize, Extends, Lasts, ReachesSize, SameFormat, WritesBack, LastsCall, LastsKnown, LastsPart, KeepsSurplus, LeavesSound}
-pub use Rattle.qcow2_image.specs.HeldMappings.{FitsTables, IsHeldAs, IsLongestSo, named_place, IsMappedBy, IsMappedSo, KeepsHeld, IsHeldRun, ReadsAs}
-pub use Rattle.qcow2_image.specs.Image.{is_failed, is_external, is_writable, size_of, IsBegun, number_of, ImageStays, has_noted_change, IsSameImage, with_marks, leaked_in, storage_of_image, HasNothingToFree, leaked_by, KeepsRestOn}
+pub use Rattle.qcow2_image.specs.HeldMappings.{IsCompressedInTables, IsHeldFrom, RefusesHeld, StaysHeld, FitsTables, IsHeldAs, IsLongestSo, named_place, IsMappedBy, IsMappedSo, KeepsHeld, IsHeldRun, ReadsAs}
+pub use Rattle.qcow2_image.specs.Image.{HasPinnedTable, is_failed, is_external, is_writable, size_of, IsBegun, number_of, ImageStays, has_noted_change, IsSameImage, with_marks, leaked_in, storage_of_image, HasNothingToFree, leaked_by, KeepsRestOn}
 pub use Rattle.qcow2_image.specs.ImageInvariant.{below_of, of_data, of_tables, to_free, new_data_by, over_all, pending_in, abstract_of, meaning, is_entered, is_new, is_private, is_hidden, place_of, mapping_of_cluster, backing_bytes, ImageInvariant, faults_below, IsPending, IsReadyWith, disk_of, listed_run, pins_by, cluster_of, new_data_in, host_begin_of, IsNewAt, IsClusterMappingAt, IsReady, IsHonestBacking, pins_of, image_abstraction, HasL1Table, run_of, surplus_in, begin_of, IsKeptAt}
 pub use Rattle.qcow2_image.specs.ImageSteps.{ImageFails, ImageStep, ImageStepWhere, ReadingStep, CallStep, ReadingCall}
 pub use Rattle.qcow2_image.specs.InternalSteps.{pending_with_listed, ListGrows, InternalStep, InternalFreeingStep, NamesOwn, KeepsCopied, Ensures, InternalFillingStep, RefusedFillingStep, RefusedStep, FreesLater, Pins, HoldsTable, old_data_by, freed_by, FreesListed, HoldsAll, is_announced, IsFilled, AllocatesData, SameHeld, IsKeptAlone, IsGained, InterruptedStep, DropsNothing, EntersMapping, AreThere, IsInHeldCluster, InterruptedPart, EntersCluster, Gains}
 pub use Rattle.qcow2_image.specs.Invalidated.{RespectsPrepared, HoldsNoTable, IsAtRest, IsReasonAgainstPlaces, IsReasonAgainstReading, IsOfPrepared, IsStillInUse, MayFailToInvalidate, KeepsTables, ReadsPlaces, ReplacesTables, reftable_in, ReadsTables, ArePlacesFor, DropsCached, IsAsStored, IsReasonNotToRead, ReadsAnew, HoldsPinnedAlone, WritesNothing}
-pub use Rattle.qcow2_image.specs.L1Entries.{ReachesOffset, ReachingStays, HasOwnTable, NeedsOverflowingL1Entry, IsPlacedNear, HasNearEntry, L1EntryOverflows, EndsBefore}
-pub use Rattle.qcow2_image.specs.LookupCauses.{HasUnalignedBehind, HasUnalignedEntry, HasUnalignedFrom, IsHeldCompressed, IsTableUnaligned, IsUnalignedIn, MayFailFinding, MayFailFindingAgain, MayFailPuttingAt, MayFailReadingFound, MayFailTelling}
+pub use Rattle.qcow2_image.specs.L1Entries.{ReachesOffset, ReachingStays, HasOwnTable, NeedsOverflowingL1Entry, IsPlacedNear, HasNearEntry, L1EntryOverflows, EndsBefore, HasOwnEntry}
+pub use Rattle.qcow2_image.specs.LookupCauses.{HasUnalignedBehind, HasUnalignedEntry, HasUnalignedFrom, IsKindIn, IsTableUnaligned, IsUnalignedIn, MayFailFinding, MayFailFindingAgain, MayFailPuttingAt, MayFailReadingFound, MayFailTelling}
 pub use Rattle.qcow2_image.specs.Limits.{IfLimit, GoesTo, IsLimited, l1_clusters, IsLimitedAmong, IsLimitedIn, IsLimitedTaking, IsLimitedInternal, IsLimitedWith, LacksPlace, entries_reaching}
 pub use Rattle.qcow2_image.specs.ListedClusters.{ListsNoMore}
 pub use Rattle.qcow2_image.specs.LongerTables.{RefusedMove, with_table, without_l1, StandsWhole, InternalMove, NamesTable, clusters_of, IsLongerL1, PlacesTable, AllocatesTable, MakesEntry, run_of_table, listed, InterruptedMove, NamesTaken, Lengthens}
-pub use Rattle.qcow2_image.specs.MayFail.{MayFailLooking, HasCompressedIn, MayFailGrowing, KeepsL1Place, IsCacheHeld, IsSpecial, CopiesCompressed, HasNearEntries, MayFailAllocating, MayFailAlone, MayFailMapped, MayFailReading, HasUnannounced, IsCopiedCompressed, MayFailLookingAgain, MayFailPutting, copied_end}
+pub use Rattle.qcow2_image.specs.MayFail.{MayFailCopying, MayFailWriting, MayFailLooking, HasCompressedIn, MayFailGrowing, KeepsL1Place, IsCacheHeld, IsSpecial, CopiesCompressed, HasNearEntries, MayFailAllocating, MayFailAlone, MayFailMapped, MayFailReading, HasUnannounced, IsCopiedCompressed, MayFailLookingAgain, MayFailPutting, copied_end}
 pub use Rattle.qcow2_image.specs.MovedTables.{MovesTables, CoversStay}
 pub use Rattle.qcow2_image.specs.NewTables.{IsFaultOrLacksTable, MayName, SaysKnown, IsStored, StandsReady, NamesCopied, replacing, LacksTable, OwnsTable, PlacesNewTable, NamesNew, WritesNew, EntersTable, IsFaultOrKeepsL1Table, NamesShared, Stores}
 pub use Rattle.qcow2_image.specs.Noted.{ChangesRose, FailsOnceWritten, NoFewerChanges, RecordsChanges, PutsOnce, CommitFailsOnceWritten, CountsImageChanges, HasMoreChanges, MarksOnceChanged, RecordsPart}
 pub use Rattle.qcow2_image.specs.Opened.{IsKeptSince, needs_another, Opens, IsFresh, StaysFresh, LeavesFile, needs_missing, IsOpenedFrom, LeavesStorage, OpensAtOnce, StandsOpened, StandsRefused, opened_contents, IsLoaded, SameNames, HasNamesIn, NeedsAnother, NeedsMissing}
-pub use Rattle.qcow2_image.specs.PinnedTables.{HasPinnedTable, FindsOwn, RespectsPins, PreparesUnpinned, own_table, own_pins, LiesInOwn, IsWritableInTables, ExistsInTables}
+pub use Rattle.qcow2_image.specs.PinnedTables.{FindsOwn, RespectsPins, PreparesUnpinned, own_table, own_pins, LiesInOwn, IsWritableInTables, ExistsInTables}
 pub use Rattle.qcow2_image.specs.Preallocation.{FilledCovers, FillsPart, RefusedFill, ChangesFree, FillsOrRefuses, FillsSome, InterruptedGiving, IsUnderMappingIn, MayBeZero, given_by_zeros, FillsGrown, FillsGrownInPart, FillsGrownOrRefuses, RefusedGrown, filled_to, all_given_by_growing, GrownFree, FillsFirst, IsWholeRange, CommitsWhole, AreZeros, most_of}
 pub use Rattle.qcow2_image.specs.Prepared.{table_of, offset_of, length_of}
 pub use Rattle.qcow2_image.specs.PreparedPlaces.{MarkedIsBehind}

@@ -43,8 +43,8 @@ pub use Rattle.qcow2_image.proofs.Images.UngivenCovers.{touches_less, all_stay}
 pub use Rattle.qcow2_image.proofs.Invalidate.Reading.{silent_none, silent_then, stays_over, same_places, notes_through, places_read, same_notes, silent_moved, silent_read, begins_of, both_behind, l1_behind, l1_still, tables_read}
 pub use Rattle.qcow2_image.proofs.Invalidate.TakenOver.{kept_then, on_refused, on_refused_map, not_above}
 pub use Rattle.qcow2_image.proofs.Map.FailingLookups.{held_since, named_aligned, answers_met, cache_looking, named_entry}
-pub use Rattle.qcow2_image.proofs.Map.FailingFinds.{unaligned_from, finding_more, finding_other, finding_call, found_call, telling_call, putting_call, reading_found}
-pub use Rattle.qcow2_image.proofs.Map.Held.{writable_held, held_whole, heeds_else, same_found, heeds_then, held_as, none_eof, heeds_on, keeps_marked, uncovered_held, run_held, keeps_storage}
+pub use Rattle.qcow2_image.proofs.Map.FailingFinds.{unaligned_from, finding_more, finding_call, found_call, telling_call, putting_call, reading_found}
+pub use Rattle.qcow2_image.proofs.Map.Held.{writable_held, held_whole, heeds_else, same_found, heeds_then, held_as, none_eof, heeds_on, keeps_marked, uncovered_held, run_held, keeps_storage, plain_marked, reads_marked, special_of, reads_from, still_loaded, heeds_from, held_begun}
 pub use Rattle.qcow2_image.proofs.Map.Loading.{caches_moved, still_moved, with_caches, if_ok_any, read_moved, all_known}
 pub use Rattle.qcow2_image.proofs.Map.Looked.{found_after, found_before, found_whole, mapped_as, none_past, none_found, cluster_near, says_known, run_found}
 pub use Rattle.qcow2_image.proofs.Map.Quiet.{reads_call, reads_bytes, reads_same, kept_throughout, reads_none, looks_begun, looks_call, looks_none, looks_then}
@@ -58,7 +58,7 @@ pub use Rattle.qcow2_image.proofs.Preallocate.NoPreparedEntries.{never_two, same
 pub use Rattle.qcow2_image.proofs.Preallocate.Pieces.{filled_shows, filled_sound, filled_works, gone_same, gone_works, none_of}
 pub use Rattle.qcow2_image.proofs.Preallocate.Zeros.{may_none, zeros_of}
 pub use Rattle.qcow2_image.proofs.Prepare.FailingAllocations.{looking_taking, taking_as, if_err_both, taking_kept}
-pub use Rattle.qcow2_image.proofs.Prepare.FailingCopies.{limit_alone, met_as, hands_met, kept_behind, behind_start, reading_met, told_sum, within_cluster, filling_met, new_behind, mapped_met, mapped_met_at}
+pub use Rattle.qcow2_image.proofs.Prepare.FailingCopies.{copying_met, limit_alone, met_as, hands_met, kept_behind, behind_start, reading_met, told_sum, within_cluster, filling_met, new_behind, mapped_met, mapped_met_at}
 pub use Rattle.qcow2_image.proofs.Prepare.FailingRanges.{alone_as, guest_fits, next_reads, place_aligned, place_fits, place_kept, place_then}
 pub use Rattle.qcow2_image.proofs.Prepare.FailingTables.{met_freed, reading_fault, far_before, hands_alone, faults_looking}
 pub use Rattle.qcow2_image.proofs.Prepare.FirstCluster.{listed_after_same, still_holds, taken_new_data, takes_data, takes_data_at, listed_after_on, image_step_left, taken_unused, filled_as}
@@ -70,7 +70,7 @@ pub use Rattle.qcow2_image.proofs.Prepare.MissingL2Table.{fault_alone, named_pla
 pub use Rattle.qcow2_image.proofs.Prepare.NameablePlaces.{past_existing}
 pub use Rattle.qcow2_image.proofs.Prepare.NewL2Table.{holds, keeps_placed, keeps_put, keeps_stored, places_when, stands_ready, stands_there}
 pub use Rattle.qcow2_image.proofs.Prepare.NextCluster.{extended}
-pub use Rattle.qcow2_image.proofs.Prepare.PinnedL2Tables.{found_own, lies_still, lies_in_own, pinned_exists, refused_exists, found_pins, heeds_refused, met_untaken, begun_own, heeds_begun, of_tables_untaken, whole_quotient, unpinned_begun, prepared_unpinned, unpinned_refused}
+pub use Rattle.qcow2_image.proofs.Prepare.PinnedL2Tables.{finds_freed, finds_owns, lies_below, pinned_exists, refused_exists, found_pins, heeds_refused, met_untaken, begun_own, heeds_begun, of_tables_untaken, whole_quotient, unpinned_begun, prepared_unpinned, unpinned_refused}
 pub use Rattle.qcow2_image.proofs.Prepare.RefusedAsPrepared.{taken_by}
 pub use Rattle.qcow2_image.proofs.Prepare.RestOfCluster.{IsNowPending, mapping_at, prepared_by, private_inside, readied, one_mapping}
 pub use Rattle.qcow2_image.proofs.Prepare.Unannounced.{copied_as, compressed_as, compressed_at}

@@ -47,7 +47,7 @@ module _ {S F : Type 0} (view : S → StorageView) (backing : F → BackingView)
     -- A refusal leaves no cluster waiting to be freed, except after a fault and after 9. On a sound image 13 means that there was no room for the L2 table of the first offset.
     pub record FailsToClear : Type 0 where
       pub early : IfSome (refuses_to_clear old offset n how) (λ e. (result ≡ Err e) × (new ≡ old))
-      pub late : may_clear → IfErr result MayFailPreparing
+      pub late : may_clear → IfErr result (MayFailPreparing new)
       pub refused : IfErr result (RefusesClearing view backing how old new offset n)
       pub pinned : touches_some → may_clear → HasOwnTable old (from_in old offset n) → RespectsPins old (from_in old offset n) result
       pub under : may_clear → touches_some → (out : List (Option Prepared)) → (abstract_of view backing old out).is_sound

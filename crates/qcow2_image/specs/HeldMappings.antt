@@ -1,5 +1,5 @@
 -- How the tables in memory map a guest range, whatever the image contains.
-use Rattle.std.specs.Prelude.{ℕ, ◌+◌, ◌-◌, ◌*◌, ◌/◌, ◌%◌, ◌^◌, ◌≡◌, ◌<◌, ◌≤◌, ◌⊎◌, Bool, Option, Some, is_some, List, length, replicate, Result, Ok, Err}
+use Rattle.std.specs.Prelude.{ℕ, ◌+◌, ◌-◌, ◌*◌, ◌/◌, ◌%◌, ◌^◌, ◌≡◌, ◌<◌, ◌≤◌, ◌⊎◌, Bool, Some, is_some, min, List, length, replicate, Result, Ok, Err}
 use Rattle.image_access.specs.Contents.{bytes_at}
 use Rattle.image_access.specs.Moments.{StorageView}
 use Rattle.qcow2_metadata.specs.Entries.{host_offset}
@@ -9,16 +9,17 @@ use Rattle.qcow2_metadata.specs.L2Table.{L2TableView}
 use Rattle.qcow2_metadata.specs.TableBytes.{entry_at}
 use Rattle.qcow2_metadata.specs.declared.header.HeaderFields.{HeaderFields}
 use Rattle.qcow2_metadata.specs.declared.l2_mapping.L2Mapping.TheVariants.{Uncovered}
-use Rattle.qcow2_disk.specs.Found.{kind_at, rest_of_table}
+use Rattle.qcow2_disk.specs.Found.{IsCompressed, kind_at, rest_of_table}
 use Rattle.qcow2_alloc.specs.MetadataCaches.{l2_at}
 use Rattle.qcow2_alloc.specs.declared.cache.MetadataCaches.{MetadataCaches}
 use Rattle.qcow2_alloc.specs.declared.error.ImageError.{ImageError}
-use Rattle.qcow2_alloc.specs.declared.error.ImageError.TheVariants.{OutdatedMapping}
+use Rattle.qcow2_alloc.specs.declared.error.ImageError.TheVariants.{Compressed, OutdatedMapping}
 use Rattle.qcow2_image.specs.declared.image.Qcow2.{Qcow2}
 use Rattle.qcow2_image.specs.declared.mapping.MappingKind.{MappingKind}
 use Rattle.qcow2_image.specs.declared.mapping.MappingKind.TheVariants as Kind
 use Rattle.qcow2_alloc.specs.ImageFile.{view_in}
-use Rattle.qcow2_image.specs.Found.{found_kind, mapping_of, IsAlikeTo, l1_index_of}
+use Rattle.qcow2_image.specs.Found.{found_kind, further_by, mapping_of, IsAlikeTo, l1_index_of}
+use Rattle.qcow2_image.specs.MayFail.{IsSpecial}
 
 -- The offset of the L2 table that the L1 table in memory has for a guest offset, 0 for none.
 abbrev pub named_place : HeaderFields → EntryTableView → ℕ → ℕ
@@ -63,10 +64,34 @@ module _ {S F : Type 0} (image : Qcow2 S F) (offset : ℕ) where
   abbrev pub IsHeldRun : ℕ → MappingKind → ℕ → Type 0
   IsHeldRun max kind n = IsLongestSo image.file.header.fields (is_some image.backing) image.l1_table image.file.caches offset max kind n
 
+  -- The tables in memory have an L2 table for the offset, and the offset's guest cluster is compressed by it.
+  pub record IsCompressedInTables : Type 0 where
+    pub named : ¬ (named_place image.file.header.fields image.l1_table offset ≡ 0)
+    pub table : L2TableView
+    pub held : l2_at image.file.caches (named_place image.file.header.fields image.l1_table offset / cluster_size image.file.header.fields) ≡ Some table
+    pub compressed : IsCompressed (mapping_of table (offset / cluster_size image.file.header.fields))
+
+  -- A lookup found this kind, and n of at most `max` bytes, in the L2 table of the offset.
+  pub record IsHeldFrom (max : ℕ) (kind : MappingKind) (n : ℕ) : Type 0 where
+    pub plain : IsCompressedInTables → IsSpecial kind
+    pub special : IsSpecial kind → IsCompressedInTables
+    pub whole : further_by 0 kind ≡ kind
+    pub run : (limit : ℕ) → max ≡ min (min limit (image.file.header.fields.size - offset)) (rest_of_table image.file.header.fields offset) → offset < image.file.header.fields.size → IsHeldRun limit kind n
+
+module _ {S F : Type 0} (old new : Qcow2 S F) (offset : ℕ) where
+  -- Ranges at this offset that the tables in memory map in some way stay mapped so.
+  abbrev pub StaysHeld : Type 0
+  StaysHeld = (kind : MappingKind) (n : ℕ) → IsHeldAs old offset kind n → IsHeldAs new offset kind n
+
+  -- A range is refused 10 only if the tables in memory don't map it in this way, neither before nor after the call. It is refused 7 only if they do, and it is compressed.
+  pub record RefusesHeld (kind : MappingKind) (n : ℕ) (e : ImageError) : Type 0 where
+    pub outdated : e ≡ OutdatedMapping → ¬ IsHeldAs old offset kind n × ¬ IsHeldAs new offset kind n
+    pub compressed : e ≡ Compressed → IsHeldAs new offset kind n × IsSpecial kind
+
   -- A call succeeds only if the tables in memory map the range in this way, and is refused 10 only if they don't.
   abbrev pub FitsTables : {A : Type 0} → MappingKind → ℕ → Result A ImageError → Type 0
-  FitsTables kind n (Ok _) = IsHeldAs kind n
-  FitsTables kind n (Err e) = e ≡ OutdatedMapping → ¬ IsHeldAs kind n
+  FitsTables kind n (Ok _) = IsHeldAs new offset kind n
+  FitsTables kind n (Err e) = RefusesHeld kind n e
 
 module _ {S F : Type 0} where
   -- What the tables in memory map stays the same.
@@ -76,8 +101,10 @@ module _ {S F : Type 0} where
     pub l1_table : new.l1_table ≡ old.l1_table
     pub caches : new.file.caches ≡ old.file.caches
 
--- Bytes that were read from the image's own storage are those at the mapping's place, and those of zeros are zeros, whatever the image contains.
-abbrev pub ReadsAs : {S F : Type 0} → (S → StorageView) → Qcow2 S F → MappingKind → List ℕ → Type 0
-ReadsAs view image (Kind.Raw place host writable) bytes = bytes ≡ bytes_at (view_in view image.file).contents host (length bytes)
-ReadsAs view image (Kind.Zero explicit) bytes = bytes ≡ replicate (length bytes) 0
-ReadsAs view image kind bytes = Unit {0}
+-- Bytes that were read from the image's own storage are those at the mapping's place, if the storage is honest, and those of zeros are zeros, whatever the image contains. Compressed bytes are never read, nor bytes past the end.
+abbrev pub ReadsAs : {S F : Type 0} → (S → StorageView) → (old new : Qcow2 S F) → MappingKind → List ℕ → Type 0
+ReadsAs view old new (Kind.Raw place host writable) bytes = (view_in view old.file).is_honest → bytes ≡ bytes_at (view_in view new.file).contents host (length bytes)
+ReadsAs view old new (Kind.Indirect offset) bytes = Unit {0}
+ReadsAs view old new (Kind.Zero explicit) bytes = bytes ≡ replicate (length bytes) 0
+ReadsAs view old new (Kind.Special offset) bytes = ⊥
+ReadsAs view old new Kind.Eof bytes = ⊥

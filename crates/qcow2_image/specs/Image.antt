@@ -1,8 +1,10 @@
 -- The view of an open image in contracts.
-use Rattle.std.specs.Prelude.{◌≡◌, ℕ, Bool, false, [], Option, is_some}
+use Rattle.std.specs.Prelude.{◌≡◌, ◌<◌, ℕ, Bool, false, [], Option, is_some}
 use Rattle.std.specs.Option.{option_map_or}
 use Rattle.qcow2_metadata.specs.Header.{has_data_file}
 use Rattle.qcow2_alloc.specs.declared.allocation.Allocator.{Allocator}
+use Rattle.qcow2_alloc.specs.declared.cache.MetadataCaches.{MetadataCaches}
+use Rattle.qcow2_alloc.specs.CachePins.{l2_pins}
 use Rattle.qcow2_alloc.specs.ImageFile.{KeepsHeader, has_noted}
 use Rattle.qcow2_alloc.specs.ImageStorage.{changes_of, is_changed_of, storage_of}
 use Rattle.qcow2_image.specs.declared.image.Qcow2.{Qcow2}
@@ -10,6 +12,11 @@ use Rattle.qcow2_image.specs.declared.image.Qcow2.{Qcow2}
 -- How many clusters an allocator could not free, 0 without an allocator.
 abbrev pub leaked_by : Option Allocator → ℕ
 leaked_by allocator = option_map_or (λ (a : Allocator). a.leaked_clusters) allocator 0
+
+-- Some cached L2 table is pinned.
+pub record HasPinnedL2 {S : Type 0} (caches : MetadataCaches S) : Type 0 where
+  pub cluster : ℕ
+  pub pins : 0 < l2_pins caches cluster
 
 module _ {S F : Type 0} where
   -- The number that the image was opened with.
@@ -51,6 +58,10 @@ module _ {S F : Type 0} where
   -- How many clusters of the image could not be freed.
   abbrev pub leaked_in : Qcow2 S F → ℕ
   leaked_in image = leaked_by image.allocator
+
+  -- Some L2 table is pinned.
+  abbrev pub HasPinnedTable : Qcow2 S F → Type 0
+  HasPinnedTable image = HasPinnedL2 image.file.caches
 
   -- The image is the same one, and its disk has the same size.
   pub record IsSameImage (old new : Qcow2 S F) : Type 0 where

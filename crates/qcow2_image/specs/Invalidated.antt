@@ -21,7 +21,7 @@ use Rattle.qcow2_image.specs.Image.{HasNothingToFree, IsSameImage, is_failed, is
 use Rattle.qcow2_image.specs.ImageInvariant.{abstract_of, HasL1Table}
 use Rattle.qcow2_image.specs.ImageSteps.{ImageStep, ImageStepWhere}
 use Rattle.qcow2_image.specs.Noted.{FailsOnceWritten}
-use Rattle.qcow2_image.specs.PinnedTables.{HasPinnedTable}
+use Rattle.qcow2_image.specs.Image.{HasPinnedTable}
 use Rattle.qcow2_image.specs.Readable.{IsReasonAgainstTables}
 use Rattle.qcow2_image.specs.Refusals.{MayFail, MarksFailed}
 use Rattle.qcow2_image.specs.Unwritten.{ContentsStayThroughout, HoldsNothingModified}

@@ -34,9 +34,13 @@ module _ {S F : Type 0} where
     pub within : index < entry_count image.l1_table
     pub room : HasRoomIfPlaced image.l1_table.cluster_bits (8 * index) image.l1_table.cluster
 
+  -- This entry of the L1 table in memory names an L2 table, marked copied.
+  abbrev pub HasOwnEntry : Qcow2 S F → ℕ → Type 0
+  HasOwnEntry image index = NamesOwn (entry_at image.l1_table.bytes index)
+
   -- The L1 table in memory has an L2 table for the offset, marked copied.
   abbrev pub HasOwnTable : Qcow2 S F → ℕ → Type 0
-  HasOwnTable image offset = NamesOwn (entry_at image.l1_table.bytes (l1_index_of image.file.header.fields offset))
+  HasOwnTable image offset = HasOwnEntry image (l1_index_of image.file.header.fields offset)
 
   -- The L1 table has an entry for the offset, but the entry's own offset does not fit into 64 bits.
   pub record L1EntryOverflows (image : Qcow2 S F) (offset : ℕ) : Type 0 where

@@ -4,18 +4,18 @@ use Rattle.qcow2_metadata.specs.Header.{cluster_size}
 use Rattle.qcow2_metadata.specs.L2Mapping.{HasAlignedHost}
 use Rattle.qcow2_metadata.specs.L2Table.{L2TableView}
 use Rattle.qcow2_metadata.specs.declared.header.HeaderFields.{HeaderFields}
-use Rattle.qcow2_disk.specs.Found.{IsCompressed}
 use Rattle.qcow2_alloc.specs.CacheCauses.{MayFailLoadingL2}
 use Rattle.qcow2_alloc.specs.ImageError.{IsFault}
 use Rattle.qcow2_alloc.specs.MetadataCaches.{l2_at}
 use Rattle.qcow2_alloc.specs.declared.error.ImageError.{ImageError}
 use Rattle.qcow2_alloc.specs.declared.error.ImageError.TheVariants as I
-use Rattle.qcow2_image.specs.Found.{mapping_of}
-use Rattle.qcow2_image.specs.HeldMappings.{named_place}
+use Rattle.qcow2_image.specs.Found.{further_by, mapping_of}
+use Rattle.qcow2_image.specs.HeldMappings.{IsCompressedInTables, named_place}
+use Rattle.qcow2_image.specs.MayFail.{IsSpecial}
 use Rattle.qcow2_image.specs.PinnedTables.{own_table}
 use Rattle.qcow2_image.specs.Prepared.{guest_offset_of, offset_of, table_of}
-use Rattle.qcow2_image.specs.Refusals.{MayFail}
 use Rattle.qcow2_image.specs.declared.image.Qcow2.{Qcow2}
+use Rattle.qcow2_image.specs.declared.mapping.MappingKind.{MappingKind}
 use Rattle.qcow2_image.specs.declared.prepared.Prepared.{Prepared}
 
 -- The host offset of a guest cluster is not on a cluster, by an L2 table.
@@ -40,9 +40,10 @@ module _ {S F : Type 0} (image : Qcow2 S F) (offset : ℕ) where
   abbrev pub HasUnalignedEntry : ℕ → Type 0
   HasUnalignedEntry n = (table : L2TableView) × (l2_at image.file.caches (own_table image offset) ≡ Some table) × HasUnalignedFrom image.file.header.fields table offset n
 
-  -- The L2 table of the offset is cached, and the offset's guest cluster is compressed by it.
-  abbrev pub IsHeldCompressed : Type 0
-  IsHeldCompressed = (table : L2TableView) × (l2_at image.file.caches (own_table image offset) ≡ Some table) × IsCompressed (mapping_of table (offset / cluster_size image.file.header.fields))
+  -- A lookup's kind: its host offset fits into 64 bits, and it is special only where the tables in memory have the guest cluster as compressed.
+  pub record IsKindIn (kind : MappingKind) : Type 0 where
+    pub whole : further_by 0 kind ≡ kind
+    pub special : IsSpecial kind → IsCompressedInTables image offset
 
 module _ {S F : Type 0} (old new : Qcow2 S F) (offset n : ℕ) where
   -- Why a lookup is refused: 4, if the L2 table or a cluster that the n bytes touch is not on a cluster; or as the load of that L2 table.
@@ -55,13 +56,13 @@ module _ {S F : Type 0} (old new : Qcow2 S F) (offset n : ℕ) where
 
   -- Why a read of a mapping is refused: as a range that was looked up before; or 7, if its first byte is compressed.
   abbrev pub MayFailReadingFound : ImageError → Type 0
-  MayFailReadingFound e = MayFailFindingAgain e ⊎ ((e ≡ I.Compressed) × IsHeldCompressed new offset)
+  MayFailReadingFound e = MayFailFindingAgain e ⊎ ((e ≡ I.Compressed) × IsCompressedInTables new offset)
 
   -- Why a special read is refused: as a lookup; or 7, if the offset's guest cluster is compressed.
   abbrev pub MayFailTelling : ImageError → Type 0
-  MayFailTelling e = MayFailFinding e ⊎ ((e ≡ I.Compressed) × IsHeldCompressed new offset)
+  MayFailTelling e = MayFailFinding e ⊎ ((e ≡ I.Compressed) × IsCompressedInTables new offset)
 
--- Why a put of n bytes is refused: a fault; for an existing mapping, as a range that was looked up before; 20, if its host offset passes 64 bits; or because it lies in the header's cluster, where no mapping is.
+-- Why a put of n bytes is refused: a fault; for an existing mapping, as a range that was looked up before; 20, if its host offset passes 64 bits; or 19, if it lies in the header's cluster, where no mapping is.
 abbrev pub MayFailPuttingAt : {S F : Type 0} → (old new : Qcow2 S F) → Prepared → (at n : ℕ) → ImageError → Type 0
 MayFailPuttingAt old new p at n e =
-    IsFault e ⊎ (((table_of p ≡ None) × MayFailFindingAgain old new (guest_offset_of p + at) n e) ⊎ (((e ≡ I.Overflow) × (2 ^ 64 ≤ offset_of p + at)) ⊎ (MayFail e × (offset_of p + at < cluster_size old.file.header.fields))))
+    IsFault e ⊎ (((table_of p ≡ None) × MayFailFindingAgain old new (guest_offset_of p + at) n e) ⊎ (((e ≡ I.Overflow) × (2 ^ 64 ≤ offset_of p + at)) ⊎ ((e ≡ I.Metadata) × (offset_of p + at < cluster_size old.file.header.fields))))

@@ -20,7 +20,7 @@ use Rattle.qcow2_image.specs.declared.mapping.MappingKind.TheVariants as Kind
 use Rattle.qcow2_image.specs.declared.prepared.Prepared.{Prepared}
 use Rattle.qcow2_image.specs.Found.{l1_index_of}
 use Rattle.qcow2_image.specs.Prepared.{offset_of, table_of}
-use Rattle.qcow2_image.specs.Refusals.{IsFaultOrLimit}
+use Rattle.qcow2_image.specs.Refusals.{IsFaultOrLimit, MayFail}
 use Rattle.qcow2_image.specs.InternalSteps.{is_announced}
 
 -- Why a call that allocates is refused while no mapping is prepared: a fault; a limit; 7, if bytes of a compressed cluster would have to be copied; or 20, if an L1 entry past 64 bits would have to be written.
@@ -79,6 +79,16 @@ IsSpecial kind = ⊥
 -- Why bytes of this kind are not read: a fault; 7, if they are compressed; or 10, if they lie past the end.
 abbrev pub MayFailReading : MappingKind → ImageError → Type 0
 MayFailReading kind e = IsFault e ⊎ (((e ≡ I.Compressed) × IsSpecial kind) ⊎ ((e ≡ I.OutdatedMapping) × (kind ≡ Kind.Eof)))
+
+-- ---- reads and puts, whatever the image contains
+
+-- Why bytes are not written as data: a fault; or 19, for a place in the header's cluster.
+abbrev pub MayFailWriting : ImageError → Type 0
+MayFailWriting e = IsFault e ⊎ (e ≡ I.Metadata)
+
+-- Why bytes of this kind are not copied: as a call during its work; or 10, if they lie past the end.
+abbrev pub MayFailCopying : MappingKind → ImageError → Type 0
+MayFailCopying kind e = MayFail e ⊎ ((e ≡ I.OutdatedMapping) × (kind ≡ Kind.Eof))
 
 -- ---- lookups, reads and puts on a sound image, whatever is prepared
 

@@ -14,14 +14,9 @@ use Rattle.qcow2_image.specs.Found.{l1_index_of}
 use Rattle.qcow2_image.specs.HeldMappings.{IsHeldAs}
 use Rattle.qcow2_image.specs.Image.{size_of}
 use Rattle.qcow2_image.specs.L1Entries.{HasOwnTable}
-use Rattle.qcow2_image.specs.Prepared.{offset_of, table_of}
+use Rattle.qcow2_image.specs.Prepared.{guest_offset_of, offset_of, table_of}
 
 module _ {S F : Type 0} where
-  -- Some L2 table is pinned.
-  pub record HasPinnedTable (image : Qcow2 S F) : Type 0 where
-    pub cluster : ℕ
-    pub pins : 0 < l2_pins image.file.caches cluster
-
   -- The cluster of the L2 table that the L1 table in memory has for an offset.
   abbrev pub own_table : Qcow2 S F → ℕ → ℕ
   own_table image offset = host_offset (entry_at image.l1_table.bytes (l1_index_of image.file.header.fields offset)) / cluster_size image.file.header.fields
@@ -59,5 +54,5 @@ module _ {S F : Type 0} where
 
   -- A range is given to be written in place only where the tables in memory have it as copied data.
   abbrev pub ExistsInTables : Qcow2 S F → (offset n : ℕ) → Result Prepared ImageError → Type 0
-  ExistsInTables image offset n (Ok p) = table_of p ≡ None → IsWritableInTables image offset n (offset_of p)
+  ExistsInTables image offset n (Ok p) = table_of p ≡ None → (guest_offset_of p ≡ offset) × IsWritableInTables image offset n (offset_of p)
   ExistsInTables image offset n (Err e) = Unit {0}

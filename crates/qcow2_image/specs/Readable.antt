@@ -17,7 +17,7 @@ use Rattle.qcow2_image.specs.CountedOpening.{OpeningCounts}
 use Rattle.qcow2_image.specs.Growing.{SameFormat}
 use Rattle.qcow2_image.specs.Image.{is_failed, is_writable, number_of}
 use Rattle.qcow2_image.specs.Opened.{HasNamesIn, IsKeptSince, IsRefusedAlone, LeavesStorage, NeedsMissing, storage_after}
-use Rattle.qcow2_image.specs.PinnedTables.{HasPinnedTable}
+use Rattle.qcow2_image.specs.Image.{HasPinnedTable}
 use Rattle.qcow2_image.specs.Unwritten.{ContentsStayThroughout, HoldsNothingModified}
 
 -- The header is readable, its tables are aligned, and the image needs no file that is missing.

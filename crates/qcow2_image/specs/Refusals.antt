@@ -1,5 +1,5 @@
 -- When calls on an image are refused, and what a refusal leaves.
-use Rattle.std.specs.Prelude.{◌≡◌, ◌⊎◌, ℕ, ◌+◌, ◌==◌, ◌&&◌, ◌||◌, Bool, true, not, nat_lt, Option, Some, None, Result, Ok, Err, if◌then◌else◌}
+use Rattle.std.specs.Prelude.{◌≡◌, ◌⊎◌, ℕ, ◌<◌, ◌+◌, ◌==◌, ◌&&◌, ◌||◌, Bool, true, not, nat_lt, Option, Some, None, Result, Ok, Err, if◌then◌else◌}
 use Rattle.std.specs.Option.{option_or}
 use Rattle.image_access.specs.declared.storage.PreallocateMode.{PreallocateMode}
 use Rattle.image_access.specs.declared.storage.PreallocateMode.TheVariants as Mode
@@ -7,7 +7,7 @@ use Rattle.qcow2_alloc.specs.ImageError.{IsFault}
 use Rattle.qcow2_alloc.specs.declared.error.ImageError.{ImageError}
 use Rattle.qcow2_alloc.specs.declared.error.ImageError.TheVariants as I
 use Rattle.qcow2_image.specs.declared.image.Qcow2.{Qcow2}
-use Rattle.qcow2_image.specs.Image.{HasNothingToFree, has_noted_change, is_failed, is_external, is_writable, size_of, number_of}
+use Rattle.qcow2_image.specs.Image.{HasNothingToFree, HasPinnedTable, has_noted_change, is_failed, is_external, is_writable, size_of, number_of}
 
 -- A refusal, if a test says so.
 abbrev pub refuse_if : Bool → ImageError → Option ImageError
@@ -35,7 +35,7 @@ module _ {S F : Type 0} (image : Qcow2 S F) where
   abbrev pub refuses_mapping : ℕ → Option ImageError
   refuses_mapping number = option_or unusable (refuse_if (not (number == number_of image)) I.ForeignState)
 
--- The refusals that come during the work, after all checks: 4, 7, 8, 10, 13, 14, 15, 19 and 20.
+-- The refusals that come during the work, after all checks: 4, 7, 8, 13, 14, 15, 19 and 20.
 abbrev pub MayFail : ImageError → Type 0
 MayFail I.ReadOnly = ⊥
 MayFail I.BeyondSize = ⊥
@@ -46,7 +46,7 @@ MayFail I.Preallocation = ⊥
 MayFail I.Compressed = Unit {0}
 MayFail I.InUse = Unit {0}
 MayFail I.TablePrepared = ⊥
-MayFail I.OutdatedMapping = Unit {0}
+MayFail I.OutdatedMapping = ⊥
 MayFail I.ForeignState = ⊥
 MayFail I.Dependency = ⊥
 MayFail I.Limit = Unit {0}
@@ -59,7 +59,7 @@ MayFail I.Metadata = Unit {0}
 MayFail I.Overflow = Unit {0}
 MayFail (I.StillInUse tables) = ⊥
 
--- The refusals of a read during its work: 4, 7, 8, 10, 13, 14 and 15.
+-- The refusals of a read during its work: 4, 7, 8, 13, 14 and 15.
 abbrev pub MayFailToRead : ImageError → Type 0
 MayFailToRead I.ReadOnly = ⊥
 MayFailToRead I.BeyondSize = ⊥
@@ -70,7 +70,7 @@ MayFailToRead I.Preallocation = ⊥
 MayFailToRead I.Compressed = Unit {0}
 MayFailToRead I.InUse = Unit {0}
 MayFailToRead I.TablePrepared = ⊥
-MayFailToRead I.OutdatedMapping = Unit {0}
+MayFailToRead I.OutdatedMapping = ⊥
 MayFailToRead I.ForeignState = ⊥
 MayFailToRead I.Dependency = ⊥
 MayFailToRead I.Limit = Unit {0}
@@ -83,13 +83,14 @@ MayFailToRead I.Metadata = ⊥
 MayFailToRead I.Overflow = ⊥
 MayFailToRead (I.StillInUse tables) = ⊥
 
--- The refusals of a prepare during its work: also 9, that the L2 table is pinned by another mapping.
-abbrev pub MayFailPreparing : ImageError → Type 0
-MayFailPreparing e = MayFail e ⊎ (e ≡ I.TablePrepared)
+module _ {S F : Type 0} (new : Qcow2 S F) where
+  -- The refusals of a prepare during its work: also 9, while an L2 table is pinned by another mapping.
+  abbrev pub MayFailPreparing : ImageError → Type 0
+  MayFailPreparing e = MayFail e ⊎ ((e ≡ I.TablePrepared) × HasPinnedTable new)
 
--- The refusals of growing a disk during the work: as of a prepare; or 3, if zero clusters are asked for.
-abbrev pub MayFailToGrow : PreallocateMode → ImageError → Type 0
-MayFailToGrow mode e = MayFailPreparing e ⊎ ((e ≡ I.Version) × (mode ≡ Mode.Zero))
+  -- The refusals of growing a disk during the work: as of a prepare; or 3, if zero clusters are asked for below version 3.
+  abbrev pub MayFailToGrow : PreallocateMode → ImageError → Type 0
+  MayFailToGrow mode e = MayFailPreparing e ⊎ ((e ≡ I.Version) × (mode ≡ Mode.Zero) × (new.file.header.fields.version < 3))
 
 -- The refusal is not a limit.
 abbrev pub IsUnlimited : ImageError → Type 0

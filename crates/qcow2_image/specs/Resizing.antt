@@ -34,7 +34,7 @@ use Rattle.qcow2_image.specs.Limits.{IsLimited}
 use Rattle.qcow2_image.specs.MovedTables.{CoversStay}
 use Rattle.qcow2_image.specs.NewTables.{LacksTable}
 use Rattle.qcow2_image.specs.Noted.{ChangesRose, RecordsChanges, RecordsPart}
-use Rattle.qcow2_image.specs.PinnedTables.{HasPinnedTable}
+use Rattle.qcow2_image.specs.Image.{HasPinnedTable}
 use Rattle.qcow2_image.specs.Preallocation.{GrownFree, IsUnderMappingIn}
 use Rattle.qcow2_image.specs.Refusals.{MarksFailed, MarksRefused, refuse_if, unusable}
 

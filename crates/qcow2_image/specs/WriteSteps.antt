@@ -24,7 +24,7 @@ use Rattle.qcow2_image.specs.BehindHeader.{PreservesHeaderCluster}
 use Rattle.qcow2_image.specs.Calls.{reason_of}
 use Rattle.qcow2_image.specs.CallParts.{PutsPart, Readies}
 use Rattle.qcow2_image.specs.Faults.{CountsImageFaults, NoFewerFaults, ReportsEachBy, ReportsFault}
-use Rattle.qcow2_image.specs.Found.{IsFoundInImage, IsFoundWhole, IsMappedAs, IsRunFrom, found_kind}
+use Rattle.qcow2_image.specs.Found.{IsFoundInImage, IsFoundWhole, IsMappedAs, IsRunFrom, found_kind, further_by}
 use Rattle.qcow2_image.specs.Image.{HasNothingToFree, ImageStays, IsSameImage, KeepsWholeHeader, is_failed, is_writable, number_of, size_of}
 use Rattle.qcow2_image.specs.ImageInvariant.{ImageInvariant, abstract_of, disk_of, meaning, new_data_by, over_all, pending_in}
 use Rattle.qcow2_image.specs.InternalSteps.{HoldsAll, HoldsTable, InternalFillingStep, InternalStep, IsFilled, Gains, SameHeld, AllocatesData}
@@ -293,11 +293,13 @@ module _ {S F : Type 0} (view : S → StorageView) (backing : F → BackingView)
   PutsInMapping mapping at n result = (out : List (Option Prepared)) → (abstract_of view backing old out).is_sound → PutsCall out mapping at n result
 
 -- ---- lookups
--- The mapping that a lookup returns: of this image, from the offset on, and no longer than asked. Below the size it has at least one byte.
+-- The mapping that a lookup returns: of this image, from the offset on, and no longer than asked. Below the size it has at least one byte, and past it none. Its host offset fits into 64 bits.
 pub record IsLookedUp {S F : Type 0} (image : Qcow2 S F) (offset max : ℕ) (answer : Mapping × ℕ) : Type 0 where
   pub own : (answer.0.image ≡ number_of image) × (answer.0.offset ≡ offset) × (answer.0.length ≡ answer.1)
   pub within : answer.1 ≤ max
   pub some : offset < size_of image → 0 < max → 0 < answer.1
+  pub past : size_of image ≤ offset → answer.1 ≡ 0
+  pub whole : further_by 0 answer.0.kind ≡ answer.0.kind
 
 -- A lookup is refused before its work only for an unusable image. At or past the size it finds the end.
 pub record RefusesLookup {S F : Type 0} (old new : Qcow2 S F) (offset max : ℕ) (result : Result (Mapping × ℕ) ImageError) : Type 0 where
@@ -327,7 +329,7 @@ pub record AnswersPrepare {S F : Type 0} (old new : Qcow2 S F) (offset n : ℕ) 
 pub record RefusesPrepare {S F : Type 0} (old new : Qcow2 S F) (offset n : ℕ) (result : Result Prepared ImageError) : Type 0 where
   pub early : IfSome (refuses_to_prepare old offset n) (λ e. (result ≡ Err e) × (new ≡ old))
   pub nothing : refuses_to_prepare old offset 0 ≡ None → n ≡ 0 → IsOk result × IfOk result IsOfNothing × (new ≡ old)
-  pub late : refuses_to_prepare old offset n ≡ None → IfErr result MayFailPreparing
+  pub late : refuses_to_prepare old offset n ≡ None → IfErr result (MayFailPreparing new)
 
 module _ {S F : Type 0} (view : S → StorageView) (backing : F → BackingView) (old new : Qcow2 S F) where
   -- A range is prepared. Each refusal has its cause in the image before; a limit (13) was passed at some state within the call. It frees the clusters on the list, except after a fault and after 9. The mapping matches the mappings of its clusters, and an existing one leaves no more clusters to free.
@@ -370,8 +372,8 @@ module _ {S F : Type 0} (view : S → StorageView) (backing : F → BackingView)
 -- ---- refusals after clusters were freed
 -- The refusal to report after the clusters on the list were freed. Nothing is freed after a fault, and if no cluster waits.
 pub record RefusesAfter {S F : Type 0} (old new : Qcow2 S F) (refusal result : ImageError) : Type 0 where
-  pub cause : MayFailPreparing refusal → MayFailPreparing result
-  pub taken : MayFailPreparing refusal → result ≡ TablePrepared → refusal ≡ TablePrepared
+  pub cause : MayFailPreparing old refusal → MayFailPreparing new result
+  pub taken : MayFailPreparing old refusal → result ≡ TablePrepared → refusal ≡ TablePrepared
   pub fault : IsFault refusal → (result ≡ refusal) × (new ≡ old)
   pub idle : HasNothingToFree old → (result ≡ refusal) × (new ≡ old)
 

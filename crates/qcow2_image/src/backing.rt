@@ -5,7 +5,7 @@ ghost use Rattle.qcow2_image.specs.declared.prepared.Prepared.{Prepared};
 ghost use Rattle.qcow2_image.specs.Backings.{HasPinnedMapping, IsOver};
 ghost use Rattle.qcow2_image.specs.Image.{IsSameImage, is_failed};
 ghost use Rattle.qcow2_image.specs.ImageInvariant.{IsHonestBacking, abstract_of};
-ghost use Rattle.qcow2_image.specs.PinnedTables.{HasPinnedTable};
+ghost use Rattle.qcow2_image.specs.Image.{HasPinnedTable};
 
 use crate::{ImageError, Qcow2};
 use image_access::{Storage, WrappedFormat};

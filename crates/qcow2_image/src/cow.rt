@@ -4,7 +4,7 @@ ghost use Rattle.qcow2_image.specs.ImageSteps.{FailsUnlimited, ImageStep};
 ghost use Rattle.std.specs.Prelude.{◌≡◌, ◌/◌, ◌^◌, ◌<◌, ◌≤◌, ℕ, List, Option, Some, true, false, replicate, IfOk};
 ghost use Rattle.std.specs.Prelude.{IfErr, IfSome, ◌⊎◌};
 ghost use Rattle.qcow2_alloc.specs.ImageError.{IsFault};
-ghost use Rattle.qcow2_image.specs.MayFail.{HasUnannounced, IsCopiedCompressed, MayFailReading};
+ghost use Rattle.qcow2_image.specs.MayFail.{HasUnannounced, IsCopiedCompressed, MayFailCopying, MayFailReading};
 ghost use Rattle.qcow2_laws.specs.CrashInvariant.{Pending};
 ghost use Rattle.qcow2_alloc.specs.ImageFile.{known_in};
 ghost use Rattle.qcow2_image.specs.CallParts.{WritesBytes};
@@ -25,7 +25,7 @@ use image_access::{Storage, WrappedFormat};
 use qcow2_alloc::{ImageError, WriteKind};
 use qcow2_metadata::{GuestOffset, HostCluster, L2Mapping};
 
-#[tactic(auto, using(crate::proofs::Call::FailingErrors::tables_met, crate::proofs::Call::FailingErrors::storage_met, crate::proofs::Call::FailingErrors::read_met))]
+#[tactic(auto, using(crate::proofs::Call::FailingErrors::tables_met, crate::proofs::Call::FailingErrors::storage_met, crate::proofs::Call::FailingErrors::reading_copied, crate::proofs::Call::FailingErrors::writing_met))]
 impl<S: Storage, F: WrappedFormat<S>> Qcow2<S, F> {
     // Fills the new cluster of an offset with what its old mapping shows, except where the caller promised to overwrite.
     pub(crate) fn fill_cluster(
@@ -112,7 +112,7 @@ impl<S: Storage, F: WrappedFormat<S>> Qcow2<S, F> {
         length: u64,
     ) -> Result<(), ImageError>
         ensures step { FillingStep S.view self.old self.new }
-        ensures fails { FailsUnlimited S.view F.backing self.old self.new result MayFail }
+        ensures fails { FailsUnlimited S.view F.backing self.old self.new result (MayFailCopying kind.now) }
         ensures may_fail { cluster_size self.old.file.header.fields ≤ at → IfErr result (MayFailReading kind.now) }
         ensures image_step { (p : Pending) (out : List (Option Prepared)) (cluster : ℕ)
             → ImageInvariant S.view F.backing p self.old out → HoldsAll S.view F.backing p out

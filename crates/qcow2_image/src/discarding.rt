@@ -265,7 +265,7 @@ impl<S: Storage, F: WrappedFormat<S>> Qcow2<S, F> {
         requires writable { IsTrue (is_writable self.old) }
         requires some { from < to }
         ensures step { ImageStep S.view self.old self.new }
-        ensures fails { ImageFails S.view F.backing self.old self.new result MayFailPreparing }
+        ensures fails { ImageFails S.view F.backing self.old self.new result (MayFailPreparing self.new) }
         ensures sound { (out : List (Option Prepared))
             → ImageInvariant S.view F.backing (pending_in S.view F.backing self.old out) self.old out
             → ClearsInTable S.view F.backing how from to self.old self.new out result }
@@ -287,7 +287,7 @@ impl<S: Storage, F: WrappedFormat<S>> Qcow2<S, F> {
         requires writable { IsTrue (is_writable self.old) }
         requires some { from < to }
         ensures step { ImageStep S.view self.old self.new }
-        ensures fails { ImageFails S.view F.backing self.old self.new result MayFailPreparing }
+        ensures fails { ImageFails S.view F.backing self.old self.new result (MayFailPreparing self.new) }
         ensures sound { (out : List (Option Prepared))
             → ImageInvariant S.view F.backing (pending_in S.view F.backing self.old out) self.old out
             → ClearsInTable S.view F.backing how from to self.old self.new out result }

@@ -47,7 +47,7 @@ impl<S: Storage, F: WrappedFormat<S>> Qcow2<S, F> {
     ) -> Result<Prepared, ImageError>
         requires writable { IsTrue (is_writable self.old) }
         ensures step { AllocatingStepWhere S.view (0 < table) self.old self.new }
-        ensures fails { ImageFails S.view F.backing self.old self.new result MayFailPreparing }
+        ensures fails { ImageFails S.view F.backing self.old self.new result (MayFailPreparing self.new) }
         ensures sound { BeginsFirst S.view F.backing self.old self.new table offset length overwrite result }
         ensures begins { IfOk result (IsBegunIn self.old offset table
             (HasRoomForRange self.old.file.header.fields length)) }

@@ -9,16 +9,15 @@ ghost use Rattle.std.specs.Prelude.{IfErr, IsErr, IsSome, MatchOption, Ok, Err, 
 ghost use Rattle.std.specs.Prelude.{is_some, true, OnOk};
 ghost use Rattle.qcow2_metadata.specs.Header.{cluster_size};
 ghost use Rattle.qcow2_alloc.specs.ImageError.{IsFault};
-ghost use Rattle.qcow2_image.specs.MayFail.{IsSpecial, MayFailReading};
-ghost use Rattle.qcow2_image.specs.LookupCauses.{IsHeldCompressed, MayFailFindingAgain};
-ghost use Rattle.qcow2_image.specs.LookupCauses.{MayFailPuttingAt, MayFailReadingFound, MayFailTelling};
+ghost use Rattle.qcow2_image.specs.MayFail.{IsSpecial, MayFailReading, MayFailWriting};
+ghost use Rattle.qcow2_image.specs.LookupCauses.{MayFailFindingAgain, MayFailPuttingAt, MayFailReadingFound, MayFailTelling};
 ghost use Rattle.qcow2_disk.specs.Calls.{Shows};
 ghost use Rattle.qcow2_laws.specs.CrashInvariant.{Pending};
 ghost use Rattle.qcow2_image.specs.Calls.{AnswersCall, Puts};
 ghost use Rattle.qcow2_image.specs.Faults.{IsNotOfStorage};
 ghost use Rattle.qcow2_image.specs.Found.{AreBytesOf, IsMappedAs, further_by};
 ghost use Rattle.qcow2_image.specs.CallParts.{WritesBytes};
-ghost use Rattle.qcow2_image.specs.HeldMappings.{FitsTables, KeepsHeld, ReadsAs};
+ghost use Rattle.qcow2_image.specs.HeldMappings.{FitsTables, IsCompressedInTables, KeepsHeld, ReadsAs};
 ghost use Rattle.qcow2_alloc.specs.ImageFile.{view_in};
 ghost use Rattle.qcow2_image.specs.InternalSteps.{InternalStep};
 ghost use Rattle.qcow2_image.specs.ImageInvariant.{IsHonestBacking, ImageInvariant, backing_bytes, disk_of};
@@ -75,10 +74,11 @@ impl<S: Storage, F: WrappedFormat<S>> Qcow2<S, F> {
         ensures sees { AnswersCall S.view F.backing self.old self.new []
             (λ done old new. (new ≡ old) × Shows old.disk (mapping.now.offset + at) bytes.new) result }
         ensures held { refuses_mapping self.old mapping.now.image ≡ None → 0 < length bytes.old
-            → FitsTables self.new (mapping.now.offset + at) (further_by at mapping.now.kind) (length bytes.old) result }
+            → FitsTables self.old self.new (mapping.now.offset + at) (further_by at mapping.now.kind)
+            (length bytes.old) result }
         ensures quiet { LooksQuietly S.view (mapping.now.offset + at) self.old self.new }
-        ensures reads { 0 < length bytes.old → (view_in S.view self.old.file).is_honest
-            → OnOk result (ReadsAs S.view self.new (further_by at mapping.now.kind) bytes.new) }
+        ensures reads { 0 < length bytes.old
+            → OnOk result (ReadsAs S.view self.old self.new (further_by at mapping.now.kind) bytes.new) }
     {
         self.check_usable()?;
         if mapping.image != self.number {
@@ -104,10 +104,10 @@ impl<S: Storage, F: WrappedFormat<S>> Qcow2<S, F> {
         ensures sound { ReadsRange S.view F.backing self.old self.new (mapping.now.offset + at) (length bytes.old)
             (further_by at mapping.now.kind) bytes.new result }
         ensures held { 0 < length bytes.old
-            → FitsTables self.new (mapping.now.offset + at) (further_by at mapping.now.kind) (length bytes.old) result }
+            → FitsTables self.old self.new (mapping.now.offset + at) (further_by at mapping.now.kind)
+            (length bytes.old) result }
         ensures quiet { LooksQuietly S.view (mapping.now.offset + at) self.old self.new }
-        ensures reads { (view_in S.view self.old.file).is_honest
-            → OnOk result (ReadsAs S.view self.new (further_by at mapping.now.kind) bytes.new) }
+        ensures reads { OnOk result (ReadsAs S.view self.old self.new (further_by at mapping.now.kind) bytes.new) }
     {
         let offset = self.place_within(mapping.offset, at)?;
         let kind = mapping.kind.further(at);
@@ -140,8 +140,8 @@ impl<S: Storage, F: WrappedFormat<S>> Qcow2<S, F> {
         ensures fails { ImageFails S.view F.backing self.old self.new result
             (MayFailFindingAgain self.old self.new offset length) }
         ensures sound { ChecksRange S.view F.backing self.old self.new offset length wanted.now result }
-        ensures held { 0 < length → FitsTables self.new offset wanted.now length result }
-        ensures special { OnOk result (IsSpecial wanted.now → IsHeldCompressed self.new offset) }
+        ensures held { 0 < length → FitsTables self.old self.new offset wanted.now length result }
+        ensures special { OnOk result (IsSpecial wanted.now → IsCompressedInTables self.new offset) }
         ensures quiet { LooksQuietly S.view offset self.old self.new }
     {
         let (kind, found) = self.look_up(offset, length)?;
@@ -160,8 +160,7 @@ impl<S: Storage, F: WrappedFormat<S>> Qcow2<S, F> {
         bytes: &mut [u8],
     ) -> Result<(), ImageError>
         ensures step { ReadingStep S.view self.old self.new }
-        ensures fails { FailsUnlimited S.view F.backing self.old self.new result MayFailToRead }
-        ensures may_fail { IfErr result (MayFailReading kind.now) }
+        ensures fails { FailsUnlimited S.view F.backing self.old self.new result (MayFailReading kind.now) }
         ensures allocator { self.new.allocator ≡ self.old.allocator }
         ensures keeps { (p : Pending) (out : List (Option Prepared)) → ImageInvariant S.view F.backing p self.old out
             → InternalStep S.view F.backing p p self.old self.new out }
@@ -171,8 +170,7 @@ impl<S: Storage, F: WrappedFormat<S>> Qcow2<S, F> {
             → IfOk result (λ done. Shows (disk_of S.view F.backing self.new) offset bytes.new) }
         ensures tables { KeepsHeld self.old self.new }
         ensures quiet { WritesNothing S.view self.old.file.storage self.new.file.storage }
-        ensures reads { (view_in S.view self.old.file).is_honest
-            → OnOk result (ReadsAs S.view self.new kind.now bytes.new) }
+        ensures reads { OnOk result (ReadsAs S.view self.old self.new kind.now bytes.new) }
     {
         match kind {
             MappingKind::Raw {
@@ -198,7 +196,6 @@ impl<S: Storage, F: WrappedFormat<S>> Qcow2<S, F> {
         ensures step { ImageStep S.view self.old self.new }
         ensures fails { FailsUnlimited S.view F.backing self.old self.new result MayFailToRead }
         ensures fault { IfErr result IsFault }
-        ensures current { result ≢ Err OutdatedMapping }
         ensures file { self.new.file ≡ self.old.file }
         ensures allocator { self.new.allocator ≡ self.old.allocator }
         ensures table { self.new.l1_table ≡ self.old.l1_table }
@@ -224,7 +221,8 @@ impl<S: Storage, F: WrappedFormat<S>> Qcow2<S, F> {
     pub fn readv_special(&mut self, bytes: &mut [u8], offset: u64) -> Result<(), ImageError>
         ensures step { ReadingCall S.view F.backing self.old self.new result }
         ensures refusals { RefusesOrSkips self.old self.new result (unusable self.old) (length bytes.old) tt
-            (λ e. MayFailTelling self.old self.new offset 1 e ⊎ (e ≡ NotCompressed offset)) }
+            (λ e. MayFailTelling self.old self.new offset 1 e
+            ⊎ ((e ≡ NotCompressed offset) × ¬ IsCompressedInTables self.new offset)) }
         ensures sound { ReadsSpecial S.view F.backing self.old self.new offset (length bytes.old) result }
         ensures some { 0 < length bytes.old → IsErr result }
         ensures slice { bytes.new ≡ bytes.old }
@@ -250,6 +248,7 @@ impl<S: Storage, F: WrappedFormat<S>> Qcow2<S, F> {
             (MayFailTelling self.old self.new offset 1) }
         ensures sound { TriesSpecial S.view F.backing self.old self.new offset (length bytes.old) result }
         ensures some { 0 < length bytes.old → IfOk result (λ at. at ≡ Some offset) }
+        ensures plain { 0 < length bytes.old → OnOk result (¬ IsCompressedInTables self.new offset) }
         ensures slice { bytes.new ≡ bytes.old }
         ensures sees { AnswersCall S.view F.backing self.old self.new [] (λ at was is. is ≡ was) result }
         ensures quiet { LooksQuietly S.view offset self.old self.new }
@@ -266,9 +265,11 @@ impl<S: Storage, F: WrappedFormat<S>> Qcow2<S, F> {
     // The offset, if its guest cluster is not compressed. It may lie past the disk's size.
     fn check_not_compressed(&mut self, offset: u64) -> Result<Option<u64>, ImageError>
         ensures step { ReadingStep S.view self.old self.new }
-        ensures fails { ImageFails S.view F.backing self.old self.new result (MayFailTelling self.old self.new offset 1) }
+        ensures fails { ImageFails S.view F.backing self.old self.new result
+            (MayFailTelling self.old self.new offset 1) }
         ensures sound { ChecksWhether S.view F.backing self.old self.new offset result }
         ensures answer { IfOk result (λ at. at ≡ Some offset) }
+        ensures plain { OnOk result (¬ IsCompressedInTables self.new offset) }
         ensures quiet { LooksQuietly S.view offset self.old self.new }
     {
         let (kind, _length) = self.run_from(offset, 1)?;
@@ -297,7 +298,7 @@ impl<S: Storage, F: WrappedFormat<S>> Qcow2<S, F> {
         ensures private { IsSome (table_of prepared.now) → result ≢ Err OutdatedMapping }
         ensures sees { Puts S.view F.backing self.old self.new prepared.now at bytes.now result }
         ensures held { refuses_mapping self.old (image_of prepared.now) ≡ None → table_of prepared.now ≡ None
-            → 0 < length bytes.now → FitsTables self.new (prepared.now.guest + at)
+            → 0 < length bytes.now → FitsTables self.old self.new (prepared.now.guest + at)
             (Raw Image (prepared.now.offset + at) true) (length bytes.now) result }
         ensures once { PutsOnce S.view F.backing prepared.now at bytes.now self.old self.new result }
     {
@@ -329,7 +330,7 @@ impl<S: Storage, F: WrappedFormat<S>> Qcow2<S, F> {
         ensures puts { PutsBytes S.view F.backing self.old self.new prepared.now at bytes.now result }
         ensures private { IsSome (table_of prepared.now) → result ≢ Err OutdatedMapping }
         ensures held { table_of prepared.now ≡ None → 0 < length bytes.now
-            → FitsTables self.new (prepared.now.guest + at) (Raw Image (prepared.now.offset + at) true)
+            → FitsTables self.old self.new (prepared.now.guest + at) (Raw Image (prepared.now.offset + at) true)
             (length bytes.now) result }
         ensures once { PutsOnce S.view F.backing prepared.now at bytes.now self.old self.new result }
     {
@@ -354,7 +355,7 @@ impl<S: Storage, F: WrappedFormat<S>> Qcow2<S, F> {
         ensures sound { ChecksInPlace S.view F.backing self.old self.new prepared.now at host length result }
         ensures private { IsSome (table_of prepared.now) → (result ≡ Ok tt) × (self.new ≡ self.old) }
         ensures held { table_of prepared.now ≡ None → 0 < length
-            → FitsTables self.new (prepared.now.guest + at) (Raw Image host true) length result }
+            → FitsTables self.old self.new (prepared.now.guest + at) (Raw Image host true) length result }
         ensures quiet { LooksQuietly S.view (prepared.now.guest + at) self.old self.new }
     {
         if prepared.table.is_some() {
@@ -372,10 +373,9 @@ impl<S: Storage, F: WrappedFormat<S>> Qcow2<S, F> {
     // Writes bytes as data. A place in the header's cluster, which no entry and no mapping has, is refused 19 (metadata).
     pub(crate) fn write_data(&mut self, host: u64, bytes: &[u8]) -> Result<(), ImageError>
         ensures step { ImageStep S.view self.old self.new }
-        ensures fails { FailsUnlimited S.view F.backing self.old self.new result MayFail }
+        ensures fails { FailsUnlimited S.view F.backing self.old self.new result MayFailWriting }
         ensures header { self.new.file.header ≡ self.old.file.header }
         ensures fault { cluster_size self.old.file.header.fields ≤ host → IfErr result IsFault }
-        ensures current { result ≢ Err OutdatedMapping }
         ensures written { WritesBytes S.view self.old self.new host bytes.now result }
     {
         if host < self.file.header.cluster_size() {

@@ -18,7 +18,7 @@ ghost use Rattle.qcow2_image.specs.declared.prepared.Prepared.{Prepared};
 ghost use Rattle.qcow2_image.specs.Found.{l1_index_of};
 ghost use Rattle.qcow2_image.specs.InternalSteps.{Ensures};
 ghost use Rattle.qcow2_image.specs.ImageInvariant.{ImageInvariant, pending_in};
-ghost use Rattle.qcow2_image.specs.L1Entries.{L1EntryOverflows, HasOwnTable, HasNearEntry};
+ghost use Rattle.qcow2_image.specs.L1Entries.{L1EntryOverflows, HasOwnEntry, HasOwnTable, HasNearEntry};
 ghost use Rattle.qcow2_image.specs.ListedClusters.{KeepsList};
 ghost use Rattle.qcow2_image.specs.NewTables.{IsFaultOrKeepsL1Table, SaysKnown, IsStored, StandsReady, MayName};
 ghost use Rattle.qcow2_image.specs.NewTables.{NamesShared, PlacesNewTable, Stores, NamesNew, WritesNew, EntersTable};
@@ -50,6 +50,7 @@ impl<S: Storage, F: WrappedFormat<S>> Qcow2<S, F> {
             → OnOk result (KeepsL1Place self.old.file.header.fields self.new.file.header.fields) }
         ensures cached { IfOk result (λ table. IsSome (l2_at self.new.file.caches table)) }
         ensures own { HasOwnTable self.old offset → FindsOwn self.old self.new offset result }
+        ensures owns { IfOk result (λ table. (table ≡ own_table self.new offset) × HasOwnTable self.new offset) }
     {
         if self.has_own_l2(offset) {
             return self.ensure_cached_l2(offset);
@@ -124,6 +125,7 @@ impl<S: Storage, F: WrappedFormat<S>> Qcow2<S, F> {
             (OwnsTable S.view F.backing p self.old self.new out (l1_index_of self.old.file.header.fields offset) result) }
         ensures quiet { HasOwnTable self.old offset → self.new ≡ self.old }
         ensures own { HasOwnTable self.old offset → IfOk result (λ table. table ≡ own_table self.old offset) }
+        ensures owns { OnOk result (HasOwnTable self.new offset) }
     {
         let bits = self.file.header.cluster_bits();
         let index = GuestOffset::new(offset).l1_index(bits);
@@ -151,6 +153,7 @@ impl<S: Storage, F: WrappedFormat<S>> Qcow2<S, F> {
         ensures fails { ImageFails S.view F.backing self.old self.new result MayFail }
         ensures keeps_rest { KeepsRestOn self.old self.new }
         ensures elsewhere { IfOk result (λ table. 0 < table) }
+        ensures own { OnOk result (HasOwnEntry self.new index) }
         ensures l1_table { IfErr result (IsFaultOrKeepsL1Table self.old self.new) }
         ensures sound { (p : Pending) (out : List (Option Prepared)) → ImageInvariant S.view F.backing p self.old out
             → NamesShared S.view self.old index old → EntersSoundly S.view F.backing p index self.old out result
@@ -178,6 +181,7 @@ impl<S: Storage, F: WrappedFormat<S>> Qcow2<S, F> {
         ensures fails { ImageFails S.view F.backing self.old self.new result MayFail }
         ensures keeps_rest { KeepsRestOn self.old self.new }
         ensures elsewhere { IfOk result (λ table. 0 < table) }
+        ensures own { OnOk result (HasOwnEntry self.new index) }
         ensures l1_table { IfErr result (IsFaultOrKeepsL1Table self.old self.new) }
         ensures sound { (p : Pending) (out : List (Option Prepared)) → ImageInvariant S.view F.backing p self.old out
             → NamesShared S.view self.old index old
@@ -206,6 +210,7 @@ impl<S: Storage, F: WrappedFormat<S>> Qcow2<S, F> {
         ensures fails { ImageFails S.view F.backing self.old self.new result MayFail }
         ensures keeps_rest { KeepsRestOn self.old self.new }
         ensures elsewhere { IfOk result (λ table. 0 < table) }
+        ensures own { OnOk result (HasOwnEntry self.new index) }
         ensures l1_table { IfErr result (IsFaultOrKeepsL1Table self.old self.new) }
         ensures sound { (p : Pending) (out : List (Option Prepared)) → ImageInvariant S.view F.backing p self.old out
             → MayName S.view self.old index
@@ -248,6 +253,7 @@ impl<S: Storage, F: WrappedFormat<S>> Qcow2<S, F> {
         ensures allocator { self.new.allocator ≡ self.old.allocator }
         ensures l1_table { IfErr result (IsFaultOrKeepsL1Table self.old self.new) }
         ensures list { self.new.file.free_list ≡ self.old.file.free_list }
+        ensures own { 0 < cluster → OnOk result (HasOwnEntry self.new index) }
         ensures writes { (p : Pending) (out : List (Option Prepared))
             → ImageInvariant S.view F.backing (with_new_tables p (one_at cluster)) self.old out
             → MayName S.view self.old index → IsTrue self.old.file.caches.is_changed
@@ -328,6 +334,7 @@ impl<S: Storage, F: WrappedFormat<S>> Qcow2<S, F> {
         ensures allocator { self.new.allocator ≡ self.old.allocator }
         ensures fault { IfErr result IsFault }
         ensures list { self.new.file.free_list ≡ self.old.file.free_list }
+        ensures own { 0 < cluster → OnOk result (HasOwnEntry self.new index) }
         ensures names { (p : Pending) (out : List (Option Prepared)) (table : L2TableView)
             → ImageInvariant S.view F.backing (with_new_tables p (one_at cluster)) self.old out
             → MayName S.view self.old index → IsTrue self.old.file.caches.is_changed

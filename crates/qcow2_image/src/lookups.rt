@@ -13,14 +13,14 @@ ghost use Rattle.qcow2_alloc.specs.ImageFile.{known_in, FileInvariant};
 ghost use Rattle.qcow2_image.specs.declared.prepared.Prepared.{Prepared};
 ghost use Rattle.qcow2_image.specs.Calls.{AnswersCall};
 ghost use Rattle.qcow2_alloc.specs.declared.error.ImageError.TheVariants.{UnalignedTable};
-ghost use Rattle.qcow2_image.specs.LookupCauses.{HasUnalignedBehind, HasUnalignedEntry, IsHeldCompressed};
-ghost use Rattle.qcow2_image.specs.LookupCauses.{IsTableUnaligned, IsUnalignedIn, MayFailFinding};
-ghost use Rattle.qcow2_image.specs.MayFail.{IsSpecial};
+ghost use Rattle.qcow2_image.specs.LookupCauses.{HasUnalignedBehind, HasUnalignedEntry};
+ghost use Rattle.qcow2_image.specs.LookupCauses.{IsKindIn, IsTableUnaligned, IsUnalignedIn, MayFailFinding};
 ghost use Rattle.qcow2_disk.specs.Found.{kind_at, rest_of_table};
 ghost use Rattle.qcow2_image.specs.Faults.{IsNotOfStorage};
-ghost use Rattle.qcow2_image.specs.Found.{found_kind, mapping_of, IsRunBehind, NamesL2Table, IsRunFrom};
+ghost use Rattle.qcow2_image.specs.Found.{found_kind, further_by, mapping_of, IsRunBehind, NamesL2Table, IsRunFrom};
 ghost use Rattle.qcow2_image.specs.Found.{l1_index_of, l2_index_of};
-ghost use Rattle.qcow2_image.specs.HeldMappings.{IsHeldRun, named_place};
+ghost use Rattle.qcow2_image.specs.HeldMappings.{IsCompressedInTables, IsHeldFrom, IsHeldRun, StaysHeld, named_place};
+ghost use Rattle.qcow2_image.specs.MayFail.{IsSpecial};
 ghost use Rattle.qcow2_image.specs.PinnedTables.{own_table};
 ghost use Rattle.qcow2_image.specs.ImageInvariant.{HasL1Table, ImageInvariant};
 ghost use Rattle.qcow2_metadata.specs.Header.{cluster_size};
@@ -94,13 +94,15 @@ impl<S: Storage, F: WrappedFormat<S>> Qcow2<S, F> {
         max: u64,
     ) -> Result<(MappingKind, u64), ImageError>
         ensures step { ReadingStep S.view self.old self.new }
-        ensures fails { ImageFails S.view F.backing self.old self.new result (MayFailFinding self.old self.new offset max) }
+        ensures fails { ImageFails S.view F.backing self.old self.new result
+            (MayFailFinding self.old self.new offset max) }
         ensures sound { FindsRun S.view F.backing self.old self.new offset max result }
         ensures within { IfOk result (λ (kind, n). n ≤ max) }
         ensures some { IfOk result (λ (kind, n). offset < size_of self.old → 0 < max → 0 < n) }
         ensures past { size_of self.old ≤ offset → result ≡ Ok (Eof, 0) }
         ensures held { offset < size_of self.old → IfOk result (λ (kind, n). IsHeldRun self.new offset max kind n) }
-        ensures special { IfOk result (λ (kind, n). IsSpecial kind → IsHeldCompressed self.new offset) }
+        ensures kind { IfOk result (λ (kind, n). IsKindIn self.new offset kind) }
+        ensures still { StaysHeld self.old self.new offset }
         ensures quiet { LooksQuietly S.view offset self.old self.new }
     {
         let size = self.file.header.size();
@@ -117,13 +119,16 @@ impl<S: Storage, F: WrappedFormat<S>> Qcow2<S, F> {
         max: u64,
     ) -> Result<(MappingKind, u64), ImageError>
         ensures step { ReadingStep S.view self.old self.new }
-        ensures fails { ImageFails S.view F.backing self.old self.new result (MayFailFinding self.old self.new offset max) }
+        ensures fails { ImageFails S.view F.backing self.old self.new result
+            (MayFailFinding self.old self.new offset max) }
         ensures sound { FindsInTable S.view F.backing self.old self.new offset max result }
         ensures within { IfOk result (λ (kind, n). n ≤ max) }
         ensures some { IfOk result (λ (kind, n). 0 < max → 0 < n) }
         ensures held { (limit : ℕ) → max ≡ min limit (size_of self.old - offset) → offset < size_of self.old
             → IfOk result (λ (kind, n). IsHeldRun self.new offset limit kind n) }
-        ensures special { IfOk result (λ (kind, n). IsSpecial kind → IsHeldCompressed self.new offset) }
+        ensures kind { IfOk result (λ (kind, n). IsKindIn self.new offset kind) }
+        ensures plain { IfOk result (λ (kind, n). IsCompressedInTables self.new offset → IsSpecial kind) }
+        ensures still { StaysHeld self.old self.new offset }
         ensures quiet { LooksQuietly S.view offset self.old self.new }
     {
         let max = max.min(self.rest_of_table(offset));
@@ -172,6 +177,7 @@ impl<S: Storage, F: WrappedFormat<S>> Qcow2<S, F> {
 
     fn uncovered(&self, offset: u64) -> MappingKind
         ensures value { found_kind result ≡ kind_at self.now.file.header.fields (is_some self.now.backing) offset L2Mapping.Uncovered }
+        ensures whole { further_by 0 result ≡ result }
     {
         match &self.backing {
             Some(_) => MappingKind::Indirect { offset },
@@ -201,14 +207,10 @@ impl<S: Storage, F: WrappedFormat<S>> Qcow2<S, F> {
             (l1_index_of self.now.file.header.fields offset) table (l2_index_of self.now.file.header.fields offset)
             → max ≤ rest_of_table self.now.file.header.fields offset
             → IfOk result (λ (kind, n). IsRunFrom S.view self.now offset max kind n) }
-        ensures special { table ≡ own_table self.now offset
-            → IfOk result (λ (kind, n). IsSpecial kind → IsHeldCompressed self.now offset) }
         ensures faults { IfErr result IsNotOfStorage }
-        ensures held { (limit : ℕ) → max ≡ min (min limit (size_of self.now - offset))
-            (rest_of_table self.now.file.header.fields offset) → offset < size_of self.now
-            → table ≡ own_table self.now offset
+        ensures held { table ≡ own_table self.now offset
             → ¬ (named_place self.now.file.header.fields self.now.l1_table offset ≡ 0)
-            → IfOk result (λ (kind, n). IsHeldRun self.now offset limit kind n) }
+            → IfOk result (λ (kind, n). IsHeldFrom self.now offset max kind n) }
     {
         let bits = self.file.header.cluster_bits();
         let Some(table) = self.file.caches.l2_peek(table) else {
@@ -271,6 +273,7 @@ impl<S: Storage, F: WrappedFormat<S>> Qcow2<S, F> {
     pub(crate) fn kind_of(&self, mapping: L2Mapping, offset: u64) -> MappingKind
         requires { IsInReach mapping }
         ensures value { found_kind result ≡ kind_at self.now.file.header.fields (is_some self.now.backing) offset mapping }
+        ensures whole { further_by 0 result ≡ result }
     {
         let within = GuestOffset::new(offset).in_cluster_offset(self.file.header.cluster_bits());
         match mapping {

@@ -14,7 +14,7 @@ ghost use Rattle.qcow2_image.specs.MayFail.{KeepsL1Place};
 ghost use Rattle.qcow2_metadata.specs.L2Mapping.{IsInReach, greatest_offset, named_run};
 ghost use Rattle.qcow2_disk.specs.Mappings.{is_copied_data};
 ghost use Rattle.qcow2_image.specs.Image.{HasNothingToFree, ImageStays, KeepsRest, is_failed, is_writable};
-ghost use Rattle.qcow2_image.specs.Image.{number_of, KeepsWholeHeader};
+ghost use Rattle.qcow2_image.specs.Image.{number_of, size_of, KeepsWholeHeader};
 ghost use Rattle.qcow2_image.specs.Prepared.{image_of, length_of, offset_of, table_of};
 ghost use Rattle.qcow2_image.specs.Preparing.{IsPlaceOf};
 ghost use Rattle.qcow2_image.specs.Ranges.{ReleasesOneMapping, Reaches};
@@ -82,6 +82,7 @@ fn refused_commit(refusal: ImageError, prepared: Prepared, is_changed: bool) -> 
 // Whether a call ends at once after this refusal, without freeing clusters.
 fn is_last(refusal: &ImageError) -> bool
     ensures fault { IsFault refusal.now → IsTrue result }
+    ensures taken { refusal.now ≡ TablePrepared → IsTrue result }
     ensures last { IsTrue result → IsFault refusal.now ⊎ (refusal.now ≡ TablePrepared) }
 {
     refusal.is_fault() || matches!(refusal, ImageError::TablePrepared)
@@ -151,8 +152,8 @@ pub(crate) fn keeps(mapping: &L2Mapping, place: u64) -> bool
 impl<S: Storage, F: WrappedFormat<S>> Qcow2<S, F> {
     /// Prepares a range to be written at one place in the file. With `overwrite` the caller promises to write all of it, and old bytes are not
     /// copied. The mapping may be shorter than the range, and must be committed or discarded. A mapping that isn't existing has at least the
-    /// rest of its first cluster. None of its bytes lies in the header's cluster. If the L1 entry is marked copied before the call, a mapping is
-    /// existing only where the tables in memory mark all of the range as copied data.
+    /// rest of its first cluster. None of its bytes lies in the header's cluster. A mapping is existing only where the tables in
+    /// memory mark all of the range as copied data.
     /// Refused in this order: 16 (failed), 12 (dependency), 2 (beyond size), 1 (read-only). A length of 0 succeeds before 1. Then
     /// 9 (table prepared), if another mapping that isn't existing is prepared in the same L2 table. May be refused
     /// 4 (unaligned table), 7 (compressed) if a compressed cluster would have to be copied, 8 (everything is in use), 13 (limit),
@@ -170,7 +171,7 @@ impl<S: Storage, F: WrappedFormat<S>> Qcow2<S, F> {
         ensures sees { Prepares S.view F.backing self.old self.new offset length overwrite result }
         ensures pinned { 0 < length → refuses_to_prepare self.old offset length ≡ None → HasOwnTable self.old offset
             → PreparesUnpinned self.old offset result }
-        ensures existing { 0 < length → refuses_to_prepare self.old offset length ≡ None → HasOwnTable self.old offset
+        ensures existing { 0 < length → refuses_to_prepare self.old offset length ≡ None
             → ExistsInTables self.new offset length result }
     {
         self.check_prepare(offset, length)?;
@@ -226,7 +227,7 @@ impl<S: Storage, F: WrappedFormat<S>> Qcow2<S, F> {
     ) -> Result<Prepared, ImageError>
         requires writable { IsTrue (is_writable self.old) }
         ensures step { ImageStep S.view self.old self.new }
-        ensures fails { ImageFails S.view F.backing self.old self.new result MayFailPreparing }
+        ensures fails { ImageFails S.view F.backing self.old self.new result (MayFailPreparing self.new) }
         ensures sound { 0 < length → (out : List (Option Prepared))
             → ImageInvariant S.view F.backing (pending_in S.view F.backing self.old out) self.old out
             → PreparesSoundly S.view F.backing offset length overwrite self.old self.new out result }
@@ -238,7 +239,8 @@ impl<S: Storage, F: WrappedFormat<S>> Qcow2<S, F> {
             → ImageInvariant S.view F.backing (pending_in S.view F.backing self.old out) self.old out
             → IfErr result (FreesRefused self.new) }
         ensures pinned { HasOwnTable self.old offset → PreparesUnpinned self.old offset result }
-        ensures existing { LiesInOwn self.old offset length → ExistsInTables self.new offset length result }
+        ensures existing { 0 < length → offset + length ≤ size_of self.old
+            → ExistsInTables self.new offset length result }
     {
         match self.prepare_range(offset, length, overwrite) {
             Ok(prepared) => Ok(prepared),
@@ -255,7 +257,7 @@ impl<S: Storage, F: WrappedFormat<S>> Qcow2<S, F> {
     ) -> Result<Prepared, ImageError>
         requires writable { IsTrue (is_writable self.old) }
         ensures step { ImageStep S.view self.old self.new }
-        ensures fails { ImageFails S.view F.backing self.old self.new result MayFailPreparing }
+        ensures fails { ImageFails S.view F.backing self.old self.new result (MayFailPreparing self.new) }
         ensures sound { 0 < length → (out : List (Option Prepared))
             → ImageInvariant S.view F.backing (pending_in S.view F.backing self.old out) self.old out
             → PreparesSoundly S.view F.backing offset length overwrite self.old self.new out result }
@@ -264,7 +266,8 @@ impl<S: Storage, F: WrappedFormat<S>> Qcow2<S, F> {
         ensures own { IfOk result (λ p. image_of p ≡ number_of self.old) }
         ensures some { IfOk result (λ p. 0 < length → HasBytesBehind self.new.file.header.fields p) }
         ensures pinned { HasOwnTable self.old offset → PreparesUnpinned self.old offset result }
-        ensures existing { LiesInOwn self.old offset length → ExistsInTables self.new offset length result }
+        ensures existing { 0 < length → offset + length ≤ size_of self.old
+            → ExistsInTables self.new offset length result }
     {
         let table = self.writable_l2_table(offset)?;
         match self.existing_host(table, offset, length)? {
@@ -348,7 +351,7 @@ impl<S: Storage, F: WrappedFormat<S>> Qcow2<S, F> {
     ) -> Result<Prepared, ImageError>
         requires writable { IsTrue (is_writable self.old) }
         ensures step { AllocatingStepWhere S.view (0 < table) self.old self.new }
-        ensures fails { ImageFails S.view F.backing self.old self.new result MayFailPreparing }
+        ensures fails { ImageFails S.view F.backing self.old self.new result (MayFailPreparing self.new) }
         ensures sound { (out : List (Option Prepared))
             → ImageInvariant S.view F.backing (pending_in S.view F.backing self.old out) self.old out
             → HoldsTable S.view F.backing self.old offset table

@@ -104,7 +104,7 @@ impl<S: Storage, F: WrappedFormat<S>> Qcow2<S, F> {
         requires end { old ≡ size_of self.old }
         requires larger { old < size }
         ensures step { ImageStep S.view self.old self.new }
-        ensures fails { ImageFails S.view F.backing self.old self.new result (MayFailToGrow mode) }
+        ensures fails { ImageFails S.view F.backing self.old self.new result (MayFailToGrow self.new mode) }
         ensures sound { (out : List (Option Prepared))
             → ImageInvariant S.view F.backing (pending_in S.view F.backing self.old out) self.old out
             → FillsPart (FillsGrownOrRefuses S.view F.backing size mode self.old self.new out result)
@@ -132,7 +132,7 @@ impl<S: Storage, F: WrappedFormat<S>> Qcow2<S, F> {
         requires end { old ≡ size_of self.old }
         requires larger { old < size }
         ensures step { ImageStep S.view self.old self.new }
-        ensures fails { ImageFails S.view F.backing self.old self.new result (MayFailToGrow mode) }
+        ensures fails { ImageFails S.view F.backing self.old self.new result (MayFailToGrow self.new mode) }
         ensures sound { (out : List (Option Prepared))
             → ImageInvariant S.view F.backing (pending_in S.view F.backing self.old out) self.old out
             → FillsPart (FillsGrownOrRefuses S.view F.backing size mode self.old self.new out result)
@@ -163,7 +163,7 @@ impl<S: Storage, F: WrappedFormat<S>> Qcow2<S, F> {
         requires few { 2 ^ 21 ≤ most_of writes.now }
         requires zeros { AreZeros writes.now }
         ensures step { ImageStep S.view self.old self.new }
-        ensures fails { ImageFails S.view F.backing self.old self.new result MayFailPreparing }
+        ensures fails { ImageFails S.view F.backing self.old self.new result (MayFailPreparing self.new) }
         ensures sound { (out : List (Option Prepared))
             → ImageInvariant S.view F.backing (pending_in S.view F.backing self.old out) self.old out → old ≤ size
             → FillsPart (FillsOrRefuses S.view F.backing
@@ -186,7 +186,7 @@ impl<S: Storage, F: WrappedFormat<S>> Qcow2<S, F> {
     fn zero_grown(&mut self, old: u64, size: u64) -> Result<(), ImageError>
         requires writable { IsTrue (is_writable self.old) }
         ensures step { ImageStep S.view self.old self.new }
-        ensures fails { ImageFails S.view F.backing self.old self.new result (MayFailToGrow Zero) }
+        ensures fails { ImageFails S.view F.backing self.old self.new result (MayFailToGrow self.new Zero) }
         ensures sound { (out : List (Option Prepared))
             → ImageInvariant S.view F.backing (pending_in S.view F.backing self.old out) self.old out → old ≤ size
             → FillsPart (FillsOrRefuses S.view F.backing
@@ -218,7 +218,7 @@ impl<S: Storage, F: WrappedFormat<S>> Qcow2<S, F> {
     fn zero_between(&mut self, old: u64, from: u64, end: u64) -> Result<(), ImageError>
         requires writable { IsTrue (is_writable self.old) }
         ensures step { ImageStep S.view self.old self.new }
-        ensures fails { ImageFails S.view F.backing self.old self.new result MayFailPreparing }
+        ensures fails { ImageFails S.view F.backing self.old self.new result (MayFailPreparing self.new) }
         ensures sound { (out : List (Option Prepared))
             → ImageInvariant S.view F.backing (pending_in S.view F.backing self.old out) self.old out → old ≤ from
             → from ≤ end → IsWholeRange self.old.file.header.fields from end → 3 ≤ self.old.file.header.fields.version
@@ -237,7 +237,7 @@ impl<S: Storage, F: WrappedFormat<S>> Qcow2<S, F> {
     fn zero_range(&mut self, from: u64, to: u64) -> Result<(), ImageError>
         requires writable { IsTrue (is_writable self.old) }
         ensures step { ImageStep S.view self.old self.new }
-        ensures fails { ImageFails S.view F.backing self.old self.new result MayFailPreparing }
+        ensures fails { ImageFails S.view F.backing self.old self.new result (MayFailPreparing self.new) }
         ensures sound { (out : List (Option Prepared))
             → ImageInvariant S.view F.backing (pending_in S.view F.backing self.old out) self.old out → from ≤ to
             → IsWholeRange self.old.file.header.fields from to → 3 ≤ self.old.file.header.fields.version
@@ -257,7 +257,7 @@ impl<S: Storage, F: WrappedFormat<S>> Qcow2<S, F> {
     fn zero_first(&mut self, from: u64, to: u64) -> Result<u64, ImageError>
         requires writable { IsTrue (is_writable self.old) }
         ensures step { ImageStep S.view self.old self.new }
-        ensures fails { ImageFails S.view F.backing self.old self.new result MayFailPreparing }
+        ensures fails { ImageFails S.view F.backing self.old self.new result (MayFailPreparing self.new) }
         ensures sound { (out : List (Option Prepared))
             → ImageInvariant S.view F.backing (pending_in S.view F.backing self.old out) self.old out → from ≤ to
             → IsWholeRange self.old.file.header.fields from to → 3 ≤ self.old.file.header.fields.version
@@ -286,7 +286,7 @@ impl<S: Storage, F: WrappedFormat<S>> Qcow2<S, F> {
         requires few { 2 ^ 21 ≤ most_of writes.now }
         requires zeros { AreZeros writes.now }
         ensures step { ImageStep S.view self.old self.new }
-        ensures fails { ImageFails S.view F.backing self.old self.new result MayFailPreparing }
+        ensures fails { ImageFails S.view F.backing self.old self.new result (MayFailPreparing self.new) }
         ensures sound { (out : List (Option Prepared))
             → ImageInvariant S.view F.backing (pending_in S.view F.backing self.old out) self.old out → from ≤ to
             → to % cluster_size self.old.file.header.fields ≡ 0
@@ -310,7 +310,7 @@ impl<S: Storage, F: WrappedFormat<S>> Qcow2<S, F> {
         requires zeros { AreZeros writes.now }
         requires some { from < to }
         ensures step { ImageStep S.view self.old self.new }
-        ensures fails { ImageFails S.view F.backing self.old self.new result MayFailPreparing }
+        ensures fails { ImageFails S.view F.backing self.old self.new result (MayFailPreparing self.new) }
         ensures sound { (out : List (Option Prepared))
             → ImageInvariant S.view F.backing (pending_in S.view F.backing self.old out) self.old out
             → FillsPart (to % cluster_size self.old.file.header.fields ≡ 0

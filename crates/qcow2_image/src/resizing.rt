@@ -184,7 +184,8 @@ impl<S: Storage, F: WrappedFormat<S>> Qcow2<S, F> {
         ensures preallocation { refuses_to_resize self.old ≡ None → size_of self.old < size
             → IsTrue (takes_over self.old mode) → (result ≡ Err Preallocation) × (self.new ≡ self.old) }
         ensures late { refuses_to_resize self.old ≡ None
-            → IfErr result (λ e. MayFailToGrow mode e ⊎ ((e ≡ Preallocation) × IsTrue (takes_over self.old mode))) }
+            → IfErr result (λ e. MayFailToGrow self.new mode e
+            ⊎ ((e ≡ Preallocation) × IsTrue (takes_over self.old mode))) }
         ensures image { size_of self.old < size
             → IsResized (size_after result (size_of self.old) size) self.old self.new }
         ensures sees { GrowsTo S.view F.backing self.old self.new size mode result }
@@ -219,7 +220,7 @@ impl<S: Storage, F: WrappedFormat<S>> Qcow2<S, F> {
         requires writable { IsTrue (is_writable self.old) }
         requires larger { size_of self.old < size }
         ensures step { MarkedStep S.view F.backing self.old self.new result }
-        ensures cause { IfErr result (MayFailToGrow mode) }
+        ensures cause { IfErr result (MayFailToGrow self.new mode) }
         ensures sound { (out : List (Option Prepared)) → (abstract_of S.view F.backing self.old out).is_sound
             → GrowsSoundly S.view F.backing mode size self.old self.new out result }
         ensures image { IsResized (size_after result (size_of self.old) size) self.old self.new }

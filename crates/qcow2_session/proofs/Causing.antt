@@ -62,7 +62,7 @@ module _ {S F : Type 0} (view : S → StorageView) (backing : F → BackingView)
     misuse = misuse;
     still = λ is. absurd (never is);
     early = if_some_to (first_cause old command) (λ e no. absurd no) early;
-    late = λ _. subst (λ o. IfSome o (MayFailWith old new found command)) (sym done) tt;
+    late = λ _. subst (λ o. IfSome o (MayFailWith old new before found command)) (sym done) tt;
     may_fail = λ _ _. subst (λ o. IfSome o (CommandMayFailAllocating view old new before command)) (sym done) tt;
     idle = λ _ _. done;
     respects = respects;
@@ -74,14 +74,14 @@ module _ {S F : Type 0} (view : S → StorageView) (backing : F → BackingView)
 
   -- it was refused
   pub is_refused : (e : ImageError) (reply : Reply) → (reply ≡ R.Misuse → ⊥) → ReportsMisuse before found command reply → refusal_in reply ≡ Some e → IfSome (first_cause old command) (λ x. (e ≡ x) × (new ≡ old))
-      → (first_cause old command ≡ None → MayFailWith old new found command e) → (first_cause old command ≡ None → (abstract_of view backing old before).is_sound → CommandMayFailAllocating view old new before command e)
+      → (first_cause old command ≡ None → MayFailWith old new before found command e) → (first_cause old command ≡ None → (abstract_of view backing old before).is_sound → CommandMayFailAllocating view old new before command e)
       → (first_cause old command ≡ None → HasNothingToDo view backing old new before command → ⊥)
       → (first_cause old command ≡ None → (abstract_of view backing old before).is_sound → MayFailOnSound view backing old new before found command reply) → RefusalJustified view backing old new before found command reply
   is_refused e reply never misuse is early late may_fail idle respects = record {
     misuse = misuse;
     still = λ is. absurd (never is);
     early = if_some_to (first_cause old command) (λ x h. (inl (is ∙ ap Some h.0), h.1)) early;
-    late = λ none. subst (λ o. IfSome o (MayFailWith old new found command)) (sym is) (late none);
+    late = λ none. subst (λ o. IfSome o (MayFailWith old new before found command)) (sym is) (late none);
     may_fail = λ none sound. subst (λ o. IfSome o (CommandMayFailAllocating view old new before command)) (sym is) (may_fail none sound);
     idle = λ none nothing. absurd (idle none nothing);
     respects = respects;
@@ -220,9 +220,9 @@ grow_meets e old size takes none larger (inr mode) = absurd (elim (cases_lt old 
 
 module _ {S F : Type 0} (view : S → StorageView) (backing : F → BackingView) (old new : Qcow2 S F) (before : List (Option Prepared)) {found : ℕ → Option Mapping} (offset n : ℕ) (how : Clearing) (command : Command)
     (cause : first_cause old command ≡ refuses_clearing old offset n how) (nothing : HasNothingToDo view backing old new before command → to_in old offset n ≤ from_in old offset n)
-    (may : (e : ImageError) → MayFailPreparing e → MayFailWith old new found command e) (taking : (e : ImageError) → ClearingMayFail view old new before offset n e → CommandMayFailAllocating view old new before command e) (heed : (reply : Reply) → IsUntouchedUnder view backing old new before offset n reply → MayFailOnSound view backing old new before found command reply)
+    (may : (e : ImageError) → MayFailPreparing new e → MayFailWith old new before found command e) (taking : (e : ImageError) → ClearingMayFail view old new before offset n e → CommandMayFailAllocating view old new before command e) (heed : (reply : Reply) → IsUntouchedUnder view backing old new before offset n reply → MayFailOnSound view backing old new before found command reply)
     (misuse : (reply : Reply) → (reply ≡ R.Misuse → ⊥) → ReportsMisuse before found command reply) where
-  clears_as : (r : Result (ℕ × ℕ) ImageError) → IfSome (refuses_clearing old offset n how) (λ e. (r ≡ Err e) × (new ≡ old)) → (refuses_clearing old offset n how ≡ None → IfErr r MayFailPreparing) → (refuses_clearing old offset n how ≡ None → (abstract_of view backing old before).is_sound → IfErr r (ClearingMayFail view old new before offset n))
+  clears_as : (r : Result (ℕ × ℕ) ImageError) → IfSome (refuses_clearing old offset n how) (λ e. (r ≡ Err e) × (new ≡ old)) → (refuses_clearing old offset n how ≡ None → IfErr r (MayFailPreparing new)) → (refuses_clearing old offset n how ≡ None → (abstract_of view backing old before).is_sound → IfErr r (ClearingMayFail view old new before offset n))
       → (refuses_clearing old offset n how ≡ None → to_in old offset n ≤ from_in old offset n → (r ≡ Ok (from_in old offset n, 0)) × (new ≡ old))
       → (refuses_clearing old offset n how ≡ None → from_in old offset n < to_in old offset n → (abstract_of view backing old before).is_sound → IfErr r (λ e. e ≡ I.TablePrepared → IsUnderMapping old.file.header.fields (from_in old offset n) before) × IfOk r (λ range. ¬ IsUnderMapping old.file.header.fields (from_in old offset n) before))
       → RefusalJustified view backing old new before found command (reply_of_clearing r)
@@ -235,7 +235,7 @@ module _ {S F : Type 0} (view : S → StorageView) (backing : F → BackingView)
       (λ none is. let no : (◌≡◌ {A = Result (ℕ × ℕ) ImageError} (Err e) (Ok (from_in old offset n, 0))) = (idle (sym cause ∙ none) (nothing is)).0 in absurd cc)
       (λ none sound. heed (R.Refused e) (λ some is. (under (sym cause ∙ none) some sound).0 (some_error is)))
 
-  pub clears_rightly : (r : Result (ℕ × ℕ) ImageError) (reply : Reply) → reply ≡ reply_of_clearing r → IfSome (refuses_clearing old offset n how) (λ e. (r ≡ Err e) × (new ≡ old)) → (refuses_clearing old offset n how ≡ None → IfErr r MayFailPreparing) → (refuses_clearing old offset n how ≡ None → (abstract_of view backing old before).is_sound → IfErr r (ClearingMayFail view old new before offset n))
+  pub clears_rightly : (r : Result (ℕ × ℕ) ImageError) (reply : Reply) → reply ≡ reply_of_clearing r → IfSome (refuses_clearing old offset n how) (λ e. (r ≡ Err e) × (new ≡ old)) → (refuses_clearing old offset n how ≡ None → IfErr r (MayFailPreparing new)) → (refuses_clearing old offset n how ≡ None → (abstract_of view backing old before).is_sound → IfErr r (ClearingMayFail view old new before offset n))
       → (refuses_clearing old offset n how ≡ None → to_in old offset n ≤ from_in old offset n → (r ≡ Ok (from_in old offset n, 0)) × (new ≡ old))
       → (refuses_clearing old offset n how ≡ None → from_in old offset n < to_in old offset n → (abstract_of view backing old before).is_sound → IfErr r (λ e. e ≡ I.TablePrepared → IsUnderMapping old.file.header.fields (from_in old offset n) before) × IfOk r (λ range. ¬ IsUnderMapping old.file.header.fields (from_in old offset n) before))
       → RefusalJustified view backing old new before found command reply

@@ -53,7 +53,8 @@ pub use Rattle.qcow2_image.specs.Calls.{refusal_of, AnswersCall, reason_of, Comm
 pub use Rattle.qcow2_image.specs.Clearing.{IsUnderMapping, from_in, refuses_clearing, to_in, setting_of}
 pub use Rattle.qcow2_image.specs.Faults.{CountsImageFaults, IsNotOfStorage, SameFaults, NoFewerFaults, ReportsFault}
 pub use Rattle.qcow2_image.specs.Found.{l1_index_of, IsFoundWhole, found_kind, further_by, mapping_of}
-pub use Rattle.qcow2_image.specs.Image.{is_failed, is_external, is_writable, size_of, number_of, IsSameImage, storage_of_image, HasNothingToFree}
+pub use Rattle.qcow2_image.specs.HeldMappings.{FitsTables, IsCompressedInTables, IsHeldAs, IsHeldRun, RefusesHeld}
+pub use Rattle.qcow2_image.specs.Image.{HasPinnedTable, is_failed, is_external, is_writable, size_of, number_of, IsSameImage, storage_of_image, HasNothingToFree}
 pub use Rattle.qcow2_image.specs.ImageInvariant.{abstract_of, ImageInvariant, disk_of, pending_in, meaning, backing_bytes, IsReadyWith, image_abstraction, to_free, of_tables, of_data, IsPending, cluster_of, pins_by, IsHonestBacking}
 pub use Rattle.qcow2_image.specs.L1Entries.{NeedsOverflowingL1Entry}
 pub use Rattle.qcow2_image.specs.Limits.{IsLimited, IfLimit}
@@ -66,6 +67,7 @@ pub use Rattle.qcow2_image.specs.Preallocation.{IsUnderMappingIn}
 pub use Rattle.qcow2_image.specs.Prepared.{IsHandedBackBy, guest_offset_of, length_of, offset_of, table_of, image_of}
 pub use Rattle.qcow2_image.specs.Preparing.{IsAnswered, IsTaken, IsOfNothing}
 pub use Rattle.qcow2_image.specs.Ranges.{ReleasesOneMapping}
+pub use Rattle.qcow2_image.specs.PinnedTables.{ExistsInTables}
 pub use Rattle.qcow2_image.specs.Refusals.{refuse_if, passes, unusable, refuses_to_read, refuses_to_prepare, refuses_mapping, MayFail, MayFailToRead, MayFailPreparing, IsUnlimited, MarksFailed, MarksRefused, failed_after}
 pub use Rattle.qcow2_image.specs.Resizing.{refuses_to_resize, GrowsTo, Shrinks, WritesSizeLast, IsResized, takes_over}
 pub use Rattle.qcow2_image.specs.Unwritten.{ReadsQuietly, ContentsStayThroughout, HoldsNothingModified}

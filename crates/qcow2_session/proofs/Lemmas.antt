@@ -11,7 +11,7 @@ pub use Rattle.qcow2_session.proofs.Exporting.{part_of_disk, unchanged_refused, 
 pub use Rattle.qcow2_session.proofs.FailingOnSound.{compressed_within, reads_part, memory_looking, looking_prepared, found_there, reads_found, compressed_in_part, existing_found, existing_long, existing_near, put_unlimited, compressed_behind, put_looking}
 pub use Rattle.qcow2_session.proofs.Marking.{cleared_at_once, refused_none, answered_at_once, in_parts, refused_at_once, parts_answered, parts_handed, at_rest, commit_at_once, memory_marks, unmarked, parts_behind, parts_beyond, none_answered, once_handed, unchecked, parts_before, call_at_once}
 pub use Rattle.qcow2_session.proofs.Meanings.{found_at, none_at, does_commit, refuses_commit, does_discard, found_set, taken, untaken, so_in_slot, host_at, prepared_at, does_prepare, found_fits, isnt_beyond, is_beyond, live, mapped_here, passes_mapped, ranges_after, does_put, refuses_put, is_past}
-pub use Rattle.qcow2_session.proofs.Parts.{not_failed_yet, part_reads, part_under, mapping_usable, part_prepares, prepares_usable, under_taken, prepares_within, prepares_writable, put_met}
+pub use Rattle.qcow2_session.proofs.Parts.{not_failed_yet, part_reads, part_under, mapping_usable, part_prepares, prepares_usable, under_taken, prepares_within, prepares_writable, put_current, put_met, found_current}
 pub use Rattle.qcow2_session.proofs.Places.{set_again, get_front, last_none, last_release, surplus_none}
 pub use Rattle.qcow2_session.proofs.Quiet.{quiet_left, quiet_image, quiet_commit, quiet_release, quiet_silent, along_quietly}
 pub use Rattle.qcow2_session.proofs.Runs.{GoesOn, command_step_on, map_more}

@@ -1,10 +1,36 @@
 -- If no check refuses a whole range, a part of the range is refused only for causes that come during the work.
-use Rattle.std.proofs.Common.{◌≡◌, ◌+◌, ◌<◌, ◌≤◌, ◌&&◌, ◌∙◌, inl, inr, ℕ, Bool, true, false, not, IsTrue, List, Option, Some, None, refl, sym, ap, arith}
-use Rattle.qcow2_session.proofs.Common.{nat_lt, option_or, cases_Bool, cases_lt, common_steps, Bytes, cluster_size, HeaderFields, ImageError, IsUnderMapping, IsSameImage, is_external, is_failed, is_writable, number_of, size_of, IsUnderMappingIn, IsTaken, MayFail, passes, refuse_if, refuses_mapping, refuses_to_prepare, refuses_to_read, unusable, Qcow2, Prepared}
+use Rattle.qcow2_image.specs.declared.mapping.Place.TheVariants.{Image}
+use Rattle.qcow2_image.specs.declared.mapping.MappingKind.TheVariants.{Raw}
+use Rattle.qcow2_image.proofs.Map.Held.{mapped_less}
+use Rattle.std.proofs.Common.{◌≡◌, ◌+◌, ◌<◌, ◌≤◌, ◌&&◌, ◌∙◌, inl, inr, ℕ, Bool, true, false, not, IsTrue, List, Option, Some, None, refl, sym, ap, arith, subst, Ok, Err, Result, is_some, IsSome}
+use Rattle.qcow2_session.proofs.Common.{nat_lt, option_or, cases_Bool, cases_lt, common_steps, Bytes, cluster_size, HeaderFields, ImageError, IsUnderMapping, IsSameImage, is_external, is_failed, is_writable, number_of, size_of, IsUnderMappingIn, IsTaken, MayFail, passes, refuse_if, refuses_mapping, refuses_to_prepare, refuses_to_read, unusable, Qcow2, Prepared, table_of, ExistsInTables, FitsTables, IsHeldAs, Mapping, further_by, IsHeldRun}
 use Rattle.qcow2_alloc.specs.declared.error.ImageError.TheVariants as I
 use Rattle.qcow2_session.proofs.Beyond.{part_passes}
 use Rattle.qcow2_session.proofs.Causing.{own_mapping, put_writes, then_none}
 use Rattle.qcow2_session.proofs.Untaken.{row_as}
+
+-- the bytes of an existing mapping are not outdated right after it was prepared
+pub put_current : {S F : Type 0} (mid new : Qcow2 S F) (p : Prepared) (offset n k : ℕ) (e : ImageError) → ExistsInTables mid offset n (Ok p) → k ≤ n → (IsSome (table_of p) → ◌≡◌ {A = Result (Unit {0}) ImageError} (Err e) (Err I.OutdatedMapping) → ⊥)
+    → (table_of p ≡ None → FitsTables mid new (p.guest + 0) {A = Unit {0}} (Raw Image (p.offset + 0) true) k (Err e)) → e ≡ I.OutdatedMapping → ⊥
+put_current mid new p offset n k e exists le private held outdated = by (table_of p) refl where
+  by : (t : Option ℕ) → table_of p ≡ t → ⊥
+  by (Some table) is = private (subst (λ (t : Option ℕ). IsSome t) (sym is) refl) (ap Err outdated)
+  by None is =
+      let there = exists is in
+      let whole : IsHeldAs mid (p.guest + 0) (Raw Image (p.offset + 0) true) n =
+      subst (λ at. IsHeldAs mid at (Raw Image (p.offset + 0) true) n) (let guest : p.guest ≡ offset = there.0 in let same : offset ≡ p.guest + 0 = omega (arith, guest) in same)
+      (subst (λ host. IsHeldAs mid offset (Raw Image host true) n) (let same : p.offset ≡ p.offset + 0 = omega arith in same) there.1) in
+      ((held is).outdated outdated).0 (mapped_less mid.file.header.fields (is_some mid.backing) mid.l1_table mid.file.caches (p.guest + 0) (Raw Image (p.offset + 0) true) k n le whole)
+
+-- what was just looked up is not outdated
+pub found_current : {S F : Type 0} (mid new : Qcow2 S F) (m : Mapping) (size offset max n k : ℕ) (e : ImageError) → m.offset ≡ offset → further_by 0 m.kind ≡ m.kind → (size ≤ offset → n ≡ 0) → 0 < n → k ≡ n → (offset < size → IsHeldRun mid offset max m.kind n)
+    → FitsTables mid new (m.offset + 0) {A = Unit {0}} (further_by 0 m.kind) k (Err e) → e ≡ I.OutdatedMapping → ⊥
+found_current mid new m size offset max n k e place whole past some long held fits outdated = elim (cases_lt offset size) [
+  | inl lt ↦ (fits.outdated outdated).0
+      (subst (λ at. IsHeldAs mid at (further_by 0 m.kind) k) (let same : offset ≡ m.offset + 0 = omega (arith, place) in same)
+      (subst (λ kind. IsHeldAs mid offset kind k) (sym whole) (subst (λ c. IsHeldAs mid offset m.kind c) (sym long) (held lt).mapped)))
+  | inr le ↦ absurd (let none = past le in omega (arith, none, some))
+]
 
 both_none : (a b : Bool) → option_or (refuse_if a I.Failed) (refuse_if b I.Dependency) ≡ None → (a ≡ false) × (b ≡ false)
 both_none true b none = absurd (let no : Some I.Failed ≡ None = none in cc)
@@ -58,14 +84,15 @@ module _ {S F : Type 0} (old mid : Qcow2 S F) (same : IsSameImage old mid) where
   pub mapping_usable : (number : ℕ) → number ≡ number_of old → is_failed mid ≡ is_failed old → unusable old ≡ None → refuses_mapping mid number ≡ None
   mapping_usable number own works none = own_mapping mid number (own ∙ sym same.number) ∙ still_usable (works ∙ not_failed_yet none) none
 
-  -- what a put of k of n bytes is refused for
+  -- what a put of k of n bytes is refused for, if the range is mapped as it was prepared
   pub put_met : (number offset n k : ℕ) (e : ImageError) → number ≡ number_of old → is_failed mid ≡ is_failed old → (n ≡ 0 → k ≡ 0) → refuses_to_prepare old offset n ≡ None
-      → (refuses_mapping mid number ≡ None → IsTrue (is_writable mid) → MayFail e) → (refuses_mapping mid number ≡ None → k ≡ 0 → ⊥) → MayFail e
-  put_met number offset n k e own works none_of_none none late nothing =
+      → (refuses_mapping mid number ≡ None → IsTrue (is_writable mid) → (e ≡ I.OutdatedMapping → ⊥) → MayFail e) → (refuses_mapping mid number ≡ None → k ≡ 0 → ⊥) → (refuses_mapping mid number ≡ None → 0 < n → 0 < k → e ≡ I.OutdatedMapping → ⊥) → MayFail e
+  put_met number offset n k e own works none_of_none none late nothing current =
       let whole = three_none (unusable old) (passes (size_of old) offset n) (nat_lt 0 n && not (is_writable old)) none in
       let usable = mapping_usable number own works whole.0 in
       elim (cases_lt 0 n) [
         | inl some ↦ late usable (same.writable ∙ put_writes n (is_writable old) whole.2 some)
+            (elim (cases_lt 0 k) [ inl more ↦ current usable some more | inr least ↦ absurd (nothing usable (omega (arith, least))) ])
         | inr least ↦ absurd (nothing usable (none_of_none (omega (arith, least))))
       ]
 

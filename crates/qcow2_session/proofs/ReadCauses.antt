@@ -9,12 +9,12 @@ module _ {S F : Type 0} where
   finding_from old new at n from to e begins ends (inl unaligned) = inr (inr (inr (inl (unaligned.0, record { at = at; length = n; begins = begins; ends = ends; unaligned = unaligned.1 }))))
   finding_from old new at n from to e begins ends (inr (inl used)) = inr (inr (inl (used.0, used.1.1)))
   finding_from old new at n from to e begins ends (inr (inr (inl fault))) = inl fault
-  finding_from old new at n from to e begins ends (inr (inr (inr limit))) = inr (inl (inl limit.0))
+  finding_from old new at n from to e begins ends (inr (inr (inr limit))) = inr (inl limit.0)
 
-  pub found_from : (old new : Qcow2 S F) (at n from to : ℕ) (e : ImageError) → from ≤ at → at + n ≤ to → MayFailReadingFound old new at n e → MayFailReadingFrom new from to e
-  found_from old new at n from to e begins ends (inl (inl finding)) = finding_from old new at n from to e begins ends finding
-  found_from old new at n from to e begins ends (inl (inr outdated)) = inr (inl (inr outdated))
-  found_from old new at n from to e begins ends (inr compressed) = inr (inr (inr (inr (compressed.0, record { at = at; begins = begins; ends = omega (arith, ends); compressed = compressed.1 }))))
+  pub found_from : (old new : Qcow2 S F) (at n from to : ℕ) (e : ImageError) → from ≤ at → at + n ≤ to → (e ≡ I.OutdatedMapping → ⊥) → MayFailReadingFound old new at n e → MayFailReadingFrom new from to e
+  found_from old new at n from to e begins ends current (inl (inl finding)) = finding_from old new at n from to e begins ends finding
+  found_from old new at n from to e begins ends current (inl (inr outdated)) = absurd (current outdated)
+  found_from old new at n from to e begins ends current (inr compressed) = inr (inr (inr (inr (compressed.0, record { at = at; begins = begins; ends = omega (arith, ends); compressed = compressed.1 }))))
 
   -- so it is of a longer range
   pub reading_longer : (image : Qcow2 S F) (from to from' to' : ℕ) (e : ImageError) → from' ≤ from → to ≤ to' → MayFailReadingFrom image from to e → MayFailReadingFrom image from' to' e
@@ -35,8 +35,7 @@ module _ {S F : Type 0} where
   pub from_read : (image : Qcow2 S F) (from to : ℕ) (e : ImageError) → MayFailReadingFrom image from to e → MayFailToRead e
   from_read image from to e (inl (inl is)) = subst MayFailToRead (sym is) tt
   from_read image from to e (inl (inr is)) = subst MayFailToRead (sym is) tt
-  from_read image from to e (inr (inl (inl is))) = subst MayFailToRead (sym is) tt
-  from_read image from to e (inr (inl (inr is))) = subst MayFailToRead (sym is) tt
+  from_read image from to e (inr (inl is)) = subst MayFailToRead (sym is) tt
   from_read image from to e (inr (inr (inl used))) = subst MayFailToRead (sym used.0) tt
   from_read image from to e (inr (inr (inr (inl unaligned)))) = subst MayFailToRead (sym unaligned.0) tt
   from_read image from to e (inr (inr (inr (inr compressed)))) = subst MayFailToRead (sym compressed.0) tt

@@ -48,19 +48,19 @@ own_offset offset (suc n) (Ok None) some none = absurd (let no : None ≡ Some o
 own_offset offset (suc n) (Ok (Some at)) some none = let same : Some at ≡ Some offset = some (omega arith) in cc
 
 -- what an image's call reports is reported
-pub told_specially : (known : Bytes) (offset n : ℕ) (r : Result (Unit {0}) ImageError) → (0 < n → IsErr r) → (n ≡ 0 → r ≡ Ok tt) → IfErr r (λ e. MayFailToRead e ⊎ (e ≡ I.NotCompressed offset)) → (0 < n → IfErr r (ReportsCompressed known offset)) → ReportsSpecial known offset n r
-told_specially known offset n (Ok _) some none may_fail reports = done_empty n (Ok tt) some
-told_specially known offset n (Err e) fails none may_fail reports =
+pub told_specially : (Plain : Type 0) (known : Bytes) (offset n : ℕ) (r : Result (Unit {0}) ImageError) → (0 < n → IsErr r) → (n ≡ 0 → r ≡ Ok tt) → IfErr r (λ e. MayFailToRead e ⊎ ((e ≡ I.NotCompressed offset) × Plain)) → (0 < n → IfErr r (ReportsCompressed known offset)) → ReportsSpecial known offset n r
+told_specially Plain known offset n (Ok _) some none may_fail reports = done_empty n (Ok tt) some
+told_specially Plain known offset n (Err e) fails none may_fail reports =
     let some = some_bytes n e (Err e) tt refl none in
     refused_specially known offset n e (λ is. (some, (reports some).0 is)) (λ at is. plain at is may_fail)
   where
-    plain : (at : ℕ) → e ≡ I.NotCompressed at → MayFailToRead e ⊎ (e ≡ I.NotCompressed offset) → IsRightlySpecial known offset n (not_compressed at)
+    plain : (at : ℕ) → e ≡ I.NotCompressed at → MayFailToRead e ⊎ ((e ≡ I.NotCompressed offset) × Plain) → IsRightlySpecial known offset n (not_compressed at)
     plain at is (inl may_fail) = absurd (subst MayFailToRead is may_fail)
     plain at is (inr own) =
-        let same : I.NotCompressed at ≡ I.NotCompressed offset = sym is ∙ own in
+        let same : I.NotCompressed at ≡ I.NotCompressed offset = sym is ∙ own.0 in
         let here : at ≡ offset = cc in
         let some = some_bytes n e (Err e) tt refl none in
-        (some, here, (reports some).1 own)
+        (some, here, (reports some).1 own.0)
 
 some_plain : (n at : ℕ) (r : Result (Option ℕ) ImageError) → r ≡ Ok (Some at) → (n ≡ 0 → r ≡ Ok None) → 0 < n
 some_plain zero at r is none = absurd (let no : Ok (Some at) ≡ Ok None = sym is ∙ none refl in let inner : Some at ≡ None = cc in cc)

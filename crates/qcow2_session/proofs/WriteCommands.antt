@@ -31,7 +31,7 @@ module _ {S F : Type 0} (view : S → StorageView) (backing : F → BackingView)
     pub cause : first_cause old command ≡ refuses_to_prepare old offset (length bytes)
     pub marks : (reason : Option ImageError) → MarksInParts view reason old new → MarksBy view old new command reason
     pub misuse : (reply : Reply) → (reply ≡ R.Misuse → ⊥) → ReportsMisuse before found command reply
-    pub may : (e : ImageError) → MayFailPreparing e → MayFailWith old new found command e
+    pub may : (e : ImageError) → MayFailPreparing new e → MayFailWith old new before found command e
     pub taking : (e : ImageError) → WriteMayFailAllocating view old new before offset (length bytes) e → CommandMayFailAllocating view old new before command e
     pub idle : HasNothingToDo view backing old new before command → length bytes ≡ 0
     pub respects : (reply : Reply) → (refusal_in reply ≡ Some I.TablePrepared → IsUnderMappingIn old.file.header.fields offset (offset + length bytes) before) × StopsRightly view backing old new before offset bytes reply → MayFailOnSound view backing old new before found command reply

@@ -84,7 +84,7 @@ module _ {S F : Type 0} (view : S → StorageView) (backing : F → BackingView)
     -- Why a write is refused. The causes that are checked before any work leave the image the same.
     pub record RefusesToWrite (offset n : ℕ) : Type 0 where
       pub early : IfSome (refuses_to_prepare old offset n) (λ e. (result ≡ Err e) × (new ≡ old))
-      pub late : refuses_to_prepare old offset n ≡ None → IfErr result (λ e. MayFailPreparing e × (0 < n))
+      pub late : refuses_to_prepare old offset n ≡ None → IfErr result (λ e. MayFailPreparing new e × (0 < n))
       pub beyond : IfErr result (IsRightlyBeyond old offset n)
       pub cause : IfErr result IsOfWriting
 
@@ -111,7 +111,7 @@ module _ {S F : Type 0} (view : S → StorageView) (backing : F → BackingView)
     -- Why a write is refused, and that it wrote no more than it was given. The causes that are checked before any work leave the image the same.
     pub record WriteFails (offset n : ℕ) : Type 0 where
       pub early : IfSome (refuses_to_prepare old offset n) (λ e. (result ≡ Err (e, 0)) × (new ≡ old))
-      pub late : refuses_to_prepare old offset n ≡ None → IfErr result (λ (e, k). MayFailPreparing e × (0 < n))
+      pub late : refuses_to_prepare old offset n ≡ None → IfErr result (λ (e, k). MayFailPreparing new e × (0 < n))
       pub within : IfErr result (λ (e, k). k ≤ n)
       pub beyond : IfErr result (λ (e, k). IsRightlyBeyond old offset n e)
       pub cause : IfErr result (λ (e, k). IsOfWriting e)

@@ -16,16 +16,17 @@ use Rattle.qcow2_alloc.specs.declared.error.ImageError.{ImageError}
 use Rattle.qcow2_image.specs.Backings.{HasPinnedMapping}
 use Rattle.qcow2_image.specs.Clearing.{IsUnderMapping, from_in, refuses_clearing, to_in}
 use Rattle.qcow2_image.specs.Found.{IsFoundWhole, further_by}
+use Rattle.qcow2_image.specs.HeldMappings.{IsCompressedInTables, RefusesHeld}
 use Rattle.qcow2_image.specs.Image.{is_failed, is_writable, size_of}
 use Rattle.qcow2_image.specs.ImageInvariant.{abstract_of}
 use Rattle.qcow2_image.specs.Invalidated.{IsOfPrepared, IsStillInUse, MayFailToInvalidate}
 use Rattle.qcow2_image.specs.L1Entries.{NeedsOverflowingL1Entry}
-use Rattle.qcow2_image.specs.LookupCauses.{MayFailFinding, MayFailReadingFound, MayFailTelling}
+use Rattle.qcow2_image.specs.LookupCauses.{MayFailFinding, MayFailPuttingAt, MayFailReadingFound, MayFailTelling}
 use Rattle.qcow2_image.specs.MayFail.{CopiesCompressed, IsCacheHeld, MayFailLooking, MayFailMapped, MayFailPutting, MayFailReadingRange, MayFailSpecial, MayFailGrowing, MayFailAllocating}
 use Rattle.qcow2_image.specs.Preallocation.{IsUnderMappingIn}
 use Rattle.qcow2_image.specs.Prepared.{length_of, table_of}
 use Rattle.qcow2_image.specs.Preparing.{IsTaken}
-use Rattle.qcow2_image.specs.Refusals.{MayFail, MayFailPreparing, MayFailToGrow, refuse_if, refuses_to_prepare, refuses_to_read, unusable}
+use Rattle.qcow2_image.specs.Refusals.{MayFailPreparing, MayFailToGrow, refuse_if, refuses_to_prepare, refuses_to_read, unusable}
 use Rattle.qcow2_image.specs.Resizing.{boundary_in, refuses_to_resize, takes_over}
 use Rattle.qcow2_image.specs.declared.image.Qcow2.{Qcow2}
 use Rattle.qcow2_image.specs.declared.mapping.Mapping.{Mapping}
@@ -90,31 +91,35 @@ ReportsMisuse before found command reply = (reply ≡ R.Misuse) ↔ IsMisused be
 
 -- ---- during the work
 
-module _ {S F : Type 0} (old new : Qcow2 S F) (found : ℕ → Option Mapping) where
+module _ {S F : Type 0} (old new : Qcow2 S F) (before : List (Option Prepared)) (found : ℕ → Option Mapping) where
+  -- Why reading a range that was looked up is refused. It is refused 10 only if the tables in memory map it differently, and 7 only if it is compressed.
+  abbrev pub MayFailReadingAt : Mapping → (at n : ℕ) → ImageError → Type 0
+  MayFailReadingAt m at n e = MayFailReadingFound old new (m.offset + at) n e × RefusesHeld old new (m.offset + at) (further_by at m.kind) n e
+
   -- The refusals of a command that no check refused, whatever the image contains.
   abbrev pub MayFailWith : Command → ImageError → Type 0
   MayFailWith (C.Read offset n) e = MayFailReadingFrom new offset (offset + n) e
-  MayFailWith (C.Write offset bytes) e = MayFailPreparing e
-  MayFailWith (C.Fill offset n byte) e = MayFailPreparing e
+  MayFailWith (C.Write offset bytes) e = MayFailPreparing new e
+  MayFailWith (C.Fill offset n byte) e = MayFailPreparing new e
   MayFailWith (C.GetMapping slot offset max) e = MayFailFinding old new offset max e
-  MayFailWith (C.ReadMapped slot at n) e = (m : Mapping) × (found slot ≡ Some m) × MayFailReadingFound old new (m.offset + at) n e
-  MayFailWith (C.PrepareDataMapping slot offset n overwrite) e = MayFailPreparing e
+  MayFailWith (C.ReadMapped slot at n) e = (m : Mapping) × (found slot ≡ Some m) × MayFailReadingAt m at n e
+  MayFailWith (C.PrepareDataMapping slot offset n overwrite) e = MayFailPreparing new e
   MayFailWith (C.CommitDataMapping slot) e = IsOfTables e
   MayFailWith (C.DiscardDataMapping slot) e = ⊥
-  MayFailWith (C.EnsureZeroMapping offset n) e = MayFailPreparing e
-  MayFailWith (C.DiscardToZero offset n) e = MayFailPreparing e
-  MayFailWith (C.DiscardToAny offset n) e = MayFailPreparing e
-  MayFailWith (C.DiscardToBacking offset n) e = MayFailPreparing e
-  MayFailWith (C.ReadvSpecial offset n) e = MayFailTelling old new offset 1 e ⊎ (e ≡ I.NotCompressed offset)
+  MayFailWith (C.EnsureZeroMapping offset n) e = MayFailPreparing new e
+  MayFailWith (C.DiscardToZero offset n) e = MayFailPreparing new e
+  MayFailWith (C.DiscardToAny offset n) e = MayFailPreparing new e
+  MayFailWith (C.DiscardToBacking offset n) e = MayFailPreparing new e
+  MayFailWith (C.ReadvSpecial offset n) e = MayFailTelling old new offset 1 e ⊎ ((e ≡ I.NotCompressed offset) × ¬ IsCompressedInTables new offset)
   MayFailWith (C.TryReadvSpecial offset n) e = MayFailTelling old new offset 1 e
   MayFailWith C.Flush e = IsOfTables e
   MayFailWith C.Sync e = IsFault e
   MayFailWith C.InvalidateCache e = MayFailToInvalidate e
-  MayFailWith (C.ResizeGrow size mode) e = MayFailToGrow mode e
+  MayFailWith (C.ResizeGrow size mode) e = MayFailToGrow new mode e
   MayFailWith (C.ResizeShrink size) e = IsFault e ⊎ (e ≡ I.MappingPrepared)
   MayFailWith C.Size e = ⊥
   MayFailWith C.Leaked e = ⊥
-  MayFailWith command e = MayFail e
+  MayFailWith (C.WriteMapped slot at bytes) e = (p : Prepared) × (slice_get before slot ≡ Some (Some p)) × MayFailPuttingAt old new p at (length bytes.items) e
 
 module _ {S F : Type 0} (view : S → StorageView) (old new : Qcow2 S F) (before : List (Option Prepared)) where
   -- Why clearing a range of a sound image is refused: a fault; a limit; 20; 8, if a mapping is pinned; or 9, if one is pinned in the L2 table of the first offset.
@@ -188,8 +193,8 @@ module _ {S F : Type 0} (view : S → StorageView) (backing : F → BackingView)
   abbrev pub MayFailLookedUp : (found : ℕ → Option Mapping) → (slot at n : ℕ) → ImageError → Type 0
   MayFailLookedUp found slot at n e = (m : Mapping) × (found slot ≡ Some m) × MayFailMapped (IsCacheHeld old before) (further_by at m.kind) (IsFoundWhole view old (m.offset + at) (further_by at m.kind) n) e
 
-  abbrev pub MayFailPuttingAt : (slot at : ℕ) → ImageError → Type 0
-  MayFailPuttingAt slot at e = (p : Prepared) × (slice_get before slot ≡ Some (Some p)) × MayFailPutting (IsCacheHeld old before) p at e
+  abbrev pub MayFailPuttingOnSound : (slot at : ℕ) → ImageError → Type 0
+  MayFailPuttingOnSound slot at e = (p : Prepared) × (slice_get before slot ≡ Some (Some p)) × MayFailPutting (IsCacheHeld old before) p at e
 
   -- A write is refused 13 only if it passed a limit, and 20 only if the rest of its range, after the bytes that were written, has that cause. Each of its parts respects the prepared mappings.
   abbrev pub StopsRightly : (offset : ℕ) → List ℕ → Reply → Type 0
@@ -212,7 +217,7 @@ module _ {S F : Type 0} (view : S → StorageView) (backing : F → BackingView)
   MayFailOnSound found (C.PrepareDataMapping slot offset n overwrite) reply = IsUntakenIn offset n reply
   MayFailOnSound found (C.GetMapping slot offset max) reply = IfSome (refusal_in reply) (MayFailLooking (IsCacheHeld old before))
   MayFailOnSound found (C.ReadMapped slot at n) reply = ReadsLookedUp found slot at n reply × IfSome (refusal_in reply) (MayFailLookedUp found slot at n)
-  MayFailOnSound found (C.WriteMapped slot at bytes) reply = (refusal_in reply ≡ Some I.OutdatedMapping → IsOutdatedAt slot at (length bytes.items)) × IfSome (refusal_in reply) (MayFailPuttingAt slot at)
+  MayFailOnSound found (C.WriteMapped slot at bytes) reply = (refusal_in reply ≡ Some I.OutdatedMapping → IsOutdatedAt slot at (length bytes.items)) × IfSome (refusal_in reply) (MayFailPuttingOnSound slot at)
   MayFailOnSound found (C.CommitDataMapping slot) reply = IfSome (refusal_in reply) IsFault
   MayFailOnSound found C.InvalidateCache reply = RespectsInUse reply
   MayFailOnSound found C.Flush reply = IfSome (refusal_in reply) IsFault
@@ -234,7 +239,7 @@ module _ {S F : Type 0} (view : S → StorageView) (backing : F → BackingView)
     pub misuse : ReportsMisuse before found command reply
     pub still : reply ≡ R.Misuse → new ≡ old
     pub early : IfSome (first_cause old command) (λ e. ((refusal_in reply ≡ Some e) ⊎ (reply ≡ R.Misuse)) × (new ≡ old))
-    pub late : first_cause old command ≡ None → IfSome (refusal_in reply) (MayFailWith old new found command)
+    pub late : first_cause old command ≡ None → IfSome (refusal_in reply) (MayFailWith old new before found command)
     pub may_fail : first_cause old command ≡ None → (abstract_of view backing old before).is_sound → IfSome (refusal_in reply) (CommandMayFailAllocating view old new before command)
     pub idle : first_cause old command ≡ None → HasNothingToDo command → refusal_in reply ≡ None
     pub respects : first_cause old command ≡ None → (abstract_of view backing old before).is_sound → MayFailOnSound found command reply

@@ -4,7 +4,8 @@ use Rattle.qcow2_alloc.specs.CachePins.{AreAllPinned}
 use Rattle.qcow2_alloc.specs.ImageError.{IsFault}
 use Rattle.qcow2_alloc.specs.declared.error.ImageError.{ImageError}
 use Rattle.qcow2_alloc.specs.declared.error.ImageError.TheVariants as I
-use Rattle.qcow2_image.specs.LookupCauses.{HasUnalignedEntry, IsHeldCompressed, IsTableUnaligned}
+use Rattle.qcow2_image.specs.HeldMappings.{IsCompressedInTables}
+use Rattle.qcow2_image.specs.LookupCauses.{HasUnalignedEntry, IsTableUnaligned}
 use Rattle.qcow2_image.specs.declared.image.Qcow2.{Qcow2}
 
 module _ {S F : Type 0} (image : Qcow2 S F) (from to : ℕ) where
@@ -21,9 +22,9 @@ module _ {S F : Type 0} (image : Qcow2 S F) (from to : ℕ) where
     pub at : ℕ
     pub begins : from ≤ at
     pub ends : at ≤ to
-    pub compressed : IsHeldCompressed image at
+    pub compressed : IsCompressedInTables image at
 
-  -- Why a read of the range is refused during its work: a fault; a limit; 10; 8, if all cached L2 tables are pinned; 4, if it meets an offset that is not on a cluster; or 7, if it meets a compressed cluster.
+  -- Why a read of the range is refused during its work: a fault; a limit; 8, if all cached L2 tables are pinned; 4, if it meets an offset that is not on a cluster; or 7, if it meets a compressed cluster.
   abbrev pub MayFailReadingFrom : ImageError → Type 0
   MayFailReadingFrom e =
-      IsFault e ⊎ (((e ≡ I.Limit) ⊎ (e ≡ I.OutdatedMapping)) ⊎ (((e ≡ I.InUse) × AreAllPinned image.file.caches) ⊎ (((e ≡ I.UnalignedTable) × MeetsUnaligned) ⊎ ((e ≡ I.Compressed) × MeetsCompressed))))
+      IsFault e ⊎ ((e ≡ I.Limit) ⊎ (((e ≡ I.InUse) × AreAllPinned image.file.caches) ⊎ (((e ≡ I.UnalignedTable) × MeetsUnaligned) ⊎ ((e ≡ I.Compressed) × MeetsCompressed))))

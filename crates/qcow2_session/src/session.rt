@@ -9,6 +9,7 @@ ghost use Rattle.qcow2_alloc.specs.ImageFile.{known_in};
 ghost use Rattle.qcow2_image.specs.BehindHeader.{PreservesHeaderCluster};
 ghost use Rattle.qcow2_image.specs.Found.{IsFoundWhole, further_by};
 ghost use Rattle.qcow2_image.specs.MayFail.{IsCacheHeld, MayFailMapped, MayFailReadingRange};
+ghost use Rattle.qcow2_image.specs.HeldMappings.{RefusesHeld};
 ghost use Rattle.qcow2_image.specs.Image.{IsSameImage, is_failed, number_of, KeepsWholeHeader};
 ghost use Rattle.qcow2_image.specs.Prepared.{image_of};
 ghost use Rattle.qcow2_image.specs.ImageInvariant.{abstract_of};
@@ -521,7 +522,8 @@ fn read_range<S: Storage, F: WrappedFormat<S>>(
     ensures step { SpecialStep S.view F.backing image.old image.new result }
     ensures early { IfSome (unusable image.old) (λ e. (result ≡ Err e) × (image.new ≡ image.old)) }
     ensures late { refuses_mapping image.old mapping.now.image ≡ None → IfErr result (λ e.
-        MayFailReadingFound image.old image.new (mapping.now.offset + at) length e × (0 < length)) }
+        MayFailReadingFound image.old image.new (mapping.now.offset + at) length e × (0 < length)
+        × RefusesHeld image.old image.new (mapping.now.offset + at) (further_by at mapping.now.kind) length e) }
     ensures may_fail { refuses_mapping image.old mapping.now.image ≡ None → (out : List (Option Prepared))
         → (abstract_of S.view F.backing image.old out).is_sound
         → IfErr result (MayFailMapped (IsCacheHeld image.old out) (further_by at mapping.now.kind)

@@ -3,6 +3,7 @@ ghost use Rattle.qcow2_session.specs.CallSteps.{AnswersCommand, SpecialStep};
 ghost use Rattle.std.specs.Prelude.{◌≡◌, ◌<◌, ◌⊎◌, [], List, Option, None, IfErr, IfOk, IfSome, MatchOption, Err};
 ghost use Rattle.qcow2_alloc.specs.ImageFile.{known_in};
 ghost use Rattle.qcow2_image.specs.Calls.{AnswersCall};
+ghost use Rattle.qcow2_image.specs.HeldMappings.{IsCompressedInTables};
 ghost use Rattle.qcow2_image.specs.MayFail.{IsCacheHeld, MayFailLooking, MayFailSpecial};
 ghost use Rattle.qcow2_image.specs.LookupCauses.{MayFailTelling};
 ghost use Rattle.qcow2_image.specs.Refusals.{unusable};
@@ -58,7 +59,8 @@ fn read_range<S: Storage, F: WrappedFormat<S>>(
     ensures step { SpecialStep S.view F.backing image.old image.new result }
     ensures early { IfSome (unusable image.old) (λ e. (result ≡ Err e) × (image.new ≡ image.old)) }
     ensures late { unusable image.old ≡ None → IfErr result (λ e.
-        (MayFailTelling image.old image.new offset 1 e ⊎ (e ≡ NotCompressed offset)) × (0 < length)) }
+        (MayFailTelling image.old image.new offset 1 e
+        ⊎ ((e ≡ NotCompressed offset) × ¬ IsCompressedInTables image.new offset)) × (0 < length)) }
     ensures may_fail { (out : List (Option Prepared)) → (abstract_of S.view F.backing image.old out).is_sound
         → IfErr result (MayFailSpecial (IsCacheHeld image.old out) offset) }
     ensures empty { IfOk result (λ done. length ≡ 0) }

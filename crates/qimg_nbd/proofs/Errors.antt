@@ -112,17 +112,17 @@ reading_limit f x p e None is early late limit = late refl limit
 reading_limit f x p e (Some r) is early late limit = reads_refused f x p r (sym is) (sym early ∙ limit)
 
 -- a preparation that was not refused at once isn't for that
-pub preparing_only : (e : ImageError) → MayFailPreparing e → e ≡ I.ReadOnly → ⊥
-preparing_only e is only = by (subst (λ (x : ImageError). MayFailPreparing x) only is) where
-  by : MayFailPreparing I.ReadOnly → ⊥
+pub preparing_only : {S F : Type 0} (new : Qcow2 S F) (e : ImageError) → MayFailPreparing new e → e ≡ I.ReadOnly → ⊥
+preparing_only new e is only = by (subst (λ (x : ImageError). MayFailPreparing new x) only is) where
+  by : MayFailPreparing new I.ReadOnly → ⊥
   by (inl may_fail) = may_fail
-  by (inr p) = absurd cc
+  by (inr p) = let taken = p.0 in absurd cc
 
-pub preparing_beyond : (e : ImageError) → MayFailPreparing e → e ≡ I.BeyondSize → ⊥
-preparing_beyond e is past = by (subst (λ (x : ImageError). MayFailPreparing x) past is) where
-  by : MayFailPreparing I.BeyondSize → ⊥
+pub preparing_beyond : {S F : Type 0} (new : Qcow2 S F) (e : ImageError) → MayFailPreparing new e → e ≡ I.BeyondSize → ⊥
+preparing_beyond new e is past = by (subst (λ (x : ImageError). MayFailPreparing new x) past is) where
+  by : MayFailPreparing new I.BeyondSize → ⊥
   by (inl may_fail) = may_fail
-  by (inr p) = absurd cc
+  by (inr p) = let taken = p.0 in absurd cc
 
 looking_limit : (held : Type 0) (e : ImageError) → MayFailLooking held e → e ≡ I.Limit → ⊥
 looking_limit held e (inl (inl fault)) limit = absurd cc
@@ -199,7 +199,7 @@ module _ {S F : Type 0} (view : S → StorageView) (backing : F → BackingView)
       (λ p. let k = beyond (size_of old) offset n (past p) in let s = size_is sound in omega (arith, s, k))
 
   -- why a write is
-  pub writing_cause : (offset n m : ℕ) (r : Result (Unit {0}) (ImageError × ℕ)) (e : ImageError) → r ≡ Err (e, m) → IfSome (refuses_to_prepare old offset n) (λ x. (r ≡ Err (x, 0)) × (new ≡ old)) → (refuses_to_prepare old offset n ≡ None → MayFailPreparing e)
+  pub writing_cause : (offset n m : ℕ) (r : Result (Unit {0}) (ImageError × ℕ)) (e : ImageError) → r ≡ Err (e, m) → IfSome (refuses_to_prepare old offset n) (λ x. (r ≡ Err (x, 0)) × (new ≡ old)) → (refuses_to_prepare old offset n ≡ None → MayFailPreparing new e)
       → (e ≡ I.BeyondSize → IsTrue (passes (size_of old) offset n)) → a.is_sound → RefusesToChange a (offset + n) (error_of e)
   writing_cause offset n m r e is early late past sound =
       change_told a (offset + n) e
@@ -208,12 +208,12 @@ module _ {S F : Type 0} (view : S → StorageView) (backing : F → BackingView)
             let at : (r ≡ Err (some.0, 0)) × (new ≡ old) = subst (λ o. IfSome o (λ x. (r ≡ Err (x, 0)) × (new ≡ old))) some.1 early in
             let same : some.0 ≡ e = ap (λ (x : ImageError × ℕ). x.0) (same_refusal r (some.0, 0) (e, m) at.0 is) in
             and_right (nat_lt 0 n) (not (is_writable old)) (prepare_refused (is_failed old) (is_external old) (passes (size_of old) offset n) (nat_lt 0 n && not (is_writable old)) some.0 some.1 (same ∙ only))
-        | inr none ↦ absurd (preparing_only e (late none) only)
+        | inr none ↦ absurd (preparing_only new e (late none) only)
       ])
       (λ p. let k = beyond (size_of old) offset n (past p) in let s = size_is sound in omega (arith, s, k))
 
   -- why clearing is
-  pub clearing_cause : {T : Type 0} (offset n : ℕ) (how : Clearing) (r : Result T ImageError) (e : ImageError) → r ≡ Err e → IfSome (refuses_clearing old offset n how) (λ x. (r ≡ Err x) × (new ≡ old)) → (refuses_clearing old offset n how ≡ None → MayFailPreparing e)
+  pub clearing_cause : {T : Type 0} (offset n : ℕ) (how : Clearing) (r : Result T ImageError) (e : ImageError) → r ≡ Err e → IfSome (refuses_clearing old offset n how) (λ x. (r ≡ Err x) × (new ≡ old)) → (refuses_clearing old offset n how ≡ None → MayFailPreparing new e)
       → a.is_sound → RefusesToChange a (offset + n) (error_of e)
   clearing_cause offset n how r e is early late sound =
       let by = λ (x : ImageError) (some : refuses_clearing old offset n how ≡ Some x).
@@ -222,8 +222,8 @@ module _ {S F : Type 0} (view : S → StorageView) (backing : F → BackingView)
       let k = clear_refused (is_failed old) (is_external old) (not (is_writable old)) (passes (size_of old) offset n) (zeros_for how && nat_lt old.file.header.fields.version 3) (rounds_past (cluster_size old.file.header.fields) (size_of old) offset n) x some in
       let both : (e ≡ I.ReadOnly → not (is_writable old) ≡ true) × (e ≡ I.BeyondSize → passes (size_of old) offset n ≡ true) = (λ only. k.0 (same ∙ only), λ past. k.1 (same ∙ past)) in both in
       change_told a (offset + n) e
-      (λ only. elim (some_or_none (refuses_clearing old offset n how)) [ inl some ↦ (by some.0 some.1).0 only | inr none ↦ absurd (preparing_only e (late none) only) ])
+      (λ only. elim (some_or_none (refuses_clearing old offset n how)) [ inl some ↦ (by some.0 some.1).0 only | inr none ↦ absurd (preparing_only new e (late none) only) ])
       (λ past. elim (some_or_none (refuses_clearing old offset n how)) [
         | inl some ↦ let k = beyond (size_of old) offset n ((by some.0 some.1).1 past) in let s = size_is sound in omega (arith, s, k)
-        | inr none ↦ absurd (preparing_beyond e (late none) past)
+        | inr none ↦ absurd (preparing_beyond new e (late none) past)
       ])

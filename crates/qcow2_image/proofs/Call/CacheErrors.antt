@@ -1,6 +1,6 @@
 -- Refusals of the caches, of lookups and of reads are among the refusals that come during the work of a call.
 use Rattle.std.proofs.Common.{◌≡◌, ◌⊎◌, ◌+◌, inl, inr, ℕ, sym, subst}
-use Rattle.qcow2_image.proofs.Common.{ImageError, IsFaultOr, IsOfTables, IsUnlimited, MayFail, MayFailFinding, MayFailFindingAgain, MayFailPuttingAt, MayFailReadingFound, MayFailTelling, MayFailToRead, Prepared, Qcow2}
+use Rattle.qcow2_image.proofs.Common.{ImageError, IsFaultOr, IsOfTables, MayFail, MayFailFinding, MayFailPuttingAt, MayFailReadingFound, MayFailTelling, MayFailToRead, Prepared, Qcow2}
 use Rattle.qcow2_alloc.specs.declared.error.ImageError.TheVariants as I
 use Rattle.qcow2_image.proofs.Call.FailingErrors.{read_met}
 
@@ -25,17 +25,20 @@ pub in_use_met : (Full P : Type 0) (e : ImageError) → ((e ≡ I.InUse) × Full
 in_use_met Full P e is = read_met e (in_use_read Full P e is)
 
 module _ {S F : Type 0} (old new : Qcow2 S F) (offset n : ℕ) (e : ImageError) where
+  pub finding_tables : MayFailFinding old new offset n e → IsOfTables e
+  finding_tables (inl unaligned) = subst IsOfTables (sym unaligned.0) tt
+  finding_tables (inr (inl used)) = subst IsOfTables (sym used.0) tt
+  finding_tables (inr (inr fault)) = fault_or_tables _ e fault
+
   pub finding_read : MayFailFinding old new offset n e → MayFailToRead e
   finding_read (inl unaligned) = subst MayFailToRead (sym unaligned.0) tt
   finding_read (inr load) = in_use_read _ _ e load
 
-  again_read : MayFailFindingAgain old new offset n e → MayFailToRead e
-  again_read (inl finding) = finding_read finding
-  again_read (inr outdated) = subst MayFailToRead (sym outdated) tt
-
-  pub found_read : MayFailReadingFound old new offset n e → MayFailToRead e
-  found_read (inl again) = again_read again
-  found_read (inr compressed) = subst MayFailToRead (sym compressed.0) tt
+  -- unless the range is mapped differently
+  pub found_read : (e ≡ I.OutdatedMapping → ⊥) → MayFailReadingFound old new offset n e → MayFailToRead e
+  found_read current (inl (inl finding)) = finding_read finding
+  found_read current (inl (inr outdated)) = absurd (current outdated)
+  found_read current (inr compressed) = subst MayFailToRead (sym compressed.0) tt
 
   pub telling_read : MayFailTelling old new offset n e → MayFailToRead e
   telling_read (inl finding) = finding_read finding
@@ -45,12 +48,13 @@ module _ {S F : Type 0} (old new : Qcow2 S F) (offset n : ℕ) (e : ImageError) 
   telling_or P (inl telling) = inl (telling_read telling)
   telling_or P (inr is) = inr is
 
-pub putting_met : {S F : Type 0} (old new : Qcow2 S F) (p : Prepared) (at n : ℕ) (e : ImageError) → MayFailPuttingAt old new p at n e → MayFail e
-putting_met old new p at n e (inl (inl is)) = subst MayFail (sym is) tt
-putting_met old new p at n e (inl (inr is)) = subst MayFail (sym is) tt
-putting_met old new p at n e (inr (inl again)) = read_met e (again_read old new (p.guest + at) n e again.1)
-putting_met old new p at n e (inr (inr (inl past))) = subst MayFail (sym past.0) tt
-putting_met old new p at n e (inr (inr (inr first))) = first.0
+-- of a put too
+pub putting_met : {S F : Type 0} (old new : Qcow2 S F) (p : Prepared) (at n : ℕ) (e : ImageError) → (e ≡ I.OutdatedMapping → ⊥) → MayFailPuttingAt old new p at n e → MayFail e
+putting_met old new p at n e current (inl (inl is)) = subst MayFail (sym is) tt
+putting_met old new p at n e current (inl (inr is)) = subst MayFail (sym is) tt
+putting_met old new p at n e current (inr (inl again)) = read_met e (found_read old new (p.guest + at) n e current (inl again.1))
+putting_met old new p at n e current (inr (inr (inl past))) = subst MayFail (sym past.0) tt
+putting_met old new p at n e current (inr (inr (inr first))) = subst MayFail (sym first.0) tt
 
 -- a refusal for an entry that is not on a cluster
 pub unaligned_as : {P : Type 0} (C : ImageError → Type 0) (e : ImageError) → (e ≡ I.UnalignedTable) × P → C I.UnalignedTable → C e

@@ -1,6 +1,6 @@
 -- Refusals of tables and of lower layers are among the refusals that come during the work of a call.
 use Rattle.std.proofs.Common.{◌≡◌, inl, inr, refl, sym, subst}
-use Rattle.qcow2_image.proofs.Common.{StorageError, MetadataError, ImageError, IsOfLengthOrMemory, IsOfPrepared, of_storage, of_metadata, IsOfReftableLoad, IsOfTables, MayFail, MayFailToInvalidate, MayFailToRead}
+use Rattle.qcow2_image.proofs.Common.{StorageError, MetadataError, ImageError, IsOfLengthOrMemory, IsOfPrepared, of_storage, of_metadata, IsOfReftableLoad, IsOfTables, MappingKind, MayFail, MayFailCopying, MayFailReading, MayFailToInvalidate, MayFailToRead, MayFailWriting}
 use Rattle.image_access.specs.declared.error.StorageError.TheVariants as S
 use Rattle.qcow2_metadata.specs.declared.error.MetadataError.TheVariants as M
 use Rattle.qcow2_alloc.specs.declared.error.ImageError.TheVariants as I
@@ -61,7 +61,7 @@ read_met I.Preallocation h = absurd h
 read_met I.Compressed h = tt
 read_met I.InUse h = tt
 read_met I.TablePrepared h = absurd h
-read_met I.OutdatedMapping h = tt
+read_met I.OutdatedMapping h = absurd h
 read_met I.ForeignState h = absurd h
 read_met I.Dependency h = absurd h
 read_met I.Limit h = tt
@@ -77,6 +77,18 @@ read_met (I.StillInUse tables) h = absurd h
 pub reftable_met : (e : ImageError) → IsOfReftableLoad e → MayFail e
 reftable_met e (inl is) = subst MayFail (sym is) tt
 reftable_met e (inr tables) = tables_met e tables
+
+-- ---- bytes that are read, copied or written
+pub reading_copied : (kind : MappingKind) (e : ImageError) → MayFailReading kind e → MayFailCopying kind e
+reading_copied kind e (inl (inl storage)) = inl (subst MayFail (sym storage) tt)
+reading_copied kind e (inl (inr memory)) = inl (subst MayFail (sym memory) tt)
+reading_copied kind e (inr (inl special)) = inl (subst MayFail (sym special.0) tt)
+reading_copied kind e (inr (inr past)) = inr past
+
+pub writing_met : (e : ImageError) → MayFailWriting e → MayFail e
+writing_met e (inl (inl storage)) = subst MayFail (sym storage) tt
+writing_met e (inl (inr memory)) = subst MayFail (sym memory) tt
+writing_met e (inr metadata) = subst MayFail (sym metadata) tt
 
 -- ---- errors of the storage
 pub storage_of_tables : (e : StorageError) → IsOfTables (of_storage e)

@@ -1,14 +1,7 @@
 -- A part is refused, and clusters are freed after the refusal.
 use Rattle.std.proofs.Common.{◌≡◌, ℕ, inl, inr, List, sym, subst, Option}
-use Rattle.qcow2_image.proofs.Common.{BackingView, StorageView, HeaderView, IsFault, ImageError, TablePrepared, RefusedCall, Qcow2, Prepared, l1_index_of, ImageInvariant, pending_in, IsFaultOrLacksTable, MayName, FreesRefused, MayFail, MayFailPreparing}
+use Rattle.qcow2_image.proofs.Common.{BackingView, StorageView, HeaderView, IsFault, ImageError, RefusedCall, Qcow2, Prepared, l1_index_of, ImageInvariant, pending_in, IsFaultOrLacksTable, MayName, FreesRefused}
 use Rattle.qcow2_image.proofs.Prepare.UnlinkedL2Table.{may_still}
-
--- the refusal that is reported afterwards comes during the work if the first one did, and is not 9
-pub met_freed : (e e' : ImageError) → MayFail e → (MayFailPreparing e → MayFailPreparing e') → (MayFailPreparing e → e' ≡ TablePrepared → e ≡ TablePrepared) → MayFail e'
-met_freed e e' may_fail cause taken = elim (cause (inl may_fail)) [
-  | inl is ↦ is
-  | inr prepared ↦ absurd (subst MayFail (taken (inl may_fail) prepared) may_fail)
-]
 
 module _ {S F : Type 0} (view : S → StorageView) (backing : F → BackingView) (out : List (Option Prepared)) (old mid new : Qcow2 S F) (e e' : ImageError)
     (back : RefusedCall view backing old mid out e) (fault : IsFault e → (e' ≡ e) × (new ≡ mid)) where

@@ -1,7 +1,6 @@
 -- Why lookups and reads are refused, whatever the image contains.
-use Rattle.std.proofs.Common.{◌≡◌, ◌+◌, ◌-◌, ◌*◌, ◌/◌, ◌%◌, ◌^◌, ◌<◌, ◌≤◌, ◌⊎◌, inl, inr, ℕ, Bool, Some, sym, ap, ◌∙◌, subst, arith}
-use Rattle.qcow2_image.proofs.Common.{cluster_size, EntryTableView, HeaderFields, HeaderView, L2TableView, IsFault, ImageError, MetadataCaches, l2_at, own_table, HasUnalignedBehind, HasUnalignedEntry, HasUnalignedFrom, IsHeldCompressed, IsUnalignedIn, MayFailFinding, MayFailFindingAgain, MayFailPuttingAt, MayFailReading, MayFailReadingFound, MayFailTelling, IsBegun, IsSpecial, KeepsHeld, MappingKind, Prepared, Qcow2, IsCompressed, mapping_of}
-use Rattle.qcow2_alloc.specs.declared.error.ImageError.TheVariants as I
+use Rattle.std.proofs.Common.{◌≡◌, ◌+◌, ◌-◌, ◌/◌, ◌%◌, ◌≤◌, inl, inr, ℕ, Bool, sym, ap, ◌∙◌, subst, arith}
+use Rattle.qcow2_image.proofs.Common.{cluster_size, EntryTableView, HeaderFields, HeaderView, L2TableView, ImageError, MetadataCaches, l2_at, named_place, HasUnalignedBehind, HasUnalignedEntry, HasUnalignedFrom, IsCompressedInTables, IsUnalignedIn, MayFailFinding, MayFailPuttingAt, MayFailReading, MayFailReadingFound, MayFailTelling, IsBegun, IsSpecial, KeepsHeld, MappingKind, Prepared, Qcow2, IsCompressed, mapping_of}
 
 -- clusters after one by the table's size, of a range from an offset on
 pub unaligned_from : (h : HeaderFields) (t : L2TableView) (offset n guest max : ℕ) → guest ≡ offset / cluster_size h → max ≡ n - (cluster_size h - offset % cluster_size h) → HasUnalignedBehind t guest max → HasUnalignedFrom h t offset n
@@ -22,14 +21,6 @@ module _ {S F : Type 0} where
   finding_more old new offset m n le e (inl (is, inr entry)) = inl (is, inr (entry_more new offset m n le entry))
   finding_more old new offset m n le e (inr load) = inr load
 
-  -- a lookup never finds that a range is mapped differently
-  pub finding_other : (old new : Qcow2 S F) (offset n : ℕ) → MayFailFinding old new offset n I.OutdatedMapping → ⊥
-  finding_other old new offset n (inl unaligned) = let no : I.OutdatedMapping ≡ I.UnalignedTable = unaligned.0 in absurd cc
-  finding_other old new offset n (inr (inl used)) = let no : I.OutdatedMapping ≡ I.InUse = used.0 in absurd cc
-  finding_other old new offset n (inr (inr (inl (inl fault)))) = let no : I.OutdatedMapping ≡ I.Storage = fault in absurd cc
-  finding_other old new offset n (inr (inr (inl (inr fault)))) = let no : I.OutdatedMapping ≡ I.Memory = fault in absurd cc
-  finding_other old new offset n (inr (inr (inr limit))) = let no : I.OutdatedMapping ≡ I.Limit = limit.0 in absurd cc
-
   -- a call that began did the work, and a failure was marked
   module _ (old begun mid last : Qcow2 S F) (flag : Bool) (is : IsBegun old begun) (rest : last ≡ record mid { is_failed = flag }) (offset n : ℕ) (e : ImageError) where
     pub finding_call : MayFailFinding begun mid offset n e → MayFailFinding old last offset n e
@@ -44,8 +35,8 @@ module _ {S F : Type 0} where
         (subst (λ (k : MetadataCaches S). MayFailPuttingAt (record old { file = record old.file { storage = begun.file.storage; caches = k } }) mid p offset n e) is.caches
         (subst (λ (i : Qcow2 S F). MayFailPuttingAt i mid p offset n e) is.rest why))
 
-    compressed_call : IsHeldCompressed mid offset → IsHeldCompressed last offset
-    compressed_call held = subst (λ (i : Qcow2 S F). IsHeldCompressed i offset) (sym rest) held
+    compressed_call : IsCompressedInTables mid offset → IsCompressedInTables last offset
+    compressed_call is = subst (λ (i : Qcow2 S F). IsCompressedInTables i offset) (sym rest) (record { named = is.named; table = is.table; held = is.held; compressed = is.compressed })
 
     pub found_call : MayFailReadingFound begun mid offset n e → MayFailReadingFound old last offset n e
     found_call (inl (inl finding)) = inl (inl (finding_call finding))
@@ -57,16 +48,21 @@ module _ {S F : Type 0} where
     telling_call (inr compressed) = inr (compressed.0, compressed_call compressed.1)
 
   -- what the tables in memory map stays the same
-  compressed_still : (old new : Qcow2 S F) (offset : ℕ) → KeepsHeld old new → IsHeldCompressed old offset → IsHeldCompressed new offset
+  compressed_still : (old new : Qcow2 S F) (offset : ℕ) → KeepsHeld old new → IsCompressedInTables old offset → IsCompressedInTables new offset
   compressed_still old new offset keeps is =
-      let same : own_table new offset ≡ own_table old offset = ap (λ (v : HeaderView). own_table (record new { file = record new.file { header = v } }) offset) keeps.header ∙ ap (λ (t : EntryTableView). own_table (record old { l1_table = t }) offset) keeps.l1_table in (
-        is.0,
-        ap (λ (k : MetadataCaches S). l2_at k (own_table new offset)) keeps.caches ∙ ap (l2_at old.file.caches) same ∙ is.1,
-        subst (λ (v : HeaderView). IsCompressed (mapping_of is.0 (offset / cluster_size v.fields))) (sym keeps.header) is.2,
-      )
+      let h : HeaderFields = new.file.header.fields in
+      let fields : h ≡ old.file.header.fields = ap (λ (v : HeaderView). v.fields) keeps.header in
+      let same : named_place h new.l1_table offset ≡ named_place old.file.header.fields old.l1_table offset = ap (λ (x : HeaderFields). named_place x new.l1_table offset) fields ∙ ap (λ (t : EntryTableView). named_place old.file.header.fields t offset) keeps.l1_table in
+      record {
+        named = λ none. is.named (sym same ∙ none);
+        table = is.table;
+        held = ap (λ (k : MetadataCaches S). l2_at k (named_place h new.l1_table offset / cluster_size h)) keeps.caches ∙ ap (λ n. l2_at old.file.caches (n / cluster_size h)) same
+            ∙ ap (λ (x : HeaderFields). l2_at old.file.caches (named_place old.file.header.fields old.l1_table offset / cluster_size x)) fields ∙ is.held;
+        compressed = subst (λ (x : HeaderFields). IsCompressed (mapping_of is.table (offset / cluster_size x))) (sym fields) is.compressed;
+      }
 
   -- bytes of a kind that was looked up are read
-  pub reading_found : (old mid new : Qcow2 S F) (offset n : ℕ) (kind : MappingKind) → KeepsHeld mid new → (IsSpecial kind → IsHeldCompressed mid offset) → (e : ImageError) → MayFailReading kind e → MayFailReadingFound old new offset n e
+  pub reading_found : (old mid new : Qcow2 S F) (offset n : ℕ) (kind : MappingKind) → KeepsHeld mid new → (IsSpecial kind → IsCompressedInTables mid offset) → (e : ImageError) → MayFailReading kind e → MayFailReadingFound old new offset n e
   reading_found old mid new offset n kind keeps held e (inl fault) = inl (inl (inr (inr (inl fault))))
   reading_found old mid new offset n kind keeps held e (inr (inl compressed)) = inr (compressed.0, compressed_still mid new offset keeps (held compressed.1))
   reading_found old mid new offset n kind keeps held e (inr (inr outdated)) = inl (inr outdated.0)

@@ -1,7 +1,9 @@
 -- What a lookup finds in the tables in memory, of an image in any state.
-use Rattle.std.proofs.Common.{◌≡◌, ◌+◌, ◌-◌, ◌*◌, ◌/◌, ◌%◌, ◌^◌, ◌<◌, ◌≤◌, ⊎_elim, inl, inr, ℕ, Bool, true, false, Some, Result, Ok, Err, is_some, min, sym, ap, ◌∙◌, subst, arith}
-use Rattle.qcow2_image.proofs.Common.{cases_lt, EntryTableView, HeaderView, cluster_size, L2TableView, HeaderFields, L2Mapping, Data, Zero, Compressed, Uncovered, kind_at, raw, writable_place, Image, rest_of_table, l2_at, MetadataCaches, ImageError, OutdatedMapping, ImageStorage, Qcow2, MappingKind, found_kind, mapping_of, IsRunBehind, FitsTables, IsHeldAs, IsLongestSo, IsMappedBy, IsMappedSo, KeepsHeld, named_place}
+use Rattle.std.proofs.Common.{◌≡◌, ◌+◌, ◌-◌, ◌*◌, ◌/◌, ◌%◌, ◌^◌, ◌<◌, ◌≤◌, ⊎_elim, inl, inr, ℕ, Bool, true, false, List, IfErr, Option, Some, IsSome, Result, Ok, Err, is_some, min, refl, sym, ap, ◌∙◌, subst, arith}
+use Rattle.qcow2_image.proofs.Common.{cases_lt, EntryTableView, HeaderView, cluster_size, L2TableView, HeaderFields, L2Mapping, Data, Zero, Compressed, Uncovered, kind_at, raw, writable_place, Image, rest_of_table, l2_at, MetadataCaches, ImageError, OutdatedMapping, ImageStorage, Qcow2, MappingKind, found_kind, mapping_of, IsRunBehind, FitsTables, IsBegun, IsCompressedInTables, IsHeldAs, IsLongestSo, IsSpecial, MayFailReading, ReadsAs, RefusesHeld, StaysHeld, StorageView, view_in, IsMappedBy, IsMappedSo, KeepsHeld, named_place}
 use Rattle.qcow2_image.specs.declared.mapping.MappingKind.TheVariants as M
+use Rattle.qcow2_alloc.specs.declared.error.ImageError.TheVariants as E
+use Rattle.qcow2_alloc.specs.KeptEntries.{KeepsCached}
 use Rattle.qcow2_image.proofs.Map.Looked.{kind_within, product_le, same_kind}
 
 below_count : (k count size : ℕ) → k * size < count * size → k < count
@@ -65,6 +67,31 @@ module _ {S : Type 0} (h : HeaderFields) (is_backed : Bool) (l1_table : EntryTab
           mapped = record { first = sym (data_place (mapping_of by.table (offset / cluster_size h)) host (sym (ap writable_place by.mapped.first) ∙ place)); alike = by.mapped.alike };
         }))
         is.mapped;
+  }
+
+  -- the same with the same tables
+  pub same_tables : (caches' : MetadataCaches S) → ((cluster : ℕ) → l2_at caches' cluster ≡ l2_at caches cluster) → (kind : MappingKind) (n : ℕ) → IsMappedSo h is_backed l1_table caches offset kind n → IsMappedSo h is_backed l1_table caches' offset kind n
+  same_tables caches' same kind n is = record {
+    below = is.below;
+    within = is.within;
+    mapped = ⊎_elim (λ none. inl (record { none = none.none; kind_is = none.kind_is }))
+        (λ by. inr (record { named = by.named; table = by.table; held = same (named_place h l1_table offset / cluster_size h) ∙ by.held; mapped = record { first = by.mapped.first; alike = by.mapped.alike } })) is.mapped;
+  }
+
+  -- the same after the L2 table of the offset was loaded
+  pub still_loaded : (caches' : MetadataCaches S) (cluster : ℕ) → (cluster ≡ named_place h l1_table offset / cluster_size h) × ¬ (named_place h l1_table offset ≡ 0) → KeepsCached (λ (t : L2TableView). t.is_modified) cluster caches.l2 caches'.l2
+      → (kind : MappingKind) (n : ℕ) → IsMappedSo h is_backed l1_table caches offset kind n → IsMappedSo h is_backed l1_table caches' offset kind n
+  still_loaded caches' cluster own kept kind n is = record {
+    below = is.below;
+    within = is.within;
+    mapped = ⊎_elim (λ none. inl (record { none = none.none; kind_is = none.kind_is })) (λ by. inr (record {
+      named = by.named;
+      table = by.table;
+      held = let there : l2_at caches cluster ≡ Some by.table = ap (l2_at caches) own.0 ∙ by.held in
+          let some : IsSome (l2_at caches cluster) = subst (λ (o : Option L2TableView). IsSome o) (sym there) refl in
+          ap (l2_at caches') (sym own.0) ∙ kept.all (inl some) cluster some ∙ there;
+      mapped = record { first = by.mapped.first; alike = by.mapped.alike };
+    })) is.mapped;
   }
 
   module _ (max limit : ℕ) (short : max ≡ min (min limit (h.size - offset)) (rest_of_table h offset)) (below : offset < h.size) where
@@ -155,18 +182,68 @@ module _ {S F : Type 0} where
 
   module _ {A : Type 0} (offset : ℕ) (kind : MappingKind) (n : ℕ) where
     -- so a part that isn't refused 10 respects them
-    pub heeds_then : (image : Qcow2 S F) (result : Result A ImageError) → (result ≡ Err OutdatedMapping → ⊥) → IsHeldAs image offset kind n → FitsTables image offset kind n result
-    heeds_then image (Ok done) current is = is
-    heeds_then image (Err e) current is = λ outdated. absurd (current (ap Err outdated))
+    pub heeds_then : (old new : Qcow2 S F) (result : Result A ImageError) → (result ≡ Err OutdatedMapping → ⊥) → (result ≡ Err E.Compressed → IsSpecial kind) → IsHeldAs new offset kind n → FitsTables old new offset kind n result
+    heeds_then old new (Ok done) current special is = is
+    heeds_then old new (Err e) current special is = record { outdated = λ outdated. absurd (current (ap Err outdated)); compressed = λ compressed. (is, special (ap Err compressed)) }
 
     -- the same after calls that leave the tables in memory unchanged
-    pub heeds_on : (old new : Qcow2 S F) (result : Result A ImageError) → KeepsHeld old new → FitsTables old offset kind n result → FitsTables new offset kind n result
-    heeds_on old new (Ok done) keeps is = held_as old new offset kind n keeps is
-    heeds_on old new (Err e) keeps isnt = λ outdated is. isnt outdated (held_as new old offset kind n (keeps_back keeps) is)
+    pub heeds_on : (old mid new : Qcow2 S F) (result : Result A ImageError) → KeepsHeld mid new → FitsTables old mid offset kind n result → FitsTables old new offset kind n result
+    heeds_on old mid new (Ok done) keeps is = held_as mid new offset kind n keeps is
+    heeds_on old mid new (Err e) keeps isnt = record {
+      outdated = λ outdated. ((isnt.outdated outdated).0, λ is. (isnt.outdated outdated).1 (held_as new mid offset kind n (keeps_back keeps) is));
+      compressed = λ compressed. (held_as mid new offset kind n keeps (isnt.compressed compressed).0, (isnt.compressed compressed).1);
+    }
+
+    -- the same from an earlier moment on
+    pub heeds_from : (start old new : Qcow2 S F) (result : Result A ImageError) → StaysHeld start old offset → FitsTables old new offset kind n result → FitsTables start new offset kind n result
+    heeds_from start old new (Ok done) stays is = is
+    heeds_from start old new (Err e) stays isnt = record { outdated = λ outdated. (λ was. (isnt.outdated outdated).0 (stays kind n was), (isnt.outdated outdated).1); compressed = isnt.compressed }
 
   -- a refusal by another number says nothing of them
-  pub heeds_else : (image : Qcow2 S F) (offset : ℕ) (kind : MappingKind) (n : ℕ) (P : ImageError → Type 0) (e : ImageError) → (P OutdatedMapping → ⊥) → P e → e ≡ OutdatedMapping → ¬ IsHeldAs image offset kind n
-  heeds_else image offset kind n P e none is outdated = absurd (none (subst P outdated is))
+  pub heeds_else : (old new : Qcow2 S F) (offset : ℕ) (kind : MappingKind) (n : ℕ) (P : ImageError → Type 0) (e : ImageError) → (P OutdatedMapping → ⊥) → (P E.Compressed → ⊥) → P e → RefusesHeld old new offset kind n e
+  heeds_else old new offset kind n P e none plain is = record { outdated = λ outdated. absurd (none (subst P outdated is)); compressed = λ compressed. absurd (plain (subst P compressed is)) }
+
+  -- a failure is marked
+  pub plain_marked : (old new : Qcow2 S F) (failed : Bool) (offset : ℕ) → new ≡ record old { is_failed = failed } → ¬ IsCompressedInTables old offset → ¬ IsCompressedInTables new offset
+  plain_marked old new failed offset rest plain =
+      subst (λ (image : Qcow2 S F). ¬ IsCompressedInTables image offset) (sym rest) (λ compressed. plain (record { named = compressed.named; table = compressed.table; held = compressed.held; compressed = compressed.compressed }))
+
+  -- a call begins
+  pub held_begun : (old new : Qcow2 S F) (offset : ℕ) → IsBegun old new → StaysHeld old new offset
+  held_begun old new offset begun kind n is =
+      let caches : MetadataCaches S = record old.file.caches { is_changed = false } in
+      let there : IsMappedSo old.file.header.fields (is_some old.backing) old.l1_table caches offset kind n = same_tables old.file.header.fields (is_some old.backing) old.l1_table old.file.caches offset caches (λ cluster. refl) kind n is in
+      subst (λ (image : Qcow2 S F). IsHeldAs image offset kind n) (sym begun.rest)
+      (subst (λ (c : MetadataCaches S). IsMappedSo old.file.header.fields (is_some old.backing) old.l1_table c offset kind n) (sym begun.caches) there)
+
+-- a read is refused 7 only for compressed bytes
+pub special_of : {A : Type 0} (kind : MappingKind) (result : Result A ImageError) → IfErr result (MayFailReading kind) → result ≡ Err E.Compressed → IsSpecial kind
+special_of kind (Ok done) why is = absurd cc
+special_of kind (Err e) why is =
+    let compressed : e ≡ E.Compressed = cc in
+    elim why [
+      | inl (inl storage) ↦ let no : E.Storage ≡ E.Compressed = sym storage ∙ compressed in absurd cc
+      | inl (inr memory) ↦ let no : E.Memory ≡ E.Compressed = sym memory ∙ compressed in absurd cc
+      | inr (inl special) ↦ special.1
+      | inr (inr past) ↦ let no : OutdatedMapping ≡ E.Compressed = sym past.0 ∙ compressed in absurd cc
+    ]
+
+-- what was read, from an earlier moment on
+pub reads_from : {S F : Type 0} (view : S → StorageView) (start old new : Qcow2 S F) (kind : MappingKind) (bytes : List ℕ) → ((view_in view start.file).is_honest → (view_in view old.file).is_honest) → ReadsAs view old new kind bytes → ReadsAs view start new kind bytes
+reads_from view start old new (M.Raw place host writable) bytes honest read = λ was. read (honest was)
+reads_from view start old new (M.Indirect offset) bytes honest read = tt
+reads_from view start old new (M.Zero explicit) bytes honest read = read
+reads_from view start old new (M.Special offset) bytes honest read = read
+reads_from view start old new M.Eof bytes honest read = read
+
+-- the same once a failure is marked
+pub reads_marked : {S F : Type 0} (view : S → StorageView) (start old new : Qcow2 S F) (failed : Bool) (kind : MappingKind) (bytes : List ℕ) → ((view_in view start.file).is_honest → (view_in view old.file).is_honest) → ReadsAs view old new kind bytes
+    → ReadsAs view start (record new { is_failed = failed }) kind bytes
+reads_marked view start old new failed (M.Raw place host writable) bytes honest read = λ was. read (honest was)
+reads_marked view start old new failed (M.Indirect offset) bytes honest read = tt
+reads_marked view start old new failed (M.Zero explicit) bytes honest read = read
+reads_marked view start old new failed (M.Special offset) bytes honest read = read
+reads_marked view start old new failed M.Eof bytes honest read = read
 
 -- how much was found, of what was answered
 abbrev found_of : {A E : Type 0} → Result (A × ℕ) E → ℕ

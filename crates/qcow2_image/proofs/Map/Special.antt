@@ -1,5 +1,5 @@
 -- A lookup finds a special range exactly if the guest cluster is compressed, also past the size.
-use Rattle.std.proofs.Common.{◌≡◌, ◌/◌, inl, ℕ, Bool, true, false, refl, sym, ◌∙◌, subst, []}
+use Rattle.std.proofs.Common.{◌≡◌, ◌/◌, inl, ℕ, Bool, true, false, refl, sym, ◌∙◌, subst, [], ap}
 use Rattle.qcow2_image.proofs.Common.{Bytes, cover, header, cluster_size, HeaderFields, L2Mapping, Data, Zero, Compressed, Uncovered, Refusal, AnsweredEffect, RefusedEffect, IsSame, storage, AbstractImage, Kind, raw, indirect, zeros, special, eof, kind_at, IsCompressed, IsCompressedAt, IsSpecial, MappingKind, found_kind}
 use Rattle.qcow2_image.specs.declared.mapping.MappingKind.TheVariants as M
 use Rattle.qcow2_image.specs.SpecialReads.{is_special}
@@ -16,6 +16,22 @@ compressed_special h b offset (Data host copied) is = absurd is
 compressed_special h b offset (Zero kept) is = absurd is
 compressed_special h b offset (Compressed place sectors) is = refl
 compressed_special h b offset Uncovered is = absurd is
+
+-- the kind of compressed data
+pub special_told : (kind : MappingKind) → IsSpecial kind → is_special (found_kind kind) ≡ true
+special_told (M.Special o) is = refl
+special_told (M.Raw place host writable) is = absurd is
+special_told (M.Indirect o) is = absurd is
+special_told (M.Zero explicit) is = absurd is
+special_told M.Eof is = absurd is
+
+-- the kind that a compressed cluster is found as
+pub special_found : (h : HeaderFields) (b : Bool) (offset : ℕ) (v : L2Mapping) (kind : MappingKind) → found_kind kind ≡ kind_at h b offset v → IsCompressed v → IsSpecial kind
+special_found h b offset v (M.Special o) found is = tt
+special_found h b offset v (M.Raw place host writable) found is = absurd (let no = ap is_special found ∙ compressed_special h b offset v is in cc)
+special_found h b offset v (M.Indirect o) found is = absurd (let no = ap is_special found ∙ compressed_special h b offset v is in cc)
+special_found h b offset v (M.Zero explicit) found is = absurd (let no = ap is_special found ∙ compressed_special h b offset v is in cc)
+special_found h b offset v M.Eof found is = absurd (let no = ap is_special found ∙ compressed_special h b offset v is in cc)
 
 module _ (known : Bytes) (b : Bool) (offset : ℕ) where
   abbrev IsKindThere : Kind → Type 0

@@ -1,6 +1,6 @@
 -- Whether an L2 table of the image's own is pinned, as a call finds it.
 use Rattle.std.proofs.Common.{◌≡◌, ◌+◌, ◌*◌, ◌/◌, ◌^◌, ◌<◌, ◌≤◌, ◌&&◌, inl, inr, ℕ, Bool, true, false, Option, Some, None, IfOk, IsSome, refl, nat_lt, sym, ap, ◌∙◌, subst, arith, Ok, Err, Result, IfErr, IsErr, IsErrAnd}
-use Rattle.qcow2_image.proofs.Common.{OnOk, div-mul-add, pow_pos, l2_pins, MetadataCaches, ImageError, TablePrepared, IsOfTables, handed_on, Qcow2, Prepared, IsBegun, EntryTableView, HeaderView, host_offset, entry_at, cluster_size, l1_index_of, NamesOwn, LiesInOwn, ExistsInTables, table_of, refuse_if, option_or, passes, unusable, is_writable, size_of, refuses_to_prepare, not, cases_lt, lt-ltb, HasOwnTable, FindsOwn, RespectsPins, PreparesUnpinned, own_pins, own_table, MayFail}
+use Rattle.qcow2_image.proofs.Common.{OnOk, div-mul-add, pow_pos, l2_pins, MetadataCaches, ImageError, TablePrepared, IsOfTables, handed_on, Qcow2, Prepared, IsBegun, EntryTableView, HeaderView, host_offset, entry_at, cluster_size, l1_index_of, NamesOwn, ExistsInTables, table_of, refuse_if, option_or, passes, unusable, is_writable, size_of, refuses_to_prepare, not, cases_lt, lt-ltb, HasOwnTable, FindsOwn, RespectsPins, PreparesUnpinned, own_pins, own_table, MayFail}
 use Rattle.qcow2_alloc.specs.declared.error.ImageError.TheVariants as I
 
 pub whole_quotient : (k c o : ℕ) → c * 2 ^ k ≡ o → c ≡ o / 2 ^ k
@@ -31,13 +31,18 @@ module _ {S F : Type 0} where
       found.table ∙ sym (ap (λ (t : EntryTableView). host_offset (entry_at t.bytes (l1_index_of new.file.header.fields offset)) / cluster_size new.file.header.fields) found.l1_table
       ∙ ap (λ (h : HeaderView). host_offset (entry_at old.l1_table.bytes (l1_index_of h.fields offset)) / cluster_size h.fields) found.header)
 
-  pub lies_still : (old new : Qcow2 S F) (offset n : ℕ) → new.l1_table ≡ old.l1_table → new.file.header ≡ old.file.header → LiesInOwn old offset n → LiesInOwn new offset n
-  lies_still old new offset n l1_table header lies = record {
-    some = lies.some;
-    below = subst (λ (h : HeaderView). offset + n ≤ h.fields.size) (sym header) lies.below;
-    own = subst (λ (t : EntryTableView). NamesOwn (entry_at t.bytes (l1_index_of new.file.header.fields offset))) (sym l1_table)
-        (subst (λ (h : HeaderView). NamesOwn (entry_at old.l1_table.bytes (l1_index_of h.fields offset))) (sym header) lies.own);
-  }
+  own_still : (old new : Qcow2 S F) (offset : ℕ) → new.l1_table ≡ old.l1_table → new.file.header ≡ old.file.header → HasOwnTable old offset → HasOwnTable new offset
+  own_still old new offset l1_table header own = subst (λ (t : EntryTableView). NamesOwn (entry_at t.bytes (l1_index_of new.file.header.fields offset))) (sym l1_table)
+      (subst (λ (h : HeaderView). NamesOwn (entry_at old.l1_table.bytes (l1_index_of h.fields offset))) (sym header) own)
+
+  pub finds_owns : (old new : Qcow2 S F) (offset : ℕ) (r : Result ℕ ImageError) → HasOwnTable old offset → FindsOwn old new offset r → IfOk r (λ table. (table ≡ own_table new offset) × HasOwnTable new offset)
+  finds_owns old new offset (Ok table) own found = (found_own old new offset table found, own_still old new offset found.l1_table found.header own)
+  finds_owns old new offset (Err e) own found = tt
+
+  -- the same after the clusters on the list were freed
+  pub finds_freed : (mid old new : Qcow2 S F) (offset : ℕ) (r : Result ℕ ImageError) → old.l1_table ≡ mid.l1_table → old.file.header ≡ mid.file.header → HasOwnTable mid offset → (HasOwnTable old offset → FindsOwn old new offset r)
+      → IfOk r (λ table. (table ≡ own_table new offset) × HasOwnTable new offset)
+  finds_freed mid old new offset r l1_table header own found = let still = own_still mid old offset l1_table header own in finds_owns old new offset r still (found still)
 
   -- what pins a table isn't existing
   pub pinned_exists : (image : Qcow2 S F) (offset n : ℕ) (r : Result Prepared ImageError) → IfOk r (λ p. IsSome (table_of p)) → ExistsInTables image offset n r
@@ -48,17 +53,13 @@ module _ {S F : Type 0} where
   refused_exists image offset n r e is = handed_on (λ (x : Result _ _). ExistsInTables image offset n x) r e is tt
 
   -- a range that isn't refused at once ends below the size
-  pub lies_in_own : (image : Qcow2 S F) (offset n : ℕ) → 0 < n → refuses_to_prepare image offset n ≡ None → HasOwnTable image offset → LiesInOwn image offset n
-  lies_in_own image offset n some none own = record {
-    some = some;
-    below = elim (cases_lt (size_of image) (offset + n)) [
-      | inl lt ↦ absurd (let is : passes (size_of image) offset n ≡ false = none_second (unusable image) (passes (size_of image) offset n) I.BeyondSize (refuse_if (nat_lt 0 n && not (is_writable image)) I.ReadOnly) none in
-          let yes : passes (size_of image) offset n ≡ true = rw (lt-ltb 0 n some, lt-ltb (size_of image) (offset + n) lt) refl in
-          let no : true ≡ false = sym yes ∙ is in cc)
-      | inr le ↦ le
-    ];
-    own = own;
-  }
+  pub lies_below : (image : Qcow2 S F) (offset n : ℕ) → 0 < n → refuses_to_prepare image offset n ≡ None → offset + n ≤ size_of image
+  lies_below image offset n some none = elim (cases_lt (size_of image) (offset + n)) [
+    | inl lt ↦ absurd (let is : passes (size_of image) offset n ≡ false = none_second (unusable image) (passes (size_of image) offset n) I.BeyondSize (refuse_if (nat_lt 0 n && not (is_writable image)) I.ReadOnly) none in
+        let yes : passes (size_of image) offset n ≡ true = rw (lt-ltb 0 n some, lt-ltb (size_of image) (offset + n) lt) refl in
+        let no : true ≡ false = sym yes ∙ is in cc)
+    | inr le ↦ le
+  ]
 
   pub heeds_refused : {A : Type 0} (image : Qcow2 S F) (offset : ℕ) (r : Result A ImageError) (e : ImageError) → IsErr r × IsErrAnd r (λ x. x ≡ e) → (e ≡ TablePrepared → 0 < own_pins image offset) → RespectsPins image offset r
   heeds_refused image offset r e is why = handed_on (λ (x : Result _ _). RespectsPins image offset x) r e is why

@@ -1,8 +1,24 @@
 -- The single write of a put, and what the put leaves before it.
-use Rattle.std.proofs.Common.{◌≡◌, ◌+◌, ℕ, Bool, List, [], Option, IsSome, Result, Ok, Err, inl, refl, sym, ap, ◌∙◌, subst}
-use Rattle.qcow2_image.proofs.Common.{BackingView, overwritten, StorageView, passes_none, ImageError, view_in, changes_of, Qcow2, Prepared, IsWriteOutcome, InternalCall, IsBegun, storage_of_image, ImageInvariant, abstract_of, pending_in, PutsOnce, offset_of, table_of, InternalFillingStep, InternalStep, Pending, LooksQuietly}
+use Rattle.std.proofs.Common.{◌≡◌, ◌+◌, ℕ, Bool, List, [], Option, IsSome, Result, Ok, Err, IfErr, inl, inr, refl, sym, ap, ◌∙◌, subst}
+use Rattle.qcow2_image.proofs.Common.{BackingView, overwritten, StorageView, passes_none, ImageError, view_in, changes_of, Qcow2, Prepared, IsWriteOutcome, InternalCall, IsBegun, storage_of_image, ImageInvariant, abstract_of, pending_in, PutsOnce, offset_of, table_of, InternalFillingStep, InternalStep, Pending, LooksQuietly, IsSpecial, MappingKind, MayFail, MayFailWriting}
+use Rattle.qcow2_image.proofs.Call.FailingErrors.{writing_met}
 use Rattle.qcow2_alloc.specs.declared.error.ImageError.TheVariants as I
 use Rattle.qcow2_image.proofs.Lemmas.{Quietly, listed, image_step_stays, stays_kept, stays_then, image_step_none, listed_after_same, looks_none, looks_begun}
+
+-- bytes that are not written are neither outdated nor compressed
+pub written_current : {A : Type 0} (result : Result A ImageError) → IfErr result MayFailWriting → result ≡ Err I.OutdatedMapping → ⊥
+written_current (Ok done) why is = absurd cc
+written_current (Err e) why is = let outdated : e ≡ I.OutdatedMapping = cc in subst MayFail outdated (writing_met e why)
+
+pub written_plain : {A : Type 0} (kind : MappingKind) (result : Result A ImageError) → IfErr result MayFailWriting → result ≡ Err I.Compressed → IsSpecial kind
+written_plain kind (Ok done) why is = absurd cc
+written_plain kind (Err e) why is =
+    let compressed : e ≡ I.Compressed = cc in
+    elim why [
+      | inl (inl storage) ↦ let no : I.Storage ≡ I.Compressed = sym storage ∙ compressed in absurd cc
+      | inl (inr memory) ↦ let no : I.Memory ≡ I.Compressed = sym memory ∙ compressed in absurd cc
+      | inr metadata ↦ let no : I.Metadata ≡ I.Compressed = sym metadata ∙ compressed in absurd cc
+    ]
 
 -- a call that changes nothing
 pub unseen_none : {S F : Type 0} (view : S → StorageView) (backing : F → BackingView) (image : Qcow2 S F) (out : List (Option Prepared)) → ImageInvariant view backing (pending_in view backing image out) image out → InternalCall view backing image image out

@@ -90,7 +90,7 @@ returns-in-Err-clause-late g c = λ none out sound.
     let view = g.S.Storage.view in
     let below = g.F.BackingDisk.backing in
     subst (λ n. IsReasonNotToWrite view below c.args.image.now c.write.new.image c.args.at (c.args.at + n) out c.in-Err.refusal) long
-    (write_reason view below c.args.image.now c.read_into.new.image c.write.new.image c.in_ok-read_into.ensures.step.image (ap (λ (x : Setting). x.cluster_size) (first.acts.works sound).setting) c.args.at (length c.read.new.buf) now.works
+    (write_reason view below c.args.image.now c.read_into.new.image c.write.new.image c.in_ok-read_into.ensures.step.image (ap (λ (x : Setting). x.cluster_size) (first.acts.works sound).setting) c.write.new.image c.args.at (length c.read.new.buf) now.works
     (subst (λ n. refuses_to_read c.args.image.now c.args.at n ≡ None) (sym long) none) out c.in-Err.refusal _ _ c.in-Err.ensures.fails.early c.in-Err.ensures.fails.late (λ free t. (c.in-Err.ensures.sound out now).taken free t)
     (λ free is. (
       given_of c.args.at c.read.new.buf ∷ [],

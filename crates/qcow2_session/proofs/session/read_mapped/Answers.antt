@@ -1,6 +1,6 @@
 use Rattle.qcow2_session.proofs.Lemmas.{at_rest, does_if, does_why, found_fits, isnt_beyond, is_beyond, live, mapped_here, passes_mapped, unusable_first, error_is, not_both, begun_with, is_answered, is_misused, is_refused, own_mapping, some_error}
 use Rattle.std.proofs.Common.{◌≡◌, ◌+◌, ◌<◌, ◌≤◌, refl, ap, ◌∙◌, Some, None, Err, arith, rules, subst, get_or, length}
-use Rattle.qcow2_session.proofs.Common.{reads_none, done_as, refused_as, none_as, mapping_at, range_of, guest_of, Found, misuse, abstract_of, slice_get_read, disk_size, MayFailToRead, unusable, behind_none, MayFailReadingFound}
+use Rattle.qcow2_session.proofs.Common.{reads_none, done_as, refused_as, none_as, mapping_at, range_of, guest_of, Found, misuse, abstract_of, slice_get_read, disk_size, MayFailToRead, unusable, behind_none, MayFailReadingFound, RefusesHeld, further_by}
 use Rattle.qcow2_session.proofs.session.read_mapped.Goals.{then-at-mapping-via-then-at-mapping, then-at-mapping-via-else-at-mapping+then-length-mapping}
 use Rattle.qcow2_session.specs.declared.session.Command.TheVariants as C
 use Rattle.qcow2_session.specs.declared.session.Reply.TheVariants as R
@@ -105,10 +105,10 @@ returns-in-Err g c = record {
       let there = slice_get_read mappings (length mappings) c.args.slot c.index.result.now refl (omega (arith, c.args.slots.now.all_mappings, c.ranges.slot)) (subst (λ k. c.index.result.now ≡ get_or mappings k c.index.result.now) c.from.ensures c.index.ensures) in
       let own = c.args.slots.now.looked_up c.args.slot c.in-Some.mapping (there ∙ ap Some c.in-Some.is) ∙ c.requires in
       let within : c.args.at + c.args.length ≤ c.in-Some.mapping.length = omega (arith, c.if-at-mapping.false, c.if-length-mapping.false) in
-      let late : unusable c.args.image.now ≡ None → MayFailReadingFound c.args.image.now c.read_range.new.image (c.in-Some.mapping.offset + c.args.at) c.args.length c.in-Err.refusal × (0 < c.args.length) = λ none. c.in-Err.ensures.late (own_mapping c.args.image.now c.in-Some.mapping.image own ∙ none) in
+      let late : unusable c.args.image.now ≡ None → MayFailReadingFound c.args.image.now c.read_range.new.image (c.in-Some.mapping.offset + c.args.at) c.args.length c.in-Err.refusal × (0 < c.args.length) × RefusesHeld c.args.image.now c.read_range.new.image (c.in-Some.mapping.offset + c.args.at) (further_by c.args.at c.in-Some.mapping.kind) c.args.length c.in-Err.refusal = λ none. c.in-Err.ensures.late (own_mapping c.args.image.now c.in-Some.mapping.image own ∙ none) in
       is_refused g.S.Storage.view g.F.BackingDisk.backing c.args.image.now c.read_range.new.image c.args.slots.now.prepared.items (C.ReadMapped c.args.slot c.args.at c.args.length) c.in-Err.refusal (R.Refused c.in-Err.refusal) (λ is. absurd cc)
       (λ is. absurd cc, λ is. absurd (isnt_beyond c.in-Some.mapping c.args.at c.args.length (ap mapping_at (there ∙ ap Some c.in-Some.is)) within is)) refl
-      (begun_with _ _ _ (unusable c.args.image.now) c.in-Err.ensures.early) (λ none. (c.in-Some.mapping, ap mapping_at (there ∙ ap Some c.in-Some.is), (late none).0)) (λ _ _. tt) (λ none empty. let some = (late none).1 in omega (arith, some, empty))
+      (begun_with _ _ _ (unusable c.args.image.now) c.in-Err.ensures.early) (λ none. (c.in-Some.mapping, ap mapping_at (there ∙ ap Some c.in-Some.is), ((late none).0, (late none).2))) (λ _ _. tt) (λ none empty. let some = (late none).1 in omega (arith, some, empty))
       (λ none sound. (λ is. (c.in-Some.mapping, ap mapping_at (there ∙ ap Some c.in-Some.is), c.in-Err.ensures.outdated c.args.slots.now.prepared.items sound (ap Err (some_error is))), (c.in-Some.mapping, ap mapping_at (there ∙ ap Some c.in-Some.is), c.in-Err.ensures.may_fail (own_mapping c.args.image.now c.in-Some.mapping.image own ∙ none) c.args.slots.now.prepared.items sound)));
   quiet = λ reading existing. record { reading = c.read_range.ensures.step.image.writable ∙ reading; quiet = c.read_range.ensures.step.quiet; existing = existing };
 }

@@ -1,6 +1,8 @@
-use Rattle.std.proofs.Common.{◌≡◌, ◌<◌, ◌+◌, ◌++◌, refl, ap, ◌∙◌, Err, take, drop, length, sym, subst, arith, Some, rules, inl, IfErr, ℕ}
-use Rattle.qcow2_session.proofs.Common.{common_steps, Shows, guest_of, abstract_of, Reads, MayFailReadingFound, ImageError, unusable, IsFoundWhole, further_by, Memory, OutdatedMapping, sound_is_usable, behind_none, IsCacheHeld, MayFailMapped}
+use Rattle.std.proofs.Common.{◌≡◌, ◌<◌, ◌+◌, ◌++◌, refl, ap, ◌∙◌, Err, take, drop, length, sym, subst, arith, Some, rules, inl, inr, IfErr, ℕ}
+use Rattle.qcow2_session.proofs.Common.{common_steps, Shows, guest_of, abstract_of, Reads, MayFailReadingFound, ImageError, unusable, IsFoundWhole, further_by, Memory, OutdatedMapping, sound_is_usable, behind_none, IsCacheHeld, MayFailMapped, RefusesHeld}
 use Rattle.qcow2_session.proofs.Lemmas.{refused_is, refused_some, does_if, answered_at_once, at_rest, memory_marks, none_answered, once_handed, refused_at_once, unchecked, unmarked, same_error, memory_looking}
+use Rattle.qcow2_image.proofs.Map.Held.{heeds_else}
+use Rattle.qcow2_alloc.specs.declared.error.ImageError.TheVariants.{Compressed}
 use Rattle.qcow2_session.proofs.session.read_range.Goals as goal
 
 pub returns-in_err-read_mapped-clause-sees : goal.returns-in_err-read_mapped-clause-sees
@@ -18,8 +20,23 @@ returns-in_err-read_mapped-clause-late g c = λ none.
     let long : length c.deref_mut.result.now ≡ c.args.length = grind (arith, common_steps) in
     let e = c.in_err-read_mapped.field-0.0 in
     let Why : ℕ → ImageError → Type 0 = MayFailReadingFound c.args.image.now c.read_mapped.new.self (c.args.mapping.now.offset + c.args.at) in
-    subst (λ r. IfErr r (λ e. Why c.args.length e × (0 < c.args.length))) (sym (refused_is _ e c.from_residual-in_err-read_mapped.ensures))
-    (refused_some (Why c.args.length) c.args.length (Err e) tt (subst (λ n. Why n e) long (c.in_err-read_mapped.ensures.refusals.late none)) (λ empty. (c.in_err-read_mapped.ensures.refusals.nothing none (long ∙ empty)).0))
+    let Held : ℕ → ImageError → Type 0 = RefusesHeld c.args.image.now c.read_mapped.new.self (c.args.mapping.now.offset + c.args.at) (further_by c.args.at c.args.mapping.now.kind) in
+    let why = refused_some (Why c.args.length) c.args.length (Err e) tt (subst (λ n. Why n e) long (c.in_err-read_mapped.ensures.refusals.late none)) (λ empty. (c.in_err-read_mapped.ensures.refusals.nothing none (long ∙ empty)).0) in
+    let held : Held c.args.length e = subst (λ n. Held n e) long (c.in_err-read_mapped.ensures.held none (subst (λ n. 0 < n) (sym long) why.1)) in
+    subst (λ r. IfErr r (λ e. Why c.args.length e × (0 < c.args.length) × Held c.args.length e)) (sym (refused_is _ e c.from_residual-in_err-read_mapped.ensures)) (why.0, why.1, held)
+
+pub returns-in_err-bytes-clause-late : goal.returns-in_err-bytes-clause-late
+returns-in_err-bytes-clause-late g c = λ none.
+    let e = c.in_err-bytes.field-0.0 in
+    let old = c.args.image.now in
+    let at = c.args.mapping.now.offset + c.args.at in
+    let kind = further_by c.args.at c.args.mapping.now.kind in
+    let memory : e ≡ Memory = c.in_err-bytes.ensures.cause.0 in
+    subst (λ r. IfErr r (λ e. MayFailReadingFound old old at c.args.length e × (0 < c.args.length) × RefusesHeld old old at kind c.args.length e)) (sym (refused_is _ e c.from_residual-in_err-bytes.ensures)) (
+      inl (inl (inr (inr (inl (inr memory))))),
+      (let some = c.in_err-bytes.ensures.cause.1 in grind (arith, common_steps)),
+      heeds_else old old at kind c.args.length (λ x. x ≡ Memory) e (λ is. let no : OutdatedMapping ≡ Memory = is in absurd cc) (λ is. let no : Compressed ≡ Memory = is in absurd cc) memory,
+    )
 
 pub returns-in_err-read_mapped-clause-outdated : goal.returns-in_err-read_mapped-clause-outdated
 returns-in_err-read_mapped-clause-outdated g c = λ out sound is.

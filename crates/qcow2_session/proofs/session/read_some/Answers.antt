@@ -1,6 +1,6 @@
 use Rattle.std.proofs.Common.{◌≡◌, ◌+◌, ◌++◌, ◌<◌, ◌≤◌, ◌∙◌, Some, sym, subst, ap, [], take, drop, arith, rules, inl, Err, IfErr, length}
-use Rattle.qcow2_session.proofs.Common.{counts_on, common_steps, another, Guest, abstract_of, IsOfReading, ReadsFirst, size_of, MayFailReadingFrom, unusable, passes, BeyondSize, finding_read, found_read, behind_then, written_then, counted_on, IsFoundWhole, further_by, MayFailReadingRange, known_in}
-use Rattle.qcow2_session.proofs.Lemmas.{in_parts, parts_answered, parts_behind, parts_beyond, parts_handed, refused_at_once, shows_as, refused_is, refuses_here, none_within, does_if, refuses_if, does_then, refuses_then, mapping_reading, fits_below, then_none, mapping_usable, found_there, looking_prepared, reads_found, none_refused}
+use Rattle.qcow2_session.proofs.Common.{counts_on, common_steps, another, Guest, abstract_of, IsOfReading, ReadsFirst, size_of, MayFailReadingFrom, unusable, passes, BeyondSize, finding_read, found_read, behind_then, written_then, counted_on, IsFoundWhole, further_by, MayFailReadingRange, known_in, MayFailToRead, tables_read}
+use Rattle.qcow2_session.proofs.Lemmas.{in_parts, parts_answered, parts_behind, parts_beyond, parts_handed, refused_at_once, shows_as, refused_is, refuses_here, none_within, does_if, refuses_if, does_then, refuses_then, mapping_reading, fits_below, then_none, mapping_usable, found_there, looking_prepared, reads_found, none_refused, found_current}
 use Rattle.qcow2_session.proofs.ReadCauses.{finding_from, found_from}
 use Rattle.qcow2_session.proofs.session.read_some.Goals as goal
 
@@ -36,8 +36,14 @@ returns-in_err-read_mapped-clause-cause g c =
     let old = c.args.image.now in
     let mid = c.get_mapping.new.self in
     let none = none_refused _ (unusable old) _ c.in_ok-mapping.ensures.refusals.early in
+    let found = c.in_ok-mapping.ensures.found in
+    let usable = mapping_usable old mid c.get_mapping.ensures.step.image c.in_ok-mapping.mapping.image found.own.0 c.in_ok-mapping.ensures.step.marks none in
+    let more : 0 < c.in_ok-mapping.found = let isnt = c.if-count-eq0.false in omega (arith, isnt) in
+    let long : length (take c.in_ok-mapping.found c.args.bytes.now) ≡ c.in_ok-mapping.found = grind (arith, common_steps) in
+    let current = found_current mid c.read_mapped.new.self c.in_ok-mapping.mapping (size_of old) c.args.offset (length c.args.bytes.now) c.in_ok-mapping.found (length (take c.in_ok-mapping.found c.args.bytes.now)) c.in_err-read_mapped.field-0.0
+    found.own.1 found.whole found.past more long c.in_ok-mapping.ensures.held (c.in_err-read_mapped.ensures.held usable (omega (arith, long, more))) in
     subst (λ r. IfErr r IsOfReading) (sym (refused_is _ c.in_err-read_mapped.field-0.0 c.from_residual-in_err-read_mapped.ensures))
-    (inl (found_read mid c.read_mapped.new.self _ _ c.in_err-read_mapped.field-0.0 (c.in_err-read_mapped.ensures.refusals.late (mapping_usable old mid c.get_mapping.ensures.step.image c.in_ok-mapping.mapping.image c.in_ok-mapping.ensures.found.own.0 c.in_ok-mapping.ensures.step.marks none))))
+    (inl (found_read mid c.read_mapped.new.self _ _ c.in_err-read_mapped.field-0.0 current (c.in_err-read_mapped.ensures.refusals.late usable)))
 
 pub returns-in_err-mapping-clause-late : goal.returns-in_err-mapping-clause-late
 returns-in_err-mapping-clause-late g c = λ none some.
@@ -57,9 +63,16 @@ returns-in_err-read_mapped-clause-late g c = λ none some.
     let first = then_none (unusable c.args.image.now) (passes (size_of c.args.image.now) c.args.offset (length c.args.bytes.now)) BeyondSize none in
     let n = length c.args.bytes.now in
     let at : c.in_ok-mapping.mapping.offset + 0 ≡ c.args.offset = let own = c.in_ok-mapping.ensures.found.own.1 in omega (arith, own) in
+    let mid = c.get_mapping.new.self in
+    let found = c.in_ok-mapping.ensures.found in
+    let usable = mapping_usable c.args.image.now mid c.get_mapping.ensures.step.image c.in_ok-mapping.mapping.image found.own.0 c.in_ok-mapping.ensures.step.marks first.0 in
+    let more : 0 < c.in_ok-mapping.found = let isnt = c.if-count-eq0.false in omega (arith, isnt) in
+    let long : length (take c.in_ok-mapping.found c.args.bytes.now) ≡ c.in_ok-mapping.found = grind (arith, common_steps) in
+    let current = found_current mid c.read_mapped.new.self c.in_ok-mapping.mapping (size_of c.args.image.now) c.args.offset (length c.args.bytes.now) c.in_ok-mapping.found (length (take c.in_ok-mapping.found c.args.bytes.now)) c.in_err-read_mapped.field-0.0
+    found.own.1 found.whole found.past more long c.in_ok-mapping.ensures.held (c.in_err-read_mapped.ensures.held usable (omega (arith, long, more))) in
     subst (λ r. IfErr r (MayFailReadingFrom c.read_mapped.new.self c.args.offset (c.args.offset + n))) (sym (refused_is _ c.in_err-read_mapped.field-0.0 c.from_residual-in_err-read_mapped.ensures))
     (found_from c.get_mapping.new.self c.read_mapped.new.self _ _ c.args.offset (c.args.offset + n) c.in_err-read_mapped.field-0.0 (omega (arith, at)) (let most : length (take c.in_ok-mapping.found c.args.bytes.now) ≤ n = grind (arith, common_steps) in omega (arith, at, most))
-    (c.in_err-read_mapped.ensures.refusals.late (mapping_usable c.args.image.now c.get_mapping.new.self c.get_mapping.ensures.step.image c.in_ok-mapping.mapping.image c.in_ok-mapping.ensures.found.own.0 c.in_ok-mapping.ensures.step.marks first.0)))
+    current (c.in_err-read_mapped.ensures.refusals.late usable))
 
 pub returns-in_err-mapping-clause-may_fail : goal.returns-in_err-mapping-clause-may_fail
 returns-in_err-mapping-clause-may_fail g c = λ none some out sound. subst (λ r. IfErr r (MayFailReadingRange out c.args.offset (c.args.offset + length c.args.bytes.now) c.args.image.now.file.header.fields (known_in g.S.Storage.view c.args.image.now.file))) (sym (refused_is _ c.in_err-mapping.field-0.0 c.from_residual.ensures)) (inl (looking_prepared c.args.image.now out c.in_err-mapping.field-0.0 ((c.in_err-mapping.ensures.sound out sound).may_fail)))

@@ -1,6 +1,6 @@
 use Rattle.qcow2_session.proofs.Lemmas.{answered_at_once, at_rest, refused_at_once, quiet_left, found_at, none_at, does_put, refuses_put, is_past, mapping_first, error_is, not_both, put_same, begun_with, is_answered, is_misused, is_refused, none_of, not_free, own_mapping, put_reads, put_writes, same_error, same_mapping, some_error, then_early, then_none}
 use Rattle.std.proofs.Common.{◌≡◌, ◌⊎◌, ◌+◌, ◌<◌, ◌≤◌, ◌&&◌, refl, length, arith, rules, ◌∙◌, inl, inr, ℕ, ap, subst, List, Option, Some, None, Err, not, Result, Ok}
-use Rattle.qcow2_session.proofs.Common.{reads_none, done_as, refused_as, none_as, image_abstraction, misuse, image_of, length_of, table_of, refuses_mapping, unusable, nat_lt, slice_get, IfSome, cases_lt, ImageError, ReadOnly, is_writable, Prepared, behind_none, putting_met}
+use Rattle.qcow2_session.proofs.Common.{reads_none, done_as, refused_as, none_as, image_abstraction, misuse, image_of, length_of, table_of, refuses_mapping, unusable, nat_lt, slice_get, IfSome, cases_lt, ImageError, ReadOnly, is_writable, Prepared, behind_none}
 use Rattle.qcow2_session.specs.declared.session.Command.TheVariants as C
 use Rattle.qcow2_session.specs.declared.session.Reply.TheVariants as R
 use Rattle.qcow2_session.proofs.session.write_mapped.Goals as goal
@@ -111,7 +111,7 @@ returns-in-Err g c = record {
       (λ none.
       let first = then_none (unusable c.args.image.now) (nat_lt 0 n && not (is_writable c.args.image.now)) ReadOnly none in
       elim (cases_lt 0 n) [
-        | inl some ↦ putting_met c.args.image.now c.write_mapped.new.self p c.args.at n e ((rw c.deref.ensures.value at c.in-Err.ensures.refusals.late) (usable ∙ first.0) (put_writes n (is_writable c.args.image.now) first.1 some))
+        | inl some ↦ (p, c.in-Some.ensures, (rw c.deref.ensures.value at c.in-Err.ensures.refusals.late) (usable ∙ first.0) (put_writes n (is_writable c.args.image.now) first.1 some))
         | inr least ↦ absurd (let no = ((rw c.deref.ensures.value at c.in-Err.ensures.refusals.nothing) (usable ∙ first.0) (omega (arith, least))).0 in cc)
       ])
       (λ _ _. tt)

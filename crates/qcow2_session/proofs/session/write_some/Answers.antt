@@ -1,6 +1,6 @@
-use Rattle.std.proofs.Common.{◌≡◌, ◌∷◌, ◌+◌, ◌<◌, ◌≤◌, sym, subst, ap, ◌∙◌, Err, [], Some, None, min, length, refl, arith, ℕ, ⊎_elim, List, inl, inr, take, true, false, rules, Ok, Option, Result, IfErr, is_some}
+use Rattle.std.proofs.Common.{◌≡◌, ◌∷◌, ◌+◌, ◌<◌, ◌≤◌, sym, subst, ap, ◌∙◌, Err, [], Some, None, min, length, refl, arith, ℕ, ⊎_elim, List, inl, inr, take, true, false, rules, Ok, Option, Result, IfErr, is_some, length-take}
 use Rattle.qcow2_session.proofs.Common.{MarksAtOnce, counts_on, counts_released, IsUnderMapping, IfSome, IfOk, IsOk, given_of, Setting, guest_of, refusal_of, Commits, reason_of, CountsImageFaults, is_writable, number_of, size_of, IsHandedBackBy, image_of, length_of, guest_offset_of, offset_of, table_of, refuses_mapping, refuses_to_prepare, MayFail, MayFailPreparing, Kept, abstract_of, image_abstraction, meaning, AreDataAt, cluster_size_of, LeavesCopied, WritesFirst, RespectsFirst, free_places, Qcow2, cases_Bool, cases_lt, pow_pos, IsOfNothing, Prepared, common_steps, ImageError, counted_still, faults_then, IsOfTables, tables_met, behind_then, written_then, known_in, fault_unlimited, limited_upto, other_limit, fault_of, NeedsOverflowingL1Entry, IfLimit, IsLimited, CopiesCompressed, IsCacheHeld, MayFailAllocating, HasPinnedMapping, taking_as, putting_met}
-use Rattle.qcow2_session.proofs.Lemmas.{commit_at_once, in_parts, parts_answered, parts_before, parts_behind, parts_handed, refused_at_once, cut_long, cut_part, cut_short, may_write_none, put_refused, written, commit_old_tables, commit_kept, chunk_ends, no_more_then, none_refused, refused_is, none_within, refuses_if, refuses_less, nothing_refused, nothing_prepared, prepare_same, put_same, commit_since, mapping_usable, not_failed_yet, prepares_usable, prepares_within, prepares_writable, put_met, under_taken, untaken_beside, quiet_commit, quiet_image, quiet_release, existing_or_not, kept_data, part_copied, existing_found, existing_long, existing_near, put_unlimited, compressed_behind, put_looking}
+use Rattle.qcow2_session.proofs.Lemmas.{commit_at_once, in_parts, parts_answered, parts_before, parts_behind, parts_handed, refused_at_once, cut_long, cut_part, cut_short, may_write_none, put_refused, written, commit_old_tables, commit_kept, chunk_ends, no_more_then, none_refused, refused_is, none_within, refuses_if, refuses_less, nothing_refused, nothing_prepared, prepare_same, put_same, commit_since, mapping_usable, not_failed_yet, prepares_usable, prepares_within, prepares_writable, put_met, under_taken, untaken_beside, quiet_commit, quiet_image, quiet_release, existing_or_not, kept_data, part_copied, existing_found, existing_long, existing_near, put_unlimited, compressed_behind, put_looking, put_current}
 use Rattle.qcow2_session.proofs.session.write_some.Goals as goal
 
 -- what refused a call that begins another one before any work refused that one
@@ -98,7 +98,9 @@ returns-in-Err-clause-fails g c =
     let p = c.in_ok-prepared.prepared in
     let n = length c.args.bytes.now in
     let may : refuses_to_prepare old c.args.offset n ≡ None → MayFail c.in-Err.refusal = λ none. put_met old mid c.prepare_data_mapping.ensures.step.image (image_of p) c.args.offset n (length (take c.min-count.result c.args.bytes.now)) c.in-Err.refusal
-    c.in_ok-prepared.ensures.answer.own c.in_ok-prepared.ensures.step.marks (λ empty. grind (arith, common_steps)) none (λ usable writes. putting_met c.prepare_data_mapping.new.self c.write_mapped.new.self c.in_ok-prepared.prepared 0 (length (take c.min-count.result c.args.bytes.now)) c.in-Err.refusal (c.in-Err.ensures.refusals.late usable writes)) (λ usable empty. let no = (c.in-Err.ensures.refusals.nothing usable empty).0 in absurd cc) in
+    c.in_ok-prepared.ensures.answer.own c.in_ok-prepared.ensures.step.marks (λ empty. grind (arith, common_steps)) none (λ usable writes current. putting_met c.prepare_data_mapping.new.self c.write_mapped.new.self c.in_ok-prepared.prepared 0 (length (take c.min-count.result c.args.bytes.now)) c.in-Err.refusal current (c.in-Err.ensures.refusals.late usable writes)) (λ usable empty. let no = (c.in-Err.ensures.refusals.nothing usable empty).0 in absurd cc)
+    (λ usable some more. put_current mid c.write_mapped.new.self p c.args.offset n (length (take c.min-count.result c.args.bytes.now)) c.in-Err.refusal (c.in_ok-prepared.ensures.existing some none)
+    (let long = length-take c.min-count.result c.args.bytes.now in omega (arith, long)) c.in-Err.ensures.private (λ existing. c.in-Err.ensures.held usable existing more)) in
     record {
       early = nothing_refused _ _ (refuses_to_prepare c.args.image.now c.args.offset (length c.args.bytes.now)) c.prepare_data_mapping.result c.in_ok-prepared.prepared c.prepare_data_mapping.ensures.refusals.early c.in_ok-prepared.was;
       late = λ none. (
@@ -162,7 +164,7 @@ returns-in_err-prepared-clause-fails g c = record {
   late = λ none.
       let old = c.args.image.now in
       let n = length c.args.bytes.now in
-      subst (λ r. IfErr r (λ e. MayFailPreparing e × (0 < n))) (sym (refused_is _ c.in_err-prepared.field-0.0 c.from_residual.ensures))
+      subst (λ r. IfErr r (λ e. MayFailPreparing c.prepare_data_mapping.new.self e × (0 < n))) (sym (refused_is _ c.in_err-prepared.field-0.0 c.from_residual.ensures))
       (c.in_err-prepared.ensures.refusals.late none, some_bytes n (λ empty. let no = (c.in_err-prepared.ensures.refusals.nothing (ap (λ k. refuses_to_prepare old c.args.offset k) (sym empty) ∙ none) empty).0 in absurd cc));
   beyond = search rules;
   cause = search rules;
@@ -412,7 +414,9 @@ returns-in-Err-clause-sound g c = λ out sound. record {
             (λ existing outdated. (c.in-Err.ensures.sound (Some p ∷ out) prepared.0).outdated existing (ap Err outdated) (existing_found view below out old mid p offset n prepared.0 same maps some existing fits prepared.1.0.from (length (take count c.args.bytes.now)) (long existing)))
             ((c.in-Err.ensures.sound (Some p ∷ out) prepared.0).may_fail 0 refl (c.prepare_data_mapping.ensures.step.image.writable ∙ prepares_writable old offset n none some))) [ inl fault ↦ inl (inl (inl fault)) | inr used ↦ inr (inl used) ];
         taken = λ is. absurd (subst MayFail is (put_met c.args.image.now c.prepare_data_mapping.new.self c.prepare_data_mapping.ensures.step.image (image_of c.in_ok-prepared.prepared) c.args.offset (length c.args.bytes.now) (length (take c.min-count.result c.args.bytes.now)) c.in-Err.refusal
-            c.in_ok-prepared.ensures.answer.own c.in_ok-prepared.ensures.step.marks (λ empty. grind (arith, common_steps)) none (λ usable writes. putting_met c.prepare_data_mapping.new.self c.write_mapped.new.self c.in_ok-prepared.prepared 0 (length (take c.min-count.result c.args.bytes.now)) c.in-Err.refusal (c.in-Err.ensures.refusals.late usable writes)) (λ usable empty. let no = (c.in-Err.ensures.refusals.nothing usable empty).0 in absurd cc)));
+            c.in_ok-prepared.ensures.answer.own c.in_ok-prepared.ensures.step.marks (λ empty. grind (arith, common_steps)) none (λ usable writes current. putting_met c.prepare_data_mapping.new.self c.write_mapped.new.self c.in_ok-prepared.prepared 0 (length (take c.min-count.result c.args.bytes.now)) c.in-Err.refusal current (c.in-Err.ensures.refusals.late usable writes)) (λ usable empty. let no = (c.in-Err.ensures.refusals.nothing usable empty).0 in absurd cc)
+            (λ usable some more. put_current c.prepare_data_mapping.new.self c.write_mapped.new.self c.in_ok-prepared.prepared c.args.offset (length c.args.bytes.now) (length (take c.min-count.result c.args.bytes.now)) c.in-Err.refusal (c.in_ok-prepared.ensures.existing some none)
+            (let long = length-take c.min-count.result c.args.bytes.now in omega (arith, long)) c.in-Err.ensures.private (λ existing. c.in-Err.ensures.held usable existing more))));
         limit = other_limit _ c.in-Err.refusal (put_unlimited _ p 0 c.in-Err.refusal ((c.in-Err.ensures.sound (Some p ∷ out) prepared.0).may_fail 0 refl (c.prepare_data_mapping.ensures.step.image.writable ∙ prepares_writable old c.args.offset n none some)));
       };
   freeing = search rules;

@@ -1,5 +1,5 @@
 use Rattle.std.proofs.Common.{◌<◌, ◌≡◌, ◌⊎◌, Some, arith, length, refl, subst, sym, ◌∙◌, rules, inl, IfErr}
-use Rattle.qcow2_session.proofs.Common.{common_steps, known_in, sound_is_usable, NotCompressed, MayFailTelling, unusable, behind_none, IsCacheHeld, MayFailSpecial, telling_or, IfErr-weaker}
+use Rattle.qcow2_session.proofs.Common.{common_steps, known_in, sound_is_usable, NotCompressed, MayFailTelling, unusable, behind_none, IsCacheHeld, MayFailSpecial, telling_or, IfErr-weaker, MayFailToRead, IsCompressedInTables}
 use Rattle.qcow2_session.proofs.Lemmas.{refused_is, refused_some, at_rest, call_at_once, memory_marks, once_handed, unchecked, unmarked, memory_looking}
 use Rattle.qcow2_session.proofs.SpecialReads.{told_specially}
 use Rattle.qcow2_session.proofs.special.read_range.Goals as goal
@@ -9,13 +9,13 @@ returns-clause-reports g c = λ out sound.
     let old = c.args.image.now in
     let usable = sound_is_usable g.S.Storage.view g.F.BackingDisk.backing old out sound in
     let long : length c.deref_mut.result.now ≡ c.args.length = grind (arith, common_steps) in
-    told_specially (known_in g.S.Storage.view old.file) c.args.offset c.args.length c.readv_special.result (λ some. c.readv_special.ensures.some (subst (λ n. 0 < n) (sym long) some)) (λ none. (c.readv_special.ensures.refusals.nothing usable (long ∙ none)).0)
-    (IfErr-weaker c.readv_special.result _ _ (λ e. telling_or c.args.image.now c.readv_special.new.self c.args.offset 1 e (e ≡ NotCompressed c.args.offset)) (c.readv_special.ensures.refusals.late usable)) (λ some. (c.readv_special.ensures.sound out sound).reports (subst (λ n. 0 < n) (sym long) some))
+    told_specially (¬ IsCompressedInTables c.readv_special.new.self c.args.offset) (known_in g.S.Storage.view old.file) c.args.offset c.args.length c.readv_special.result (λ some. c.readv_special.ensures.some (subst (λ n. 0 < n) (sym long) some)) (λ none. (c.readv_special.ensures.refusals.nothing usable (long ∙ none)).0)
+    (IfErr-weaker c.readv_special.result _ _ (λ e. telling_or c.args.image.now c.readv_special.new.self c.args.offset 1 e ((e ≡ NotCompressed c.args.offset) × ¬ IsCompressedInTables c.readv_special.new.self c.args.offset)) (c.readv_special.ensures.refusals.late usable)) (λ some. (c.readv_special.ensures.sound out sound).reports (subst (λ n. 0 < n) (sym long) some))
 
 pub returns-clause-late : goal.returns-clause-late
 returns-clause-late g c = λ usable.
     let long : length c.deref_mut.result.now ≡ c.args.length = grind (arith, common_steps) in
-    refused_some (λ e. MayFailTelling c.args.image.now c.readv_special.new.self c.args.offset 1 e ⊎ (e ≡ NotCompressed c.args.offset)) c.args.length c.readv_special.result tt (c.readv_special.ensures.refusals.late usable) (λ none. (c.readv_special.ensures.refusals.nothing usable (long ∙ none)).0)
+    refused_some (λ e. MayFailTelling c.args.image.now c.readv_special.new.self c.args.offset 1 e ⊎ ((e ≡ NotCompressed c.args.offset) × ¬ IsCompressedInTables c.readv_special.new.self c.args.offset)) c.args.length c.readv_special.result tt (c.readv_special.ensures.refusals.late usable) (λ none. (c.readv_special.ensures.refusals.nothing usable (long ∙ none)).0)
 
 pub returns-in_err-check_read-clause-may_fail : goal.returns-in_err-check_read-clause-may_fail
 returns-in_err-check_read-clause-may_fail g c = λ out sound. absurd (unchecked (unusable c.args.image.now) c.in_err-check_read.field-0.0 c.in_err-check_read.ensures.refusal (sound_is_usable g.S.Storage.view g.F.BackingDisk.backing c.args.image.now out sound))

@@ -1,4 +1,4 @@
-use Rattle.std.proofs.Common.{◌≡◌, ◌+◌, ◌*◌, ◌<◌, ◌≤◌, ⊎_elim, ℕ, ap, ◌∙◌, subst, arith, false, true, inl, inr}
+use Rattle.std.proofs.Common.{◌≡◌, ◌+◌, ◌*◌, ◌<◌, ◌≤◌, ⊎_elim, ℕ, ap, ◌∙◌, subst, arith, inl, inr}
 use Rattle.qcow2_image.proofs.Common.{cases_lt, L2TableView, IsAlike, mapping_of, IsAlikeTo, AreAlikeBehind, HasUnalignedBehind, IsUnalignedIn, UnalignedTable}
 use Rattle.qcow2_image.proofs.Lemmas.{hands_met}
 use Rattle.qcow2_image.proofs.image.Qcow2.alike_behind.Goals as goal

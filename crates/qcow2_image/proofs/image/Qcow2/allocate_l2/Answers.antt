@@ -112,3 +112,6 @@ returns-in_err-pending-clause-sound g c = λ p out sound may says.
           (limited_left taken 0 e (elim left [ inl stays ↦ inl stays | inr broken ↦ inr broken.interrupted.fault ]) (goes_step (returns-in_err-pending-clause-step g c))
           (λ full. record { allocator = a; is = refl; lacks = inl (1, inl refl, full) }) why);
     }
+
+pub returns-in-Ok-clause-own : goal.returns-in-Ok-clause-own
+returns-in-Ok-clause-own g c = c.in-Ok.ensures.own (subst (λ n. 0 < n) (sym c.cluster-cluster.ensures) c.in_ok-pending.ensures.elsewhere)

@@ -1,6 +1,7 @@
 use Rattle.qcow2_image.proofs.Lemmas.{filling_none, keeping_of_filling, keeping_of_read, hands_met, met_as, looks_none}
 use Rattle.std.proofs.Common.{◌≡◌, ◌+◌, ◌∙◌, inr, None, true, sym, subst, arith, rules, Result, ℕ}
-use Rattle.qcow2_image.proofs.Common.{Raw, Image, IsFoundWhole, IsMappedAs, handed_on, none_of, FitsTables, IsCacheHeld, MayFailLookingAgain, table_of, IfOk-weaker, on_ok_weaker, LooksQuietly, ImageError, MayFailFindingAgain}
+use Rattle.qcow2_image.proofs.Common.{Raw, Image, IsFoundWhole, IsMappedAs, handed_on, none_of, FitsTables, IsCacheHeld, MayFailLookingAgain, table_of, IfOk-weaker, on_ok_weaker, LooksQuietly, ImageError, MayFailFindingAgain, IsHeldAs, OutdatedMapping}
+use Rattle.qcow2_alloc.specs.declared.error.ImageError.TheVariants.{Compressed}
 use Rattle.qcow2_image.proofs.image.Qcow2.check_in_place.Goals as goal
 
 pub returns-in_err-guest-clause-sound : goal.returns-in_err-guest-clause-sound
@@ -30,8 +31,9 @@ returns-clause-sound g c = λ p out sound.
 
 pub returns-in_err-guest-clause-held : goal.returns-in_err-guest-clause-held
 returns-in_err-guest-clause-held g c = λ none some.
-    handed_on (λ (r : Result _ _). FitsTables c.args.self.now (c.args.prepared.now.guest + c.args.at) (Raw Image c.args.host true) c.args.length r) c.from_residual.result c.in_err-guest.field-0.0 c.from_residual.ensures
-    (λ outdated whole. absurd (let b = whole.below in let p = c.in_err-guest.ensures.past in omega (arith, b, p, some)))
+    handed_on (λ (r : Result _ _). FitsTables c.args.self.now c.args.self.now (c.args.prepared.now.guest + c.args.at) (Raw Image c.args.host true) c.args.length r) c.from_residual.result c.in_err-guest.field-0.0 c.from_residual.ensures
+    (let isnt : ¬ IsHeldAs c.args.self.now (c.args.prepared.now.guest + c.args.at) (Raw Image c.args.host true) c.args.length = λ whole. let b = whole.below in let p = c.in_err-guest.ensures.past in omega (arith, b, p, some) in
+    record { outdated = λ outdated. (isnt, isnt); compressed = λ compressed. let no : OutdatedMapping ≡ Compressed = sym c.in_err-guest.ensures.cause ∙ compressed in absurd cc })
 
 pub returns-then-is_some-clause-step : goal.returns-then-is_some-clause-step
 returns-then-is_some-clause-step g c = keeping_of_filling filling_none

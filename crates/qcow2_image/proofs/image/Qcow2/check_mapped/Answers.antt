@@ -1,7 +1,9 @@
 use Rattle.std.proofs.Common.{◌≡◌, ◌≤◌, ◌<◌, IsTrue, true, false, sym, subst, arith, ⊎_elim, inl, inr, refl, rules, Result, is_some}
-use Rattle.qcow2_image.proofs.Common.{IsFoundInImage, IsFoundWhole, IsMappedAs, handed_on, IsCacheHeld, MayFailLookingAgain, cases_lt, FitsTables, IsHeldAs, size_of, MayFailFinding, MayFailFindingAgain, IsSpecial}
-use Rattle.qcow2_image.proofs.Lemmas.{found_after, found_before, found_whole, mapped_as, hands_met, held_whole, heeds_else, same_found, finding_other}
+use Rattle.qcow2_image.proofs.Common.{IsFoundInImage, IsFoundWhole, IsMappedAs, handed_on, IsCacheHeld, MayFailLookingAgain, cases_lt, FitsTables, IsHeldAs, IsOfTables, size_of, MayFailFindingAgain, IsSpecial}
+use Rattle.qcow2_image.proofs.Lemmas.{found_after, found_before, found_whole, mapped_as, hands_met, held_whole, heeds_else, same_found}
+use Rattle.qcow2_image.proofs.Call.CacheErrors.{finding_tables}
 use Rattle.qcow2_image.proofs.image.Qcow2.check_mapped.Goals.{else-found-length-via-then-found-length+else-is, else-found-length-via-else-found-length}
+use Rattle.qcow2_alloc.specs.declared.error.ImageError.TheVariants.{Compressed, OutdatedMapping}
 use Rattle.qcow2_image.proofs.image.Qcow2.check_mapped.Goals as goal
 
 pub returns-then-is-clause-sound : goal.returns-then-is-clause-sound
@@ -58,19 +60,21 @@ returns-then-is-clause-held g c = λ some.
     (λ past. absurd (let none = same_found _ _ _ _ (c.in_ok-kind.ensures.past past) in omega (arith, least, some, none))) (cases_lt c.args.offset (size_of c.args.self.now))
 
 pub returns-clause-held : goal.returns-clause-held
-returns-clause-held g c = λ some outdated whole.
+returns-clause-held g c = λ some.
     let new = c.look_up.new.self in
+    let isnt : ¬ IsHeldAs new c.args.offset c.args.wanted.now c.args.length = λ whole.
     let below : c.args.offset < size_of c.args.self.now = let b = whole.below in let s = c.look_up.ensures.step.part.stays.image.size in omega (arith, b, s, some) in
     let both = held_whole new.file.header.fields (is_some new.backing) new.l1_table new.file.caches c.args.offset c.args.length c.in_ok-kind.found c.in_ok-kind.kind c.args.wanted.now (c.in_ok-kind.ensures.held below) whole in
     elim c.else-found-length.branch [
       | else-found-length-via-then-found-length+else-is w ↦ absurd (let no : false ≡ true = subst IsTrue w.if-is.false (w.is.ensures.1 both.0) in cc)
       | else-found-length-via-else-found-length w ↦ absurd (let short = w.if-found-length.false in omega (arith, both.1))
-    ]
+    ] in
+    record { outdated = λ outdated. (λ was. isnt (c.look_up.ensures.still c.args.wanted.now c.args.length was), isnt); compressed = λ compressed. let no : OutdatedMapping ≡ Compressed = compressed in absurd cc }
 
 pub returns-in_err-kind-clause-held : goal.returns-in_err-kind-clause-held
 returns-in_err-kind-clause-held g c = λ some.
-    handed_on (λ (r : Result _ _). FitsTables c.look_up.new.self c.args.offset c.args.wanted.now c.args.length r) c.from_residual.result c.in_err-kind.field-0.0 c.from_residual.ensures
-    (heeds_else c.look_up.new.self c.args.offset c.args.wanted.now c.args.length (MayFailFinding c.args.self.now c.look_up.new.self c.args.offset c.args.length) c.in_err-kind.field-0.0 (finding_other c.args.self.now c.look_up.new.self c.args.offset c.args.length) c.in_err-kind.ensures.fails.cause)
+    handed_on (λ (r : Result _ _). FitsTables c.args.self.now c.look_up.new.self c.args.offset c.args.wanted.now c.args.length r) c.from_residual.result c.in_err-kind.field-0.0 c.from_residual.ensures
+    (heeds_else c.args.self.now c.look_up.new.self c.args.offset c.args.wanted.now c.args.length IsOfTables c.in_err-kind.field-0.0 (λ no. no) (λ no. no) (finding_tables c.args.self.now c.look_up.new.self c.args.offset c.args.length c.in_err-kind.field-0.0 c.in_err-kind.ensures.fails.cause))
 
 pub returns-in_err-kind-clause-fails : goal.returns-in_err-kind-clause-fails
 returns-in_err-kind-clause-fails g c = record {
@@ -84,4 +88,4 @@ returns-clause-fails g c = record { faults = search rules; cause = inr refl }
 pub returns-then-is-clause-special : goal.returns-then-is-clause-special
 returns-then-is-clause-special g c = λ so.
     let same : c.args.wanted.now ≡ c.in_ok-kind.kind = c.is.ensures.0 c.if-is.true in
-    c.in_ok-kind.ensures.special (subst IsSpecial same so)
+    c.in_ok-kind.ensures.kind.special (subst IsSpecial same so)

@@ -1,6 +1,6 @@
-use Rattle.std.proofs.Common.{◌≡◌, ◌⊎◌, ◌/◌, inl, sym, ◌∙◌, subst, is_some, rules, inr, refl}
+use Rattle.std.proofs.Common.{◌≡◌, ◌⊎◌, ◌/◌, inl, sym, ◌∙◌, subst, is_some, rules, inr, refl, false, true}
 use Rattle.qcow2_image.proofs.Common.{IsCompressedAt, cluster_size, cover, kind_at, known_header, known_in, state_in, found_kind, IsCacheHeld, MayFailLooking, MayFailTelling}
-use Rattle.qcow2_image.proofs.Map.Special.{found_special, found_plain, special_kind}
+use Rattle.qcow2_image.proofs.Map.Special.{found_special, found_plain, special_kind, special_told}
 use Rattle.qcow2_alloc.specs.declared.error.ImageError.TheVariants.{Compressed}
 use Rattle.qcow2_image.proofs.Prepare.FailingCopies.{hands_met}
 use Rattle.qcow2_image.proofs.image.Qcow2.check_not_compressed.Goals as goal
@@ -48,4 +48,9 @@ returns-in_err-kind-clause-fails g c = record {
 }
 
 pub returns-then-is_special-clause-fails : goal.returns-then-is_special-clause-fails
-returns-then-is_special-clause-fails g c = record { faults = search rules; cause = inr (refl, c.in_ok-kind.ensures.special (special_kind c.in_ok-kind.kind (sym c.is_special.ensures ∙ c.if-is_special.true))) }
+returns-then-is_special-clause-fails g c = record { faults = search rules; cause = inr (refl, c.in_ok-kind.ensures.kind.special (special_kind c.in_ok-kind.kind (sym c.is_special.ensures ∙ c.if-is_special.true))) }
+
+pub returns-clause-plain : goal.returns-clause-plain
+returns-clause-plain g c = λ compressed.
+    let no : false ≡ true = sym (sym c.is_special.ensures ∙ c.if-is_special.false) ∙ special_told c.in_ok-kind.kind (c.in_ok-kind.ensures.plain compressed) in
+    cc

@@ -1,5 +1,5 @@
 use Rattle.qcow2_image.proofs.image.Qcow2.clear_in_table.Goals as goal
-use Rattle.std.proofs.Common.{◌≡◌, ◌<◌, ◌-◌, ◌/◌, ◌%◌, ◌^◌, ◌++◌, ◌+◌, inl, ap, ◌∙◌, subst, arith, sym, inr, refl}
+use Rattle.std.proofs.Common.{◌≡◌, ◌<◌, ◌-◌, ◌/◌, ◌%◌, ◌^◌, ◌++◌, inl, ap, ◌∙◌, subst, arith, sym, inr, refl}
 use Rattle.qcow2_image.proofs.Common.{handed_on, cluster_size, l2_pins, Qcow2, ClearsTable, ReadsAll, ClearsInTable, l2_index_of, ImageFails, MayFailPreparing, notes_then, TablePrepared}
 use Rattle.qcow2_image.proofs.Lemmas.{clears_between, no_pins, pinned_under, under_pinned, some_prepared, table_kept, behind_by, behind_tables, behind_then, found_pins, heeds_refused, met_untaken, other_limit, fault_unlimited, reading_fault, taking_as, counted_ok, faults_then, untouched}
 use Rattle.qcow2_image.proofs.Call.Fails.{fails_on}
@@ -22,7 +22,7 @@ returns-in_err-table-clause-fails g c = fails_on c.writable_l2_table.result c.in
 pub returns-then-l2_is_pinned-clause-fails : goal.returns-then-l2_is_pinned-clause-fails
 returns-then-l2_is_pinned-clause-fails g c = record {
   faults = counted_other g.S.Storage.view g.F.BackingDisk.backing c.args.self.now c.writable_l2_table.new.self TablePrepared (λ is. cc) c.in_ok-table.ensures.fails.faults.told;
-  cause = inr refl;
+  cause = inr (refl, record { cluster = c.in_ok-table.table; pins = c.l2_is_pinned.ensures.0 c.if-l2_is_pinned.true });
 }
 
 pub returns-in_err-old_data-clause-fails : goal.returns-in_err-old_data-clause-fails
@@ -32,7 +32,7 @@ returns-in_err-old_data-clause-fails g c =
     let old = c.args.self.now in
     let mid = c.writable_l2_table.new.self in
     let e = c.in_err-old_data.field-0.0 in
-    handed_on (λ r. ImageFails view below old mid r MayFailPreparing) c.from_residual-in_err-old_data.result e c.from_residual-in_err-old_data.ensures
+    handed_on (λ r. ImageFails view below old mid r (MayFailPreparing mid)) c.from_residual-in_err-old_data.result e c.from_residual-in_err-old_data.ensures
     (record { faults = counted_other view below old mid e c.in_err-old_data.ensures.faults c.in_ok-table.ensures.fails.faults.told; cause = inl c.in_err-old_data.ensures.cause })
 
 pub returns-clause-fails : goal.returns-clause-fails

@@ -69,7 +69,7 @@ returns-in_err-mark_failure-clause-fails g c =
     let bad : Result (Unit {0}) ImageError = Err e in
     handed_on (λ (r : Result (ℕ × ℕ) ImageError). FailsToClear view below how old new offset n r) c.from_residual-in_err-mark_failure.result e c.from_residual-in_err-mark_failure.ensures (record {
       early = not_early view below old how offset n c.check_clear.result c.check_clear.ensures.refusal c.in_ok-from.from c.in_ok-from.to c.in_ok-from.was new (Err e);
-      late = λ none. subst (λ (r : Result _ _). IfErr r MayFailPreparing) done c.clear_between-cleared.ensures.fails.cause;
+      late = λ none. subst (λ (image : Qcow2 _ _). MayFailPreparing image e) (sym c.mark_failure.ensures.rest) (subst (λ (r : Result _ _). IfErr r (MayFailPreparing entries)) done c.clear_between-cleared.ensures.fails.cause);
       refused = subst (λ (image : Qcow2 _ _). RefusesClearing view below how old image offset n e) (sym c.mark_failure.ensures.rest) (record {
         ungiven = ungiven_refused view below old how offset n b.works begun entries b.quiet e marked number may memory refuses;
         lacks = λ none out sound unprepared.

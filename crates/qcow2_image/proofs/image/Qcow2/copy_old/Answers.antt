@@ -1,5 +1,6 @@
 use Rattle.std.proofs.Common.{◌≡◌, ◌+◌, ◌/◌, ◌≤◌, ℕ, List, length, replicate, refl, sym, ap, ◌∙◌, subst, arith, rules, is_some, inl}
-use Rattle.qcow2_image.proofs.Common.{length-replicate, get_or-replicate, cover, known_byte, cluster_size, HeaderView, Disk, known_in, state_in, found_kind, IsMappedAs, backing_bytes, MayFailReading, IsFault, IfOk-weaker}
+use Rattle.qcow2_image.proofs.Common.{length-replicate, get_or-replicate, cover, known_byte, cluster_size, HeaderView, Disk, known_in, state_in, found_kind, IsMappedAs, backing_bytes, MayFail, MayFailCopying, MayFailReading, MayFailWriting, IsFault, IfOk-weaker}
+use Rattle.qcow2_image.proofs.Call.FailingErrors.{reading_copied, writing_met}
 use Rattle.qcow2_image.proofs.Map.Reading.{none_below, zero_shown}
 use Rattle.qcow2_image.proofs.Lemmas.{disk_kept, image_step_data, image_step_kept, image_step_then, own_of, there_written, hands_unlimited, hands_met, met_as, filling_of_read, filling_then, filling_written}
 use Rattle.qcow2_image.proofs.image.Qcow2.copy_old.Goals as goal
@@ -63,7 +64,7 @@ pub returns-in-Zero-clause-may_fail : goal.returns-in-Zero-clause-may_fail
 returns-in-Zero-clause-may_fail g c = λ behind. met_as IsFault (MayFailReading c.args.kind.now) c.write_zeros.result (λ e fault. inl fault) (c.write_zeros.ensures.fault behind)
 
 pub returns-in_err-read_as-clause-may_fail : goal.returns-in_err-read_as-clause-may_fail
-returns-in_err-read_as-clause-may_fail g c = λ behind. hands_met (MayFailReading c.args.kind.now) c.from_residual-in_err-read_as.result c.in_err-read_as.field-0.0 c.from_residual-in_err-read_as.ensures c.in_err-read_as.ensures.may_fail
+returns-in_err-read_as-clause-may_fail g c = λ behind. hands_met (MayFailReading c.args.kind.now) c.from_residual-in_err-read_as.result c.in_err-read_as.field-0.0 c.from_residual-in_err-read_as.ensures c.in_err-read_as.ensures.fails.cause
 
 pub returns-clause-may_fail : goal.returns-clause-may_fail
 returns-clause-may_fail g c = λ behind.
@@ -78,9 +79,23 @@ returns-in_err-read_as-clause-step g c = filling_of_read c.read_as.ensures.step 
 pub returns-in_err-read_as-clause-fails : goal.returns-in_err-read_as-clause-fails
 returns-in_err-read_as-clause-fails g c = record {
   faults = search rules;
-  cause = search rules;
+  cause = hands_met (MayFailCopying c.args.kind.now) c.from_residual-in_err-read_as.result c.in_err-read_as.field-0.0 c.from_residual-in_err-read_as.ensures (reading_copied c.args.kind.now c.in_err-read_as.field-0.0 c.in_err-read_as.ensures.fails.cause);
   limited = hands_unlimited c.from_residual-in_err-read_as.result c.in_err-read_as.field-0.0 c.from_residual-in_err-read_as.ensures c.in_err-read_as.ensures.fails.limited;
 }
 
 pub returns-clause-step : goal.returns-clause-step
 returns-clause-step g c = filling_then (filling_of_read c.read_as.ensures.step c.read_as.ensures.allocator c.read_as.ensures.tables.l1_table) (filling_written c.write_data.ensures.step c.write_data.ensures.written.rest)
+
+pub returns-clause-fails : goal.returns-clause-fails
+returns-clause-fails g c = record {
+  faults = search rules;
+  cause = met_as MayFailWriting (MayFailCopying c.args.kind.now) c.write_data.result (λ e why. inl (writing_met e why)) c.write_data.ensures.fails.cause;
+  limited = search rules;
+}
+
+pub returns-in-Zero-clause-fails : goal.returns-in-Zero-clause-fails
+returns-in-Zero-clause-fails g c = record {
+  faults = search rules;
+  cause = met_as MayFail (MayFailCopying c.args.kind.now) c.write_zeros.result (λ e why. inl why) c.write_zeros.ensures.fails.cause;
+  limited = search rules;
+}

@@ -42,7 +42,7 @@ returns-clause-held g c = λ lies own.
     let below = lies.below in
     let limit : c.min-max.result ≡ min (min c.args.length (h.size - c.args.offset)) (rest_of_table h c.args.offset) =
     c.min-max.ensures ∙ ap (min n) c.rest_of_table.ensures.value ∙ ap (λ m. min m (rest_of_table h c.args.offset)) (omega (arith, below)) in
-    let run = c.in_ok-kind.ensures.held n limit (let some = lies.some in omega (arith, some, below)) own lies.own.0 in
+    let run = (c.in_ok-kind.ensures.held own lies.own.0).run n limit (let some = lies.some in omega (arith, some, below)) in
     let whole : c.in_ok-kind.found ≡ c.args.length = let most = run.at_most in let least = c.if-found-length.false in omega (arith, most, least) in
     if_some_then (λ host. c.writable_place.result ≡ Some host) (IsWritableInTables image c.args.offset n) c.behind_header.result c.behind_header.ensures.own
     (λ host place. subst (λ m. IsWritableInTables image c.args.offset m host) whole (writable_held h (is_some image.backing) image.l1_table image.file.caches c.args.offset c.in_ok-kind.kind c.in_ok-kind.found host (sym c.writable_place.ensures ∙ place) run.mapped))

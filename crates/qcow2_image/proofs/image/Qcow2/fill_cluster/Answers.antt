@@ -1,7 +1,7 @@
 use Rattle.std.proofs.Common.{◌≡◌, ◌+◌, ◌-◌, ◌*◌, ◌/◌, ◌%◌, ◌^◌, ◌<◌, ◌⊎◌, ◌≤◌, ℕ, sym, ap, ◌∙◌, arith, is_some, inl, inr, rules}
-use Rattle.qcow2_image.proofs.Common.{div-mul-add, div-add-mod', cluster_size, contents_in, known_in, IsMappedAs, disk_of, cover, known_byte, kind_at, IsFault, IsCopiedCompressed, MayFailReading, IfOk-weaker}
+use Rattle.qcow2_image.proofs.Common.{div-mul-add, div-add-mod', cluster_size, contents_in, known_in, IsMappedAs, disk_of, cover, known_byte, kind_at, IsFault, IsCopiedCompressed, MayFail, MayFailCopying, MayFailReading, IfOk-weaker}
 use Rattle.qcow2_image.proofs.Prepare.CopiedBytes.{none_has, some_has}
-use Rattle.qcow2_image.proofs.Lemmas.{alike_within, image_step_none, behind_start, met_as, reading_met, told_sum, within_cluster, filling_none}
+use Rattle.qcow2_image.proofs.Lemmas.{copying_met, alike_within, image_step_none, behind_start, met_as, reading_met, told_sum, within_cluster, filling_none}
 use Rattle.qcow2_alloc.specs.declared.error.ImageError.TheVariants as I
 use Rattle.qcow2_image.proofs.image.Qcow2.fill_cluster.Goals as goal
 
@@ -88,3 +88,11 @@ returns-in_default-clause-step g c = filling_none
 
 pub returns-in_default-checked_add-clause-step : goal.returns-in_default-checked_add-clause-step
 returns-in_default-checked_add-clause-step g c = filling_none
+
+pub returns-clause-fails : goal.returns-clause-fails
+returns-clause-fails g c = record {
+  faults = search rules;
+  cause = met_as (MayFailCopying c.kind_of-kind.result) MayFail c.copy_old.result
+      (copying_met c.args.self.now.file.header.fields (is_some c.args.self.now.backing) c.in-Some-checked_add.guest c.args.old.now c.kind_of-kind.result c.kind_of-kind.ensures.value) c.copy_old.ensures.fails.cause;
+  limited = search rules;
+}

@@ -146,3 +146,6 @@ returns-clause-sound g c = λ out sound.
           subst (λ k. FillsPart view below to from k old new out) (sym next)
           (fills_stays view below out old done new to from (from + p.length) part (tidy_stays view below done out new part.sound (c.in_ok-process_free_list.ensures.frees (beside view below done out) out listed)) c.process_free_list.ensures.keeps_rest.header);
     }
+
+pub returns-in_err-process_free_list-clause-fails : goal.returns-in_err-process_free_list-clause-fails
+returns-in_err-process_free_list-clause-fails g c = record { faults = search rules; cause = search rules }

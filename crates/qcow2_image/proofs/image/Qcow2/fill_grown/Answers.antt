@@ -45,4 +45,4 @@ returns-in-Err-clause-sound g c = λ out sound.
     }
 
 pub returns-in-Err-clause-fails : goal.returns-in-Err-clause-fails
-returns-in-Err-clause-fails g c = fails_freed c.fill_behind.result c.in-Err.refusal c.process_free_list_after.result c.fill_behind.ensures.fails c.in-Err.is c.process_free_list_after.ensures.faults (grow_told c.args.mode c.in-Err.refusal c.process_free_list_after.result c.in-Err.ensures.fails.cause c.process_free_list_after.ensures.told.0)
+returns-in-Err-clause-fails g c = fails_freed c.fill_behind.result c.in-Err.refusal c.process_free_list_after.result c.fill_behind.ensures.fails c.in-Err.is c.process_free_list_after.ensures.faults (grow_told c.fill_behind.new.self c.process_free_list_after.new.self c.args.mode c.in-Err.refusal c.process_free_list_after.result c.process_free_list_after.ensures.keeps_rest.header c.process_free_list_after.ensures.refused.cause c.in-Err.ensures.fails.cause c.process_free_list_after.ensures.told.0)

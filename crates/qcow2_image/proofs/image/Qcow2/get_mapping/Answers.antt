@@ -1,7 +1,8 @@
-use Rattle.std.proofs.Common.{◌≡◌, ◌<◌, [], sym, ap, ◌∙◌, subst, IfOk, is_some, rules, Err, IfErr, None, Some}
-use Rattle.qcow2_image.proofs.Common.{AnsweredEffect, RefusedEffect, IsSame, guest_of, Qcow2, IsFoundIn, known_header, known_in, state_in, IsFoundInImage, found_kind, is_failed, size_of, abstract_of, pending_in, refusal_of, FailsOnceWritten, handed_on, err_as, Memory, IsCacheHeld, MayFailLooking, unusable, IsHeldRun, MayFailFinding}
+use Rattle.std.proofs.Common.{◌≡◌, ◌<◌, [], sym, ap, ◌∙◌, subst, IfOk, is_some, rules, Err, IfErr, None, Some, Ok, Result, arith}
+use Rattle.qcow2_image.proofs.Common.{AnsweredEffect, RefusedEffect, IsSame, guest_of, Qcow2, IsFoundIn, known_header, known_in, state_in, IsFoundInImage, found_kind, is_failed, size_of, abstract_of, pending_in, refusal_of, FailsOnceWritten, handed_on, err_as, Memory, IsCacheHeld, MayFailLooking, unusable, IsHeldRun, MayFailFinding, IsKindIn}
 use Rattle.qcow2_disk.specs.Found.{IsFound as IsFoundOf}
-use Rattle.qcow2_image.proofs.Lemmas.{MayMarkBy, may_mark, quietly_then, quiet_does, quiet_refuses, answered_once, fails_none, fails_once, behind_call, held_since, hands_met, sound_is_usable, refused_for, reads_call, looks_none, looks_call, finding_call}
+use Rattle.qcow2_image.proofs.Lemmas.{MayMarkBy, may_mark, quietly_then, quiet_does, quiet_refuses, answered_once, fails_none, fails_once, behind_call, held_since, hands_met, sound_is_usable, refused_for, reads_call, looks_none, looks_call, finding_call, same_found}
+use Rattle.qcow2_image.specs.declared.mapping.MappingKind.TheVariants.{Eof}
 use Rattle.qcow2_image.proofs.Call.Answers.{answers_err, usable_works}
 use Rattle.qcow2_image.proofs.image.Qcow2.get_mapping.Goals as goal
 
@@ -126,7 +127,17 @@ pub returns-clause-refusals : goal.returns-clause-refusals
 returns-clause-refusals g c = record { early = search rules; past = search rules; late = search rules }
 
 pub returns-clause-found : goal.returns-clause-found
-returns-clause-found g c = record { own = search rules; within = search rules; some = search rules }
+returns-clause-found g c =
+    let done : c.look_up-found.result ≡ Ok (c.in_ok-kind.kind, c.in_ok-kind.length) = sym c.mark_failure.ensures.answer ∙ c.in_ok-kind.was in
+    record {
+      own = search rules;
+      within = search rules;
+      some = search rules;
+      past = λ past. let size = c.begin_call.ensures.stays.image.size in
+          let none : c.look_up-found.result ≡ Ok (Eof, 0) = c.look_up-found.ensures.past (omega (arith, past, size)) in
+          same_found c.in_ok-kind.kind Eof c.in_ok-kind.length 0 (sym done ∙ none);
+      whole = (subst (λ (r : Result _ _). IfOk r (λ x. IsKindIn c.look_up-found.new.self c.args.offset x.0)) done c.look_up-found.ensures.kind).whole;
+    }
 
 pub returns-clause-quiet : goal.returns-clause-quiet
 returns-clause-quiet g c = looks_call g.S.Storage.view c.args.offset c.args.self.now c.begin_call.new.self c.look_up-found.new.self c.mark_failure.new.self _ c.begin_call.ensures.begun c.look_up-found.ensures.quiet c.mark_failure.ensures.rest

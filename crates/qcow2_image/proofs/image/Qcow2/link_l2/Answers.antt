@@ -1,6 +1,6 @@
 use Rattle.qcow2_image.proofs.image.Qcow2.link_l2.Goals as goal
-use Rattle.std.proofs.Common.{◌+◌, ◌*◌, ◌^◌, refl, subst, sym, IsSome, ap, rules}
-use Rattle.qcow2_image.proofs.Common.{or_right, of_storage, storage_of, is_changed_of, handed_on, fault_of_storage, NamesNew, placed_kept, notes_of_storage, EntryTableView}
+use Rattle.std.proofs.Common.{◌+◌, ◌*◌, ◌^◌, refl, subst, sym, IsSome, ap, rules, arith}
+use Rattle.qcow2_image.proofs.Common.{or_right, of_storage, storage_of, is_changed_of, handed_on, fault_of_storage, NamesNew, placed_kept, notes_of_storage, EntryTableView, mul-pos, pow_pos}
 use Rattle.qcow2_image.proofs.Lemmas.{safe_throughout_named, named_so, behind_l1, behind_placed, behind_then, entry_behind, l1_entered}
 
 pub returns-in_err-write_l1_entry-clause-names : goal.returns-in_err-write_l1_entry-clause-names
@@ -43,3 +43,6 @@ returns-clause-step g c = record {
       (λ bits lies. entry_behind c.args.self.now.l1_table c.enter_l2_table.new.self c.args.index c.enter_l2_table.ensures.rest bits lies.l1) c.write_l1_entry.ensures.writes.written c.write_l1_entry.ensures.writes.calls)
       (behind_l1 (l1_entered c.args.self.now.l1_table c.enter_l2_table.new.self c.enter_l2_table.ensures.rest));
 }
+
+pub returns-clause-own : goal.returns-clause-own
+returns-clause-own g c = λ some. ((λ none. let place = c.enter_l2_table.ensures.offset in let more = mul-pos some (pow_pos c.args.self.now.l1_table.cluster_bits) in omega (arith, place, none, more)), c.enter_l2_table.ensures.copied)

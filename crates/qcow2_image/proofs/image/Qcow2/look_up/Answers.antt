@@ -47,3 +47,9 @@ returns-clause-fails g c =
       faults = c.run_from.ensures.fails.faults;
       cause = met_as (MayFailFinding old new c.args.offset c.min.result) (MayFailFinding old new c.args.offset c.args.max) c.run_from.result (finding_more old new c.args.offset c.min.result c.args.max (let a = c.min.ensures in omega arith)) c.run_from.ensures.fails.cause;
     }
+
+pub returns-then-offset-size-clause-still : goal.returns-then-offset-size-clause-still
+returns-then-offset-size-clause-still g c = λ kind n is. is
+
+pub returns-then-offset-size-clause-kind : goal.returns-then-offset-size-clause-kind
+returns-then-offset-size-clause-kind g c = record { whole = refl; special = λ so. absurd so }

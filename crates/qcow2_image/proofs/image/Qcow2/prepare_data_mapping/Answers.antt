@@ -1,7 +1,7 @@
 use Rattle.qcow2_image.proofs.Call.MarkedCalls.{call_marked}
-use Rattle.qcow2_image.proofs.Lemmas.{lies_in_own, lies_still, refused_exists, goes_begun, limited_since, limits_as, listed, refused_for, prepares_after, stays_kept, marks_memory, may_mark, fails_none, behind_none, begun_own, unpinned_begun, compressed_as, far_before, taking_as}
-use Rattle.std.proofs.Common.{◌≡◌, ◌⊎◌, ◌<◌, ◌≤◌, ◌+◌, [], sym, ◌∙◌, subst, arith, ap, refl, ⊎_elim, inl, inr, rules, IfErr, IfOk, None, Result, Some}
-use Rattle.qcow2_image.proofs.Common.{IfLimit, IsLimited, IsNone, TablePrepared, known_in, IsAnswered, IsTaken, Qcow2, Prepares, is_failed, ListsNoMore, IsExisting, meaning, pending_in, refuses_to_prepare, FreesRefused, PreparesUnpinned, ExistsInTables, cluster_size, HeaderFields, NeedsOverflowingL1Entry, CopiesCompressed, MayFailAllocating, length_of, offset_of, table_of, HasPinnedMapping, IfOk-weaker, IfErr-weaker}
+use Rattle.qcow2_image.proofs.Lemmas.{lies_below, refused_exists, goes_begun, limited_since, limits_as, listed, refused_for, prepares_after, stays_kept, marks_memory, may_mark, fails_none, behind_none, begun_own, unpinned_begun, compressed_as, far_before, taking_as}
+use Rattle.std.proofs.Common.{◌≡◌, ◌<◌, ◌≤◌, ◌+◌, [], sym, ◌∙◌, subst, arith, ap, refl, ⊎_elim, inl, inr, rules, IfErr, IfOk, None, Result, Some}
+use Rattle.qcow2_image.proofs.Common.{IfLimit, IsLimited, IsNone, TablePrepared, known_in, IsAnswered, IsTaken, Qcow2, Prepares, is_failed, ListsNoMore, IsExisting, meaning, pending_in, refuses_to_prepare, FreesRefused, PreparesUnpinned, ExistsInTables, cluster_size, HeaderFields, NeedsOverflowingL1Entry, CopiesCompressed, MayFailAllocating, length_of, offset_of, table_of, HasPinnedMapping, IfOk-weaker, IfErr-weaker, MayFailPreparing, size_of}
 use Rattle.qcow2_image.proofs.image.Qcow2.prepare_data_mapping.Goals as goal
 use Rattle.qcow2_image.proofs.Prepare.PreparedAnswers.{answered_before, taken_before}
 use Rattle.qcow2_image.proofs.Call.Answers.{prepare_usable}
@@ -130,19 +130,22 @@ pub returns-then-length-eq0-clause-refusals : goal.returns-then-length-eq0-claus
 returns-then-length-eq0-clause-refusals g c = record { early = search rules; nothing = search rules; late = search rules }
 
 pub returns-clause-refusals : goal.returns-clause-refusals
-returns-clause-refusals g c = record { early = search rules; nothing = search rules; late = search rules }
+returns-clause-refusals g c = record {
+  early = search rules;
+  nothing = search rules;
+  late = λ none. subst (λ (r : Result _ _). IfErr r (MayFailPreparing c.mark_failure.new.self)) (sym c.mark_failure.ensures.answer)
+      (subst (λ (image : Qcow2 _ _). IfErr c.prepare-prepared.result (MayFailPreparing image)) (sym c.mark_failure.ensures.rest) c.prepare-prepared.ensures.fails.cause);
+}
 
 pub returns-in_err-check_prepare-clause-existing : goal.returns-in_err-check_prepare-clause-existing
-returns-in_err-check_prepare-clause-existing g c = λ some none own.
+returns-in_err-check_prepare-clause-existing g c = λ some none.
     refused_exists c.args.self.now c.args.offset c.args.length c.from_residual.result c.in_err-check_prepare.field-0.0 c.from_residual.ensures
 
 pub returns-then-length-eq0-clause-existing : goal.returns-then-length-eq0-clause-existing
-returns-then-length-eq0-clause-existing g c = λ some none own. absurd (omega (arith, some, c.if-length-eq0.true))
+returns-then-length-eq0-clause-existing g c = λ some none. absurd (omega (arith, some, c.if-length-eq0.true))
 
 pub returns-clause-existing : goal.returns-clause-existing
-returns-clause-existing g c = λ some none own.
-    let begun = c.begin_call.new.self in
-    let rest = c.begin_call.ensures.begun.rest in
-    let lies = lies_still c.args.self.now begun c.args.offset c.args.length (ap (λ (i : Qcow2 _ _). i.l1_table) rest) (ap (λ (i : Qcow2 _ _). i.file.header) rest) (lies_in_own c.args.self.now c.args.offset c.args.length some none own) in
+returns-clause-existing g c = λ some none.
+    let below : c.args.offset + c.args.length ≤ size_of c.begin_call.new.self = let size = c.begin_call.ensures.stays.image.size in let is = lies_below c.args.self.now c.args.offset c.args.length some none in omega (arith, size, is) in
     subst (λ (r : Result _ _). ExistsInTables c.mark_failure.new.self c.args.offset c.args.length r) (sym c.mark_failure.ensures.answer)
-    (subst (λ (i : Qcow2 _ _). ExistsInTables i c.args.offset c.args.length c.prepare-prepared.result) (sym c.mark_failure.ensures.rest) (c.prepare-prepared.ensures.existing lies))
+    (subst (λ (i : Qcow2 _ _). ExistsInTables i c.args.offset c.args.length c.prepare-prepared.result) (sym c.mark_failure.ensures.rest) (c.prepare-prepared.ensures.existing some below))

@@ -122,3 +122,6 @@ returns-in-Some-clause-step g c = taking_where (taking_of_filling (filling_pinne
 
 pub prepare_private-requires-clause-other : goal.prepare_private-requires-clause-other
 prepare_private-requires-clause-other g c = record { reach = c.in_ok-old.ensures.reach; other = c.in-None.ensures.none refl; behind = c.in_ok-old.ensures.behind }
+
+pub returns-then-l2_is_pinned-clause-fails : goal.returns-then-l2_is_pinned-clause-fails
+returns-then-l2_is_pinned-clause-fails g c = record { faults = search rules; cause = inr (refl, record { cluster = c.args.table; pins = c.l2_is_pinned.ensures.0 c.if-l2_is_pinned.true }) }

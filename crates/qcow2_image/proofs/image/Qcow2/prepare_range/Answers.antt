@@ -2,7 +2,7 @@ use Rattle.qcow2_image.proofs.image.Qcow2.prepare_range.Goals as goal
 use Rattle.std.proofs.Common.{◌≡◌, ◌∷◌, ◌<◌, ◌≤◌, true, false, inl, refl, sym, subst, None, Option, [], ap, ℕ, rules, arith}
 use Rattle.qcow2_image.proofs.Common.{known_in, handed_on, PreparesRange, IsPlaceOf, IsWritableAt, IsTaken, meaning, pending_in, on_ok, IfSome, notes_then, cluster_size, HeaderFields, NeedsOverflowingL1Entry, CopiesCompressed, MayFailAllocating, HasPinnedMapping, IfOk-weaker, IfErr-weaker, IsWritableInTables}
 use Rattle.qcow2_image.proofs.Prepare.PreparedAnswers.{answered_before, answered_existing, answered_range, nowhere_before, taken_before}
-use Rattle.qcow2_image.proofs.Lemmas.{found_own, lies_still, pinned_exists, refused_exists, free_places, prepares_after, readied_after, taken_by, behind_then, found_pins, met_untaken, prepared_unpinned, unpinned_refused, hands_limit, other_limit, goes_step, limited_since, limits_as, place_kept, place_then, compressed_as, hands_met, if_err_both, taking_as, taking_kept}
+use Rattle.qcow2_image.proofs.Lemmas.{pinned_exists, refused_exists, free_places, prepares_after, readied_after, taken_by, behind_then, found_pins, met_untaken, prepared_unpinned, unpinned_refused, hands_limit, other_limit, goes_step, limited_since, limits_as, place_kept, place_then, compressed_as, hands_met, if_err_both, taking_as, taking_kept}
 use Rattle.qcow2_image.proofs.Prepare.Preparing.{readied_existing}
 
 pub returns-in-Some-clause-some : goal.returns-in-Some-clause-some
@@ -124,17 +124,19 @@ returns-in-None-clause-sound g c = λ some out sound.
     }
 
 pub returns-in_err-table-clause-existing : goal.returns-in_err-table-clause-existing
-returns-in_err-table-clause-existing g c = λ lies. refused_exists c.writable_l2_table.new.self c.args.offset c.args.length c.from_residual.result c.in_err-table.field-0.0 c.from_residual.ensures
+returns-in_err-table-clause-existing g c = λ some below. refused_exists c.writable_l2_table.new.self c.args.offset c.args.length c.from_residual.result c.in_err-table.field-0.0 c.from_residual.ensures
 
 pub returns-in_err-host-clause-existing : goal.returns-in_err-host-clause-existing
-returns-in_err-host-clause-existing g c = λ lies. refused_exists c.writable_l2_table.new.self c.args.offset c.args.length c.from_residual-in_err-host.result c.in_err-host.field-0.0 c.from_residual-in_err-host.ensures
+returns-in_err-host-clause-existing g c = λ some below. refused_exists c.writable_l2_table.new.self c.args.offset c.args.length c.from_residual-in_err-host.result c.in_err-host.field-0.0 c.from_residual-in_err-host.ensures
 
 pub returns-in-Some-clause-existing : goal.returns-in-Some-clause-existing
-returns-in-Some-clause-existing g c = λ lies _.
+returns-in-Some-clause-existing g c = λ some below _.
     let mid = c.writable_l2_table.new.self in
-    let found = c.in_ok-table.ensures.own lies.own in
-    let here = c.in_ok-host.ensures.held (lies_still c.args.self.now mid c.args.offset c.args.length found.l1_table found.header lies) (found_own c.args.self.now mid c.args.offset c.in_ok-table.table found) in
-    subst (λ n. IsWritableInTables mid c.args.offset c.args.length n) (sym c.existing_at.ensures.offset) (subst (λ (x : Option ℕ). IfSome x (IsWritableInTables mid c.args.offset c.args.length)) c.in-Some.is here)
+    let owns = c.in_ok-table.ensures.owns in
+    let here = c.in_ok-host.ensures.held (record { some = some; below = let size = c.writable_l2_table.ensures.step.stays.image.size in omega (arith, below, size); own = owns.1 }) owns.0 in (
+      c.existing_at.ensures.existing.guest_is,
+      subst (λ n. IsWritableInTables mid c.args.offset c.args.length n) (sym c.existing_at.ensures.offset) (subst (λ (x : Option ℕ). IfSome x (IsWritableInTables mid c.args.offset c.args.length)) c.in-Some.is here),
+    )
 
 pub returns-in-None-clause-existing : goal.returns-in-None-clause-existing
-returns-in-None-clause-existing g c = λ lies. pinned_exists c.prepare_in.new.self c.args.offset c.args.length c.prepare_in.result c.prepare_in.ensures.pins
+returns-in-None-clause-existing g c = λ some below. pinned_exists c.prepare_in.new.self c.args.offset c.args.length c.prepare_in.result c.prepare_in.ensures.pins

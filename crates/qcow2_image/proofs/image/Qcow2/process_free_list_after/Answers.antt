@@ -13,7 +13,7 @@ returns-then-is_last-clause-refused g c = record {
 
 pub returns-in-Ok-clause-refused : goal.returns-in-Ok-clause-refused
 returns-in-Ok-clause-refused g c = record {
-  cause = search rules;
+  cause = λ may. elim may [ inl met ↦ inl met | inr taken ↦ absurd (not_both c.is_last.result (c.is_last.ensures.taken taken.0) c.if-is_last.false) ];
   taken = search rules;
   fault = search rules;
   idle = λ none. (refl, (c.process_free_list.ensures.idle none).1);

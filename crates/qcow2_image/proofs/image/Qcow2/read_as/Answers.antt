@@ -53,11 +53,19 @@ returns-in-Zero-clause-shows g c = λ p out sound mapped i lt.
     (cover h (known_in g.S.Storage.view file) (c.args.offset / cluster_size h)) refl (none_below g.S.Storage.view g.F.BackingDisk.backing image.backing) c.in-Zero.explicit (ap found_kind (sym c.in-Zero.is) ∙ mapped.kind_is) i within
     ∙ ap known_byte (sym (ap (λ (b : List ℕ). byte_at b i) filled ∙ get_or-replicate n i 0 0 within))
 
-pub returns-in_err-read-in-Raw-clause-may_fail : goal.returns-in_err-read-in-Raw-clause-may_fail
-returns-in_err-read-in-Raw-clause-may_fail g c = hands_met (MayFailReading c.args.kind.now) c.from_residual.result (of_storage c.in_err-read-in-Raw.field-0.0) c.from_residual.ensures (inl (fault_of_storage c.in_err-read-in-Raw.field-0.0))
+pub returns-in_err-read-in-Raw-clause-fails : goal.returns-in_err-read-in-Raw-clause-fails
+returns-in_err-read-in-Raw-clause-fails g c = record {
+  faults = search rules;
+  cause = hands_met (MayFailReading c.args.kind.now) c.from_residual.result (of_storage c.in_err-read-in-Raw.field-0.0) c.from_residual.ensures (inl (fault_of_storage c.in_err-read-in-Raw.field-0.0));
+  limited = search rules;
+}
 
-pub returns-in-Indirect-clause-may_fail : goal.returns-in-Indirect-clause-may_fail
-returns-in-Indirect-clause-may_fail g c = met_as IsFault (MayFailReading c.args.kind.now) c.read_backing.result (λ e fault. inl fault) c.read_backing.ensures.fault
+pub returns-in-Indirect-clause-fails : goal.returns-in-Indirect-clause-fails
+returns-in-Indirect-clause-fails g c = record {
+  faults = search rules;
+  cause = met_as IsFault (MayFailReading c.args.kind.now) c.read_backing.result (λ e fault. inl fault) c.read_backing.ensures.fault;
+  limited = search rules;
+}
 
 pub returns-in_err-read-in-Raw-clause-step : goal.returns-in_err-read-in-Raw-clause-step
 returns-in_err-read-in-Raw-clause-step g c = record {
@@ -99,21 +107,21 @@ pub returns-in-Eof-clause-quiet : goal.returns-in-Eof-clause-quiet
 returns-in-Eof-clause-quiet g c = quiet_none (g.S.Storage.view (storage_of c.args.self.now.file.storage))
 
 pub returns-in_ok-read-in-Raw-clause-reads : goal.returns-in_ok-read-in-Raw-clause-reads
-returns-in_ok-read-in-Raw-clause-reads g c = λ honest.
+returns-in_ok-read-in-Raw-clause-reads g c =
     let view = g.S.Storage.view in
     let new = c.read.new.self in
     let contents = (view_in view c.args.self.now.file).contents in
     let n = length c.args.bytes.now in
-    let read : c.read.new.buf ≡ bytes_at contents c.in-Raw.offset n = c.in_ok-read-in-Raw.ensures.read honest in
+    subst (λ k. ReadsAs view c.args.self.now (record c.args.self.now { file = record c.args.self.now.file { storage = new } }) k c.read.new.buf) (sym c.in-Raw.is)
+    (λ honest. let read : c.read.new.buf ≡ bytes_at contents c.in-Raw.offset n = c.in_ok-read-in-Raw.ensures.read honest in
     let long : length c.read.new.buf ≡ n = ap length read ∙ length-bytes_at contents c.in-Raw.offset n in
-    subst (λ k. ReadsAs view (record c.args.self.now { file = record c.args.self.now.file { storage = new } }) k c.read.new.buf) (sym c.in-Raw.is)
-    (read ∙ ap (bytes_at contents c.in-Raw.offset) (sym long) ∙ ap (λ (b : List ℕ). bytes_at b c.in-Raw.offset (length c.read.new.buf)) (sym (c.read.ensures.same honest)))
+    read ∙ ap (bytes_at contents c.in-Raw.offset) (sym long) ∙ ap (λ (b : List ℕ). bytes_at b c.in-Raw.offset (length c.read.new.buf)) (sym (c.read.ensures.same honest)))
 
 pub returns-in-Zero-clause-reads : goal.returns-in-Zero-clause-reads
-returns-in-Zero-clause-reads g c = λ honest.
+returns-in-Zero-clause-reads g c =
     let n = length c.args.bytes.now in
     let filled : c.fill.new.self ≡ replicate n 0 = search rules in
-    subst (λ k. ReadsAs g.S.Storage.view c.args.self.now k c.fill.new.self) (sym c.in-Zero.is) (filled ∙ ap (λ m. replicate m 0) (sym (ap length filled ∙ length-replicate {A = ℕ} n 0)))
+    subst (λ k. ReadsAs g.S.Storage.view c.args.self.now c.args.self.now k c.fill.new.self) (sym c.in-Zero.is) (filled ∙ ap (λ m. replicate m 0) (sym (ap length filled ∙ length-replicate {A = ℕ} n 0)))
 
 pub returns-in-Indirect-clause-reads : goal.returns-in-Indirect-clause-reads
-returns-in-Indirect-clause-reads g c = λ honest. always_ok c.read_backing.result (subst (λ k. ReadsAs g.S.Storage.view c.read_backing.new.self k c.read_backing.new.bytes) (sym c.in-Indirect.is) tt)
+returns-in-Indirect-clause-reads g c = always_ok c.read_backing.result (subst (λ k. ReadsAs g.S.Storage.view c.args.self.now c.read_backing.new.self k c.read_backing.new.bytes) (sym c.in-Indirect.is) tt)

@@ -1,7 +1,7 @@
 use Rattle.qcow2_image.proofs.Call.MarkedCalls.{reading_marked}
 use Rattle.std.proofs.Common.{◌≡◌, ◌+◌, ◌<◌, [], sym, ◌∙◌, subst, rules, arith, length, Result, IfErr}
 use Rattle.qcow2_image.proofs.Common.{OnOk, Shows, IsSame, guest_of, AnswersCall, Qcow2, IsFoundWhole, further_by, is_failed, pending_in, IsCacheHeld, MayFailMapped, FitsTables, IfOk-weaker, on_ok_weaker, ReadsAs, MayFailReadingFound}
-use Rattle.qcow2_image.proofs.Lemmas.{may_mark, told_answers, tells_quietly, quietly_then, found_after, found_before, fails_none, held_since, mapped_met_at, met_as, heeds_on, keeps_marked, looks_none, looks_call, found_call}
+use Rattle.qcow2_image.proofs.Lemmas.{may_mark, told_answers, tells_quietly, quietly_then, found_after, found_before, fails_none, held_since, mapped_met_at, met_as, heeds_on, keeps_marked, looks_none, looks_call, found_call, heeds_from, held_begun, reads_marked}
 use Rattle.qcow2_image.proofs.Call.Answers.{usable_works}
 use Rattle.qcow2_image.proofs.image.Qcow2.read_mapped.Goals as goal
 
@@ -58,8 +58,9 @@ returns-clause-held g c = λ usable some.
     let n = length c.args.bytes.now in
     let at = c.args.mapping.now.offset + c.args.at in
     let kind = further_by c.args.at c.args.mapping.now.kind in
-    subst (λ (r : Result _ _). FitsTables c.mark_failure.new.self at kind n r) (sym c.mark_failure.ensures.answer)
-    (heeds_on at kind n c.read_current-done.new.self c.mark_failure.new.self c.read_current-done.result (keeps_marked c.read_current-done.new.self c.mark_failure.new.self _ c.mark_failure.ensures.rest) (c.read_current-done.ensures.held some))
+    heeds_from at kind n c.args.self.now c.begin_call.new.self c.mark_failure.new.self c.mark_failure.result (held_begun c.args.self.now c.begin_call.new.self at c.begin_call.ensures.begun)
+    (subst (λ (r : Result _ _). FitsTables c.begin_call.new.self c.mark_failure.new.self at kind n r) (sym c.mark_failure.ensures.answer)
+    (heeds_on at kind n c.begin_call.new.self c.read_current-done.new.self c.mark_failure.new.self c.read_current-done.result (keeps_marked c.read_current-done.new.self c.mark_failure.new.self _ c.mark_failure.ensures.rest) (c.read_current-done.ensures.held some)))
 
 pub returns-then-is_empty-clause-held : goal.returns-then-is_empty-clause-held
 returns-then-is_empty-clause-held g c = λ usable some. absurd (let none : length c.args.bytes.now ≡ 0 = search rules in omega (arith, none, some))
@@ -112,13 +113,15 @@ returns-clause-quiet g c =
     looks_call g.S.Storage.view (c.args.mapping.now.offset + c.args.at) c.args.self.now c.begin_call.new.self c.read_current-done.new.self c.mark_failure.new.self _ c.begin_call.ensures.begun c.read_current-done.ensures.quiet c.mark_failure.ensures.rest
 
 pub returns-then-is_empty-clause-reads : goal.returns-then-is_empty-clause-reads
-returns-then-is_empty-clause-reads g c = λ some honest. absurd (let none : length c.args.bytes.now ≡ 0 = search rules in omega (arith, none, some))
+returns-then-is_empty-clause-reads g c = λ some. absurd (let none : length c.args.bytes.now ≡ 0 = search rules in omega (arith, none, some))
 
 pub returns-clause-reads : goal.returns-clause-reads
-returns-clause-reads g c = λ some honest.
+returns-clause-reads g c = λ some.
     let view = g.S.Storage.view in
     let kind = further_by c.args.at c.args.mapping.now.kind in
     let shown = c.read_current-done.new.bytes in
     let begun = c.begin_call.ensures.begun.storage in
-    subst (λ (r : Result _ _). OnOk r (ReadsAs view c.mark_failure.new.self kind shown)) (sym c.mark_failure.ensures.answer)
-    (subst (λ (i : Qcow2 _ _). OnOk c.read_current-done.result (ReadsAs view i kind shown)) (sym c.mark_failure.ensures.rest) (c.read_current-done.ensures.reads (subst (λ s. (view s).is_honest) (sym begun) honest)))
+    let mid = c.begin_call.new.self in
+    subst (λ (r : Result _ _). OnOk r (ReadsAs view c.args.self.now c.mark_failure.new.self kind shown)) (sym c.mark_failure.ensures.answer)
+    (subst (λ (i : Qcow2 _ _). OnOk c.read_current-done.result (ReadsAs view c.args.self.now i kind shown)) (sym c.mark_failure.ensures.rest)
+    (on_ok_weaker c.read_current-done.result (λ reads. reads_marked view c.args.self.now mid c.read_current-done.new.self (is_failed c.mark_failure.new.self) kind shown (λ honest. subst (λ s. (view s).is_honest) (sym begun) honest) reads) c.read_current-done.ensures.reads))

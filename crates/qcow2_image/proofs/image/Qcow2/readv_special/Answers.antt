@@ -1,5 +1,5 @@
 use Rattle.std.proofs.Common.{◌≡◌, ◌⊎◌, ◌∙◌, inl, inr, [], IfErr, length, subst, arith, rules}
-use Rattle.qcow2_image.proofs.Common.{cases_lt, not_compressed, storage, known_in, handed_on, NotCompressed, Memory, MayFailToRead, FailsOnceWritten, err_as, IsCacheHeld, MayFailLooking, MayFailTelling}
+use Rattle.qcow2_image.proofs.Common.{cases_lt, not_compressed, storage, known_in, handed_on, NotCompressed, Memory, MayFailToRead, FailsOnceWritten, err_as, IsCacheHeld, MayFailLooking, MayFailTelling, IsCompressedInTables}
 use Rattle.qcow2_alloc.specs.declared.error.ImageError.TheVariants.{Compressed}
 use Rattle.qcow2_image.specs.SpecialReads.{ReportsCompressed}
 use Rattle.qcow2_image.proofs.Call.Answers.{answers_err}
@@ -77,11 +77,18 @@ pub returns-in_err-try_readv_special-clause-refusals : goal.returns-in_err-try_r
 returns-in_err-try_readv_special-clause-refusals g c = record {
   early = search rules;
   nothing = search rules;
-  late = λ usable. hands_met (λ e. MayFailTelling c.args.self.now c.try_readv_special.new.self c.args.offset 1 e ⊎ (e ≡ NotCompressed c.args.offset)) c.from_residual.result c.in_err-try_readv_special.field-0.0 c.from_residual.ensures (inl (c.in_err-try_readv_special.ensures.refusals.late usable));
+  late = λ usable. hands_met (λ e. MayFailTelling c.args.self.now c.try_readv_special.new.self c.args.offset 1 e ⊎ ((e ≡ NotCompressed c.args.offset) × ¬ IsCompressedInTables c.try_readv_special.new.self c.args.offset)) c.from_residual.result c.in_err-try_readv_special.field-0.0 c.from_residual.ensures (inl (c.in_err-try_readv_special.ensures.refusals.late usable));
 }
 
 pub returns-in-None-clause-refusals : goal.returns-in-None-clause-refusals
 returns-in-None-clause-refusals g c = record { early = search rules; nothing = search rules; late = search rules }
 
 pub returns-in-Some-clause-refusals : goal.returns-in-Some-clause-refusals
-returns-in-Some-clause-refusals g c = record { early = search rules; nothing = search rules; late = search rules }
+returns-in-Some-clause-refusals g c = record {
+  early = search rules;
+  nothing = search rules;
+  late = λ usable. inr (elim (cases_lt 0 (length c.args.bytes.now)) [
+    | inl some ↦ ((let is = c.in_ok-try_readv_special.ensures.some some in cc), c.in_ok-try_readv_special.ensures.plain some)
+    | inr none ↦ absurd (let no = (c.in_ok-try_readv_special.ensures.refusals.nothing usable (omega (arith, none))).0 in cc)
+  ]);
+}

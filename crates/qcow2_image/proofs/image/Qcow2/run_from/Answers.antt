@@ -1,6 +1,6 @@
 use Rattle.std.proofs.Common.{◌≡◌, ◌-◌, ◌/◌, ◌<◌, sym, ap, ◌∙◌, subst, arith, min, is_some, Some, None, false, true, rules, ⊎_elim, ℕ, inl, inr, Err}
 use Rattle.qcow2_image.proofs.Common.{IfOk-weaker, cluster_size, host_offset, IsLongestRun, table_at, Sizes-from, cover_none, IsTop-top, contents_in, known_in, kind_at, rest_of_table, l1_index_of, l2_index_of, NamesL2Table, IsRunFrom, IfSome, MatchOption, IsEntryAt, IsCacheHeld, MayFailLooking, own_table, GetsTableQuietly, HasUnalignedEntry, UnalignedTable, MayFailFinding, MayFailLoadingL2, Uncovered, file_loads}
-use Rattle.qcow2_image.proofs.Lemmas.{caches_moved, with_caches, none_found, behind_caches, answers_met, cache_looking, named_entry, hands_met, named_place, reads_none, uncovered_held, looks_none, met_as, finding_more}
+use Rattle.qcow2_image.proofs.Lemmas.{caches_moved, with_caches, none_found, behind_caches, answers_met, cache_looking, named_entry, hands_met, named_place, reads_none, uncovered_held, looks_none, met_as, finding_more, still_loaded}
 use Rattle.qcow2_image.specs.HeldMappings.{named_place as place_named}
 use Rattle.qcow2_image.proofs.Map.Looked.{compressed_there}
 use Rattle.qcow2_image.proofs.image.Qcow2.run_from.Goals as goal
@@ -86,7 +86,42 @@ returns-in_ok-l2_get_or_insert-in-Some-clause-held g c = λ most is lt.
     let limit : c.min-max.result ≡ min (min most (h.size - c.args.offset)) (rest_of_table h c.args.offset) = c.min-max.ensures ∙ ap (min c.args.max) c.rest_of_table.ensures.value ∙ ap (λ m. min m (rest_of_table h c.args.offset)) is in
     let image = c.args.self.now in
     let own = subst (λ t. MatchOption t (place_named h image.l1_table c.args.offset ≡ 0) (λ cluster. (cluster ≡ own_table image c.args.offset) × ¬ (place_named h image.l1_table c.args.offset ≡ 0))) c.in-Some.is c.in_ok-l2_cluster.ensures.own in
-    c.run_in_table.ensures.held most limit lt own.0 own.1
+    IfOk-weaker c.run_in_table.result _ _ (λ x held. held.run most limit lt) (c.run_in_table.ensures.held own.0 own.1)
+
+pub returns-in_ok-l2_get_or_insert-in-Some-clause-plain : goal.returns-in_ok-l2_get_or_insert-in-Some-clause-plain
+returns-in_ok-l2_get_or_insert-in-Some-clause-plain g c =
+    let image = c.args.self.now in
+    let h = image.file.header.fields in
+    let own = subst (λ t. MatchOption t (place_named h image.l1_table c.args.offset ≡ 0) (λ cluster. (cluster ≡ own_table image c.args.offset) × ¬ (place_named h image.l1_table c.args.offset ≡ 0))) c.in-Some.is c.in_ok-l2_cluster.ensures.own in
+    IfOk-weaker c.run_in_table.result _ _ (λ x held. held.plain) (c.run_in_table.ensures.held own.0 own.1)
+
+pub returns-in_ok-l2_get_or_insert-in-Some-clause-kind : goal.returns-in_ok-l2_get_or_insert-in-Some-clause-kind
+returns-in_ok-l2_get_or_insert-in-Some-clause-kind g c =
+    let image = c.args.self.now in
+    let h = image.file.header.fields in
+    let own = subst (λ t. MatchOption t (place_named h image.l1_table c.args.offset ≡ 0) (λ cluster. (cluster ≡ own_table image c.args.offset) × ¬ (place_named h image.l1_table c.args.offset ≡ 0))) c.in-Some.is c.in_ok-l2_cluster.ensures.own in
+    IfOk-weaker c.run_in_table.result _ _ (λ x held. record { whole = held.whole; special = held.special }) (c.run_in_table.ensures.held own.0 own.1)
+
+pub returns-in-None-clause-plain : goal.returns-in-None-clause-plain
+returns-in-None-clause-plain g c =
+    let image = c.args.self.now in
+    let h = image.file.header.fields in
+    let none = subst (λ t. MatchOption t (place_named h image.l1_table c.args.offset ≡ 0) (λ cluster. (cluster ≡ own_table image c.args.offset) × ¬ (place_named h image.l1_table c.args.offset ≡ 0))) c.in-None.is c.in_ok-l2_cluster.ensures.own in
+    λ compressed. absurd (compressed.named none)
+
+pub returns-in_err-l2_get_or_insert-in-Some-clause-still : goal.returns-in_err-l2_get_or_insert-in-Some-clause-still
+returns-in_err-l2_get_or_insert-in-Some-clause-still g c =
+    let image = c.args.self.now in
+    let h = image.file.header.fields in
+    let own = subst (λ t. MatchOption t (place_named h image.l1_table c.args.offset ≡ 0) (λ cluster. (cluster ≡ own_table image c.args.offset) × ¬ (place_named h image.l1_table c.args.offset ≡ 0))) c.in-Some.is c.in_ok-l2_cluster.ensures.own in
+    λ kind n. still_loaded h (is_some image.backing) image.l1_table image.file.caches c.args.offset c.l2_get_or_insert.new.self c.in-Some.table own c.l2_get_or_insert.ensures.gets.kept kind n
+
+pub returns-in_ok-l2_get_or_insert-in-Some-clause-still : goal.returns-in_ok-l2_get_or_insert-in-Some-clause-still
+returns-in_ok-l2_get_or_insert-in-Some-clause-still g c =
+    let image = c.args.self.now in
+    let h = image.file.header.fields in
+    let own = subst (λ t. MatchOption t (place_named h image.l1_table c.args.offset ≡ 0) (λ cluster. (cluster ≡ own_table image c.args.offset) × ¬ (place_named h image.l1_table c.args.offset ≡ 0))) c.in-Some.is c.in_ok-l2_cluster.ensures.own in
+    λ kind n. still_loaded h (is_some image.backing) image.l1_table image.file.caches c.args.offset c.l2_get_or_insert.new.self c.in-Some.table own c.l2_get_or_insert.ensures.gets.kept kind n
 
 pub returns-in_err-l2_get_or_insert-in-Some-clause-step : goal.returns-in_err-l2_get_or_insert-in-Some-clause-step
 returns-in_err-l2_get_or_insert-in-Some-clause-step g c = record {
@@ -159,12 +194,14 @@ returns-in_ok-l2_get_or_insert-in-Some-clause-fails g c =
           (λ e why. finding_more image new c.args.offset c.min-max.result c.args.max (let a = c.min-max.ensures in omega arith) e (inl (why.0, inr (why.1 own.0)))) c.run_in_table.ensures.cause;
     }
 
-pub returns-in_ok-l2_get_or_insert-in-Some-clause-special : goal.returns-in_ok-l2_get_or_insert-in-Some-clause-special
-returns-in_ok-l2_get_or_insert-in-Some-clause-special g c =
-    let image = c.args.self.now in
-    let own = subst (λ t. MatchOption t (place_named image.file.header.fields image.l1_table c.args.offset ≡ 0) (λ cluster. (cluster ≡ own_table image c.args.offset) × ¬ (place_named image.file.header.fields image.l1_table c.args.offset ≡ 0))) c.in-Some.is c.in_ok-l2_cluster.ensures.own in
-    c.run_in_table.ensures.special own.0
+pub returns-in-None-clause-kind : goal.returns-in-None-clause-kind
+returns-in-None-clause-kind g c = record {
+  whole = c.uncovered.ensures.whole;
+  special = λ so. absurd (compressed_there c.args.self.now.file.header.fields (is_some c.args.self.now.backing) c.args.offset c.uncovered.result Uncovered c.uncovered.ensures.value so);
+}
 
-pub returns-in-None-clause-special : goal.returns-in-None-clause-special
-returns-in-None-clause-special g c = λ so.
-    absurd (compressed_there c.args.self.now.file.header.fields (is_some c.args.self.now.backing) c.args.offset c.uncovered.result Uncovered c.uncovered.ensures.value so)
+pub returns-in-None-clause-still : goal.returns-in-None-clause-still
+returns-in-None-clause-still g c = λ kind n is. is
+
+pub returns-in_err-l2_cluster-clause-still : goal.returns-in_err-l2_cluster-clause-still
+returns-in_err-l2_cluster-clause-still g c = λ kind n is. is

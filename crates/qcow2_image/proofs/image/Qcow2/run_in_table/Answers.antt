@@ -1,6 +1,7 @@
 use Rattle.std.proofs.Common.{◌≡◌, ◌+◌, ◌-◌, ◌/◌, ◌%◌, ◌^◌, ◌<◌, ℕ, sym, ap, ◌∙◌, subst, arith, min, refl, is_some, Some, false, true, inl}
-use Rattle.qcow2_image.proofs.Common.{cluster_size, entries_per_cluster, cover, IsLongestRun, Sizes-from, IsTop-top, contents_in, known_in, kind_at, mapping_of, l1_index_of, IsRunBehind, l2_at, IsLongestSo, named_place, HasUnalignedEntry, IsUnalignedIn, UnalignedTable, of_metadata, own_table}
+use Rattle.qcow2_image.proofs.Common.{cluster_size, entries_per_cluster, cover, IsLongestRun, Sizes-from, IsTop-top, contents_in, known_in, kind_at, mapping_of, l1_index_of, IsRunBehind, l2_at, IsLongestSo, named_place, HasUnalignedEntry, IsUnalignedIn, UnalignedTable, of_metadata, own_table, IsCompressed, L2TableView}
 use Rattle.qcow2_image.proofs.Lemmas.{cluster_near, says_known, run_found, run_held, hands_met, unaligned_from}
+use Rattle.qcow2_image.proofs.Map.Special.{special_found}
 use Rattle.qcow2_image.proofs.Map.Aligned.{entries_aligned}
 use Rattle.qcow2_image.proofs.Map.Looked.{compressed_there}
 use Rattle.qcow2_image.proofs.image.Qcow2.run_in_table.Goals as goal
@@ -37,7 +38,7 @@ returns-clause-run g c = λ p sound at le.
     }
 
 pub returns-clause-held : goal.returns-clause-held
-returns-clause-held g c = λ limit short below own_is named.
+returns-clause-held g c = λ own_is named.
     let image = c.args.self.now in
     let h = image.file.header.fields in
     let t = c.in-Some.table.now in
@@ -54,8 +55,15 @@ returns-clause-held g c = λ limit short below own_is named.
     subst (λ n. IsRunBehind t (c.args.offset / cluster_size h) n c.in_ok-behind.behind) more (subst (λ n. IsRunBehind t n c.saturating_sub.result c.in_ok-behind.behind) own2 c.in_ok-behind.ensures.run) in
     let is : c.min.result ≡ min (cluster_size h - c.args.offset % cluster_size h + c.in_ok-behind.behind) c.args.max = c.min.ensures ∙ ap (λ n. min (n + c.in_ok-behind.behind) c.args.max) rest in
     let first = c.kind_of.ensures.value ∙ ap (λ n. kind_at h (is_some image.backing) c.args.offset n) (c.in_ok-first.ensures.ok ∙ ap (mapping_of t) own) in
-    subst (IsLongestSo h (is_some image.backing) image.l1_table image.file.caches c.args.offset limit c.kind_of.result) (sym is)
-    (run_held h (is_some image.backing) image.l1_table image.file.caches c.args.offset c.args.max limit short below t named held c.kind_of.result first c.in_ok-behind.behind behind)
+    record {
+      plain = λ compressed. let same : Some t ≡ Some compressed.table = sym held ∙ compressed.held in
+          let table : t ≡ compressed.table = cc in
+          special_found h (is_some image.backing) c.args.offset (mapping_of t (c.args.offset / cluster_size h)) c.kind_of.result first (subst (λ (x : L2TableView). IsCompressed (mapping_of x (c.args.offset / cluster_size h))) (sym table) compressed.compressed);
+      special = λ so. record { named = named; table = t; held = held; compressed = compressed_there h (is_some image.backing) c.args.offset c.kind_of.result (mapping_of t (c.args.offset / cluster_size h)) first so };
+      whole = c.kind_of.ensures.whole;
+      run = λ limit short below. subst (IsLongestSo h (is_some image.backing) image.l1_table image.file.caches c.args.offset limit c.kind_of.result) (sym is)
+          (run_held h (is_some image.backing) image.l1_table image.file.caches c.args.offset c.args.max limit short below t named held c.kind_of.result first c.in_ok-behind.behind behind);
+    }
 
 pub returns-in_err-first-clause-reads : goal.returns-in_err-first-clause-reads
 returns-in_err-first-clause-reads g c = λ p sound at le.
@@ -89,16 +97,4 @@ returns-in_err-behind-clause-cause g c =
     hands_met (λ e. (e ≡ UnalignedTable) × (c.args.table ≡ own_table image c.args.offset → HasUnalignedEntry image c.args.offset c.args.max)) c.from_residual-in_err-behind.result c.in_err-behind.field-0.0 c.from_residual-in_err-behind.ensures (
       c.in_err-behind.ensures.cause.0,
       λ own_is. (c.in-Some.table.now, ap (l2_at image.file.caches) (sym own_is) ∙ sym c.in-Some.ensures.value, unaligned_from h c.in-Some.table.now c.args.offset c.args.max c.cluster-2.result c.saturating_sub.result own more c.in_err-behind.ensures.cause.1),
-    )
-
-pub returns-clause-special : goal.returns-clause-special
-returns-clause-special g c = λ own_is so.
-    let image = c.args.self.now in
-    let h = image.file.header.fields in
-    let t = c.in-Some.table.now in
-    let own : c.cluster.result ≡ c.args.offset / cluster_size h = c.cluster.ensures ∙ ap (λ o. o / 2 ^ c.cluster_bits-bits.result) c.new-guest.ensures ∙ ap (λ b. c.args.offset / 2 ^ b) c.cluster_bits-bits.ensures.value in (
-      t,
-      ap (l2_at image.file.caches) (sym own_is) ∙ sym c.in-Some.ensures.value,
-      compressed_there h (is_some image.backing) c.args.offset c.kind_of.result (mapping_of t (c.args.offset / cluster_size h))
-          (c.kind_of.ensures.value ∙ ap (λ n. kind_at h (is_some image.backing) c.args.offset n) (c.in_ok-first.ensures.ok ∙ ap (mapping_of t) own)) so,
     )

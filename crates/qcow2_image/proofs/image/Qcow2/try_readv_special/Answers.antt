@@ -1,9 +1,9 @@
 use Rattle.qcow2_image.proofs.Call.MarkedCalls.{reading_marked}
-use Rattle.std.proofs.Common.{◌≡◌, ◌⊎◌, [], sym, ◌∙◌, subst, rules, Result, IfErr, None, Some}
-use Rattle.qcow2_image.proofs.Common.{IsSame, AnswersCall, Qcow2, known_in, is_failed, pending_in, IsCacheHeld, MayFailLooking, unusable, IfOk-weaker, MayFailTelling}
+use Rattle.std.proofs.Common.{◌≡◌, ◌⊎◌, [], sym, ◌∙◌, subst, rules, Result, IfErr, None, Some, arith, length}
+use Rattle.qcow2_image.proofs.Common.{IsSame, AnswersCall, Qcow2, known_in, is_failed, pending_in, IsCacheHeld, MayFailLooking, unusable, IfOk-weaker, MayFailTelling, IsCompressedInTables, OnOk, on_ok_weaker}
 use Rattle.qcow2_image.specs.SpecialReads.{ReportsWhether}
 use Rattle.qcow2_image.proofs.Call.Answers.{usable_works}
-use Rattle.qcow2_image.proofs.Lemmas.{told_answers, tells_quietly, quietly_then, may_mark, fails_none, held_since, sound_is_usable, refused_for, looks_none, looks_call, telling_call, met_as}
+use Rattle.qcow2_image.proofs.Lemmas.{told_answers, tells_quietly, quietly_then, may_mark, fails_none, held_since, sound_is_usable, refused_for, looks_none, looks_call, telling_call, met_as, plain_marked}
 use Rattle.qcow2_alloc.specs.declared.error.ImageError.TheVariants.{Compressed}
 use Rattle.qcow2_image.proofs.image.Qcow2.try_readv_special.Goals as goal
 
@@ -77,3 +77,11 @@ returns-then-is_empty-clause-quiet g c = looks_none g.S.Storage.view c.args.offs
 
 pub returns-clause-quiet : goal.returns-clause-quiet
 returns-clause-quiet g c = looks_call g.S.Storage.view c.args.offset c.args.self.now c.begin_call.new.self c.check_not_compressed-plain.new.self c.mark_failure.new.self _ c.begin_call.ensures.begun c.check_not_compressed-plain.ensures.quiet c.mark_failure.ensures.rest
+
+pub returns-then-is_empty-clause-plain : goal.returns-then-is_empty-clause-plain
+returns-then-is_empty-clause-plain g c = λ some. absurd (let none : length c.args.bytes.now ≡ 0 = search rules in omega (arith, none, some))
+
+pub returns-clause-plain : goal.returns-clause-plain
+returns-clause-plain g c = λ some.
+    subst (λ (r : Result _ _). OnOk r (¬ IsCompressedInTables c.mark_failure.new.self c.args.offset)) (sym c.mark_failure.ensures.answer)
+    (on_ok_weaker c.check_not_compressed-plain.result (plain_marked c.check_not_compressed-plain.new.self c.mark_failure.new.self (is_failed c.mark_failure.new.self) c.args.offset c.mark_failure.ensures.rest) c.check_not_compressed-plain.ensures.plain)

@@ -1,5 +1,5 @@
 use Rattle.std.proofs.Common.{◌≡◌, ◌⊎◌, ◌*◌, ◌/◌, ◌^◌, ◌≤◌, Ok, arith, sym, ap, ◌∙◌, subst, inr, inl, rules}
-use Rattle.qcow2_image.proofs.Common.{HasNearEntry, HasOwnTable, host_offset, is_copied, l1_index_of, OwnsTable, MayName, entry_count, entry_at, NamesOwn}
+use Rattle.qcow2_image.proofs.Common.{HasNearEntry, HasOwnTable, host_offset, is_copied, l1_index_of, OwnsTable, MayName, entry_count, entry_at, NamesOwn, HasOwnEntry, HeaderView, on_ok_weaker}
 use Rattle.qcow2_image.proofs.Lemmas.{step_none, refused, left_alone, says_none, entered_owns, owns_already, lacks_past, not_within, owns_or_lacks, behind_first, whole_quotient}
 use Rattle.qcow2_image.proofs.image.Qcow2.writable_l2_cluster.Goals as goal
 use Rattle.qcow2_image.proofs.Prepare.WritableL2Table.{may_none}
@@ -149,3 +149,26 @@ returns-clause-sound g c = λ p out sound.
       limit = λ cause. replaced.limit (near cause);
       lacks = owns_or_lacks view below out p old c.replace_l2.new.self sound c.args.offset (subst (MayName view old) idx may) c.replace_l2.result owns c.replace_l2.ensures.l1_table;
     }
+
+pub returns-then-entry-clause-owns : goal.returns-then-entry-clause-owns
+returns-then-entry-clause-owns g c =
+    let old = c.args.self.now in
+    let idx : c.l1_index-index.result ≡ l1_index_of old.file.header.fields c.args.offset =
+    c.l1_index-index.ensures ∙ ap (λ n. n / 2 ^ c.cluster_bits-bits.result / (2 ^ c.cluster_bits-bits.result / 8)) c.new.ensures ∙ ap (λ b. c.args.offset / 2 ^ b / (2 ^ b / 8)) c.cluster_bits-bits.ensures.value in
+    subst (λ i. HasOwnEntry old i) idx ((λ none. let place = c.in-Some.ensures.offset in let some = c.in-Some.ensures.some in omega (arith, place, some, none)), sym c.in-Some.ensures.copied ∙ c.if-entry.true)
+
+pub returns-in_default-clause-owns : goal.returns-in_default-clause-owns
+returns-in_default-clause-owns g c =
+    let old = c.args.self.now in
+    let new = c.allocate_l2.new.self in
+    let idx : c.l1_index-index.result ≡ l1_index_of old.file.header.fields c.args.offset =
+    c.l1_index-index.ensures ∙ ap (λ n. n / 2 ^ c.cluster_bits-bits.result / (2 ^ c.cluster_bits-bits.result / 8)) c.new.ensures ∙ ap (λ b. c.args.offset / 2 ^ b / (2 ^ b / 8)) c.cluster_bits-bits.ensures.value in
+    on_ok_weaker c.allocate_l2.result (subst (λ i. HasOwnEntry new i) (idx ∙ sym (ap (λ (v : HeaderView). l1_index_of v.fields c.args.offset) c.allocate_l2.ensures.keeps_rest.header))) c.allocate_l2.ensures.own
+
+pub returns-clause-owns : goal.returns-clause-owns
+returns-clause-owns g c =
+    let old = c.args.self.now in
+    let new = c.replace_l2.new.self in
+    let idx : c.l1_index-index.result ≡ l1_index_of old.file.header.fields c.args.offset =
+    c.l1_index-index.ensures ∙ ap (λ n. n / 2 ^ c.cluster_bits-bits.result / (2 ^ c.cluster_bits-bits.result / 8)) c.new.ensures ∙ ap (λ b. c.args.offset / 2 ^ b / (2 ^ b / 8)) c.cluster_bits-bits.ensures.value in
+    on_ok_weaker c.replace_l2.result (subst (λ i. HasOwnEntry new i) (idx ∙ sym (ap (λ (v : HeaderView). l1_index_of v.fields c.args.offset) c.replace_l2.ensures.keeps_rest.header))) c.replace_l2.ensures.own

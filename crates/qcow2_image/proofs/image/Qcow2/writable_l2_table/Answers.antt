@@ -1,6 +1,6 @@
 use Rattle.qcow2_alloc.specs.declared.error.ImageError.TheVariants as I
-use Rattle.qcow2_image.proofs.Lemmas.{step_none, step_then, finds, finds_after, left_refused, stays_kept, stays_then, all_listed, beside, freed_refused, tidy_stays, left_alone, own_after, counted_on, counted_since, faults_then, same_of, hands_limit, near_reached, other_limit, goes_step, limited_more, limited_since, limited_unseen, limited_upto, limits_as, fault_unlimited, hands_met, met_as, taking_as}
-use Rattle.qcow2_image.proofs.Common.{ListsNoMore, true, false, Err, ◌∙◌, refl, ap, sym, subst, inl, inr, rules, arith, HeaderView, Pending, handed_on, FindsTable, ImageInvariant, pending_in, IfErr, IsTrue, OnOk, always_ok, l1_index_of, NamesOwn, pending_with_listed, IsFaultOrLacksTable, not_both, HeaderFields, NeedsOverflowingL1Entry, HasNearEntry, HasPinnedMapping, MayFailAllocating}
+use Rattle.qcow2_image.proofs.Lemmas.{step_none, step_then, finds, finds_after, left_refused, stays_kept, stays_then, all_listed, beside, freed_refused, tidy_stays, left_alone, own_after, counted_on, counted_since, faults_then, same_of, hands_limit, near_reached, other_limit, goes_step, limited_more, limited_since, limited_unseen, limited_upto, limits_as, fault_unlimited, hands_met, met_as, taking_as, finds_freed, finds_owns}
+use Rattle.qcow2_image.proofs.Common.{ListsNoMore, Err, ◌∙◌, refl, ap, sym, subst, inl, inr, rules, arith, HeaderView, Pending, handed_on, FindsTable, ImageInvariant, pending_in, IfErr, IsTrue, OnOk, always_ok, l1_index_of, NamesOwn, pending_with_listed, IsFaultOrLacksTable, not_both, HeaderFields, NeedsOverflowingL1Entry, HasNearEntry, HasPinnedMapping, MayFailAllocating}
 use Rattle.qcow2_image.proofs.image.Qcow2.writable_l2_table.Goals as goal
 
 pub returns-then-l1_entry_overflows-clause-step : goal.returns-then-l1_entry_overflows-clause-step
@@ -169,3 +169,13 @@ returns-clause-sound g c = λ out sound.
       lacks = λ none. (c.ensure_cached_l2-2.ensures.sound (pending_in view below freed out) out second.sound).lacks none;
       freeing = always_ok c.ensure_cached_l2-2.result (inr ((c.ensure_cached_l2-2.ensures.quiet own).list ∙ c.in_ok-process_free_list.ensures.emptied writable));
     }
+
+pub returns-then-has_own_l2-clause-owns : goal.returns-then-has_own_l2-clause-owns
+returns-then-has_own_l2-clause-owns g c =
+    let own = c.has_own_l2.ensures.0 c.if-has_own_l2.true in
+    finds_owns c.args.self.now c.ensure_cached_l2.new.self c.args.offset c.ensure_cached_l2.result own (c.ensure_cached_l2.ensures.own own)
+
+pub returns-clause-owns : goal.returns-clause-owns
+returns-clause-owns g c =
+    finds_freed c.writable_l2_cluster.new.self c.process_free_list.new.self c.ensure_cached_l2-2.new.self c.args.offset c.ensure_cached_l2-2.result c.process_free_list.ensures.table c.process_free_list.ensures.keeps_rest.header
+    c.in_ok-writable_l2_cluster.ensures.owns c.ensure_cached_l2-2.ensures.own

@@ -1,10 +1,10 @@
 use Rattle.qcow2_image.proofs.Lemmas.{filling_none, filling_written, keeping_of_filling, keeping_then, Quietly, quiet_sound, heeds_then, held_as, keeps_storage, hands_met, met_as, told_sum, past_existing}
 use Rattle.qcow2_image.proofs.image.Qcow2.write_current.Goals as goal
-use Rattle.std.proofs.Common.{◌≡◌, ◌+◌, ◌^◌, ◌≤◌, inl, inr, None, Err, length, refl, sym, ap, subst, true, arith, rules, Result}
-use Rattle.qcow2_image.proofs.Common.{overwritten, view_in, OutdatedMapping, Overflow, handed_on, always_ok, Qcow2, Raw, Image, IsFoundWhole, IsMappedAs, PutsPart, IsWriteOutcome, pending_in, FitsTables, IsHeldAs, cases_lt, IsFault, IsCacheHeld, MayFailPutting, changes_of, storage_of_image, PutsOnce, MayFail, MayFailPuttingAt, cluster_size, HeaderView}
+use Rattle.std.proofs.Common.{◌≡◌, ◌+◌, ◌^◌, ◌≤◌, ⊎_elim, inl, inr, None, Err, length, refl, sym, ap, subst, true, arith, rules, Result}
+use Rattle.qcow2_image.proofs.Common.{overwritten, view_in, OutdatedMapping, Overflow, handed_on, always_ok, Qcow2, Raw, Image, IsFoundWhole, IsMappedAs, PutsPart, IsWriteOutcome, pending_in, FitsTables, IsHeldAs, cases_lt, IsFault, IsCacheHeld, MayFailPutting, changes_of, storage_of_image, PutsOnce, MayFailPuttingAt, cluster_size, HeaderView, MayFailWriting}
 use Rattle.qcow2_image.proofs.Write.PutParts.{mapped_in_place, puts_nothing, puts_refused, puts_then, puts_written}
 use Rattle.qcow2_image.proofs.Write.Hosted.{hosts_behind_header}
-use Rattle.qcow2_image.proofs.Write.ToldPuts.{checked_unseen, put_refused, put_unwritten}
+use Rattle.qcow2_image.proofs.Write.ToldPuts.{written_current, written_plain, checked_unseen, put_refused, put_unwritten}
 
 pub returns-in_err-check_in_place-clause-in_place : goal.returns-in_err-check_in_place-clause-in_place
 returns-in_err-check_in_place-clause-in_place g c = λ none p out sound.
@@ -84,8 +84,8 @@ returns-in_err-check_in_place-clause-held g c = λ none some.
     let n = length c.args.bytes.now in
     let new = c.check_in_place.new.self in
     let e = c.in_err-check_in_place.field-0.0 in
-    handed_on (λ (r : Result _ _). FitsTables new (c.args.prepared.now.guest + c.args.at) (Raw Image (c.args.prepared.now.offset + c.args.at) true) n r) c.from_residual.result e c.from_residual.ensures
-    (subst (λ o. FitsTables new (c.args.prepared.now.guest + c.args.at) {A = Unit {0}} (Raw Image o true) n (Err e)) c.in-Some.ensures.1 (c.in_err-check_in_place.ensures.held none some))
+    handed_on (λ (r : Result _ _). FitsTables c.args.self.now new (c.args.prepared.now.guest + c.args.at) (Raw Image (c.args.prepared.now.offset + c.args.at) true) n r) c.from_residual.result e c.from_residual.ensures
+    (subst (λ o. FitsTables c.args.self.now new (c.args.prepared.now.guest + c.args.at) {A = Unit {0}} (Raw Image o true) n (Err e)) c.in-Some.ensures.1 (c.in_err-check_in_place.ensures.held none some))
 
 pub returns-clause-held : goal.returns-clause-held
 returns-clause-held g c = λ none some.
@@ -95,7 +95,7 @@ returns-clause-held g c = λ none some.
     let at = c.args.prepared.now.guest + c.args.at in
     let kind = Raw Image (c.args.prepared.now.offset + c.args.at) true in
     let held = subst (λ o. IsHeldAs mid at (Raw Image o true) n) c.in-Some.ensures.1 (c.in_ok-check_in_place.ensures.held none some) in
-    heeds_then at kind n new c.write_data.result c.write_data.ensures.current (held_as mid new at kind n (keeps_storage mid new new.file.storage c.write_data.ensures.written.rest) held)
+    heeds_then at kind n c.args.self.now new c.write_data.result (written_current c.write_data.result c.write_data.ensures.fails.cause) (written_plain kind c.write_data.result c.write_data.ensures.fails.cause) (held_as mid new at kind n (keeps_storage mid new new.file.storage c.write_data.ensures.written.rest) held)
 
 pub returns-in_default-clause-once : goal.returns-in_default-clause-once
 returns-in_default-clause-once g c = put_refused g.S.Storage.view g.F.BackingDisk.backing c.args.prepared.now c.args.at c.args.bytes.now c.args.self.now Overflow
@@ -158,7 +158,10 @@ returns-clause-fails g c =
     record {
       faults = search rules;
       cause = elim (cases_lt c.in-Some.host (cluster_size mid.file.header.fields)) [
-        | inl lt ↦ met_as MayFail Why c.write_data.result (λ e why. inr (inr (inr (why, let at = c.in-Some.ensures.1 in omega (arith, lt, at, size))))) c.write_data.ensures.fails.cause
+        | inl lt ↦ met_as MayFailWriting Why c.write_data.result (λ e why. ⊎_elim (λ fault. inl fault) (λ header. inr (inr (inr (header, let at = c.in-Some.ensures.1 in omega (arith, lt, at, size))))) why) c.write_data.ensures.fails.cause
         | inr le ↦ met_as IsFault Why c.write_data.result (λ e fault. inl fault) (c.write_data.ensures.fault le)
       ];
     }
+
+pub returns-clause-private : goal.returns-clause-private
+returns-clause-private g c = λ some. written_current c.write_data.result c.write_data.ensures.fails.cause

@@ -2,7 +2,7 @@ use Rattle.qcow2_image.proofs.Call.MarkedCalls.{putting_marked}
 use Rattle.qcow2_image.proofs.image.Qcow2.write_mapped.Goals as goal
 use Rattle.std.proofs.Common.{◌≡◌, ◌+◌, ◌<◌, [], true, length, sym, ◌∙◌, subst, rules, arith, refl, Result, IfErr}
 use Rattle.qcow2_image.proofs.Common.{OnOk, nil_from_length, Qcow2, Puts, ForeignState, ReadOnly, Raw, Image, IsFoundWhole, is_failed, pending_in, FitsTables, IsCacheHeld, MayFailPutting, handed_on, PutsOnce, on_ok_weaker, MayFailPuttingAt}
-use Rattle.qcow2_image.proofs.Lemmas.{may_mark, Quietly, quiet_sound, found_after, found_before, fails_none, behind_none, heeds_on, keeps_marked, held_since, putting_call, met_as}
+use Rattle.qcow2_image.proofs.Lemmas.{may_mark, Quietly, quiet_sound, found_after, found_before, fails_none, behind_none, heeds_on, keeps_marked, held_since, putting_call, met_as, heeds_from, held_begun}
 use Rattle.qcow2_image.proofs.Call.Answers.{usable_works}
 use Rattle.qcow2_image.proofs.Write.PutParts.{puts_early, puts_none, puts_then, puts_with_outcome}
 use Rattle.qcow2_image.proofs.Write.ToldPuts.{checked_unseen, put_in_call, put_nothing, put_refused}
@@ -72,8 +72,9 @@ returns-clause-held g c = λ usable none some.
     let n = length c.args.bytes.now in
     let at = c.args.prepared.now.guest + c.args.at in
     let kind = Raw Image (c.args.prepared.now.offset + c.args.at) true in
-    subst (λ (r : Result _ _). FitsTables c.mark_failure.new.self at kind n r) (sym c.mark_failure.ensures.answer)
-    (heeds_on at kind n c.write_current-done.new.self c.mark_failure.new.self c.write_current-done.result (keeps_marked c.write_current-done.new.self c.mark_failure.new.self _ c.mark_failure.ensures.rest) (c.write_current-done.ensures.held none some))
+    heeds_from at kind n c.args.self.now c.begin_call.new.self c.mark_failure.new.self c.mark_failure.result (held_begun c.args.self.now c.begin_call.new.self at c.begin_call.ensures.begun)
+    (subst (λ (r : Result _ _). FitsTables c.begin_call.new.self c.mark_failure.new.self at kind n r) (sym c.mark_failure.ensures.answer)
+    (heeds_on at kind n c.begin_call.new.self c.write_current-done.new.self c.mark_failure.new.self c.write_current-done.result (keeps_marked c.write_current-done.new.self c.mark_failure.new.self _ c.mark_failure.ensures.rest) (c.write_current-done.ensures.held none some)))
 
 pub returns-then-is_empty-clause-held : goal.returns-then-is_empty-clause-held
 returns-then-is_empty-clause-held g c = λ usable none some. absurd (let no : length c.args.bytes.now ≡ 0 = search rules in omega (arith, no, some))
