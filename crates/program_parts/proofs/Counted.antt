@@ -1,5 +1,6 @@
 -- The failures that a conversion of a whole file counts: of the image's storage, where the image is opened without a backing disk, and of the raw disk.
-use Rattle.std.proofs.Common.{◌≡◌, ℕ, inl, inr, Option, Some, None, Result, Ok, Err, IsErr, IsErrAnd, refl, sym, ap, ◌∙◌, subst, arith}
+use Rattle.qcow2_image.specs.Faults.{faults_beside}
+use Rattle.std.proofs.Common.{◌≡◌, ℕ, true, false, is_some, inl, inr, Option, Some, None, Result, Ok, Err, IsErr, IsErrAnd, refl, sym, ap, ◌∙◌, subst, arith}
 use Rattle.program_parts.proofs.Common.{BackingView, StorageView, HasCause, Rose, StorageError, FaultsReported, of_storage, ImageError, handed_on, storage_of_image, faults_below, Qcow2, CountsBoth}
 use Rattle.image_access.specs.declared.error.StorageError.TheVariants as S
 use Rattle.qcow2_alloc.specs.declared.error.ImageError.TheVariants as I
@@ -53,16 +54,27 @@ module _ {S F : Type 0} (view : S → StorageView) (backing : F → BackingView)
   below None = refl
   below (Some b) = none b
 
-  -- a conversion, with no disk below that fails
-  pub both_of : {T : Type 0} (old new : Qcow2 S F) (last : S) (a b : ℕ) (result : Result T ImageError) → ConversionCounts view backing old new a b result → last ≡ storage_of_image new → CountsBoth (view (storage_of_image old)).faults (view last).faults a b result
-  both_of {T} old new last a b result told is = subst (λ (s : S). CountsBoth (view (storage_of_image old)).faults (view s).faults a b result) (sym is) (by result told) where
+  beside : (old new : Option S) → old ≡ None → is_some new ≡ is_some old → (faults_beside view old ≡ 0) × (faults_beside view new ≡ 0)
+  beside None None alone still = (refl, refl)
+  beside None (Some file) alone still = absurd (let bad : true ≡ false = still in cc)
+  beside (Some file) new alone still = absurd cc
+
+  -- a conversion, with no disk below that fails, and without a data file
+  pub both_of : {T : Type 0} (old new : Qcow2 S F) (last : S) (a b : ℕ) (result : Result T ImageError) → old.data_file ≡ None → is_some new.data_file ≡ is_some old.data_file → ConversionCounts view backing old new a b result → last ≡ storage_of_image new → CountsBoth (view (storage_of_image old)).faults (view last).faults a b result
+  both_of {T} old new last a b result alone still told is = subst (λ (s : S). CountsBoth (view (storage_of_image old)).faults (view s).faults a b result) (sym is) (by result told) where
     by : (r : Result T ImageError) → ConversionCounts view backing old new a b r → CountsBoth (view (storage_of_image old)).faults (view (storage_of_image new)).faults a b r
     by (Ok x) told = record { no_fewer = told.no_fewer.storage; raw = told.raw; rose = λ is. absurd (cc is); told = (told.told.0.storage, told.told.1) }
     by (Err e) told = record {
       no_fewer = told.no_fewer.storage;
       raw = told.raw;
       rose = λ is. elim (told.rose (cc is)) [
-        | inl one ↦ elim one.0 [ inl rose ↦ inl rose | inr rose ↦ absurd (omega (arith, rose, below old.backing, below new.backing)) ]
+        | inl one ↦ elim one.0 [
+          | inl rose ↦ inl rose
+          | inr other ↦ elim other [
+            | inl rose ↦ absurd (omega (arith, rose, below old.backing, below new.backing))
+            | inr rose ↦ absurd (let none = beside old.data_file new.data_file alone still in omega (arith, rose, none.0, none.1))
+          ]
+        ]
         | inr rose ↦ inr rose
       ];
       told = λ other. let all = told.told other in (all.0.storage, all.1);

@@ -3,6 +3,7 @@ use Rattle.std.proofs.Common.{◌≡◌, ◌≢◌, ◌⊎◌, ◌+◌, ◌≤�
 use Rattle.program_parts.proofs.Common.{IfErr, IsTrue, unwrap_or, option_or, BackingView, StorageView, Bytes, byte_at, IsConsistent, header, HeaderFields, IsOpened, IsFault, known_in, state_in, ImageError, IsAllowed, IsCreated, IsReasonNotToCreateOpen, allocates_over, backing_format_in, backing_name_in, IsSameImage, is_writable, size_of, storage_of_image, abstract_of, pending_in, NoBacking, Qcow2CreateBuilder, Qcow2, opening_reasons, MayFailImporting, IsImageOfSize, IsLayout, MayFailExporting, MayFailOnceCreated, MayFailReadingDisk, IsRefusedUntouched, IsUnopened, OpensToExport, asked_for}
 use Rattle.std.specs.String.{string_bytes}
 use Rattle.std.proofs.Math.Pow.{pow_mono}
+use Rattle.qcow2_image.specs.Created.{data_file_name_in}
 use Rattle.qcow2_metadata.specs.HeaderWrite.{name_place}
 use Rattle.image_access.specs.declared.storage.PreallocateMode.TheVariants as Mode
 use Rattle.qcow2_laws.proofs.Internal.{known_header}
@@ -27,8 +28,8 @@ err_then (Err e) to h = to e h
 -- ---- an image of a raw disk
 
 -- the same clusters and counts are allowed, whatever the storage is
-layout_as : {S T : Type 0} (a : Qcow2CreateBuilder S) (b : Qcow2CreateBuilder T) → b.cluster_size ≡ a.cluster_size → b.refcount_width ≡ a.refcount_width → b.backing_name ≡ None → b.backing_format ≡ None → IsAllowed a → IsAllowed b
-layout_as a b clusters counts name format allowed = record {
+layout_as : {S T : Type 0} (a : Qcow2CreateBuilder S) (b : Qcow2CreateBuilder T) → b.cluster_size ≡ a.cluster_size → b.refcount_width ≡ a.refcount_width → b.backing_name ≡ None → b.backing_format ≡ None → b.data_file_name ≡ None → IsAllowed a → IsAllowed b
+layout_as a b clusters counts name format unnamed allowed = record {
   cluster_bits = allowed.cluster_bits;
   refcount_order = allowed.refcount_order;
   cluster_size_is = clusters ∙ allowed.cluster_size_is;
@@ -39,25 +40,30 @@ layout_as a b clusters counts name format allowed = record {
   room =
       let low : 2 ^ 9 ≤ 2 ^ allowed.cluster_bits = pow_mono allowed.no_smaller in
       let size : b.cluster_size ≡ 2 ^ allowed.cluster_bits = clusters ∙ allowed.cluster_size_is in
-      let short : name_place (backing_format_in b) None + length (unwrap_or (backing_name_in b) []) ≡ 112 =
-      ap (λ (f : Option _). name_place (option_map string_bytes f) None + length (unwrap_or (backing_name_in b) [])) format
+      let short : name_place (backing_format_in b) (data_file_name_in b) + length (unwrap_or (backing_name_in b) []) ≡ 112 =
+      ap (λ (f : Option _). name_place (option_map string_bytes f) (data_file_name_in b) + length (unwrap_or (backing_name_in b) [])) format
+      ∙ ap (λ (f : Option _). name_place None (option_map string_bytes f) + length (unwrap_or (backing_name_in b) [])) unnamed
       ∙ ap (λ (n : Option _). 112 + length (unwrap_or (option_map string_bytes n) [])) name in
       omega (arith, low, size, short);
 }
 
+-- a builder that is like one without a data file
+pub plain_so : {S : Type 0} (builder other : Qcow2CreateBuilder S) → builder ≡ other → other.data_file_name ≡ None → other.data_file ≡ None → (builder.data_file_name ≡ None) × (builder.data_file ≡ None)
+plain_so builder other is name file = (ap (λ (b : Qcow2CreateBuilder _). b.data_file_name) is ∙ name, ap (λ (b : Qcow2CreateBuilder _). b.data_file) is ∙ file)
+
 module _ {S : Type 0} where
   -- the builder, as it is told one after the other
-  pub asked_so : (storage : S) (n cluster width : ℕ) (new sized clustered whole : Qcow2CreateBuilder S) → new ≡ record { image = storage; size = 0; preallocate = Mode.None; cluster_size = 65536; refcount_width = 16; backing_name = None; backing_format = None }
+  pub asked_so : (storage : S) (n cluster width : ℕ) (new sized clustered whole : Qcow2CreateBuilder S) → new ≡ record { image = storage; size = 0; preallocate = Mode.None; cluster_size = 65536; refcount_width = 16; backing_name = None; backing_format = None; data_file_name = None; data_file = None }
       → sized ≡ record new { size = n } → clustered ≡ record sized { cluster_size = cluster } → whole ≡ record clustered { refcount_width = width } → whole ≡ asked_for storage n cluster width
   asked_so storage n cluster width new sized clustered whole first second third fourth =
       fourth ∙ ap (λ (b : Qcow2CreateBuilder S). record b { refcount_width = width }) (third ∙ ap (λ (b : Qcow2CreateBuilder S). record b { cluster_size = cluster }) (second ∙ ap (λ (b : Qcow2CreateBuilder S). record b { size = n }) first))
 
   module _ (storage : S) (n cluster width : ℕ) (built : Qcow2CreateBuilder S) (is : built ≡ asked_for storage n cluster width) where
     pub no_layout : ¬ IsLayout cluster width → ¬ IsAllowed built
-    no_layout none allowed = none (layout_as built (asked_for {S = Unit {0}} tt 0 cluster width) (sym (ap (λ (b : Qcow2CreateBuilder S). b.cluster_size) is)) (sym (ap (λ (b : Qcow2CreateBuilder S). b.refcount_width) is)) refl refl allowed)
+    no_layout none allowed = none (layout_as built (asked_for {S = Unit {0}} tt 0 cluster width) (sym (ap (λ (b : Qcow2CreateBuilder S). b.cluster_size) is)) (sym (ap (λ (b : Qcow2CreateBuilder S). b.refcount_width) is)) refl refl refl allowed)
 
     pub of_layout : IsLayout cluster width → IsAllowed built
-    of_layout layout = layout_as (asked_for {S = Unit {0}} tt 0 cluster width) built (ap (λ (b : Qcow2CreateBuilder S). b.cluster_size) is) (ap (λ (b : Qcow2CreateBuilder S). b.refcount_width) is) (ap (λ (b : Qcow2CreateBuilder S). b.backing_name) is) (ap (λ (b : Qcow2CreateBuilder S). b.backing_format) is) layout
+    of_layout layout = layout_as (asked_for {S = Unit {0}} tt 0 cluster width) built (ap (λ (b : Qcow2CreateBuilder S). b.cluster_size) is) (ap (λ (b : Qcow2CreateBuilder S). b.refcount_width) is) (ap (λ (b : Qcow2CreateBuilder S). b.backing_name) is) (ap (λ (b : Qcow2CreateBuilder S). b.backing_format) is) (ap (λ (b : Qcow2CreateBuilder S). b.data_file_name) is) layout
 
     -- it names no file below, and takes no clusters over one
     pub unnamed : built.backing_name ≡ None

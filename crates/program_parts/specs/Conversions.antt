@@ -88,7 +88,7 @@ pub record CountsBoth {T : Type 0} (before now raw_before raw_now : ℕ) (result
 
 -- The settings of the new image: the size n, no preallocation, this cluster size and this refcount width.
 abbrev pub asked_for : {S : Type 0} → S → (n cluster width : ℕ) → Qcow2CreateBuilder S
-asked_for storage n cluster width = record { image = storage; size = n; preallocate = Mode.None; cluster_size = cluster; refcount_width = width; backing_name = None; backing_format = None }
+asked_for storage n cluster width = record { image = storage; size = n; preallocate = Mode.None; cluster_size = cluster; refcount_width = width; backing_name = None; backing_format = None; data_file_name = None; data_file = None }
 
 -- Images may have this cluster size and this refcount width.
 abbrev pub IsLayout : (cluster width : ℕ) → Type 0

@@ -113,11 +113,9 @@ impl<S: Storage> ImageStorage<S> {
         self.changes
     }
 
-    // Records and counts a change that was made, or may have been. If memory ran out, there was none.
-    pub(crate) fn record_change(
-        &mut self,
-        done: Result<(), StorageError>,
-    ) -> Result<(), StorageError>
+    /// Records and counts a change that was made to this storage or to the data file of its image, or may have been. If memory ran out,
+    /// there was none. Returns what it is given.
+    pub fn record_change(&mut self, done: Result<(), StorageError>) -> Result<(), StorageError>
         ensures answer { result ≡ done }
         ensures storage { storage_of self.new ≡ storage_of self.old }
         ensures changed { RecordsWrite self.old self.new done }

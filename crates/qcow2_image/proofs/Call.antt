@@ -1,6 +1,7 @@
 pub mod FaultCounts
 pub mod ImageSteps
 pub mod Called
+pub mod DataFiles
 pub mod Answers
 pub mod Answered
 pub mod FailingErrors

@@ -94,12 +94,13 @@ pub use Rattle.qcow2_image.specs.Calls.{refusal_of, AnswersCall, Discards, Flush
 pub use Rattle.qcow2_image.specs.Clearing.{ClearsImageCovers, ClearsPart, ClearsTable, IsUnderMapping, IsClearable, MayClear, ReadsAll, ReadsDropped, cover_once_cleared, given_bytes_between, is_between, listed_by, setting_of, shown_by, AreCleared, Clears, RefusesUngiven, from_in, needs_zero_entries, refuses_to_clear, rounds_past, to_in, ClearsEntry, is_cleared, ClearsOrRefuses, RefusesClearing, all_given_by_clear, with_caches, cleared_entry}
 pub use Rattle.qcow2_image.specs.ClearingCalls.{ClearsSoundly, ClearsStep, FailsToClear, ClearsInTable}
 pub use Rattle.qcow2_image.specs.CopyRange.{HasByte, announced_range_of, copy_range_of, uncut_copy_range}
-pub use Rattle.qcow2_image.specs.Created.{Enlarges, IsNewDisk, IsPreallocated, IsStopOfCreating, IsUnwritten, ShowsZeros, StopsCreating, IsReasonAgainst, backing_format_in, backing_name_in, IsCreated, IsReasonNotToCreate, longest_disk, StaysCreating, IsNewHeader, IsMade, IsThreeWith, WritesThree, begins_image, CountsThree, NamesOne, AllocatesPlace, HasLogarithms, IsAllowed, IsReasonNotToCreateOpen, LacksPlaceCreating, IsUnmapped, HoldsNewDisk, OpensGrown, empty_of, IsCoverOf}
-pub use Rattle.qcow2_image.specs.Faults.{CountsImageFaults, SameFaults, ReportsEachIn, ReportsFault, NoFewerFaults, OneRose, IsNotOfStorage, ReportsEach}
-pub use Rattle.qcow2_image.specs.Found.{l1_index_of, l2_index_of, mapping_of, NamesL2Table, found_kind, IsRunBehind, AreAlikeBehind, IsAlikeTo, IsFoundInImage, IsFoundWhole, IsMappedAs, writable_place, further_by, IsRunFrom, is_data_file}
+pub use Rattle.qcow2_image.specs.Created.{Enlarges, IsNewDisk, IsPreallocated, IsStopOfCreating, IsUnwritten, ShowsZeros, StopsCreating, IsReasonAgainst, backing_format_in, backing_name_in, data_file_name_in, IsCreated, IsReasonNotToCreate, longest_disk, StaysCreating, IsNewHeader, IsMade, IsThreeWith, WritesThree, begins_image, CountsThree, NamesOne, AllocatesPlace, HasLogarithms, IsAllowed, IsReasonNotToCreateOpen, LacksPlaceCreating, IsUnmapped, HoldsNewDisk, OpensGrown, empty_of, IsCoverOf}
+pub use Rattle.qcow2_image.specs.DataFiles.{CallsBeside}
+pub use Rattle.qcow2_image.specs.Faults.{faults_beside, CountsImageFaults, SameFaults, ReportsEachIn, ReportsFault, NoFewerFaults, OneRose, IsNotOfStorage, ReportsEach}
+pub use Rattle.qcow2_image.specs.Found.{l1_index_of, l2_index_of, kind_in, mapping_of, NamesL2Table, found_kind, IsRunBehind, AreAlikeBehind, IsAlikeTo, IsFoundInImage, IsFoundWhole, IsMappedAs, writable_place, further_by, IsRunFrom, is_data_file}
 pub use Rattle.qcow2_image.specs.Growing.{FitsSize, Extends, Lasts, ReachesSize, SameFormat, WritesBack, LastsCall, LastsKnown, LastsPart, KeepsSurplus, LeavesSound}
 pub use Rattle.qcow2_image.specs.HeldMappings.{IsCompressedInTables, IsHeldFrom, RefusesHeld, StaysHeld, FitsTables, IsHeldAs, IsLongestSo, named_place, IsMappedBy, IsMappedSo, KeepsHeld, IsHeldRun, ReadsAs}
-pub use Rattle.qcow2_image.specs.Image.{HasPinnedTable, is_failed, is_external, is_writable, size_of, IsBegun, number_of, ImageStays, has_noted_change, IsSameImage, with_marks, leaked_in, storage_of_image, HasNothingToFree, leaked_by, KeepsRestOn}
+pub use Rattle.qcow2_image.specs.Image.{HasPinnedTable, is_beside, is_failed, is_placed_by_guest, place_in, lacks_data_file, is_writable, size_of, IsBegun, number_of, ImageStays, has_noted_change, IsSameImage, with_marks, leaked_in, storage_of_image, HasNothingToFree, leaked_by, KeepsRestOn}
 pub use Rattle.qcow2_image.specs.ImageInvariant.{below_of, of_data, of_tables, to_free, new_data_by, over_all, pending_in, abstract_of, meaning, is_entered, is_new, is_private, is_hidden, place_of, mapping_of_cluster, backing_bytes, ImageInvariant, faults_below, IsPending, IsReadyWith, disk_of, listed_run, pins_by, cluster_of, new_data_in, host_begin_of, IsNewAt, IsClusterMappingAt, IsReady, IsHonestBacking, pins_of, image_abstraction, HasL1Table, run_of, surplus_in, begin_of, IsKeptAt}
 pub use Rattle.qcow2_image.specs.ImageSteps.{ImageFails, ImageStep, ImageStepWhere, ReadingStep, CallStep, ReadingCall}
 pub use Rattle.qcow2_image.specs.InternalSteps.{pending_with_listed, ListGrows, InternalStep, InternalFreeingStep, NamesOwn, KeepsCopied, Ensures, InternalFillingStep, RefusedFillingStep, RefusedStep, FreesLater, Pins, HoldsTable, old_data_by, freed_by, FreesListed, HoldsAll, is_announced, IsFilled, AllocatesData, SameHeld, IsKeptAlone, IsGained, InterruptedStep, DropsNothing, EntersMapping, AreThere, IsInHeldCluster, InterruptedPart, EntersCluster, Gains}
@@ -116,8 +117,8 @@ pub use Rattle.qcow2_image.specs.Noted.{ChangesRose, FailsOnceWritten, NoFewerCh
 pub use Rattle.qcow2_image.specs.Opened.{IsKeptSince, needs_another, Opens, IsFresh, StaysFresh, LeavesFile, needs_missing, IsOpenedFrom, LeavesStorage, OpensAtOnce, StandsOpened, StandsRefused, opened_contents, IsLoaded, SameNames, HasNamesIn, NeedsAnother, NeedsMissing}
 pub use Rattle.qcow2_image.specs.PinnedTables.{FindsOwn, RespectsPins, PreparesUnpinned, own_table, own_pins, LiesInOwn, IsWritableInTables, ExistsInTables}
 pub use Rattle.qcow2_image.specs.Preallocation.{FilledCovers, FillsPart, RefusedFill, ChangesFree, FillsOrRefuses, FillsSome, InterruptedGiving, IsUnderMappingIn, MayBeZero, given_by_zeros, FillsGrown, FillsGrownInPart, FillsGrownOrRefuses, RefusedGrown, filled_to, all_given_by_growing, GrownFree, FillsFirst, IsWholeRange, CommitsWhole, AreZeros, most_of}
-pub use Rattle.qcow2_image.specs.Prepared.{table_of, offset_of, length_of}
-pub use Rattle.qcow2_image.specs.PreparedPlaces.{MarkedIsBehind}
+pub use Rattle.qcow2_image.specs.Prepared.{file_of, table_of, offset_of, length_of}
+pub use Rattle.qcow2_image.specs.PreparedPlaces.{IsMarkedBehind, IsOwn, IsPlacedBehind, MarkedIsBehind}
 pub use Rattle.qcow2_image.specs.Preparing.{IsTaken, IsAnswered, IsPlaceOf, IsWritableAt, IsHeldAlone, IsKeptBy}
 pub use Rattle.qcow2_image.specs.Ranges.{ReleasesOneMapping, MayGoOn, AllocatesDataAt, Ends, FindsBehind, ClusterMappingsAt, StandsBehind, BeginsInKept, IsExtended, BreaksOff, GainsAt, IsFirst, IsSharedAt, Reaches, HasRoomForRange, IsLongerMapping, IsNext, EndsWithCluster, GoesNext, GoesOn}
 pub use Rattle.qcow2_image.specs.Readable.{IsJustifiedRefusal, IsNewlyOpened, OpeningStep, files_missing, IsReasonAgainstTables, NeededTablesRead, OpensRightly, IsTableRefused, HeaderSuits, IsReadable}

@@ -4,6 +4,7 @@ pub mod DiscardedTails
 pub mod TailSteps
 pub mod ShrinkSteps
 pub mod Shrinking
+pub mod LaterTails
 pub mod RefusedSteps
 pub mod ShrinkCalls
 pub mod GrowByParts

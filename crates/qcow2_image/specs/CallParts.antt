@@ -2,7 +2,7 @@
 use Rattle.qcow2_metadata.specs.Header.{cluster_size}
 use Rattle.qcow2_image.specs.InternalSteps.{RefusedFillingStep, HoldsTable}
 use Rattle.qcow2_alloc.specs.ImageError.{IsFault as IsFaultOfTables}
-use Rattle.std.specs.Prelude.{Bool, true, false, ℕ, ◌+◌, ◌*◌, ◌/◌, ◌≡◌, ◌<◌, ◌≤◌, ◌==◌, ◌⊎◌, List, [], ◌∷◌, length, Option, Some, None, IsSome, IsTrue, Result, Ok, Err, slice_get, slice_set, if◌then◌else◌}
+use Rattle.std.specs.Prelude.{Bool, true, false, ℕ, ◌+◌, ◌*◌, ◌/◌, ◌≡◌, ◌<◌, ◌≤◌, ◌==◌, ◌⊎◌, List, [], ◌∷◌, length, Option, Some, None, IsSome, IsSomeAnd, IsTrue, Result, Ok, Err, slice_get, slice_set, if◌then◌else◌}
 use Rattle.image_access.specs.Backing.{BackingView}
 use Rattle.image_access.specs.Contents.{overwritten}
 use Rattle.image_access.specs.Moments.{StorageView, EachMomentSince, IsLeftBy}
@@ -17,7 +17,7 @@ use Rattle.qcow2_alloc.specs.ImageFile.{view_in, known_in}
 use Rattle.qcow2_image.specs.declared.image.Qcow2.{Qcow2}
 use Rattle.qcow2_image.specs.declared.prepared.Prepared.{Prepared}
 use Rattle.qcow2_image.specs.Calls.{refusal_of, all_given_by_put}
-use Rattle.qcow2_image.specs.Image.{is_failed, has_noted_change}
+use Rattle.qcow2_image.specs.Image.{is_failed, has_noted_change, storage_of_image}
 use Rattle.qcow2_image.specs.ImageInvariant.{meaning, pending_in, abstract_of, ImageInvariant}
 use Rattle.qcow2_image.specs.MovedTables.{MovesTables, CoversStay}
 
@@ -77,6 +77,12 @@ module _ {S F : Type 0} (view : S → StorageView) where
     pub honest : (view_in view old.file).is_honest → (view_in view new.file).is_honest
     pub time : (view_in view old.file).is_honest → EachMomentSince (view_in view old.file) (view_in view new.file) (IsLeftBy (view_in view new.file))
     pub written : (view_in view old.file).is_honest → IsWriteOutcome result (view_in view old.file).contents (overwritten (view_in view old.file).contents host bytes) (view_in view new.file).contents
+
+  -- A write to the data file makes this change of it, or is refused. The image's own storage stays the same, and the change is noted.
+  pub record WritesBeside (old new : Qcow2 S F) (change : List ℕ → List ℕ) (result : Result (Unit {0}) ImageError) (file : S) : Type 0 where
+    pub rest : new ≡ record old { file = record old.file { storage = new.file.storage }; data_file = new.data_file }
+    pub storage : storage_of_image new ≡ storage_of_image old
+    pub written : IsSomeAnd new.data_file (λ now. (view file).is_honest → (view now).is_honest × IsWriteOutcome result (view file).contents (change (view file).contents) (view now).contents)
 
   module _ (backing : F → BackingView) where
     -- Bytes are put into a prepared mapping.

@@ -213,18 +213,18 @@ module _ {S F : Type 0} (view : S → StorageView) (backing : F → BackingView)
     pub behind : KeepBehindHeader a.file.caches b.file.caches
 
   -- ---- what is read before the first entry changes
-  -- The host clusters that the entry of a guest cluster will lose are appended to a list. An entry can hold their offsets.
+  -- Without a data file, the host clusters that the entry of a guest cluster will lose are appended to a list. An entry can hold their offsets.
   abbrev pub ReadsDropped : ClearMode → (table cluster : ℕ) → Qcow2 S F → List ClustersToFreeEntry → List ClustersToFreeEntry → Type 0
   ReadsDropped how table cluster image old new =
       let h = image.file.header.fields in
       let known = known_in view image.file in
-      (p : Pending) (i : ℕ) → FileInvariant view p image.file → IsEntryAt h known i table (cluster % entries_per_cluster h) → cluster / entries_per_cluster h ≡ i
+      (p : Pending) (i : ℕ) → image.data_file ≡ None → FileInvariant view p image.file → IsEntryAt h known i table (cluster % entries_per_cluster h) → cluster / entries_per_cluster h ≡ i
       → (new ≡ old ++ listed_run (old_data_run h.cluster_bits (cover h known cluster) (cover_once_cleared how (cover h known cluster)))) × IsInReach (cover h known cluster)
 
-  -- The host clusters that n entries, from `first` on, will lose are appended to a list.
+  -- Without a data file, the host clusters that n entries, from `first` on, will lose are appended to a list.
   abbrev pub ReadsAll : ClearMode → (table first n : ℕ) → Qcow2 S F → List ClustersToFreeEntry → Type 0
   ReadsAll how table first n image list =
       let h = image.file.header.fields in
       let known = known_in view image.file in
-      (p : Pending) (i : ℕ) → FileInvariant view p image.file → IsEntryAt h known i table (first % entries_per_cluster h) → first / entries_per_cluster h ≡ i → first % entries_per_cluster h + n ≤ entries_per_cluster h
+      (p : Pending) (i : ℕ) → image.data_file ≡ None → FileInvariant view p image.file → IsEntryAt h known i table (first % entries_per_cluster h) → first / entries_per_cluster h ≡ i → first % entries_per_cluster h + n ≤ entries_per_cluster h
       → (list ≡ listed_by how h known first n) × ((j : ℕ) → j < n → IsInReach (cover h known (first + j)))

@@ -151,9 +151,16 @@ module _ {S : Type 0} where
   abbrev pub backing_format_in : Qcow2CreateBuilder S → Option (List ℕ)
   backing_format_in builder = option_map string_bytes builder.backing_format
 
+  abbrev pub data_file_name_in : Qcow2CreateBuilder S → Option (List ℕ)
+  data_file_name_in builder = option_map string_bytes builder.data_file_name
+
+  -- The new image holds its own data.
+  abbrev pub HasNoDataFile : Qcow2CreateBuilder S → Type 0
+  HasNoDataFile builder = (builder.data_file_name ≡ None) × (builder.data_file ≡ None)
+
   -- The length in bytes of the new header with its names.
   abbrev pub header_end : Qcow2CreateBuilder S → ℕ
-  header_end builder = name_place (backing_format_in builder) None + length (unwrap_or (backing_name_in builder) [])
+  header_end builder = name_place (backing_format_in builder) (data_file_name_in builder) + length (unwrap_or (backing_name_in builder) [])
 
   -- Clusters are to be allocated for a disk over a backing file.
   abbrev pub allocates_over : Qcow2CreateBuilder S → Bool
@@ -174,7 +181,7 @@ module _ {S : Type 0} where
   pub record HasLogarithms (builder : Qcow2CreateBuilder S) (logarithms : ℕ × ℕ) : Type 0 where
     pub clusters : builder.cluster_size ≡ 2 ^ logarithms.0
     pub counts : builder.refcount_width ≡ 2 ^ logarithms.1
-    pub can_be_new : CanBeNew logarithms.0 logarithms.1 (backing_name_in builder) (backing_format_in builder) None
+    pub can_be_new : CanBeNew logarithms.0 logarithms.1 (backing_name_in builder) (backing_format_in builder) (data_file_name_in builder)
 
   -- Why an image cannot be created on any storage: 5, an invalid option; 6, allocating clusters over a backing file; 13, a disk that is too large.
   abbrev pub IsReasonAgainst : Qcow2CreateBuilder S → ImageError → Type 0
@@ -316,8 +323,9 @@ module _ {S F : Type 0} (view : S → StorageView) (backing : F → BackingView)
     pub opened : Qcow2 S F
     pub new : IsNewlyOpened (view opener.image) true opener.number opened
     pub over : opened.backing ≡ option_flatten opener.backing
-    pub step : OpeningStep view (view opener.image) true (files_missing opener.backing) (Ok opened)
-    pub opens : IsHonestBacking view backing (option_flatten opener.backing) → Opens view backing (view opener.image) opened
+    pub beside : opened.data_file ≡ option_flatten opener.data_file
+    pub step : OpeningStep view (view opener.image) true (files_missing opener.backing opener.data_file) (Ok opened)
+    pub opens : IsHonestBacking view backing (option_flatten opener.backing) → option_flatten opener.data_file ≡ None → Opens view backing (view opener.image) opened
     pub takes : AllocatesPlace view backing mode opened image size r
     pub marks : MarkedStep view backing opened image r
     pub may_fail : refuses_to_resize opened ≡ None → size_of opened < size → (abstract_of view backing opened []).is_sound
@@ -325,7 +333,7 @@ module _ {S F : Type 0} (view : S → StorageView) (backing : F → BackingView)
 
   -- The builder was refused; or its image was opened, and its disk could not be grown. The storage is returned.
   abbrev pub RefusesGrown : Qcow2OpenBuilder S F → PreallocateMode → ℕ → S × ImageError → Type 0
-  RefusesGrown opener mode size refused = OpeningStep {F = F} view (view opener.image) true (files_missing opener.backing) (Err refused)
+  RefusesGrown opener mode size refused = OpeningStep {F = F} view (view opener.image) true (files_missing opener.backing opener.data_file) (Err refused)
       ⊎ ((image : Qcow2 S F) × (storage_of_image image ≡ refused.0) × OpensGrown opener mode size image (Err refused.1))
 
   -- The image is open, with this number and for writing, and is not flushed. No cluster is lost, no table lies in the header's cluster, and each guest cluster has the mapping of the mode.
@@ -343,9 +351,9 @@ module _ {S F : Type 0} (view : S → StorageView) (backing : F → BackingView)
       pub answered : answers storage (Ok opener)
       pub given : IsGiven view builder storage
 
-    -- The builder has the storage that the closure got, and its backing disk is honest.
+    -- The builder has the storage that the closure got, its backing disk is honest, and it has no data file.
     abbrev pub HandsOn : S → Qcow2OpenBuilder S F → Type 0
-    HandsOn storage opener = (opener.image ≡ storage) × IsHonestBacking view backing (option_flatten opener.backing)
+    HandsOn storage opener = (opener.image ≡ storage) × IsHonestBacking view backing (option_flatten opener.backing) × (option_flatten opener.data_file ≡ None)
 
     -- The disk shows the same over every disk below, or has none below.
     abbrev pub ShowsAlone : Qcow2OpenBuilder S F → Type 0
@@ -366,7 +374,7 @@ module _ {S F : Type 0} (view : S → StorageView) (backing : F → BackingView)
       pub storage : S
       pub opener : Qcow2OpenBuilder S F
       pub is_answered : IsAnswered storage opener
-      pub step : OpeningStep {F = F} view (view opener.image) true (files_missing opener.backing) (Err (left, e))
+      pub step : OpeningStep {F = F} view (view opener.image) true (files_missing opener.backing opener.data_file) (Err (left, e))
 
     -- The image was made and opened, and its disk could not be grown: by a fault, for lack of room, or since clusters are to be allocated over the backing disk that the closure gave.
     pub record IsMadeUngrown (left : S) (e : ImageError) : Type 0 where

@@ -7,7 +7,8 @@ use Rattle.qcow2_metadata.specs.L2Table.{L2TableView, entries_of, cover_at}
 use Rattle.qcow2_metadata.specs.declared.header.HeaderFields.{HeaderFields}
 use Rattle.qcow2_metadata.specs.declared.l2_mapping.L2Mapping.{L2Mapping}
 use Rattle.qcow2_disk.specs.Alike.{IsAlike}
-use Rattle.qcow2_disk.specs.Found.{Kind, raw, indirect, zeros, special, eof, IsMapped, IsLongestOf, IsFound as IsFoundOf}
+use Rattle.qcow2_metadata.specs.declared.l2_mapping.L2Mapping.TheVariants.{Data, Zero, Compressed, Uncovered}
+use Rattle.qcow2_disk.specs.Found.{Kind, raw, indirect, zeros, special, eof, kind_at, IsMapped, IsLongestOf, IsFound as IsFoundOf}
 use Rattle.qcow2_laws.specs.Guests.{table_at}
 use Rattle.qcow2_alloc.specs.ImageFile.{contents_in, known_in}
 use Rattle.qcow2_image.specs.declared.image.Qcow2.{Qcow2}
@@ -28,6 +29,13 @@ found_kind (M.Indirect offset) = indirect offset
 found_kind (M.Zero explicit) = zeros explicit
 found_kind (M.Special offset) = special offset
 found_kind M.Eof = eof
+
+-- The kind of a mapping at a guest offset, with a data file or without, and with a backing disk or without.
+abbrev pub kind_in : HeaderFields → (is_beside is_backed : Bool) → ℕ → L2Mapping → Kind
+kind_in h is_beside is_backed offset (Data host copied) = raw is_beside (host + offset % cluster_size h) copied
+kind_in h is_beside is_backed offset (Zero kept) = kind_at h is_backed offset (Zero kept)
+kind_in h is_beside is_backed offset (Compressed place sectors) = kind_at h is_backed offset (Compressed place sectors)
+kind_in h is_beside is_backed offset Uncovered = kind_at h is_backed offset Uncovered
 
 -- The host offset where the range may be written in place, if it may.
 abbrev pub writable_place : Kind → Option ℕ

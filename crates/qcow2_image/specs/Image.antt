@@ -1,5 +1,5 @@
 -- The view of an open image in contracts.
-use Rattle.std.specs.Prelude.{◌≡◌, ◌<◌, ℕ, Bool, false, [], Option, is_some}
+use Rattle.std.specs.Prelude.{◌≡◌, ◌<◌, ◌&&◌, ℕ, Bool, false, [], Option, is_none, is_some, if◌then◌else◌}
 use Rattle.std.specs.Option.{option_map_or}
 use Rattle.qcow2_metadata.specs.Header.{has_data_file}
 use Rattle.qcow2_alloc.specs.declared.allocation.Allocator.{Allocator}
@@ -8,6 +8,8 @@ use Rattle.qcow2_alloc.specs.CachePins.{l2_pins}
 use Rattle.qcow2_alloc.specs.ImageFile.{KeepsHeader, has_noted}
 use Rattle.qcow2_alloc.specs.ImageStorage.{changes_of, is_changed_of, storage_of}
 use Rattle.qcow2_image.specs.declared.image.Qcow2.{Qcow2}
+use Rattle.qcow2_image.specs.declared.mapping.Place.{Place}
+use Rattle.qcow2_image.specs.declared.mapping.Place.TheVariants.{DataFile, Image}
 
 -- How many clusters an allocator could not free, 0 without an allocator.
 abbrev pub leaked_by : Option Allocator → ℕ
@@ -47,9 +49,21 @@ module _ {S F : Type 0} where
   abbrev pub is_writable : Qcow2 S F → Bool
   is_writable image = is_some image.allocator
 
-  -- The data are in an external file.
-  abbrev pub is_external : Qcow2 S F → Bool
-  is_external image = has_data_file image.file.header.fields
+  -- Guests' data are in a data file, and not in the image's own file.
+  abbrev pub is_beside : Qcow2 S F → Bool
+  is_beside image = is_some image.data_file
+
+  -- The file that holds guests' data.
+  abbrev pub place_in : Qcow2 S F → Place
+  place_in image = if is_beside image then DataFile else Image
+
+  -- The header requires a data file, and the image has none.
+  abbrev pub lacks_data_file : Qcow2 S F → Bool
+  lacks_data_file image = has_data_file image.file.header.fields && is_none image.data_file
+
+  -- The header requires a data file, and the image has one: data are at their guest offsets in it, and aren't counted.
+  abbrev pub is_placed_by_guest : Qcow2 S F → Bool
+  is_placed_by_guest image = has_data_file image.file.header.fields && is_beside image
 
   -- No cluster waits to be freed.
   abbrev pub HasNothingToFree : Qcow2 S F → Type 0
@@ -68,7 +82,8 @@ module _ {S F : Type 0} where
     pub number : number_of new ≡ number_of old
     pub size : size_of new ≡ size_of old
     pub writable : is_writable new ≡ is_writable old
-    pub external : is_external new ≡ is_external old
+    pub lacks : lacks_data_file new ≡ lacks_data_file old
+    pub beside : is_beside new ≡ is_beside old
 
   -- The image is the same one, and is still marked as failed if it was before.
   pub record ImageStays (old new : Qcow2 S F) : Type 0 where

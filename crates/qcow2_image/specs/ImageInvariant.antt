@@ -192,6 +192,7 @@ module _ {S F : Type 0} (view : S → StorageView) (backing : F → BackingView)
     pub file : FileInvariant view p image.file
     -- The data are in the image's own file.
     pub inside : image.file.header.fields.incompatible ≡ 0
+    pub alone : image.data_file ≡ None
     pub l1_table : HasL1Table image.file image.l1_table
     pub reftable : IfSome image.allocator (IsAllocatorOf view image.file)
     pub below : IsHonestBacking image.backing

@@ -109,10 +109,10 @@ module _ {S F : Type 0} where
     abbrev pub WritesNothing : Qcow2 S F → Qcow2 S F → Type 0
     WritesNothing old new = (view_in view old.file).is_honest → ContentsStayThroughout (view_in view old.file) (view_in view new.file)
 
-    -- The pointers to the tables are read. Only the storage changes.
+    -- The pointers to the tables are read. Only the storage and the data file change.
     pub record ReadsPlaces (old new : Qcow2 S F) : Type 0 where
       pub part : ImageStep view old new
-      pub rest : new ≡ record old { file = record old.file { storage = new.file.storage } }
+      pub rest : new ≡ record old { file = record old.file { storage = new.file.storage }; data_file = new.data_file }
       pub silent : WritesNothing old new
 
     -- The tables are read.

@@ -10,6 +10,7 @@ pub mod Faults
 pub mod Found
 pub mod HeldMappings
 pub mod CallParts
+pub mod DataFiles
 pub mod Opened
 pub mod Readable
 pub mod CountedOpening

@@ -64,6 +64,7 @@ needs_another v = has_data_file v.fields || is_some v.backing_name
 abbrev pub needs_missing : Missing → HeaderView → Bool
 needs_missing M.Nothing v = false
 needs_missing M.DataFile v = has_data_file v.fields
+needs_missing M.BackingFile v = is_some v.backing_name
 needs_missing M.OtherFiles v = needs_another v
 
 -- The header in these contents needs a file that is missing.

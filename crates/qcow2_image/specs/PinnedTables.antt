@@ -9,12 +9,11 @@ use Rattle.qcow2_alloc.specs.declared.error.ImageError.TheVariants.{TablePrepare
 use Rattle.qcow2_image.specs.declared.image.Qcow2.{Qcow2}
 use Rattle.qcow2_image.specs.declared.prepared.Prepared.{Prepared}
 use Rattle.qcow2_image.specs.declared.mapping.MappingKind.TheVariants.{Raw}
-use Rattle.qcow2_image.specs.declared.mapping.Place.TheVariants.{Image}
 use Rattle.qcow2_image.specs.Found.{l1_index_of}
 use Rattle.qcow2_image.specs.HeldMappings.{IsHeldAs}
-use Rattle.qcow2_image.specs.Image.{size_of}
+use Rattle.qcow2_image.specs.Image.{place_in, size_of}
 use Rattle.qcow2_image.specs.L1Entries.{HasOwnTable}
-use Rattle.qcow2_image.specs.Prepared.{guest_offset_of, offset_of, table_of}
+use Rattle.qcow2_image.specs.Prepared.{file_of, guest_offset_of, offset_of, table_of}
 
 module _ {S F : Type 0} where
   -- The cluster of the L2 table that the L1 table in memory has for an offset.
@@ -50,9 +49,9 @@ module _ {S F : Type 0} where
 
   -- By the tables in memory, all n bytes are copied data from this host offset on.
   abbrev pub IsWritableInTables : Qcow2 S F → (offset n host : ℕ) → Type 0
-  IsWritableInTables image offset n host = IsHeldAs image offset (Raw Image host true) n
+  IsWritableInTables image offset n host = IsHeldAs image offset (Raw (place_in image) host true) n
 
   -- A range is given to be written in place only where the tables in memory have it as copied data.
   abbrev pub ExistsInTables : Qcow2 S F → (offset n : ℕ) → Result Prepared ImageError → Type 0
-  ExistsInTables image offset n (Ok p) = table_of p ≡ None → (guest_offset_of p ≡ offset) × IsWritableInTables image offset n (offset_of p)
+  ExistsInTables image offset n (Ok p) = table_of p ≡ None → (guest_offset_of p ≡ offset) × IsHeldAs image offset (Raw (file_of p) (offset_of p) true) n
   ExistsInTables image offset n (Err e) = Unit {0}

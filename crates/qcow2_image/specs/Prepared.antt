@@ -1,5 +1,6 @@
 -- The view of a prepared mapping in contracts.
 use Rattle.std.specs.Prelude.{◌≡◌, ℕ, Option}
+use Rattle.qcow2_image.specs.declared.mapping.Place.{Place}
 use Rattle.qcow2_image.specs.declared.prepared.Prepared.{Prepared}
 use Rattle.qcow2_image.specs.declared.prepared.CommitRefused.{CommitRefused}
 use Rattle.qcow2_image.specs.declared.prepared.CommitRefused.TheVariants.{Kept, Spent}
@@ -12,7 +13,10 @@ image_of p = p.image
 abbrev pub guest_offset_of : Prepared → ℕ
 guest_offset_of p = p.guest
 
--- Where in the file the range is to be written: host offset, and length in bytes.
+-- The file that the range is to be written to, and where in it: host offset, and length in bytes.
+abbrev pub file_of : Prepared → Place
+file_of p = p.place
+
 abbrev pub offset_of : Prepared → ℕ
 offset_of p = p.offset
 

@@ -69,6 +69,7 @@ module _ (h : HeaderFields) where
   -- The extended mapping begins at the same place with the same first cluster. It is not shorter than before, and no longer than the range unless it already was. If the range goes on after it, it ends at a cluster boundary.
   pub record IsLongerMapping (n : ℕ) (p q : Prepared) : Type 0 where
     pub image : q.image ≡ p.image
+    pub file : q.place ≡ p.place
     pub guest : q.guest ≡ p.guest
     pub place : q.offset ≡ p.offset
     pub under : q.table ≡ p.table

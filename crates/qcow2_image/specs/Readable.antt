@@ -80,7 +80,9 @@ pub record IsNewlyOpened {S F : Type 0} (before : StorageView) (writable : Bool)
   pub format : before.is_honest → SameFormat (header (byte_at before.contents)) image.file.header.fields
   pub names : before.is_honest → HasNamesIn image.file.header before.contents
 
--- The files that are missing when a builder opens: the data file, and the backing file unless a disk or `None` was given for it.
-abbrev pub files_missing : {F : Type 0} → Option (Option F) → Missing
-files_missing None = M.OtherFiles
-files_missing (Some disk) = M.DataFile
+-- The files that are missing when a builder opens: the backing file and the data file, unless a file or `None` was given for it.
+abbrev pub files_missing : {S F : Type 0} → Option (Option F) → Option (Option S) → Missing
+files_missing None None = M.OtherFiles
+files_missing None (Some file) = M.BackingFile
+files_missing (Some disk) None = M.DataFile
+files_missing (Some disk) (Some file) = M.Nothing

@@ -7,7 +7,7 @@ use Rattle.qcow2_alloc.specs.ImageError.{IsFault}
 use Rattle.qcow2_alloc.specs.declared.error.ImageError.{ImageError}
 use Rattle.qcow2_alloc.specs.declared.error.ImageError.TheVariants as I
 use Rattle.qcow2_image.specs.declared.image.Qcow2.{Qcow2}
-use Rattle.qcow2_image.specs.Image.{HasNothingToFree, HasPinnedTable, has_noted_change, is_failed, is_external, is_writable, size_of, number_of}
+use Rattle.qcow2_image.specs.Image.{HasNothingToFree, HasPinnedTable, has_noted_change, is_failed, is_writable, lacks_data_file, size_of, number_of}
 
 -- A refusal, if a test says so.
 abbrev pub refuse_if : Bool → ImageError → Option ImageError
@@ -20,7 +20,7 @@ passes size offset n = nat_lt 0 n && nat_lt size (offset + n)
 module _ {S F : Type 0} (image : Qcow2 S F) where
   -- Why every call on guest data is refused: an earlier failure, or a missing data file.
   abbrev pub unusable : Option ImageError
-  unusable = option_or (refuse_if (is_failed image) I.Failed) (refuse_if (is_external image) I.Dependency)
+  unusable = option_or (refuse_if (is_failed image) I.Failed) (refuse_if (lacks_data_file image) I.Dependency)
 
   -- Why a prepare is refused, in this order: an unusable image, a range beyond the size, an image opened for reading.
   abbrev pub refuses_to_prepare : ℕ → ℕ → Option ImageError

@@ -27,7 +27,7 @@ use Rattle.qcow2_image.specs.declared.image.Qcow2.{Qcow2}
 use Rattle.qcow2_image.specs.declared.prepared.Prepared.{Prepared}
 use Rattle.qcow2_image.specs.Faults.{CountsImageFaults, NoFewerFaults, ReportsEachIn, ReportsFault}
 use Rattle.qcow2_image.specs.Growing.{ReachesSize, SameFormat, LastsCall}
-use Rattle.qcow2_image.specs.Image.{HasNothingToFree, IsSameImage, is_external, is_failed, is_writable, number_of, size_of}
+use Rattle.qcow2_image.specs.Image.{HasNothingToFree, IsSameImage, is_beside, lacks_data_file, is_failed, is_writable, number_of, size_of}
 use Rattle.qcow2_image.specs.ImageInvariant.{ImageInvariant, abstract_of, disk_of, pending_in}
 use Rattle.qcow2_image.specs.L1Entries.{NeedsOverflowingL1Entry, ReachesOffset}
 use Rattle.qcow2_image.specs.Limits.{IsLimited}
@@ -53,7 +53,8 @@ module _ {S F : Type 0} where
     pub number : number_of new ≡ number_of old
     pub size_is : size_of new ≡ size
     pub writable : is_writable new ≡ is_writable old
-    pub external : is_external new ≡ is_external old
+    pub lacks : lacks_data_file new ≡ lacks_data_file old
+    pub beside : is_beside new ≡ is_beside old
 
   -- The mode allocates clusters, and there is a backing disk.
   abbrev pub takes_over : Qcow2 S F → PreallocateMode → Bool

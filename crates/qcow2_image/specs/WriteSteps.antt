@@ -25,7 +25,7 @@ use Rattle.qcow2_image.specs.Calls.{reason_of}
 use Rattle.qcow2_image.specs.CallParts.{PutsPart, Readies}
 use Rattle.qcow2_image.specs.Faults.{CountsImageFaults, NoFewerFaults, ReportsEachBy, ReportsFault}
 use Rattle.qcow2_image.specs.Found.{IsFoundInImage, IsFoundWhole, IsMappedAs, IsRunFrom, found_kind, further_by}
-use Rattle.qcow2_image.specs.Image.{HasNothingToFree, ImageStays, IsSameImage, KeepsWholeHeader, is_failed, is_writable, number_of, size_of}
+use Rattle.qcow2_image.specs.Image.{HasNothingToFree, ImageStays, IsSameImage, KeepsWholeHeader, is_failed, is_writable, number_of, place_in, size_of}
 use Rattle.qcow2_image.specs.ImageInvariant.{ImageInvariant, abstract_of, disk_of, meaning, new_data_by, over_all, pending_in}
 use Rattle.qcow2_image.specs.InternalSteps.{HoldsAll, HoldsTable, InternalFillingStep, InternalStep, IsFilled, Gains, SameHeld, AllocatesData}
 use Rattle.qcow2_image.specs.L1Entries.{NeedsOverflowingL1Entry}
@@ -38,8 +38,8 @@ use Rattle.qcow2_image.specs.ListedClusters.{ListStays, ListsNoMore}
 use Rattle.qcow2_image.specs.LookupCauses.{MayFailFinding}
 use Rattle.qcow2_image.specs.MayFail.{CopiesCompressed, IsCacheHeld, IsCopiedCompressed, MayFailLooking, MayFailLookingAgain, MayFailMapped, MayFailPutting, MayFailSpecial, MayFailAllocating, MayFailAlone}
 use Rattle.qcow2_image.specs.Noted.{CommitFailsOnceWritten, FailsOnceWritten}
-use Rattle.qcow2_image.specs.Prepared.{IsHandedBackBy, guest_offset_of, image_of, length_of, offset_of, table_of}
-use Rattle.qcow2_image.specs.PreparedPlaces.{MarkedIsBehind}
+use Rattle.qcow2_image.specs.Prepared.{IsHandedBackBy, file_of, guest_offset_of, image_of, length_of, offset_of, table_of}
+use Rattle.qcow2_image.specs.PreparedPlaces.{IsMarkedBehind, IsOwn, IsPlacedBehind}
 use Rattle.qcow2_image.specs.Preparing.{IsAnswered, IsOfNothing, IsTaken}
 use Rattle.qcow2_image.specs.Ranges.{BeginsInKept, GainsAt, IsFirst, ClusterMappingsAt, AllocatesDataAt}
 use Rattle.qcow2_image.specs.Refusals.{FreesRefused, IsFaultOrLimit, MayFailPreparing, MarksFailed, MarksRefused, refuses_mapping, refuses_to_prepare, unusable}
@@ -48,7 +48,6 @@ use Rattle.qcow2_image.specs.declared.image.Qcow2.{Qcow2}
 use Rattle.qcow2_image.specs.declared.mapping.Mapping.{Mapping}
 use Rattle.qcow2_image.specs.declared.mapping.MappingKind.{MappingKind}
 use Rattle.qcow2_image.specs.declared.mapping.MappingKind.TheVariants.{Eof, Raw}
-use Rattle.qcow2_image.specs.declared.mapping.Place.TheVariants.{Image}
 use Rattle.qcow2_image.specs.declared.prepared.CommitRefused.{CommitRefused}
 use Rattle.qcow2_image.specs.declared.prepared.CommitRefused.TheVariants.{Kept}
 use Rattle.qcow2_image.specs.declared.prepared.Prepared.{Prepared}
@@ -58,11 +57,11 @@ use Rattle.qcow2_image.specs.declared.prepared.Prepared.{Prepared}
 abbrev pub keeping : ℕ → L2Mapping
 keeping host = Zero (Some (host, true))
 
--- A mapping that isn't copied data, and names only host clusters that a file can have. If it is marked copied, its host cluster lies past cluster 0.
-pub record IsNotInPlace (size : ℕ) (mapping : L2Mapping) : Type 0 where
+-- A mapping that isn't copied data, and names only host clusters that a file can have. If it is marked copied, its host cluster lies past cluster 0, or in a data file.
+pub record IsNotInPlace {S F : Type 0} (image : Qcow2 S F) (mapping : L2Mapping) : Type 0 where
   pub reach : IsInReach mapping
   pub other : is_copied_data mapping ≡ false
-  pub behind : MarkedIsBehind size mapping
+  pub behind : IsMarkedBehind image mapping
 
 -- Memory for at least one cluster mapping, and none yet.
 abbrev pub HasRoomForOne : {X Z : Type 0} → Vec X Z → Type 0
@@ -72,11 +71,11 @@ HasRoomForOne room = (room.items ≡ []) × (0 < vec_capacity room)
 abbrev pub HasMemoryOf : ℕ → Prepared → Type 0
 HasMemoryOf n p = vec_capacity p.clusters ≡ n
 
--- A mapping of the first cluster of a range, in this L2 table. It begins past the header's cluster.
+-- A mapping of the first cluster of a range, in this L2 table. It begins past the header's cluster, or lies in a data file.
 pub record IsBegunIn {S F : Type 0} (image : Qcow2 S F) (offset table : ℕ) (HasRoom : Prepared → Type 0) (p : Prepared) : Type 0 where
-  pub own : image_of p ≡ number_of image
+  pub own : IsOwn image p
   pub first : IsFirst image.file.header.fields offset table p
-  pub behind : cluster_size image.file.header.fields ≤ offset_of p
+  pub behind : IsPlacedBehind image (offset_of p)
   pub room : HasRoom p
 
 module _ {S F : Type 0} (view : S → StorageView) (backing : F → BackingView) (old new : Qcow2 S F) where
@@ -259,17 +258,17 @@ module _ {S F : Type 0} (view : S → StorageView) (backing : F → BackingView)
   pub record ChecksSoundly (p : Pending) (out : List (Option Prepared)) (mapping : Prepared) (at host n : ℕ) (result : Result (Unit {0}) ImageError) : Type 0 where
     pub keeps : InternalStep view backing p p old new out
     pub may_fail : IfErr result (λ e. (table_of mapping ≡ None) × MayFailLookingAgain (IsCacheHeld old out) e)
-    pub outdated : 0 < n → result ≡ Err OutdatedMapping → ¬ IsFoundWhole view old (mapping.guest + at) (Raw Image host true) n
-    pub mapped : table_of mapping ≡ None → 0 < n → IfOk result (λ done. IsMappedAs view new (mapping.guest + at) (Raw Image host true) n)
-    pub found : table_of mapping ≡ None → OnOk result (IsFoundWhole view old (mapping.guest + at) (Raw Image host true) n)
+    pub outdated : 0 < n → result ≡ Err OutdatedMapping → ¬ IsFoundWhole view old (mapping.guest + at) (Raw mapping.place host true) n
+    pub mapped : table_of mapping ≡ None → 0 < n → IfOk result (λ done. IsMappedAs view new (mapping.guest + at) (Raw mapping.place host true) n)
+    pub found : table_of mapping ≡ None → OnOk result (IsFoundWhole view old (mapping.guest + at) (Raw mapping.place host true) n)
 
   abbrev pub ChecksInPlace : Prepared → (at host n : ℕ) → Result (Unit {0}) ImageError → Type 0
   ChecksInPlace mapping at host n result = (p : Pending) (out : List (Option Prepared)) → ImageInvariant view backing p old out → ChecksSoundly p out mapping at host n result
 
   -- A put into an existing mapping is refused 10 only if its range is no longer copied data at its place, and succeeds only if it still is.
   pub record FindsInPlace (mapping : Prepared) (at n : ℕ) (result : Result (Unit {0}) ImageError) : Type 0 where
-    pub outdated : 0 < n → result ≡ Err OutdatedMapping → ¬ IsFoundWhole view old (mapping.guest + at) (Raw Image (mapping.offset + at) true) n
-    pub mapped : OnOk result (IsFoundWhole view old (mapping.guest + at) (Raw Image (mapping.offset + at) true) n)
+    pub outdated : 0 < n → result ≡ Err OutdatedMapping → ¬ IsFoundWhole view old (mapping.guest + at) (Raw mapping.place (mapping.offset + at) true) n
+    pub mapped : OnOk result (IsFoundWhole view old (mapping.guest + at) (Raw mapping.place (mapping.offset + at) true) n)
 
   abbrev pub PutsInPlace : Prepared → (at n : ℕ) → Result (Unit {0}) ImageError → Type 0
   PutsInPlace mapping at n result = table_of mapping ≡ None → (p : Pending) (out : List (Option Prepared)) → ImageInvariant view backing p old out → FindsInPlace mapping at n result
@@ -286,8 +285,8 @@ module _ {S F : Type 0} (view : S → StorageView) (backing : F → BackingView)
   -- A whole call that puts bytes into a prepared mapping. A refusal has its cause in the image before.
   pub record PutsCall (out : List (Option Prepared)) (mapping : Prepared) (at n : ℕ) (result : Result (Unit {0}) ImageError) : Type 0 where
     pub may_fail : (k : ℕ) → slice_get out k ≡ Some (Some mapping) → IsTrue (is_writable old) → IfErr result (MayFailPutting (IsCacheHeld old out) mapping at)
-    pub outdated : table_of mapping ≡ None → result ≡ Err OutdatedMapping → ¬ IsFoundWhole view old (mapping.guest + at) (Raw Image (mapping.offset + at) true) n
-    pub mapped : table_of mapping ≡ None → 0 < n → OnOk result (IsFoundWhole view old (mapping.guest + at) (Raw Image (mapping.offset + at) true) n)
+    pub outdated : table_of mapping ≡ None → result ≡ Err OutdatedMapping → ¬ IsFoundWhole view old (mapping.guest + at) (Raw mapping.place (mapping.offset + at) true) n
+    pub mapped : table_of mapping ≡ None → 0 < n → OnOk result (IsFoundWhole view old (mapping.guest + at) (Raw mapping.place (mapping.offset + at) true) n)
 
   abbrev pub PutsInMapping : Prepared → (at n : ℕ) → Result (Unit {0}) ImageError → Type 0
   PutsInMapping mapping at n result = (out : List (Option Prepared)) → (abstract_of view backing old out).is_sound → PutsCall out mapping at n result
@@ -318,11 +317,12 @@ module _ {S F : Type 0} (view : S → StorageView) (backing : F → BackingView)
   LooksUp offset max result = (out : List (Option Prepared)) → (abstract_of view backing old out).is_sound → LooksSoundly out offset max result
 
 -- ---- preparing, and committing
--- The mapping that a prepare returns: of this image. If the range has a byte, the mapping has one, and begins past the header's cluster.
+-- The mapping that a prepare returns: of this image, in the file that holds guests' data. If the range has a byte, the mapping has one, and begins past the header's cluster, or lies in the data file.
 pub record AnswersPrepare {S F : Type 0} (old new : Qcow2 S F) (offset n : ℕ) (result : Result Prepared ImageError) : Type 0 where
   pub own : IfOk result (λ p. image_of p ≡ number_of old)
+  pub place : IfOk result (λ p. file_of p ≡ place_in new)
   pub some : IfOk result (λ p. 0 < n → 0 < length_of p)
-  pub behind : IfOk result (λ p. 0 < n → cluster_size new.file.header.fields ≤ offset_of p)
+  pub behind : IfOk result (λ p. 0 < n → IsPlacedBehind new (offset_of p))
   pub end : IfOk result (λ p. offset + n < 2 ^ 64)
 
 -- A prepare that is refused before its work changes nothing, and one of no bytes prepares a mapping of nothing.

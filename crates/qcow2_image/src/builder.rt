@@ -14,7 +14,7 @@ ghost use Rattle.qcow2_image.specs.Faults.{CountsImageFaults, IsNotOfStorage};
 ghost use Rattle.qcow2_alloc.specs.declared.error.ImageError.TheVariants.{Limit};
 ghost use Rattle.qcow2_metadata.specs.Header.{header as header_at};
 ghost use Rattle.qcow2_laws.specs.NewImages.{IsNewImage};
-ghost use Rattle.qcow2_image.specs.Image.{is_writable};
+ghost use Rattle.qcow2_image.specs.Image.{is_beside, is_writable};
 ghost use Rattle.qcow2_alloc.specs.ImageError.{IsFault};
 ghost use Rattle.qcow2_image.specs.Refusals.{IsFaultOrLimit};
 ghost use Rattle.qcow2_image.specs.Resizing.{all_given_by_grow, boundary_in, refuses_to_resize};
@@ -41,6 +41,8 @@ pub struct Qcow2CreateBuilder<S: Storage> {
     refcount_width: u64,
     backing_name: Option<String>,
     backing_format: Option<String>,
+    data_file_name: Option<String>,
+    data_file: Option<S>,
 }
 
 /// The backing disk of an image that has none: it has no bytes, and never fails.
@@ -97,7 +99,7 @@ fn has_l1_entries(cluster_bits: u32, size: u64) -> bool
 impl<S: Storage> Qcow2CreateBuilder<S> {
     ghost use Rattle.std.specs.Prelude.{Err};
     ghost use Rattle.qcow2_alloc.specs.declared.error.ImageError.TheVariants.{InvalidOption, Preallocation};
-    ghost use Rattle.qcow2_image.specs.Created.{GrewFromNew, HasLogarithms, IsAllowed, IsCreated, IsMade, IsMadeClosed};
+    ghost use Rattle.qcow2_image.specs.Created.{GrewFromNew, HasLogarithms, HasNoDataFile, IsAllowed, IsCreated, IsMade, IsMadeClosed};
     ghost use Rattle.qcow2_image.specs.Created.{IsMadeOpen, IsMadeUngrown, IsMadeUnopened, IsNotMade};
     ghost use Rattle.qcow2_image.specs.Created.{IsReasonAgainst, IsReasonNotToCreate, StopsCreating, allocates_over};
     ghost use Rattle.std.specs.Prelude.{None, Some, false, true};
@@ -112,6 +114,8 @@ impl<S: Storage> Qcow2CreateBuilder<S> {
           refcount_width = 16;
           backing_name = None;
           backing_format = None;
+          data_file_name = None;
+          data_file = None;
         } }
     {
         Qcow2CreateBuilder {
@@ -122,6 +126,8 @@ impl<S: Storage> Qcow2CreateBuilder<S> {
             refcount_width: 16,
             backing_name: None,
             backing_format: None,
+            data_file_name: None,
+            data_file: None,
         }
     }
 
@@ -181,6 +187,16 @@ impl<S: Storage> Qcow2CreateBuilder<S> {
         self
     }
 
+    /// The name of the data file, for the header, and the data file itself, which holds guests' data then. A name that doesn't fit into the
+    /// header's cluster beside the others is refused 5 (invalid option).
+    pub fn data_file(mut self, name: String, file: S) -> Qcow2CreateBuilder<S>
+        ensures { result ≡ record self { data_file_name = Some name; data_file = Some file } }
+    {
+        self.data_file_name = Some(name);
+        self.data_file = Some(file);
+        self
+    }
+
     // Whether clusters are to be allocated for a disk over a backing file.
     fn allocates_over(&self) -> bool
         ensures { result ≡ allocates_over self.now }
@@ -210,7 +226,8 @@ impl<S: Storage> Qcow2CreateBuilder<S> {
         };
         let name = self.backing_name.as_deref();
         let format = self.backing_format.as_deref();
-        if !Header::fits(cluster_bits, refcount_order, name, format, None) {
+        let data_file = self.data_file_name.as_deref();
+        if !Header::fits(cluster_bits, refcount_order, name, format, data_file) {
             return Err(ImageError::InvalidOption);
         }
         if self.allocates_over() {
@@ -222,16 +239,18 @@ impl<S: Storage> Qcow2CreateBuilder<S> {
         Ok((cluster_bits, refcount_order))
     }
 
-    // Writes the new image, with a disk of no bytes. Nothing is written if the settings are refused.
-    fn make(self, alloc: Global) -> (S, Result<(), ImageError>)
-        ensures made { (S.view self.image).is_honest → IfOk result.1 (λ done. IsMade S.view self result.0) }
-        ensures stops { (S.view self.image).is_honest → StopsCreating PreallocateMode.None 0 (S.view self.image) (S.view result.0) }
-        ensures cause { IfErr result.1 (λ e. IsReasonAgainst self e ⊎ IsFault e) }
-        ensures refused { ¬ IsAllowed self → (result.1 ≡ Err InvalidOption) × (result.0 ≡ self.image) }
-        ensures over { IsAllowed self → IsTrue (allocates_over self) → (result.1 ≡ Err Preallocation) × (result.0 ≡ self.image) }
+    // Writes the new image, with a disk of no bytes, and returns its storage and the data file. Nothing is written if the settings are refused.
+    fn make(self, alloc: Global) -> (S, Option<S>, Result<(), ImageError>)
+        ensures file { result.1 ≡ self.data_file }
+        ensures made { HasNoDataFile self → (S.view self.image).is_honest → IfOk result.2 (λ done. IsMade S.view self result.0) }
+        ensures stops { HasNoDataFile self → (S.view self.image).is_honest
+            → StopsCreating PreallocateMode.None 0 (S.view self.image) (S.view result.0) }
+        ensures cause { IfErr result.2 (λ e. IsReasonAgainst self e ⊎ IsFault e) }
+        ensures refused { ¬ IsAllowed self → (result.2 ≡ Err InvalidOption) × (result.0 ≡ self.image) }
+        ensures over { IsAllowed self → IsTrue (allocates_over self) → (result.2 ≡ Err Preallocation) × (result.0 ≡ self.image) }
         ensures limit { IsAllowed self → allocates_over self ≡ false → longest_disk self.cluster_size < self.size
-            → (result.1 ≡ Err Limit) × (result.0 ≡ self.image) }
-        ensures faults { FaultsReported (S.view self.image).faults (S.view result.0).faults result.1 }
+            → (result.2 ≡ Err Limit) × (result.0 ≡ self.image) }
+        ensures faults { FaultsReported (S.view self.image).faults (S.view result.0).faults result.2 }
     {
         let checked = self.check();
         let Qcow2CreateBuilder {
@@ -242,64 +261,74 @@ impl<S: Storage> Qcow2CreateBuilder<S> {
             refcount_width: _,
             backing_name,
             backing_format,
+            data_file_name,
+            data_file,
         } = self;
         let (bits, order) = match checked {
             Ok(logarithms) => logarithms,
-            Err(refusal) => return (image, Err(refusal)),
+            Err(refusal) => return (image, data_file, Err(refusal)),
         };
-        let header = Header::new(bits, order, backing_name, backing_format, None);
+        let header = Header::new(bits, order, backing_name, backing_format, data_file_name);
         let mut storage = ImageStorage::new(image);
         let done = write_new_image(alloc, &mut storage, &header);
-        (storage.into_inner(), done)
+        (storage.into_inner(), data_file, done)
     }
 
-    /// Writes the new image, and returns its storage. The disk reads as zeros, and is allocated as the mode says. Refused 5
-    /// (invalid option) for cluster sizes or refcount widths that images don't have, and for names that don't fit; then 6 (preallocation) for a
-    /// mode that allocates clusters after `backing` was called; then 13 (limit) for a size that is too large. Nothing was written then.
-    /// May be refused 13, 14 (memory) or 15 (storage) during the work. If the storage returns other bytes than were written, the refusals of
-    /// `open_image` and `resize_grow` are possible too.
+    /// Writes the new image, and returns its storage. The data file grows with the disk, and is dropped. The disk reads as zeros, and is
+    /// allocated as the mode says. Refused 5 (invalid option) for cluster sizes or refcount widths that images don't have, and for names that
+    /// don't fit; then 6 (preallocation) for a mode that allocates clusters after `backing` was called; then 13 (limit) for a size that
+    /// is too large. Nothing was written then. May be refused 13, 14 (memory) or 15 (storage) during the work. If the storage returns other
+    /// bytes than were written, the refusals of `open_image` and `resize_grow` are possible too.
     pub fn create(self, alloc: Global) -> (S, Result<(), ImageError>)
-        ensures stops { (S.view self.image).is_honest → StopsCreating self.preallocate self.size (S.view self.image) (S.view result.0) }
-        ensures created { (S.view self.image).is_honest → IfOk result.1 (λ done. IsCreated self (S.view result.0)) }
-        ensures grew { (S.view self.image).is_honest → IfOk result.1 (λ done. GrewFromNew S.view self result.0) }
+        ensures stops { HasNoDataFile self → (S.view self.image).is_honest
+            → StopsCreating self.preallocate self.size (S.view self.image) (S.view result.0) }
+        ensures created { HasNoDataFile self → (S.view self.image).is_honest
+            → IfOk result.1 (λ done. IsCreated self (S.view result.0)) }
+        ensures grew { HasNoDataFile self → (S.view self.image).is_honest
+            → IfOk result.1 (λ done. GrewFromNew S.view self result.0) }
         ensures refused { ¬ IsAllowed self → (result.1 ≡ Err InvalidOption) × (result.0 ≡ self.image) }
         ensures over { IsAllowed self → IsTrue (allocates_over self) → (result.1 ≡ Err Preallocation) × (result.0 ≡ self.image) }
         ensures limit { IsAllowed self → allocates_over self ≡ false → longest_disk self.cluster_size < self.size
             → (result.1 ≡ Err Limit) × (result.0 ≡ self.image) }
-        ensures cause { (S.view self.image).is_honest → IfErr result.1 (IsReasonNotToCreate S.view self result.0) }
-        ensures faults { FaultsReported (S.view self.image).faults (S.view result.0).faults result.1 }
+        ensures cause { HasNoDataFile self → (S.view self.image).is_honest
+            → IfErr result.1 (IsReasonNotToCreate S.view self result.0) }
+        ensures faults { HasNoDataFile self → FaultsReported (S.view self.image).faults (S.view result.0).faults result.1 }
     {
         let (size, mode) = (self.size, self.preallocate);
-        let (storage, done) = self.make(alloc);
+        let (storage, file, done) = self.make(alloc);
         if let Err(refusal) = done {
             return (storage, Err(refusal));
+        }
+        if let Some(file) = file {
+            return grow_new_image_beside::<S, NoBacking>(alloc, storage, file, size, mode);
         }
         grow_new_image::<S, NoBacking>(alloc, ImageStorage::new(storage), size, mode)
     }
 
-    /// Writes the new image, with a disk of no bytes, and gives its storage to the closure. Opens for writing what the closure's builder says, and
-    /// grows the disk to its size. The image is not flushed. Refused as `create` and `resize_grow` are, and as that builder's `open` is;
-    /// the storage is returned then. It isn't if the closure refuses.
+    /// Writes the new image, with a disk of no bytes, and gives its storage to the closure. Opens for writing what the closure's builder
+    /// says, with the data file of this builder if there is one, and grows the disk to its size. The image is not flushed. Refused as
+    /// `create` and `resize_grow` are, and as that builder's `open` is; the storage is returned then. It isn't if the closure refuses.
     pub fn create_open<
         F: WrappedFormat<S>,
         C: FnOnce(S) -> Result<Qcow2OpenBuilder<S, F>, ImageError>,
     >(self, alloc: Global, builder: C) -> Result<Qcow2<S, F>, (Option<S>, ImageError)>
         requires { C.IsAlwaysCallable builder }
-        ensures opens { (S.view self.image).is_honest
+        ensures opens { HasNoDataFile self → (S.view self.image).is_honest
             → IfOk result (IsMadeOpen S.view F.backing self (λ storage answer. C.post builder storage answer)) }
         ensures refused { ¬ IsAllowed self → result ≡ Err (Some self.image, InvalidOption) }
         ensures over { IsAllowed self → IsTrue (allocates_over self) → result ≡ Err (Some self.image, Preallocation) }
         ensures limit { IsAllowed self → allocates_over self ≡ false → longest_disk self.cluster_size < self.size
             → result ≡ Err (Some self.image, Limit) }
-        ensures closed { IfErr result (λ refused. IsNone refused.0
+        ensures closed { HasNoDataFile self → IfErr result (λ refused. IsNone refused.0
             → IsMadeClosed S.view F.backing self (λ made answer. C.post builder made answer) refused.1) }
-        ensures cause { (S.view self.image).is_honest → IfErr result (λ refused. IfSome refused.0 (λ storage.
+        ensures cause { HasNoDataFile self → (S.view self.image).is_honest
+            → IfErr result (λ refused. IfSome refused.0 (λ storage.
             IsNotMade S.view self storage refused.1
             ⊎ IsMadeUnopened S.view F.backing self (λ made answer. C.post builder made answer) storage refused.1
             ⊎ IsMadeUngrown S.view F.backing self (λ made answer. C.post builder made answer) storage refused.1)) }
     {
         let (size, mode) = (self.size, self.preallocate);
-        let (made, done) = self.make(alloc);
+        let (made, file, done) = self.make(alloc);
         if let Err(refusal) = done {
             return Err((Some(made), refusal));
         }
@@ -307,10 +336,23 @@ impl<S: Storage> Qcow2CreateBuilder<S> {
             Ok(opener) => opener,
             Err(refusal) => return Err((None, refusal)),
         };
-        match open_grown(alloc, opener, size, mode) {
+        match open_grown(alloc, with_data_file(opener, file), size, mode) {
             Ok(image) => Ok(image),
             Err((storage, refusal)) => Err((Some(storage), refusal)),
         }
+    }
+}
+
+// Hands a data file to a builder, if there is one.
+fn with_data_file<S: Storage, F: WrappedFormat<S>>(
+    opener: Qcow2OpenBuilder<S, F>,
+    file: Option<S>,
+) -> Qcow2OpenBuilder<S, F>
+    ensures none { file ≡ None → result ≡ opener }
+{
+    match file {
+        Some(file) => opener.data_file(Some(file)),
+        None => opener,
     }
 }
 
@@ -347,6 +389,8 @@ impl<S: Storage, F: WrappedFormat<S>> Qcow2<S, F> {
           refcount_width = 16;
           backing_name = None;
           backing_format = None;
+          data_file_name = None;
+          data_file = None;
         } }
     {
         Qcow2CreateBuilder::new(image)
@@ -502,6 +546,24 @@ fn grow_new_image<S: Storage, F: WrappedFormat<S>>(
     }
 }
 
+// Opens the new image with its data file, grows its disk and flushes both.
+fn grow_new_image_beside<S: Storage, F: WrappedFormat<S>>(
+    alloc: Global,
+    storage: S,
+    file: S,
+    size: u64,
+    mode: PreallocateMode,
+) -> (S, Result<(), ImageError>) {
+    match Qcow2::<S, F>::open(alloc, ImageStorage::new(storage), true, 0, Missing::Nothing) {
+        Err((storage, refusal)) => (storage, Err(refusal)),
+        Ok(mut opened) => {
+            opened.data_file = Some(file);
+            let grown = grow_and_flush(&mut opened, size, mode);
+            (opened.into_storage(), grown)
+        }
+    }
+}
+
 fn grow_and_flush<S: Storage, F: WrappedFormat<S>>(
     image: &mut Qcow2<S, F>,
     size: u64,
@@ -521,6 +583,7 @@ fn grow_and_flush<S: Storage, F: WrappedFormat<S>>(
         (all_given_by_grow S.view F.backing image.old size mode) (boundary_in image.old size) image.old []
         × LeavesSound S.view F.backing image.old image.new) }
     ensures faults { CountsImageFaults S.view F.backing image.old image.new result }
+    ensures beside { is_beside image.new ≡ is_beside image.old }
 {
     image.resize_grow(size, mode)?;
     image.flush()

@@ -1,13 +1,14 @@
 //! Copy on write: filling a new cluster with the bytes that the guest saw before.
 ghost use Rattle.qcow2_image.specs.WriteSteps.{FillingStep, FillsPending};
 ghost use Rattle.qcow2_image.specs.ImageSteps.{FailsUnlimited, ImageStep};
-ghost use Rattle.std.specs.Prelude.{◌≡◌, ◌/◌, ◌^◌, ◌<◌, ◌≤◌, ℕ, List, Option, Some, true, false, replicate, IfOk};
+ghost use Rattle.std.specs.Prelude.{◌≡◌, ◌/◌, ◌^◌, ◌<◌, ◌≤◌, ℕ, List, Option, None, Some, true, false, replicate, IfOk};
 ghost use Rattle.std.specs.Prelude.{IfErr, IfSome, ◌⊎◌};
 ghost use Rattle.qcow2_alloc.specs.ImageError.{IsFault};
 ghost use Rattle.qcow2_image.specs.MayFail.{HasUnannounced, IsCopiedCompressed, MayFailCopying, MayFailReading};
 ghost use Rattle.qcow2_laws.specs.CrashInvariant.{Pending};
 ghost use Rattle.qcow2_alloc.specs.ImageFile.{known_in};
-ghost use Rattle.qcow2_image.specs.CallParts.{WritesBytes};
+ghost use Rattle.image_access.specs.Contents.{zeroed};
+ghost use Rattle.qcow2_image.specs.CallParts.{WritesBeside, WritesBytes};
 ghost use Rattle.qcow2_image.specs.InternalSteps.{InternalFillingStep, HoldsAll, IsCopied, IsFilled, IsKeptAlone};
 ghost use Rattle.qcow2_image.specs.InternalSteps.{IsInHeldCluster, is_announced};
 ghost use Rattle.qcow2_image.specs.CopyRange.{HasByte};
@@ -70,7 +71,10 @@ impl<S: Storage, F: WrappedFormat<S>> Qcow2<S, F> {
         ensures step { ImageStep S.view self.old self.new }
         ensures fails { FailsUnlimited S.view F.backing self.old self.new result MayFail }
         ensures fault { cluster_size self.old.file.header.fields ≤ host → IfErr result IsFault }
-        ensures rest { self.new ≡ record self.old { file = record self.old.file { storage = self.new.file.storage } } }
+        ensures rest { self.new ≡ record self.old {
+          file = record self.old.file { storage = self.new.file.storage };
+          data_file = self.new.data_file;
+        } }
         ensures image_step { (p : Pending) (out : List (Option Prepared))
             → ImageInvariant S.view F.backing p self.old out → HoldsAll S.view F.backing p out
             → IsKeptAlone S.view F.backing self.old out offset host
@@ -98,7 +102,7 @@ impl<S: Storage, F: WrappedFormat<S>> Qcow2<S, F> {
     {
         let size = self.file.header.cluster_size();
         let start = GuestOffset::new(offset).in_cluster_offset(self.file.header.cluster_bits());
-        let alignment = self.file.storage.req_align() as u64;
+        let alignment = self.data_alignment();
         let announced = announced_range(size, start, length, overwrite);
         copy_range(size, alignment, announced)
     }
@@ -131,8 +135,31 @@ impl<S: Storage, F: WrappedFormat<S>> Qcow2<S, F> {
         self.write_data(at, bytes)
     }
 
-    // Writes zeros as data. A place in cluster 0, which no entry has, is refused 19 (metadata).
+    // Writes zeros as data, to the data file if there is one. In the image's own file a place in cluster 0, which no entry has, is
+    // refused 19 (metadata).
     fn write_zeros(&mut self, at: u64, length: u64) -> Result<(), ImageError>
+        ensures step { ImageStep S.view self.old self.new }
+        ensures fails { FailsUnlimited S.view F.backing self.old self.new result MayFail }
+        ensures fault { cluster_size self.old.file.header.fields ≤ at → IfErr result IsFault }
+        ensures rest { self.new ≡ record self.old {
+          file = record self.old.file { storage = self.new.file.storage };
+          data_file = self.new.data_file;
+        } }
+        ensures written { self.old.data_file ≡ None → WritesBytes S.view self.old self.new at (replicate length 0) result }
+        ensures beside { IfSome self.old.data_file
+            (WritesBeside S.view self.old self.new (λ b. zeroed b at length) result) }
+    {
+        match &mut self.data_file {
+            Some(file) => {
+                let done = file.write_zeroes(at, length);
+                self.record_data_write(done)
+            }
+            None => self.write_own_zeros(at, length),
+        }
+    }
+
+    // Writes zeros as data to the image's own file. A place in cluster 0, which no entry has, is refused 19 (metadata).
+    fn write_own_zeros(&mut self, at: u64, length: u64) -> Result<(), ImageError>
         ensures step { ImageStep S.view self.old self.new }
         ensures fails { FailsUnlimited S.view F.backing self.old self.new result MayFail }
         ensures fault { cluster_size self.old.file.header.fields ≤ at → IfErr result IsFault }

@@ -16,7 +16,7 @@ ghost use Rattle.qcow2_alloc.specs.declared.error.ImageError.TheVariants.{TableP
 ghost use Rattle.qcow2_image.specs.declared.prepared.Prepared.{Prepared};
 ghost use Rattle.qcow2_image.specs.L1Entries.{HasOwnTable};
 ghost use Rattle.qcow2_image.specs.PinnedTables.{RespectsPins};
-ghost use Rattle.qcow2_image.specs.Image.{ImageStays, is_writable, size_of};
+ghost use Rattle.qcow2_image.specs.Image.{ImageStays, is_placed_by_guest, is_writable, size_of};
 ghost use Rattle.qcow2_image.specs.ImageInvariant.{ImageInvariant, pending_in, listed_run};
 ghost use Rattle.qcow2_image.specs.Refusals.{FreesRefused, MayFail, MayFailPreparing, passes as passes_size};
 ghost use Rattle.qcow2_image.specs.ClearingCalls.{ClearsInTable, ClearsStep, ClearsSoundly};
@@ -336,7 +336,8 @@ impl<S: Storage, F: WrappedFormat<S>> Qcow2<S, F> {
         Ok(old_data)
     }
 
-    // Adds the host clusters that lose a reference when an entry is cleared at the end of a list.
+    // Adds the host clusters that lose a reference when an entry is cleared at the end of a list. Data in a data file that the header asks
+    // for aren't counted.
     fn list_old_data(
         &self,
         list: &mut ClustersToFreeList,
@@ -352,9 +353,13 @@ impl<S: Storage, F: WrappedFormat<S>> Qcow2<S, F> {
             → cluster / entries_per_cluster self.now.file.header.fields ≡ i → IsSome (l2_at self.now.file.caches table)
             → IfErr result IsFault }
         ensures reads { OnOk result (ReadsDropped S.view F.backing how table cluster self.now list.old list.new) }
+        ensures beside { IsTrue (is_placed_by_guest self.now) → list.new ≡ list.old }
         ensures faults { IfErr result IsNotOfStorage }
     {
         let old = self.cover_in(table, cluster)?;
+        if self.is_placed_by_guest() {
+            return Ok(());
+        }
         let run = how.old_data(old, self.file.header.cluster_bits());
         list_run(self.file.alloc, list, run)
     }

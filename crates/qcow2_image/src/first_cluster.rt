@@ -3,24 +3,24 @@ ghost use Rattle.qcow2_image.specs.WriteSteps.{AllocatesOne, BeginsFirst, Begins
 ghost use Rattle.qcow2_image.specs.WriteSteps.{HasMemoryOf, HasRoomForOne, IsBegunIn, IsNotInPlace, LoadsTable};
 ghost use Rattle.qcow2_image.specs.WriteSteps.{AllocatingStep, AllocatingStepWhere, keeping};
 ghost use Rattle.qcow2_image.specs.ImageSteps.{FailsUnlimited, ImageFails, ImageStepWhere};
-ghost use Rattle.std.specs.Prelude.{◌≡◌, ◌+◌, ◌-◌, ◌%◌, ◌^◌, ◌<◌, ◌≤◌, Some, [], ◌∷◌};
+ghost use Rattle.std.specs.Prelude.{◌≡◌, ◌+◌, ◌-◌, ◌%◌, ◌^◌, ◌<◌, ◌≤◌, Some, [], ◌∷◌, true};
 ghost use Rattle.std.specs.Prelude.{vec_capacity, IfOk, IfErr, IsSome, IsTrue, OnOk};
 ghost use Rattle.qcow2_metadata.specs.L2Mapping.{IsHostCluster, IsInReach, greatest_offset};
 ghost use Rattle.qcow2_metadata.specs.Header.{cluster_size};
 ghost use Rattle.qcow2_alloc.specs.CachePins.{l2_pins};
 ghost use Rattle.qcow2_alloc.specs.MetadataCaches.{l2_at};
 ghost use Rattle.qcow2_alloc.specs.declared.error.ImageError.TheVariants.{TablePrepared};
-ghost use Rattle.qcow2_image.specs.Image.{ImageStays, is_writable, number_of};
+ghost use Rattle.qcow2_image.specs.Image.{ImageStays, is_beside, is_writable, number_of, place_in};
 ghost use Rattle.qcow2_image.specs.Prepared.{image_of, length_of, offset_of};
 ghost use Rattle.qcow2_image.specs.Refusals.{MayFail, MayFailPreparing};
 ghost use Rattle.qcow2_image.specs.declared.prepared.Prepared.{Prepared};
-ghost use Rattle.qcow2_image.specs.declared.mapping.Place.TheVariants.{Image};
+ghost use Rattle.qcow2_image.specs.PreparedPlaces.{IsOwn, IsPlacedBehind};
 ghost use Rattle.qcow2_image.specs.Ranges.{BeginsInKept, HasRoomForRange};
 ghost use Rattle.qcow2_image.specs.InternalSteps.{ListGrows, Pins};
 
 use crate::mappings::{copied_offset, preallocated_offset};
 use crate::prepared::ClusterMapping;
-use crate::{Place, Prepared, Qcow2};
+use crate::{Prepared, Qcow2};
 use image_access::{Storage, WrappedFormat};
 use qcow2_alloc::{ClustersToFreeList, ImageError, PendingClusters};
 use qcow2_metadata::{ClusterCount, GuestOffset, HostCluster, L2Mapping};
@@ -66,7 +66,8 @@ impl<S: Storage, F: WrappedFormat<S>> Qcow2<S, F> {
         }
     }
 
-    // Prepares a range whose first cluster isn't copied data: in the host cluster that its zero entry keeps, or in a new one.
+    // Prepares a range whose first cluster isn't copied data: in the host cluster that its zero entry keeps, at its guest offset in the
+    // data file, or in a new one.
     fn prepare_private(
         &mut self,
         table: HostCluster,
@@ -77,7 +78,7 @@ impl<S: Storage, F: WrappedFormat<S>> Qcow2<S, F> {
         room: Vec<ClusterMapping>,
     ) -> Result<Prepared, ImageError>
         requires writable { IsTrue (is_writable self.old) }
-        requires other { IsNotInPlace (cluster_size self.old.file.header.fields) old.now }
+        requires other { IsNotInPlace self.old old.now }
         requires room { HasRoomForOne room }
         ensures step { AllocatingStepWhere S.view (0 < table) self.old self.new }
         ensures fails { ImageFails S.view F.backing self.old self.new result MayFail }
@@ -87,6 +88,9 @@ impl<S: Storage, F: WrappedFormat<S>> Qcow2<S, F> {
     {
         match preallocated_offset(old) {
             Some(host) => self.prepare_kept(table, offset, length, overwrite, host, room),
+            None if self.is_placed_by_guest() => {
+                self.prepare_at_guest(table, offset, length, overwrite, old, room)
+            }
             None => self.prepare_new(table, offset, length, overwrite, old, room),
         }
     }
@@ -102,7 +106,7 @@ impl<S: Storage, F: WrappedFormat<S>> Qcow2<S, F> {
         room: Vec<ClusterMapping>,
     ) -> Result<Prepared, ImageError>
         requires reach { host ≤ greatest_offset }
-        requires behind { cluster_size self.old.file.header.fields ≤ host }
+        requires behind { IsPlacedBehind self.old host }
         requires room { HasRoomForOne room }
         ensures step { FillingStep S.view self.old self.new }
         ensures fails { FailsUnlimited S.view F.backing self.old self.new result MayFail }
@@ -113,6 +117,32 @@ impl<S: Storage, F: WrappedFormat<S>> Qcow2<S, F> {
     {
         self.fill_kept(host, offset, length, overwrite)?;
         Ok(self.prepare_at(table, offset, host, ClusterMapping::Kept, room))
+    }
+
+    // Prepares a range at its guest offset in the data file.
+    fn prepare_at_guest(
+        &mut self,
+        table: HostCluster,
+        offset: u64,
+        length: u64,
+        overwrite: bool,
+        old: &L2Mapping,
+        room: Vec<ClusterMapping>,
+    ) -> Result<Prepared, ImageError>
+        requires beside { is_beside self.old ≡ true }
+        requires other { IsNotInPlace self.old old.now }
+        requires room { HasRoomForOne room }
+        ensures step { FillingStep S.view self.old self.new }
+        ensures fails { ImageFails S.view F.backing self.old self.new result MayFail }
+        ensures begins { IfOk result (IsBegunIn self.old offset table (HasMemoryOf (vec_capacity room))) }
+        ensures place { IfOk result (λ p. offset_of p ≡ offset) }
+    {
+        let Some(cluster) = self.cluster_of_guest(offset) else {
+            return Err(ImageError::Limit);
+        };
+        self.fill_cluster(cluster, offset, length, overwrite, old)?;
+        let place = cluster.offset(self.file.header.cluster_bits()).value();
+        Ok(self.prepare_at(table, offset, place, ClusterMapping::Kept, room))
     }
 
     // Prepares a range in a new cluster.
@@ -126,7 +156,7 @@ impl<S: Storage, F: WrappedFormat<S>> Qcow2<S, F> {
         room: Vec<ClusterMapping>,
     ) -> Result<Prepared, ImageError>
         requires writable { IsTrue (is_writable self.old) }
-        requires other { IsNotInPlace (cluster_size self.old.file.header.fields) old.now }
+        requires other { IsNotInPlace self.old old.now }
         requires room { HasRoomForOne room }
         ensures step { AllocatingStepWhere S.view (0 < table) self.old self.new }
         ensures fails { ImageFails S.view F.backing self.old self.new result MayFail }
@@ -183,14 +213,13 @@ impl<S: Storage, F: WrappedFormat<S>> Qcow2<S, F> {
         requires room { HasRoomForOne room }
         ensures stays { ImageStays self.old self.new }
         ensures pins { Pins table self.old self.new }
-        ensures own { image_of result ≡ number_of self.old }
+        ensures own { IsOwn self.old result }
         ensures some { 0 < length_of result }
         ensures cluster_mapping { result.clusters.items ≡ cluster_mapping ∷ [] }
         ensures room { vec_capacity result.clusters ≡ vec_capacity room }
         ensures value { result ≡ record result {
           image = self.old.number;
           guest = offset;
-          place = Image;
           offset = host + offset % cluster_size self.old.file.header.fields;
           length = cluster_size self.old.file.header.fields - offset % cluster_size self.old.file.header.fields;
           table = Some table;
@@ -202,7 +231,7 @@ impl<S: Storage, F: WrappedFormat<S>> Qcow2<S, F> {
         Prepared {
             image: self.number,
             guest: offset,
-            place: Place::Image,
+            place: self.place(),
             offset: host + guest.in_cluster_offset(bits),
             length: guest.remaining_in_cluster(bits),
             table: Some(table),

@@ -30,6 +30,8 @@ pub struct Qcow2<S: Storage, F: WrappedFormat<S> = Box<dyn BackingDisk>> {
     // Present if the image is writable.
     pub(crate) allocator: Option<Allocator>,
     pub(crate) backing: Option<F>,
+    // If present, guests' data are in it, and not in the image's own file.
+    pub(crate) data_file: Option<S>,
 }
 
 // The tables that are loaded besides the header.
@@ -53,6 +55,8 @@ pub enum Missing {
     Nothing,
     /// The external data file.
     DataFile,
+    /// The backing file that the header names.
+    BackingFile,
     /// The external data file, and the backing file that the header names.
     OtherFiles,
 }
@@ -64,6 +68,7 @@ fn lacks_another(missing: Missing, header: &Header) -> bool
     match missing {
         Missing::Nothing => false,
         Missing::DataFile => header.has_data_file(),
+        Missing::BackingFile => header.backing_name().is_some(),
         Missing::OtherFiles => needs_another(header),
     }
 }
@@ -72,13 +77,13 @@ fn lacks_another(missing: Missing, header: &Header) -> bool
 impl<S: Storage, F: WrappedFormat<S>> Qcow2<S, F> {
     ghost use Rattle.std.specs.Prelude.{◌≡◌, ◌≤◌, [], IfOk, IfErr, OnOk, IsTrue, MatchOption, MatchResult, true, Ok, Err, Some, None, false, nat_le, option_map, if◌then◌else◌, List, Option};
     ghost use Rattle.std.specs.String.{string_bytes};
-    ghost use Rattle.qcow2_metadata.specs.Header.{header, cluster_size};
+    ghost use Rattle.qcow2_metadata.specs.Header.{header, cluster_size, has_data_file};
     ghost use Rattle.qcow2_alloc.specs.declared.error.ImageError.TheVariants.{Failed};
     ghost use Rattle.qcow2_alloc.specs.Faults.{FaultsReported};
     ghost use Rattle.qcow2_alloc.specs.LoadedTables.{IsReasonAgainstL1Table, IsReasonAgainstReftable, L1TableReads, ReftableReads};
     ghost use Rattle.qcow2_image.specs.Readable.{IsNewlyOpened, IsReasonAgainstTables, NeededTablesRead, OpeningStep};
     ghost use Rattle.qcow2_image.specs.Faults.{CountsImageFaults, SameFaults};
-    ghost use Rattle.qcow2_image.specs.Image.{storage_of_image, HasNothingToFree, ImageStays, IsBegun, KeepsRest, IsSameImage, is_failed, is_writable, is_external, has_noted_change, leaked_by, leaked_in, number_of, size_of, KeepsWholeHeader};
+    ghost use Rattle.qcow2_image.specs.Image.{storage_of_image, HasNothingToFree, ImageStays, IsBegun, KeepsRest, IsSameImage, is_failed, is_writable, has_noted_change, leaked_by, leaked_in, number_of, size_of, KeepsWholeHeader};
     ghost use Rattle.qcow2_disk.specs.AbstractImages.{guest_of};
     ghost use Rattle.qcow2_image.specs.declared.prepared.Prepared.{Prepared};
     ghost use Rattle.qcow2_laws.specs.CrashInvariant.{Pending};
@@ -133,7 +138,7 @@ impl<S: Storage, F: WrappedFormat<S>> Qcow2<S, F> {
         ensures step { OpeningStep S.view (S.view metadata) writable Missing.Nothing result }
         ensures image { IfOk result (IsNewlyOpened (S.view metadata) writable number) }
         ensures opens { IfOk result (Opens S.view F.backing (S.view metadata)) }
-        ensures below { IfOk result (λ image. is_some image.backing ≡ false) }
+        ensures below { IfOk result (λ image. (is_some image.backing ≡ false) × (image.data_file ≡ None)) }
     {
         Self::open(
             alloc,
@@ -157,7 +162,7 @@ impl<S: Storage, F: WrappedFormat<S>> Qcow2<S, F> {
         ensures step { OpeningStep S.view (S.view metadata) writable Missing.OtherFiles result }
         ensures image { IfOk result (IsNewlyOpened (S.view metadata) writable number) }
         ensures opens { IfOk result (Opens S.view F.backing (S.view metadata)) }
-        ensures below { IfOk result (λ image. is_some image.backing ≡ false) }
+        ensures below { IfOk result (λ image. (is_some image.backing ≡ false) × (image.data_file ≡ None)) }
     {
         Self::open(
             alloc,
@@ -179,7 +184,7 @@ impl<S: Storage, F: WrappedFormat<S>> Qcow2<S, F> {
         ensures step { OpeningStep S.view (S.view (storage_of storage)) writable missing result }
         ensures image { IfOk result (IsNewlyOpened (S.view (storage_of storage)) writable number) }
         ensures opens { IfOk result (Opens S.view F.backing (S.view (storage_of storage))) }
-        ensures below { IfOk result (λ image. is_some image.backing ≡ false) }
+        ensures below { IfOk result (λ image. (is_some image.backing ≡ false) × (image.data_file ≡ None)) }
         ensures list { (S.view (storage_of storage)).is_honest
             → IsConsistent (byte_at (S.view (storage_of storage)).contents) → IfOk result HasNothingToFree }
     {
@@ -214,6 +219,7 @@ impl<S: Storage, F: WrappedFormat<S>> Qcow2<S, F> {
                 l1_table,
                 allocator,
                 backing: None,
+                data_file: None,
             }),
             Err(e) => Err((file.into_storage(), e)),
         }
@@ -324,6 +330,7 @@ impl<S: Storage, F: WrappedFormat<S>> Qcow2<S, F> {
             l1_table: _,
             allocator: _,
             backing: _,
+            data_file: _,
         } = self;
         file.into_storage()
     }
@@ -381,7 +388,7 @@ impl<S: Storage, F: WrappedFormat<S>> Qcow2<S, F> {
 
     /// Whether the header requires an external data file.
     pub fn requires_external_data_file(&self) -> bool
-        ensures { result ≡ is_external self.now }
+        ensures { result ≡ has_data_file self.now.file.header.fields }
     {
         self.file.header.has_data_file()
     }
@@ -417,8 +424,8 @@ impl<S: Storage, F: WrappedFormat<S>> Qcow2<S, F> {
         }
     }
 
-    /// Frees the clusters that wait to be freed, writes the cached tables, and flushes the storage. Refused 16 (failed), and 14 (memory) or 15
-    /// (storage) during the work.
+    /// Frees the clusters that wait to be freed, writes the cached tables, and flushes the storage, then the data file. Refused 16 (failed), and
+    /// 14 (memory) or 15 (storage) during the work.
     pub fn flush(&mut self) -> Result<(), ImageError>
         ensures step { CallStep S.view F.backing self.old self.new result }
         ensures early { IsTrue (is_failed self.old) → (result ≡ Err Failed) × (self.new ≡ self.old) }
@@ -439,8 +446,28 @@ impl<S: Storage, F: WrappedFormat<S>> Qcow2<S, F> {
         self.mark_failure(done)
     }
 
-    #[tactic(auto, using(crate::proofs::Call::FailingErrors::storage_of_tables, crate::proofs::Call::CacheErrors::fault_or_tables))]
+    // Frees the clusters that wait to be freed, writes the cached tables, and flushes the storage, then the data file.
     fn write_back(&mut self) -> Result<(), ImageError>
+        ensures step { ImageStep S.view self.old self.new }
+        ensures fails { ImageFails S.view F.backing self.old self.new result IsOfTables }
+        ensures header { self.new.file.header ≡ self.old.file.header }
+        ensures fault { (p : Pending) (out : List (Option Prepared))
+            → ImageInvariant S.view F.backing (with_listed p self.old.file.free_list) self.old out
+            → IfErr result IsFault }
+        ensures emptied { IsTrue (is_writable self.old) → OnOk result (HasNothingToFree self.new) }
+        ensures frees { (p : Pending) (out : List (Option Prepared))
+            → ImageInvariant S.view F.backing (with_listed p self.old.file.free_list) self.old out
+            → FreesListed S.view F.backing p self.old self.new out result }
+        ensures quiet { is_writable self.old ≡ false → ReadsQuietly S.view self.old self.new }
+        ensures written { IfOk result (λ done. known_in S.view self.new.file ≡ contents_in S.view self.new.file) }
+    {
+        self.flush_image()?;
+        self.flush_data_file()
+    }
+
+    // Frees the clusters that wait to be freed, writes the cached tables, and flushes the image's own storage.
+    #[tactic(auto, using(crate::proofs::Call::FailingErrors::storage_of_tables, crate::proofs::Call::CacheErrors::fault_or_tables))]
+    fn flush_image(&mut self) -> Result<(), ImageError>
         ensures step { ImageStep S.view self.old self.new }
         ensures fails { ImageFails S.view F.backing self.old self.new result IsOfTables }
         ensures header { self.new.file.header ≡ self.old.file.header }
@@ -528,14 +555,14 @@ impl<S: Storage, F: WrappedFormat<S>> Qcow2<S, F> {
         self.file.caches.begin_call();
     }
 
-    // Refuses calls on guest data: after an earlier failure, or if the data file is missing.
+    // Refuses calls on guest data: after an earlier failure, or if the header requires a data file and there is none.
     pub(crate) fn check_usable(&self) -> Result<(), ImageError>
         ensures { MatchOption (unusable self.now) (result ≡ Ok tt) (λ e. result ≡ Err e) }
     {
         if self.is_failed {
             return Err(ImageError::Failed);
         }
-        if self.file.header.has_data_file() {
+        if self.file.header.has_data_file() && self.data_file.is_none() {
             return Err(ImageError::Dependency);
         }
         Ok(())

@@ -79,7 +79,7 @@ impl<S: Storage, F: WrappedFormat<S>> Qcow2<S, F> {
             → ImageInvariant S.view F.backing p self.old out → InternalStep S.view F.backing p p self.old self.new out }
     {
         self.drop_cached()?;
-        let places = self.read_places()?;
+        let places = self.read_places_anew()?;
         self.replace_tables(places)
     }
 
@@ -100,6 +100,24 @@ impl<S: Storage, F: WrappedFormat<S>> Qcow2<S, F> {
             Some(allocator) => allocator.invalidate_rb_cache(&mut self.file),
             None => self.file.caches.invalidate_rb(),
         }
+    }
+
+    // Drops cached reads of the data file and of the storage, and reads the pointers to the L1 table and the reftable. Returns the header in
+    // memory with these pointers, without its names.
+    fn read_places_anew(&mut self) -> Result<Header, ImageError>
+        ensures step { ReadsPlaces S.view self.old self.new }
+        ensures fails { ImageFails S.view F.backing self.old self.new result MayFailToInvalidate }
+        ensures places { IfOk result (ArePlacesFor self.old) }
+        ensures read { (view_in S.view self.old.file).is_honest
+            → IfOk result (λ places. with_tables_of self.old.file.header.fields
+            (header (contents_in S.view self.old.file)) ≡ places.fields) }
+        ensures why { (view_in S.view self.old.file).is_honest → IfErr result (IsReasonAgainstPlaces
+            self.old.file.header.fields (contents_in S.view self.old.file) (is_writable self.old)) }
+        ensures keeps { (p : Pending) (out : List (Option Prepared)) → ImageInvariant S.view F.backing p self.old out
+            → InternalStep S.view F.backing p p self.old self.new out }
+    {
+        self.invalidate_data_file()?;
+        self.read_places()
     }
 
     // Reads the pointers to the L1 table and the reftable. Returns the header in memory with these pointers, without its names.

@@ -5,7 +5,7 @@ ghost use Rattle.qcow2_image.specs.WriteSteps.{ReadsSpecial, RefusesOrSkips, Ref
 ghost use Rattle.qcow2_image.specs.ImageSteps.{FailsUnlimited, ImageFails, ImageStep, ReadingCall};
 ghost use Rattle.qcow2_image.specs.ImageSteps.{ReadingStep};
 ghost use Rattle.std.specs.Prelude.{◌≡◌, ◌≢◌, ◌+◌, ◌^◌, ◌<◌, ◌≤◌, List, [], Option, length, ◌⊎◌, IfOk};
-ghost use Rattle.std.specs.Prelude.{IfErr, IsErr, IsSome, MatchOption, Ok, Err, Some, None};
+ghost use Rattle.std.specs.Prelude.{IfErr, IfSome, IsErr, IsSome, MatchOption, Ok, Err, Some, None};
 ghost use Rattle.std.specs.Prelude.{is_some, true, OnOk};
 ghost use Rattle.qcow2_metadata.specs.Header.{cluster_size};
 ghost use Rattle.qcow2_alloc.specs.ImageError.{IsFault};
@@ -16,13 +16,14 @@ ghost use Rattle.qcow2_laws.specs.CrashInvariant.{Pending};
 ghost use Rattle.qcow2_image.specs.Calls.{AnswersCall, Puts};
 ghost use Rattle.qcow2_image.specs.Faults.{IsNotOfStorage};
 ghost use Rattle.qcow2_image.specs.Found.{AreBytesOf, IsMappedAs, further_by};
-ghost use Rattle.qcow2_image.specs.CallParts.{WritesBytes};
+ghost use Rattle.image_access.specs.Contents.{overwritten};
+ghost use Rattle.image_access.specs.Moments.{EachMomentSince, IsLeftBy};
+ghost use Rattle.qcow2_image.specs.CallParts.{WritesBeside, WritesBytes};
 ghost use Rattle.qcow2_image.specs.HeldMappings.{FitsTables, IsCompressedInTables, KeepsHeld, ReadsAs};
 ghost use Rattle.qcow2_alloc.specs.ImageFile.{view_in};
 ghost use Rattle.qcow2_image.specs.InternalSteps.{InternalStep};
 ghost use Rattle.qcow2_image.specs.ImageInvariant.{IsHonestBacking, ImageInvariant, backing_bytes, disk_of};
 ghost use Rattle.qcow2_image.specs.declared.mapping.MappingKind.TheVariants.{Eof, Raw};
-ghost use Rattle.qcow2_image.specs.declared.mapping.Place.TheVariants.{Image};
 ghost use Rattle.qcow2_image.specs.declared.prepared.Prepared.{Prepared};
 ghost use Rattle.qcow2_image.specs.Image.{size_of};
 ghost use Rattle.qcow2_image.specs.Prepared.{image_of, table_of};
@@ -34,7 +35,7 @@ ghost use Rattle.qcow2_image.specs.Unwritten.{LooksQuietly};
 ghost use Rattle.qcow2_alloc.specs.Quiet.{WritesNothing};
 
 use crate::mappings::passes;
-use crate::{Mapping, MappingKind, Place, Prepared, Qcow2};
+use crate::{Mapping, MappingKind, Prepared, Qcow2};
 use image_access::{Storage, WrappedFormat};
 use qcow2_alloc::{ImageError, WriteKind};
 
@@ -143,6 +144,7 @@ impl<S: Storage, F: WrappedFormat<S>> Qcow2<S, F> {
         ensures held { 0 < length → FitsTables self.old self.new offset wanted.now length result }
         ensures special { OnOk result (IsSpecial wanted.now → IsCompressedInTables self.new offset) }
         ensures quiet { LooksQuietly S.view offset self.old self.new }
+        ensures data_file { self.new.data_file ≡ self.old.data_file }
     {
         let (kind, found) = self.look_up(offset, length)?;
         if found >= length && wanted.is(&kind) {
@@ -177,10 +179,7 @@ impl<S: Storage, F: WrappedFormat<S>> Qcow2<S, F> {
                 place: _,
                 offset,
                 writable: _,
-            } => {
-                self.file.storage.read(*offset, bytes)?;
-                Ok(())
-            }
+            } => self.read_data(*offset, bytes),
             MappingKind::Indirect { offset } => self.read_backing(*offset, bytes),
             MappingKind::Zero { explicit: _ } => {
                 bytes.fill(0);
@@ -299,7 +298,7 @@ impl<S: Storage, F: WrappedFormat<S>> Qcow2<S, F> {
         ensures sees { Puts S.view F.backing self.old self.new prepared.now at bytes.now result }
         ensures held { refuses_mapping self.old (image_of prepared.now) ≡ None → table_of prepared.now ≡ None
             → 0 < length bytes.now → FitsTables self.old self.new (prepared.now.guest + at)
-            (Raw Image (prepared.now.offset + at) true) (length bytes.now) result }
+            (Raw prepared.now.place (prepared.now.offset + at) true) (length bytes.now) result }
         ensures once { PutsOnce S.view F.backing prepared.now at bytes.now self.old self.new result }
     {
         self.check_usable()?;
@@ -330,8 +329,8 @@ impl<S: Storage, F: WrappedFormat<S>> Qcow2<S, F> {
         ensures puts { PutsBytes S.view F.backing self.old self.new prepared.now at bytes.now result }
         ensures private { IsSome (table_of prepared.now) → result ≢ Err OutdatedMapping }
         ensures held { table_of prepared.now ≡ None → 0 < length bytes.now
-            → FitsTables self.old self.new (prepared.now.guest + at) (Raw Image (prepared.now.offset + at) true)
-            (length bytes.now) result }
+            → FitsTables self.old self.new (prepared.now.guest + at)
+            (Raw prepared.now.place (prepared.now.offset + at) true) (length bytes.now) result }
         ensures once { PutsOnce S.view F.backing prepared.now at bytes.now self.old self.new result }
     {
         let Some(host) = prepared.offset.checked_add(at) else {
@@ -355,23 +354,50 @@ impl<S: Storage, F: WrappedFormat<S>> Qcow2<S, F> {
         ensures sound { ChecksInPlace S.view F.backing self.old self.new prepared.now at host length result }
         ensures private { IsSome (table_of prepared.now) → (result ≡ Ok tt) × (self.new ≡ self.old) }
         ensures held { table_of prepared.now ≡ None → 0 < length
-            → FitsTables self.old self.new (prepared.now.guest + at) (Raw Image host true) length result }
+            → FitsTables self.old self.new (prepared.now.guest + at) (Raw prepared.now.place host true) length result }
         ensures quiet { LooksQuietly S.view (prepared.now.guest + at) self.old self.new }
+        ensures data_file { self.new.data_file ≡ self.old.data_file }
     {
         if prepared.table.is_some() {
             return Ok(());
         }
         let guest = self.place_within(prepared.guest, at)?;
         let wanted = MappingKind::Raw {
-            place: Place::Image,
+            place: prepared.place,
             offset: host,
             writable: true,
         };
         self.check_mapped(guest, length, &wanted)
     }
 
-    // Writes bytes as data. A place in the header's cluster, which no entry and no mapping has, is refused 19 (metadata).
+    // Writes bytes as data, to the data file if there is one. In the image's own file a place in the header's cluster, which no entry
+    // and no mapping has, is refused 19 (metadata).
     pub(crate) fn write_data(&mut self, host: u64, bytes: &[u8]) -> Result<(), ImageError>
+        ensures step { ImageStep S.view self.old self.new }
+        ensures fails { FailsUnlimited S.view F.backing self.old self.new result MayFailWriting }
+        ensures header { self.new.file.header ≡ self.old.file.header }
+        ensures fault { cluster_size self.old.file.header.fields ≤ host → IfErr result IsFault }
+        ensures rest { self.new ≡ record self.old {
+          file = record self.old.file { storage = self.new.file.storage };
+          data_file = self.new.data_file;
+        } }
+        ensures time { (view_in S.view self.old.file).is_honest → EachMomentSince (view_in S.view self.old.file)
+            (view_in S.view self.new.file) (IsLeftBy (view_in S.view self.new.file)) }
+        ensures written { self.old.data_file ≡ None → WritesBytes S.view self.old self.new host bytes.now result }
+        ensures beside { IfSome self.old.data_file
+            (WritesBeside S.view self.old self.new (λ b. overwritten b host bytes.now) result) }
+    {
+        match &mut self.data_file {
+            Some(file) => {
+                let done = file.write(host, bytes);
+                self.record_data_write(done)
+            }
+            None => self.write_own_data(host, bytes),
+        }
+    }
+
+    // Writes bytes as data to the image's own file. A place in the header's cluster, which no entry and no mapping has, is refused 19 (metadata).
+    fn write_own_data(&mut self, host: u64, bytes: &[u8]) -> Result<(), ImageError>
         ensures step { ImageStep S.view self.old self.new }
         ensures fails { FailsUnlimited S.view F.backing self.old self.new result MayFailWriting }
         ensures header { self.new.file.header ≡ self.old.file.header }

@@ -5,6 +5,7 @@ mod backing;
 mod builder;
 mod copy_range;
 mod cow;
+mod data_file;
 mod discarding;
 mod first_cluster;
 mod image;

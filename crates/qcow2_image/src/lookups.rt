@@ -2,11 +2,11 @@
 ghost use Rattle.qcow2_image.specs.WriteSteps.{FindsInTable, FindsRun, IsLookedUp, LooksUp, RefusesLookup};
 ghost use Rattle.qcow2_image.specs.ImageSteps.{ImageFails, ReadingCall, ReadingStep};
 ghost use Rattle.qcow2_disk.specs.Alike.{IsAlike};
-ghost use Rattle.std.specs.Prelude.{◌↔◌, ◌⊎◌, List, Option, is_some, ◌≡◌, ◌+◌, ◌*◌, ◌-◌, ◌%◌, true, Some, ◌^◌, ◌<◌, ◌≤◌, []};
+ghost use Rattle.std.specs.Prelude.{◌↔◌, ◌⊎◌, Bool, List, Option, is_some, ◌≡◌, ◌+◌, ◌*◌, ◌-◌, ◌%◌, true, Some, ◌^◌, ◌<◌, ◌≤◌, []};
 ghost use Rattle.std.specs.Prelude.{length, IfOk, IfErr, IfSome, IsOk, IsSome, IsTrue, Ok, Err, None, false};
 ghost use Rattle.std.specs.Prelude.{MatchOption, min, ℕ};
 ghost use Rattle.qcow2_metadata.specs.L2Mapping.{HasAlignedHost, IsInReach};
-ghost use Rattle.qcow2_image.specs.Image.{size_of};
+ghost use Rattle.qcow2_image.specs.Image.{is_beside, size_of};
 ghost use Rattle.qcow2_laws.specs.CrashInvariant.{Pending};
 ghost use Rattle.qcow2_alloc.specs.MetadataCaches.{IsEntryAt, l2_at};
 ghost use Rattle.qcow2_alloc.specs.ImageFile.{known_in, FileInvariant};
@@ -15,9 +15,9 @@ ghost use Rattle.qcow2_image.specs.Calls.{AnswersCall};
 ghost use Rattle.qcow2_alloc.specs.declared.error.ImageError.TheVariants.{UnalignedTable};
 ghost use Rattle.qcow2_image.specs.LookupCauses.{HasUnalignedBehind, HasUnalignedEntry};
 ghost use Rattle.qcow2_image.specs.LookupCauses.{IsKindIn, IsTableUnaligned, IsUnalignedIn, MayFailFinding};
-ghost use Rattle.qcow2_disk.specs.Found.{kind_at, rest_of_table};
+ghost use Rattle.qcow2_disk.specs.Found.{rest_of_table};
 ghost use Rattle.qcow2_image.specs.Faults.{IsNotOfStorage};
-ghost use Rattle.qcow2_image.specs.Found.{found_kind, further_by, mapping_of, IsRunBehind, NamesL2Table, IsRunFrom};
+ghost use Rattle.qcow2_image.specs.Found.{found_kind, further_by, kind_in, mapping_of, IsRunBehind, NamesL2Table, IsRunFrom};
 ghost use Rattle.qcow2_image.specs.Found.{l1_index_of, l2_index_of};
 ghost use Rattle.qcow2_image.specs.HeldMappings.{IsCompressedInTables, IsHeldFrom, IsHeldRun, StaysHeld, named_place};
 ghost use Rattle.qcow2_image.specs.MayFail.{IsSpecial};
@@ -27,7 +27,7 @@ ghost use Rattle.qcow2_metadata.specs.Header.{cluster_size};
 ghost use Rattle.qcow2_image.specs.declared.mapping.MappingKind.TheVariants.{Eof};
 ghost use Rattle.qcow2_image.specs.Unwritten.{LooksQuietly};
 
-use crate::{Mapping, MappingKind, Place, Qcow2};
+use crate::{Mapping, MappingKind, Qcow2};
 use image_access::{Storage, WrappedFormat};
 use qcow2_alloc::ImageError;
 use qcow2_metadata::{GuestCluster, GuestOffset, HostCluster, L2Mapping, L2Table};
@@ -104,6 +104,7 @@ impl<S: Storage, F: WrappedFormat<S>> Qcow2<S, F> {
         ensures kind { IfOk result (λ (kind, n). IsKindIn self.new offset kind) }
         ensures still { StaysHeld self.old self.new offset }
         ensures quiet { LooksQuietly S.view offset self.old self.new }
+        ensures data_file { self.new.data_file ≡ self.old.data_file }
     {
         let size = self.file.header.size();
         if offset >= size {
@@ -130,6 +131,7 @@ impl<S: Storage, F: WrappedFormat<S>> Qcow2<S, F> {
         ensures plain { IfOk result (λ (kind, n). IsCompressedInTables self.new offset → IsSpecial kind) }
         ensures still { StaysHeld self.old self.new offset }
         ensures quiet { LooksQuietly S.view offset self.old self.new }
+        ensures data_file { self.new.data_file ≡ self.old.data_file }
     {
         let max = max.min(self.rest_of_table(offset));
         match self.l2_cluster(offset)? {
@@ -176,7 +178,8 @@ impl<S: Storage, F: WrappedFormat<S>> Qcow2<S, F> {
     }
 
     fn uncovered(&self, offset: u64) -> MappingKind
-        ensures value { found_kind result ≡ kind_at self.now.file.header.fields (is_some self.now.backing) offset L2Mapping.Uncovered }
+        ensures value { (beside : Bool) → found_kind result
+            ≡ kind_in self.now.file.header.fields beside (is_some self.now.backing) offset L2Mapping.Uncovered }
         ensures whole { further_by 0 result ≡ result }
     {
         match &self.backing {
@@ -202,7 +205,7 @@ impl<S: Storage, F: WrappedFormat<S>> Qcow2<S, F> {
             → max ≤ rest_of_table self.now.file.header.fields offset → IsOk result }
         ensures within { IfOk result (λ (kind, n). n ≤ max) }
         ensures some { IfOk result (λ (kind, n). 0 < max → 0 < n) }
-        ensures run { (p : Pending) → FileInvariant S.view p self.now.file
+        ensures run { (p : Pending) → FileInvariant S.view p self.now.file → self.now.data_file ≡ None
             → IsEntryAt self.now.file.header.fields (known_in S.view self.now.file)
             (l1_index_of self.now.file.header.fields offset) table (l2_index_of self.now.file.header.fields offset)
             → max ≤ rest_of_table self.now.file.header.fields offset
@@ -272,13 +275,14 @@ impl<S: Storage, F: WrappedFormat<S>> Qcow2<S, F> {
 
     pub(crate) fn kind_of(&self, mapping: L2Mapping, offset: u64) -> MappingKind
         requires { IsInReach mapping }
-        ensures value { found_kind result ≡ kind_at self.now.file.header.fields (is_some self.now.backing) offset mapping }
+        ensures value { found_kind result ≡ kind_in self.now.file.header.fields (is_beside self.now)
+            (is_some self.now.backing) offset mapping }
         ensures whole { further_by 0 result ≡ result }
     {
         let within = GuestOffset::new(offset).in_cluster_offset(self.file.header.cluster_bits());
         match mapping {
             L2Mapping::Data { host, copied } => MappingKind::Raw {
-                place: Place::Image,
+                place: self.place(),
                 offset: host.value() + within,
                 writable: copied,
             },

@@ -4,7 +4,7 @@ ghost use Rattle.qcow2_image.specs.WriteSteps.{RefusesAfter, RefusesCommit, Refu
 ghost use Rattle.qcow2_image.specs.SoundParts.{InTableSoundly, PreparesSoundly};
 ghost use Rattle.qcow2_image.specs.ImageSteps.{CallStep, ImageFails, ImageStep};
 ghost use Rattle.qcow2_image.specs.BehindHeader.{PreservesHeaderCluster};
-ghost use Rattle.qcow2_image.specs.PreparedPlaces.{HasBytesBehind, MarkedIsBehind};
+ghost use Rattle.qcow2_image.specs.PreparedPlaces.{HasBytesBehind, IsMarkedBehind, IsOwn, IsPlacedBehind, MarkedIsBehind};
 ghost use Rattle.std.specs.Prelude.{◌↔◌, ℕ, List, Option, ◌≡◌, ◌⊎◌, ◌≢◌, ◌+◌, ◌*◌, ◌-◌, ◌/◌, ◌%◌, true, Some, ◌^◌, ◌<◌};
 ghost use Rattle.std.specs.Prelude.{◌≤◌, [], ◌∷◌, ◌++◌, length, slice_get, IfOk, IfErr, IfSome, OnOk, IsOk, IsNone};
 ghost use Rattle.std.specs.Prelude.{IsSome, IsTrue, IsFalse, MatchOption, Ok, Err, None, false};
@@ -14,7 +14,7 @@ ghost use Rattle.qcow2_image.specs.MayFail.{KeepsL1Place};
 ghost use Rattle.qcow2_metadata.specs.L2Mapping.{IsInReach, greatest_offset, named_run};
 ghost use Rattle.qcow2_disk.specs.Mappings.{is_copied_data};
 ghost use Rattle.qcow2_image.specs.Image.{HasNothingToFree, ImageStays, KeepsRest, is_failed, is_writable};
-ghost use Rattle.qcow2_image.specs.Image.{number_of, size_of, KeepsWholeHeader};
+ghost use Rattle.qcow2_image.specs.Image.{number_of, place_in, size_of, KeepsWholeHeader};
 ghost use Rattle.qcow2_image.specs.Prepared.{image_of, length_of, offset_of, table_of};
 ghost use Rattle.qcow2_image.specs.Preparing.{IsPlaceOf};
 ghost use Rattle.qcow2_image.specs.Ranges.{ReleasesOneMapping, Reaches};
@@ -45,7 +45,7 @@ ghost use Rattle.qcow2_image.specs.declared.prepared.ClusterMapping.TheVariants.
 ghost use Rattle.qcow2_alloc.specs.declared.error.ImageError.TheVariants.{Failed, ForeignState, TablePrepared};
 
 use crate::prepared::ClusterMapping;
-use crate::{CommitRefused, Place, Prepared, Qcow2};
+use crate::{CommitRefused, Prepared, Qcow2};
 use image_access::{Storage, WrappedFormat};
 use qcow2_alloc::{ClustersToFreeEntry, ClustersToFreeList, ImageError, PendingClusters};
 use qcow2_metadata::{GuestCluster, GuestOffset, HostCluster, HostOffset, L2Mapping};
@@ -150,10 +150,11 @@ pub(crate) fn keeps(mapping: &L2Mapping, place: u64) -> bool
 
 #[tactic(auto, using(crate::proofs::Call::FailingErrors::tables_met, crate::proofs::Call::FailingErrors::storage_met, crate::proofs::Call::FailingErrors::unaligned_met))]
 impl<S: Storage, F: WrappedFormat<S>> Qcow2<S, F> {
-    /// Prepares a range to be written at one place in the file. With `overwrite` the caller promises to write all of it, and old bytes are not
-    /// copied. The mapping may be shorter than the range, and must be committed or discarded. A mapping that isn't existing has at least the
-    /// rest of its first cluster. None of its bytes lies in the header's cluster. A mapping is existing only where the tables in
-    /// memory mark all of the range as copied data.
+    /// Prepares a range to be written at one place in the file, or in the data file if there is one. With `overwrite` the caller promises to
+    /// write all of it, and old bytes are not copied. The mapping may be shorter than the range, and must be committed or discarded. A mapping
+    /// that isn't existing has at least the rest of its first cluster. None of its bytes lies in the image's header. A mapping is existing
+    /// only where the tables in memory mark all of the range as copied data. If the header requires a data file, the mapping lies at
+    /// its own guest offset in it.
     /// Refused in this order: 16 (failed), 12 (dependency), 2 (beyond size), 1 (read-only). A length of 0 succeeds before 1. Then
     /// 9 (table prepared), if another mapping that isn't existing is prepared in the same L2 table. May be refused
     /// 4 (unaligned table), 7 (compressed) if a compressed cluster would have to be copied, 8 (everything is in use), 13 (limit),
@@ -202,7 +203,7 @@ impl<S: Storage, F: WrappedFormat<S>> Qcow2<S, F> {
     }
 
     fn existing_at(&self, guest: u64, offset: u64, length: u64) -> Prepared
-        ensures own { image_of result ≡ number_of self.now }
+        ensures own { IsOwn self.now result }
         ensures length { length_of result ≡ length }
         ensures offset { offset_of result ≡ offset }
         ensures existing { IsExisting result self.now.number guest length }
@@ -210,7 +211,7 @@ impl<S: Storage, F: WrappedFormat<S>> Qcow2<S, F> {
         Prepared {
             image: self.number,
             guest,
-            place: Place::Image,
+            place: self.place(),
             offset,
             length,
             table: None,
@@ -233,8 +234,8 @@ impl<S: Storage, F: WrappedFormat<S>> Qcow2<S, F> {
             → PreparesSoundly S.view F.backing offset length overwrite self.old self.new out result }
         ensures l1_place { l1_index_of self.old.file.header.fields offset < entry_count self.old.l1_table
             → OnOk result (KeepsL1Place self.old.file.header.fields self.new.file.header.fields) }
-        ensures own { IfOk result (λ p. image_of p ≡ number_of self.old) }
-        ensures some { IfOk result (λ p. 0 < length → HasBytesBehind self.new.file.header.fields p) }
+        ensures own { IfOk result (IsOwn self.old) }
+        ensures some { IfOk result (λ p. 0 < length → HasBytesBehind self.new p) }
         ensures freed { 0 < length → (out : List (Option Prepared))
             → ImageInvariant S.view F.backing (pending_in S.view F.backing self.old out) self.old out
             → IfErr result (FreesRefused self.new) }
@@ -263,8 +264,8 @@ impl<S: Storage, F: WrappedFormat<S>> Qcow2<S, F> {
             → PreparesSoundly S.view F.backing offset length overwrite self.old self.new out result }
         ensures l1_place { l1_index_of self.old.file.header.fields offset < entry_count self.old.l1_table
             → OnOk result (KeepsL1Place self.old.file.header.fields self.new.file.header.fields) }
-        ensures own { IfOk result (λ p. image_of p ≡ number_of self.old) }
-        ensures some { IfOk result (λ p. 0 < length → HasBytesBehind self.new.file.header.fields p) }
+        ensures own { IfOk result (IsOwn self.old) }
+        ensures some { IfOk result (λ p. 0 < length → HasBytesBehind self.new p) }
         ensures pinned { HasOwnTable self.old offset → PreparesUnpinned self.old offset result }
         ensures existing { 0 < length → offset + length ≤ size_of self.old
             → ExistsInTables self.new offset length result }
@@ -323,12 +324,12 @@ impl<S: Storage, F: WrappedFormat<S>> Qcow2<S, F> {
             → IsOk result }
         ensures limited { IfErr result IsUnlimited }
         ensures place { (p : Pending) → FileInvariant S.view p self.now.file
-            → self.now.file.header.fields.incompatible ≡ 0
+            → self.now.file.header.fields.incompatible ≡ 0 → self.now.data_file ≡ None
             → IsEntryAt self.now.file.header.fields (known_in S.view self.now.file)
             (l1_index_of self.now.file.header.fields offset) table (l2_index_of self.now.file.header.fields offset)
             → 0 < length → IfOk result (IsPlaceOf self.now.file.header.fields
             (known_in S.view self.now.file) offset length) }
-        ensures behind { IfOk result (λ place. IfSome place (λ host. cluster_size self.now.file.header.fields ≤ host)) }
+        ensures behind { IfOk result (λ place. IfSome place (IsPlacedBehind self.now)) }
         ensures held { LiesInOwn self.now offset length → table ≡ own_table self.now offset
             → IfOk result (λ place. IfSome place (IsWritableInTables self.now offset length)) }
         ensures faults { IfErr result IsNotOfStorage }
@@ -338,7 +339,11 @@ impl<S: Storage, F: WrappedFormat<S>> Qcow2<S, F> {
         if found < length {
             return Ok(None);
         }
-        Ok(behind_header(kind.writable_place(), self.file.header.cluster_size()))
+        let place = kind.writable_place();
+        if self.data_file.is_some() {
+            return Ok(place);
+        }
+        Ok(behind_header(place, self.file.header.cluster_size()))
     }
 
     // Prepares a range in a cached table that no other mapping pins: its first cluster, and those after it that can be contiguous.
@@ -358,8 +363,8 @@ impl<S: Storage, F: WrappedFormat<S>> Qcow2<S, F> {
             → InTableSoundly S.view F.backing table offset length overwrite self.old self.new out result }
         ensures taken { IfErr result (λ e. e ≡ TablePrepared → 0 < l2_pins self.old.file.caches table) }
         ensures unpinned { OnOk result (l2_pins self.old.file.caches table ≡ 0) }
-        ensures own { IfOk result (λ p. image_of p ≡ number_of self.old) }
-        ensures some { IfOk result (HasBytesBehind self.new.file.header.fields) }
+        ensures own { IfOk result (IsOwn self.old) }
+        ensures some { IfOk result (HasBytesBehind self.new) }
         ensures pins { IfOk result (λ p. IsSome (table_of p)) }
         ensures reaches { (out : List (Option Prepared)) (k : ℕ) → slice_get out k ≡ Some None
             → ImageInvariant S.view F.backing (pending_in S.view F.backing self.old out) self.old out
@@ -375,7 +380,8 @@ impl<S: Storage, F: WrappedFormat<S>> Qcow2<S, F> {
         }
     }
 
-    // The mapping of a guest cluster in a cached table. An entry that is marked copied in the header's cluster is refused 19 (metadata).
+    // The mapping of a guest cluster in a cached table. An entry that is marked copied in the header's cluster is refused 19 (metadata),
+    // unless data are in a data file.
     #[tactic(auto, using(crate::proofs::Call::FailingErrors::tables_met, crate::proofs::Call::FailingErrors::storage_met, crate::proofs::Call::FailingErrors::unaligned_met, crate::proofs::Call::Unlimited::unaligned_unlimited))]
     pub(crate) fn cover_in(
         &self,
@@ -383,7 +389,7 @@ impl<S: Storage, F: WrappedFormat<S>> Qcow2<S, F> {
         cluster: GuestCluster,
     ) -> Result<L2Mapping, ImageError>
         ensures reach { IfOk result IsInReach }
-        ensures behind { IfOk result (MarkedIsBehind (cluster_size self.now.file.header.fields)) }
+        ensures behind { IfOk result (IsMarkedBehind self.now) }
         ensures cause { IfErr result MayFail }
         ensures limited { IfErr result IsUnlimited }
         ensures reads { (p : Pending) (i : ℕ) → FileInvariant S.view p self.now.file
@@ -404,7 +410,9 @@ impl<S: Storage, F: WrappedFormat<S>> Qcow2<S, F> {
             return Err(ImageError::InUse);
         };
         let mapping = held.get_mapping(cluster)?;
-        if !is_behind_header(&mapping, self.file.header.cluster_size()) {
+        if self.data_file.is_none()
+            && !is_behind_header(&mapping, self.file.header.cluster_size())
+        {
             return Err(ImageError::Metadata);
         }
         Ok(mapping)

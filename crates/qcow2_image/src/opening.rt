@@ -19,19 +19,22 @@ pub struct Qcow2OpenBuilder<S: Storage, F: WrappedFormat<S> = Box<dyn BackingDis
     writable: bool,
     // None if `backing` wasn't called; `Some(None)` if the backing file is waived.
     backing: Option<Option<F>>,
+    // None if `data_file` wasn't called; `Some(None)` if the data file is waived.
+    data_file: Option<Option<S>>,
 }
 
 impl<S: Storage, F: WrappedFormat<S>> Qcow2OpenBuilder<S, F> {
-    /// A builder for the image in a storage: for reading, without a backing disk. Images that are open together must have different
-    /// numbers.
+    /// A builder for the image in a storage: for reading, without a backing disk and without a data file. Images that are open together
+    /// must have different numbers.
     pub fn new(image: S, number: u64) -> Qcow2OpenBuilder<S, F>
-        ensures { result ≡ record { image = image; number = number; writable = false; backing = None } }
+        ensures { result ≡ record { image = image; number = number; writable = false; backing = None; data_file = None } }
     {
         Qcow2OpenBuilder {
             image,
             number,
             writable: false,
             backing: None,
+            data_file: None,
         }
     }
 
@@ -51,6 +54,15 @@ impl<S: Storage, F: WrappedFormat<S>> Qcow2OpenBuilder<S, F> {
         self
     }
 
+    /// The data file, which then holds guests' data, whether the header asks for one or not. With None a data file that the header
+    /// requires is waived: calls on guests' data are refused 12 (dependency) then.
+    pub fn data_file(mut self, data_file: Option<S>) -> Qcow2OpenBuilder<S, F>
+        ensures { result ≡ record self { data_file = Some data_file } }
+    {
+        self.data_file = Some(data_file);
+        self
+    }
+
     /// Whether the image will be opened for writing.
     pub fn get_writable(&self) -> bool
         ensures { result ≡ self.now.writable }
@@ -60,26 +72,29 @@ impl<S: Storage, F: WrappedFormat<S>> Qcow2OpenBuilder<S, F> {
 
     // The files that are missing.
     fn missing(&self) -> Missing
-        ensures { result ≡ files_missing self.now.backing }
+        ensures { result ≡ files_missing self.now.backing self.now.data_file }
     {
-        if self.backing.is_some() {
-            Missing::DataFile
-        } else {
-            Missing::OtherFiles
+        match (&self.backing, &self.data_file) {
+            (None, None) => Missing::OtherFiles,
+            (None, Some(_)) => Missing::BackingFile,
+            (Some(_), None) => Missing::DataFile,
+            (Some(_), Some(_)) => Missing::Nothing,
         }
     }
 
-    /// Opens the image over the given backing disk. A refusal returns the storage, and drops the backing disk.
+    /// Opens the image over the given backing disk, with the given data file. A refusal returns the storage, and drops these two.
     /// Refused for the header 19 (metadata), 13 (limit), 4 (unaligned table), in this order; then 12 (dependency), before anything is
-    /// written, if the image needs a data file, or names a backing file and `backing` wasn't called; then for the L1 table
-    /// 19; and for writing, for the reftable 13 if it would end past 64 bits, and 19. May be refused
+    /// written, if the image needs a data file and `data_file` wasn't called, or names a backing file and `backing` wasn't called; then for
+    /// the L1 table 19; and for writing, for the reftable 13 if it would end past 64 bits, and 19. May be refused
     /// 14 (memory) or 15 (storage) during the work.
     pub fn open(self, alloc: Global) -> Result<Qcow2<S, F>, (S, ImageError)>
-        ensures step { OpeningStep S.view (S.view self.image) self.writable (files_missing self.backing) result }
+        ensures step { OpeningStep S.view (S.view self.image) self.writable
+            (files_missing self.backing self.data_file) result }
         ensures image { IfOk result (IsNewlyOpened (S.view self.image) self.writable self.number) }
-        ensures over { IfOk result (λ image. image.backing ≡ option_flatten self.backing) }
+        ensures over { IfOk result (λ image. (image.backing ≡ option_flatten self.backing)
+            × (image.data_file ≡ option_flatten self.data_file)) }
         ensures opens { IsHonestBacking S.view F.backing (option_flatten self.backing)
-            → IfOk result (Opens S.view F.backing (S.view self.image)) }
+            → option_flatten self.data_file ≡ None → IfOk result (Opens S.view F.backing (S.view self.image)) }
     {
         let missing = self.missing();
         let Qcow2OpenBuilder {
@@ -87,13 +102,17 @@ impl<S: Storage, F: WrappedFormat<S>> Qcow2OpenBuilder<S, F> {
             number,
             writable,
             backing,
+            data_file,
         } = self;
         let opened = Qcow2::open(alloc, ImageStorage::new(image), writable, number, missing);
         let mut image = match opened {
             Ok(image) => image,
             Err(refused) => return Err(refused),
         };
-        image.backing = backing.flatten();
+        let disk = backing.flatten();
+        let file = data_file.flatten();
+        image.backing = disk;
+        image.data_file = file;
         Ok(image)
     }
 }
@@ -101,7 +120,7 @@ impl<S: Storage, F: WrappedFormat<S>> Qcow2OpenBuilder<S, F> {
 impl<S: Storage, F: WrappedFormat<S>> Qcow2<S, F> {
     /// A builder that opens the image in a storage. Images that are open together must have different numbers.
     pub fn builder(image: S, number: u64) -> Qcow2OpenBuilder<S, F>
-        ensures { result ≡ record { image = image; number = number; writable = false; backing = None } }
+        ensures { result ≡ record { image = image; number = number; writable = false; backing = None; data_file = None } }
     {
         Qcow2OpenBuilder::new(image, number)
     }

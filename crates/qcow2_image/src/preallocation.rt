@@ -1,7 +1,7 @@
 //! Preallocation: zeros are put past the end of a disk before its size grows.
 ghost use Rattle.qcow2_image.specs.SoundParts.{FillsPart};
 ghost use Rattle.qcow2_image.specs.ImageSteps.{FailsUnlimited, ImageFails, ImageStep};
-ghost use Rattle.std.specs.Prelude.{ℕ, List, Option, ◌≡◌, ◌%◌, ◌^◌, ◌<◌, ◌≤◌, Err, IfOk, IfErr, IsTrue, OnOk, max};
+ghost use Rattle.std.specs.Prelude.{ℕ, List, Option, ◌≡◌, ◌%◌, ◌^◌, ◌<◌, ◌≤◌, Err, IfOk, IfErr, IfSome, IsTrue, OnOk, max};
 ghost use Rattle.std.specs.Prelude.{replicate, slice_get, slice_set, None, Ok, Some};
 ghost use Rattle.qcow2_alloc.specs.ImageFile.{known_in};
 ghost use Rattle.qcow2_image.specs.Backings.{HasPinnedMapping};
@@ -15,7 +15,7 @@ ghost use Rattle.qcow2_alloc.specs.ImageStorage.{storage_of, RecordsWrite};
 ghost use Rattle.qcow2_alloc.specs.WriteKinds.{HasDataKind};
 ghost use Rattle.qcow2_alloc.specs.declared.error.ImageError.TheVariants.{Version};
 ghost use Rattle.qcow2_image.specs.declared.prepared.Prepared.{Prepared};
-ghost use Rattle.qcow2_image.specs.CallParts.{WritesBytes};
+ghost use Rattle.qcow2_image.specs.CallParts.{WritesBeside, WritesBytes};
 ghost use Rattle.qcow2_image.specs.Image.{HasNothingToFree, is_writable, size_of};
 ghost use Rattle.qcow2_image.specs.ImageInvariant.{ImageInvariant, pending_in};
 ghost use Rattle.qcow2_image.specs.Preallocation.{AreZeros, CommitsWhole, FillsFirst, FillsGrownOrRefuses};
@@ -88,6 +88,25 @@ impl ZeroWrites {
             ZeroWrites::Plain(zeros) => storage.write_data(at, &zeros[..count as usize]),
         }
     }
+
+    // Writes zeros to a data file.
+    fn write_beside<S: Storage>(
+        &self,
+        file: &mut S,
+        at: u64,
+        count: u64,
+    ) -> Result<(), StorageError>
+        requires few { count ≤ most_of self.now }
+        requires zeros { AreZeros self.now }
+        ensures written { Changes (S.view file.old) (S.view file.new) result (λ b. zeroed b at count) }
+        ensures calls { Calls (S.view file.old) (S.view file.new) result }
+    {
+        match self {
+            ZeroWrites::Short => file.write_zeroes(at, count),
+            ZeroWrites::Taken => file.write_allocated_zeroes(at, count),
+            ZeroWrites::Plain(zeros) => file.write(at, &zeros[..count as usize]),
+        }
+    }
 }
 
 #[tactic(auto, using(crate::proofs::Call::FailingErrors::tables_met, crate::proofs::Call::FailingErrors::storage_met))]
@@ -157,8 +176,36 @@ impl<S: Storage, F: WrappedFormat<S>> Qcow2<S, F> {
         }
     }
 
-    // Puts zeros past the end, in clusters of their own.
+    // Resizes a data file that has data at their guest offsets, and puts zeros past the end, in clusters of their own.
     fn allocate_grown(&mut self, old: u64, size: u64, writes: &ZeroWrites) -> Result<(), ImageError>
+        requires writable { IsTrue (is_writable self.old) }
+        requires few { 2 ^ 21 ≤ most_of writes.now }
+        requires zeros { AreZeros writes.now }
+        ensures step { ImageStep S.view self.old self.new }
+        ensures fails { ImageFails S.view F.backing self.old self.new result (MayFailPreparing self.new) }
+        ensures sound { (out : List (Option Prepared))
+            → ImageInvariant S.view F.backing (pending_in S.view F.backing self.old out) self.old out → old ≤ size
+            → FillsPart (FillsOrRefuses S.view F.backing
+            (rounded_up_to (cluster_size self.old.file.header.fields) size) old
+            (rounded_up_to (cluster_size self.old.file.header.fields) size) self.old self.new out result)
+            (HasNearEntries (rounded_up_to (cluster_size self.old.file.header.fields) size) self.old.file.header.fields
+            → IfErr result (MayFailAllocating (HasPinnedMapping out) (HasPinnedMapping out)
+            (HasCompressedIn old (rounded_up_to
+            (cluster_size self.old.file.header.fields) size) self.old.file.header.fields
+            (known_in S.view self.old.file)) ⊥)) }
+        ensures emptied { HasNothingToFree self.old → OnOk result (HasNothingToFree self.new) }
+    {
+        self.resize_placed_data(size)?;
+        self.fill_new_clusters(old, size, writes)
+    }
+
+    // Puts zeros past the end, in clusters of their own.
+    fn fill_new_clusters(
+        &mut self,
+        old: u64,
+        size: u64,
+        writes: &ZeroWrites,
+    ) -> Result<(), ImageError>
         requires writable { IsTrue (is_writable self.old) }
         requires few { 2 ^ 21 ≤ most_of writes.now }
         requires zeros { AreZeros writes.now }
@@ -333,8 +380,38 @@ impl<S: Storage, F: WrappedFormat<S>> Qcow2<S, F> {
         Ok(next)
     }
 
-    // Writes zeros into a mapping. A place in the header's cluster, which no mapping has, is refused 19 (metadata).
+    // Writes zeros into a mapping, to the data file if there is one. In the image's own file a place in the header's cluster, which no mapping
+    // has, is refused 19 (metadata).
     fn put_zeros(&mut self, host: u64, count: u64, writes: &ZeroWrites) -> Result<(), ImageError>
+        requires few { count ≤ most_of writes.now }
+        requires zeros { AreZeros writes.now }
+        ensures step { ImageStep S.view self.old self.new }
+        ensures fails { FailsUnlimited S.view F.backing self.old self.new result MayFail }
+        ensures fault { cluster_size self.old.file.header.fields ≤ host → IfErr result IsFault }
+        ensures rest { self.new ≡ record self.old {
+          file = record self.old.file { storage = self.new.file.storage };
+          data_file = self.new.data_file;
+        } }
+        ensures written { self.old.data_file ≡ None → WritesBytes S.view self.old self.new host (replicate count 0) result }
+        ensures beside { IfSome self.old.data_file
+            (WritesBeside S.view self.old self.new (λ b. zeroed b host count) result) }
+    {
+        match &mut self.data_file {
+            Some(file) => {
+                let done = writes.write_beside(file, host, count);
+                self.record_data_write(done)
+            }
+            None => self.put_own_zeros(host, count, writes),
+        }
+    }
+
+    // Writes zeros into a mapping in the image's own file. A place in the header's cluster, which no mapping has, is refused 19 (metadata).
+    fn put_own_zeros(
+        &mut self,
+        host: u64,
+        count: u64,
+        writes: &ZeroWrites,
+    ) -> Result<(), ImageError>
         requires few { count ≤ most_of writes.now }
         requires zeros { AreZeros writes.now }
         ensures step { ImageStep S.view self.old self.new }

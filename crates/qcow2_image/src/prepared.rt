@@ -8,7 +8,7 @@ use qcow2_metadata::HostCluster;
 pub(crate) enum ClusterMapping {
     // Not at all: it is copied data, in place.
     InPlace,
-    // As data at the host cluster that its zero entry keeps.
+    // As data at the host cluster that its zero entry keeps, or at its guest offset in the data file.
     Kept,
     // As data in the new cluster, the first field. The clusters that it replaces, the second field, then wait to be freed.
     New {
@@ -17,7 +17,8 @@ pub(crate) enum ClusterMapping {
     },
 }
 
-/// A range of the guest's disk that may be written at one place in the file. It must end in a commit or a discard.
+/// A range of the guest's disk that may be written at one place in the image's file, or in its data file. It must end in a commit or a
+/// discard.
 pub struct Prepared {
     pub(crate) image: u64,
     pub(crate) guest: u64,

@@ -1,5 +1,5 @@
 //! The clusters of a prepared range after its first one.
-ghost use Rattle.qcow2_image.specs.WriteSteps.{AllocatesAt, GainsClusterAt, SharesCluster, AllocatingStep};
+ghost use Rattle.qcow2_image.specs.WriteSteps.{AllocatesAt, AllocatingStep, FillingStep, GainsClusterAt, SharesCluster};
 ghost use Rattle.qcow2_image.specs.SoundParts.{BehindSoundly, RestSoundly};
 ghost use Rattle.qcow2_image.specs.ImageSteps.{ImageFails};
 ghost use Rattle.std.specs.Prelude.{ℕ, List, Option, ◌≡◌, ◌≢◌, ◌+◌, ◌-◌, ◌*◌, ◌%◌, ◌<◌, min, true, Some, None, Ok};
@@ -133,8 +133,35 @@ impl<S: Storage, F: WrappedFormat<S>> Qcow2<S, F> {
                 self.fill_kept(host, next, left, overwrite)?;
                 Ok(Some(ClusterMapping::Kept))
             }
+            None if self.is_placed_by_guest() => {
+                self.cluster_mapping_at_guest(host, next, left, overwrite, &old)
+            }
             None => self.cluster_mapping_at(host, next, left, overwrite, &old),
         }
+    }
+
+    // The mapping of a guest cluster that isn't copied data, at its guest offset in the data file. None if that isn't the given place, or
+    // an L2 entry can't hold it.
+    fn cluster_mapping_at_guest(
+        &mut self,
+        host: u64,
+        offset: u64,
+        length: u64,
+        overwrite: bool,
+        old: &L2Mapping,
+    ) -> Result<Option<ClusterMapping>, ImageError>
+        requires reach { IsInReach old.now }
+        ensures step { FillingStep S.view self.old self.new }
+        ensures fails { ImageFails S.view F.backing self.old self.new result MayFail }
+    {
+        if host != offset {
+            return Ok(None);
+        }
+        let Some(cluster) = self.cluster_of_guest(offset) else {
+            return Ok(None);
+        };
+        self.fill_cluster(cluster, offset, length, overwrite, old)?;
+        Ok(Some(ClusterMapping::Kept))
     }
 
     // The mapping of a guest cluster that isn't copied data, at a place in the file. None if that place can't be allocated.

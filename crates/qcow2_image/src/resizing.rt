@@ -2,7 +2,9 @@
 ghost use Rattle.qcow2_image.specs.L1Entries.{IsPlacedNear};
 ghost use Rattle.qcow2_image.specs.SoundParts.{GrowsSoundly};
 ghost use Rattle.qcow2_image.specs.SizeSteps.{GrowsOrRefuses, ReachesSoundly};
-ghost use Rattle.qcow2_image.specs.ImageSteps.{ImageFails, ImageStep, MarkedStep};
+ghost use Rattle.qcow2_image.specs.Faults.{IsNotOfStorage};
+ghost use Rattle.qcow2_image.specs.ImageSteps.{CallStep, ImageFails, ImageStep, MarkedStep};
+ghost use Rattle.qcow2_image.specs.Noted.{RecordsChanges};
 ghost use Rattle.qcow2_image.specs.BehindHeader.{PreservesHeaderCluster};
 ghost use Rattle.qcow2_alloc.specs.KeptMarks.{HaveRisen, KeepsFileNotes};
 ghost use Rattle.std.specs.Prelude.{List, Option, ◌≡◌, ◌⊎◌, ◌+◌, ◌-◌, ◌<◌, ◌≤◌, max, [], Some, None, Ok, Err, IfErr, IfSome, OnOk, OnErr, IsTrue, MatchOption, false, ◌∷◌};
@@ -32,7 +34,17 @@ use crate::Qcow2;
 use crate::discarding::ClearMode;
 use image_access::{PreallocateMode, Storage, WrappedFormat};
 use qcow2_alloc::{ImageError, WriteKind};
-use qcow2_metadata::GuestOffset;
+use qcow2_metadata::{GuestOffset, MAX_L1_ENTRIES};
+
+// Whether a mode gives the new range clusters of its own.
+fn allocates(mode: PreallocateMode) -> bool {
+    match mode {
+        PreallocateMode::None | PreallocateMode::Zero => false,
+        PreallocateMode::FormatAllocate
+        | PreallocateMode::FullAllocate
+        | PreallocateMode::WriteData => true,
+    }
+}
 
 impl<S: Storage, F: WrappedFormat<S>> Qcow2<S, F> {
     /// Shrinks the disk, and discards the whole clusters past its new end, so that the backing disk shows there if the disk grows again.
@@ -102,9 +114,48 @@ impl<S: Storage, F: WrappedFormat<S>> Qcow2<S, F> {
         Ok(end)
     }
 
+    // Unmaps the whole clusters past a size, step by step, after a data file that has data at their guest offsets was resized. Returns where
+    // it ended, and the refusal if that ends the call. Any other refusal only ends the steps.
+    fn discard_tail(&mut self, size: u64) -> (u64, Option<ImageError>)
+        requires usable { is_failed self.old ≡ false }
+        requires smaller { size < size_of self.old }
+        ensures step { TailStep S.view F.backing result.1 self.old self.new }
+        ensures sound { (out : List (Option Prepared))
+            → ImageInvariant S.view F.backing (pending_in S.view F.backing self.old out) self.old out
+            → DiscardsSoundly S.view F.backing size result.0 result.1 self.old self.new out }
+    {
+        if self.is_placed_by_guest() {
+            return self.discard_tail_beside(size);
+        }
+        self.unmap_tail(size)
+    }
+
+    // Resizes the data file, and unmaps the whole clusters past a size.
+    fn discard_tail_beside(&mut self, size: u64) -> (u64, Option<ImageError>)
+        requires usable { is_failed self.old ≡ false }
+        requires smaller { size < size_of self.old }
+        ensures step { TailStep S.view F.backing result.1 self.old self.new }
+    {
+        if let Err(refusal) = self.shrink_data_file(size) {
+            return (self.file.header.size(), Some(refusal));
+        }
+        self.unmap_tail(size)
+    }
+
+    // Resizes the data file, as a call of its own.
+    fn shrink_data_file(&mut self, size: u64) -> Result<(), ImageError>
+        ensures step { CallStep S.view F.backing self.old self.new result }
+        ensures cause { IfErr result IsFault }
+        ensures since { RecordsChanges S.view self.old self.new }
+    {
+        self.begin_call();
+        let resized = self.resize_data_file(size);
+        self.mark_failure(resized)
+    }
+
     // Unmaps the whole clusters past a size, step by step. Returns where it ended, and the refusal if that ends the call. Any other refusal only
     // ends the steps.
-    fn discard_tail(&mut self, size: u64) -> (u64, Option<ImageError>)
+    fn unmap_tail(&mut self, size: u64) -> (u64, Option<ImageError>)
         requires usable { is_failed self.old ≡ false }
         requires smaller { size < size_of self.old }
         ensures step { TailStep S.view F.backing result.1 self.old self.new }
@@ -227,7 +278,7 @@ impl<S: Storage, F: WrappedFormat<S>> Qcow2<S, F> {
         ensures sees { GrowsTo S.view F.backing self.old self.new size mode result }
     {
         self.begin_call();
-        let longer = self.lengthen_l1_table(size - 1);
+        let longer = self.lengthen_files(size, mode);
         self.mark_failure(longer)?;
         let end = self.file.header.size();
         let filled = self.fill_grown(end, size, mode);
@@ -248,6 +299,77 @@ impl<S: Storage, F: WrappedFormat<S>> Qcow2<S, F> {
         ensures fault { IfErr done (λ e. IsFault e → IsTrue (is_failed self.new)) }
     {
         self.mark_failure(done)
+    }
+
+    // Lengthens the L1 table for a size. Before that it grows a data file that has data at their guest offsets, if the mode allocates no
+    // clusters and the L1 table wouldn't be too long.
+    fn lengthen_files(&mut self, size: u64, mode: PreallocateMode) -> Result<(), ImageError>
+        requires some { 0 < size }
+        requires writable { IsTrue (is_writable self.old) }
+        ensures step { ImageStep S.view self.old self.new }
+        ensures fails { ImageFails S.view F.backing self.old self.new result MayFail }
+        ensures recorded { OnOk result (IsTrue self.new.file.caches.is_changed) }
+        ensures placed { self.old.l1_table.cluster_bits ≡ self.old.file.header.fields.cluster_bits
+            → OnOk result (IsPlacedNear self.new.l1_table) }
+        ensures length { OnOk result (entry_count self.new.l1_table ≡ max (entry_count self.old.l1_table)
+            (l1_index_of self.old.file.header.fields (size - 1) + 1)) }
+        ensures emptied { OnOk result (HasNothingToFree self.new) }
+        ensures sound { (out : List (Option Prepared))
+            → ImageInvariant S.view F.backing (pending_in S.view F.backing self.old out) self.old out
+            → ReachesSoundly S.view F.backing (size - 1) self.old self.new out result }
+        ensures lasts { (out : List (Option Prepared))
+            → ImageInvariant S.view F.backing (pending_in S.view F.backing self.old out) self.old out
+            → LastsPart S.view self.old self.new result }
+    {
+        self.lengthen_data_file(size, mode)?;
+        self.lengthen_l1_table(size - 1)
+    }
+
+    // Grows a data file that has data at their guest offsets, if the mode allocates no clusters.
+    fn lengthen_data_file(&mut self, size: u64, mode: PreallocateMode) -> Result<(), ImageError>
+        requires some { 0 < size }
+        ensures step { ImageStep S.view self.old self.new }
+        ensures fails { ImageFails S.view F.backing self.old self.new result MayFail }
+        ensures none { self.old.data_file ≡ None → (result ≡ Ok tt) × (self.new ≡ self.old) }
+        ensures rest { self.new ≡ record self.old {
+          file = record self.old.file { storage = self.new.file.storage };
+          data_file = self.new.data_file;
+        } }
+    {
+        if allocates(mode) {
+            return Ok(());
+        }
+        if self.is_placed_by_guest() {
+            return self.lengthen_placed_data(size);
+        }
+        Ok(())
+    }
+
+    // Grows the data file, if the L1 table wouldn't be too long for the size.
+    fn lengthen_placed_data(&mut self, size: u64) -> Result<(), ImageError>
+        requires some { 0 < size }
+        ensures step { ImageStep S.view self.old self.new }
+        ensures fails { ImageFails S.view F.backing self.old self.new result MayFail }
+        ensures rest { self.new ≡ record self.old {
+          file = record self.old.file { storage = self.new.file.storage };
+          data_file = self.new.data_file;
+        } }
+    {
+        self.check_l1_length(size)?;
+        self.resize_data_file(size)
+    }
+
+    // Refused 13 (limit) if the L1 table would be too long for a size.
+    fn check_l1_length(&self, size: u64) -> Result<(), ImageError>
+        requires some { 0 < size }
+        ensures cause { IfErr result MayFail }
+        ensures faults { IfErr result IsNotOfStorage }
+    {
+        let index = GuestOffset::new(size - 1).l1_index(self.file.header.cluster_bits());
+        if index >= MAX_L1_ENTRIES {
+            return Err(ImageError::Limit);
+        }
+        Ok(())
     }
 
     // Replaces the L1 table by one that has an entry for an offset, and all old entries. The clusters of the old one are freed then. After

@@ -1,6 +1,6 @@
-//! The storages of an image: its own, and those of its backing disk.
+//! The storages of an image: its own, those of its backing disk, and its data file.
 ghost use Rattle.qcow2_image.specs.ImageSteps.{ImageFails, ReadingCall, ReadingStep};
-ghost use Rattle.std.specs.Prelude.{◌≡◌, List, [], Option, map, false, IfOk, IfErr, IsTrue, Err};
+ghost use Rattle.std.specs.Prelude.{◌≡◌, List, [], None, Option, map, false, IfOk, IfErr, IsTrue, Err};
 ghost use Rattle.qcow2_alloc.specs.ImageError.{IsFault};
 ghost use Rattle.qcow2_alloc.specs.ImageFile.{view_in};
 ghost use Rattle.qcow2_alloc.specs.declared.error.ImageError.TheVariants.{Failed, Memory};
@@ -20,8 +20,8 @@ use std::alloc::Global;
 use std::fmt;
 
 impl<S: Storage, F: WrappedFormat<S>> Qcow2<S, F> {
-    /// Returns once everything that was written to the storage would survive a power loss. Cached tables are not written: call
-    /// `flush` before. Refused 16 (failed), then 14 (memory) and 15 (storage), as the storage refuses.
+    /// Returns once everything that was written to the storage and to the data file would survive a power loss. Cached tables are not
+    /// written: call `flush` before. Refused 16 (failed), then 14 (memory) and 15 (storage), as the two refuse.
     pub fn sync(&mut self) -> Result<(), ImageError>
         ensures step { ReadingCall S.view F.backing self.old self.new result }
         ensures early { IsTrue (is_failed self.old) → (result ≡ Err Failed) × (self.new ≡ self.old) }
@@ -34,8 +34,21 @@ impl<S: Storage, F: WrappedFormat<S>> Qcow2<S, F> {
             return Err(ImageError::Failed);
         }
         self.begin_call();
-        let done = self.sync_storage();
+        let done = self.sync_storages();
         self.mark_failure(done)
+    }
+
+    // Syncs the storage, then the data file.
+    fn sync_storages(&mut self) -> Result<(), ImageError>
+        ensures step { ReadingStep S.view self.old self.new }
+        ensures fails { ImageFails S.view F.backing self.old self.new result IsFault }
+        ensures silent { (view_in S.view self.old.file).is_honest
+            → ContentsStayThroughout (view_in S.view self.old.file) (view_in S.view self.new.file) }
+        ensures keeps { (p : Pending) (out : List (Option Prepared)) → ImageInvariant S.view F.backing p self.old out
+            → InternalStep S.view F.backing p p self.old self.new out }
+    {
+        self.sync_storage()?;
+        self.sync_data_file()
     }
 
     fn sync_storage(&mut self) -> Result<(), ImageError>
@@ -50,9 +63,23 @@ impl<S: Storage, F: WrappedFormat<S>> Qcow2<S, F> {
         Ok(())
     }
 
-    /// The storages of the image: those of its backing disk, then its own. A failed image returns them too. Refused 14 (memory).
+    /// The storages of the image: those of its backing disk, then its own, then the data file. A failed image returns them too.
+    /// Refused 14 (memory).
     pub fn collect_storage_dependencies(&self, alloc: Global) -> Result<Vec<&S>, ImageError>
         ensures listed { IfOk result (λ found. map (λ s. s.now) found.items ≡ storages_of F.dependencies self.now) }
+        ensures cause { IfErr result (λ e. e ≡ Memory) }
+    {
+        let mut found = self.storages_without_data_file(alloc)?;
+        if let Some(file) = &self.data_file {
+            found.push(file)?;
+        }
+        Ok(found)
+    }
+
+    // The storages of the backing disk, and the image's own.
+    fn storages_without_data_file(&self, alloc: Global) -> Result<Vec<&S>, ImageError>
+        ensures listed { IfOk result (λ found. map (λ s. s.now) found.items
+            ≡ storages_of F.dependencies (record self.now { data_file = None })) }
         ensures cause { IfErr result (λ e. e ≡ Memory) }
     {
         let mut found = match &self.backing {

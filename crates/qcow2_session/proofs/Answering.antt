@@ -1,16 +1,16 @@
 -- Which replies a command may get: a failed image refuses before everything else, and what is done lies within the size.
 use Rattle.std.proofs.Common.{◌≡◌, ◌+◌, ◌≤◌, ◌<◌, inl, inr, ℕ, Bool, true, IsTrue, ap, ◌∙◌, subst, arith, List, length, Option, Some, None, Result, Ok, Err}
-use Rattle.qcow2_session.proofs.Common.{IfSome, option_or, cases_lt, cases_Bool, cond-true, cond-false, common_steps, BackingView, StorageView, ImageError, AbstractImage, another, read, write, get_mapping, prepare, done, bytes_are, prepared_is, refused, write_refused, IsAnswer, Qcow2, Prepared, CommitRefused, Kept, Spent, refusal_of, is_failed, is_external, is_writable, size_of, HasNothingToFree, abstract_of, to_free, of_tables, of_data, refuse_if, passes, unusable, refuses_to_read, refuses_to_prepare, refuses_mapping, disk_size, sound_is_usable}
+use Rattle.qcow2_session.proofs.Common.{IfSome, option_or, cases_lt, cases_Bool, cond-true, cond-false, common_steps, BackingView, StorageView, ImageError, AbstractImage, another, read, write, get_mapping, prepare, done, bytes_are, prepared_is, refused, write_refused, IsAnswer, Qcow2, Prepared, CommitRefused, Kept, Spent, refusal_of, is_failed, lacks_data_file, is_writable, size_of, HasNothingToFree, abstract_of, to_free, of_tables, of_data, refuse_if, passes, unusable, refuses_to_read, refuses_to_prepare, refuses_mapping, disk_size, sound_is_usable}
 use Rattle.qcow2_alloc.specs.declared.error.ImageError.TheVariants as I
 
 -- ---- a failed image
 
 module _ {S F : Type 0} (image : Qcow2 S F) (P : ImageError → Type 0) where
   pub first_of_all : (more : Option ImageError) → IfSome (option_or (unusable image) more) P → IsTrue (is_failed image) → P I.Failed
-  first_of_all more early failed = subst (λ b. IfSome (option_or (option_or (refuse_if b I.Failed) (refuse_if (is_external image) I.Dependency)) more) P) failed early
+  first_of_all more early failed = subst (λ b. IfSome (option_or (option_or (refuse_if b I.Failed) (refuse_if (lacks_data_file image) I.Dependency)) more) P) failed early
 
   pub unusable_first : IfSome (unusable image) P → IsTrue (is_failed image) → P I.Failed
-  unusable_first early failed = subst (λ b. IfSome (option_or (refuse_if b I.Failed) (refuse_if (is_external image) I.Dependency)) P) failed early
+  unusable_first early failed = subst (λ b. IfSome (option_or (refuse_if b I.Failed) (refuse_if (lacks_data_file image) I.Dependency)) P) failed early
 
   pub reading_first : (offset n : ℕ) → IfSome (refuses_to_read image offset n) P → IsTrue (is_failed image) → P I.Failed
   reading_first offset n early failed = first_of_all _ early failed

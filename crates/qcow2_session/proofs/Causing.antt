@@ -3,7 +3,7 @@ use Rattle.qcow2_alloc.specs.declared.error.ImageError.TheVariants as I
 use Rattle.qcow2_session.specs.declared.session.Command.TheVariants as C
 use Rattle.qcow2_session.specs.declared.session.Reply.TheVariants as R
 use Rattle.std.proofs.Common.{◌≡◌, ◌⊎◌, ◌+◌, ◌<◌, ◌≤◌, ◌&&◌, ◌==◌, inl, inr, ℕ, Bool, true, false, not, IsTrue, List, Option, Some, None, Bor, refl, sym, ap, ◌∙◌, subst, arith, IfErr, Result, Ok, Err, is_some}
-use Rattle.qcow2_session.proofs.Common.{Global, Vec, nat_lt, IfSome, IfOk, IsSome, MatchOption, slice_get, option_or, cases_lt, eq-eqb, lt-ltb, ltb-true, common_steps, BackingView, StorageView, Clearing, known_in, ImageError, IsUnderMapping, from_in, refuses_clearing, to_in, is_external, is_failed, number_of, abstract_of, MayFailAlone, MayFailReadingRange, MayFailAllocating, Qcow2, Mapping, CommitRefused, Kept, Prepared, IsHandedBackBy, MayFailToRead, MayFailPreparing, passes, refuse_if, refuses_mapping, refuses_to_read, unusable, HasNothingToDo, MayFailOnSound, MayFailReadingFrom, RefusalJustified, IsUntouchedUnder, MayFailWith, ReportsMisuse, first_cause, ClearingMayFail, CommandMayFailAllocating, reply_of_clearing, refusal_in, IsOfReading, Command, Reply, and_parts}
+use Rattle.qcow2_session.proofs.Common.{Global, Vec, nat_lt, IfSome, IfOk, IsSome, MatchOption, slice_get, option_or, cases_lt, eq-eqb, lt-ltb, ltb-true, common_steps, BackingView, StorageView, Clearing, known_in, ImageError, IsUnderMapping, from_in, refuses_clearing, to_in, lacks_data_file, is_failed, number_of, abstract_of, MayFailAlone, MayFailReadingRange, MayFailAllocating, Qcow2, Mapping, CommitRefused, Kept, Prepared, IsHandedBackBy, MayFailToRead, MayFailPreparing, passes, refuse_if, refuses_mapping, refuses_to_read, unusable, HasNothingToDo, MayFailOnSound, MayFailReadingFrom, RefusalJustified, IsUntouchedUnder, MayFailWith, ReportsMisuse, first_cause, ClearingMayFail, CommandMayFailAllocating, reply_of_clearing, refusal_in, IsOfReading, Command, Reply, and_parts}
 use Rattle.qcow2_alloc.proofs.CachedEntries.Lists.{option_or-none}
 
 -- ---- what was refused at once
@@ -33,7 +33,7 @@ not_failed false none = refl
 
 -- what a lookup is refused for, a read may be
 pub mapping_reading : {S F : Type 0} (A X : Type 0) (image : Qcow2 S F) (e : ImageError) → IfSome (unusable image) (λ x. (◌≡◌ {A = Result A ImageError} (Err e) (Err x)) × X) → (unusable image ≡ None → MayFailToRead e) → IsOfReading e
-mapping_reading A X image e early late = by (is_failed image) (is_external image) early late
+mapping_reading A X image e early late = by (is_failed image) (lacks_data_file image) early late
   where
     by : (a b : Bool) → IfSome (option_or (refuse_if a I.Failed) (refuse_if b I.Dependency)) (λ x. (◌≡◌ {A = Result A ImageError} (Err e) (Err x)) × X) → (option_or (refuse_if a I.Failed) (refuse_if b I.Dependency) ≡ None → MayFailToRead e) → IsOfReading e
     by true b early late = inr (inr (inl (same_error early.0)))

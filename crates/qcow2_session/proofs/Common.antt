@@ -54,7 +54,7 @@ pub use Rattle.qcow2_image.specs.Clearing.{IsUnderMapping, from_in, refuses_clea
 pub use Rattle.qcow2_image.specs.Faults.{CountsImageFaults, IsNotOfStorage, SameFaults, NoFewerFaults, ReportsFault}
 pub use Rattle.qcow2_image.specs.Found.{l1_index_of, IsFoundWhole, found_kind, further_by, mapping_of}
 pub use Rattle.qcow2_image.specs.HeldMappings.{FitsTables, IsCompressedInTables, IsHeldAs, IsHeldRun, RefusesHeld}
-pub use Rattle.qcow2_image.specs.Image.{HasPinnedTable, is_failed, is_external, is_writable, size_of, number_of, IsSameImage, storage_of_image, HasNothingToFree}
+pub use Rattle.qcow2_image.specs.Image.{HasPinnedTable, is_beside, place_in, is_failed, lacks_data_file, is_writable, size_of, number_of, IsSameImage, storage_of_image, HasNothingToFree}
 pub use Rattle.qcow2_image.specs.ImageInvariant.{abstract_of, ImageInvariant, disk_of, pending_in, meaning, backing_bytes, IsReadyWith, image_abstraction, to_free, of_tables, of_data, IsPending, cluster_of, pins_by, IsHonestBacking}
 pub use Rattle.qcow2_image.specs.L1Entries.{NeedsOverflowingL1Entry}
 pub use Rattle.qcow2_image.specs.Limits.{IsLimited, IfLimit}
@@ -64,7 +64,7 @@ pub use Rattle.qcow2_image.specs.MayFail.{CopiesCompressed, MayFailReadingRange,
 pub use Rattle.qcow2_image.specs.Noted.{CountsImageChanges, CommitFailsOnceWritten, FailsOnceWritten}
 pub use Rattle.qcow2_image.specs.Opened.{IsKeptSince, Opens}
 pub use Rattle.qcow2_image.specs.Preallocation.{IsUnderMappingIn}
-pub use Rattle.qcow2_image.specs.Prepared.{IsHandedBackBy, guest_offset_of, length_of, offset_of, table_of, image_of}
+pub use Rattle.qcow2_image.specs.Prepared.{file_of, IsHandedBackBy, guest_offset_of, length_of, offset_of, table_of, image_of}
 pub use Rattle.qcow2_image.specs.Preparing.{IsAnswered, IsTaken, IsOfNothing}
 pub use Rattle.qcow2_image.specs.Ranges.{ReleasesOneMapping}
 pub use Rattle.qcow2_image.specs.PinnedTables.{ExistsInTables}
@@ -74,7 +74,7 @@ pub use Rattle.qcow2_image.specs.Unwritten.{ReadsQuietly, ContentsStayThroughout
 pub use Rattle.qcow2_image.specs.declared.image.Missing.{Missing}
 pub use Rattle.qcow2_image.specs.declared.image.Qcow2.{Qcow2}
 pub use Rattle.qcow2_image.specs.declared.mapping.Mapping.{Mapping}
-pub use Rattle.qcow2_image.specs.declared.mapping.Place.TheVariants.{Image}
+pub use Rattle.qcow2_image.specs.declared.mapping.Place.TheVariants.{Image, DataFile}
 pub use Rattle.qcow2_image.specs.declared.prepared.CommitRefused.{CommitRefused}
 pub use Rattle.qcow2_image.specs.declared.prepared.CommitRefused.TheVariants.{Kept, Spent}
 pub use Rattle.qcow2_image.specs.declared.prepared.Prepared.{Prepared}

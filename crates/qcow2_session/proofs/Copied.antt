@@ -1,6 +1,7 @@
 -- What a write leaves: copied data, in the image's own file.
 use Rattle.std.proofs.Common.{◌≡◌, ◌+◌, ◌-◌, ◌*◌, ◌/◌, ◌%◌, ◌^◌, ◌<◌, ◌≤◌, ◌∷◌, ⊎_elim, inl, inr, ℕ, Bool, true, false, Option, Some, None, List, [], drop, length, take, is_some, refl, sym, ap, ◌∙◌, subst, arith, Ok, not}
-use Rattle.qcow2_session.proofs.Common.{IsSome, common_steps, div-div-eq-div-mul, cases_lt, cond-false, le-ltb, div-add-mod', div-mul-add, mod_below, pow_pos, BackingView, StorageView, Bytes, cover, cluster_size, entries_per_cluster, HeaderFields, L2Mapping, Data, Zero, Compressed, Uncovered, Setting, AreDataAt, IsAlike, IsDataAt, EffectOnSound, kind_at, raw, rest_of_table, given_of, is_copied_data, IsRightlyWritten, GivenBytes, IsUngiven, Touches, contents_in, known_in, IsEntryAt, ShowsKnown, header_is, l1_index_of, mapping_of, abstract_of, meaning, pending_in, ImageInvariant, guest_offset_of, length_of, offset_of, IsAnswered, Prepares, StandsByPart, LeavesCopied, Writes, ReleasesOneMapping, Qcow2, Image, Prepared}
+use Rattle.qcow2_image.specs.Found.{kind_in}
+use Rattle.qcow2_session.proofs.Common.{IsSome, common_steps, div-div-eq-div-mul, cases_lt, cond-false, le-ltb, div-add-mod', div-mul-add, mod_below, pow_pos, BackingView, StorageView, Bytes, cover, cluster_size, entries_per_cluster, HeaderFields, L2Mapping, Data, Zero, Compressed, Uncovered, Setting, AreDataAt, IsAlike, IsDataAt, EffectOnSound, raw, rest_of_table, given_of, is_copied_data, IsRightlyWritten, GivenBytes, IsUngiven, Touches, contents_in, known_in, IsEntryAt, ShowsKnown, header_is, l1_index_of, mapping_of, abstract_of, meaning, pending_in, ImageInvariant, is_beside, guest_offset_of, length_of, offset_of, IsAnswered, Prepares, StandsByPart, LeavesCopied, Writes, ReleasesOneMapping, Qcow2, Prepared}
 use Rattle.std.proofs.Math.Pow.{shr_mono}
 use Rattle.qcow2_metadata.specs.Entries.{host_offset, l1_entry}
 use Rattle.qcow2_alloc.proofs.KeptTables.Mapping.{shown_if}
@@ -9,7 +10,9 @@ use Rattle.qcow2_image.specs.CallParts.{AreCopied}
 use Rattle.qcow2_image.specs.HeldMappings.{IsHeldAs, IsMappedByNamed, named_place}
 use Rattle.qcow2_image.proofs.Preallocate.FilledGrowth.{up_least}
 use Rattle.qcow2_session.proofs.WrittenParts.{writes_none, writes_on}
+use Rattle.qcow2_image.specs.Found.{is_data_file}
 use Rattle.qcow2_image.specs.declared.mapping.MappingKind.TheVariants.{Raw}
+use Rattle.qcow2_image.specs.declared.mapping.Place.{Place}
 
 -- what is reported as writable is copied data there
 record IsCopiedFrom (h : HeaderFields) (offset place : ℕ) (m : L2Mapping) : Type 0 where
@@ -17,15 +20,15 @@ record IsCopiedFrom (h : HeaderFields) (offset place : ℕ) (m : L2Mapping) : Ty
   is : m ≡ Data host true
   place_is : host + offset % cluster_size h ≡ place
 
-raw_copied : (h : HeaderFields) (is_backed : Bool) (offset place : ℕ) (m : L2Mapping) → raw false place true ≡ kind_at h is_backed offset m → IsCopiedFrom h offset place m
-raw_copied h is_backed offset place (Data host copied) is =
+raw_copied : (h : HeaderFields) (external is_beside is_backed : Bool) (offset place : ℕ) (m : L2Mapping) → raw external place true ≡ kind_in h is_beside is_backed offset m → IsCopiedFrom h offset place m
+raw_copied h external is_beside is_backed offset place (Data host copied) is =
     let marked : true ≡ copied = cc in
     let there : place ≡ host + offset % cluster_size h = cc in
     record { host = host; is = ap (Data host) (sym marked); place_is = sym there }
-raw_copied h is_backed offset place (Zero kept) is = absurd cc
-raw_copied h is_backed offset place (Compressed host sectors) is = absurd cc
-raw_copied h true offset place Uncovered is = absurd cc
-raw_copied h false offset place Uncovered is = absurd cc
+raw_copied h external is_beside is_backed offset place (Zero kept) is = absurd cc
+raw_copied h external is_beside is_backed offset place (Compressed host sectors) is = absurd cc
+raw_copied h external is_beside true offset place Uncovered is = absurd cc
+raw_copied h external is_beside false offset place Uncovered is = absurd cc
 
 same_host : (host other : ℕ) (copied : Bool) → Data host copied ≡ Data other true → (host ≡ other) × (copied ≡ true)
 same_host host other copied is = (cc, cc)
@@ -126,12 +129,12 @@ module _ {S F : Type 0} (view : S → StorageView) where
           record { real = λ none. named (sym named_known ∙ none); place = named_known ∙ omega (arith, split, aligned); within = lt }
 
     -- a byte of a range that the tables in memory map as copied data is copied data in the known contents
-    held_data : (offset place n i : ℕ) → IsHeldAs image offset (Raw Image place true) n → i < n → IsDataAt h known true (offset + i) (place + i)
-    held_data offset place n i held lt = ⊎_elim
-        (λ none. absurd (let no : false ≡ true = ap is_copied_data (raw_copied h (is_some image.backing) offset place Uncovered none.kind_is).is in cc)) (λ by. by_table by)
+    held_data : (file : Place) (offset place n i : ℕ) → IsHeldAs image offset (Raw file place true) n → i < n → IsDataAt h known true (offset + i) (place + i)
+    held_data file offset place n i held lt = ⊎_elim
+        (λ none. absurd (let no : false ≡ true = ap is_copied_data (raw_copied h (is_data_file file) (is_beside image) (is_some image.backing) offset place Uncovered none.kind_is).is in cc)) (λ by. by_table by)
         held.mapped
       where
-        by_table : IsMappedByNamed h (is_some image.backing) image.l1_table image.file.caches offset (Raw Image place true) n → IsDataAt h known true (offset + i) (place + i)
+        by_table : IsMappedByNamed h (is_beside image) (is_some image.backing) image.l1_table image.file.caches offset (Raw file place true) n → IsDataAt h known true (offset + i) (place + i)
         by_table by =
             let t = by.table in
             let size = cluster_size h in
@@ -141,7 +144,7 @@ module _ {S F : Type 0} (view : S → StorageView) where
             let at = λ (g : ℕ). named_at offset by.named (g % entries_per_cluster h) (mod_below g (entries_per_cluster h) (has_entries h offset i reach)) in
             let bits = (shows h (pending_in view backing image out) (contents_in view image.file) (l1_index_of h offset) (offset / size % entries_per_cluster h) sound.file.caches (at (offset / size))).format.bits in
             let says = λ (g : ℕ) (here : g / entries_per_cluster h ≡ l1_index_of h offset). cached_says view image.file (pending_in view backing image out) t (named_place h image.l1_table offset / size) (l1_index_of h offset) g sound.file shows (at g) here in
-            let first = raw_copied h (is_some image.backing) offset place (mapping_of t (offset / size)) by.mapped.first in
+            let first = raw_copied h (is_data_file file) (is_beside image) (is_some image.backing) offset place (mapping_of t (offset / size)) by.mapped.first in
             let there = first.place_is in
             let begins = div-add-mod' offset size in
             let ends = div-add-mod' (offset + i) size in
@@ -165,13 +168,13 @@ module _ {S F : Type 0} (view : S → StorageView) where
             ]
 
     -- so does the range that was put at the begin of a mapping, once that was let go
-    pub kept_data : (new : Qcow2 S F) (offset place m n : ℕ) → m ≡ n → ReleasesOneMapping view image new → IsHeldAs image (offset + 0) (Raw Image (place + 0) true) m → AreDataAt new.file.header.fields (known_in view new.file) true offset place n
-    kept_data new offset place m n long released held i lt =
+    pub kept_data : (new : Qcow2 S F) (file : Place) (offset place m n : ℕ) → m ≡ n → ReleasesOneMapping view image new → IsHeldAs image (offset + 0) (Raw file (place + 0) true) m → AreDataAt new.file.header.fields (known_in view new.file) true offset place n
+    kept_data new file offset place m n long released held i lt =
         let begin : offset + 0 + i ≡ offset + i = omega arith in
         let at : place + 0 + i ≡ place + i = omega arith in
         subst (λ (f : HeaderFields). IsDataAt f (known_in view new.file) true (offset + i) (place + i)) (sym (ap (λ (q : Qcow2 S F). q.file.header.fields) released.rest))
         (subst (λ (b : Bytes). IsDataAt h b true (offset + i) (place + i)) (sym released.known)
-        (subst (λ o. IsDataAt h known true o (place + i)) begin (subst (IsDataAt h known true (offset + 0 + i)) at (held_data (offset + 0) (place + 0) m i held (omega (arith, lt, long))))))
+        (subst (λ o. IsDataAt h known true o (place + i)) begin (subst (IsDataAt h known true (offset + 0 + i)) at (held_data file (offset + 0) (place + 0) m i held (omega (arith, lt, long))))))
 
 -- a mapping is existing, or it isn't
 pub existing_or_not : {X : Type 0} (table : Option ℕ) → (table ≡ None → X) → (IsSome table → X) → X

@@ -13,10 +13,10 @@ raw_fault S.Memory before now cause is = absurd (let no : I.Memory ≡ I.Storage
 module _ {S F : Type 0} (view : S → StorageView) (backing : F → BackingView) where
   -- nothing failed where nothing was called
   pub none_counted : (image : Qcow2 S F) → SameFaults view backing image image
-  none_counted image = untouched view backing image image refl refl
+  none_counted image = untouched view backing image image refl refl refl
 
   pub fewer_since : (old mid new : Qcow2 S F) → SameFaults view backing old mid → NoFewerFaults view backing mid new → NoFewerFaults view backing old new
-  fewer_since old mid new first last = record { storage = omega (arith, first.storage, last.storage); below = omega (arith, first.below, last.below) }
+  fewer_since old mid new first last = record { storage = omega (arith, first.storage, last.storage); below = omega (arith, first.below, last.below); beside = omega (arith, first.beside, last.beside) }
 
   -- a refused commit that follows others
   pub commit_since : {T : Type 0} (old mid new : Qcow2 S F) (r : CommitRefused) (e : ImageError) → reason_of r ≡ e → SameFaults view backing old mid

@@ -1,6 +1,6 @@
 -- Bytes that the disk already has are never refused as ones that may not be written.
 use Rattle.std.proofs.Common.{◌≡◌, ◌+◌, ◌<◌, ◌≤◌, ◌∷◌, inl, inr, ℕ, Bool, true, false, List, [], take, length, refl, sym, ap, ◌∙◌, subst, arith, IfErr, Option, Result, Ok, Err}
-use Rattle.qcow2_session.proofs.Common.{MatchOption, option_or, BackingView, bytes_at, HasCause, StorageView, StorageError, same_contents, length-bytes_at, byte_at-bytes_at, known_byte, Disk, with_bytes, given_of, Guest, guest_of, AnsweredEffect, Shows, with_disk, of_storage, ImageError, is_external, is_failed, size_of, MayFailToRead, passes, refuse_if, refuses_to_read, Qcow2, Prepared, abstract_of, IsOfReading, ReadsInto, DiffersWhereKept, IsKeptFromWriting, IsRefusedUnequal}
+use Rattle.qcow2_session.proofs.Common.{MatchOption, option_or, BackingView, bytes_at, HasCause, StorageView, StorageError, same_contents, length-bytes_at, byte_at-bytes_at, known_byte, Disk, with_bytes, given_of, Guest, guest_of, AnsweredEffect, Shows, with_disk, of_storage, ImageError, lacks_data_file, is_failed, size_of, MayFailToRead, passes, refuse_if, refuses_to_read, Qcow2, Prepared, abstract_of, IsOfReading, ReadsInto, DiffersWhereKept, IsKeptFromWriting, IsRefusedUnequal}
 use Rattle.image_access.specs.declared.error.StorageError.TheVariants as S
 use Rattle.qcow2_alloc.specs.declared.error.ImageError.TheVariants as I
 use Rattle.qcow2_session.proofs.Lemmas.{cut_part, cut_short, shows_as, shown_same}
@@ -32,7 +32,7 @@ option_other (inr is) = let no : I.InvalidOption ≡ I.TablePrepared = is in cc
 
 -- what refuses a read before any work
 pub early_reading : {S F : Type 0} (image : Qcow2 S F) (at n : ℕ) (r : Result (Unit {0}) ImageError) → MatchOption (refuses_to_read image at n) (r ≡ Ok tt) (λ e. r ≡ Err e) → IfErr r IsOfReading
-early_reading image at n r told = by (is_failed image) (is_external image) (passes (size_of image) at n) told
+early_reading image at n r told = by (is_failed image) (lacks_data_file image) (passes (size_of image) at n) told
   where
     by : (a b p : Bool) → MatchOption (option_or (option_or (refuse_if a I.Failed) (refuse_if b I.Dependency)) (refuse_if p I.BeyondSize)) (r ≡ Ok tt) (λ e. r ≡ Err e) → IfErr r IsOfReading
     by true b p is = subst (λ (q : Result (Unit {0}) ImageError). IfErr q IsOfReading) (sym is) (inr (inr (inl refl)))

@@ -1,10 +1,11 @@
 -- Why reads, lookups and writes of a sound image are refused.
 use Rattle.qcow2_alloc.specs.declared.error.ImageError.TheVariants as I
 use Rattle.qcow2_image.specs.declared.mapping.MappingKind.TheVariants as M
-use Rattle.std.proofs.Common.{◌≡◌, ◌+◌, ◌-◌, ◌*◌, ◌/◌, ◌%◌, ◌^◌, ◌<◌, ◌≤◌, ◌∷◌, ◌&&◌, inl, inr, ℕ, zero, suc, Bool, true, false, List, [], Option, Some, None, refl, sym, ap, ◌∙◌, subst, arith, pow_mono, ⊎_elim, is_some}
-use Rattle.qcow2_session.proofs.Common.{IsNone, IsSome, slice_get, cases_lt, common_steps, div-add-mod', mod_below, pow_pos, BackingView, StorageView, Bytes, is_within, cover, cluster_size, header, HeaderFields, L2Mapping, Compressed, Data, Uncovered, Zero, AreDataAt, EffectOnSound, Kind, IsCompressed, IsFoundIn, eof, indirect, kind_at, raw, rest_of_table, special, zeros, Touches, contents_in, known_in, ImageError, header_is, HasPinnedMapping, IsFoundWhole, found_kind, further_by, size_of, ImageInvariant, IsReadyWith, abstract_of, meaning, pending_in, IsUnlimited, fault_unlimited, CopiesCompressed, HasCompressedIn, IsCacheHeld, MayFailLooking, MayFailMapped, MayFailPutting, MayFailReadingRange, IsSpecial, MayFailLookingAgain, guest_offset_of, length_of, offset_of, table_of, IsAnswered, Qcow2, Image, Prepared}
+use Rattle.std.proofs.Common.{if◌then◌else◌, ◌≡◌, ◌+◌, ◌-◌, ◌*◌, ◌/◌, ◌%◌, ◌^◌, ◌<◌, ◌≤◌, ◌∷◌, ◌&&◌, inl, inr, ℕ, zero, suc, Bool, true, false, List, [], Option, Some, None, refl, sym, ap, ◌∙◌, subst, arith, pow_mono, ⊎_elim, is_some}
+use Rattle.qcow2_image.specs.declared.mapping.Place.TheVariants.{DataFile}
+use Rattle.qcow2_session.proofs.Common.{file_of, place_in, IsNone, IsSome, slice_get, cases_lt, common_steps, div-add-mod', mod_below, pow_pos, BackingView, StorageView, Bytes, is_within, cover, cluster_size, header, HeaderFields, L2Mapping, Compressed, Data, Uncovered, Zero, AreDataAt, EffectOnSound, Kind, IsCompressed, IsFoundIn, eof, indirect, kind_at, raw, rest_of_table, special, zeros, Touches, contents_in, known_in, ImageError, header_is, HasPinnedMapping, IsFoundWhole, found_kind, further_by, size_of, ImageInvariant, IsReadyWith, abstract_of, meaning, pending_in, IsUnlimited, fault_unlimited, CopiesCompressed, HasCompressedIn, IsCacheHeld, MayFailLooking, MayFailMapped, MayFailPutting, MayFailReadingRange, IsSpecial, MayFailLookingAgain, guest_offset_of, length_of, offset_of, table_of, IsAnswered, Qcow2, Image, Prepared}
 use Rattle.qcow2_disk.specs.Found.{IsFound as IsFoundOf}
-use Rattle.qcow2_image.proofs.Map.Looked.{compressed_there, data_found, found_upto, product_le}
+use Rattle.qcow2_image.proofs.Map.Looked.{compressed_there, data_found, kind_inside, found_upto, product_le}
 use Rattle.qcow2_image.proofs.Prepare.NameablePlaces.{IsNearData, cover_near}
 use Rattle.qcow2_image.proofs.Images.ClusterMappings.{never_private}
 use Rattle.qcow2_image.specs.declared.mapping.MappingKind.{MappingKind}
@@ -99,7 +100,7 @@ module _ {S F : Type 0} (view : S → StorageView) (backing : F → BackingView)
         let known = known_in view mid.file in
         let lies : offset < (header known).size = subst (λ (h : HeaderFields). offset < h.size) (sym (header_is view backing mid out sound')) below in
         let there : IsCompressed (cover (header known) known (offset / cluster_size (header known))) =
-        compressed_there (header known) (is_some mid.backing) offset kind (cover (header known) known (offset / cluster_size (header known))) (is.run lies).kind_is (special_first 0 kind compressed.1) in
+        compressed_there (header known) false (is_some mid.backing) offset kind (cover (header known) known (offset / cluster_size (header known))) ((is.run lies).kind_is ∙ sym (kind_inside (header known) (is_some mid.backing) offset (cover (header known) known (offset / cluster_size (header known))))) (special_first 0 kind compressed.1) in
         inr (
           compressed.0,
           record {
@@ -219,9 +220,8 @@ module _ {S F : Type 0} (view : S → StorageView) (backing : F → BackingView)
       let place = first.2 in
       omega (arith, near, rest, place, small)
 
-  -- and it is found where it was prepared
-  pub existing_found : offset + n ≤ size_of mid → guest_offset_of p ≡ offset → (m : ℕ) → m ≡ n → IsFoundWhole view mid (guest_offset_of p + 0) (M.Raw Image (offset_of p + 0) true) m
-  existing_found below from m long =
+  existing_in_image : offset + n ≤ size_of mid → guest_offset_of p ≡ offset → (m : ℕ) → m ≡ n → IsFoundWhole view mid (guest_offset_of p + 0) (M.Raw Image (offset_of p + 0) true) m
+  existing_in_image below from m long =
       let reaches : n ≤ rest_of_table h offset = let within = answered.within in let all = existing_long in let rest : rest_of_table h offset ≡ rest_of_table old.file.header.fields offset = ap (λ size. size * (size / 8) - offset % (size * (size / 8))) same in omega (arith, within, all, rest) in
       let begin : offset ≡ guest_offset_of p + 0 = omega (arith, from) in
       let place : offset_of p ≡ offset_of p + 0 = omega arith in
@@ -229,3 +229,9 @@ module _ {S F : Type 0} (view : S → StorageView) (backing : F → BackingView)
       (subst (λ k. IsFoundWhole view mid offset (M.Raw Image k true) m) place
       (subst (λ k. IsFoundWhole view mid offset (M.Raw Image (offset_of p) true) k) (sym long)
       (data_found h (known_in view mid.file) (is_some mid.backing) offset true (offset_of p) n some below reaches existing_data)))
+
+  -- and it is found where it was prepared
+  pub existing_found : offset + n ≤ size_of mid → file_of p ≡ place_in mid → guest_offset_of p ≡ offset → (m : ℕ) → m ≡ n → IsFoundWhole view mid (guest_offset_of p + 0) (M.Raw (file_of p) (offset_of p + 0) true) m
+  existing_found below file from m long =
+      let here : file_of p ≡ Image = file ∙ ap (λ (f : Option S). if is_some f then DataFile else Image) sound.alone in
+      subst (λ k. IsFoundWhole view mid (guest_offset_of p + 0) (M.Raw k (offset_of p + 0) true) m) (sym here) (existing_in_image below from m long)

@@ -1,9 +1,9 @@
 -- If no check refuses a whole range, a part of the range is refused only for causes that come during the work.
-use Rattle.qcow2_image.specs.declared.mapping.Place.TheVariants.{Image}
+use Rattle.qcow2_image.specs.Prepared.{file_of}
 use Rattle.qcow2_image.specs.declared.mapping.MappingKind.TheVariants.{Raw}
 use Rattle.qcow2_image.proofs.Map.Held.{mapped_less}
 use Rattle.std.proofs.Common.{◌≡◌, ◌+◌, ◌<◌, ◌≤◌, ◌&&◌, ◌∙◌, inl, inr, ℕ, Bool, true, false, not, IsTrue, List, Option, Some, None, refl, sym, ap, arith, subst, Ok, Err, Result, is_some, IsSome}
-use Rattle.qcow2_session.proofs.Common.{nat_lt, option_or, cases_Bool, cases_lt, common_steps, Bytes, cluster_size, HeaderFields, ImageError, IsUnderMapping, IsSameImage, is_external, is_failed, is_writable, number_of, size_of, IsUnderMappingIn, IsTaken, MayFail, passes, refuse_if, refuses_mapping, refuses_to_prepare, refuses_to_read, unusable, Qcow2, Prepared, table_of, ExistsInTables, FitsTables, IsHeldAs, Mapping, further_by, IsHeldRun}
+use Rattle.qcow2_session.proofs.Common.{nat_lt, option_or, cases_Bool, cases_lt, common_steps, Bytes, cluster_size, HeaderFields, ImageError, IsUnderMapping, IsSameImage, is_beside, lacks_data_file, is_failed, is_writable, number_of, size_of, IsUnderMappingIn, IsTaken, MayFail, passes, refuse_if, refuses_mapping, refuses_to_prepare, refuses_to_read, unusable, Qcow2, Prepared, table_of, ExistsInTables, FitsTables, IsHeldAs, Mapping, further_by, IsHeldRun}
 use Rattle.qcow2_alloc.specs.declared.error.ImageError.TheVariants as I
 use Rattle.qcow2_session.proofs.Beyond.{part_passes}
 use Rattle.qcow2_session.proofs.Causing.{own_mapping, put_writes, then_none}
@@ -11,16 +11,16 @@ use Rattle.qcow2_session.proofs.Untaken.{row_as}
 
 -- the bytes of an existing mapping are not outdated right after it was prepared
 pub put_current : {S F : Type 0} (mid new : Qcow2 S F) (p : Prepared) (offset n k : ℕ) (e : ImageError) → ExistsInTables mid offset n (Ok p) → k ≤ n → (IsSome (table_of p) → ◌≡◌ {A = Result (Unit {0}) ImageError} (Err e) (Err I.OutdatedMapping) → ⊥)
-    → (table_of p ≡ None → FitsTables mid new (p.guest + 0) {A = Unit {0}} (Raw Image (p.offset + 0) true) k (Err e)) → e ≡ I.OutdatedMapping → ⊥
+    → (table_of p ≡ None → FitsTables mid new (p.guest + 0) {A = Unit {0}} (Raw (file_of p) (p.offset + 0) true) k (Err e)) → e ≡ I.OutdatedMapping → ⊥
 put_current mid new p offset n k e exists le private held outdated = by (table_of p) refl where
   by : (t : Option ℕ) → table_of p ≡ t → ⊥
   by (Some table) is = private (subst (λ (t : Option ℕ). IsSome t) (sym is) refl) (ap Err outdated)
   by None is =
       let there = exists is in
-      let whole : IsHeldAs mid (p.guest + 0) (Raw Image (p.offset + 0) true) n =
-      subst (λ at. IsHeldAs mid at (Raw Image (p.offset + 0) true) n) (let guest : p.guest ≡ offset = there.0 in let same : offset ≡ p.guest + 0 = omega (arith, guest) in same)
-      (subst (λ host. IsHeldAs mid offset (Raw Image host true) n) (let same : p.offset ≡ p.offset + 0 = omega arith in same) there.1) in
-      ((held is).outdated outdated).0 (mapped_less mid.file.header.fields (is_some mid.backing) mid.l1_table mid.file.caches (p.guest + 0) (Raw Image (p.offset + 0) true) k n le whole)
+      let whole : IsHeldAs mid (p.guest + 0) (Raw (file_of p) (p.offset + 0) true) n =
+      subst (λ at. IsHeldAs mid at (Raw (file_of p) (p.offset + 0) true) n) (let guest : p.guest ≡ offset = there.0 in let same : offset ≡ p.guest + 0 = omega (arith, guest) in same)
+      (subst (λ host. IsHeldAs mid offset (Raw (file_of p) host true) n) (let same : p.offset ≡ p.offset + 0 = omega arith in same) there.1) in
+      ((held is).outdated outdated).0 (mapped_less mid.file.header.fields (is_beside mid) (is_some mid.backing) mid.l1_table mid.file.caches (p.guest + 0) (Raw (file_of p) (p.offset + 0) true) k n le whole)
 
 -- what was just looked up is not outdated
 pub found_current : {S F : Type 0} (mid new : Qcow2 S F) (m : Mapping) (size offset max n k : ℕ) (e : ImageError) → m.offset ≡ offset → further_by 0 m.kind ≡ m.kind → (size ≤ offset → n ≡ 0) → 0 < n → k ≡ n → (offset < size → IsHeldRun mid offset max m.kind n)
@@ -52,10 +52,10 @@ module _ {S F : Type 0} (old mid : Qcow2 S F) (same : IsSameImage old mid) where
   -- the image may still be used
   pub still_usable : is_failed mid ≡ false → unusable old ≡ None → unusable mid ≡ None
   still_usable works none =
-      ap (λ b. option_or (refuse_if b I.Failed) (refuse_if (is_external mid) I.Dependency)) works ∙ ap (λ b. refuse_if b I.Dependency) (same.external ∙ (both_none (is_failed old) (is_external old) none).1)
+      ap (λ b. option_or (refuse_if b I.Failed) (refuse_if (lacks_data_file mid) I.Dependency)) works ∙ ap (λ b. refuse_if b I.Dependency) (same.lacks ∙ (both_none (is_failed old) (lacks_data_file old) none).1)
 
   pub not_failed_yet : unusable old ≡ None → is_failed old ≡ false
-  not_failed_yet none = (both_none (is_failed old) (is_external old) none).0
+  not_failed_yet none = (both_none (is_failed old) (lacks_data_file old) none).0
 
   module _ (offset n at m : ℕ) (from : offset ≤ at) (upto : at + m ≤ offset + n) where
     still_within : passes (size_of old) offset n ≡ false → passes (size_of mid) at m ≡ false
@@ -74,7 +74,7 @@ module _ {S F : Type 0} (old mid : Qcow2 S F) (same : IsSameImage old mid) where
         let whole = three_none (unusable old) (passes (size_of old) offset n) (nat_lt 0 n && not (is_writable old)) none in
         let writes : is_writable mid ≡ true = same.writable ∙ put_writes n (is_writable old) whole.2 some in
         let test : (nat_lt 0 m && not (is_writable mid)) ≡ false = ap (λ b. nat_lt 0 m && not b) writes ∙ never (nat_lt 0 m) in
-        all_none (is_failed mid) (is_external mid) (passes (size_of mid) at m) (nat_lt 0 m && not (is_writable mid)) works (same.external ∙ (both_none (is_failed old) (is_external old) whole.0).1) (still_within whole.1) test
+        all_none (is_failed mid) (lacks_data_file mid) (passes (size_of mid) at m) (nat_lt 0 m && not (is_writable mid)) works (same.lacks ∙ (both_none (is_failed old) (lacks_data_file old) whole.0).1) (still_within whole.1) test
       where
         never : (b : Bool) → (b && false) ≡ false
         never true = refl

@@ -1,5 +1,5 @@
 -- Why reads of a range are refused, by the lookups and reads of its parts.
-use Rattle.std.proofs.Common.{◌≡◌, ◌+◌, ◌≤◌, ◌⊎◌, inl, inr, ℕ, sym, subst, arith, IfErr, Result, Ok, Err}
+use Rattle.std.proofs.Common.{◌≡◌, ◌+◌, ◌≤◌, inl, inr, ℕ, sym, subst, arith}
 use Rattle.qcow2_session.proofs.Common.{ImageError, MayFailFinding, MayFailReadingFound, MayFailReadingFrom, MayFailToRead, Qcow2}
 use Rattle.qcow2_alloc.specs.declared.error.ImageError.TheVariants as I
 

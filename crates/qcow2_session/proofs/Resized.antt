@@ -1,6 +1,6 @@
 -- A resize is one step of a run.
 use Rattle.std.proofs.Common.{◌≡◌, ◌⊎◌, ◌∷◌, ◌-◌, ◌<◌, ◌≤◌, ◌==◌, [], inl, inr, refl, sym, ap, subst, ℕ, cond, Bool, true, false, List, Option, Some, None, arith, Result, Ok, Err, not}
-use Rattle.qcow2_session.proofs.Common.{IfSome, option_or, cases_lt, cases_eq, cond-true, cond-false, eq-eqb, ne_eqb, pow_pos, BackingView, StorageView, EachMomentSince, byte_at, HeaderFields, Value, header, cluster_size, rounded_up, AbstractImage, Setting, guest_of, IsRefusalByFault, IsShrinkEnd, IsShrunk, given_by_shrink, given_by_shrunk, Disk, State, RefinesState, RefinesCommand, done, grow, number_is, refused, shrink, IsGiven, done_as, gave_less, refused_as, ImageError, known_in, refusal_of, Qcow2, Prepared, is_external, is_failed, is_writable, size_of, ImageInvariant, abstract_of, pending_in, refuse_if, GrowsTo, Shrinks, WritesSizeLast, refuses_to_resize, header_is, disk_size, TouchesLess, touches_less}
+use Rattle.qcow2_session.proofs.Common.{IfSome, option_or, cases_lt, cases_eq, cond-true, cond-false, eq-eqb, ne_eqb, pow_pos, BackingView, StorageView, EachMomentSince, byte_at, HeaderFields, Value, header, cluster_size, rounded_up, AbstractImage, Setting, guest_of, IsRefusalByFault, IsShrinkEnd, IsShrunk, given_by_shrink, given_by_shrunk, Disk, State, RefinesState, RefinesCommand, done, grow, number_is, refused, shrink, IsGiven, done_as, gave_less, refused_as, ImageError, known_in, refusal_of, Qcow2, Prepared, lacks_data_file, is_failed, is_writable, size_of, ImageInvariant, abstract_of, pending_in, refuse_if, GrowsTo, Shrinks, WritesSizeLast, refuses_to_resize, header_is, disk_size, TouchesLess, touches_less}
 use Rattle.image_access.specs.declared.storage.PreallocateMode.{PreallocateMode}
 use Rattle.qcow2_disk.specs.GrownCovers.{GrownCovers, IsRightlyGrown}
 use Rattle.qcow2_alloc.specs.declared.error.ImageError.TheVariants as I
@@ -79,7 +79,7 @@ module _ {S F : Type 0} (view : S → StorageView) (backing : F → BackingView)
   -- a call that has nothing to do has no fault
   has_work : {A : Type 0} (e : ImageError) (answer : A) → IsEarly {A = A} (Err e) → IsRefusalByFault (refusal_of e) → (refuses_to_resize old ≡ None → (refusal A e ≡ Ok answer) × (new ≡ old)) → ⊥
   has_work {A = A} e answer early fault nothing =
-      let no : refusal A e ≡ Ok answer = (nothing (not_early A (new ≡ old) (is_failed old) (is_external old) (not (is_writable old)) e early fault)).0 in
+      let no : refusal A e ≡ Ok answer = (nothing (not_early A (new ≡ old) (is_failed old) (lacks_data_file old) (not (is_writable old)) e early fault)).0 in
       cc
 
   module _ (out : List (Option Prepared)) where

@@ -1,6 +1,6 @@
 -- What a run reports about its image, one command after another.
 use Rattle.std.proofs.Common.{◌≡◌, ◌∷◌, ◌++◌, ℕ, map, List, [], false, refl, sym, ap, ◌∙◌, subst, Option, Some, None, replicate, Ok, Err}
-use Rattle.qcow2_session.proofs.Common.{fun_ext, IfSome, BackingView, StorageView, Setting, Found, State, RefinesState, RefinesCommand, HasNoInvalidation, KeepsUnflushed, begun, Qcow2, Mapping, Prepared, IsSameImage, is_external, is_writable, number_of, abstract_of, image_abstraction, free_places, command_of, reply_of, mappings_in, range_of, AreReportedAlong, IsReportedStep, KeepsItself, RunPoint, StepsAlong, abstract_at, first_point, free_slots, Command, Reply}
+use Rattle.qcow2_session.proofs.Common.{fun_ext, IfSome, BackingView, StorageView, Setting, Found, State, RefinesState, RefinesCommand, HasNoInvalidation, KeepsUnflushed, begun, Qcow2, Mapping, Prepared, IsSameImage, is_beside, lacks_data_file, is_writable, number_of, abstract_of, image_abstraction, free_places, command_of, reply_of, mappings_in, range_of, AreReportedAlong, IsReportedStep, KeepsItself, RunPoint, StepsAlong, abstract_at, first_point, free_slots, Command, Reply}
 use Rattle.qcow2_session.proofs.Meanings.{step_found, found_same, ranges_after}
 use Rattle.qcow2_session.proofs.Runs.{free_stands, none_found, none_mapped}
 
@@ -12,13 +12,13 @@ none_refused X (Some e) a early = absurd (let no : Ok a ≡ Err e = early.0 in c
 -- ---- an image keeps itself
 
 pub same_itself : {S F : Type 0} {old new : Qcow2 S F} → new ≡ old → KeepsItself old new
-same_itself same = record { number = ap number_of same; writable = ap is_writable same; external = ap is_external same }
+same_itself same = record { number = ap number_of same; writable = ap is_writable same; lacks = ap lacks_data_file same; beside = ap is_beside same }
 
 pub image_itself : {S F : Type 0} {old new : Qcow2 S F} → IsSameImage old new → KeepsItself old new
-image_itself same = record { number = same.number; writable = same.writable; external = same.external }
+image_itself same = record { number = same.number; writable = same.writable; lacks = same.lacks; beside = same.beside }
 
 pub itself_then : {S F : Type 0} {old mid new : Qcow2 S F} → KeepsItself old mid → KeepsItself mid new → KeepsItself old new
-itself_then first second = record { number = second.number ∙ first.number; writable = second.writable ∙ first.writable; external = second.external ∙ first.external }
+itself_then first second = record { number = second.number ∙ first.number; writable = second.writable ∙ first.writable; lacks = second.lacks ∙ first.lacks; beside = second.beside ∙ first.beside }
 
 -- a list of commands without an invalidation, up to its last one
 pub none_before : (commands : List Command) (command : Command) → HasNoInvalidation (map command_of (commands ++ command ∷ [])) → HasNoInvalidation (map command_of commands) × KeepsUnflushed (command_of command)

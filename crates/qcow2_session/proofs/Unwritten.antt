@@ -1,5 +1,5 @@
 -- An image that was opened for reading is never written: calls that write are refused before any work, and all others leave the contents of its storage the same.
-use Rattle.std.proofs.Common.{◌≡◌, ◌⊎◌, ◌<◌, ◌≤◌, ◌&&◌, ⊎_elim, inl, inr, ℕ, zero, suc, List, Bool, true, false, not, IsTrue, refl, sym, ap, ◌∙◌, subst, arith, Option, Some, None, Ok, Err, replicate}
+use Rattle.std.proofs.Common.{◌≡◌, ◌<◌, ◌≤◌, ◌&&◌, ⊎_elim, inl, inr, ℕ, zero, suc, List, Bool, true, false, not, IsTrue, refl, sym, ap, ◌∙◌, subst, arith, Option, Some, None, Ok, Err, replicate}
 use Rattle.qcow2_session.proofs.Common.{IfSome, IsNone, IsSome, nat_lt, slice_get, slice_set, option_or, cases_lt, lt-ltb, ImageError, Qcow2, Prepared, is_failed, is_writable, size_of, table_of, IsOfNothing, passes, refuse_if, refuses_to_prepare, unusable, IsResized, refuses_to_resize, AreExisting, KeepsItself, free_slots, get_set}
 use Rattle.qcow2_alloc.specs.declared.error.ImageError.TheVariants as I
 use Rattle.qcow2_session.proofs.Told.{none_refused, same_itself}
@@ -31,7 +31,7 @@ if_none_or Y (Some e) nothing early = early.1
 pub resized_itself : {S F : Type 0} (old new : Qcow2 S F) (Y : ImageError → Type 0) (Z : Type 0) (size a b : ℕ) → IfSome (refuses_to_resize old) (λ e. Y e × (new ≡ old)) → (refuses_to_resize old ≡ None → b ≤ a → Z × (new ≡ old))
     → (a < b → IsResized size old new) → KeepsItself old new
 resized_itself old new Y Z size a b early nothing resized = elim (cases_lt a b) [
-  | inl lt ↦ let is = resized lt in record { number = is.number; writable = is.writable; external = is.external }
+  | inl lt ↦ let is = resized lt in record { number = is.number; writable = is.writable; lacks = is.lacks; beside = is.beside }
   | inr le ↦ same_itself (if_none_or Y (refuses_to_resize old) (λ none. (nothing none le).1) early)
 ]
 

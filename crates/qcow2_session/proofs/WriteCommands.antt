@@ -111,7 +111,7 @@ memory_never lacks is = let no : I.Memory ≡ I.Storage = sym lacks ∙ is in cc
 
 module _ {S F : Type 0} (view : S → StorageView) (backing : F → BackingView) (image : Qcow2 S F) (e : ImageError) (never : IsNotOfStorage e) where
   pub unwritten_step : WriteStep view backing image image (Err (e, 0))
-  unwritten_step = record { image = record { number = refl; size = refl; writable = refl; external = refl }; faults = (record { storage = omega arith; below = omega arith }, λ is. absurd (never is), λ _. record { storage = refl; below = refl }); header_cluster = behind_none; marks = in_parts view (at_rest view (Some e) image (unmarked e _ _ never refl)); quiet = λ _. reads_none view image }
+  unwritten_step = record { image = record { number = refl; size = refl; writable = refl; lacks = refl; beside = refl }; faults = (record { storage = omega arith; below = omega arith; beside = omega arith }, λ is. absurd (never is), λ _. record { storage = refl; below = refl; beside = refl }); header_cluster = behind_none; marks = in_parts view (at_rest view (Some e) image (unmarked e _ _ never refl)); quiet = λ _. reads_none view image }
 
   pub unwritten_sees : (offset : ℕ) (bytes : List ℕ) → Writes view backing image image offset bytes (Err (e, 0))
   unwritten_sees offset bytes = λ out. let v = abstract_of view backing image out in refuses_here (refusal_of e) (not_storage e never) (does_if (λ same. may_write_none (refusal_of e) _ _ offset bytes same) (does_less (none_within v _) (does_nothing v)))

@@ -31,7 +31,6 @@ use Rattle.qcow2_image.specs.Resizing.{boundary_in, refuses_to_resize, takes_ove
 use Rattle.qcow2_image.specs.declared.image.Qcow2.{Qcow2}
 use Rattle.qcow2_image.specs.declared.mapping.Mapping.{Mapping}
 use Rattle.qcow2_image.specs.declared.mapping.MappingKind.TheVariants.{Raw}
-use Rattle.qcow2_image.specs.declared.mapping.Place.TheVariants.{Image}
 use Rattle.qcow2_image.specs.declared.prepared.Prepared.{Prepared}
 use Rattle.qcow2_session.specs.CountedFaults.{refusal_in}
 use Rattle.qcow2_disk.specs.Mappings.{given_of}
@@ -182,7 +181,7 @@ module _ {S F : Type 0} (view : S → StorageView) (backing : F → BackingView)
     pub mapping : Prepared
     pub there : slice_get before slot ≡ Some (Some mapping)
     pub existing : table_of mapping ≡ None
-    pub moved : ¬ IsFoundWhole view old (mapping.guest + at) (Raw Image (mapping.offset + at) true) n
+    pub moved : ¬ IsFoundWhole view old (mapping.guest + at) (Raw mapping.place (mapping.offset + at) true) n
 
   -- A range that was looked up is read only if the whole of it is still mapped in the same way, and is refused 10 only if it is not.
   abbrev pub ReadsLookedUp : (found : ℕ → Option Mapping) → (slot at n : ℕ) → Reply → Type 0

@@ -5,7 +5,6 @@ use Rattle.image_access.specs.Backing.{BackingView}
 use Rattle.image_access.specs.Moments.{StorageView}
 use Rattle.qcow2_metadata.specs.Bytes.{Bytes, byte_at}
 use Rattle.qcow2_metadata.specs.Consistent.{IsConsistent}
-use Rattle.qcow2_metadata.specs.Header.{header}
 use Rattle.qcow2_disk.specs.Headline.{IsHeadline}
 use Rattle.qcow2_disk.specs.Runs.{HasNoInvalidation, RefinesState, started}
 use Rattle.qcow2_alloc.specs.declared.error.ImageError.{ImageError}

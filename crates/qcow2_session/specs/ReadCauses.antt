@@ -1,5 +1,5 @@
 -- Why a read of a range is refused, whatever the image contains: by the tables in memory, as the read leaves them.
-use Rattle.std.specs.Prelude.{ℕ, ◌+◌, ◌≤◌, ◌<◌, ◌≡◌, ◌⊎◌}
+use Rattle.std.specs.Prelude.{ℕ, ◌+◌, ◌≤◌, ◌≡◌, ◌⊎◌}
 use Rattle.qcow2_alloc.specs.CachePins.{AreAllPinned}
 use Rattle.qcow2_alloc.specs.ImageError.{IsFault}
 use Rattle.qcow2_alloc.specs.declared.error.ImageError.{ImageError}

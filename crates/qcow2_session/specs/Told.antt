@@ -12,7 +12,7 @@ use Rattle.qcow2_image.specs.declared.image.Qcow2.{Qcow2}
 use Rattle.qcow2_image.specs.declared.mapping.Mapping.{Mapping}
 use Rattle.qcow2_image.specs.declared.mapping.MappingKind.TheVariants.{Eof}
 use Rattle.qcow2_image.specs.declared.prepared.Prepared.{Prepared}
-use Rattle.qcow2_image.specs.Image.{is_external, is_failed, is_writable, leaked_in, number_of, size_of}
+use Rattle.qcow2_image.specs.Image.{is_beside, lacks_data_file, is_failed, is_writable, leaked_in, number_of, size_of}
 use Rattle.qcow2_image.specs.ImageInvariant.{abstract_of, meaning}
 use Rattle.qcow2_image.specs.ListedClusters.{ListsNoMore}
 use Rattle.qcow2_image.specs.Prepared.{length_of, offset_of, table_of}
@@ -54,11 +54,12 @@ SlotsAfter before (C.CommitDataMapping slot) (R.Refused e) after = (after ≡ be
 SlotsAfter before (C.DiscardDataMapping slot) R.Done after = EmptiesSlot before slot after
 SlotsAfter before command reply after = after ≡ before
 
--- The image keeps its number, whether it may be written, and whether its data are in an external file.
+-- The image keeps its number, whether it may be written, whether it has a data file, and whether it lacks one.
 pub record KeepsItself {S F : Type 0} (old new : Qcow2 S F) : Type 0 where
   pub number : number_of new ≡ number_of old
   pub writable : is_writable new ≡ is_writable old
-  pub external : is_external new ≡ is_external old
+  pub lacks : lacks_data_file new ≡ lacks_data_file old
+  pub beside : is_beside new ≡ is_beside old
 
 -- A point of a run, between two commands: the image, its prepared mappings by slot, and the lookups.
 pub record RunPoint (S F : Type 0) : Type 0 where

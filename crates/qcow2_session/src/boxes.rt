@@ -1,9 +1,9 @@
 //! Calls on an image whose storage and backing disk are of any types, each in a box.
-ghost use Rattle.std.specs.Prelude.{◌≡◌, ◌<◌, length, IfErr, IfOk, IsTrue, List, Option, Err, false};
+ghost use Rattle.std.specs.Prelude.{◌≡◌, ◌<◌, length, IfErr, IfOk, IsTrue, List, Option, Err, None, false};
 ghost use Rattle.std.specs.Option.{option_flatten};
 ghost use Rattle.qcow2_alloc.specs.Faults.{FaultsReported};
 ghost use Rattle.qcow2_alloc.specs.declared.error.ImageError.TheVariants.{InvalidOption, Limit, Preallocation};
-ghost use Rattle.qcow2_image.specs.Created.{GrewFromNew, IsAllowed, IsCreated, IsReasonNotToCreate, StopsCreating};
+ghost use Rattle.qcow2_image.specs.Created.{GrewFromNew, HasNoDataFile, IsAllowed, IsCreated, IsReasonNotToCreate, StopsCreating};
 ghost use Rattle.qcow2_image.specs.Created.{allocates_over, longest_disk};
 ghost use Rattle.qcow2_image.specs.Image.{number_of};
 ghost use Rattle.qcow2_image.specs.ImageInvariant.{IsHonestBacking, abstract_of};
@@ -35,12 +35,13 @@ pub fn open_in_boxes(
     opener: Qcow2OpenBuilder<AnyStorage, AnyDisk>,
 ) -> Result<Qcow2<AnyStorage, AnyDisk>, (AnyStorage, ImageError)>
     ensures step { OpeningStep ⟦<AnyStorage as Storage>⟧.view (⟦<AnyStorage as Storage>⟧.view opener.image)
-        opener.writable (files_missing opener.backing) result }
+        opener.writable (files_missing opener.backing opener.data_file) result }
     ensures image { IfOk result (IsNewlyOpened (⟦<AnyStorage as Storage>⟧.view opener.image)
         opener.writable opener.number) }
-    ensures over { IfOk result (λ image. image.backing ≡ option_flatten opener.backing) }
+    ensures over { IfOk result (λ image. (image.backing ≡ option_flatten opener.backing)
+        × (image.data_file ≡ option_flatten opener.data_file)) }
     ensures opens { IsHonestBacking ⟦<AnyStorage as Storage>⟧.view ⟦<AnyDisk as BackingDisk>⟧.backing
-        (option_flatten opener.backing)
+        (option_flatten opener.backing) → option_flatten opener.data_file ≡ None
         → IfOk result (Opens ⟦<AnyStorage as Storage>⟧.view ⟦<AnyDisk as BackingDisk>⟧.backing
         (⟦<AnyStorage as Storage>⟧.view opener.image)) }
 {
@@ -52,21 +53,21 @@ pub fn create_in_boxes(
     alloc: Global,
     builder: Qcow2CreateBuilder<AnyStorage>,
 ) -> (AnyStorage, Result<(), ImageError>)
-    ensures stops { (⟦<AnyStorage as Storage>⟧.view builder.image).is_honest
+    ensures stops { HasNoDataFile builder → (⟦<AnyStorage as Storage>⟧.view builder.image).is_honest
         → StopsCreating builder.preallocate builder.size (⟦<AnyStorage as Storage>⟧.view builder.image)
         (⟦<AnyStorage as Storage>⟧.view result.0) }
-    ensures created { (⟦<AnyStorage as Storage>⟧.view builder.image).is_honest
+    ensures created { HasNoDataFile builder → (⟦<AnyStorage as Storage>⟧.view builder.image).is_honest
         → IfOk result.1 (λ done. IsCreated builder (⟦<AnyStorage as Storage>⟧.view result.0)) }
-    ensures grew { (⟦<AnyStorage as Storage>⟧.view builder.image).is_honest
+    ensures grew { HasNoDataFile builder → (⟦<AnyStorage as Storage>⟧.view builder.image).is_honest
         → IfOk result.1 (λ done. GrewFromNew ⟦<AnyStorage as Storage>⟧.view builder result.0) }
     ensures refused { ¬ IsAllowed builder → (result.1 ≡ Err InvalidOption) × (result.0 ≡ builder.image) }
     ensures over { IsAllowed builder → IsTrue (allocates_over builder) → (result.1 ≡ Err Preallocation)
         × (result.0 ≡ builder.image) }
     ensures limit { IsAllowed builder → allocates_over builder ≡ false
         → longest_disk builder.cluster_size < builder.size → (result.1 ≡ Err Limit) × (result.0 ≡ builder.image) }
-    ensures cause { (⟦<AnyStorage as Storage>⟧.view builder.image).is_honest
+    ensures cause { HasNoDataFile builder → (⟦<AnyStorage as Storage>⟧.view builder.image).is_honest
         → IfErr result.1 (IsReasonNotToCreate ⟦<AnyStorage as Storage>⟧.view builder result.0) }
-    ensures faults { FaultsReported (⟦<AnyStorage as Storage>⟧.view builder.image).faults
+    ensures faults { HasNoDataFile builder → FaultsReported (⟦<AnyStorage as Storage>⟧.view builder.image).faults
         (⟦<AnyStorage as Storage>⟧.view result.0).faults result.1 }
 {
     builder.create(alloc)

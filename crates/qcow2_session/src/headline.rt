@@ -64,7 +64,7 @@ fn open_over<S: Storage, F: WrappedFormat<S>>(
     ensures ok { IfOk result (λ image. (number_of image ≡ number) × (is_failed image ≡ false) × (is_writable image ≡ true)) }
     ensures faults { OpeningCounts S.view (S.view storage).faults result }
     ensures header_cluster { IfOk result (λ image. NamesTablesBehind image.file.header.fields → LiesBehindHeader image) }
-    ensures over { IfOk result (λ image. image.backing ≡ below) }
+    ensures over { IfOk result (λ image. (image.backing ≡ below) × (image.data_file ≡ None)) }
     ensures storage { LeavesStorage S.view true (S.view storage) result }
     ensures another { (S.view storage).is_honest → NeedsMissing (missing_beside below) (S.view storage).contents
         → IsRefusedAlone result × ContentsStayThroughout (S.view storage) (S.view (storage_after result)) }

@@ -9,7 +9,7 @@ use Rattle.qimg.specs.declared.words.Invocation.TheVariants as I
 
 -- The builder of an image with this size, cluster size, refcount width and mode.
 abbrev pub builder_on : {S : Type 0} → S → ℕ → ℕ → ℕ → PreallocateMode → Qcow2CreateBuilder S
-builder_on image size cluster width mode = record { image = image; size = size; preallocate = mode; cluster_size = cluster; refcount_width = width; backing_name = None; backing_format = None }
+builder_on image size cluster width mode = record { image = image; size = size; preallocate = mode; cluster_size = cluster; refcount_width = width; backing_name = None; backing_format = None; data_file_name = None; data_file = None }
 
 -- Status 0: the words asked for an image, and on an honest storage the new image is there.
 abbrev pub HasCreated : {S : Type 0} → (S → StorageView) → S → S → Invocation → Type 0

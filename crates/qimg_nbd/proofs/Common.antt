@@ -10,7 +10,7 @@ pub use Rattle.qcow2_disk.specs.AbstractImages.{Guest, guest_of, AbstractImage, 
 pub use Rattle.qcow2_disk.specs.Calls.{AnsweredEffect, Clearing, CallEffect, IsSame, Refusal, RefusedEffect, WritesSome, another, memory, not_compressed, storage, with_disk, to_zero, to_kept_zero}
 pub use Rattle.qcow2_disk.specs.Rules.{answered, touched_from, touched_to}
 pub use Rattle.qcow2_image.proofs.Images.HiddenBytes.{header_is}
-pub use Rattle.qcow2_image.specs.Image.{is_failed, size_of, IsSameImage, is_external, is_writable}
+pub use Rattle.qcow2_image.specs.Image.{is_failed, size_of, IsSameImage, lacks_data_file, is_writable}
 pub use Rattle.qcow2_image.specs.ImageInvariant.{abstract_of, ImageInvariant, backing_bytes, disk_of, pending_in}
 pub use Rattle.qcow2_image.specs.declared.image.Qcow2.{Qcow2}
 pub use Rattle.qcow2_metadata.specs.Guest.{known_byte}

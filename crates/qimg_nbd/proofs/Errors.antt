@@ -1,6 +1,6 @@
 -- What a client is sent for a refused call of an image.
 use Rattle.std.proofs.Common.{◌≡◌, ◌⊎◌, ◌+◌, ◌<◌, ◌&&◌, [], List, inl, inr, ℕ, Bool, true, false, Option, Some, None, Result, Ok, Err, refl, sym, ap, subst, ◌∙◌, arith}
-use Rattle.qimg_nbd.proofs.Common.{IfSome, IsTrue, nat_lt, not, BackingView, StorageView, cluster_size, HeaderFields, known_in, Clearing, IsSameImage, is_external, is_failed, is_writable, size_of, abstract_of, Qcow2, header_is, DeviceView, Fails, IsFault, IsSameDevice, RefusesToChange, RefusesToRead, device_of, error_of}
+use Rattle.qimg_nbd.proofs.Common.{IfSome, IsTrue, nat_lt, not, BackingView, StorageView, cluster_size, HeaderFields, known_in, Clearing, IsSameImage, lacks_data_file, is_failed, is_writable, size_of, abstract_of, Qcow2, header_is, DeviceView, Fails, IsFault, IsSameDevice, RefusesToChange, RefusesToRead, device_of, error_of}
 use Rattle.std.specs.Option.{option_or}
 use Rattle.std.proofs.lemmas.Grind.{common_steps}
 use Rattle.qcow2_disk.specs.Disk.{disk_with}
@@ -176,16 +176,16 @@ module _ {S F : Type 0} (view : S → StorageView) (backing : F → BackingView)
 
   -- each call of a failed image is refused as one of that, and leaves it as it is
   pub failed_reading : {T : Type 0} (offset n : ℕ) (r : Result T ImageError) → IfSome (refuses_to_read old offset n) (λ e. (r ≡ Err e) × (new ≡ old)) → IsTrue (is_failed old) → (r ≡ Err I.Failed) × (new ≡ old)
-  failed_reading offset n r early f = first (is_failed old) (refuse_if (is_external old) I.Dependency) (refuse_if (passes (size_of old) offset n) I.BeyondSize) (λ e. (r ≡ Err e) × (new ≡ old)) early f
+  failed_reading offset n r early f = first (is_failed old) (refuse_if (lacks_data_file old) I.Dependency) (refuse_if (passes (size_of old) offset n) I.BeyondSize) (λ e. (r ≡ Err e) × (new ≡ old)) early f
 
   pub failed_writing : {T : Type 0} (offset n : ℕ) (r : Result T (ImageError × ℕ)) → IfSome (refuses_to_prepare old offset n) (λ e. (r ≡ Err (e, 0)) × (new ≡ old)) → IsTrue (is_failed old) → (r ≡ Err (I.Failed, 0)) × (new ≡ old)
-  failed_writing offset n r early f = first (is_failed old) (refuse_if (is_external old) I.Dependency) _ (λ e. (r ≡ Err (e, 0)) × (new ≡ old)) early f
+  failed_writing offset n r early f = first (is_failed old) (refuse_if (lacks_data_file old) I.Dependency) _ (λ e. (r ≡ Err (e, 0)) × (new ≡ old)) early f
 
   pub failed_clearing : {T : Type 0} (offset n : ℕ) (how : Clearing) (r : Result T ImageError) → IfSome (refuses_clearing old offset n how) (λ e. (r ≡ Err e) × (new ≡ old)) → IsTrue (is_failed old) → (r ≡ Err I.Failed) × (new ≡ old)
-  failed_clearing offset n how r early f = first (is_failed old) (refuse_if (is_external old) I.Dependency) _ (λ e. (r ≡ Err e) × (new ≡ old)) early f
+  failed_clearing offset n how r early f = first (is_failed old) (refuse_if (lacks_data_file old) I.Dependency) _ (λ e. (r ≡ Err e) × (new ≡ old)) early f
 
   pub failed_looking : {T : Type 0} (r : Result T ImageError) → IfSome (unusable old) (λ e. (r ≡ Err e) × (new ≡ old)) → IsTrue (is_failed old) → (r ≡ Err I.Failed) × (new ≡ old)
-  failed_looking r early f = first_looking (is_failed old) (refuse_if (is_external old) I.Dependency) (λ e. (r ≡ Err e) × (new ≡ old)) early f
+  failed_looking r early f = first_looking (is_failed old) (refuse_if (lacks_data_file old) I.Dependency) (λ e. (r ≡ Err e) × (new ≡ old)) early f
 
   -- why a read is refused
   pub reading_cause : {T : Type 0} (offset n : ℕ) (r : Result T ImageError) (e : ImageError) → r ≡ Err e → IfSome (refuses_to_read old offset n) (λ x. (r ≡ Err x) × (new ≡ old)) → IsOfReading e → (e ≡ I.BeyondSize → IsTrue (passes (size_of old) offset n))
@@ -193,7 +193,7 @@ module _ {S F : Type 0} (view : S → StorageView) (backing : F → BackingView)
       → a.is_sound → RefusesToRead a (offset + n) (error_of e)
   reading_cause offset n r e is early reading past may_fail sound =
       read_told a (offset + n) e (reading_only e reading)
-      (reading_limit (is_failed old) (is_external old) (passes (size_of old) offset n) e (refuses_to_read old offset n) refl
+      (reading_limit (is_failed old) (lacks_data_file old) (passes (size_of old) offset n) e (refuses_to_read old offset n) refl
       (if_some_weaker (refuses_to_read old offset n) (λ x. (r ≡ Err x) × (new ≡ old)) (λ x. e ≡ x) (λ x h. same_refusal r e x is h.0) early)
       (λ none limit. elim (may_fail none [] sound) [ inl looking ↦ looking_limit _ e looking limit | inr compressed ↦ let p = compressed.0 in absurd cc ]))
       (λ p. let k = beyond (size_of old) offset n (past p) in let s = size_is sound in omega (arith, s, k))
@@ -207,7 +207,7 @@ module _ {S F : Type 0} (view : S → StorageView) (backing : F → BackingView)
         | inl some ↦
             let at : (r ≡ Err (some.0, 0)) × (new ≡ old) = subst (λ o. IfSome o (λ x. (r ≡ Err (x, 0)) × (new ≡ old))) some.1 early in
             let same : some.0 ≡ e = ap (λ (x : ImageError × ℕ). x.0) (same_refusal r (some.0, 0) (e, m) at.0 is) in
-            and_right (nat_lt 0 n) (not (is_writable old)) (prepare_refused (is_failed old) (is_external old) (passes (size_of old) offset n) (nat_lt 0 n && not (is_writable old)) some.0 some.1 (same ∙ only))
+            and_right (nat_lt 0 n) (not (is_writable old)) (prepare_refused (is_failed old) (lacks_data_file old) (passes (size_of old) offset n) (nat_lt 0 n && not (is_writable old)) some.0 some.1 (same ∙ only))
         | inr none ↦ absurd (preparing_only new e (late none) only)
       ])
       (λ p. let k = beyond (size_of old) offset n (past p) in let s = size_is sound in omega (arith, s, k))
@@ -219,7 +219,7 @@ module _ {S F : Type 0} (view : S → StorageView) (backing : F → BackingView)
       let by = λ (x : ImageError) (some : refuses_clearing old offset n how ≡ Some x).
       let at : (r ≡ Err x) × (new ≡ old) = subst (λ o. IfSome o (λ x. (r ≡ Err x) × (new ≡ old))) some early in
       let same : x ≡ e = same_refusal r x e at.0 is in
-      let k = clear_refused (is_failed old) (is_external old) (not (is_writable old)) (passes (size_of old) offset n) (zeros_for how && nat_lt old.file.header.fields.version 3) (rounds_past (cluster_size old.file.header.fields) (size_of old) offset n) x some in
+      let k = clear_refused (is_failed old) (lacks_data_file old) (not (is_writable old)) (passes (size_of old) offset n) (zeros_for how && nat_lt old.file.header.fields.version 3) (rounds_past (cluster_size old.file.header.fields) (size_of old) offset n) x some in
       let both : (e ≡ I.ReadOnly → not (is_writable old) ≡ true) × (e ≡ I.BeyondSize → passes (size_of old) offset n ≡ true) = (λ only. k.0 (same ∙ only), λ past. k.1 (same ∙ past)) in both in
       change_told a (offset + n) e
       (λ only. elim (some_or_none (refuses_clearing old offset n how)) [ inl some ↦ (by some.0 some.1).0 only | inr none ↦ absurd (preparing_only new e (late none) only) ])

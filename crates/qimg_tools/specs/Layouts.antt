@@ -7,7 +7,7 @@ use Rattle.qimg_tools.specs.declared.words.Layout.{Layout}
 
 -- A disk of this size, in this layout.
 abbrev pub builder_of : {S : Type 0} → S → ℕ → Layout → Qcow2CreateBuilder S
-builder_of storage size layout = record { image = storage; size = size; preallocate = layout.preallocate; cluster_size = layout.cluster_size; refcount_width = layout.refcount_bits; backing_name = None; backing_format = None }
+builder_of storage size layout = record { image = storage; size = size; preallocate = layout.preallocate; cluster_size = layout.cluster_size; refcount_width = layout.refcount_bits; backing_name = None; backing_format = None; data_file_name = None; data_file = None }
 
 -- A disk of this size, in this layout, over a backing file with its name and format.
 abbrev pub builder_over : {S : Type 0} → S → ℕ → Layout → String Global → String Global → Qcow2CreateBuilder S

@@ -1,6 +1,6 @@
 -- What the parts of a call say of its result.
 use Rattle.std.proofs.Common.{◌≡◌, ◌&&◌, ℕ, Bool, true, false, List, [], refl, sym, subst, nat_lt, Option, Result, Ok, Err, IsErr, IsErrAnd}
-use Rattle.qcow2_image.proofs.Common.{not, MatchOption, option_or, BackingView, StorageView, GivenBytes, Guest, RefusedEffect, IsSame, ImageError, Qcow2, Prepared, refusal_of, AnswersCall, is_failed, is_external, is_writable, size_of, passes, refuse_if, refuses_to_prepare, unusable, abstract_of}
+use Rattle.qcow2_image.proofs.Common.{not, MatchOption, option_or, BackingView, StorageView, GivenBytes, Guest, RefusedEffect, IsSame, ImageError, Qcow2, Prepared, refusal_of, AnswersCall, is_failed, lacks_data_file, is_writable, size_of, passes, refuse_if, refuses_to_prepare, unusable, abstract_of}
 use Rattle.qcow2_alloc.specs.declared.error.ImageError.TheVariants as I
 
 module _ {S F : Type 0} (view : S → StorageView) (backing : F → BackingView) (old new : Qcow2 S F) where
@@ -18,7 +18,7 @@ not_failed false rest r ok is = refl
 not_failed true rest r ok is = absurd cc
 
 pub usable_works : {S F : Type 0} (image : Qcow2 S F) (r : Result (Unit {0}) ImageError) → r ≡ Ok tt → MatchOption (unusable image) (r ≡ Ok tt) (λ e. r ≡ Err e) → is_failed image ≡ false
-usable_works image r ok is = not_failed (is_failed image) (refuse_if (is_external image) I.Dependency) r ok is
+usable_works image r ok is = not_failed (is_failed image) (refuse_if (lacks_data_file image) I.Dependency) r ok is
 
 not_failed_first : (failed : Bool) (more rest : Option ImageError) (r : Result (Unit {0}) ImageError) → r ≡ Ok tt
     → MatchOption (option_or (option_or (refuse_if failed I.Failed) more) rest) (r ≡ Ok tt) (λ e. r ≡ Err e) → failed ≡ false
@@ -27,4 +27,4 @@ not_failed_first true more rest r ok is = absurd cc
 
 pub prepare_usable : {S F : Type 0} (image : Qcow2 S F) (offset n : ℕ) (r : Result (Unit {0}) ImageError) → r ≡ Ok tt → MatchOption (refuses_to_prepare image offset n) (r ≡ Ok tt) (λ e. r ≡ Err e) → is_failed image ≡ false
 prepare_usable image offset n r ok is =
-    not_failed_first (is_failed image) (refuse_if (is_external image) I.Dependency) (option_or (refuse_if (passes (size_of image) offset n) I.BeyondSize) (refuse_if (nat_lt 0 n && not (is_writable image)) I.ReadOnly)) r ok is
+    not_failed_first (is_failed image) (refuse_if (lacks_data_file image) I.Dependency) (option_or (refuse_if (passes (size_of image) offset n) I.BeyondSize) (refuse_if (nat_lt 0 n && not (is_writable image)) I.ReadOnly)) r ok is

@@ -54,7 +54,7 @@ module _ {S F : Type 0} (view : S → StorageView) (backing : F → BackingView)
   module _ (marked : Bool) where
     still_sound : marked ≡ is_failed new → ImageInvariant view backing (pending_in view backing new out') new out'
         → ImageInvariant view backing (pending_in view backing (record new { is_failed = marked }) out') (record new { is_failed = marked }) out'
-    still_sound same s = record { works = same ∙ s.works; file = s.file; l1_table = s.l1_table; reftable = s.reftable; inside = s.inside; below = s.below; ready = λ k q at. let r = s.ready k q at in record { own = r.own; mapped = r.mapped }; pinned = s.pinned; once = s.once }
+    still_sound same s = record { works = same ∙ s.works; file = s.file; l1_table = s.l1_table; reftable = s.reftable; inside = s.inside; alone = s.alone; below = s.below; ready = λ k q at. let r = s.ready k q at in record { own = r.own; mapped = r.mapped }; pinned = s.pinned; once = s.once }
 
     still_works : ImageInvariant view backing (pending_in view backing old out) old out → EffectOnSound (abstract_of view backing old out) (abstract_of view backing (record new { is_failed = marked }) out') given []
     still_works sound = let w = acts sound in record {

@@ -8,7 +8,7 @@ module _ {S F : Type 0} {view : S → StorageView} {backing : F → BackingView}
   pub fails_on : {old new : Qcow2 S F} (answer : Result A ImageError) (e : ImageError) (result : Result T ImageError) → IsErr result × IsErrAnd result (λ x. x ≡ e) → answer ≡ Err e → ((x : ImageError) → R x → Q x) → ImageFails view backing old new answer R
       → ImageFails view backing old new result Q
   fails_on {old} {new} answer e result on is wider fails = handed_on (λ r. ImageFails view backing old new r Q) result e on (record {
-    faults = counted_as view backing old old new answer e (untouched view backing old old refl refl) fails.faults is;
+    faults = counted_as view backing old old new answer e (untouched view backing old old refl refl refl) fails.faults is;
     cause = wider e (subst (λ r. IfErr r R) is fails.cause);
   })
 
@@ -16,6 +16,6 @@ module _ {S F : Type 0} {view : S → StorageView} {backing : F → BackingView}
   pub fails_freed : {old mid new : Qcow2 S F} (answer : Result A ImageError) (e e' : ImageError) → ImageFails view backing old mid answer R → answer ≡ Err e
       → ((start : Qcow2 S F) → CountsImageFaults view backing {T = Unit {0}} start mid (Err e) → CountsImageFaults view backing {T = Unit {0}} start new (Err e')) → Q e' → ImageFails view backing {T = T} old new (Err e') Q
   fails_freed {old} {mid} {new} answer e e' fails is freed cause = record {
-    faults = counted_of view backing old new e' (freed old (counted_as view backing old old mid answer e (untouched view backing old old refl refl) fails.faults is));
+    faults = counted_of view backing old new e' (freed old (counted_as view backing old old mid answer e (untouched view backing old old refl refl refl) fails.faults is));
     cause = cause;
   }

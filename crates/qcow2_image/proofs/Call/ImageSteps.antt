@@ -8,14 +8,15 @@ stays_then first then = record {
     number = then.image.number ∙ first.image.number;
     size = then.image.size ∙ first.image.size;
     writable = then.image.writable ∙ first.image.writable;
-    external = then.image.external ∙ first.image.external;
+    lacks = then.image.lacks ∙ first.image.lacks;
+    beside = then.image.beside ∙ first.image.beside;
   };
   failed = then.failed ∙ first.failed;
 }
 
 module _ {S F : Type 0} {view : S → StorageView} where
   pub step_none : {a : Qcow2 S F} → ImageStep view a a
-  step_none = record { stays = record { image = record { number = refl; size = refl; writable = refl; external = refl }; failed = refl }; notes = notes_none; header_cluster = behind_none }
+  step_none = record { stays = record { image = record { number = refl; size = refl; writable = refl; lacks = refl; beside = refl }; failed = refl }; notes = notes_none; header_cluster = behind_none }
 
   pub step_then : {a b c : Qcow2 S F} → ImageStep view a b → ImageStep view b c → ImageStep view a c
   step_then first then = record {

@@ -10,7 +10,7 @@ module _ {S F : Type 0} {view : S → StorageView} {backing : F → BackingView}
   call_marked part fails =
       let both = stays_then stays part.stays in
       record {
-        image = subst (λ (i : Qcow2 S F). IsSameImage old i) (sym rest) (record { number = both.image.number; size = both.image.size; writable = both.image.writable; external = both.image.external });
+        image = subst (λ (i : Qcow2 S F). IsSameImage old i) (sym rest) (record { number = both.image.number; size = both.image.size; writable = both.image.writable; lacks = both.image.lacks; beside = both.image.beside });
         marks = subst (λ (r : Result T ImageError). MarksFailed old new r) (sym answer) (marks_since old last new both.failed done marks);
         once_written = fails_once view old begun begins last new done part.notes both.failed marks rest result (λ memory. sym answer ∙ memory);
         header_cluster = behind_call view begins part.header_cluster rest;

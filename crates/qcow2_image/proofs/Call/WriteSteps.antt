@@ -1,6 +1,6 @@
 -- The parts of a write: how they leave an image one after another, and what each promises in addition.
 use Rattle.std.proofs.Common.{◌≡◌, ℕ, List, refl, ap, ◌∙◌}
-use Rattle.qcow2_image.proofs.Common.{StorageView, ClustersToFreeEntry, notes_none, notes_then, header_same, header_then, ImageStays, is_external, is_writable, ImageStep, ImageStepWhere, ReadingStep, FreesLater, Pins, FillingStep, KeepingStep, AllocatingStep, AllocatingStepWhere, Qcow2}
+use Rattle.qcow2_image.proofs.Common.{StorageView, ClustersToFreeEntry, notes_none, notes_then, header_same, header_then, ImageStays, is_beside, lacks_data_file, is_writable, ImageStep, ImageStepWhere, ReadingStep, FreesLater, Pins, FillingStep, KeepingStep, AllocatingStep, AllocatingStepWhere, Qcow2}
 use Rattle.qcow2_image.proofs.Call.BehindHeader.{behind_by, behind_none, behind_tables, behind_then}
 use Rattle.qcow2_image.proofs.Call.ImageSteps.{stays_then, step_none}
 use Rattle.qcow2_image.proofs.Call.Notes.{pins_kept, same_kept}
@@ -30,7 +30,7 @@ module _ {S F : Type 0} {view : S → StorageView} where
   filling_of_read read allocator table = record { stays = read.part.stays; notes = read.part.notes; header_cluster = read.part.header_cluster; header = read.header; list = read.list; allocator = allocator; table = table }
 
   -- a write of data
-  pub filling_written : {a b : Qcow2 S F} → ImageStep view a b → b ≡ record a { file = record a.file { storage = b.file.storage } } → FillingStep view a b
+  pub filling_written : {a b : Qcow2 S F} → ImageStep view a b → b ≡ record a { file = record a.file { storage = b.file.storage }; data_file = b.data_file } → FillingStep view a b
   filling_written step rest = record {
     stays = step.stays;
     notes = step.notes;
@@ -83,7 +83,8 @@ module _ {S F : Type 0} {view : S → StorageView} where
             number = ap (λ (i : Qcow2 S F). i.number) lists;
             size = ap (λ (i : Qcow2 S F). i.file.header.fields.size) lists;
             writable = ap (λ (i : Qcow2 S F). is_writable i) lists;
-            external = ap (λ (i : Qcow2 S F). is_external i) lists;
+            lacks = ap (λ (i : Qcow2 S F). lacks_data_file i) lists;
+            beside = ap (λ (i : Qcow2 S F). is_beside i) lists;
           };
           failed = ap (λ (i : Qcow2 S F). i.is_failed) lists;
         };

@@ -101,15 +101,15 @@ no_pins is_pinned n is not = elim (cases_lt 0 n) [
 module _ {S F : Type 0} (view : S → StorageView) (backing : F → BackingView) where
   pub reads_next : (how : ClearMode) (table first n : ℕ) (image : Qcow2 S F) (list list' : List ClustersToFreeEntry) → ReadsAll view backing how table first n image list → ReadsDropped view backing how table (first + n) image list list'
       → ReadsAll view backing how table first (suc n) image list'
-  reads_next how table first n image list list' before next p i sound at here fits =
+  reads_next how table first n image list list' before next p i alone sound at here fits =
       let h = image.file.header.fields in
       let row = entries_per_cluster h in
-      let so_far = before p i sound at here (omega (arith, fits)) in
+      let so_far = before p i alone sound at here (omega (arith, fits)) in
       let split : first / row * row + first % row ≡ first = div-add-mod' first row in
       let e : first + n ≡ first / row * row + (first % row + n) = omega (arith, split) in
       let column : (first + n) % row ≡ first % row + n = ap (λ x. x % row) e ∙ mod-mul-add (first / row) row (first % row + n) (omega (arith, fits)) in
       let above : (first + n) / row ≡ first / row = ap (λ x. x / row) e ∙ div-mul-add (first / row) row (first % row + n) (omega (arith, fits)) in
-      let one = next p i sound (record { real = at.real; place = at.place; within = subst (λ x. x < row) (sym column) (omega (arith, fits)) }) (above ∙ here) in (
+      let one = next p i alone sound (record { real = at.real; place = at.place; within = subst (λ x. x < row) (sym column) (omega (arith, fits)) }) (above ∙ here) in (
         one.0 ∙ ap (λ l. l ++ listed_run (old_data_run h.cluster_bits (cover h (known_in view image.file) (first + n)) (cover_once_cleared how (cover h (known_in view image.file) (first + n))))) so_far.0,
         λ j lt. elim (cases_eq j n) [
           | inl same ↦ subst (λ x. IsInReach (cover h (known_in view image.file) (first + x))) (sym same) one.1
@@ -208,7 +208,7 @@ module _ {S F : Type 0} (view : S → StorageView) (backing : F → BackingView)
     fits = row_within (cluster_size h) (entries_per_cluster h) some_size from to whole.begins whole.ends lt some_row whole.within
 
     all_read : (list ≡ listed_by how h known guest count) × ((j : ℕ) → j < count → IsInReach (cover h known (guest + j)))
-    all_read = reads p (l1_index_of h from) found.sound.file holds.entry refl fits
+    all_read = reads p (l1_index_of h from) found.sound.alone found.sound.file holds.entry refl fits
 
     may : MayClear view backing how table (l1_index_of h from) (l2_index_of h from) count mid out p
     may = record {

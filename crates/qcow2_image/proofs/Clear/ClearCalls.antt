@@ -1,6 +1,6 @@
 -- Clearing as a call: it succeeds, or is refused and perhaps marked as failed.
 use Rattle.std.proofs.Common.{◌≡◌, ◌⊎◌, ◌+◌, ◌-◌, ◌<◌, ◌≤◌, ◌∷◌, ◌&&◌, inl, inr, ℕ, Bool, true, false, List, [], Option, refl, sym, ap, ◌∙◌, subst, arith, min, cond, IsTrue, IsErr, IsErrAnd, Result, Ok, Err, Some, None, nat_lt}
-use Rattle.qcow2_image.proofs.Common.{IfSome, MatchOption, not, option_or, pow_pos, cases_lt, cond-true, cond-false, le-ltb, lt-ltb, fun_ext, BackingView, StorageView, HeaderFields, cluster_size, entries_per_cluster, Value, known_byte, Bytes, laid_over, AbstractImage, Setting, guest_of, Clearing, to_zero, to_kept_zero, to_backing, IsRefusalByFault, IsSame, Refusal, storage, another, EffectOnSound, RefusedEffect, cleared, with_disk, Disk, given_shown, answered, touched_to, GivenBytes, Sizes-from, works_less, works_then, laid_outside, ImageError, contents_in, known_in, EndsFreeing, RefusedCall, InternalCall, refusal_of, Clears, ClearsImageCovers, ClearsPart, IsUnderMapping, IsClearable, RefusesUngiven, from_in, given_bytes_between, all_given_by_clear, needs_zero_entries, refuses_to_clear, rounds_past, setting_of, shown_by, to_in, ClearMode, Qcow2, Prepared, number_of, is_external, is_failed, is_writable, size_of, has_noted_change, ImageInvariant, abstract_of, disk_of, pending_in, passes, refuse_if, MovesTables, CoversStay}
+use Rattle.qcow2_image.proofs.Common.{IfSome, MatchOption, not, option_or, pow_pos, cases_lt, cond-true, cond-false, le-ltb, lt-ltb, fun_ext, BackingView, StorageView, HeaderFields, cluster_size, entries_per_cluster, Value, known_byte, Bytes, laid_over, AbstractImage, Setting, guest_of, Clearing, to_backing, IsRefusalByFault, IsSame, Refusal, storage, another, EffectOnSound, RefusedEffect, cleared, with_disk, Disk, given_shown, answered, touched_to, GivenBytes, Sizes-from, works_less, works_then, laid_outside, ImageError, contents_in, known_in, EndsFreeing, RefusedCall, InternalCall, refusal_of, Clears, ClearsImageCovers, ClearsPart, IsUnderMapping, IsClearable, RefusesUngiven, from_in, given_bytes_between, all_given_by_clear, needs_zero_entries, refuses_to_clear, rounds_past, setting_of, shown_by, to_in, ClearMode, Qcow2, Prepared, number_of, lacks_data_file, is_failed, is_writable, size_of, has_noted_change, ImageInvariant, abstract_of, disk_of, pending_in, passes, refuse_if, MovesTables, CoversStay}
 use Rattle.qcow2_alloc.specs.declared.error.ImageError.TheVariants as I
 use Rattle.qcow2_image.proofs.Call.Marked.{MayMark}
 use Rattle.qcow2_image.proofs.Call.Called.{Quietly, listed, refuses_early, works_none}
@@ -44,7 +44,7 @@ works_if false more rest is = refl
 works_if true more rest is = absurd cc
 
 pub clear_works : {S F : Type 0} (image : Qcow2 S F) (offset n : ℕ) (how : ClearMode) → refuses_to_clear image offset n how ≡ None → is_failed image ≡ false
-clear_works image offset n how is = works_if (is_failed image) (refuse_if (is_external image) I.Dependency) _ is
+clear_works image offset n how is = works_if (is_failed image) (refuse_if (lacks_data_file image) I.Dependency) _ is
 
 -- of nothing, nothing is cleared
 none_laid : (from to : ℕ) (values : ℕ → ℕ → Value) (d : Disk) → to ≤ from → record d { value = laid_over from (to - from) (values from) d.value } ≡ d
@@ -73,7 +73,7 @@ pub clears_early : {S F : Type 0} (view : S → StorageView) (backing : F → Ba
 clears_early view backing old how offset n x is = λ out.
     let v = abstract_of view backing old out in
     refuses_more v v (all_given_by_clear view backing old how offset n) (refusal_of x) _
-    (refuses_early v (refusal_of x) (none_fails (is_failed old) (is_external old) (not (is_writable old)) (passes (size_of old) offset n) (needs_zero_entries how && nat_lt old.file.header.fields.version 3) (rounds_past (cluster_size old.file.header.fields) (size_of old) offset n) x is))
+    (refuses_early v (refusal_of x) (none_fails (is_failed old) (lacks_data_file old) (not (is_writable old)) (passes (size_of old) offset n) (needs_zero_entries how && nat_lt old.file.header.fields.version 3) (rounds_past (cluster_size old.file.header.fields) (size_of old) offset n) x is))
 
 -- nor did that give anything
 pub ungiven_early : {S F : Type 0} (view : S → StorageView) (backing : F → BackingView) (old : Qcow2 S F) (x : ImageError) → RefusesUngiven view backing old old x

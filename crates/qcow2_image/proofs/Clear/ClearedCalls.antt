@@ -1,12 +1,12 @@
 -- The contract of calls that clear a range: if one is refused at once, if no cluster is whole, and how one begins that clears some.
 use Rattle.std.proofs.Common.{◌≡◌, ◌*◌, ◌<◌, ◌≤◌, ◌&&◌, ◌∙◌, inl, inr, ℕ, Bool, true, false, List, Option, Some, None, Result, Ok, Err, refl, sym, ap, subst, arith, IsErr, IsErrAnd, IsTrue, nat_le, nat_lt}
-use Rattle.qcow2_image.proofs.Common.{IfSome, MatchOption, not, option_or, and_left, and_right, cases_lt, cond-false, le-ltb, lt-leb, BackingView, StorageView, Pending, Bytes, cover, cluster_size, HeaderFields, handed_on, known_in, ImageError, InternalCall, ClearsImageCovers, ClearsOrRefuses, ClearsPart, IsClearable, cover_once_cleared, from_in, is_between, needs_zero_entries, refuses_to_clear, rounds_past, to_in, ClearsSoundly, ClearsStep, FailsToClear, CountsImageFaults, IsNotOfStorage, SameFaults, IsSameImage, has_noted_change, is_external, is_failed, is_writable, size_of, ImageInvariant, pending_in, failed_after, passes, refuse_if, InternalStep, ClearMode, Qcow2, Prepared}
+use Rattle.qcow2_image.proofs.Common.{IfSome, MatchOption, not, option_or, and_left, and_right, cases_lt, cond-false, le-ltb, lt-leb, BackingView, StorageView, Pending, Bytes, cover, cluster_size, HeaderFields, handed_on, known_in, ImageError, InternalCall, ClearsImageCovers, ClearsOrRefuses, ClearsPart, IsClearable, cover_once_cleared, from_in, is_between, needs_zero_entries, refuses_to_clear, rounds_past, to_in, ClearsSoundly, ClearsStep, FailsToClear, CountsImageFaults, IsNotOfStorage, SameFaults, IsSameImage, has_noted_change, lacks_data_file, is_failed, is_writable, size_of, ImageInvariant, pending_in, failed_after, passes, refuse_if, InternalStep, ClearMode, Qcow2, Prepared}
 use Rattle.qcow2_alloc.specs.declared.error.ImageError.TheVariants as I
 use Rattle.qcow2_image.proofs.Lemmas.{behind_none, Quietly, counted_ok, fewer_of, untouched, fails_none, part_none, begins, clear_works, clears_early, clears_nothing, if_some, not_refused, refused_for, ungiven_early, whole_in, none_answered}
 
 -- the same image after two parts of a call
 pub same_image_then : {S F : Type 0} {old mid new : Qcow2 S F} → IsSameImage old mid → IsSameImage mid new → IsSameImage old new
-same_image_then first second = record { number = second.number ∙ first.number; size = second.size ∙ first.size; writable = second.writable ∙ first.writable; external = second.external ∙ first.external }
+same_image_then first second = record { number = second.number ∙ first.number; size = second.size ∙ first.size; writable = second.writable ∙ first.writable; lacks = second.lacks ∙ first.lacks; beside = second.beside ∙ first.beside }
 
 none_early : {A : Type 0} (o : Option A) (P : A → Type 0) → o ≡ None → IfSome o P
 none_early None P is = tt
@@ -51,13 +51,13 @@ module _ {S F : Type 0} (view : S → StorageView) (backing : F → BackingView)
     step_refused : IsNotOfStorage e → ClearsStep view backing old old (Err e)
     step_refused other =
         record {
-          image = record { number = refl; size = refl; writable = refl; external = refl };
-          marks = early_marks (is_failed old) (is_external old) (not (is_writable old)) (passes (size_of old) offset n) (needs_zero_entries how && nat_lt old.file.header.fields.version 3)
+          image = record { number = refl; size = refl; writable = refl; lacks = refl; beside = refl };
+          marks = early_marks (is_failed old) (lacks_data_file old) (not (is_writable old)) (passes (size_of old) offset n) (needs_zero_entries how && nat_lt old.file.header.fields.version 3)
               (rounds_past (cluster_size old.file.header.fields) (size_of old) offset n) e refused_so (is_failed old) (has_noted_change old);
           since = part_none view old;
           once_written = fails_none view old (Err e);
           header_cluster = behind_none;
-          faults = counted_other view backing old old e other (untouched view backing old old refl refl);
+          faults = counted_other view backing old old e other (untouched view backing old old refl refl refl);
         }
 
     fails_refused : FailsToClear view backing how old old offset n (Err e)
@@ -112,12 +112,12 @@ module _ {S F : Type 0} (view : S → StorageView) (backing : F → BackingView)
 
       pub idle_step : ClearsStep view backing old old (Ok (first, 0))
       idle_step = record {
-        image = record { number = refl; size = refl; writable = refl; external = refl };
+        image = record { number = refl; size = refl; writable = refl; lacks = refl; beside = refl };
         marks = refl;
         since = part_none view old;
         once_written = fails_none view old (Ok (first, 0));
         header_cluster = behind_none;
-        faults = counted_ok view backing old old (first, 0) (untouched view backing old old refl refl);
+        faults = counted_ok view backing old old (first, 0) (untouched view backing old old refl refl refl);
       }
 
       pub idle_fails : FailsToClear view backing how old old offset n (Ok (first, 0))

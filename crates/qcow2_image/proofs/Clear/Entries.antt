@@ -229,6 +229,7 @@ module _ {S F : Type 0} (view : S → StorageView) (backing : F → BackingView)
     l1_table = record { cluster = sound.l1_table.cluster; bits = sound.l1_table.bits; count = sound.l1_table.count; entries = sound.l1_table.entries };
     reftable = reftable_still view a.file final.file refl refl counts_stay a.allocator sound.reftable;
     inside = sound.inside;
+    alone = sound.alone;
     below = sound.below;
     ready = λ j r there. let ready = sound.ready j r there in record { own = ready.own; mapped = still j r there r.table refl ready.mapped };
     pinned = λ table. clears.marks.pins table ∙ sound.pinned table;

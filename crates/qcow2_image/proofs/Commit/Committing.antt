@@ -343,6 +343,7 @@ module _ {S F : Type 0} (view : S → StorageView) (backing : F → BackingView)
       l1_table = record { cluster = sound.l1_table.cluster; bits = sound.l1_table.bits; count = sound.l1_table.count; entries = sound.l1_table.entries };
       reftable = reftable_still view old.file final.file refl refl (counts_now s known row column (copied_entry host) sound.file.caches.kept.kept.crash_invariant at_entry.real at_entry.within entry.change) old.allocator sound.reftable;
       inside = sound.inside;
+      alone = sound.alone;
       below = sound.below;
       ready = ready_now;
       pinned = λ table. marks.pins table ∙ sound.pinned table ∙ sym (same_pins table);

@@ -215,7 +215,7 @@ module _ {S F : Type 0} (view : S → StorageView) (backing : F → BackingView)
 
   pub first_none : (old : Qcow2 S F) (p : Prepared) → EntersFirst old old p p 0 false
   first_none old p = record {
-    stays = record { image = record { number = refl; size = refl; writable = refl; external = refl }; failed = refl };
+    stays = record { image = record { number = refl; size = refl; writable = refl; lacks = refl; beside = refl }; failed = refl };
     rest = refl;
     none = λ _. (refl, refl);
     mapping = refl;
@@ -267,7 +267,7 @@ module _ {S F : Type 0} (view : S → StorageView) (backing : F → BackingView)
         let table : r.table ≡ q.table = ap (λ (x : Prepared). x.table) enters.mapping in
         record {
           stays = record {
-            image = record { number = stays.image.number ∙ first.stays.image.number; size = stays.image.size ∙ first.stays.image.size; writable = stays.image.writable ∙ first.stays.image.writable; external = stays.image.external ∙ first.stays.image.external };
+            image = record { number = stays.image.number ∙ first.stays.image.number; size = stays.image.size ∙ first.stays.image.size; writable = stays.image.writable ∙ first.stays.image.writable; lacks = stays.image.lacks ∙ first.stays.image.lacks; beside = stays.image.beside ∙ first.stays.image.beside };
             failed = stays.failed ∙ first.stays.failed;
           };
           rest = rest_entered old now enters.mid new (old_data_by enters.cluster_mapping) first.rest enters.enters.rest enters.lists;

@@ -1,5 +1,5 @@
 -- A prepared mapping is released: its slot is empty, and its new clusters wait to be freed.
-use Rattle.std.proofs.Common.{◌≡◌, ◌+◌, ◌-◌, ◌≤◌, ◌++◌, inl, inr, ℕ, List, [], refl, sym, ap, ◌∙◌, subst, arith, Option, Some, None}
+use Rattle.std.proofs.Common.{◌≡◌, ◌-◌, ◌≤◌, ◌++◌, inl, inr, ℕ, List, [], refl, sym, ap, ◌∙◌, subst, arith, Option, Some, None}
 use Rattle.qcow2_image.proofs.Common.{slice_get, slice_set, cases_lt, fun_ext, BackingView, StorageView, Bytes, HeaderFields, new_data_to_old_data, disk, Pending, CrashInvariant, DriverState, SafeStep, AreNamedBlocks, guest_of, with_slot, pending_safe_throughout, pending_is_changed, CachedTable, l2_pins, SameTables, MetadataCaches, order_of, known_of, CacheInvariant, state_in, view_in, contents_in, known_in, nothing_given, count, Qcow2, Prepared, ClusterMapping, Discards, freed_by, of_data, of_tables, new_data_by, pins_by, pending_in, abstract_of, meaning, backing_bytes, IsReadyWith, ImageInvariant, rests_none, header, cover, file_invariant_of}
 use Rattle.qcow2_image.proofs.Call.Answered.{same_guest}
 use Rattle.qcow2_image.proofs.Images.ClusterMappings.{IsOfData, freed_data, freed_tables, of_data_at, over_all_at, ready_table}
@@ -74,6 +74,7 @@ module _ {S F : Type 0} (view : S → StorageView) (backing : F → BackingView)
         l1_table = record { cluster = sound.l1_table.cluster; bits = sound.l1_table.bits; count = sound.l1_table.count; entries = sound.l1_table.entries };
         reftable = reftable_still view old.file left.file refl refl (λ k. ap (λ (b : Bytes). count h b k) (sym same_known)) old.allocator sound.reftable;
         inside = sound.inside;
+        alone = sound.alone;
         below = sound.below;
         ready = λ j q there. let r = sound.ready j q (others_left out k j q there) in record { own = r.own; mapped = subst (λ (b : Bytes). IsReadyWith h b (contents_in view old.file) q q.table) (sym same_known) r.mapped };
         pinned = λ table. let all = over_all_left pins_by out k p at table in let was = sound.pinned table in let now = pins table in omega arith;

@@ -1,6 +1,6 @@
 -- Why an image is not created: the refusals of its parts, and when a fault of the storage is reported.
 use Rattle.std.proofs.Common.{◌≡◌, ◌≢◌, ◌⊎◌, ◌+◌, ◌^◌, ◌<◌, ◌≤◌, [], inl, inr, ℕ, true, Option, Some, None, Result, Ok, Err, refl, sym, ap, ◌∙◌, subst, arith, IfErr, IsTrue}
-use Rattle.qcow2_image.proofs.Common.{not, option_or, bit_at, trailing_zeros, w64, cases_eq, cases_lt, pow-add, pow_pos, pow_mono, BackingView, StorageView, rose_since, ImageError, byte_at, header, CanBeNew, IsConsistent, IsNewImage, new_image_consistent, IsOpened, FaultsReported, IsFault, Qcow2, CountsImageFaults, is_writable, storage_of_image, abstract_of, faults_below, HasLogarithms, IsAllowed, IsReasonAgainst, backing_format_in, backing_name_in, IsCreated, IsReasonNotToCreate, IsReasonNotToCreateOpen, LacksPlaceCreating, longest_disk, Qcow2CreateBuilder, IsJustifiedRefusal, OpensRightly, IsFaultOrLimit, MayFail, IsUnlimited, refuse_if, refuses_to_resize}
+use Rattle.qcow2_image.proofs.Common.{not, option_or, bit_at, trailing_zeros, w64, cases_eq, cases_lt, pow-add, pow_pos, pow_mono, BackingView, StorageView, rose_since, ImageError, byte_at, header, CanBeNew, IsConsistent, IsNewImage, new_image_consistent, IsOpened, FaultsReported, IsFault, Qcow2, CountsImageFaults, faults_beside, is_writable, storage_of_image, abstract_of, faults_below, HasLogarithms, IsAllowed, IsReasonAgainst, backing_format_in, backing_name_in, data_file_name_in, IsCreated, IsReasonNotToCreate, IsReasonNotToCreateOpen, LacksPlaceCreating, longest_disk, Qcow2CreateBuilder, IsJustifiedRefusal, OpensRightly, IsFaultOrLimit, MayFail, IsUnlimited, refuse_if, refuses_to_resize}
 use Rattle.std.proofs.lemmas.Nat.Bits.{bit_at-pow_other, bit_at-pow_same, bit_at-trailing_zeros}
 use Rattle.qcow2_alloc.specs.declared.error.ImageError.TheVariants as I
 use Rattle.qcow2_image.proofs.Images.Sizes.{sound_is_usable}
@@ -37,10 +37,10 @@ module _ {S F : Type 0} (view : S → StorageView) where
   pub told_opening : {T : Type 0} (before : ℕ) (storage : S) (e : ImageError) → OpeningCounts {F = F} view before (Err (storage, e)) → FaultsReported {T = T} before (view storage).faults (Err e)
   told_opening before storage e counts = record { no_fewer = counts.no_fewer; rose = λ is. counts.rose (cc is); told = counts.told }
 
-  -- an image that is opened, changed and closed, with no disk below that fails
-  pub told_closed : {T : Type 0} (backing : F → BackingView) → ((b : F) → (backing b).faults ≡ 0) → (before : ℕ) (old new : Qcow2 S F) (last : S) (r : Result T ImageError) → (view (storage_of_image old)).faults ≡ before → CountsImageFaults view backing old new r
+  -- an image that is opened, changed and closed, with no disk below that fails, and no data file
+  pub told_closed : {T : Type 0} (backing : F → BackingView) → ((b : F) → (backing b).faults ≡ 0) → (before : ℕ) (old new : Qcow2 S F) (last : S) (r : Result T ImageError) → old.data_file ≡ None → new.data_file ≡ None → (view (storage_of_image old)).faults ≡ before → CountsImageFaults view backing old new r
       → last ≡ storage_of_image new → FaultsReported before (view last).faults r
-  told_closed {T} backing none before old new last r first counts is = subst (λ (s : S). FaultsReported before (view s).faults r) (sym is) (by r counts) where
+  told_closed {T} backing none before old new last r alone still first counts is = subst (λ (s : S). FaultsReported before (view s).faults r) (sym is) (by r counts) where
     below : (disk : Option F) → faults_below view backing disk ≡ 0
     below None = refl
     below (Some b) = none b
@@ -51,7 +51,10 @@ module _ {S F : Type 0} (view : S → StorageView) where
       no_fewer = omega (arith, first, counts.no_fewer.storage);
       rose = λ is. elim (counts.rose (cc is)) [
         | inl rose ↦ rose_since before (view (storage_of_image old)).faults (view (storage_of_image new)).faults (omega (arith, first)) rose
-        | inr rose ↦ absurd (omega (arith, rose, below old.backing, below new.backing))
+        | inr rose ↦ elim rose [
+          | inl rose ↦ absurd (omega (arith, rose, below old.backing, below new.backing))
+          | inr rose ↦ absurd (let was = ap (λ (file : Option S). faults_beside view file) alone in let now = ap (λ (file : Option S). faults_beside view file) still in omega (arith, rose, was, now))
+        ]
       ];
       told = λ other. (counts.told other).storage ∙ first;
     }
@@ -83,7 +86,7 @@ no_power n other bits lt is =
     ]
 
 module _ {S : Type 0} (builder : Qcow2CreateBuilder S) where
-  pub no_such_header : (bits order : ℕ) → builder.cluster_size ≡ 2 ^ bits → builder.refcount_width ≡ 2 ^ order → ¬ CanBeNew bits order (backing_name_in builder) (backing_format_in builder) None → ¬ IsAllowed builder
+  pub no_such_header : (bits order : ℕ) → builder.cluster_size ≡ 2 ^ bits → builder.refcount_width ≡ 2 ^ order → ¬ CanBeNew bits order (backing_name_in builder) (backing_format_in builder) (data_file_name_in builder) → ¬ IsAllowed builder
   no_such_header bits order clusters counts none allowed =
       let same : allowed.cluster_bits ≡ bits = same_power allowed.cluster_bits bits (sym allowed.cluster_size_is ∙ clusters) in
       let same_order : allowed.refcount_order ≡ order = same_power allowed.refcount_order order (sym allowed.refcount_width_is ∙ counts) in

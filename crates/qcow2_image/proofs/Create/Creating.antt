@@ -1,6 +1,6 @@
 -- An unwritten image is opened, grown and flushed: what a stop leaves meanwhile, and what the storage holds then.
-use Rattle.std.proofs.Common.{◌≡◌, ◌⊎◌, ◌^◌, ◌∷◌, ◌++◌, inl, inr, ⊎_elim, ℕ, List, [], None, Some, Result, Ok, Err, refl, sym, ap, ◌∙◌, subst, arith, false, IfOk, Option, is_some}
-use Rattle.qcow2_image.proofs.Common.{OnOk, option_map, BackingView, StorageView, EachMomentSince, IsLeftBy, PreallocateMode, passes_on, passes_if, IsHeaderIn, KeepsHeaderRest, Bytes, byte_at, HeaderFields, HeaderView, cluster_size, header, new_header, new_fields, HasNewNames, disk, disk_with, SafeThroughout, Checkpoint, checkpoint_at, checkpoint_with, IsAsked, StopOkEverywhere, LeavesKept, IsNewImage, HasNoLeaks, places_of, with_places, IsOpened, ImageError, nothing_given, view_in, Qcow2CreateBuilder, Qcow2, backing_format_in, backing_name_in, IsUnwritten, IsStopOfCreating, StopsCreating, StaysCreating, IsNewHeader, IsCreated, Enlarges, IsMade, IsThreeWith, WritesThree, FitsSize, SameFormat, ReachesSize, storage_of_image, IsKeptSince, needs_another, abstract_of, header_rest_same, header_rest_then, new_image_exact}
+use Rattle.std.proofs.Common.{◌≡◌, ◌+◌, length, ◌⊎◌, ◌^◌, ◌∷◌, ◌++◌, inl, inr, ⊎_elim, ℕ, List, [], None, Some, Result, Ok, Err, refl, sym, ap, ◌∙◌, subst, arith, false, IfOk, Option, is_some}
+use Rattle.qcow2_image.proofs.Common.{name_place, unwrap_or, OnOk, option_map, BackingView, StorageView, EachMomentSince, IsLeftBy, PreallocateMode, passes_on, passes_if, IsHeaderIn, KeepsHeaderRest, Bytes, byte_at, HeaderFields, HeaderView, header, new_header, new_fields, HasNewNames, disk, disk_with, SafeThroughout, Checkpoint, checkpoint_at, checkpoint_with, IsAsked, StopOkEverywhere, LeavesKept, IsNewImage, HasNoLeaks, places_of, with_places, IsOpened, ImageError, nothing_given, view_in, Qcow2CreateBuilder, Qcow2, backing_format_in, backing_name_in, IsUnwritten, IsStopOfCreating, StopsCreating, StaysCreating, IsNewHeader, IsCreated, Enlarges, IsMade, IsThreeWith, WritesThree, FitsSize, SameFormat, ReachesSize, storage_of_image, IsKeptSince, needs_another, abstract_of, header_rest_same, header_rest_then, new_image_exact}
 use Rattle.std.specs.String.{string_bytes}
 use Rattle.image_access.specs.declared.storage.PreallocateMode.TheVariants as Mode
 use Rattle.qcow2_image.proofs.Open.SameHeaders.{alone_still, names_still, not_needed}
@@ -143,7 +143,7 @@ new_header_is v bits order name format is names = record {
   names = names;
 }
 
-module _ {S : Type 0} (view : S → StorageView) (builder : Qcow2CreateBuilder S) (bits order : ℕ) (v : HeaderView) (is : v ≡ new_header bits order (backing_name_in builder) (backing_format_in builder) None) (start mid : S)
+module _ {S : Type 0} (view : S → StorageView) (builder : Qcow2CreateBuilder S) (bits order : ℕ) (v : HeaderView) (is : v ≡ new_header bits order (backing_name_in builder) (backing_format_in builder) None) (own : builder.data_file_name ≡ None) (start mid : S)
     (three : StaysCreating Mode.None 0 (view start) (view mid) × IsNewImage v.fields (byte_at (view mid).contents)) where
   pub unwritten : IsUnwritten 0 (byte_at (view mid).contents)
   unwritten = new_unwritten v.fields (byte_at (view mid).contents) three.1 (ap (λ (w : HeaderView). w.fields.size) is)
@@ -175,15 +175,17 @@ module _ {S : Type 0} (view : S → StorageView) (builder : Qcow2CreateBuilder S
           alone = λ unnamed.
               let none : needs_another v ≡ false = ap (λ (w : HeaderView). needs_another w) is ∙ ap (λ (o : Option _). is_some (option_map string_bytes o)) unnamed in
               not_needed N.OtherFiles v (view mid).contents stands none;
-          no_more = λ _. subst (λ n. IsThreeClusters n (header_end builder) (view mid).contents) (sym clusters) (subst (λ (w : HeaderView). IsThreeWith w (view mid).contents) is three_alone);
+          no_more = λ _. subst (λ n. IsThreeClusters n (header_end builder) (view mid).contents) (sym clusters)
+              (subst (λ (o : Option _). IsThreeClusters (2 ^ bits) (name_place (backing_format_in builder) (option_map string_bytes o) + length (unwrap_or (backing_name_in builder) [])) (view mid).contents) (sym own)
+              (subst (λ (w : HeaderView). IsThreeWith w (view mid).contents) is three_alone));
         };
         new_image = subst (λ (h : HeaderFields). IsNewImage h (byte_at (view mid).contents)) (sym three.1.header_is) three.1;
       }
 
-pub made_by : {S : Type 0} (view : S → StorageView) (builder : Qcow2CreateBuilder S) (bits order : ℕ) (v : HeaderView) (is : v ≡ new_header bits order (backing_name_in builder) (backing_format_in builder) None) (start mid : S) (r : Result (Unit {0}) ImageError)
+pub made_by : {S : Type 0} (view : S → StorageView) (builder : Qcow2CreateBuilder S) (bits order : ℕ) (v : HeaderView) (is : v ≡ new_header bits order (backing_name_in builder) (backing_format_in builder) None) (own : builder.data_file_name ≡ None) (start mid : S) (r : Result (Unit {0}) ImageError)
     → WritesThree v.fields (view start) (view mid) r → builder.cluster_size ≡ 2 ^ bits → builder.refcount_width ≡ 2 ^ order → OnOk r (IsHeaderIn v (view mid).contents) → OnOk r (IsThreeWith v (view mid).contents) → IfOk r (λ done. IsMade view builder mid)
-made_by view builder bits order v is start mid (Ok x) three clusters counts stands three_alone = made_empty view builder bits order v is start mid three clusters counts stands three_alone
-made_by view builder bits order v is start mid (Err e) three clusters counts stands three_alone = tt
+made_by view builder bits order v is own start mid (Ok x) three clusters counts stands three_alone = made_empty view builder bits order v is own start mid three clusters counts stands three_alone
+made_by view builder bits order v is own start mid (Err e) three clusters counts stands three_alone = tt
 
 pub three_stops : (h : HeaderFields) (old new : StorageView) (r : Result (Unit {0}) ImageError) → WritesThree h old new r → StopsCreating Mode.None 0 old new
 three_stops h old new (Ok x) three = three.0.moments

@@ -1,6 +1,6 @@
 -- Creating is refused only for a limit or a fault.
-use Rattle.std.proofs.Common.{◌≡◌, ◌⊎◌, ◌<◌, ◌≤◌, inl, inr, ℕ, true, false, List, [], None, Result, Ok, Err, refl, sym, ap, ◌∙◌, subst, arith, IfErr, IsTrue, is_some}
-use Rattle.qcow2_image.proofs.Common.{cases_lt, BackingView, StorageView, PreallocateMode, Bytes, byte_at, IsConsistent, cover, header, HasAlignedTables, MetadataError, HeaderFields, L2Mapping, Uncovered, IsOpened, IsCompressed, IsFault, of_metadata, known_in, view_in, ImageError, HasPinnedMapping, IsUnmapped, IsUnwritten, SameFormat, size_of, abstract_of, HasCompressedIn, MayFailGrowing, IsJustifiedRefusal, IsTableRefused, IsFaultOrLimit, takes_over, Qcow2, IfErr-weaker}
+use Rattle.std.proofs.Common.{◌≡◌, ◌⊎◌, ◌<◌, ◌≤◌, inl, inr, ℕ, true, false, List, [], Result, Ok, Err, refl, sym, ap, ◌∙◌, subst, arith, IfErr, IsTrue, is_some}
+use Rattle.qcow2_image.proofs.Common.{cases_lt, BackingView, StorageView, PreallocateMode, Bytes, byte_at, IsConsistent, cover, header, HasAlignedTables, MetadataError, HeaderFields, L2Mapping, Uncovered, IsOpened, IsCompressed, IsFault, of_metadata, known_in, view_in, ImageError, HasPinnedMapping, IsUnmapped, IsUnwritten, SameFormat, size_of, abstract_of, MayFailGrowing, IsJustifiedRefusal, IsTableRefused, IsFaultOrLimit, takes_over, Qcow2, IfErr-weaker}
 use Rattle.image_access.specs.declared.storage.PreallocateMode.TheVariants as Mode
 use Rattle.qcow2_metadata.specs.declared.error.MetadataError.TheVariants as M
 use Rattle.qcow2_alloc.specs.declared.error.ImageError.TheVariants as I

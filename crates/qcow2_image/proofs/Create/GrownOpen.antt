@@ -1,5 +1,5 @@
 -- A new image is opened by the builder that a closure returned for its storage, and its disk is grown: what it holds, and what a stop leaves.
-use Rattle.std.proofs.Common.{◌≡◌, ◌⊎◌, inl, inr, ℕ, List, [], Option, Result, Ok, true, false, ap, ◌∙◌, subst, sym, IfErr, IsTrue, is_some}
+use Rattle.std.proofs.Common.{◌≡◌, ◌⊎◌, inl, inr, ℕ, List, [], None, Option, Result, Ok, true, false, ap, ◌∙◌, subst, sym, IfErr, IsTrue, is_some}
 use Rattle.qcow2_image.proofs.Common.{option_flatten, BackingView, StorageView, passes_on, byte_at, header, HeaderFields, shows_old, known_in, view_in, ImageError, TablesBehindHeader, HoldsNewDisk, IsCreated, IsNewDisk, IsStopOfCreating, IsUnwritten, OpensGrown, StopsCreating, empty_of, IsHonestBacking, IsKeptSince, IsOpenedFrom, Opens, IsNewlyOpened, OpeningStep, files_missing, IsFaultOrLimit, takes_over, Qcow2CreateBuilder, Qcow2, Qcow2OpenBuilder}
 use Rattle.image_access.specs.declared.storage.PreallocateMode.TheVariants as Mode
 use Rattle.qcow2_alloc.specs.declared.error.ImageError.TheVariants as I
@@ -9,16 +9,16 @@ use Rattle.qcow2_image.proofs.Create.AllocatingPlace.{format_mid, known_covers, 
 use Rattle.qcow2_image.proofs.Open.NamedBehind.{lies_if}
 
 module _ {S F : Type 0} (view : S → StorageView) (backing : F → BackingView) (builder : Qcow2CreateBuilder S) (storage : S) (made : IsCreated (empty_of builder) (view storage)) (opener : Qcow2OpenBuilder S F) (image : Qcow2 S F)
-    (same : opener.image ≡ storage) (honest : IsHonestBacking view backing (option_flatten opener.backing)) where
+    (same : opener.image ≡ storage) (honest : IsHonestBacking view backing (option_flatten opener.backing)) (alone : option_flatten opener.data_file ≡ None) where
   module _ (r : Result (Unit {0}) ImageError) (grown : OpensGrown view backing opener builder.preallocate builder.size image r) where
     unwritten : IsUnwritten 0 (byte_at (view storage).contents)
     unwritten = made.new_disk
 
     from : IsOpenedFrom view backing (byte_at (view storage).contents) grown.opened
-    from = subst (λ (s : S). Opens view backing (view s) grown.opened) same (grown.opens honest) made.honest unwritten.consistent
+    from = subst (λ (s : S). Opens view backing (view s) grown.opened) same (grown.opens honest alone) made.honest unwritten.consistent
 
     since : IsKeptSince (view storage) (view_in view grown.opened.file)
-    since = (subst (λ (s : S). OpeningStep view (view s) true (files_missing opener.backing) (Ok grown.opened)) same grown.step).since made.honest unwritten.consistent
+    since = (subst (λ (s : S). OpeningStep view (view s) true (files_missing opener.backing opener.data_file) (Ok grown.opened)) same grown.step).since made.honest unwritten.consistent
 
     still : IsUnwritten 0 (byte_at (view_in view grown.opened.file).contents)
     still = opens_unwritten 0 (view storage) (view_in view grown.opened.file) unwritten since
@@ -54,7 +54,7 @@ module _ {S F : Type 0} (view : S → StorageView) (backing : F → BackingView)
         let acts = (grown.takes.sees []).acts in
         let format = format_mid view backing builder.size grown.opened image opened grown.new.writable_is (still (Ok tt) grown) builder.preallocate tt grown.takes in
         let new = subst (λ (s : S). IsNewlyOpened (view s) true opener.number grown.opened) same grown.new in
-        let lies = lies_if view backing (view storage).is_honest (view storage) (Ok grown.opened) (λ h. (h, (unwritten (Ok tt) grown).consistent)) (subst (λ (s : S). Opens view backing (view s) grown.opened) same (grown.opens honest)) new.header_cluster (inl made.honest) in
+        let lies = lies_if view backing (view storage).is_honest (view storage) (Ok grown.opened) (λ h. (h, (unwritten (Ok tt) grown).consistent)) (subst (λ (s : S). Opens view backing (view s) grown.opened) same (grown.opens honest alone)) new.header_cluster (inl made.honest) in
         record {
           sound = keeps.sound;
           number_is = acts.number ∙ grown.new.number_is;

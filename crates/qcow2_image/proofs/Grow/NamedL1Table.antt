@@ -133,6 +133,7 @@ module _ {S F : Type 0} (view : S → StorageView) (backing : F → BackingView)
       };
       reftable = reftable_now old.allocator sound.reftable;
       inside = sound.inside;
+      alone = sound.alone;
       below = sound.below;
       ready = λ k r at. let was = sound.ready k r at in record {
         own = was.own;

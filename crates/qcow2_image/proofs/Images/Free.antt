@@ -39,6 +39,7 @@ module _ {S F : Type 0} (view : S → StorageView) (backing : F → BackingView)
       l1_table = s.l1_table;
       reftable = s.reftable;
       inside = s.inside;
+      alone = s.alone;
       below = s.below;
       ready = λ k q e. let there = at k q e in s.ready there.0 q there.1;
       pinned = λ t. s.pinned t ∙ pins t;

@@ -39,6 +39,7 @@ module _ {S F : Type 0} (view : S → StorageView) (backing : F → BackingView)
       l1_table = l1_moved;
       reftable = reftable;
       inside = ap (λ (k : HeaderFields). k.incompatible) header ∙ sound.inside;
+      alone = sound.alone;
       below = sound.below;
       ready = λ k q at. let r = sound.ready k q at in record { own = r.own; mapped = ready_moved k q r.mapped };
       pinned = λ table. pins table ∙ sound.pinned table;

@@ -37,6 +37,7 @@ module _ {S F : Type 0} (view : S → StorageView) (backing : F → BackingView)
       l1_table = l1;
       reftable = reftable;
       inside = step.sound.inside;
+      alone = step.sound.alone;
       below = step.sound.below;
       ready = λ k q at. let r = step.sound.ready k q at in record { own = r.own; mapped = r.mapped };
       pinned = step.sound.pinned;

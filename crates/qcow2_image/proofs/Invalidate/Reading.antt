@@ -69,7 +69,7 @@ module _ {S F : Type 0} (view : S → StorageView) (old : Qcow2 S F) (storage' :
   pub places_read : ReadsPlaces view old (record old { file = record old.file { storage = storage' } })
   places_read = record {
     part = record {
-      stays = record { image = record { number = refl; size = refl; writable = refl; external = refl }; failed = refl };
+      stays = record { image = record { number = refl; size = refl; writable = refl; lacks = refl; beside = refl }; failed = refl };
       notes = notes_of_storage (kept_silent view old.file.storage storage' same silent honest);
       header_cluster = behind_silent (λ bits lies. lies) silent;
     };
@@ -91,7 +91,7 @@ module _ {S F : Type 0} (view : S → StorageView) (old : Qcow2 S F) (storage' :
   pub tables_read : ReadsTables view old (record old { file = record old.file { storage = storage' }; l1_table = table; allocator = allocator })
   tables_read = record {
     part = record {
-      stays = record { image = record { number = refl; size = refl; writable = some; external = refl }; failed = refl };
+      stays = record { image = record { number = refl; size = refl; writable = some; lacks = refl; beside = refl }; failed = refl };
       notes = notes_of_storage (kept_silent view old.file.storage storage' same silent honest);
       header_cluster = λ names. behind_silent (kept names) silent;
     };

@@ -1,5 +1,5 @@
 -- Tables are read with a header without names, and replace those in memory together with their pointers.
-use Rattle.std.proofs.Common.{◌≡◌, ◌<◌, ◌≤◌, ◌∙◌, Bool, false, true, ℕ, IsTrue, inl, inr, List, Option, Some, None, Result, Ok, Err, refl, sym, ap, subst}
+use Rattle.std.proofs.Common.{◌≡◌, ◌<◌, ◌≤◌, ◌∙◌, ◌&&◌, is_none, is_some, Bool, false, true, ℕ, IsTrue, inl, inr, List, Option, Some, None, Result, Ok, Err, refl, sym, ap, subst}
 use Rattle.qcow2_image.proofs.Common.{cases_lt, IfSome, OnErr, BackingView, StorageView, EntryTableView, HeaderView, has_data_file, with_fields, with_tables_of, HeaderFields, Pending, view_in, HasReftable, IsAllocatorOf, Allocator, MetadataCaches, ImageError, ImageFile, KeepsTablesBehind, NamesTablesBehind, TablesBehindHeader, CountsImageFaults, ReportsEach, HasL1Table, ImageInvariant, KeepsTables, ReadsTables, ReplacesTables, reftable_in, InternalStep, Qcow2, Prepared}
 use Rattle.qcow2_image.proofs.Invalidate.Reading.{behind_silent, stays_over, takes_over}
 
@@ -28,6 +28,7 @@ module _ {S F : Type 0} (view : S → StorageView) (backing : F → BackingView)
     l1_table = record { cluster = sound.l1_table.cluster; bits = sound.l1_table.bits; count = sound.l1_table.count; entries = sound.l1_table.entries };
     reftable = own_named image.file w image.allocator sound.reftable;
     inside = sound.inside;
+    alone = sound.alone;
     below = sound.below;
     ready = λ k q at. let r = sound.ready k q at in record { own = r.own; mapped = r.mapped };
     pinned = sound.pinned;
@@ -77,12 +78,12 @@ module _ {S F : Type 0} (view : S → StorageView) (backing : F → BackingView)
 
   -- what it counts
   told_named : {T : Type 0} (old mid : Qcow2 S F) (w v : HeaderView) (r : Result T ImageError) → ReportsEach view backing (with_header old w) mid r → ReportsEach view backing old (with_header mid v) r
-  told_named old mid w v (Ok x) told = record { storage = told.storage; below = told.below }
-  told_named old mid w v (Err e) told = λ other. let same = told other in record { storage = same.storage; below = same.below }
+  told_named old mid w v (Ok x) told = record { storage = told.storage; below = told.below; beside = told.beside }
+  told_named old mid w v (Err e) told = λ other. let same = told other in record { storage = same.storage; below = same.below; beside = same.beside }
 
   pub counts_named : {T : Type 0} (old mid : Qcow2 S F) (w v : HeaderView) (r : Result T ImageError) → CountsImageFaults view backing (with_header old w) mid r → CountsImageFaults view backing old (with_header mid v) r
   counts_named old mid w v r counts = record {
-    no_fewer = record { storage = counts.no_fewer.storage; below = counts.no_fewer.below };
+    no_fewer = record { storage = counts.no_fewer.storage; below = counts.no_fewer.below; beside = counts.no_fewer.beside };
     rose = counts.rose;
     told = told_named old mid w v r counts.told;
   }
@@ -92,6 +93,9 @@ module _ {S F : Type 0} (view : S → StorageView) (backing : F → BackingView)
 module _ {S F : Type 0} (view : S → StorageView) (old mid : Qcow2 S F) (w : HeaderView) (read : ReadsTables view (with_header old w) mid) where
   pub header_stays : mid.file.header ≡ w
   header_stays = ap (λ (i : Qcow2 S F). i.file.header) read.rest
+
+  data_stay : mid.data_file ≡ old.data_file
+  data_stay = ap (λ (i : Qcow2 S F). i.data_file) read.rest
 
   module _ (v : HeaderView) (others : w.fields ≡ with_tables_of old.file.header.fields w.fields) (is : v ≡ with_fields old.file.header (with_tables_of old.file.header.fields w.fields)) where
     pub places_taken : v.fields ≡ w.fields
@@ -112,7 +116,8 @@ module _ {S F : Type 0} (view : S → StorageView) (old mid : Qcow2 S F) (w : He
             number = read.part.stays.image.number;
             size = ap (λ (x : HeaderView). x.fields.size) is;
             writable = read.part.stays.image.writable;
-            external = ap (λ (x : HeaderView). has_data_file x.fields) is;
+            lacks = ap (λ (x : HeaderView). has_data_file x.fields && is_none mid.data_file) is ∙ ap (λ (d : Option S). has_data_file old.file.header.fields && is_none d) data_stay;
+            beside = ap (λ (d : Option S). is_some d) data_stay;
           };
           failed = read.part.stays.failed;
         };
@@ -140,7 +145,7 @@ module _ {S F : Type 0} (view : S → StorageView) (old mid : Qcow2 S F) (w : He
     none_taken = record {
       part = record {
         stays = record {
-          image = record { number = read.part.stays.image.number; size = refl; writable = read.part.stays.image.writable; external = refl };
+          image = record { number = read.part.stays.image.number; size = refl; writable = read.part.stays.image.writable; lacks = ap (λ (d : Option S). has_data_file old.file.header.fields && is_none d) data_stay; beside = ap (λ (d : Option S). is_some d) data_stay };
           failed = read.part.stays.failed;
         };
         notes = read.part.notes;

@@ -40,6 +40,7 @@ module _ {S F : Type 0} (view : S → StorageView) (backing : F → BackingView)
         l1_table = record { cluster = sound.l1_table.cluster; bits = sound.l1_table.bits; count = sound.l1_table.count; entries = λ i. sound.l1_table.entries i ∙ sym (l1_still i) };
         reftable = allocator_still old.allocator sound.reftable;
         inside = sound.inside;
+        alone = sound.alone;
         below = sound.below;
         ready = λ k q at. let r = sound.ready k q at in record {
           own = r.own;

@@ -1,6 +1,6 @@
 -- A lookup finds a special range exactly if the guest cluster is compressed, also past the size.
 use Rattle.std.proofs.Common.{◌≡◌, ◌/◌, inl, ℕ, Bool, true, false, refl, sym, ◌∙◌, subst, [], ap}
-use Rattle.qcow2_image.proofs.Common.{Bytes, cover, header, cluster_size, HeaderFields, L2Mapping, Data, Zero, Compressed, Uncovered, Refusal, AnsweredEffect, RefusedEffect, IsSame, storage, AbstractImage, Kind, raw, indirect, zeros, special, eof, kind_at, IsCompressed, IsCompressedAt, IsSpecial, MappingKind, found_kind}
+use Rattle.qcow2_image.proofs.Common.{Bytes, cover, header, cluster_size, HeaderFields, L2Mapping, Data, Zero, Compressed, Uncovered, Refusal, AnsweredEffect, RefusedEffect, IsSame, storage, AbstractImage, Kind, raw, indirect, zeros, special, eof, kind_at, kind_in, IsCompressed, IsCompressedAt, IsSpecial, MappingKind, found_kind}
 use Rattle.qcow2_image.specs.declared.mapping.MappingKind.TheVariants as M
 use Rattle.qcow2_image.specs.SpecialReads.{is_special}
 
@@ -26,12 +26,18 @@ special_told (M.Zero explicit) is = absurd is
 special_told M.Eof is = absurd is
 
 -- the kind that a compressed cluster is found as
-pub special_found : (h : HeaderFields) (b : Bool) (offset : ℕ) (v : L2Mapping) (kind : MappingKind) → found_kind kind ≡ kind_at h b offset v → IsCompressed v → IsSpecial kind
-special_found h b offset v (M.Special o) found is = tt
-special_found h b offset v (M.Raw place host writable) found is = absurd (let no = ap is_special found ∙ compressed_special h b offset v is in cc)
-special_found h b offset v (M.Indirect o) found is = absurd (let no = ap is_special found ∙ compressed_special h b offset v is in cc)
-special_found h b offset v (M.Zero explicit) found is = absurd (let no = ap is_special found ∙ compressed_special h b offset v is in cc)
-special_found h b offset v M.Eof found is = absurd (let no = ap is_special found ∙ compressed_special h b offset v is in cc)
+compressed_kind : (h : HeaderFields) (beside b : Bool) (offset : ℕ) (v : L2Mapping) → IsCompressed v → is_special (kind_in h beside b offset v) ≡ true
+compressed_kind h beside b offset (Data host copied) is = absurd is
+compressed_kind h beside b offset (Zero kept) is = absurd is
+compressed_kind h beside b offset (Compressed place sectors) is = refl
+compressed_kind h beside b offset Uncovered is = absurd is
+
+pub special_found : (h : HeaderFields) (beside b : Bool) (offset : ℕ) (v : L2Mapping) (kind : MappingKind) → found_kind kind ≡ kind_in h beside b offset v → IsCompressed v → IsSpecial kind
+special_found h beside b offset v (M.Special o) found is = tt
+special_found h beside b offset v (M.Raw place host writable) found is = absurd (let no = ap is_special found ∙ compressed_kind h beside b offset v is in cc)
+special_found h beside b offset v (M.Indirect o) found is = absurd (let no = ap is_special found ∙ compressed_kind h beside b offset v is in cc)
+special_found h beside b offset v (M.Zero explicit) found is = absurd (let no = ap is_special found ∙ compressed_kind h beside b offset v is in cc)
+special_found h beside b offset v M.Eof found is = absurd (let no = ap is_special found ∙ compressed_kind h beside b offset v is in cc)
 
 module _ (known : Bytes) (b : Bool) (offset : ℕ) where
   abbrev IsKindThere : Kind → Type 0

@@ -114,9 +114,9 @@ module _ {S F : Type 0} (view : S → StorageView) (backing : F → BackingView)
         list = list;
       }
 
-  pub opened : (image : Qcow2 S F) (surplus : ℕ → ℕ) → is_failed image ≡ false → IsHonestBacking view backing image.backing → IsLoaded view backing (nothing_pending surplus) image.file image.l1_table image.allocator
+  pub opened : (image : Qcow2 S F) (surplus : ℕ → ℕ) → is_failed image ≡ false → image.data_file ≡ None → IsHonestBacking view backing image.backing → IsLoaded view backing (nothing_pending surplus) image.file image.l1_table image.allocator
       → IsOpened (abstract_of view backing image []) × ((abstract_of view backing image []).surplus ≡ surplus)
-  opened image surplus works below loaded =
+  opened image surplus works alone below loaded =
       let p = nothing_pending surplus in
       let at : ImageInvariant view backing p image [] = record {
         works = works;
@@ -124,6 +124,7 @@ module _ {S F : Type 0} (view : S → StorageView) (backing : F → BackingView)
         l1_table = loaded.l1_table;
         reftable = loaded.reftable;
         inside = loaded.new_tables.inside;
+        alone = alone;
         below = below;
         ready = λ k q none. absurd cc;
         pinned = loaded.new_tables.unpinned;

@@ -1,5 +1,5 @@
 -- The bytes of an image hold only one header, and an image that needs another file is refused for that.
-use Rattle.std.proofs.Common.{◌≡◌, ◌≢◌, ◌⊎◌, ◌/◌, ◌%◌, ◌||◌, ◌==◌, Result, ℕ, is_some, List, true, false, Bool, refl, sym, ap, ◌∙◌, subst, inl, inr}
+use Rattle.std.proofs.Common.{◌≡◌, ◌≢◌, ◌⊎◌, ◌/◌, ◌%◌, ◌||◌, ◌==◌, Result, ℕ, Option, is_some, List, true, false, Bool, refl, sym, ap, ◌∙◌, subst, inl, inr}
 use Rattle.qcow2_image.proofs.Common.{StorageView, Bytes, byte_at, IsConsistent, KeepsHeaderRest, header_rest_back, header, HeaderView, HeaderReads, has_data_file, HeaderFields, IsHeaderIn, IsReasonToRefuse, OnlyReads, MetadataError, ImageError, Dependency, UnalignedTable, of_metadata, IsFault, needs_missing, needs_another, NeedsAnother, NeedsMissing, Missing, MayFail, ContentsStayThroughout}
 use Rattle.qcow2_disk.proofs.HeaderNames.{names_stay}
 use Rattle.qcow2_metadata.specs.declared.error.MetadataError.TheVariants as M
@@ -26,6 +26,7 @@ refused_before h b writable _ reads why = inr (inr refl)
 pub lacks_so : (missing : Missing) (v w : HeaderView) (contents : List ℕ) → IsHeaderIn v contents → IsHeaderIn w contents → needs_missing missing v ≡ needs_missing missing w
 lacks_so N.Nothing v w contents is it = refl
 lacks_so N.DataFile v w contents is it = ap has_data_file (is.fields ∙ sym it.fields)
+lacks_so N.BackingFile v w contents is it = ap (λ (name : Option (List ℕ)). is_some name) (is.backing_name ∙ sym it.backing_name)
 lacks_so N.OtherFiles v w contents is it = needs_so v w contents is it
 
 -- where no file is missing none is needed

@@ -1,5 +1,5 @@
 -- Why filling a range, and growing a disk, is refused on a sound image.
-use Rattle.qcow2_image.proofs.Common.{div-lt_iff_lt-mul, cases_lt, div-add-mod', mul-le, pow_pos, BackingView, StorageView, PreallocateMode, Bytes, cover, HasRoomIfPlaced, entry_count, cluster_size, entries_per_cluster, rounded_up, copied_host, zero_cover, HeaderFields, L2Mapping, Data, Zero, Compressed, Uncovered, IsCompressed, Touches, is_copied_data, Pending, IsFault, known_in, ImageError, HasPinnedMapping, InternalCall, IsUnderMapping, l1_index_of, ImageInvariant, NeedsOverflowingL1Entry, ReachesOffset, IsPlacedNear, copied_end, CopiesCompressed, HasCompressedIn, HasNearEntries, MayFailGrowing, MayFailAllocating, KeepsL1Place, MovesTables, FillsPart, IsTaken, Qcow2, Prepared}
+use Rattle.qcow2_image.proofs.Common.{div-lt_iff_lt-mul, cases_lt, div-add-mod', mul-le, pow_pos, BackingView, StorageView, PreallocateMode, Bytes, cover, HasRoomIfPlaced, entry_count, cluster_size, entries_per_cluster, rounded_up, copied_host, zero_cover, HeaderFields, L2Mapping, Compressed, IsCompressed, Touches, is_copied_data, Pending, IsFault, known_in, ImageError, HasPinnedMapping, InternalCall, IsUnderMapping, l1_index_of, ImageInvariant, NeedsOverflowingL1Entry, ReachesOffset, IsPlacedNear, copied_end, CopiesCompressed, HasCompressedIn, HasNearEntries, MayFailGrowing, MayFailAllocating, KeepsL1Place, MovesTables, FillsPart, IsTaken, Qcow2, Prepared}
 use Rattle.std.proofs.Common.{◌≡◌, ◌⊎◌, ◌+◌, ◌-◌, ◌*◌, ◌/◌, ◌%◌, ◌^◌, ◌<◌, ◌≤◌, inl, inr, ℕ, Bool, true, false, List, Option, Some, None, sym, ap, ◌∙◌, subst, arith, pow_mono}
 use Rattle.qcow2_disk.specs.GrownCovers.{FilledCovers}
 use Rattle.qcow2_image.proofs.Grow.L1Lengths.{index_moved, index_rising, last_cluster}

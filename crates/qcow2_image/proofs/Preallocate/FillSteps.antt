@@ -7,7 +7,7 @@ use Rattle.qcow2_image.proofs.Call.ImageSteps.{stays_then}
 
 module _ {S F : Type 0} where
   pub stays_none : (image : Qcow2 S F) → ImageStays image image
-  stays_none image = record { image = record { number = refl; size = refl; writable = refl; external = refl }; failed = refl }
+  stays_none image = record { image = record { number = refl; size = refl; writable = refl; lacks = refl; beside = refl }; failed = refl }
 
 -- clusters are as large, whatever tables moved
 pub same_size : (h h' : HeaderFields) → MovesTables h h' → cluster_size h' ≡ cluster_size h

@@ -6,7 +6,8 @@ use Rattle.qcow2_laws.specs.GuestLaws.{Kept as HostedKept, Held as HostedHeld}
 use Rattle.qcow2_alloc.specs.declared.error.ImageError.TheVariants as I
 use Rattle.qcow2_image.specs.declared.mapping.MappingKind.TheVariants as M
 use Rattle.qcow2_image.proofs.Call.BehindHeader.{behind_first}
-use Rattle.qcow2_image.proofs.Map.Looked.{kind_within}
+use Rattle.qcow2_image.proofs.Map.Looked.{never_past}
+use Rattle.qcow2_image.specs.Found.{kind_in}
 
 -- ---- refusals
 
@@ -47,19 +48,25 @@ special_at h backed offset (Compressed place sectors) is = tt
 special_at h true offset Uncovered is = absurd is
 special_at h false offset Uncovered is = absurd is
 
+special_in : (h : HeaderFields) (beside backed : Bool) (offset : ℕ) (mapping : L2Mapping) → IsSpecialKind (kind_in h beside backed offset mapping) → IsCompressed mapping
+special_in h beside backed offset (Data host copied) is = absurd is
+special_in h beside backed offset (Zero kept) is = special_at h backed offset (Zero kept) is
+special_in h beside backed offset (Compressed place sectors) is = tt
+special_in h beside backed offset Uncovered is = special_at h backed offset Uncovered is
+
 -- the bytes of a guest cluster are read, unless it is compressed
-pub reading_met : (h : HeaderFields) (backed : Bool) (offset : ℕ) (mapping : L2Mapping) (kind : MappingKind) → found_kind kind ≡ kind_at h backed offset mapping → (e : ImageError) → MayFailReading kind e → IsFault e ⊎ ((e ≡ I.Compressed) × IsCompressed mapping)
-reading_met h backed offset mapping kind is e why = elim why [
+pub reading_met : (h : HeaderFields) (beside backed : Bool) (offset : ℕ) (mapping : L2Mapping) (kind : MappingKind) → found_kind kind ≡ kind_in h beside backed offset mapping → (e : ImageError) → MayFailReading kind e → IsFault e ⊎ ((e ≡ I.Compressed) × IsCompressed mapping)
+reading_met h beside backed offset mapping kind is e why = elim why [
   | inl fault ↦ inl fault
   | inr other ↦ elim other [
-    | inl compressed ↦ inr (compressed.0, special_at h backed offset mapping (subst IsSpecialKind is (found_special kind compressed.1)))
-    | inr past ↦ absurd (kind_within h backed offset mapping (sym (ap found_kind past.1) ∙ is))
+    | inl compressed ↦ inr (compressed.0, special_in h beside backed offset mapping (subst IsSpecialKind is (found_special kind compressed.1)))
+    | inr past ↦ absurd (never_past h beside backed offset mapping (sym (ap found_kind past.1) ∙ is))
   ]
 ]
 
 -- so the bytes of a guest cluster never lie past the end
-pub copying_met : (h : HeaderFields) (backed : Bool) (offset : ℕ) (mapping : L2Mapping) (kind : MappingKind) → found_kind kind ≡ kind_at h backed offset mapping → (e : ImageError) → MayFailCopying kind e → MayFail e
-copying_met h backed offset mapping kind is e why = elim why [ inl may_fail ↦ may_fail | inr past ↦ absurd (kind_within h backed offset mapping (sym (ap found_kind past.1) ∙ is)) ]
+pub copying_met : (h : HeaderFields) (beside backed : Bool) (offset : ℕ) (mapping : L2Mapping) (kind : MappingKind) → found_kind kind ≡ kind_in h beside backed offset mapping → (e : ImageError) → MayFailCopying kind e → MayFail e
+copying_met h beside backed offset mapping kind is e why = elim why [ inl may_fail ↦ may_fail | inr past ↦ absurd (never_past h beside backed offset mapping (sym (ap found_kind past.1) ∙ is)) ]
 
 -- bytes that were looked up before are read so too
 pub mapped_met : (held : Type 0) (kind : MappingKind) {whole : Type 0} → whole → (e : ImageError) → MayFailReading kind e → MayFailMapped held kind whole e

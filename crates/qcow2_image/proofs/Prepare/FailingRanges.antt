@@ -1,5 +1,5 @@
 -- Why preparing a range of a sound image is refused. A mapping that can be extended stays within 64 bits, and begins at a cluster boundary. Its table is cached and readable.
-use Rattle.std.proofs.Common.{◌≡◌, ◌+◌, ◌-◌, ◌*◌, ◌/◌, ◌%◌, ◌^◌, ◌<◌, ◌≤◌, ◌∷◌, inl, inr, ℕ, Bool, List, length, [], Option, Some, refl, ap, ◌∙◌, subst, arith, IsSome}
+use Rattle.std.proofs.Common.{◌≡◌, ◌+◌, ◌*◌, ◌/◌, ◌%◌, ◌^◌, ◌<◌, ◌≤◌, ◌∷◌, inl, inr, ℕ, Bool, List, length, [], Option, Some, refl, ap, ◌∙◌, subst, arith, IsSome}
 use Rattle.qcow2_image.proofs.Common.{slice_get, cases_lt, div-add-mod', mod-mul-add, mod_below, mul-le-mul_right, BackingView, StorageView, host_offset, cluster_size, entries_per_cluster, HeaderView, HeaderFields, Sizes, Sizes-from, l1_entry-past, contents_in, known_in, KeepsHeader, IsEntryAt, l2_at, ImageError, Qcow2, Prepared, ClusterMapping, cluster_of, pending_in, pins_by, IsPending, IsReadyWith, ImageInvariant, MayFailAlone, KeepsL1Place, MayGoOn}
 use Rattle.qcow2_image.proofs.Images.Apart.{pins_own}
 use Rattle.qcow2_image.proofs.Commit.Entered.{HasFirst, pinned_new_data}

@@ -93,6 +93,7 @@ module _ {S F : Type 0} (view : S → StorageView) (backing : F → BackingView)
         l1_table = record { cluster = sound.l1_table.cluster; bits = sound.l1_table.bits; count = sound.l1_table.count; entries = sound.l1_table.entries };
         reftable = reftable_still view old.file left.file refl refl (λ k. refl) old.allocator sound.reftable;
         inside = sound.inside;
+        alone = sound.alone;
         below = sound.below;
         ready = λ k q at. let r = sound.ready k q at in record { own = r.own; mapped = r.mapped };
         pinned = sound.pinned;

@@ -278,6 +278,7 @@ module _ {S F : Type 0} (view : S → StorageView) (backing : F → BackingView)
         l1_table = l1_named;
         reftable = reftable_named old.allocator sound.reftable;
         inside = sound.inside;
+        alone = sound.alone;
         below = sound.below;
         ready = λ j r there. let was = sound.ready j r there in record { own = was.own; mapped = ready_named j r was.mapped };
         pinned = sound.pinned;

@@ -60,7 +60,7 @@ module _ {S F : Type 0} {view : S → StorageView} where
   goes_begun stays begun = record { image = stays.image; header_cluster = behind_begun view begun }
 
   pub goes_then : {a b c : Qcow2 S F} → GoesTo view a b → GoesTo view b c → GoesTo view a c
-  goes_then first then = record { image = record { number = then.image.number ∙ first.image.number; size = then.image.size ∙ first.image.size; writable = then.image.writable ∙ first.image.writable; external = then.image.external ∙ first.image.external }; header_cluster = behind_then first.header_cluster then.header_cluster }
+  goes_then first then = record { image = record { number = then.image.number ∙ first.image.number; size = then.image.size ∙ first.image.size; writable = then.image.writable ∙ first.image.writable; lacks = then.image.lacks ∙ first.image.lacks; beside = then.image.beside ∙ first.image.beside }; header_cluster = behind_then first.header_cluster then.header_cluster }
 
 ungiven_before : (size : ℕ) (first then : List GivenBytes) → TouchesLess size first (first ++ then)
 ungiven_before size [] then g not = tt

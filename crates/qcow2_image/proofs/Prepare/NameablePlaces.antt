@@ -1,6 +1,6 @@
 -- A prepared mapping that isn't existing lies in clusters that an entry can hold, so within 64 bits.
 use Rattle.qcow2_image.proofs.Common.{div-add-mod', mod_below, pow_pos, slice_get-get_or, BackingView, StorageView, Bytes, CoverIsAligned, cover, cover_of, cover_under, host_offset, cluster_size, greatest_offset, HeaderFields, L2Mapping, Pending, contents_in, known_in, Qcow2, Prepared, ClusterMapping, InPlace, Kept, New, cluster_of, host_begin_of, IsPending, IsReadyWith, IsClusterMappingAt, ImageInvariant, table_of}
-use Rattle.std.proofs.Common.{◌≡◌, ◌+◌, ◌*◌, ◌/◌, ◌%◌, ◌^◌, ◌<◌, ◌≤◌, if◌then◌else◌, ℕ, Bool, true, false, List, length, Option, Some, None, refl, subst, arith, get_or, pow_mono}
+use Rattle.std.proofs.Common.{◌≡◌, ◌+◌, ◌*◌, ◌/◌, ◌%◌, ◌^◌, ◌<◌, ◌≤◌, if◌then◌else◌, ℕ, Bool, true, false, List, Option, Some, None, refl, subst, arith, get_or, pow_mono}
 use Rattle.qcow2_metadata.specs.declared.l2_mapping.L2Mapping.TheVariants as M
 use Rattle.qcow2_image.proofs.Commit.Entered.{HasFirst}
 use Rattle.qcow2_image.proofs.Images.ClusterMappings.{byte_place, byte_of_mapping}

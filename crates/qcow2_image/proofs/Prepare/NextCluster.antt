@@ -146,6 +146,7 @@ module _ {S F : Type 0} (view : S → StorageView) (backing : F → BackingView)
       l1_table = behind.image_step.sound.l1_table;
       reftable = behind.image_step.sound.reftable;
       inside = behind.image_step.sound.inside;
+      alone = behind.image_step.sound.alone;
       below = behind.image_step.sound.below;
       ready = ready_now;
       pinned = λ c. behind.image_step.sound.pinned c ∙ sym (same_pins c);

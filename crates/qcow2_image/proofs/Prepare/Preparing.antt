@@ -33,6 +33,7 @@ module _ {S F : Type 0} (view : S → StorageView) (backing : F → BackingView)
         l1_table = sound.l1_table;
         reftable = sound.reftable;
         inside = sound.inside;
+        alone = sound.alone;
         below = sound.below;
         ready = existing_ready;
         pinned = λ c. sound.pinned c ∙ sym (same_pins c);

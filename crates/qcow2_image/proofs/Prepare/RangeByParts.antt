@@ -209,12 +209,13 @@ module _ {S F : Type 0} (view : S → StorageView) (backing : F → BackingView)
         pub so_far_next : IsSoFar view backing old new p r n end table overwrite
         so_far_next = record {
           stays = record {
-            image = record { number = stays.image.number ∙ so.stays.image.number; size = stays.image.size ∙ so.stays.image.size; writable = stays.image.writable ∙ so.stays.image.writable; external = stays.image.external ∙ so.stays.image.external };
+            image = record { number = stays.image.number ∙ so.stays.image.number; size = stays.image.size ∙ so.stays.image.size; writable = stays.image.writable ∙ so.stays.image.writable; lacks = stays.image.lacks ∙ so.stays.image.lacks; beside = stays.image.beside ∙ so.stays.image.beside };
             failed = stays.failed ∙ so.stays.failed;
           };
           header = header_then old.file.header now.file.header new.file.header so.header header;
           longer = record {
             image = ap (λ (x : Prepared). x.image) next.rest ∙ so.longer.image;
+            file = ap (λ (x : Prepared). x.place) next.rest ∙ so.longer.file;
             guest = r_guest ∙ so.longer.guest;
             place = ap (λ (x : Prepared). x.offset) next.rest ∙ so.longer.place;
             under = ap (λ (x : Prepared). x.table) next.rest ∙ so.longer.under;

@@ -1,6 +1,6 @@
 -- A mapping of the rest of a cluster is prepared: its table is pinned, and the mapping is put into an empty slot.
 use Rattle.std.proofs.Common.{◌≡◌, ◌+◌, ◌-◌, ◌*◌, ◌/◌, ◌%◌, ◌<◌, ◌≤◌, ◌∷◌, ◌&&◌, ◌==◌, ⊎_elim, inl, inr, ℕ, zero, suc, Bool, true, false, List, length, [], Option, Some, None, refl, sym, ap, ◌∙◌, subst, arith, cond, IsTrue, min}
-use Rattle.qcow2_image.proofs.Common.{slice_get, slice_set, fun_ext, cases_eq, cond-false, ne_eqb, div-add-mod', div-mul-add, mod_below, pow_pos, BackingView, StorageView, Bytes, is_within, HeaderFields, cluster_size, rounded_up, CachedTable, AreNamedBlocks, with_slot, disk, Pending, SameCovers, SafeStep, StateInvariant, IsPrepared, Guest, guest_of, l2_pins, SameTables, MetadataCaches, state_in, contents_in, known_in, nothing_given, count, file_invariant_of, Qcow2, Image, Prepared, ClusterMapping, number_of, IsReadied, InternalFillingStep, HoldsTable, to_free, of_data, of_tables, new_data_by, pins_by, pins_of, over_all, pending_in, abstract_of, meaning, is_private, backing_bytes, IsClusterMappingAt, IsPending, IsReadyWith, ImageInvariant}
+use Rattle.qcow2_image.proofs.Common.{slice_get, slice_set, fun_ext, cases_eq, cond-false, ne_eqb, div-add-mod', div-mul-add, mod_below, pow_pos, BackingView, StorageView, Bytes, is_within, HeaderFields, cluster_size, rounded_up, CachedTable, AreNamedBlocks, with_slot, disk, Pending, SameCovers, SafeStep, StateInvariant, IsPrepared, Guest, guest_of, l2_pins, SameTables, MetadataCaches, state_in, contents_in, known_in, nothing_given, count, file_invariant_of, Qcow2, Prepared, ClusterMapping, number_of, IsReadied, InternalFillingStep, HoldsTable, to_free, of_data, of_tables, new_data_by, pins_by, pins_of, over_all, pending_in, abstract_of, meaning, is_private, backing_bytes, IsClusterMappingAt, IsPending, IsReadyWith, ImageInvariant}
 use Rattle.qcow2_image.proofs.Call.Answered.{same_guest}
 use Rattle.qcow2_image.proofs.Images.Moved.{format_file_step, format_stay}
 use Rattle.qcow2_image.proofs.Images.ClusterMappings.{private_shared}
@@ -14,7 +14,6 @@ abbrev pub mapping_at : HeaderFields → ℕ → ℕ → ℕ → ℕ → Prepare
 mapping_at h number table offset host like = record like {
   image = number;
   guest = offset;
-  place = Image;
   offset = host + offset % cluster_size h;
   length = cluster_size h - offset % cluster_size h;
   table = Some table;
@@ -123,6 +122,7 @@ module _ {S F : Type 0} (view : S → StorageView) (backing : F → BackingView)
     l1_table = record { cluster = image_step.sound.l1_table.cluster; bits = image_step.sound.l1_table.bits; count = image_step.sound.l1_table.count; entries = image_step.sound.l1_table.entries };
     reftable = reftable_still view mid.file new.file refl refl (λ k. ap (λ (b : Bytes). count h b k) (sym same_known)) mid.allocator image_step.sound.reftable;
     inside = image_step.sound.inside;
+    alone = image_step.sound.alone;
     below = image_step.sound.below;
     ready = λ j r at. let ready = ready_now j r at in record { own = ready.1; mapped = subst (λ (b : Bytes). IsReadyWith h b (contents_in view mid.file) r r.table) (sym same_known) ready.0 };
     pinned = λ c. let more = over_all_put pins_by out k p free c in let was = image_step.sound.pinned c in let n = pins c in omega arith;

@@ -82,6 +82,7 @@ module _ {S F : Type 0} (view : S → StorageView) (backing : F → BackingView)
         l1_table = record { cluster = sound.l1_table.cluster; bits = sound.l1_table.bits; count = sound.l1_table.count; entries = sound.l1_table.entries };
         reftable = reftable_still view image.file relisted.file refl refl (λ k. refl) image.allocator sound.reftable;
         inside = sound.inside;
+        alone = sound.alone;
         below = sound.below;
         ready = λ j r there. let was = sound.ready j r there in record { own = was.own; mapped = was.mapped };
         pinned = sound.pinned;

@@ -1,6 +1,6 @@
 -- A growth as a call: it is refused, or has nothing to do, before any work.
 use Rattle.std.proofs.Common.{◌≡◌, ◌≤◌, ◌∷◌, inl, inr, ℕ, true, false, [], refl, sym, ap, ◌∙◌, arith, Some, Result, Ok, Err}
-use Rattle.qcow2_image.proofs.Common.{not, cond-true, le-leb, BackingView, StorageView, PreallocateMode, passes_none, guest_of, shows_old, storage, with_disk, grown, works_less, ImageError, view_in, refusal_of, setting_of, Qcow2, is_external, is_failed, is_writable, size_of, abstract_of, disk_of, GrowsLast, GrowsTo, all_given_by_grow, refuses_to_resize}
+use Rattle.qcow2_image.proofs.Common.{not, cond-true, le-leb, BackingView, StorageView, PreallocateMode, passes_none, guest_of, shows_old, storage, with_disk, grown, works_less, ImageError, view_in, refusal_of, setting_of, Qcow2, lacks_data_file, is_failed, is_writable, size_of, abstract_of, disk_of, GrowsLast, GrowsTo, all_given_by_grow, refuses_to_resize}
 use Rattle.qcow2_alloc.specs.declared.error.ImageError.TheVariants as I
 use Rattle.qcow2_image.proofs.Lemmas.{refuses_early, works_none, call_none, disk_size, works_asking}
 use Rattle.qcow2_image.proofs.Resize.ShrinkCalls.{none_fails}
@@ -18,7 +18,7 @@ module _ {S F : Type 0} (view : S → StorageView) (backing : F → BackingView)
       }
 
   pub grows_early : (e : ImageError) → refuses_to_resize old ≡ Some e → GrowsTo view backing old old size mode (Err e)
-  grows_early e is = refused_unasked e (none_fails (is_failed old) (is_external old) (not (is_writable old)) e is)
+  grows_early e is = refused_unasked e (none_fails (is_failed old) (lacks_data_file old) (not (is_writable old)) e is)
 
   pub grows_over : GrowsTo view backing old old size mode (Err I.Preallocation)
   grows_over = refused_unasked I.Preallocation (λ is. absurd cc)

@@ -16,6 +16,7 @@ module _ {S F : Type 0} (view : S → StorageView) (backing : F → BackingView)
     l1_table = record { cluster = s.l1_table.cluster; bits = s.l1_table.bits; count = s.l1_table.count; entries = s.l1_table.entries };
     reftable = reftable_noted image recorded image.allocator s.reftable;
     inside = s.inside;
+    alone = s.alone;
     below = s.below;
     ready = λ k q at. let r = s.ready k q at in record { own = r.own; mapped = r.mapped };
     pinned = s.pinned;
@@ -81,7 +82,7 @@ module _ {S F : Type 0} (view : S → StorageView) (backing : F → BackingView)
 
   -- ---- the number of faults stays
   pub same_noted : (last new : Qcow2 S F) (recorded failed : Bool) → new ≡ with_marks last recorded failed → SameFaults view backing last new
-  same_noted last new recorded failed rest = subst (λ (i : Qcow2 S F). SameFaults view backing last i) (sym rest) (record { storage = refl; below = refl })
+  same_noted last new recorded failed rest = subst (λ (i : Qcow2 S F). SameFaults view backing last i) (sym rest) (record { storage = refl; below = refl; beside = refl })
 
   pub counted_noted : {T : Type 0} (old mid last new : Qcow2 S F) (done result : Result T ImageError) → SameFaults view backing old mid → CountsImageFaults view backing mid last done → result ≡ done
       → new ≡ with_marks last (is_changed_of new.file.storage) (is_failed new) → CountsImageFaults view backing old new result

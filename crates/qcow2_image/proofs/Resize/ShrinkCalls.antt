@@ -1,6 +1,6 @@
 -- A shrink as a call: it is refused, or has nothing to do, before any work.
 use Rattle.std.proofs.Common.{◌≡◌, ◌<◌, ◌≤◌, ◌∷◌, inl, inr, Result, subst, ℕ, Bool, true, false, [], refl, sym, ap, ◌∙◌, arith, Some, None, Ok, Err, IfErr, IsTrue}
-use Rattle.qcow2_image.proofs.Common.{not, option_or, BackingView, StorageView, another, storage, works_less, ImageError, IsFault, refusal_of, Qcow2, is_external, is_failed, is_writable, size_of, abstract_of, disk_of, refuse_if, MayFailShrinking, Shrinks, all_given_by_shrink, all_given_by_shrunk, refuses_to_resize}
+use Rattle.qcow2_image.proofs.Common.{not, option_or, BackingView, StorageView, another, storage, works_less, ImageError, IsFault, refusal_of, Qcow2, lacks_data_file, is_failed, is_writable, size_of, abstract_of, disk_of, refuse_if, MayFailShrinking, Shrinks, all_given_by_shrink, all_given_by_shrunk, refuses_to_resize}
 use Rattle.qcow2_alloc.specs.declared.error.ImageError.TheVariants as I
 use Rattle.qcow2_alloc.specs.ImageFile.{l2_pins}
 use Rattle.qcow2_image.proofs.Lemmas.{some_prepared, refuses_early, works_none, works_if, disk_size, works_asking}
@@ -22,7 +22,7 @@ fault_unprepared {T} r fault is =
     ]
 
 pub resize_works : {S F : Type 0} (image : Qcow2 S F) → refuses_to_resize image ≡ None → is_failed image ≡ false
-resize_works image is = works_if (is_failed image) (refuse_if (is_external image) I.Dependency) _ is
+resize_works image is = works_if (is_failed image) (refuse_if (lacks_data_file image) I.Dependency) _ is
 
 writable_if : (a b c : Bool) → option_or (option_or (refuse_if a I.Failed) (refuse_if b I.Dependency)) (refuse_if (not c) I.ReadOnly) ≡ None → IsTrue c
 writable_if true b c is = absurd (cc)
@@ -31,7 +31,7 @@ writable_if false false true is = refl
 writable_if false false false is = absurd (cc)
 
 pub resize_writable : {S F : Type 0} (image : Qcow2 S F) → refuses_to_resize image ≡ None → IsTrue (is_writable image)
-resize_writable image is = writable_if (is_failed image) (is_external image) (is_writable image) is
+resize_writable image is = writable_if (is_failed image) (lacks_data_file image) (is_writable image) is
 
 module _ {S F : Type 0} (view : S → StorageView) (backing : F → BackingView) (old : Qcow2 S F) (size : ℕ) where
   -- what is refused gives and asks nothing
@@ -47,7 +47,7 @@ module _ {S F : Type 0} (view : S → StorageView) (backing : F → BackingView)
       }
 
   pub shrinks_early : (e : ImageError) → refuses_to_resize old ≡ Some e → Shrinks view backing old old size (Err e)
-  shrinks_early e is = refused_unasked e (none_fails (is_failed old) (is_external old) (not (is_writable old)) e is)
+  shrinks_early e is = refused_unasked e (none_fails (is_failed old) (lacks_data_file old) (not (is_writable old)) e is)
 
   pub shrinks_prepared : Shrinks view backing old old size (Err I.MappingPrepared)
   shrinks_prepared = refused_unasked I.MappingPrepared (λ is. absurd cc)

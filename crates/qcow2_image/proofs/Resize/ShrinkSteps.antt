@@ -1,6 +1,6 @@
 -- One step unmaps whole clusters up to the end of an L2 table, or is refused.
 use Rattle.std.proofs.Common.{◌≡◌, ◌⊎◌, ◌+◌, ◌-◌, ◌^◌, ◌<◌, ◌≤◌, ◌||◌, ◌&&◌, ◌==◌, inl, inr, refl, Bool, true, false, None, ℕ, List, [], sym, ap, ◌∙◌, subst, arith, min, Option, Some, Result, Ok, Err, nat_le, nat_lt}
-use Rattle.qcow2_image.proofs.Common.{IfSome, not, option_or, cases_lt, le-ltb, leb-true, pow_pos, BackingView, StorageView, Value, HeaderFields, cluster_size, entries_per_cluster, rounded_up, AbstractImage, Setting, guest_of, Refusal, RefusedEffect, EffectOnSound, with_disk, Disk, answered, touched_from, touched_to, GivenBytes, IsGiven, works_less, TouchesLess, Sizes-from, ImageError, contents_in, known_in, HasPinnedMapping, refusal_of, Clears, ClearsImageCovers, ClearsSoundly, FailsToClear, RefusesUngiven, IsFault, from_in, refuses_to_clear, to_in, rounds_past, setting_of, Qcow2, Prepared, HasNothingToFree, is_external, is_failed, is_writable, size_of, ImageInvariant, abstract_of, disk_of, pending_in, LacksTable, passes, refuse_if, RefusesDiscard, StopsStep, IsTurnEnd, DiscardsNext, DiscardsPart, boundary_in, refuses_to_resize}
+use Rattle.qcow2_image.proofs.Common.{IfSome, not, option_or, cases_lt, le-ltb, leb-true, pow_pos, BackingView, StorageView, Value, HeaderFields, cluster_size, entries_per_cluster, rounded_up, AbstractImage, Setting, guest_of, Refusal, RefusedEffect, EffectOnSound, with_disk, Disk, answered, touched_from, touched_to, GivenBytes, IsGiven, works_less, TouchesLess, Sizes-from, ImageError, contents_in, known_in, HasPinnedMapping, refusal_of, Clears, ClearsImageCovers, ClearsSoundly, FailsToClear, RefusesUngiven, IsFault, from_in, refuses_to_clear, to_in, rounds_past, setting_of, Qcow2, Prepared, HasNothingToFree, lacks_data_file, is_failed, is_writable, size_of, ImageInvariant, abstract_of, disk_of, pending_in, LacksTable, passes, refuse_if, RefusesDiscard, StopsStep, IsTurnEnd, DiscardsNext, DiscardsPart, boundary_in, refuses_to_resize}
 use Rattle.qcow2_alloc.specs.declared.error.ImageError.TheVariants as I
 use Rattle.qcow2_image.specs.declared.discarding.ClearMode.TheVariants.{Uncovered}
 use Rattle.qcow2_image.proofs.Lemmas.{disk_size, given_as, given_below, given_is, mono_up, shown_below, to_at_most, touches_before, turn_numbers, uncovers_as_many, touches_less, under_prepared}
@@ -136,7 +136,7 @@ module _ {S F : Type 0} (view : S → StorageView) (backing : F → BackingView)
           let far = long (past_of (nat_le (2 ^ 64) (boundary_in old at)) (at + (end - at) == size_of old) (nat_le (2 ^ 64) (boundary_in old (at + (end - at)))) past) in
           inr (inl (subst (λ k. 2 ^ 64 ≤ rounded_up k (size_of old)) (sym same_size) far), inl far)
       by_case false near =
-          let may = rounds_if (is_failed old) (is_external old) (not (is_writable old)) (passes (size_of old) at (end - at)) (rounds_past (cluster_size old.file.header.fields) (size_of old) at (end - at)) none (within_end (nat_lt 0 (end - at)) (size_of old) (at + (end - at)) whole) near in
+          let may = rounds_if (is_failed old) (lacks_data_file old) (not (is_writable old)) (passes (size_of old) at (end - at)) (rounds_past (cluster_size old.file.header.fields) (size_of old) at (end - at)) none (within_end (nat_lt 0 (end - at)) (size_of old) (at + (end - at)) whole) near in
           elim (fails.refused.lacks may out sound unprepared) [
             | inl fault ↦ inl fault
             | inr lacks ↦ elim (why may) [

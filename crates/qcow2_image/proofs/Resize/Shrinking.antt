@@ -1,6 +1,6 @@
 -- A shrink: steps one after another, and then the size.
 use Rattle.std.proofs.Common.{◌≡◌, ◌⊎◌, ◌-◌, ◌^◌, ◌<◌, ◌≤◌, ◌∷◌, ◌==◌, inl, inr, ℕ, Bool, true, false, List, [], refl, sym, ap, ◌∙◌, subst, arith, cond, IsTrue, Option, Some, None, Ok, Err, nat_lt}
-use Rattle.qcow2_image.proofs.Common.{IfSome, not, option_or, cases_lt, cond-true, cond-false, eq-eqb, ne_eqb, lt-ltb, pow_pos, BackingView, IsLeftBy, StorageView, EachMomentSince, passes_if, passes_on, byte_at, Value, known_byte, HeaderView, header, cluster_size, rounded_up, with_fields, with_size, AbstractImage, Guest, Setting, guest_of, IsRefusalByFault, IsSame, IsShrinkEnd, IsShrunk, EffectOnSound, with_disk, Disk, shrunk, GivenBytes, IsGiven, works_less, works_then, stops_as, size_stays_in_calls, ImageError, state_in, view_in, HasPinnedMapping, InternalCall, refusal_of, setting_of, Qcow2, Prepared, l1_index_of, IsSameImage, is_external, is_failed, is_writable, number_of, size_of, ImageInvariant, abstract_of, disk_of, pending_in, MayName, refuse_if, CantDiscard, StopsAt, StopsStep, IsTurnEnd, SetsSize, ShowsBelow, Shrinks, DiscardsNext, DiscardsPart, DiscardsTail, WritesSize, WritesSizeLast, boundary_in, all_given_by_shrink, all_given_by_shrunk, refuses_to_resize}
+use Rattle.qcow2_image.proofs.Common.{IfSome, not, option_or, cases_lt, cond-true, cond-false, eq-eqb, ne_eqb, lt-ltb, pow_pos, BackingView, IsLeftBy, StorageView, EachMomentSince, passes_if, passes_on, byte_at, Value, known_byte, HeaderView, header, cluster_size, rounded_up, with_fields, with_size, AbstractImage, Guest, Setting, guest_of, IsRefusalByFault, IsSame, IsShrinkEnd, IsShrunk, EffectOnSound, with_disk, Disk, shrunk, GivenBytes, IsGiven, works_less, works_then, stops_as, size_stays_in_calls, ImageError, state_in, view_in, HasPinnedMapping, InternalCall, refusal_of, setting_of, Qcow2, Prepared, l1_index_of, IsSameImage, lacks_data_file, is_failed, is_writable, number_of, size_of, ImageInvariant, abstract_of, disk_of, pending_in, MayName, refuse_if, CantDiscard, StopsAt, StopsStep, IsTurnEnd, SetsSize, ShowsBelow, Shrinks, DiscardsNext, DiscardsPart, DiscardsTail, WritesSize, WritesSizeLast, boundary_in, all_given_by_shrink, all_given_by_shrunk, refuses_to_resize}
 use Rattle.qcow2_alloc.specs.declared.error.ImageError.TheVariants as I
 use Rattle.qcow2_alloc.specs.ImageError.{IsFault as IsFaultOfTables}
 use Rattle.qcow2_image.proofs.Call.Marked.{MayMark}
@@ -87,7 +87,7 @@ module _ {S F : Type 0} (view : S → StorageView) (backing : F → BackingView)
         let first = so.image in
         let last = so.last in
         record {
-          image = record { number = image.number ∙ first.number; size = image.size ∙ first.size; writable = image.writable ∙ first.writable; external = image.external ∙ first.external };
+          image = record { number = image.number ∙ first.number; size = image.size ∙ first.size; writable = image.writable ∙ first.writable; lacks = image.lacks ∙ first.lacks; beside = image.beside ∙ first.beside };
           failed = failed ∙ so.failed;
           last = last;
           from = (let from = so.from in omega (arith, from, on));
@@ -376,9 +376,9 @@ module _ {S F : Type 0} (view : S → StorageView) (backing : F → BackingView)
 -- nothing refuses another size still
 resizes_still : {S F : Type 0} (a b : Qcow2 S F) → IsSameImage a b → is_failed b ≡ is_failed a → refuses_to_resize a ≡ None → refuses_to_resize b ≡ None
 resizes_still a b image failed none =
-    subst (λ f. option_or (option_or (refuse_if f I.Failed) (refuse_if (is_external b) I.Dependency)) (refuse_if (not (is_writable b)) I.ReadOnly) ≡ None) (sym failed)
-    (subst (λ f. option_or (option_or (refuse_if (is_failed a) I.Failed) (refuse_if f I.Dependency)) (refuse_if (not (is_writable b)) I.ReadOnly) ≡ None) (sym image.external)
-    (subst (λ f. option_or (option_or (refuse_if (is_failed a) I.Failed) (refuse_if (is_external a) I.Dependency)) (refuse_if (not f) I.ReadOnly) ≡ None) (sym image.writable) none))
+    subst (λ f. option_or (option_or (refuse_if f I.Failed) (refuse_if (lacks_data_file b) I.Dependency)) (refuse_if (not (is_writable b)) I.ReadOnly) ≡ None) (sym failed)
+    (subst (λ f. option_or (option_or (refuse_if (is_failed a) I.Failed) (refuse_if f I.Dependency)) (refuse_if (not (is_writable b)) I.ReadOnly) ≡ None) (sym image.lacks)
+    (subst (λ f. option_or (option_or (refuse_if (is_failed a) I.Failed) (refuse_if (lacks_data_file a) I.Dependency)) (refuse_if (not f) I.ReadOnly) ≡ None) (sym image.writable) none))
 
 module _ {S F : Type 0} (view : S → StorageView) (backing : F → BackingView) (out : List (Option Prepared)) where
   pub tail_stops : (old now new : Qcow2 S F) (size at end : ℕ) → IsDiscardedSoFar view backing old now size at end → (e : ImageError)

@@ -1,6 +1,6 @@
 -- What a write into a prepared mapping does, from its parts.
 use Rattle.std.proofs.Common.{◌≡◌, ◌+◌, ◌/◌, ◌%◌, ◌≤◌, ◌∷◌, ⊎_elim, inl, inr, ℕ, Bool, true, false, List, length, [], refl, sym, ap, ◌∙◌, subst, arith, is_some, cond, Option, Some, None, Result, Ok, Err}
-use Rattle.qcow2_image.proofs.Common.{slice_get, BackingView, overwritten, StorageView, EachMomentSince, IsLeftBy, Bytes, byte_at, laid_over, HeaderFields, cluster_size, cover, L2Mapping, Data, Zero, Compressed, Uncovered, AreDataAt, EffectOnSound, AnsweredEffect, storage, given_by_put, PreparedMapping, put_mapping, put_disk, GivenBytes, Guest, guest_of, meaning_at, run_data, works_less, works_then, ImageError, ImageStorage, storage_of, view_in, known_in, Qcow2, Image, Prepared, raw, kind_at, IsMappedAs, put_guest, IsPut, IsWriteOutcome, PutsPart, ImageInvariant, pending_in, abstract_of, meaning, Puts, all_given_by_put, refusal_of, number_of, is_failed, cases_lt, cases_eq, cond-true, cond-false, eq-eqb, ne_eqb, known_byte, with_bytes, laid_outside, fun_ext}
+use Rattle.qcow2_image.proofs.Common.{is_data_file, slice_get, BackingView, overwritten, StorageView, EachMomentSince, IsLeftBy, Bytes, byte_at, laid_over, HeaderFields, cluster_size, cover, L2Mapping, Data, Zero, Compressed, Uncovered, AreDataAt, EffectOnSound, AnsweredEffect, storage, given_by_put, PreparedMapping, put_mapping, put_disk, GivenBytes, Guest, guest_of, meaning_at, run_data, works_less, works_then, ImageError, ImageStorage, storage_of, view_in, known_in, Qcow2, Prepared, raw, kind_at, IsMappedAs, put_guest, IsPut, IsWriteOutcome, PutsPart, ImageInvariant, pending_in, abstract_of, meaning, Puts, all_given_by_put, refusal_of, number_of, is_failed, cases_lt, cases_eq, cond-true, cond-false, eq-eqb, ne_eqb, known_byte, with_bytes, laid_outside, fun_ext}
 use Rattle.qcow2_alloc.specs.declared.error.ImageError.TheVariants as I
 use Rattle.qcow2_image.specs.declared.mapping.MappingKind.TheVariants as Kind
 use Rattle.qcow2_image.proofs.Lemmas.{Quietly, quiet_works, quiet_sound, quiet_same, works_none, outcome_answered, outcome_refused, same_guest, MayMarkBy, still_moved}
@@ -8,16 +8,16 @@ use Rattle.qcow2_disk.proofs.RunSteps.{acts_none}
 use Rattle.qcow2_image.proofs.Write.Put.{put_covers, put_works, put_sound, put_seen}
 
 -- what is mapped in place is contiguous
-mapped_data : (h : HeaderFields) (known : Bytes) (offset n host : ℕ) (backed : Bool) (v : L2Mapping) → cover h known (offset / cluster_size h) ≡ v → raw false host true ≡ kind_at h backed offset v
+mapped_data : (h : HeaderFields) (known : Bytes) (offset n host : ℕ) (external backed : Bool) (v : L2Mapping) → cover h known (offset / cluster_size h) ≡ v → raw external host true ≡ kind_at h backed offset v
     → ((w : L2Mapping) → cover h known (offset / cluster_size h) ≡ w → (start : ℕ) (copied : Bool) → w ≡ Data start copied → AreDataAt h known copied offset (start + offset % cluster_size h) n) → AreDataAt h known true offset host n
-mapped_data h known offset n host backed (Data start copied) is kind given =
+mapped_data h known offset n host external backed (Data start copied) is kind given =
     let marked : true ≡ copied = cc in
     let place : host ≡ start + offset % cluster_size h = cc in
     subst (λ b. AreDataAt h known b offset host n) (sym marked) (subst (λ p. AreDataAt h known copied offset p n) (sym place) (given (Data start copied) is start copied refl))
-mapped_data h known offset n host backed (Zero kept) is kind given = absurd cc
-mapped_data h known offset n host backed (Compressed place sectors) is kind given = absurd cc
-mapped_data h known offset n host true Uncovered is kind given = absurd cc
-mapped_data h known offset n host false Uncovered is kind given = absurd cc
+mapped_data h known offset n host external backed (Zero kept) is kind given = absurd cc
+mapped_data h known offset n host external backed (Compressed place sectors) is kind given = absurd cc
+mapped_data h known offset n host external true Uncovered is kind given = absurd cc
+mapped_data h known offset n host external false Uncovered is kind given = absurd cc
 
 module _ {S F : Type 0} (view : S → StorageView) (backing : F → BackingView) (out : List (Option Prepared)) (k : ℕ) (p : Prepared) (at : ℕ) (bytes : List ℕ) (placed : slice_get out k ≡ Some (Some p)) where
   abbrev given_bytes : Qcow2 S F → List GivenBytes
@@ -60,13 +60,13 @@ module _ {S F : Type 0} (view : S → StorageView) (backing : F → BackingView)
       }
 
   -- what is mapped in place is data in a row
-  pub mapped_in_place : (old : Qcow2 S F) → (p.table ≡ None → IsMappedAs view old (p.guest + at) (Kind.Raw Image (p.offset + at) true) (length bytes))
+  pub mapped_in_place : (old : Qcow2 S F) → (p.table ≡ None → IsMappedAs view old (p.guest + at) (Kind.Raw p.place (p.offset + at) true) (length bytes))
       → p.table ≡ None → AreDataAt old.file.header.fields (known_in view old.file) true (p.guest + at) (p.offset + at) (length bytes)
   mapped_in_place old mapped none =
       let h = old.file.header.fields in
       let known = known_in view old.file in
       let run = mapped none in
-      mapped_data h known (p.guest + at) (length bytes) (p.offset + at) (is_some old.backing) (cover h known ((p.guest + at) / cluster_size h)) refl run.kind_is
+      mapped_data h known (p.guest + at) (length bytes) (p.offset + at) (is_data_file p.place) (is_some old.backing) (cover h known ((p.guest + at) / cluster_size h)) refl run.kind_is
       (λ w covered start copied is_data. run_data h known (p.guest + at) (length bytes) run.alike start copied (covered ∙ is_data))
 
   -- the write itself

@@ -71,7 +71,7 @@ module _ {S F : Type 0} (view : S → StorageView) (backing : F → BackingView)
     unseen = unseen;
     idle = λ some. (ap (λ (i : Qcow2 S F). storage_of_image i) (idle some), ap (λ (i : Qcow2 S F). changes_of i.file.storage) (idle some));
     time = λ _. passes_none (view_in view now.file) _;
-    written = λ _. outcome_none e _ _;
+    written = λ _ _. outcome_none e _ _;
   }
 
   pub put_refused : (old : Qcow2 S F) (e : ImageError) → PutsOnce view backing p at bytes old old (Err e)
@@ -86,7 +86,7 @@ module _ {S F : Type 0} (view : S → StorageView) (backing : F → BackingView)
     unseen = λ out sound. unseen_none view backing old out sound;
     idle = λ _. (refl, refl);
     time = λ _. passes_none (view_in view old.file) _;
-    written = λ _. subst (λ (b : List ℕ). (view_in view old.file).contents ≡ overwritten (view_in view old.file).contents (offset_of p + at) b) (sym empty) refl;
+    written = λ _ _. subst (λ (b : List ℕ). (view_in view old.file).contents ≡ overwritten (view_in view old.file).contents (offset_of p + at) b) (sym empty) refl;
   }
 
   -- a call of one part that puts them, whose end is marked
@@ -99,5 +99,5 @@ module _ {S F : Type 0} (view : S → StorageView) (backing : F → BackingView)
         unseen = λ out sound. let first = quiet out sound in stays_then view backing out old begun puts.before first (puts.unseen out first.sound);
         idle = λ some. ((puts.idle some).0 ∙ begins.storage, (puts.idle some).1 ∙ begins.counts);
         time = puts.time;
-        written = puts.written;
+        written = λ none. puts.written (ap (λ (i : Qcow2 S F). i.data_file) begins.rest ∙ none);
       })

@@ -84,6 +84,7 @@ module _ {S F : Type 0} {p : Pending} (view : S → StorageView) (backing : F �
             l1_table = record { cluster = sound.l1_table.cluster; bits = sound.l1_table.bits; count = sound.l1_table.count; entries = λ i. sound.l1_table.entries i ∙ top.l1 i };
             reftable = reftable_written old.allocator sound.reftable;
             inside = sound.inside;
+            alone = sound.alone;
             below = sound.below;
             ready = λ k q at. let r = sound.ready k q at in record {
               own = r.own;

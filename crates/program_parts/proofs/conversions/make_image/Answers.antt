@@ -3,7 +3,7 @@ use Rattle.program_parts.proofs.Common.{FaultsReported, ImageError, told_opening
 use Rattle.program_parts.proofs.Counted.{both_of, both_retold, both_since, image_refused, raw_refused}
 use Rattle.program_parts.proofs.Imported.{of_ok, ok_both, ok_then, has_image, made_of}
 use Rattle.program_parts.proofs.Making.{counts_imported, counts_opened, new_image, once_opened, then_opened, while_created, while_opened}
-use Rattle.program_parts.proofs.Refused.{allocates_alone, asked_so, err_then, header_is, met_once_created, no_layout, not_refused, of_err, of_layout, opening_refused, unnamed, untouched}
+use Rattle.program_parts.proofs.Refused.{allocates_alone, asked_so, plain_so, err_then, header_is, met_once_created, no_layout, not_refused, of_err, of_layout, opening_refused, unnamed, untouched}
 use Rattle.program_parts.proofs.conversions.make_image.Goals as goal
 
 pub returns-in-Ok-open_alone-clause-image : goal.returns-in-Ok-open_alone-clause-image
@@ -14,7 +14,7 @@ returns-in-Ok-open_alone-clause-image g c = λ honest.
     let image_is : c.refcount_width.result.image ≡ c.args.storage = ap (λ (b : Qcow2CreateBuilder g.row.S.Denot). b.image) asked in
     let clusters_are : c.refcount_width.result.cluster_size ≡ c.args.cluster = ap (λ (b : Qcow2CreateBuilder g.row.S.Denot). b.cluster_size) asked in
     let width_is : c.refcount_width.result.refcount_width ≡ c.args.width = ap (λ (b : Qcow2CreateBuilder g.row.S.Denot). b.refcount_width) asked in
-    let made = of_ok _ c.create-storage.result.1 c.in_default.field-0 c.in_default.is (c.create-storage.ensures.created (subst (λ s. (view s).is_honest) (sym image_is) honest)) in
+    let made = of_ok _ c.create-storage.result.1 c.in_default.field-0 c.in_default.is (c.create-storage.ensures.created (plain_so _ _ asked refl refl) (subst (λ s. (view s).is_honest) (sym image_is) honest)) in
     let first : IsImageOfSize c.refcount_width.result.size (byte_at (view c.create-storage.result.0).contents) = new_image c.refcount_width.result.preallocate _ _ made.new_disk in
     let since = c.in-Ok-open_alone.ensures.step.since made.honest first.consistent in
     let then : IsImageOfSize c.refcount_width.result.size (byte_at (view (storage_of_image c.in-Ok-open_alone.image)).contents) = once_opened c.refcount_width.result.size (view c.create-storage.result.0) (view (storage_of_image c.in-Ok-open_alone.image)) first since in
@@ -32,7 +32,7 @@ returns-in-Ok-open_alone-clause-image g c = λ honest.
     subst (λ b. IsImageOf (view (storage_of_image c.fill-imported.new.image)) b c.args.cluster c.args.width) (c.size.ensures.same raw_honest)
     (subst (λ k. IsImageOf (view (storage_of_image c.fill-imported.new.image)) bytes k c.args.width) (made.clusters ∙ clusters_are)
     (has_image view _ c.in-Ok-open_alone.image c.fill-imported.new.image bytes n c.args.width (header (byte_at (view c.create-storage.result.0).contents))
-    (counts_imported view _ c.in-Ok-open_alone.image c.fill-imported.new.image c.refcount_width.result.size bytes (Ok n) imports from.opened then ∙ counts_opened c.refcount_width.result.size _ _ first since ∙ made.counts ∙ width_is) from.opened c.in-Ok-open_alone.ensures.below (c.in-Ok-open_alone.ensures.image.format made.honest) writable
+    (counts_imported view _ c.in-Ok-open_alone.image c.fill-imported.new.image c.refcount_width.result.size bytes (Ok n) imports from.opened then ∙ counts_opened c.refcount_width.result.size _ _ first since ∙ made.counts ∙ width_is) from.opened c.in-Ok-open_alone.ensures.below.0 (c.in-Ok-open_alone.ensures.image.format made.honest) writable
     (λ k. ap (λ (f : ℕ → ℕ). f k) from.surplus ∙ made.no_leaks k) c.fill-imported.ensures.image empty imports)))
     (c.fill-imported.ensures.sees (c.size.ensures.calls.honest raw_honest)) (c.fill-imported.ensures.emptied writable)))
 
@@ -52,14 +52,14 @@ returns-in-Err-created-clause-faults g c =
     let view = g.S.Storage.view in
     let asked = asked_so c.args.storage c.in-Ok.size c.args.cluster c.args.width c.new.result c.size-2.result c.cluster_size.result c.refcount_width.result c.new.ensures c.size-2.ensures c.cluster_size.ensures c.refcount_width.ensures in
     let first = ap (λ (b : Qcow2CreateBuilder g.row.S.Denot). (view b.image).faults) asked in
-    both_retold _ _ _ _ c.in-Err-created.e (image_refused _ _ _ _ _ c.in-Err-created.e first c.in-Ok.ensures.calls.cause.told (subst (λ (r : Result _ _). FaultsReported (view c.refcount_width.result.image).faults (view c.create-storage.result.0).faults r) c.in-Err-created.is c.create-storage.ensures.faults))
+    both_retold _ _ _ _ c.in-Err-created.e (image_refused _ _ _ _ _ c.in-Err-created.e first c.in-Ok.ensures.calls.cause.told (subst (λ (r : Result _ _). FaultsReported (view c.refcount_width.result.image).faults (view c.create-storage.result.0).faults r) c.in-Err-created.is (c.create-storage.ensures.faults (plain_so _ _ asked refl refl))))
 
 pub returns-in-Err-open_alone-clause-faults : goal.returns-in-Err-open_alone-clause-faults
 returns-in-Err-open_alone-clause-faults g c =
     let view = g.S.Storage.view in
     let asked = asked_so c.args.storage c.in-Ok.size c.args.cluster c.args.width c.new.result c.size-2.result c.cluster_size.result c.refcount_width.result c.new.ensures c.size-2.ensures c.cluster_size.ensures c.refcount_width.ensures in
     let first = ap (λ (b : Qcow2CreateBuilder g.row.S.Denot). (view b.image).faults) asked in
-    let made = (subst (λ (r : Result _ _). FaultsReported (view c.refcount_width.result.image).faults (view c.create-storage.result.0).faults r) c.in_default.is c.create-storage.ensures.faults).told in
+    let made = (subst (λ (r : Result _ _). FaultsReported (view c.refcount_width.result.image).faults (view c.create-storage.result.0).faults r) c.in_default.is (c.create-storage.ensures.faults (plain_so _ _ asked refl refl))).told in
     image_refused _ _ _ _ _ c.in-Err-open_alone.e (made ∙ first) c.in-Ok.ensures.calls.cause.told (told_opening view (view c.create-storage.result.0).faults c.in-Err-open_alone.storage c.in-Err-open_alone.e c.in-Err-open_alone.ensures.step.faults)
 
 pub returns-in-Ok-open_alone-clause-faults : goal.returns-in-Ok-open_alone-clause-faults
@@ -67,8 +67,8 @@ returns-in-Ok-open_alone-clause-faults g c =
     let view = g.S.Storage.view in
     let asked = asked_so c.args.storage c.in-Ok.size c.args.cluster c.args.width c.new.result c.size-2.result c.cluster_size.result c.refcount_width.result c.new.ensures c.size-2.ensures c.cluster_size.ensures c.refcount_width.ensures in
     let first = ap (λ (b : Qcow2CreateBuilder g.row.S.Denot). (view b.image).faults) asked in
-    let made = (subst (λ (r : Result _ _). FaultsReported (view c.refcount_width.result.image).faults (view c.create-storage.result.0).faults r) c.in_default.is c.create-storage.ensures.faults).told in
-    both_since _ _ _ _ _ _ _ (c.in-Ok-open_alone.ensures.step.faults.told ∙ made ∙ first) c.in-Ok.ensures.calls.cause.told (both_of view _ (λ b. refl) c.in-Ok-open_alone.image c.fill-imported.new.image c.into_storage.result _ _ c.fill-imported.result c.fill-imported.ensures.faults c.into_storage.ensures)
+    let made = (subst (λ (r : Result _ _). FaultsReported (view c.refcount_width.result.image).faults (view c.create-storage.result.0).faults r) c.in_default.is (c.create-storage.ensures.faults (plain_so _ _ asked refl refl))).told in
+    both_since _ _ _ _ _ _ _ (c.in-Ok-open_alone.ensures.step.faults.told ∙ made ∙ first) c.in-Ok.ensures.calls.cause.told (both_of view _ (λ b. refl) c.in-Ok-open_alone.image c.fill-imported.new.image c.into_storage.result _ _ c.fill-imported.result c.in-Ok-open_alone.ensures.below.1 c.fill-imported.ensures.image.beside c.fill-imported.ensures.faults c.into_storage.ensures)
 
 pub returns-in-Err-created-clause-stops : goal.returns-in-Err-created-clause-stops
 returns-in-Err-created-clause-stops g c = λ raw_honest honest.
@@ -80,7 +80,7 @@ returns-in-Err-created-clause-stops g c = λ raw_honest honest.
     let size_is : c.refcount_width.result.size ≡ length raw = ap (λ (b : Qcow2CreateBuilder g.row.S.Denot). b.size) asked ∙ c.in-Ok.ensures.size raw_honest in
     subst (λ s. EachMomentSince (view s) made (λ b. IsStopOfMaking (length raw) (byte_at b))) image_is
     (subst (λ n. EachMomentSince (view c.refcount_width.result.image) made (λ b. IsStopOfMaking n (byte_at b))) size_is
-    (while_created c.refcount_width.result.preallocate c.refcount_width.result.size _ made (c.create-storage.ensures.stops (subst (λ s. (view s).is_honest) (sym image_is) honest))))
+    (while_created c.refcount_width.result.preallocate c.refcount_width.result.size _ made (c.create-storage.ensures.stops (plain_so _ _ asked refl refl) (subst (λ s. (view s).is_honest) (sym image_is) honest))))
 
 pub returns-in-Err-open_alone-clause-stops : goal.returns-in-Err-open_alone-clause-stops
 returns-in-Err-open_alone-clause-stops g c = λ raw_honest honest.
@@ -94,12 +94,12 @@ returns-in-Err-open_alone-clause-stops g c = λ raw_honest honest.
     let image_is : c.refcount_width.result.image ≡ c.args.storage = ap (λ (b : Qcow2CreateBuilder g.row.S.Denot). b.image) asked in
     let size_is : n ≡ length raw = ap (λ (b : Qcow2CreateBuilder g.row.S.Denot). b.size) asked ∙ c.in-Ok.ensures.size raw_honest in
     let from = subst (λ s. (view s).is_honest) (sym image_is) honest in
-    let created = of_ok _ c.create-storage.result.1 c.in_default.field-0 c.in_default.is (c.create-storage.ensures.created from) in
+    let created = of_ok _ c.create-storage.result.1 c.in_default.field-0 c.in_default.is (c.create-storage.ensures.created (plain_so _ _ asked refl refl) from) in
     let first : IsImageOfSize n (byte_at made.contents) = new_image c.refcount_width.result.preallocate n _ created.new_disk in
     let since = c.in-Err-open_alone.ensures.step.since created.honest first.consistent in
     subst (λ s. EachMomentSince (view s) opened (λ b. IsStopOfMaking (length raw) (byte_at b))) image_is
     (subst (λ n. EachMomentSince start opened (λ b. IsStopOfMaking n (byte_at b))) size_is
-    (then_opened n start made opened (while_created c.refcount_width.result.preallocate n start made (c.create-storage.ensures.stops from)) (while_opened n made opened first since)))
+    (then_opened n start made opened (while_created c.refcount_width.result.preallocate n start made (c.create-storage.ensures.stops (plain_so _ _ asked refl refl) from)) (while_opened n made opened first since)))
 
 pub returns-in-Ok-open_alone-clause-stops : goal.returns-in-Ok-open_alone-clause-stops
 returns-in-Ok-open_alone-clause-stops g c = λ raw_honest honest.
@@ -114,7 +114,7 @@ returns-in-Ok-open_alone-clause-stops g c = λ raw_honest honest.
     let image_is : c.refcount_width.result.image ≡ c.args.storage = ap (λ (b : Qcow2CreateBuilder g.row.S.Denot). b.image) asked in
     let size_is : n ≡ length raw = ap (λ (b : Qcow2CreateBuilder g.row.S.Denot). b.size) asked ∙ c.in-Ok.ensures.size raw_honest in
     let from = subst (λ s. (view s).is_honest) (sym image_is) honest in
-    let created = of_ok _ c.create-storage.result.1 c.in_default.field-0 c.in_default.is (c.create-storage.ensures.created from) in
+    let created = of_ok _ c.create-storage.result.1 c.in_default.field-0 c.in_default.is (c.create-storage.ensures.created (plain_so _ _ asked refl refl) from) in
     let first : IsImageOfSize n (byte_at made.contents) = new_image c.refcount_width.result.preallocate n _ created.new_disk in
     let since = c.in-Ok-open_alone.ensures.step.since created.honest first.consistent in
     let filling = c.fill-imported.ensures.stops n (c.in-Ok-open_alone.ensures.opens created.honest first.consistent).opened (once_opened n made opened first since) in
@@ -122,7 +122,7 @@ returns-in-Ok-open_alone-clause-stops g c = λ raw_honest honest.
     (subst (λ s. EachMomentSince (view s) filled (λ b. IsStopOfMaking (length raw) (byte_at b))) image_is
     (subst (λ n. EachMomentSince start filled (λ b. IsStopOfMaking n (byte_at b))) size_is
     (then_opened n start opened filled
-    (then_opened n start made opened (while_created c.refcount_width.result.preallocate n start made (c.create-storage.ensures.stops from)) (while_opened n made opened first since)) filling)))
+    (then_opened n start made opened (while_created c.refcount_width.result.preallocate n start made (c.create-storage.ensures.stops (plain_so _ _ asked refl refl) from)) (while_opened n made opened first since)) filling)))
 
 pub returns-in-Err-clause-refused : goal.returns-in-Err-clause-refused
 returns-in-Err-clause-refused g c = λ none. (refl, inr (subst IsFault (sym c.from.ensures) (fault_of_storage c.in-Err.e)))
@@ -177,14 +177,14 @@ returns-in-Err-created-clause-cause g c = λ raw_honest honest.
     let from = subst (λ (b : Qcow2CreateBuilder g.row.S.Denot). (view b.image).is_honest) (sym asked) honest in
     let e = c.in-Err-created.e in
     inl (subst (λ (b : Qcow2CreateBuilder g.row.S.Denot). IsReasonNotToCreate view b c.create-storage.result.0 e) asked
-    (of_err (IsReasonNotToCreate view c.refcount_width.result c.create-storage.result.0) c.create-storage.result.1 e c.in-Err-created.is (c.create-storage.ensures.cause from)))
+    (of_err (IsReasonNotToCreate view c.refcount_width.result c.create-storage.result.0) c.create-storage.result.1 e c.in-Err-created.is (c.create-storage.ensures.cause (plain_so _ _ asked refl refl) from)))
 
 pub returns-in-Err-open_alone-clause-cause : goal.returns-in-Err-open_alone-clause-cause
 returns-in-Err-open_alone-clause-cause g c = λ raw_honest honest.
     let view = g.S.Storage.view in
     let asked = asked_so c.args.storage c.in-Ok.size c.args.cluster c.args.width c.new.result c.size-2.result c.cluster_size.result c.refcount_width.result c.new.ensures c.size-2.ensures c.cluster_size.ensures c.refcount_width.ensures ∙ ap (λ n. asked_for c.args.storage n c.args.cluster c.args.width) (c.in-Ok.ensures.size raw_honest) in
     let from = subst (λ (b : Qcow2CreateBuilder g.row.S.Denot). (view b.image).is_honest) (sym asked) honest in
-    let made = of_ok _ c.create-storage.result.1 c.in_default.field-0 c.in_default.is (c.create-storage.ensures.created from) in
+    let made = of_ok _ c.create-storage.result.1 c.in_default.field-0 c.in_default.is (c.create-storage.ensures.created (plain_so _ _ asked refl refl) from) in
     inl (subst (λ (b : Qcow2CreateBuilder g.row.S.Denot). IsReasonNotToCreateOpen view b (c.in-Err-open_alone.storage, c.in-Err-open_alone.e)) asked
     (opening_refused view c.refcount_width.result c.create-storage.result.0 (c.in-Err-open_alone.storage, c.in-Err-open_alone.e) (unnamed c.args.storage _ c.args.cluster c.args.width c.refcount_width.result asked) made c.in-Err-open_alone.ensures.step.cause))
 
@@ -198,7 +198,7 @@ returns-in-Ok-open_alone-clause-cause g c = λ raw_honest honest.
     let asked = asked_so c.args.storage c.in-Ok.size c.args.cluster c.args.width c.new.result c.size-2.result c.cluster_size.result c.refcount_width.result c.new.ensures c.size-2.ensures c.cluster_size.ensures c.refcount_width.ensures ∙ ap (λ n. asked_for c.args.storage n c.args.cluster c.args.width) (c.in-Ok.ensures.size raw_honest) in
     let size_is : n ≡ length (g.R.Storage.view c.args.raw.now).contents = ap (λ (b : Qcow2CreateBuilder g.row.S.Denot). b.size) asked in
     let from = subst (λ (b : Qcow2CreateBuilder g.row.S.Denot). (view b.image).is_honest) (sym asked) honest in
-    let created = of_ok _ c.create-storage.result.1 c.in_default.field-0 c.in_default.is (c.create-storage.ensures.created from) in
+    let created = of_ok _ c.create-storage.result.1 c.in_default.field-0 c.in_default.is (c.create-storage.ensures.created (plain_so _ _ asked refl refl) from) in
     let first : IsImageOfSize n (byte_at made.contents) = new_image c.refcount_width.result.preallocate n _ created.new_disk in
     let is = (c.in-Ok-open_alone.ensures.opens created.honest first.consistent).opened in
     let then = once_opened n made opened first (c.in-Ok-open_alone.ensures.step.since created.honest first.consistent) in

@@ -13,7 +13,7 @@ returns-in-Ok-clause-raw g c = λ raw_honest honest consistent.
     (c.flushed-exported.ensures.same (c.to_raw-copied.ensures.step.honest raw_honest)) c.flushed-exported.ensures.told
     (ok_then c.to_raw-copied.result
     (λ n exports.
-    has_export view _ (view c.args.storage) c.in-Ok.image c.to_raw-copied.new.image (c.in-Ok.ensures.opens honest consistent).opened c.in-Ok.ensures.below (c.in-Ok.ensures.step.storage.contents honest).contents
+    has_export view _ (view c.args.storage) c.in-Ok.image c.to_raw-copied.new.image (c.in-Ok.ensures.opens honest consistent).opened c.in-Ok.ensures.below.0 (c.in-Ok.ensures.step.storage.contents honest).contents
     raw.contents n exports)
     (c.to_raw-copied.ensures.sees raw_honest))
 
@@ -21,7 +21,7 @@ pub returns-in-Ok-clause-image : goal.returns-in-Ok-clause-image
 returns-in-Ok-clause-image g c = λ honest consistent.
     let view = g.S.Storage.view in
     subst (λ s. KeepsDisk (view c.args.storage) (view s)) (sym c.into_storage.ensures)
-    (keeps_disk view _ (view c.args.storage) c.in-Ok.image c.to_raw-copied.new.image (c.in-Ok.ensures.opens honest consistent).opened c.in-Ok.ensures.below (c.in-Ok.ensures.step.storage.contents honest).contents
+    (keeps_disk view _ (view c.args.storage) c.in-Ok.image c.to_raw-copied.new.image (c.in-Ok.ensures.opens honest consistent).opened c.in-Ok.ensures.below.0 (c.in-Ok.ensures.step.storage.contents honest).contents
     c.to_raw-copied.result c.to_raw-copied.ensures.step.same)
 
 pub returns-in-Err-clause-image : goal.returns-in-Err-clause-image
@@ -34,7 +34,7 @@ pub returns-in-Ok-clause-faults : goal.returns-in-Ok-clause-faults
 returns-in-Ok-clause-faults g c =
     let view = g.S.Storage.view in
     c.flushed-exported.ensures.faults (view c.args.storage).faults (view c.into_storage.result).faults (g.R.Storage.view c.args.raw.now).faults
-    (both_since _ _ _ _ _ _ _ c.in-Ok.ensures.step.faults.told refl (both_of view _ (λ b. refl) c.in-Ok.image c.to_raw-copied.new.image c.into_storage.result _ _ c.to_raw-copied.result c.to_raw-copied.ensures.step.faults c.into_storage.ensures))
+    (both_since _ _ _ _ _ _ _ c.in-Ok.ensures.step.faults.told refl (both_of view _ (λ b. refl) c.in-Ok.image c.to_raw-copied.new.image c.into_storage.result _ _ c.to_raw-copied.result c.in-Ok.ensures.below.1 c.to_raw-copied.ensures.step.image.beside c.to_raw-copied.ensures.step.faults c.into_storage.ensures))
 
 pub returns-in-Ok-clause-quiet : goal.returns-in-Ok-clause-quiet
 returns-in-Ok-clause-quiet g c = λ honest.

@@ -9,7 +9,7 @@ returns-in-Ok-clause-opened g c = opened_image c.args.format (g.S.Storage.view c
     let opened = (c.in-Ok.ensures.opens honest consistent).opened in
     record {
       honest = opened.sound;
-      disk = disk_is view _ (view c.args.storage) c.in-Ok.image c.in-Ok.image opened c.in-Ok.ensures.below (c.in-Ok.ensures.step.storage.contents honest).contents;
+      disk = disk_is view _ (view c.args.storage) c.in-Ok.image c.in-Ok.image opened c.in-Ok.ensures.below.0 (c.in-Ok.ensures.step.storage.contents honest).contents;
     })
 
 pub returns-in-Ok-clause-step : goal.returns-in-Ok-clause-step

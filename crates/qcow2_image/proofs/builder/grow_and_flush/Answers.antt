@@ -1,9 +1,29 @@
-use Rattle.std.proofs.Common.{◌<◌, [], refl, inl, inr, Err, Ok}
-use Rattle.qcow2_image.proofs.Common.{cases_lt, size_of, view_in, handed_on, Enlarges}
+use Rattle.std.proofs.Common.{◌≡◌, ◌∙◌, ◌<◌, ◌≤◌, ℕ, [], None, Option, Some, Result, refl, ap, inl, inr, Err, Ok}
+use Rattle.qcow2_image.specs.Resizing.{IsResized}
+use Rattle.qcow2_image.proofs.Common.{IfSome, ImageError, Qcow2, is_beside, refuses_to_resize, cases_lt, size_of, view_in, handed_on, Enlarges}
 use Rattle.qcow2_image.proofs.Lemmas.{counted_on, counted_since, untouched, usable_opened, grown_fault, faults_or_limit, faults_unlimited, hands_either, hands_limit, unlimited_all}
 use Rattle.qcow2_image.proofs.Create.Leaks.{left_taking, no_leaks_flushed, surplus_taken}
 use Rattle.qcow2_image.proofs.Create.AllocatingPlace.{grown_by, stops_by}
 use Rattle.qcow2_image.proofs.builder.grow_and_flush.Goals as goal
+
+-- an image that is refused at once, or has nothing to do, stays the same
+still : {S F : Type 0} (old new : Qcow2 S F) (r : Result (Unit {0}) ImageError) (why : Option ImageError) → IfSome why (λ e. (r ≡ Err e) × (new ≡ old)) → (why ≡ None → new ≡ old) → new ≡ old
+still old new r None early none = none refl
+still old new r (Some e) early none = early.1
+
+-- an image that grew has a data file as before
+beside_grown : {S F : Type 0} (old new : Qcow2 S F) (after size : ℕ) (r : Result (Unit {0}) ImageError) → IfSome (refuses_to_resize old) (λ e. (r ≡ Err e) × (new ≡ old)) → (refuses_to_resize old ≡ None → size ≤ size_of old → (r ≡ Ok tt) × (new ≡ old))
+    → (size_of old < size → IsResized after old new) → is_beside new ≡ is_beside old
+beside_grown old new after size r early no_larger image = elim (cases_lt (size_of old) size) [
+  | inl lt ↦ (image lt).beside
+  | inr le ↦ ap (λ (i : Qcow2 _ _). is_beside i) (still old new r (refuses_to_resize old) early (λ usable. (no_larger usable le).1))
+]
+
+pub returns-in_err-resize_grow-clause-beside : goal.returns-in_err-resize_grow-clause-beside
+returns-in_err-resize_grow-clause-beside g c = let does = c.resize_grow.ensures in beside_grown c.args.image.now c.resize_grow.new.self _ c.args.size c.resize_grow.result does.early does.no_larger does.image
+
+pub returns-clause-beside : goal.returns-clause-beside
+returns-clause-beside g c = let does = c.resize_grow.ensures in c.flush.ensures.step.image.beside ∙ beside_grown c.args.image.now c.resize_grow.new.self _ c.args.size c.resize_grow.result does.early does.no_larger does.image
 
 pub returns-in_err-resize_grow-clause-enlarges : goal.returns-in_err-resize_grow-clause-enlarges
 returns-in_err-resize_grow-clause-enlarges g c = λ opened writable alone unwritten.
@@ -37,7 +57,7 @@ returns-clause-fault g c = λ usable writable alone sound unmapped.
 pub returns-in_err-resize_grow-clause-faults : goal.returns-in_err-resize_grow-clause-faults
 returns-in_err-resize_grow-clause-faults g c =
     let old = c.args.image.now in
-    counted_on g.S.Storage.view g.F.BackingDisk.backing old old c.resize_grow.new.self c.resize_grow.result c.in_err-resize_grow.field-0.0 c.from_residual.result (untouched g.S.Storage.view g.F.BackingDisk.backing old old refl refl)
+    counted_on g.S.Storage.view g.F.BackingDisk.backing old old c.resize_grow.new.self c.resize_grow.result c.in_err-resize_grow.field-0.0 c.from_residual.result (untouched g.S.Storage.view g.F.BackingDisk.backing old old refl refl refl)
     c.resize_grow.ensures.step.faults c.in_err-resize_grow.was c.from_residual.ensures
 
 pub returns-clause-faults : goal.returns-clause-faults

@@ -1,4 +1,5 @@
-use Rattle.std.proofs.Common.{◌≡◌, ◌∙◌, ℕ, ap, subst, sym, true}
+use Rattle.std.proofs.Common.{◌≡◌, ◌∙◌, ℕ, Option, is_some, ap, subst, sym, true}
+use Rattle.qcow2_image.proofs.Call.DataFiles.{none_still}
 use Rattle.qcow2_image.proofs.Common.{OnOk, byte_at, header, view_in, storage_of, Enlarges, HasNoLeaks}
 use Rattle.qcow2_image.proofs.Lemmas.{opening_unlimited, told_closed, told_opening, usable_opened, opening_fault, unmapped_opened, flushed_enlarges, opening_stops, opens_unwritten, enlarged_so, unwritten_mid, limits_as, other_limit}
 use Rattle.qcow2_image.proofs.Open.Left.{opened_none}
@@ -25,7 +26,7 @@ returns-in-Ok-clause-enlarges g c = λ honest unwritten.
     let uncleared : (header (byte_at (view (storage_of c.args.storage)).contents)).autoclear ≡ 0 → (view_in view c.in-Ok.image.file).contents ≡ (view (storage_of c.args.storage)).contents = λ none. (c.in-Ok.ensures.step.storage.contents honest).contents ∙ opened_none true (view (storage_of c.args.storage)).contents none in
     let mid = unwritten_mid view below c.args.mode c.args.size (storage_of c.args.storage) c.in-Ok.image unwritten since opened format uncleared in
     enlarged_so view below c.args.mode c.args.size (storage_of c.args.storage) c.in-Ok.image unwritten since opened format uncleared c.grow_and_flush-done.new.image c.into_storage.result c.grow_and_flush-done.result
-    c.into_storage.ensures (c.grow_and_flush-done.ensures.enlarges opened c.in-Ok.ensures.image.writable_is c.in-Ok.ensures.below mid)
+    c.into_storage.ensures (c.grow_and_flush-done.ensures.enlarges opened c.in-Ok.ensures.image.writable_is c.in-Ok.ensures.below.0 mid)
 
 pub returns-in-Err-clause-fault : goal.returns-in-Err-clause-fault
 returns-in-Err-clause-fault g c = λ honest unwritten third. opening_fault (g.S.Storage.view (storage_of c.args.storage)).contents unwritten.consistent c.in-Err.refusal (c.in-Err.ensures.step.cause.1 honest)
@@ -40,11 +41,11 @@ returns-in-Ok-clause-fault g c = λ honest unwritten third.
     let opened = (c.in-Ok.ensures.opens honest unwritten.consistent).opened in
     let still = opens_unwritten 0 (view (storage_of c.args.storage)) (view_in view c.in-Ok.image.file) unwritten (c.in-Ok.ensures.step.since honest unwritten.consistent) in
     let unmapped = unmapped_opened view below c.in-Ok.image (header (byte_at (view (storage_of c.args.storage)).contents)) 0 opened still third (c.in-Ok.ensures.image.format honest) in
-    c.grow_and_flush-done.ensures.fault (usable_opened view below c.in-Ok.image opened c.in-Ok.ensures.image.writable_is) c.in-Ok.ensures.image.writable_is c.in-Ok.ensures.below opened.sound unmapped
+    c.grow_and_flush-done.ensures.fault (usable_opened view below c.in-Ok.image opened c.in-Ok.ensures.image.writable_is) c.in-Ok.ensures.image.writable_is c.in-Ok.ensures.below.0 opened.sound unmapped
 
 pub returns-in-Ok-clause-faults : goal.returns-in-Ok-clause-faults
 returns-in-Ok-clause-faults g c = λ none.
-    told_closed g.S.Storage.view g.F.BackingDisk.backing none (g.S.Storage.view (storage_of c.args.storage)).faults c.in-Ok.image c.grow_and_flush-done.new.image c.into_storage.result c.grow_and_flush-done.result c.in-Ok.ensures.step.faults.told
+    told_closed g.S.Storage.view g.F.BackingDisk.backing none (g.S.Storage.view (storage_of c.args.storage)).faults c.in-Ok.image c.grow_and_flush-done.new.image c.into_storage.result c.grow_and_flush-done.result c.in-Ok.ensures.below.1 (none_still c.grow_and_flush-done.new.image.data_file (c.grow_and_flush-done.ensures.beside ∙ ap (λ (file : Option _). is_some file) c.in-Ok.ensures.below.1)) c.in-Ok.ensures.step.faults.told
     c.grow_and_flush-done.ensures.faults c.into_storage.ensures
 
 pub returns-in-Ok-clause-leaks : goal.returns-in-Ok-clause-leaks

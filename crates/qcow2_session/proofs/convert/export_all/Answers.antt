@@ -9,7 +9,7 @@ loop-at-init g c = record {
   faults = so_far_none g.S.Storage.view g.F.BackingDisk.backing c.args.image.now;
   counted = refl;
   within = omega arith;
-  image = record { number = refl; size = refl; writable = refl; external = refl };
+  image = record { number = refl; size = refl; writable = refl; lacks = refl; beside = refl };
   quiet = reads_none g.S.Storage.view c.args.image.now;
   honest = λ h. h;
   same = λ out. does_nothing (abstract_of g.S.Storage.view g.F.BackingDisk.backing c.args.image.now out);

@@ -13,7 +13,7 @@ loop-at-init g c = record {
   counted = refl;
   within = omega arith;
   aligned = λ lt. zero-mod (length c.args.wanted.now);
-  image = record { number = refl; size = refl; writable = refl; external = refl };
+  image = record { number = refl; size = refl; writable = refl; lacks = refl; beside = refl };
   raw = λ honest. (honest, refl);
   any = any_none g.S.Storage.view g.F.BackingDisk.backing c.args.image.now;
   written = λ honest size out. imports_none (abstract_of g.S.Storage.view g.F.BackingDisk.backing c.args.image.now out) (g.R.Storage.view c.args.raw.now).contents;

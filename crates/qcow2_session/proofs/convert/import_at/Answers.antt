@@ -1,6 +1,6 @@
 use Rattle.qcow2_session.proofs.ReadCauses.{from_read}
 use Rattle.qcow2_session.proofs.convert.import_at.Goals as goal
-use Rattle.std.proofs.Common.{◌≡◌, ◌+◌, ◌-◌, ◌∷◌, ◌∙◌, inl, length, [], None, true, false, refl, sym, ap, subst, arith, rules, IfErr}
+use Rattle.std.proofs.Common.{◌≡◌, ◌+◌, ◌∷◌, ◌∙◌, inl, length, [], None, true, false, refl, sym, ap, subst, arith, rules, IfErr}
 use Rattle.qcow2_session.proofs.Common.{bytes_at, Setting, refuses_to_read, faults_then, read_met, storage_met, storage_read, storage_unlimited, limited_from, other_limit, fault_of_storage, known_in, MayFailReadingRange, MayFailImporting, IsReasonNotToWrite, common_steps, of_storage, given_of, abstract_of, behind_none, behind_then, written_then}
 use Rattle.qcow2_session.proofs.ImportLimits.{reading_unlimited}
 use Rattle.qcow2_session.proofs.Reasons.{read_importing, write_importing, write_reason}

@@ -1,5 +1,5 @@
 use Rattle.qcow2_session.proofs.convert.to_qcow2.Goals as goal
-use Rattle.std.proofs.Common.{◌≡◌, ◌⊎◌, ◌-◌, IfErr, inl, inr, refl, sym, ap, ◌∙◌, subst, length, Ok, Err, rules}
+use Rattle.std.proofs.Common.{◌≡◌, ◌⊎◌, IfErr, inl, inr, refl, sym, ap, ◌∙◌, subst, length, Ok, Err, rules}
 use Rattle.qcow2_session.proofs.Common.{HasCause, size_of, refuses_to_read, storage_met, storage_read, tables_met, tables_read, fault_unlimited, storage_unlimited, other_limit, fault_of_storage, of_storage, InvalidOption, Memory, DiffersWhereKept, Imports, ImportsAll, MayFailImporting, IsReasonNotToWrite, IsRefusedUnequal, IsOfReading, behind_none, behind_then, written_then}
 use Rattle.qcow2_session.proofs.Lemmas.{converted, converting_else, converting_image, converting_part, converting_raw, so_far_call, so_far_none, so_far_part, so_far_then, any_nothing, imports_nothing, imports_unflushed, imports_flushed, refused_none, answered_at_once, in_parts, refused_at_once, refused_is, quiet_image}
 use Rattle.qcow2_session.proofs.Differing.{early_reading, option_other, reading_differs, reading_other, size_untold}

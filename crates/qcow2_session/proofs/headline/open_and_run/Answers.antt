@@ -35,8 +35,8 @@ returns-clause-headline g c = λ honest consistent stays unflushed.
     let since : IsKeptSince before (view (storage_of_image opened)) = c.in-Ok.ensures.since honest consistent in
     let setting : (image_abstraction view below).setting opened ≡ setting_in bytes (byte_at before.contents) = λ i. record {
       cluster_size = ap cluster_size (c.in-Ok.ensures.format honest) i;
-      is_backed = (ap is_some c.in-Ok.ensures.over ∙ backed_is below c.args.below) i;
-      backing = (ap (λ o. backing_bytes view below o) c.in-Ok.ensures.over ∙ shown_is view below c.args.below) i;
+      is_backed = (ap is_some c.in-Ok.ensures.over.0 ∙ backed_is below c.args.below) i;
+      backing = (ap (λ o. backing_bytes view below o) c.in-Ok.ensures.over.0 ∙ shown_is view below c.args.below) i;
     } in
     ⊎_elim
     (λ (none : IsUntouched view below opened new c.run-replies.result.items). inl (none.0, subst (λ (image : _). IsKeptSince before (view (storage_of_image image))) (sym none.1) since))
@@ -66,7 +66,7 @@ returns-clause-reports g c =
     let opened = c.in-Ok.image in
     record {
       opened = opened;
-      over = c.in-Ok.ensures.over;
+      over = c.in-Ok.ensures.over.0;
       number_is = c.in-Ok.ensures.ok.0;
       writable = c.in-Ok.ensures.ok.2;
       works = c.in-Ok.ensures.ok.1;
@@ -80,7 +80,7 @@ returns-clause-reports g c =
     }
 
 pub returns-clause-faults : goal.returns-clause-faults
-returns-clause-faults g c = (c.in-Ok.image, c.in-Ok.ensures.over, c.in-Ok.ensures.faults, c.run-replies.ensures.step.faults)
+returns-clause-faults g c = (c.in-Ok.image, c.in-Ok.ensures.over.0, c.in-Ok.ensures.faults, c.run-replies.ensures.step.faults)
 
 pub returns-in-Err-clause-reports : goal.returns-in-Err-clause-reports
 returns-in-Err-clause-reports g c = (c.in-Err.ensures.cause, c.in-Err.ensures.storage)

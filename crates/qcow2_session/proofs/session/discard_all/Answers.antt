@@ -25,7 +25,7 @@ loop-slot-init g c = record {
   faults = none_counted g.S.Storage.view g.F.BackingDisk.backing c.args.image.now;
   behind = behind_none;
   own = search rules;
-  image = record { number = refl; size = refl; writable = refl; external = refl };
+  image = record { number = refl; size = refl; writable = refl; lacks = refl; beside = refl };
   works = refl;
   quiet = written_none g.S.Storage.view c.args.image.now.file.storage c.args.image.now.file.caches;
   gone = does_if (λ same. refl) (does_nothing (abstract_of g.S.Storage.view g.F.BackingDisk.backing c.args.image.now c.args.slots.prepared.items));

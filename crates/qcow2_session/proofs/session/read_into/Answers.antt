@@ -51,7 +51,7 @@ loop-done-init g c = record {
   behind = behind_none;
   within = omega arith;
   end = grind (arith, common_steps);
-  image = record { number = refl; size = refl; writable = refl; external = refl };
+  image = record { number = refl; size = refl; writable = refl; lacks = refl; beside = refl };
   works = refl;
   counts = counts_still g.S.Storage.view c.args.image.now;
   header = refl;

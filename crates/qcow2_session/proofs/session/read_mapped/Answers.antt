@@ -1,6 +1,6 @@
 use Rattle.qcow2_session.proofs.Lemmas.{at_rest, does_if, does_why, found_fits, isnt_beyond, is_beyond, live, mapped_here, passes_mapped, unusable_first, error_is, not_both, begun_with, is_answered, is_misused, is_refused, own_mapping, some_error}
 use Rattle.std.proofs.Common.{◌≡◌, ◌+◌, ◌<◌, ◌≤◌, refl, ap, ◌∙◌, Some, None, Err, arith, rules, subst, get_or, length}
-use Rattle.qcow2_session.proofs.Common.{reads_none, done_as, refused_as, none_as, mapping_at, range_of, guest_of, Found, misuse, abstract_of, slice_get_read, disk_size, MayFailToRead, unusable, behind_none, MayFailReadingFound, RefusesHeld, further_by}
+use Rattle.qcow2_session.proofs.Common.{reads_none, done_as, refused_as, none_as, mapping_at, range_of, guest_of, Found, misuse, abstract_of, slice_get_read, disk_size, unusable, behind_none, MayFailReadingFound, RefusesHeld, further_by}
 use Rattle.qcow2_session.proofs.session.read_mapped.Goals.{then-at-mapping-via-then-at-mapping, then-at-mapping-via-else-at-mapping+then-length-mapping}
 use Rattle.qcow2_session.specs.declared.session.Command.TheVariants as C
 use Rattle.qcow2_session.specs.declared.session.Reply.TheVariants as R

@@ -1,5 +1,5 @@
 use Rattle.std.proofs.Common.{◌≡◌, ◌+◌, ◌++◌, ◌<◌, ◌≤◌, ◌∙◌, Some, sym, subst, ap, [], take, drop, arith, rules, inl, Err, IfErr, length}
-use Rattle.qcow2_session.proofs.Common.{counts_on, common_steps, another, Guest, abstract_of, IsOfReading, ReadsFirst, size_of, MayFailReadingFrom, unusable, passes, BeyondSize, finding_read, found_read, behind_then, written_then, counted_on, IsFoundWhole, further_by, MayFailReadingRange, known_in, MayFailToRead, tables_read}
+use Rattle.qcow2_session.proofs.Common.{counts_on, common_steps, another, Guest, abstract_of, IsOfReading, ReadsFirst, size_of, MayFailReadingFrom, unusable, passes, BeyondSize, finding_read, found_read, behind_then, written_then, counted_on, IsFoundWhole, further_by, MayFailReadingRange, known_in}
 use Rattle.qcow2_session.proofs.Lemmas.{in_parts, parts_answered, parts_behind, parts_beyond, parts_handed, refused_at_once, shows_as, refused_is, refuses_here, none_within, does_if, refuses_if, does_then, refuses_then, mapping_reading, fits_below, then_none, mapping_usable, found_there, looking_prepared, reads_found, none_refused, found_current}
 use Rattle.qcow2_session.proofs.ReadCauses.{finding_from, found_from}
 use Rattle.qcow2_session.proofs.session.read_some.Goals as goal

@@ -1,4 +1,4 @@
-use Rattle.std.proofs.Common.{◌≡◌, ◌∷◌, ◌<◌, ◌+◌, ◌≤◌, ◌%◌, ◌-◌, rules, ℕ, ◌∙◌, subst, take, drop, length, [], ap, arith, refl, Option, Some, None, Result, Err, Ok}
+use Rattle.std.proofs.Common.{◌≡◌, ◌∷◌, ◌<◌, ◌+◌, ◌≤◌, ◌%◌, rules, ℕ, ◌∙◌, subst, take, drop, length, [], ap, arith, refl, Option, Some, None, Result, Err, Ok}
 use Rattle.qcow2_session.proofs.Common.{counts_on, IfSome, common_steps, take_rest, another, Setting, given_of, works_less, abstract_of, refusal_of, LeavesCopied, Writes, cluster_size_of, NeedsOverflowingL1Entry, limited_from, limited_giving, IsTaken, IsUnderMappingIn, TablePrepared, refuses_to_prepare, faults_then, behind_then, written_then, known_in, taking_kept, same_image_then}
 use Rattle.qcow2_session.proofs.Lemmas.{parts_answered, parts_behind, parts_beyond, ends_on, write_refused, first_given, never_first, no_more_then, stops_behind, stops_first, writes_on, part_refused, does_less, refuses_here, refuses_if, nothing_refused, not_failed_yet, part_prepares, part_under, prepares_usable, under_taken, copied_on, compressed_in_part}
 use Rattle.qcow2_session.proofs.session.write.Goals as goal

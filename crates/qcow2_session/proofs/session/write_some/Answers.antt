@@ -1,5 +1,7 @@
-use Rattle.std.proofs.Common.{◌≡◌, ◌∷◌, ◌+◌, ◌<◌, ◌≤◌, sym, subst, ap, ◌∙◌, Err, [], Some, None, min, length, refl, arith, ℕ, ⊎_elim, List, inl, inr, take, true, false, rules, Ok, Option, Result, IfErr, is_some, length-take}
-use Rattle.qcow2_session.proofs.Common.{MarksAtOnce, counts_on, counts_released, IsUnderMapping, IfSome, IfOk, IsOk, given_of, Setting, guest_of, refusal_of, Commits, reason_of, CountsImageFaults, is_writable, number_of, size_of, IsHandedBackBy, image_of, length_of, guest_offset_of, offset_of, table_of, refuses_mapping, refuses_to_prepare, MayFail, MayFailPreparing, Kept, abstract_of, image_abstraction, meaning, AreDataAt, cluster_size_of, LeavesCopied, WritesFirst, RespectsFirst, free_places, Qcow2, cases_Bool, cases_lt, pow_pos, IsOfNothing, Prepared, common_steps, ImageError, counted_still, faults_then, IsOfTables, tables_met, behind_then, written_then, known_in, fault_unlimited, limited_upto, other_limit, fault_of, NeedsOverflowingL1Entry, IfLimit, IsLimited, CopiesCompressed, IsCacheHeld, MayFailAllocating, HasPinnedMapping, taking_as, putting_met}
+use Rattle.std.proofs.Common.{Bool, ◌&&◌, ◌≡◌, ◌∷◌, ◌+◌, ◌<◌, ◌≤◌, sym, subst, ap, ◌∙◌, Err, [], Some, None, min, length, refl, arith, ℕ, ⊎_elim, List, inl, inr, take, true, false, rules, Ok, Option, Result, IfErr, is_some, length-take}
+use Rattle.qcow2_session.specs.Sessions.{IsOfWriting}
+use Rattle.qcow2_alloc.specs.declared.error.ImageError.TheVariants as I
+use Rattle.qcow2_session.proofs.Common.{file_of, is_failed, lacks_data_file, nat_lt, not, option_or, passes, refuse_if, MarksAtOnce, counts_on, counts_released, IsUnderMapping, IfSome, IfOk, IsOk, given_of, Setting, guest_of, refusal_of, Commits, reason_of, CountsImageFaults, is_writable, number_of, size_of, IsHandedBackBy, image_of, length_of, guest_offset_of, offset_of, table_of, refuses_mapping, refuses_to_prepare, MayFail, MayFailPreparing, Kept, abstract_of, image_abstraction, meaning, AreDataAt, cluster_size_of, LeavesCopied, WritesFirst, RespectsFirst, free_places, Qcow2, cases_Bool, cases_lt, pow_pos, IsOfNothing, Prepared, common_steps, ImageError, counted_still, faults_then, IsOfTables, tables_met, behind_then, written_then, known_in, fault_unlimited, limited_upto, other_limit, fault_of, NeedsOverflowingL1Entry, IfLimit, IsLimited, CopiesCompressed, IsCacheHeld, MayFailAllocating, HasPinnedMapping, taking_as, putting_met}
 use Rattle.qcow2_session.proofs.Lemmas.{commit_at_once, in_parts, parts_answered, parts_before, parts_behind, parts_handed, refused_at_once, cut_long, cut_part, cut_short, may_write_none, put_refused, written, commit_old_tables, commit_kept, chunk_ends, no_more_then, none_refused, refused_is, none_within, refuses_if, refuses_less, nothing_refused, nothing_prepared, prepare_same, put_same, commit_since, mapping_usable, not_failed_yet, prepares_usable, prepares_within, prepares_writable, put_met, under_taken, untaken_beside, quiet_commit, quiet_image, quiet_release, existing_or_not, kept_data, part_copied, existing_found, existing_long, existing_near, put_unlimited, compressed_behind, put_looking, put_current}
 use Rattle.qcow2_session.proofs.session.write_some.Goals as goal
 
@@ -10,6 +12,18 @@ one_cause r e x was is = cc
 early_handed : {A B E : Type 0} (S : Type 0) (o : Option E) (r : Result A E) (e : E) (r' : Result B E) → IfSome o (λ x. (r ≡ Err x) × S) → r ≡ Err e → r' ≡ Err e → IfSome o (λ x. (r' ≡ Err x) × S)
 early_handed S None r e r' early was handed = tt
 early_handed S (Some x) r e r' early was handed = (handed ∙ ap Err (one_cause r e x was early.0), early.1)
+
+-- why a write is refused before it begins
+writing_early : (failed lacks beyond closed : Bool) (x : ImageError) → option_or (option_or (refuse_if failed I.Failed) (refuse_if lacks I.Dependency)) (option_or (refuse_if beyond I.BeyondSize) (refuse_if closed I.ReadOnly)) ≡ Some x → IsOfWriting x
+writing_early true lacks beyond closed x is = let same : I.Failed ≡ x = cc in subst IsOfWriting same (inl (inr (inr (inl refl))))
+writing_early false true beyond closed x is = let same : I.Dependency ≡ x = cc in subst IsOfWriting same (inl (inr (inr (inr refl))))
+writing_early false false true closed x is = let same : I.BeyondSize ≡ x = cc in subst IsOfWriting same (inl (inr (inl refl)))
+writing_early false false false true x is = let same : I.ReadOnly ≡ x = cc in subst IsOfWriting same (inr (inl refl))
+writing_early false false false false x is = absurd cc
+
+refused_writing : {A : Type 0} (S : Type 0) (o : Option ImageError) (r : Result A ImageError) (e : ImageError) → IfSome o (λ x. (r ≡ Err x) × S) → r ≡ Err e → ((x : ImageError) → o ≡ Some x → IsOfWriting x) → (o ≡ None → IsOfWriting e) → IsOfWriting e
+refused_writing S None r e early was each late = late refl
+refused_writing S (Some x) r e early was each late = subst IsOfWriting (sym (one_cause r e x was early.0)) (each x refl)
 
 -- a range of no bytes is prepared as a mapping of none
 none_long : {S F : Type 0} (old : Qcow2 S F) (offset n : ℕ) (new : Qcow2 S F) (r : Result Prepared ImageError) (p : Prepared) → IfSome (refuses_to_prepare old offset n) (λ e. (r ≡ Err e) × (new ≡ old))
@@ -167,7 +181,13 @@ returns-in_err-prepared-clause-fails g c = record {
       subst (λ r. IfErr r (λ e. MayFailPreparing c.prepare_data_mapping.new.self e × (0 < n))) (sym (refused_is _ c.in_err-prepared.field-0.0 c.from_residual.ensures))
       (c.in_err-prepared.ensures.refusals.late none, some_bytes n (λ empty. let no = (c.in_err-prepared.ensures.refusals.nothing (ap (λ k. refuses_to_prepare old c.args.offset k) (sym empty) ∙ none) empty).0 in absurd cc));
   beyond = search rules;
-  cause = search rules;
+  cause = let old = c.args.image.now in
+      let n = length c.args.bytes.now in
+      let e = c.in_err-prepared.field-0.0 in
+      subst (λ (r : Result _ _). IfErr r IsOfWriting) (sym (refused_is _ e c.from_residual.ensures))
+      (refused_writing _ (refuses_to_prepare old c.args.offset n) c.prepare_data_mapping.result e c.prepare_data_mapping.ensures.refusals.early c.in_err-prepared.was
+      (λ x is. writing_early (is_failed old) (lacks_data_file old) (passes (size_of old) c.args.offset n) (nat_lt 0 n && not (is_writable old)) x is)
+      (λ none. elim (c.in_err-prepared.ensures.refusals.late none) [ inl may ↦ inl (inl may) | inr pinned ↦ inr (inr pinned.0) ]));
 }
 
 -- so many of the first bytes are put
@@ -370,7 +390,7 @@ returns-in-Ok-clause-sound g c = λ out sound. record {
       let stood : AreDataAt new.file.header.fields (known_in view new.file) true (guest_offset_of p) (offset_of p) count =
       existing_or_not (table_of p)
       (λ existing.
-      kept_data view below put (Some p ∷ out) ready.0 new (guest_offset_of p) (offset_of p) (length (take count c.args.bytes.now)) count long (c.commit_data_mapping.ensures.existing own ready.0.works (ap is_some existing)).1
+      kept_data view below put (Some p ∷ out) ready.0 new (file_of p) (guest_offset_of p) (offset_of p) (length (take count c.args.bytes.now)) count long (c.commit_data_mapping.ensures.existing own ready.0.works (ap is_some existing)).1
       (c.in_default.ensures.held usable existing (omega (arith, any, long))))
       (λ table i lt. (c.in-Ok.ensures.stands (Some p ∷ out) 0 refl ready.0).copied table i (omega (arith, lt, count_is))) in
       let chunk = take count c.args.bytes.now in
@@ -411,7 +431,7 @@ returns-in-Err-clause-sound g c = λ out sound. record {
             let count_is : count ≡ min n (length_of p) = c.min-count.ensures ∙ ap (λ k. min n k) c.length.ensures in
             chunk_long count (length_of p) c.args.bytes.now count_is ∙ (grind (arith, common_steps, count_is, whole)) in
             elim (put_looking (IsCacheHeld mid (Some p ∷ out)) out p c.in-Err.refusal (λ held. held.1) (λ existing. existing_near view below out old mid p offset n prepared.0 same maps some existing)
-            (λ existing outdated. (c.in-Err.ensures.sound (Some p ∷ out) prepared.0).outdated existing (ap Err outdated) (existing_found view below out old mid p offset n prepared.0 same maps some existing fits prepared.1.0.from (length (take count c.args.bytes.now)) (long existing)))
+            (λ existing outdated. (c.in-Err.ensures.sound (Some p ∷ out) prepared.0).outdated existing (ap Err outdated) (existing_found view below out old mid p offset n prepared.0 same maps some existing fits c.in_ok-prepared.ensures.answer.place prepared.1.0.from (length (take count c.args.bytes.now)) (long existing)))
             ((c.in-Err.ensures.sound (Some p ∷ out) prepared.0).may_fail 0 refl (c.prepare_data_mapping.ensures.step.image.writable ∙ prepares_writable old offset n none some))) [ inl fault ↦ inl (inl (inl fault)) | inr used ↦ inr (inl used) ];
         taken = λ is. absurd (subst MayFail is (put_met c.args.image.now c.prepare_data_mapping.new.self c.prepare_data_mapping.ensures.step.image (image_of c.in_ok-prepared.prepared) c.args.offset (length c.args.bytes.now) (length (take c.min-count.result c.args.bytes.now)) c.in-Err.refusal
             c.in_ok-prepared.ensures.answer.own c.in_ok-prepared.ensures.step.marks (λ empty. grind (arith, common_steps)) none (λ usable writes current. putting_met c.prepare_data_mapping.new.self c.write_mapped.new.self c.in_ok-prepared.prepared 0 (length (take c.min-count.result c.args.bytes.now)) c.in-Err.refusal current (c.in-Err.ensures.refusals.late usable writes)) (λ usable empty. let no = (c.in-Err.ensures.refusals.nothing usable empty).0 in absurd cc)

@@ -1,5 +1,5 @@
 use Rattle.std.proofs.Common.{◌<◌, ◌≡◌, ◌⊎◌, Some, arith, length, refl, subst, sym, ◌∙◌, rules, inl, IfErr}
-use Rattle.qcow2_session.proofs.Common.{common_steps, known_in, sound_is_usable, NotCompressed, MayFailTelling, unusable, behind_none, IsCacheHeld, MayFailSpecial, telling_or, IfErr-weaker, MayFailToRead, IsCompressedInTables}
+use Rattle.qcow2_session.proofs.Common.{common_steps, known_in, sound_is_usable, NotCompressed, MayFailTelling, unusable, behind_none, IsCacheHeld, MayFailSpecial, telling_or, IfErr-weaker, IsCompressedInTables}
 use Rattle.qcow2_session.proofs.Lemmas.{refused_is, refused_some, at_rest, call_at_once, memory_marks, once_handed, unchecked, unmarked, memory_looking}
 use Rattle.qcow2_session.proofs.SpecialReads.{told_specially}
 use Rattle.qcow2_session.proofs.special.read_range.Goals as goal

@@ -15,5 +15,5 @@ returns-clause-left g c =
     let asked : c.refcount_width.result ≡ builder_on c.args.storage c.in-Create.size c.in-Create.cluster c.in-Create.width c.in-Create.mode = c.refcount_width.ensures ∙ ap (λ (b : Qcow2CreateBuilder _). record b { refcount_width = c.in-Create.width }) clustered in
     subst (CreatesOrLeaves view c.args.storage c.create-storage.result.0) (sym c.in-Create.is) (
       λ no. (subst (λ (b : Qcow2CreateBuilder _). ¬ IsAllowed b → (c.create-storage.result.1 ≡ Err InvalidOption) × (c.create-storage.result.0 ≡ b.image)) asked c.create-storage.ensures.refused no).1,
-      subst (λ (b : Qcow2CreateBuilder _). (view b.image).is_honest → StopsCreating b.preallocate b.size (view b.image) (view c.create-storage.result.0)) asked c.create-storage.ensures.stops,
+      subst (λ (b : Qcow2CreateBuilder _). (view b.image).is_honest → StopsCreating b.preallocate b.size (view b.image) (view c.create-storage.result.0)) asked (c.create-storage.ensures.stops (ap (λ (b : Qcow2CreateBuilder _). b.data_file_name) asked, ap (λ (b : Qcow2CreateBuilder _). b.data_file) asked)),
     )

@@ -83,8 +83,8 @@ returns-in-Err-clause-fails g c = record {
       let taken = record old { file = c.allocate_meta.new.file; allocator = Some c.allocate_meta.new.self } in
       let wrote = c.write_l2.new.self in
       let new = record wrote { file = record wrote.file { free_list = c.hand_back.new.list } } in
-      let same = same_told view below old taken c.allocate_meta.result c.in_ok-pending.pending (told_of c.allocate_meta.result c.allocate_meta.ensures.fails) c.in_ok-pending.was refl in
-      counted_still view below old wrote new (Err c.in-Err.refusal) (counted_as view below old taken wrote c.write_l2.result c.in-Err.refusal same c.write_l2.ensures.fails.faults c.in-Err.is) (untouched view below wrote new refl refl);
+      let same = same_told view below old taken c.allocate_meta.result c.in_ok-pending.pending (told_of c.allocate_meta.result c.allocate_meta.ensures.fails) c.in_ok-pending.was refl refl in
+      counted_still view below old wrote new (Err c.in-Err.refusal) (counted_as view below old taken wrote c.write_l2.result c.in-Err.refusal same c.write_l2.ensures.fails.faults c.in-Err.is) (untouched view below wrote new refl refl refl);
 }
 
 pub returns-in_err-pending-clause-sound : goal.returns-in_err-pending-clause-sound

@@ -1,6 +1,6 @@
 use Rattle.qcow2_image.proofs.Lemmas.{filling_none, keeping_of_filling, keeping_of_read, hands_met, met_as, looks_none}
 use Rattle.std.proofs.Common.{◌≡◌, ◌+◌, ◌∙◌, inr, None, true, sym, subst, arith, rules, Result, ℕ}
-use Rattle.qcow2_image.proofs.Common.{Raw, Image, IsFoundWhole, IsMappedAs, handed_on, none_of, FitsTables, IsCacheHeld, MayFailLookingAgain, table_of, IfOk-weaker, on_ok_weaker, LooksQuietly, ImageError, MayFailFindingAgain, IsHeldAs, OutdatedMapping}
+use Rattle.qcow2_image.proofs.Common.{Raw, IsFoundWhole, IsMappedAs, handed_on, none_of, FitsTables, IsCacheHeld, MayFailLookingAgain, table_of, IfOk-weaker, on_ok_weaker, LooksQuietly, ImageError, MayFailFindingAgain, IsHeldAs, OutdatedMapping}
 use Rattle.qcow2_alloc.specs.declared.error.ImageError.TheVariants.{Compressed}
 use Rattle.qcow2_image.proofs.image.Qcow2.check_in_place.Goals as goal
 
@@ -23,16 +23,16 @@ returns-clause-sound g c = λ p out sound.
       keeps = (c.check_mapped.ensures.sound p out sound).keeps;
       may_fail = let none : table_of c.args.prepared.now ≡ None = none_of (sym c.if-is_some.false ∙ c.is_some.ensures) in
           met_as (MayFailLookingAgain (IsCacheHeld old out)) (λ e. (table_of c.args.prepared.now ≡ None) × MayFailLookingAgain (IsCacheHeld old out) e) c.check_mapped.result (λ e why. (none, why)) ((c.check_mapped.ensures.sound p out sound).may_fail);
-      outdated = λ some is whole. (c.check_mapped.ensures.sound p out sound).outdated is (subst (λ o. IsFoundWhole view old o (Raw Image c.args.host true) c.args.length) (sym c.in_ok-guest.ensures.place) whole);
-      mapped = λ none some. IfOk-weaker c.check_mapped.result _ _ (λ done is. subst (λ o. IsMappedAs view c.check_mapped.new.self o (Raw Image c.args.host true) c.args.length) c.in_ok-guest.ensures.place is)
+      outdated = λ some is whole. (c.check_mapped.ensures.sound p out sound).outdated is (subst (λ o. IsFoundWhole view old o (Raw c.args.prepared.now.place c.args.host true) c.args.length) (sym c.in_ok-guest.ensures.place) whole);
+      mapped = λ none some. IfOk-weaker c.check_mapped.result _ _ (λ done is. subst (λ o. IsMappedAs view c.check_mapped.new.self o (Raw c.args.prepared.now.place c.args.host true) c.args.length) c.in_ok-guest.ensures.place is)
           ((c.check_mapped.ensures.sound p out sound).mapped some);
-      found = λ none. on_ok_weaker c.check_mapped.result (λ is. subst (λ o. IsFoundWhole view old o (Raw Image c.args.host true) c.args.length) c.in_ok-guest.ensures.place is) ((c.check_mapped.ensures.sound p out sound).found);
+      found = λ none. on_ok_weaker c.check_mapped.result (λ is. subst (λ o. IsFoundWhole view old o (Raw c.args.prepared.now.place c.args.host true) c.args.length) c.in_ok-guest.ensures.place is) ((c.check_mapped.ensures.sound p out sound).found);
     }
 
 pub returns-in_err-guest-clause-held : goal.returns-in_err-guest-clause-held
 returns-in_err-guest-clause-held g c = λ none some.
-    handed_on (λ (r : Result _ _). FitsTables c.args.self.now c.args.self.now (c.args.prepared.now.guest + c.args.at) (Raw Image c.args.host true) c.args.length r) c.from_residual.result c.in_err-guest.field-0.0 c.from_residual.ensures
-    (let isnt : ¬ IsHeldAs c.args.self.now (c.args.prepared.now.guest + c.args.at) (Raw Image c.args.host true) c.args.length = λ whole. let b = whole.below in let p = c.in_err-guest.ensures.past in omega (arith, b, p, some) in
+    handed_on (λ (r : Result _ _). FitsTables c.args.self.now c.args.self.now (c.args.prepared.now.guest + c.args.at) (Raw c.args.prepared.now.place c.args.host true) c.args.length r) c.from_residual.result c.in_err-guest.field-0.0 c.from_residual.ensures
+    (let isnt : ¬ IsHeldAs c.args.self.now (c.args.prepared.now.guest + c.args.at) (Raw c.args.prepared.now.place c.args.host true) c.args.length = λ whole. let b = whole.below in let p = c.in_err-guest.ensures.past in omega (arith, b, p, some) in
     record { outdated = λ outdated. (isnt, isnt); compressed = λ compressed. let no : OutdatedMapping ≡ Compressed = sym c.in_err-guest.ensures.cause ∙ compressed in absurd cc })
 
 pub returns-then-is_some-clause-step : goal.returns-then-is_some-clause-step

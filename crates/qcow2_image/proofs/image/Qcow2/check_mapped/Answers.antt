@@ -1,5 +1,5 @@
 use Rattle.std.proofs.Common.{◌≡◌, ◌≤◌, ◌<◌, IsTrue, true, false, sym, subst, arith, ⊎_elim, inl, inr, refl, rules, Result, is_some}
-use Rattle.qcow2_image.proofs.Common.{IsFoundInImage, IsFoundWhole, IsMappedAs, handed_on, IsCacheHeld, MayFailLookingAgain, cases_lt, FitsTables, IsHeldAs, IsOfTables, size_of, MayFailFindingAgain, IsSpecial}
+use Rattle.qcow2_image.proofs.Common.{is_beside, IsFoundInImage, IsFoundWhole, IsMappedAs, handed_on, IsCacheHeld, MayFailLookingAgain, cases_lt, FitsTables, IsHeldAs, IsOfTables, size_of, MayFailFindingAgain, IsSpecial}
 use Rattle.qcow2_image.proofs.Lemmas.{found_after, found_before, found_whole, mapped_as, hands_met, held_whole, heeds_else, same_found}
 use Rattle.qcow2_image.proofs.Call.CacheErrors.{finding_tables}
 use Rattle.qcow2_image.proofs.image.Qcow2.check_mapped.Goals.{else-found-length-via-then-found-length+else-is, else-found-length-via-else-found-length}
@@ -64,7 +64,7 @@ returns-clause-held g c = λ some.
     let new = c.look_up.new.self in
     let isnt : ¬ IsHeldAs new c.args.offset c.args.wanted.now c.args.length = λ whole.
     let below : c.args.offset < size_of c.args.self.now = let b = whole.below in let s = c.look_up.ensures.step.part.stays.image.size in omega (arith, b, s, some) in
-    let both = held_whole new.file.header.fields (is_some new.backing) new.l1_table new.file.caches c.args.offset c.args.length c.in_ok-kind.found c.in_ok-kind.kind c.args.wanted.now (c.in_ok-kind.ensures.held below) whole in
+    let both = held_whole new.file.header.fields (is_beside new) (is_some new.backing) new.l1_table new.file.caches c.args.offset c.args.length c.in_ok-kind.found c.in_ok-kind.kind c.args.wanted.now (c.in_ok-kind.ensures.held below) whole in
     elim c.else-found-length.branch [
       | else-found-length-via-then-found-length+else-is w ↦ absurd (let no : false ≡ true = subst IsTrue w.if-is.false (w.is.ensures.1 both.0) in cc)
       | else-found-length-via-else-found-length w ↦ absurd (let short = w.if-found-length.false in omega (arith, both.1))

@@ -11,7 +11,7 @@ returns-clause-step g c =
     let was = c.writable_l2_table.ensures.step.stays in
     let is = c.clear_entries.ensures.stays in
     record {
-      stays = record { image = record { number = is.image.number ∙ was.image.number; size = is.image.size ∙ was.image.size; writable = is.image.writable ∙ was.image.writable; external = is.image.external ∙ was.image.external }; failed = is.failed ∙ was.failed };
+      stays = record { image = record { number = is.image.number ∙ was.image.number; size = is.image.size ∙ was.image.size; writable = is.image.writable ∙ was.image.writable; lacks = is.image.lacks ∙ was.image.lacks; beside = is.image.beside ∙ was.image.beside }; failed = is.failed ∙ was.failed };
       notes = notes_then c.writable_l2_table.ensures.step.notes (table_kept c.writable_l2_table.new.self c.clear_entries.new.self (ap (λ (i : Qcow2 _ _). i.file.storage) rest) c.clear_entries.ensures.clears.marks);
       header_cluster = behind_then c.writable_l2_table.ensures.step.header_cluster (behind_by g.S.Storage.view rest (behind_tables c.clear_entries.ensures.clears.behind));
     }
@@ -45,7 +45,7 @@ returns-clause-fails g c =
     let rest = c.clear_entries.ensures.clears.rest in
     let new = record b { file = record b.file { free_list = c.hand_back.new.list } } in
     record {
-      faults = counted_ok view below old new tt (faults_then view below old mid new c.in_ok-table.ensures.fails.faults.told (untouched view below mid new (ap (λ (i : Qcow2 _ _). i.file.storage) rest) (ap (λ (i : Qcow2 _ _). i.backing) rest)));
+      faults = counted_ok view below old new tt (faults_then view below old mid new c.in_ok-table.ensures.fails.faults.told (untouched view below mid new (ap (λ (i : Qcow2 _ _). i.file.storage) rest) (ap (λ (i : Qcow2 _ _). i.backing) rest) (ap (λ (i : Qcow2 _ _). i.data_file) rest)));
       cause = tt;
     }
 

@@ -43,7 +43,7 @@ returns-in_err-mark_failure-clause-step g c =
       since = notes_since view old begun c.begin_call.ensures.begun new kept;
       once_written = fails_once view old begun c.begin_call.ensures.begun entries new c.clear_between-cleared.result c.clear_between-cleared.ensures.step.notes failed c.mark_failure.ensures.marks c.mark_failure.ensures.rest (Err e) (λ memory. done ∙ err_as e Memory memory);
       header_cluster = behind_call view c.begin_call.ensures.begun c.clear_between-cleared.ensures.step.header_cluster c.mark_failure.ensures.rest;
-      faults = counted_as view below old old new c.mark_failure.result e (untouched view below old old refl refl) cleared c.in_err-mark_failure.was;
+      faults = counted_as view below old old new c.mark_failure.result e (untouched view below old old refl refl refl) cleared c.in_err-mark_failure.was;
     })
 
 pub returns-in_err-mark_failure-clause-fails : goal.returns-in_err-mark_failure-clause-fails

@@ -1,3 +1,4 @@
+use Rattle.qcow2_image.proofs.Call.DataFiles.{none_by_guest}
 use Rattle.qcow2_image.proofs.Lemmas.{filling_written, taking_none, taking_of_filling, back_refused, listed_after_same, behind_in_place, ends_elsewhere, finds_shared, next_cluster, next_says, hands_limit, limited_taking, limits_as, other_limit, kept_behind, hands_alone, alone_as, guest_fits, next_reads, place_aligned, place_fits}
 use Rattle.std.proofs.Common.{◌≡◌, ◌+◌, ◌-◌, ◌/◌, ◌^◌, ◌%◌, Some, true, false, arith, inl, refl, sym, ap, ◌∙◌, subst, rules}
 use Rattle.qcow2_image.proofs.Common.{cluster_size, Data, Zero, pending_in, l1_index_of, cover, handed_on, known_in, Qcow2, FindsBehind, ClusterMappingsAt, IsFilled, IsKeptAlone, InternalFillingStep, IsCompressed, HasUnannounced, IsCopiedCompressed, IfErr-weaker}
@@ -101,8 +102,8 @@ returns-in_ok-fill_kept-in-None-clause-sound g c = λ out k at may sound.
           behind_kept view below old out k p at c.args.length c.args.table c.args.overwrite may sound c.in-Some-checked_add.host c.in-Some-checked_add.ensures.1 kept (c.keeps.ensures.reach c.if-keeps.true) new image_step list filled;
     }
 
-pub returns-in-None-2-clause-sound : goal.returns-in-None-2-clause-sound
-returns-in-None-2-clause-sound g c = λ out k at may sound.
+pub returns-in-None-3-clause-sound : goal.returns-in-None-3-clause-sound
+returns-in-None-3-clause-sound g c = λ out k at may sound.
     let view = g.S.Storage.view in
     let below = g.F.BackingDisk.backing in
     let old = c.args.self.now in
@@ -118,7 +119,7 @@ returns-in-None-2-clause-sound g c = λ out k at may sound.
     let mapping = c.in_ok-old.old in
     let r = c.cluster_mapping_at.result in
     record {
-      does = finds_shared view below old out k p at c.args.length c.args.table c.args.overwrite may sound new mapping c.in_ok-old.ensures.reach (c.in-None-2.ensures.none refl) (λ own. let yes = c.keeps.ensures.answer.1 (own ∙ ap (λ b. Zero (Some (b, true))) (sym c.in-Some-checked_add.ensures.1)) in let e : true ≡ false = sym yes ∙ c.if-keeps.false in cc) covered r
+      does = finds_shared view below old out k p at c.args.length c.args.table c.args.overwrite may sound new mapping c.in_ok-old.ensures.reach (c.in-None-3.ensures.none refl) (λ own. let yes = c.keeps.ensures.answer.1 (own ∙ ap (λ b. Zero (Some (b, true))) (sym c.in-Some-checked_add.ensures.1)) in let e : true ≡ false = sym yes ∙ c.if-keeps.false in cc) covered r
           (subst (λ x. ClusterMappingsAt view below before old new out x (c.args.length - p.length) o mapping (p.offset + p.length) r) c.in-Some.ensures.1
           (subst (λ x. ClusterMappingsAt view below before old new out c.in-Some.next x o mapping (p.offset + p.length) r) c.saturating_sub-left.ensures
           (subst (λ x. ClusterMappingsAt view below before old new out c.in-Some.next c.saturating_sub-left.result o mapping x r) c.in-Some-checked_add.ensures.1 ((c.cluster_mapping_at.ensures.sound before out sound (λ m. omega arith)).clusters))));
@@ -157,3 +158,6 @@ returns-in_default-checked_add-clause-sound g c = λ out k at may sound.
       limit = search rules;
       may_fail = absurd (c.in_default-checked_add.ensures (place_fits g.S.Storage.view g.F.BackingDisk.backing c.args.self.now out k c.args.prepared.now at c.args.length c.args.table c.args.overwrite may sound));
     }
+
+pub returns-in-None-2-clause-sound : goal.returns-in-None-2-clause-sound
+returns-in-None-2-clause-sound g c = λ out k at may sound. absurd (none_by_guest c.args.self.now sound.alone (sym c.is_placed_by_guest.ensures ∙ c.if-is_placed_by_guest.true))

@@ -9,9 +9,9 @@ returns-in_err-places-clause-why g c = λ honest.
     let view = g.S.Storage.view in
     let old = c.args.self.now in
     let dropped = c.drop_cached.new.self in
-    let placed = c.read_places.new.self in
+    let placed = c.read_places_anew.new.self in
     let drops = c.drop_cached.ensures in
-    let places = c.read_places.ensures in
+    let places = c.read_places_anew.ensures in
     let e = c.in_err-places.field-0.0 in
     let why = c.in_err-places.ensures.why (honest_places view old dropped placed drops.step drops.rest places.step honest) in
     let there = subst (λ (w : Bool). IsReasonAgainstPlaces dropped.file.header.fields (contents_in view dropped.file) w e) drops.step.stays.image.writable why in
@@ -21,19 +21,19 @@ returns-in_err-places-clause-why g c = λ honest.
 pub returns-in_err-places-clause-keeps : goal.returns-in_err-places-clause-keeps
 returns-in_err-places-clause-keeps g c = λ rest p out sound.
     let first = c.drop_cached.ensures.keeps rest p out sound in
-    keeps_then g.S.Storage.view g.F.BackingDisk.backing out c.args.self.now c.drop_cached.new.self c.read_places.new.self p p p (λ k h. h) first (c.read_places.ensures.keeps p out first.sound)
+    keeps_then g.S.Storage.view g.F.BackingDisk.backing out c.args.self.now c.drop_cached.new.self c.read_places_anew.new.self p p p (λ k h. h) first (c.read_places_anew.ensures.keeps p out first.sound)
 
 pub returns-clause-step : goal.returns-clause-step
-returns-clause-step g c = anew_then g.S.Storage.view c.args.self.now c.drop_cached.new.self c.read_places.new.self c.drop_cached.ensures.step c.drop_cached.ensures.rest c.read_places.ensures.step c.replace_tables.new.self c.replace_tables.ensures.step
+returns-clause-step g c = anew_then g.S.Storage.view c.args.self.now c.drop_cached.new.self c.read_places_anew.new.self c.drop_cached.ensures.step c.drop_cached.ensures.rest c.read_places_anew.ensures.step c.replace_tables.new.self c.replace_tables.ensures.step
 
 pub returns-clause-why : goal.returns-clause-why
 returns-clause-why g c = λ honest.
     let view = g.S.Storage.view in
     let old = c.args.self.now in
     let dropped = c.drop_cached.new.self in
-    let placed = c.read_places.new.self in
+    let placed = c.read_places_anew.new.self in
     let drops = c.drop_cached.ensures in
-    let places = c.read_places.ensures in
+    let places = c.read_places_anew.ensures in
     let new = c.replace_tables.new.self in
     let there = honest_places view old dropped placed drops.step drops.rest places.step honest in
     let silent = silent_places view old dropped placed drops.step drops.rest places.step honest in
@@ -49,16 +49,16 @@ returns-clause-why g c = λ honest.
 pub returns-clause-dropped : goal.returns-clause-dropped
 returns-clause-dropped g c =
     always_ok c.replace_tables.result
-    (none_held_then g.S.Storage.view c.args.self.now c.drop_cached.new.self c.read_places.new.self c.drop_cached.ensures.step c.drop_cached.ensures.rest c.read_places.ensures.step c.replace_tables.new.self c.replace_tables.ensures.step c.in_ok-drop_cached.ensures.dropped)
+    (none_held_then g.S.Storage.view c.args.self.now c.drop_cached.new.self c.read_places_anew.new.self c.drop_cached.ensures.step c.drop_cached.ensures.rest c.read_places_anew.ensures.step c.replace_tables.new.self c.replace_tables.ensures.step c.in_ok-drop_cached.ensures.dropped)
 
 pub returns-clause-read : goal.returns-clause-read
 returns-clause-read g c = λ honest.
     let view = g.S.Storage.view in
     let old = c.args.self.now in
     let dropped = c.drop_cached.new.self in
-    let placed = c.read_places.new.self in
+    let placed = c.read_places_anew.new.self in
     let drops = c.drop_cached.ensures in
-    let places = c.read_places.ensures in
+    let places = c.read_places_anew.ensures in
     let there = honest_places view old dropped placed drops.step drops.rest places.step honest in
     let silent = silent_places view old dropped placed drops.step drops.rest places.step honest in
     on_both c.replace_tables.result (as_stored view old dropped placed drops.step drops.rest places.step c.replace_tables.new.self c.replace_tables.ensures.step g.F.BackingDisk.backing c.in_ok-places.places honest (c.in_ok-places.ensures.read there))
@@ -69,16 +69,16 @@ returns-clause-keeps g c = λ rest p out sound.
     let view = g.S.Storage.view in
     let below = g.F.BackingDisk.backing in
     let old = c.args.self.now in
-    let placed = c.read_places.new.self in
+    let placed = c.read_places_anew.new.self in
     let first = c.drop_cached.ensures.keeps rest p out sound in
     let dropped = c.drop_cached.new.self in
-    let second = keeps_then view below out old dropped placed p p p (λ k h. h) first (c.read_places.ensures.keeps p out first.sound) in
+    let second = keeps_then view below out old dropped placed p p p (λ k h. h) first (c.read_places_anew.ensures.keeps p out first.sound) in
     let found = same_places dropped.file.header.fields c.in_ok-places.places.fields (contents_in view dropped.file) first.sound.file.caches.kept.kept.crash_invariant.top (c.in_ok-places.ensures.read first.sound.file.honest) in
-    let same = found ∙ sym (ap (λ (i : Qcow2 _ _). i.file.header.fields) c.read_places.ensures.step.rest) in
+    let same = found ∙ sym (ap (λ (i : Qcow2 _ _). i.file.header.fields) c.read_places_anew.ensures.step.rest) in
     keeps_then view below out old placed c.replace_tables.new.self p p p (λ k h. h) second (c.replace_tables.ensures.keeps same p out second.sound)
 
 pub replace_tables-requires : goal.replace_tables-requires
-replace_tables-requires g c = places_for g.S.Storage.view c.args.self.now c.drop_cached.new.self c.read_places.new.self c.drop_cached.ensures.step c.drop_cached.ensures.rest c.read_places.ensures.step c.in_ok-places.places c.in_ok-places.ensures.places
+replace_tables-requires g c = places_for g.S.Storage.view c.args.self.now c.drop_cached.new.self c.read_places_anew.new.self c.drop_cached.ensures.step c.drop_cached.ensures.rest c.read_places_anew.ensures.step c.in_ok-places.places c.in_ok-places.ensures.places
 
 pub returns-in_err-drop_cached-clause-step : goal.returns-in_err-drop_cached-clause-step
 returns-in_err-drop_cached-clause-step g c = anew_dropped g.S.Storage.view c.args.self.now c.drop_cached.new.self c.drop_cached.ensures.step c.drop_cached.ensures.rest
@@ -87,20 +87,20 @@ pub returns-in_err-drop_cached-clause-kept : goal.returns-in_err-drop_cached-cla
 returns-in_err-drop_cached-clause-kept g c = on_refused c.from_residual.result (kept_dropped c.args.self.now c.drop_cached.new.self c.drop_cached.ensures.rest)
 
 pub returns-in_err-places-clause-step : goal.returns-in_err-places-clause-step
-returns-in_err-places-clause-step g c = anew_places g.S.Storage.view c.args.self.now c.drop_cached.new.self c.read_places.new.self c.drop_cached.ensures.step c.drop_cached.ensures.rest c.read_places.ensures.step
+returns-in_err-places-clause-step g c = anew_places g.S.Storage.view c.args.self.now c.drop_cached.new.self c.read_places_anew.new.self c.drop_cached.ensures.step c.drop_cached.ensures.rest c.read_places_anew.ensures.step
 
 pub returns-in_err-places-clause-kept : goal.returns-in_err-places-clause-kept
 returns-in_err-places-clause-kept g c = on_refused c.from_residual-in_err-places.result
-    (kept_places g.S.Storage.view c.args.self.now c.drop_cached.new.self c.read_places.new.self c.drop_cached.ensures.step c.drop_cached.ensures.rest c.read_places.ensures.step)
+    (kept_places g.S.Storage.view c.args.self.now c.drop_cached.new.self c.read_places_anew.new.self c.drop_cached.ensures.step c.drop_cached.ensures.rest c.read_places_anew.ensures.step)
 
 pub returns-clause-kept : goal.returns-clause-kept
 returns-clause-kept g c =
-    let first = kept_places g.S.Storage.view c.args.self.now c.drop_cached.new.self c.read_places.new.self c.drop_cached.ensures.step c.drop_cached.ensures.rest c.read_places.ensures.step in
+    let first = kept_places g.S.Storage.view c.args.self.now c.drop_cached.new.self c.read_places_anew.new.self c.drop_cached.ensures.step c.drop_cached.ensures.rest c.read_places_anew.ensures.step in
     on_refused_map c.replace_tables.result (kept_then first) c.replace_tables.ensures.kept
 
 pub returns-clause-fails : goal.returns-clause-fails
 returns-clause-fails g c =
     let view = g.S.Storage.view in
     let below = g.F.BackingDisk.backing in
-    let first = faults_then view below c.args.self.now c.drop_cached.new.self c.read_places.new.self c.in_ok-drop_cached.ensures.fails.faults.told c.in_ok-places.ensures.fails.faults.told in
-    record { faults = counted_since view below c.args.self.now c.read_places.new.self c.replace_tables.new.self c.replace_tables.result first c.replace_tables.ensures.fails.faults; cause = IfErr-weaker c.replace_tables.result MayFail MayFailToInvalidate (λ e met. inl met) c.replace_tables.ensures.fails.cause }
+    let first = faults_then view below c.args.self.now c.drop_cached.new.self c.read_places_anew.new.self c.in_ok-drop_cached.ensures.fails.faults.told c.in_ok-places.ensures.fails.faults.told in
+    record { faults = counted_since view below c.args.self.now c.read_places_anew.new.self c.replace_tables.new.self c.replace_tables.result first c.replace_tables.ensures.fails.faults; cause = IfErr-weaker c.replace_tables.result MayFail MayFailToInvalidate (λ e met. inl met) c.replace_tables.ensures.fails.cause }

@@ -19,7 +19,7 @@ returns-clause-faults g c =
     let below = g.F.BackingDisk.backing in
     let old = c.args.self.now in
     let taken = record old { file = c.allocate_meta.new.file; allocator = Some c.allocate_meta.new.self } in
-    let same = same_told view below old taken c.allocate_meta.result c.in_ok-pending.pending (told_of c.allocate_meta.result c.allocate_meta.ensures.fails) c.in_ok-pending.was refl in
+    let same = same_told view below old taken c.allocate_meta.result c.in_ok-pending.pending (told_of c.allocate_meta.result c.allocate_meta.ensures.fails) c.in_ok-pending.was refl refl in
     counted_since view below old taken c.write_allocated_l1_table.new.self c.write_allocated_l1_table.result same c.write_allocated_l1_table.ensures.fails.faults
 
 pub returns-in_default-clause-step : goal.returns-in_default-clause-step

@@ -44,7 +44,7 @@ returns-clause-in_place g c =
     entered_whole g.S.Storage.view g.F.BackingDisk.backing c.args.self.now c.loop-i.self c.args.prepared.now c.loop-i.prepared c.loop-i.i c.loop-i.entered c.loop-i.invariant (omega (arith, end, c.loop-i-test.false, c.loop-i.auto.i-end))
 
 pub returns-clause-faults : goal.returns-clause-faults
-returns-clause-faults g c = untouched g.S.Storage.view g.F.BackingDisk.backing c.args.self.now c.loop-i.self (ap (λ (image : Qcow2 _ _). image.file.storage) c.loop-i.invariant.rest) (ap (λ (image : Qcow2 _ _). image.backing) c.loop-i.invariant.rest)
+returns-clause-faults g c = untouched g.S.Storage.view g.F.BackingDisk.backing c.args.self.now c.loop-i.self (ap (λ (image : Qcow2 _ _). image.file.storage) c.loop-i.invariant.rest) (ap (λ (image : Qcow2 _ _). image.backing) c.loop-i.invariant.rest) (ap (λ (image : Qcow2 _ _). image.data_file) c.loop-i.invariant.rest)
 
 pub returns-clause-step : goal.returns-clause-step
 returns-clause-step g c = record { stays = search rules; notes = c.loop-i.invariant.notes; header_cluster = c.loop-i.invariant.behind }

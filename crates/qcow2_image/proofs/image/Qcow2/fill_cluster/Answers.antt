@@ -1,5 +1,6 @@
 use Rattle.std.proofs.Common.{◌≡◌, ◌+◌, ◌-◌, ◌*◌, ◌/◌, ◌%◌, ◌^◌, ◌<◌, ◌⊎◌, ◌≤◌, ℕ, sym, ap, ◌∙◌, arith, is_some, inl, inr, rules}
-use Rattle.qcow2_image.proofs.Common.{div-mul-add, div-add-mod', cluster_size, contents_in, known_in, IsMappedAs, disk_of, cover, known_byte, kind_at, IsFault, IsCopiedCompressed, MayFail, MayFailCopying, MayFailReading, IfOk-weaker}
+use Rattle.qcow2_image.proofs.Map.Looked.{kind_alone}
+use Rattle.qcow2_image.proofs.Common.{is_beside, div-mul-add, div-add-mod', cluster_size, contents_in, known_in, IsMappedAs, disk_of, cover, known_byte, kind_at, IsFault, IsCopiedCompressed, MayFail, MayFailCopying, MayFailReading, IfOk-weaker}
 use Rattle.qcow2_image.proofs.Prepare.CopiedBytes.{none_has, some_has}
 use Rattle.qcow2_image.proofs.Lemmas.{copying_met, alike_within, image_step_none, behind_start, met_as, reading_met, told_sum, within_cluster, filling_none}
 use Rattle.qcow2_alloc.specs.declared.error.ImageError.TheVariants as I
@@ -38,7 +39,7 @@ returns-clause-sound g c = λ p out sound holds some none.
           let zero_more : c.in-Some-checked_add.guest + 0 ≡ c.in-Some-checked_add.guest = omega arith in
           let here : c.in-Some-checked_add.guest / size ≡ offset / size = ap (λ o. o / size) (sym zero_more) ∙ inside 0 real in
           let mapped : IsMappedAs view old c.in-Some-checked_add.guest c.kind_of-kind.result (c.in-Some.range.end - c.in-Some.range.start) = record {
-            kind_is = c.kind_of-kind.ensures.value ∙ ap (kind_at old.file.header.fields (is_some old.backing) c.in-Some-checked_add.guest) (sym (ap (cover old.file.header.fields (known_in view old.file)) here ∙ covered));
+            kind_is = c.kind_of-kind.ensures.value ∙ kind_alone old sound.alone c.in-Some-checked_add.guest c.args.old.now ∙ ap (kind_at old.file.header.fields (is_some old.backing) c.in-Some-checked_add.guest) (sym (ap (cover old.file.header.fields (known_in view old.file)) here ∙ covered));
             alike = alike_within old.file.header.fields (known_in view old.file) c.in-Some-checked_add.guest (c.in-Some.range.end - c.in-Some.range.start) (λ i lt. inside i lt ∙ sym here);
           } in
           IfOk-weaker c.copy_old.result _ _
@@ -77,7 +78,7 @@ returns-clause-may_fail g c = λ some.
     let size = cluster_size image.file.header.fields in
     let at : c.value.result ≡ c.args.cluster * size = c.value.ensures ∙ c.offset.ensures ∙ ap (λ b. c.args.cluster * 2 ^ b) c.cluster_bits-bits.ensures.value in
     met_as (MayFailReading c.kind_of-kind.result) (λ e. IsFault e ⊎ ((e ≡ I.Compressed) × IsCopiedCompressed image.file.header.fields c.args.old.now c.args.offset c.args.length c.args.overwrite)) c.copy_old.result
-    (λ e why. elim (reading_met image.file.header.fields (is_some image.backing) c.in-Some-checked_add.guest c.args.old.now c.kind_of-kind.result c.kind_of-kind.ensures.value e why) [
+    (λ e why. elim (reading_met image.file.header.fields (is_beside image) (is_some image.backing) c.in-Some-checked_add.guest c.args.old.now c.kind_of-kind.result c.kind_of-kind.ensures.value e why) [
       | inl fault ↦ inl fault
       | inr compressed ↦ inr (compressed.0, (compressed.1, c.in-Some.ensures.left))
     ])
@@ -93,6 +94,6 @@ pub returns-clause-fails : goal.returns-clause-fails
 returns-clause-fails g c = record {
   faults = search rules;
   cause = met_as (MayFailCopying c.kind_of-kind.result) MayFail c.copy_old.result
-      (copying_met c.args.self.now.file.header.fields (is_some c.args.self.now.backing) c.in-Some-checked_add.guest c.args.old.now c.kind_of-kind.result c.kind_of-kind.ensures.value) c.copy_old.ensures.fails.cause;
+      (copying_met c.args.self.now.file.header.fields (is_beside c.args.self.now) (is_some c.args.self.now.backing) c.in-Some-checked_add.guest c.args.old.now c.kind_of-kind.result c.kind_of-kind.ensures.value) c.copy_old.ensures.fails.cause;
   limited = search rules;
 }

@@ -1,6 +1,7 @@
-use Rattle.qcow2_image.proofs.Lemmas.{step_then, step_none, works_none, all_listed, beside, freed_refused, tidy_stays, free_places, fill_unseen, fills_none, fills_refused, fills_stays, met_taken, refused_after, taken_here, counted_as, counted_of, counted_still, fault_unlimited, goes_step, limited_giving, limited_upto, other_limit, met_piece, hands_met}
+use Rattle.qcow2_image.proofs.Call.DataFiles.{none_still}
+use Rattle.qcow2_image.proofs.Lemmas.{step_then, step_none, works_none, all_listed, beside, freed_refused, tidy_stays, free_places, fill_unseen, fills_none, fills_refused, fills_stays, met_taken, refused_after, taken_here, counted_as, counted_of, counted_still, counted_on, faults_then, fault_unlimited, goes_step, limited_giving, limited_upto, other_limit, met_piece, hands_met}
 use Rattle.qcow2_image.proofs.image.Qcow2.fill_first.Goals as goal
-use Rattle.std.proofs.Common.{◌≡◌, ◌+◌, ◌^◌, ◌≤◌, ◌<◌, ◌∷◌, Err, ◌∙◌, [], None, true, inl, min, refl, sym, ap, subst, arith, rules, inr}
+use Rattle.std.proofs.Common.{◌≡◌, ◌+◌, ◌^◌, ◌≤◌, ◌<◌, ◌∷◌, Err, ◌∙◌, [], None, Option, is_some, true, inl, min, refl, sym, ap, subst, arith, rules, inr}
 use Rattle.qcow2_image.proofs.Common.{Pending, handed_on, ImageInvariant, abstract_of, pending_in, FillsFirst, FillsPart, given_by_zeros, CountsImageFaults, IsFault, known_in, ImageError, HasCompressedIn, MayFailAllocating, HasPinnedMapping}
 use Rattle.qcow2_image.proofs.Preallocate.Piece.{all_behind, all_filled, all_fits, all_next, all_put, all_within, piece_gone, sound_now}
 use Rattle.qcow2_image.proofs.Call.FailingErrors.{tables_met}
@@ -66,12 +67,13 @@ returns-in-Err-clause-sound g c = λ out sound.
     let e = c.in-Err.refusal in
     let counted = c.min-count.ensures ∙ ap (min p.length) (c.most-2.ensures ∙ sym c.most.ensures) in
     let e' = c.process_free_list_after.result in
+    let own = none_still mid.data_file (c.prepare.ensures.step.stays.image.beside ∙ ap (λ (file : Option _). is_some file) sound.alone) in
     let ready = (c.in_ok-prepared.ensures.sound some (None ∷ out) ((free_places view below).free old [] out sound)).readies 0 refl in
     let answered = (c.in_ok-prepared.ensures.sound some out sound).answers in
     record {
       fills = λ whole. let fits = all_fits view below out old mid p from to c.most.result n c.min-count.result sound ready answered lt whole few asked counted in
           let within = all_within view below out old mid p from to c.most.result n c.min-count.result sound ready answered lt whole few asked counted in
-          let put = all_put view below out old mid p from to c.most.result n c.min-count.result sound ready answered lt whole few asked counted c.put_zeros.new.self _ c.in-Err.ensures.written in
+          let put = all_put view below out old mid p from to c.most.result n c.min-count.result sound ready answered lt whole few asked counted c.put_zeros.new.self _ (c.in-Err.ensures.written own) in
           refused_after view below out old old c.process_free_list_after.new.self to from to from from from (from + p.length) (omega arith) (omega (arith, lt)) (omega arith) within (fills_none view below out old to from sound (works_none (abstract_of view below old out) sound)) (goes_step step_none) e'
           (record {
             left = piece_gone view below out old mid p from n sound ready answered fits c.put_zeros.new.self c.release_prepared.new.self c.process_free_list_after.new.self to e e' within put c.release_prepared.ensures.sees c.process_free_list_after.ensures.refused.fault (λ still. c.process_free_list_after.ensures.frees out still);
@@ -102,16 +104,17 @@ returns-in_err-process_free_list-clause-sound g c = λ out sound.
     let asked = c.min.ensures in
     let some : 0 < c.min.result = omega (arith, asked, few, lt) in
     let counted = c.min-count.ensures ∙ ap (min p.length) (c.most-2.ensures ∙ sym c.most.ensures) in
+    let own = none_still mid.data_file (c.prepare.ensures.step.stays.image.beside ∙ ap (λ (file : Option _). is_some file) sound.alone) in
     let ready = (c.in_ok-prepared.ensures.sound some (None ∷ out) ((free_places view below).free old [] out sound)).readies 0 refl in
     let answered = (c.in_ok-prepared.ensures.sound some out sound).answers in
     record {
       fills = λ whole. let within = all_within view below out old mid p from to c.most.result n c.min-count.result sound ready answered lt whole few asked counted in
-          let part = all_filled view below out old mid p from to c.most.result n c.min-count.result sound ready answered lt whole few asked counted (c.in_ok-prepared.ensures.some some).some c.put_zeros.new.self done c.in_default.ensures.written c.commit_filled.ensures.commits c.commit_filled.ensures.header c.in_ok-prepared.ensures.l1_place in
+          let part = all_filled view below out old mid p from to c.most.result n c.min-count.result sound ready answered lt whole few asked counted (c.in_ok-prepared.ensures.some some).some c.put_zeros.new.self done (c.in_default.ensures.written own) c.commit_filled.ensures.commits c.commit_filled.ensures.header c.in_ok-prepared.ensures.l1_place in
           let listed = subst (λ (x : Pending). ImageInvariant view below x done out) (all_listed view below done out) part.sound in
           handed_on (λ r. FillsFirst view below to from to old new out r) c.from_residual-in_err-process_free_list.result e c.from_residual-in_err-process_free_list.ensures
           (fills_refused view below out old done new to from (from + p.length) part to e within (tables_met e c.in_err-process_free_list.ensures.cause) (fault_unlimited e (c.in_err-process_free_list.ensures.faults (beside view below done out) out listed))
           (freed_refused view below done out new e part.sound (c.in_err-process_free_list.ensures.frees (beside view below done out) out listed)) c.process_free_list.ensures.keeps_rest.header);
-      may_fail = λ whole near. let part = all_filled view below out old mid p from to c.most.result n c.min-count.result sound ready answered lt whole few asked counted (c.in_ok-prepared.ensures.some some).some c.put_zeros.new.self done c.in_default.ensures.written c.commit_filled.ensures.commits c.commit_filled.ensures.header c.in_ok-prepared.ensures.l1_place in
+      may_fail = λ whole near. let part = all_filled view below out old mid p from to c.most.result n c.min-count.result sound ready answered lt whole few asked counted (c.in_ok-prepared.ensures.some some).some c.put_zeros.new.self done (c.in_default.ensures.written own) c.commit_filled.ensures.commits c.commit_filled.ensures.header c.in_ok-prepared.ensures.l1_place in
           let listed = subst (λ (x : Pending). ImageInvariant view below x done out) (all_listed view below done out) part.sound in
           hands_met (MayFailAllocating (HasPinnedMapping out) (HasPinnedMapping out) (HasCompressedIn from to old.file.header.fields (known_in view old.file)) ⊥) c.from_residual-in_err-process_free_list.result c.in_err-process_free_list.field-0.0 c.from_residual-in_err-process_free_list.ensures
           (inl (inl (inl (c.in_err-process_free_list.ensures.faults (beside view below done out) out listed))));
@@ -135,17 +138,27 @@ returns-clause-sound g c = λ out sound.
     let some : 0 < c.min.result = omega (arith, asked, few, lt) in
     let counted = c.min-count.ensures ∙ ap (min p.length) (c.most-2.ensures ∙ sym c.most.ensures) in
     let high : c.args.to < 2 ^ 64 = search rules in
+    let own = none_still mid.data_file (c.prepare.ensures.step.stays.image.beside ∙ ap (λ (file : Option _). is_some file) sound.alone) in
     let ready = (c.in_ok-prepared.ensures.sound some (None ∷ out) ((free_places view below).free old [] out sound)).readies 0 refl in
     let answered = (c.in_ok-prepared.ensures.sound some out sound).answers in
     record {
       may_fail = search rules;
       fills = λ whole. let next : c.min-next.result ≡ c.args.from + c.in_ok-prepared.prepared.length =
           all_next view below out old mid p from to c.most.result n c.min-count.result sound ready answered lt whole few asked counted c.min-next.result (c.min-next.ensures ∙ ap (min to) c.saturating_add.ensures) high in
-          let part = all_filled view below out old mid p from to c.most.result n c.min-count.result sound ready answered lt whole few asked counted (c.in_ok-prepared.ensures.some some).some c.put_zeros.new.self done c.in_default.ensures.written c.commit_filled.ensures.commits c.commit_filled.ensures.header c.in_ok-prepared.ensures.l1_place in
+          let part = all_filled view below out old mid p from to c.most.result n c.min-count.result sound ready answered lt whole few asked counted (c.in_ok-prepared.ensures.some some).some c.put_zeros.new.self done (c.in_default.ensures.written own) c.commit_filled.ensures.commits c.commit_filled.ensures.header c.in_ok-prepared.ensures.l1_place in
           let listed = subst (λ (x : Pending). ImageInvariant view below x done out) (all_listed view below done out) part.sound in
           subst (λ k. FillsPart view below to from k old new out) (sym next)
           (fills_stays view below out old done new to from (from + p.length) part (tidy_stays view below done out new part.sound (c.in_ok-process_free_list.ensures.frees (beside view below done out) out listed)) c.process_free_list.ensures.keeps_rest.header);
     }
 
 pub returns-in_err-process_free_list-clause-fails : goal.returns-in_err-process_free_list-clause-fails
-returns-in_err-process_free_list-clause-fails g c = record { faults = search rules; cause = search rules }
+returns-in_err-process_free_list-clause-fails g c = record {
+  faults = let view = g.S.Storage.view in
+      let below = g.F.BackingDisk.backing in
+      let old = c.args.self.now in
+      let put = c.put_zeros.new.self in
+      let done = c.commit_filled.new.self in
+      let first = faults_then view below old c.prepare.new.self put c.in_ok-prepared.ensures.fails.faults.told c.in_default.ensures.fails.faults.told in
+      counted_on view below old done c.process_free_list.new.self c.process_free_list.result c.in_err-process_free_list.field-0.0 c.from_residual-in_err-process_free_list.result (faults_then view below old put done first c.commit_filled.ensures.faults) c.process_free_list.ensures.counts c.in_err-process_free_list.was c.from_residual-in_err-process_free_list.ensures;
+  cause = search rules;
+}

@@ -1,4 +1,4 @@
-use Rattle.qcow2_image.proofs.Common.{false, [], sym, ◌∙◌, subst, ap, rules, Result, IfErr, Pending, with_listed, FlushesImage, Qcow2, is_failed, ImageInvariant, pending_in, IsFault, IsOfTables}
+use Rattle.qcow2_image.proofs.Common.{[], sym, ◌∙◌, subst, ap, rules, Result, IfErr, Pending, with_listed, FlushesImage, Qcow2, is_failed, ImageInvariant, pending_in, IsFault, IsOfTables}
 use Rattle.qcow2_image.proofs.Lemmas.{written_back, all_listed, beside, flushes_with_outcome, frees_on, counted_marked, marks_memory, may_mark, fails_none, fails_once, behind_call, quiet_sound, reads_call}
 use Rattle.qcow2_image.proofs.image.Qcow2.flush.Goals as goal
 

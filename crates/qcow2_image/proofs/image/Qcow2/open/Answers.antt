@@ -1,5 +1,5 @@
 use Rattle.std.proofs.Common.{◌≡◌, ◌⊎◌, sym, refl, arith, subst, ap, inl, inr, ◌∙◌, rules, None, false}
-use Rattle.qcow2_image.proofs.Common.{byte_at, nothing_pending, surplus_of, ImageFile, Qcow2, IsKeptSince, HeaderReads, header, HeaderFields, SameFormat, ImageError, Dependency, UnalignedTable, of_metadata, IsFault, IsJustifiedRefusal, AreAllWritten}
+use Rattle.qcow2_image.proofs.Common.{byte_at, nothing_pending, surplus_of, ImageFile, Qcow2, IsKeptSince, HeaderReads, header, HeaderFields, SameFormat, ImageError, Dependency, UnalignedTable, IsFault, IsJustifiedRefusal, AreAllWritten}
 use Rattle.qcow2_image.proofs.Open.Left.{left_loaded, left_opened, left_refused}
 use Rattle.qcow2_image.proofs.Open.Opening.{new_tables_new, opened, kept_loaded, kept_opened, named_still}
 use Rattle.qcow2_alloc.specs.declared.error.ImageError.TheVariants as I
@@ -102,7 +102,7 @@ returns-in-Ok-load_tables-clause-step g c = record {
   storage =
       let file : ImageFile _ = record { alloc = c.args.alloc; storage = c.load.new.storage; header = c.in-Ok.header; caches = c.in-Ok-new.caches; free_list = c.new-2.result } in
       let tables = c.in-Ok-load_tables.field-0 in
-      let image : Qcow2 _ _ = record { number = c.args.number; is_failed = false; file = c.load_tables.new.file; l1_table = tables.l1_table; allocator = tables.allocator; backing = None } in
+      let image : Qcow2 _ _ = record { number = c.args.number; is_failed = false; file = c.load_tables.new.file; l1_table = tables.l1_table; allocator = tables.allocator; backing = None; data_file = None } in
       left_opened g.S.Storage.view c.args.writable c.args.storage.storage c.args.storage.storage file refl c.load.result c.load.ensures.reads c.in-Ok.ensures.ok tables image c.in-Ok-load_tables.ensures.step.storage;
   since =
       let view = g.S.Storage.view in
@@ -149,11 +149,11 @@ returns-in-Ok-load_tables-clause-opens g c =
     let read = c.load.ensures.reads in
     let new = c.in-Ok-new.ensures in
     let tables = c.in-Ok-load_tables.field-0 in
-    let image : Qcow2 _ _ = record { number = c.args.number; is_failed = false; file = c.load_tables.new.file; l1_table = tables.l1_table; allocator = tables.allocator; backing = None } in
+    let image : Qcow2 _ _ = record { number = c.args.number; is_failed = false; file = c.load_tables.new.file; l1_table = tables.l1_table; allocator = tables.allocator; backing = None; data_file = None } in
     let surplus = surplus_of c.in-Ok.header.fields (byte_at contents) in
     λ honest consistent.
     let there = c.in-Ok.ensures.ok honest in
-    let is = opened view below image surplus refl tt ((c.in-Ok-load_tables.ensures.sound (nothing_pending surplus) (new_tables_new view below contents (record { alloc = c.args.alloc; storage = c.load.new.storage; header = c.in-Ok.header; caches = c.in-Ok-new.caches; free_list = c.new-2.result }) consistent
+    let is = opened view below image surplus refl refl tt ((c.in-Ok-load_tables.ensures.sound (nothing_pending surplus) (new_tables_new view below contents (record { alloc = c.args.alloc; storage = c.load.new.storage; header = c.in-Ok.header; caches = c.in-Ok-new.caches; free_list = c.new-2.result }) consistent
     (read.honest honest) (read.same honest) there new.sound new.known new.named_blocks (new.room (omega arith) (omega arith)) new.pins c.new-2.ensures)).1) in
     record { opened = is.0; surplus = is.1 ∙ ap (λ h. surplus_of h (byte_at contents)) there.fields; leaks = c.in-Ok-load_tables.ensures.leaks }
 

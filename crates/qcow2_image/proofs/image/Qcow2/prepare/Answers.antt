@@ -18,7 +18,7 @@ returns-in-Err-clause-fails g c = record {
       let below = g.F.BackingDisk.backing in
       let old = c.args.self.now in
       counted_of view below old c.process_free_list_after.new.self c.process_free_list_after.result
-      (c.process_free_list_after.ensures.faults old (counted_as view below old old c.prepare_range.new.self c.prepare_range.result c.in-Err.refusal (untouched view below old old refl refl) c.prepare_range.ensures.fails.faults c.in-Err.is));
+      (c.process_free_list_after.ensures.faults old (counted_as view below old old c.prepare_range.new.self c.prepare_range.result c.in-Err.refusal (untouched view below old old refl refl refl) c.prepare_range.ensures.fails.faults c.in-Err.is));
 }
 
 pub returns-in-Ok-clause-sound : goal.returns-in-Ok-clause-sound

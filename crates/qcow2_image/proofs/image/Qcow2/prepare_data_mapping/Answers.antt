@@ -1,7 +1,8 @@
 use Rattle.qcow2_image.proofs.Call.MarkedCalls.{call_marked}
 use Rattle.qcow2_image.proofs.Lemmas.{lies_below, refused_exists, goes_begun, limited_since, limits_as, listed, refused_for, prepares_after, stays_kept, marks_memory, may_mark, fails_none, behind_none, begun_own, unpinned_begun, compressed_as, far_before, taking_as}
-use Rattle.std.proofs.Common.{◌≡◌, ◌<◌, ◌≤◌, ◌+◌, [], sym, ◌∙◌, subst, arith, ap, refl, ⊎_elim, inl, inr, rules, IfErr, IfOk, None, Result, Some}
-use Rattle.qcow2_image.proofs.Common.{IfLimit, IsLimited, IsNone, TablePrepared, known_in, IsAnswered, IsTaken, Qcow2, Prepares, is_failed, ListsNoMore, IsExisting, meaning, pending_in, refuses_to_prepare, FreesRefused, PreparesUnpinned, ExistsInTables, cluster_size, HeaderFields, NeedsOverflowingL1Entry, CopiesCompressed, MayFailAllocating, length_of, offset_of, table_of, HasPinnedMapping, IfOk-weaker, IfErr-weaker, MayFailPreparing, size_of}
+use Rattle.qcow2_image.proofs.Call.DataFiles.{refused_at_once}
+use Rattle.std.proofs.Common.{◌≡◌, ◌<◌, ◌≤◌, ◌+◌, [], sym, ◌∙◌, subst, arith, ap, refl, ⊎_elim, inl, inr, rules, IfErr, IfOk, IfSome, Err, None, Result, Some, Bool, if◌then◌else◌}
+use Rattle.qcow2_image.proofs.Common.{handed_on, IfLimit, IsLimited, IsNone, TablePrepared, known_in, IsAnswered, IsTaken, Qcow2, Prepares, is_failed, ListsNoMore, IsExisting, meaning, pending_in, refuses_to_prepare, FreesRefused, PreparesUnpinned, ExistsInTables, cluster_size, HeaderFields, NeedsOverflowingL1Entry, CopiesCompressed, MayFailAllocating, length_of, offset_of, table_of, HasPinnedMapping, IfOk-weaker, IfErr-weaker, MayFailPreparing, size_of, DataFile, Image, IsPlacedBehind, place_in, file_of}
 use Rattle.qcow2_image.proofs.image.Qcow2.prepare_data_mapping.Goals as goal
 use Rattle.qcow2_image.proofs.Prepare.PreparedAnswers.{answered_before, taken_before}
 use Rattle.qcow2_image.proofs.Call.Answers.{prepare_usable}
@@ -11,9 +12,12 @@ pub returns-clause-answer : goal.returns-clause-answer
 returns-clause-answer g c = record {
   own = search rules;
   some = subst (λ (r : Result _ _). IfOk r (λ p. 0 < c.args.length → 0 < length_of p)) (sym c.mark_failure.ensures.answer) (IfOk-weaker c.prepare-prepared.result _ _ (λ p has some. (has some).some) c.prepare-prepared.ensures.some);
+  place = subst (λ (r : Result _ _). IfOk r (λ p. file_of p ≡ place_in c.mark_failure.new.self)) (sym c.mark_failure.ensures.answer)
+      (subst (λ (i : Qcow2 _ _). IfOk c.prepare-prepared.result (λ p. file_of p ≡ place_in i)) (sym c.mark_failure.ensures.rest)
+      (IfOk-weaker c.prepare-prepared.result _ _ (λ p own. own.1 ∙ ap (λ (b : Bool). if b then DataFile else Image) (sym c.prepare-prepared.ensures.step.stays.image.beside)) c.prepare-prepared.ensures.own));
   behind = let n = c.args.length in
-      subst (λ (r : Result _ _). IfOk r (λ p. 0 < n → cluster_size c.mark_failure.new.self.file.header.fields ≤ offset_of p)) (sym c.mark_failure.ensures.answer)
-      (subst (λ (i : Qcow2 _ _). IfOk c.prepare-prepared.result (λ p. 0 < n → cluster_size i.file.header.fields ≤ offset_of p)) (sym c.mark_failure.ensures.rest) (IfOk-weaker c.prepare-prepared.result _ _ (λ p has some. (has some).behind) c.prepare-prepared.ensures.some));
+      subst (λ (r : Result _ _). IfOk r (λ p. 0 < n → IsPlacedBehind c.mark_failure.new.self (offset_of p))) (sym c.mark_failure.ensures.answer)
+      (subst (λ (i : Qcow2 _ _). IfOk c.prepare-prepared.result (λ p. 0 < n → IsPlacedBehind i (offset_of p))) (sym c.mark_failure.ensures.rest) (IfOk-weaker c.prepare-prepared.result _ _ (λ p has some. (has some).behind) c.prepare-prepared.ensures.some));
   end = search rules;
 }
 
@@ -124,7 +128,14 @@ pub returns-then-length-eq0-clause-step : goal.returns-then-length-eq0-clause-st
 returns-then-length-eq0-clause-step g c = record { image = search rules; marks = search rules; once_written = fails_none g.S.Storage.view c.args.self.now _; header_cluster = behind_none; faults = search rules }
 
 pub returns-in_err-check_prepare-clause-refusals : goal.returns-in_err-check_prepare-clause-refusals
-returns-in_err-check_prepare-clause-refusals g c = record { early = search rules; nothing = search rules; late = search rules }
+returns-in_err-check_prepare-clause-refusals g c = record {
+  early = let old = c.args.self.now in
+      let e = c.in_err-check_prepare.field-0.0 in
+      let why = refuses_to_prepare old c.args.offset c.args.length in
+      handed_on (λ (r : Result _ _). IfSome why (λ x. (r ≡ Err x) × (old ≡ old))) c.from_residual.result e c.from_residual.ensures (refused_at_once _ old why e c.in_err-check_prepare.ensures.refusal);
+  nothing = search rules;
+  late = search rules;
+}
 
 pub returns-then-length-eq0-clause-refusals : goal.returns-then-length-eq0-clause-refusals
 returns-then-length-eq0-clause-refusals g c = record { early = search rules; nothing = search rules; late = search rules }

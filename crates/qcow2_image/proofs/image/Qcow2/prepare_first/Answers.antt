@@ -65,11 +65,11 @@ returns-in-Some-clause-sound g c = λ out sound holds.
 
 pub returns-in-Some-clause-begins : goal.returns-in-Some-clause-begins
 returns-in-Some-clause-begins g c = record {
-  own = search rules;
+  own = c.prepare_at.ensures.own;
   first = subst (λ (x : Prepared). IsFirst c.args.self.now.file.header.fields c.args.offset c.args.table x) (sym c.prepare_at.ensures.value)
       (record { guest = refl; under = refl; rest = refl; one = ap (λ (l : List ClusterMapping). length l) c.prepare_at.ensures.cluster_mapping });
-  behind = let h = c.args.self.now.file.header.fields in
-      let behind : cluster_size h ≤ c.in-Some.host = subst (MarkedIsBehind (cluster_size h)) c.in-Some.ensures.place.0 c.in_ok-old.ensures.behind refl in
+  behind = λ none. let h = c.args.self.now.file.header.fields in
+      let behind : cluster_size h ≤ c.in-Some.host = subst (MarkedIsBehind (cluster_size h)) c.in-Some.ensures.place.0 (c.in_ok-old.ensures.behind none) refl in
       subst (λ (x : Prepared). cluster_size h ≤ x.offset) (sym c.prepare_at.ensures.value) (omega (arith, behind));
   room = room_as c.args.self.now.file.header.fields c.args.length c.args.offset c.clusters_in.result (vec_capacity c.in_ok-room.room) c.clusters_in.ensures.enough c.in_ok-room.ensures.capacity c.prepare_at.result
       (ap (λ (x : Prepared). x.guest) c.prepare_at.ensures.value) c.prepare_at.ensures.room;

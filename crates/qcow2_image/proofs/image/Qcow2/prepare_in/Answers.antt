@@ -36,7 +36,7 @@ returns-in-Ok-clause-some g c =
     let longer = c.in-Ok.ensures.longer in
     let size : cluster_size new.file.header.fields ≡ cluster_size h = ap (λ (x : HeaderFields). cluster_size x) (header_format old.file.header new.file.header (header_then old.file.header c.prepare_first.new.self.file.header new.file.header c.in_ok-prepared.ensures.step.header c.in-Ok.ensures.step.header)) in
     let within = mod_below c.args.offset (cluster_size h) (pow_pos h.cluster_bits) in
-    record { some = (let rest = first.rest in let more = longer.more in omega (arith, within)); behind = (let begins = c.in_ok-prepared.ensures.begins.behind in let place = longer.place in omega (arith, size)) }
+    record { some = (let rest = first.rest in let more = longer.more in omega (arith, within)); behind = λ none. let begins = c.in_ok-prepared.ensures.begins.behind (sym (c.prepare_rest.ensures.step.stays.image.beside ∙ c.prepare_first.ensures.step.stays.image.beside) ∙ none) in let place = longer.place in omega (arith, size) }
 
 pub returns-in-Err-clause-step : goal.returns-in-Err-clause-step
 returns-in-Err-clause-step g c = where_then (where_then c.prepare_first.ensures.step (taking_where c.prepare_rest.ensures.step)) (taking_where (taking_with c.release_prepared.ensures.step c.release_prepared.ensures.header))
@@ -116,3 +116,6 @@ returns-in-Err-clause-sound g c = λ out sound holds.
 
 pub returns-in-Ok-clause-pins : goal.returns-in-Ok-clause-pins
 returns-in-Ok-clause-pins g c = subst (λ (t : Option ℕ). IsSome t) (sym (c.in-Ok.ensures.longer.under ∙ c.in_ok-prepared.ensures.begins.first.under)) refl
+
+pub returns-in-Ok-clause-own : goal.returns-in-Ok-clause-own
+returns-in-Ok-clause-own g c = let longer = c.in-Ok.ensures.longer in let own = c.in_ok-prepared.ensures.begins.own in (longer.image ∙ own.0, longer.file ∙ own.1)

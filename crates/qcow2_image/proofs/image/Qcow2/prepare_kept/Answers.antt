@@ -1,3 +1,4 @@
+use Rattle.qcow2_image.proofs.Call.DataFiles.{own_since}
 use Rattle.qcow2_image.proofs.Lemmas.{filling_pinned, filling_then, filling_written, listed_after_same, hands_limit, hands_unlimited, other_limit, hands_met, kept_behind}
 use Rattle.std.proofs.Common.{◌≤◌, ◌-◌, ◌%◌, ◌/◌, List, length, inl, refl, sym, ap, subst, arith, rules}
 use Rattle.qcow2_image.proofs.Common.{HasPinnedMapping, IsCopiedCompressed, MayFailAllocating, keeping, cluster_size, handed_on, Qcow2, Prepared, ClusterMapping, IsReadied, Readies, pending_in, IsFirst, InternalFillingStep}
@@ -39,10 +40,10 @@ returns-clause-sound g c = λ out sound holds unpinned covered.
 
 pub returns-clause-begins : goal.returns-clause-begins
 returns-clause-begins g c = record {
-  own = search rules;
+  own = own_since c.prepare_at.result c.fill_kept.ensures.step.stays.image c.prepare_at.ensures.own;
   first = subst (λ (x : Prepared). IsFirst c.args.self.now.file.header.fields c.args.offset c.args.table x) (sym c.prepare_at.ensures.value)
       (record { guest = refl; under = refl; rest = ap (λ (image : Qcow2 _ _). cluster_size image.file.header.fields - c.args.offset % cluster_size image.file.header.fields) c.fill_kept.ensures.rest; one = ap (λ (l : List ClusterMapping). length l) c.prepare_at.ensures.cluster_mapping });
-  behind = let least = c.requires.behind in
+  behind = λ none. let least = c.requires.behind none in
       subst (λ (x : Prepared). cluster_size c.args.self.now.file.header.fields ≤ x.offset) (sym c.prepare_at.ensures.value) (omega (arith, least));
   room = search rules;
 }

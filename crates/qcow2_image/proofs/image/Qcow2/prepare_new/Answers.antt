@@ -1,6 +1,8 @@
+use Rattle.qcow2_image.proofs.Call.ImageSteps.{stays_then}
+use Rattle.qcow2_image.proofs.Call.DataFiles.{own_since}
 use Rattle.qcow2_image.proofs.Lemmas.{filling_pinned, taking_listed, taking_none, taking_of_filling, taking_where, where_then, where_with, looking_unlimited, fault_unlimited, listed_after_on, image_step_left, still_holds, image_step_kept, image_step_then, behind_zero, hands_limit, limited_more, limited_taking, other_limit, named_place, hands_met, looking_taking}
 use Rattle.qcow2_image.proofs.image.Qcow2.prepare_new.Goals as goal
-use Rattle.std.proofs.Common.{◌≡◌, ◌≤◌, ◌-◌, ◌*◌, ◌%◌, ◌^◌, ◌++◌, ◌∷◌, ◌+◌, rules, [], inl, refl, sym, ap, ◌∙◌, subst, arith, List, length}
+use Rattle.std.proofs.Common.{◌≡◌, ◌≤◌, ◌-◌, ◌*◌, ◌%◌, ◌^◌, ◌++◌, ◌∷◌, rules, [], inl, refl, sym, ap, ◌∙◌, subst, arith, List, length}
 use Rattle.qcow2_image.proofs.Common.{HeaderFields, cluster_size, HeaderView, KeepsFormat, header_format, with_new_data, handed_on, Qcow2, Prepared, Readies, IsReadied, ClusterMapping, IsFirst, RefusedFillingStep, InternalFillingStep, HoldsAll, pending_with_listed, run_of, pending_in, HasPlace, known_in, l1_index_of, IsCopiedCompressed, MayFailAllocating, HasPinnedMapping}
 use Rattle.qcow2_image.proofs.Prepare.WritableL2Table.{refused as any_refusal}
 use Rattle.qcow2_image.proofs.Prepare.NewCluster.{back_none, readied_new}
@@ -12,11 +14,11 @@ returns-in-Ok-clause-begins g c =
     let h = old.file.header.fields in
     let format : KeepsFormat h filled.file.header.fields = header_format old.file.header filled.file.header c.in_ok-pending.ensures.step.header in
     record {
-      own = search rules;
+      own = own_since c.prepare_at.result (stays_then c.new_cluster.ensures.step.stays c.load_l2.ensures.step.stays).image c.prepare_at.ensures.own;
       first = let size : cluster_size c.load_l2.new.self.file.header.fields ≡ cluster_size h = ap (λ (x : HeaderFields). cluster_size x) (ap (λ x. x.fields) (ap (λ (i : Qcow2 _ _). i.file.header) c.in-Ok.ensures.rest) ∙ format) in
           subst (λ (x : Prepared). IsFirst h c.args.offset c.args.table x) (sym c.prepare_at.ensures.value)
           (record { guest = refl; under = refl; rest = ap (λ s. s - c.args.offset % s) size; one = ap (λ (l : List ClusterMapping). length l) c.prepare_at.ensures.cluster_mapping });
-      behind = let mid = c.load_l2.new.self in
+      behind = λ none. let mid = c.load_l2.new.self in
           let n = c.in_ok-pending.pending.first_cluster in
           let same : mid.file.header.fields.cluster_bits ≡ h.cluster_bits = ap (λ (x : HeaderFields). x.cluster_bits) (ap (λ x. x.fields) (ap (λ (i : Qcow2 _ _). i.file.header) c.in-Ok.ensures.rest) ∙ format) in
           let host_is : c.value-host.result ≡ n * 2 ^ mid.file.header.fields.cluster_bits = c.value-host.ensures ∙ c.offset.ensures ∙ ap (λ x. x * 2 ^ c.cluster_bits-bits.result) c.cluster.ensures ∙ ap (λ b. n * 2 ^ b) c.cluster_bits-bits.ensures.value in

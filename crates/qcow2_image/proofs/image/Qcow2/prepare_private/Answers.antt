@@ -12,7 +12,10 @@ pub returns-in-Some-clause-kept : goal.returns-in-Some-clause-kept
 returns-in-Some-clause-kept g c = IfOk-weaker c.prepare_kept.result _ _ (λ p place. begins_kept c.args.self.now.file.header.fields c.args.offset c.args.old.now c.in-Some.host p c.in-Some.ensures.place.0 place) c.prepare_kept.ensures.place
 
 pub returns-in-None-clause-kept : goal.returns-in-None-clause-kept
-returns-in-None-clause-kept g c = if_ok_any c.prepare_new.result (λ p host at. absurd (c.in-None.ensures.none refl host at))
+returns-in-None-clause-kept g c = if_ok_any c.prepare_at_guest.result (λ p host at. absurd (c.in-None.ensures.none refl host at))
+
+pub returns-in-None-2-clause-kept : goal.returns-in-None-2-clause-kept
+returns-in-None-2-clause-kept g c = if_ok_any c.prepare_new.result (λ p host at. absurd (c.in-None-2.ensures.none refl host at))
 
 pub returns-in-Some-clause-step : goal.returns-in-Some-clause-step
 returns-in-Some-clause-step g c = taking_where (taking_of_filling c.prepare_kept.ensures.step)

@@ -1,15 +1,21 @@
+use Rattle.qcow2_image.proofs.Lemmas.{counted_since}
+use Rattle.qcow2_image.proofs.Call.DataFiles.{own_since}
+use Rattle.qcow2_image.specs.Prepared.{offset_of}
+use Rattle.qcow2_image.specs.HeldMappings.{IsHeldAs}
+use Rattle.qcow2_image.specs.declared.mapping.MappingKind.TheVariants as M
+use Rattle.qcow2_image.specs.declared.mapping.Place.{Place}
 use Rattle.qcow2_image.proofs.image.Qcow2.prepare_range.Goals as goal
-use Rattle.std.proofs.Common.{◌≡◌, ◌∷◌, ◌<◌, ◌≤◌, true, false, inl, refl, sym, subst, None, Option, [], ap, ℕ, rules, arith}
-use Rattle.qcow2_image.proofs.Common.{known_in, handed_on, PreparesRange, IsPlaceOf, IsWritableAt, IsTaken, meaning, pending_in, on_ok, IfSome, notes_then, cluster_size, HeaderFields, NeedsOverflowingL1Entry, CopiesCompressed, MayFailAllocating, HasPinnedMapping, IfOk-weaker, IfErr-weaker, IsWritableInTables}
+use Rattle.std.proofs.Common.{◌≡◌, ◌∷◌, ◌<◌, true, false, inl, refl, sym, subst, None, Option, [], ap, ℕ, rules, arith}
+use Rattle.qcow2_image.proofs.Common.{known_in, handed_on, PreparesRange, IsPlaceOf, IsWritableAt, IsTaken, meaning, pending_in, on_ok, IfSome, notes_then, cluster_size, HeaderFields, NeedsOverflowingL1Entry, CopiesCompressed, MayFailAllocating, HasPinnedMapping, IfOk-weaker, IfErr-weaker, IsPlacedBehind, IsWritableInTables}
 use Rattle.qcow2_image.proofs.Prepare.PreparedAnswers.{answered_before, answered_existing, answered_range, nowhere_before, taken_before}
 use Rattle.qcow2_image.proofs.Lemmas.{pinned_exists, refused_exists, free_places, prepares_after, readied_after, taken_by, behind_then, found_pins, met_untaken, prepared_unpinned, unpinned_refused, hands_limit, other_limit, goes_step, limited_since, limits_as, place_kept, place_then, compressed_as, hands_met, if_err_both, taking_as, taking_kept}
 use Rattle.qcow2_image.proofs.Prepare.Preparing.{readied_existing}
 
 pub returns-in-Some-clause-some : goal.returns-in-Some-clause-some
 returns-in-Some-clause-some g c = λ some.
-    let h = c.writable_l2_table.new.self.file.header.fields in
-    let behind = subst (λ (x : Option ℕ). IfSome x (λ host. cluster_size h ≤ host)) c.in-Some.is c.in_ok-host.ensures.behind in
-    record { some = subst (λ n. 0 < n) (sym c.existing_at.ensures.length) some; behind = subst (λ n. cluster_size h ≤ n) (sym c.existing_at.ensures.offset) behind }
+    let mid = c.writable_l2_table.new.self in
+    let behind = subst (λ (x : Option ℕ). IfSome x (IsPlacedBehind mid)) c.in-Some.is c.in_ok-host.ensures.behind in
+    record { some = subst (λ n. 0 < n) (sym c.existing_at.ensures.length) some; behind = subst (IsPlacedBehind mid) (sym c.existing_at.ensures.offset) behind }
 
 pub returns-in_err-table-clause-pinned : goal.returns-in_err-table-clause-pinned
 returns-in_err-table-clause-pinned g c = λ own. unpinned_refused c.args.self.now c.args.offset c.from_residual.result c.in_err-table.field-0.0 c.from_residual.ensures (λ is. absurd (met_untaken c.in_err-table.field-0.0 c.in_err-table.ensures.fails.cause is))
@@ -72,7 +78,7 @@ returns-in-Some-clause-sound g c = λ some out sound.
     let known = known_in view mid.file in
     let q = c.existing_at.result in
     let p = pending_in view below mid out in
-    let place = subst (IsPlaceOf h known c.args.offset c.args.length) c.in-Some.is (c.in_ok-host.ensures.place p found.0.sound.file found.0.sound.inside found.1.entry some) in
+    let place = subst (IsPlaceOf h known c.args.offset c.args.length) c.in-Some.is (c.in_ok-host.ensures.place p found.0.sound.file found.0.sound.inside found.0.sound.alone found.1.entry some) in
     record {
       may_fail = search rules;
       taken = search rules;
@@ -94,17 +100,17 @@ returns-in-None-clause-sound g c = λ some out sound.
     let new = c.prepare_in.new.self in
     let size : cluster_size mid.file.header.fields ≡ cluster_size old.file.header.fields = ap (λ (x : HeaderFields). cluster_size x) found.0.header in
     let p = pending_in view g.F.BackingDisk.backing mid out in
-    let nowhere = subst (IsPlaceOf mid.file.header.fields (known_in view mid.file) c.args.offset c.args.length) c.in-None.is (c.in_ok-host.ensures.place p found.0.sound.file found.0.sound.inside found.1.entry some) in
+    let nowhere = subst (IsPlaceOf mid.file.header.fields (known_in view mid.file) c.args.offset c.args.length) c.in-None.is (c.in_ok-host.ensures.place p found.0.sound.file found.0.sound.inside found.0.sound.alone found.1.entry some) in
     let taken =
     let p = pending_in view below mid out in
-    let place = subst (IsPlaceOf mid.file.header.fields (known_in view mid.file) c.args.offset c.args.length) c.in-None.is (c.in_ok-host.ensures.place p found.0.sound.file found.0.sound.inside found.1.entry some) in
+    let place = subst (IsPlaceOf mid.file.header.fields (known_in view mid.file) c.args.offset c.args.length) c.in-None.is (c.in_ok-host.ensures.place p found.0.sound.file found.0.sound.inside found.0.sound.alone found.1.entry some) in
     IfErr-weaker c.prepare_in.result _ _
     (λ e taken is.
     taken_before view old mid c.args.offset c.args.length found.0.header found.0.covers out
     (taken_by view below mid p out found.0.sound c.args.offset c.in_ok-table.table found.1 (known_in view mid.file) c.args.length (taken is) place)) c.prepare_in.ensures.taken in
     let answers =
     let p = pending_in view below mid out in
-    let place = subst (IsPlaceOf mid.file.header.fields (known_in view mid.file) c.args.offset c.args.length) c.in-None.is (c.in_ok-host.ensures.place p found.0.sound.file found.0.sound.inside found.1.entry some) in
+    let place = subst (IsPlaceOf mid.file.header.fields (known_in view mid.file) c.args.offset c.args.length) c.in-None.is (c.in_ok-host.ensures.place p found.0.sound.file found.0.sound.inside found.0.sound.alone found.1.entry some) in
     let placed = (free_places view below).free mid [] out found.0.sound in
     IfOk-weaker c.prepare_in.result _ _
     (λ q is. answered_before view old mid c.args.offset c.args.length found.0.header found.0.covers new.file.header.fields (known_in view new.file) q (meaning view below new q) is)
@@ -135,8 +141,21 @@ returns-in-Some-clause-existing g c = λ some below _.
     let owns = c.in_ok-table.ensures.owns in
     let here = c.in_ok-host.ensures.held (record { some = some; below = let size = c.writable_l2_table.ensures.step.stays.image.size in omega (arith, below, size); own = owns.1 }) owns.0 in (
       c.existing_at.ensures.existing.guest_is,
-      subst (λ n. IsWritableInTables mid c.args.offset c.args.length n) (sym c.existing_at.ensures.offset) (subst (λ (x : Option ℕ). IfSome x (IsWritableInTables mid c.args.offset c.args.length)) c.in-Some.is here),
+      subst (λ (place : Place). IsHeldAs mid c.args.offset (M.Raw place (offset_of c.existing_at.result) true) c.args.length) (sym c.existing_at.ensures.own.1)
+          (subst (λ n. IsWritableInTables mid c.args.offset c.args.length n) (sym c.existing_at.ensures.offset) (subst (λ (x : Option ℕ). IfSome x (IsWritableInTables mid c.args.offset c.args.length)) c.in-Some.is here)),
     )
 
 pub returns-in-None-clause-existing : goal.returns-in-None-clause-existing
 returns-in-None-clause-existing g c = λ some below. pinned_exists c.prepare_in.new.self c.args.offset c.args.length c.prepare_in.result c.prepare_in.ensures.pins
+
+pub returns-in-Some-clause-own : goal.returns-in-Some-clause-own
+returns-in-Some-clause-own g c = own_since c.existing_at.result c.writable_l2_table.ensures.step.stays.image c.existing_at.ensures.own
+
+pub returns-in-None-clause-own : goal.returns-in-None-clause-own
+returns-in-None-clause-own g c = IfOk-weaker c.prepare_in.result _ _ (λ p own. own_since p c.writable_l2_table.ensures.step.stays.image own) c.prepare_in.ensures.own
+
+pub returns-in-None-clause-fails : goal.returns-in-None-clause-fails
+returns-in-None-clause-fails g c = record {
+  faults = counted_since g.S.Storage.view g.F.BackingDisk.backing c.args.self.now c.writable_l2_table.new.self c.prepare_in.new.self c.prepare_in.result c.in_ok-table.ensures.fails.faults.told c.prepare_in.ensures.fails.faults;
+  cause = search rules;
+}

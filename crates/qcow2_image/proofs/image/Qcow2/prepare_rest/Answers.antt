@@ -7,15 +7,15 @@ use Rattle.qcow2_image.proofs.image.Qcow2.prepare_rest.Goals as goal
 pub loop-prepared-init : goal.loop-prepared-init
 loop-prepared-init g c = record {
   turns = record {
-    stays = record { image = record { number = refl; size = refl; writable = refl; external = refl }; failed = refl };
+    stays = record { image = record { number = refl; size = refl; writable = refl; lacks = refl; beside = refl }; failed = refl };
     header = header_same _ _ refl;
-    longer = record { image = refl; guest = refl; place = refl; under = refl; first = λ cluster_mapping at. at; more = omega arith; most = λ past. refl; whole = λ less. c.requires.whole };
+    longer = record { image = refl; file = refl; guest = refl; place = refl; under = refl; first = λ cluster_mapping at. at; more = omega arith; most = λ past. refl; whole = λ less. c.requires.whole };
     room =
         let bound = c.min-end.ensures ∙ ap (min c.args.length) c.rest_of_table.ensures.value in
         subst (λ m. c.args.prepared.now.guest % cluster_size c.args.self.now.file.header.fields + m < vec_capacity c.args.prepared.now.clusters * cluster_size c.args.self.now.file.header.fields) (sym bound) c.requires.room;
     image_step = λ start out k free under is. is;
   };
-  faults = record { storage = refl; below = refl };
+  faults = record { storage = refl; below = refl; beside = refl };
   step = taking_none;
 }
 

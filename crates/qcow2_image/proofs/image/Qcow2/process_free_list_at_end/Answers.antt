@@ -30,6 +30,6 @@ returns-clause-header_cluster g c = behind_then c.process_free_list-freed.ensure
 pub returns-clause-fails : goal.returns-clause-fails
 returns-clause-fails g c = record {
   cause = search rules;
-  faults = counted_marked g.S.Storage.view g.F.BackingDisk.backing c.args.self.now c.args.self.now c.process_free_list-freed.new.self c.mark_failure.new.self c.process_free_list-freed.result c.mark_failure.result (untouched g.S.Storage.view g.F.BackingDisk.backing c.args.self.now c.args.self.now refl refl)
+  faults = counted_marked g.S.Storage.view g.F.BackingDisk.backing c.args.self.now c.args.self.now c.process_free_list-freed.new.self c.mark_failure.new.self c.process_free_list-freed.result c.mark_failure.result (untouched g.S.Storage.view g.F.BackingDisk.backing c.args.self.now c.args.self.now refl refl refl)
       c.process_free_list-freed.ensures.counts c.mark_failure.ensures.answer c.mark_failure.ensures.rest;
 }

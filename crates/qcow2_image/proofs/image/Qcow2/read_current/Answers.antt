@@ -1,5 +1,5 @@
 use Rattle.std.proofs.Common.{◌≡◌, ◌+◌, ◌∙◌, inl, inr, length, Err, subst, sym, arith, IfOk, rules, IfErr, Result, is_some}
-use Rattle.qcow2_image.proofs.Common.{Shows, OutdatedMapping, handed_on, always_ok, IsFoundWhole, further_by, disk_of, IsCacheHeld, MayFailMapped, MayFailReading, written_then, FitsTables, IsHeldAs, LooksQuietly, ReadsAs, MayFailFindingAgain, MayFailReadingFound, IsSpecial, on_ok_weaker}
+use Rattle.qcow2_image.proofs.Common.{is_beside, Shows, OutdatedMapping, handed_on, always_ok, IsFoundWhole, further_by, disk_of, IsCacheHeld, MayFailMapped, MayFailReading, written_then, FitsTables, IsHeldAs, LooksQuietly, ReadsAs, MayFailFindingAgain, MayFailReadingFound, IsSpecial, on_ok_weaker}
 use Rattle.qcow2_image.proofs.Lemmas.{keeps_then, none_past, hands_met, mapped_met, met_as, heeds_then, held_as, none_eof, step_then, looks_none, looks_then, reading_found, reads_from, special_of}
 use Rattle.qcow2_alloc.specs.declared.error.ImageError.TheVariants.{Compressed}
 use Rattle.qcow2_image.proofs.image.Qcow2.read_current.Goals as goal
@@ -77,7 +77,7 @@ returns-clause-held g c = λ some.
     let kind = further_by c.args.at c.args.mapping.now.kind in
     let held : IsHeldAs mid at kind n = subst (λ k. IsHeldAs mid at k n) c.further-kind.ensures (subst (λ o. IsHeldAs mid o c.further-kind.result n) c.in_ok-offset.ensures.place (c.in_ok-check_mapped.ensures.held some)) in
     heeds_then at kind n c.args.self.now new c.read_as.result
-    (λ outdated. none_eof mid.file.header.fields (is_some mid.backing) mid.l1_table mid.file.caches at n (subst (λ k. IsHeldAs mid at k n) (sym c.further-kind.ensures ∙ (c.read_as.ensures.outdated outdated).0) held))
+    (λ outdated. none_eof mid.file.header.fields (is_beside mid) (is_some mid.backing) mid.l1_table mid.file.caches at n (subst (λ k. IsHeldAs mid at k n) (sym c.further-kind.ensures ∙ (c.read_as.ensures.outdated outdated).0) held))
     (λ compressed. subst IsSpecial c.further-kind.ensures (special_of c.further-kind.result c.read_as.result c.read_as.ensures.fails.cause compressed))
     (held_as mid new at kind n c.read_as.ensures.tables held)
 
@@ -105,7 +105,7 @@ returns-clause-quiet g c =
 pub returns-clause-reads : goal.returns-clause-reads
 returns-clause-reads g c =
     let view = g.S.Storage.view in
-    on_ok_weaker c.read_as.result (λ reads. reads_from view c.args.self.now c.check_mapped.new.self c.read_as.new.self (further_by c.args.at c.args.mapping.now.kind) c.read_as.new.bytes c.check_mapped.ensures.step.part.notes.storage.honest
+    on_ok_weaker c.read_as.result (λ reads. reads_from view c.args.self.now c.check_mapped.new.self c.read_as.new.self (further_by c.args.at c.args.mapping.now.kind) c.read_as.new.bytes c.check_mapped.ensures.data_file c.check_mapped.ensures.step.part.notes.storage.honest
     (subst (λ k. ReadsAs view c.check_mapped.new.self c.read_as.new.self k c.read_as.new.bytes) c.further-kind.ensures reads)) c.read_as.ensures.reads
 
 pub returns-in_err-offset-clause-fails : goal.returns-in_err-offset-clause-fails

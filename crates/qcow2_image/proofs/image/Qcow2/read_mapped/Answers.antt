@@ -1,5 +1,5 @@
 use Rattle.qcow2_image.proofs.Call.MarkedCalls.{reading_marked}
-use Rattle.std.proofs.Common.{◌≡◌, ◌+◌, ◌<◌, [], sym, ◌∙◌, subst, rules, arith, length, Result, IfErr}
+use Rattle.std.proofs.Common.{ap, ◌≡◌, ◌+◌, ◌<◌, [], sym, ◌∙◌, subst, rules, arith, length, Result, IfErr}
 use Rattle.qcow2_image.proofs.Common.{OnOk, Shows, IsSame, guest_of, AnswersCall, Qcow2, IsFoundWhole, further_by, is_failed, pending_in, IsCacheHeld, MayFailMapped, FitsTables, IfOk-weaker, on_ok_weaker, ReadsAs, MayFailReadingFound}
 use Rattle.qcow2_image.proofs.Lemmas.{may_mark, told_answers, tells_quietly, quietly_then, found_after, found_before, fails_none, held_since, mapped_met_at, met_as, heeds_on, keeps_marked, looks_none, looks_call, found_call, heeds_from, held_begun, reads_marked}
 use Rattle.qcow2_image.proofs.Call.Answers.{usable_works}
@@ -124,4 +124,4 @@ returns-clause-reads g c = λ some.
     let mid = c.begin_call.new.self in
     subst (λ (r : Result _ _). OnOk r (ReadsAs view c.args.self.now c.mark_failure.new.self kind shown)) (sym c.mark_failure.ensures.answer)
     (subst (λ (i : Qcow2 _ _). OnOk c.read_current-done.result (ReadsAs view c.args.self.now i kind shown)) (sym c.mark_failure.ensures.rest)
-    (on_ok_weaker c.read_current-done.result (λ reads. reads_marked view c.args.self.now mid c.read_current-done.new.self (is_failed c.mark_failure.new.self) kind shown (λ honest. subst (λ s. (view s).is_honest) (sym begun) honest) reads) c.read_current-done.ensures.reads))
+    (on_ok_weaker c.read_current-done.result (λ reads. reads_marked view c.args.self.now mid c.read_current-done.new.self (is_failed c.mark_failure.new.self) kind shown (ap (λ (i : Qcow2 _ _). i.data_file) c.begin_call.ensures.rest) (λ honest. subst (λ s. (view s).is_honest) (sym begun) honest) reads) c.read_current-done.ensures.reads))

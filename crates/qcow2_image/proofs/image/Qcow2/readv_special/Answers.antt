@@ -1,5 +1,6 @@
-use Rattle.std.proofs.Common.{◌≡◌, ◌⊎◌, ◌∙◌, inl, inr, [], IfErr, length, subst, arith, rules}
-use Rattle.qcow2_image.proofs.Common.{cases_lt, not_compressed, storage, known_in, handed_on, NotCompressed, Memory, MayFailToRead, FailsOnceWritten, err_as, IsCacheHeld, MayFailLooking, MayFailTelling, IsCompressedInTables}
+use Rattle.qcow2_image.proofs.Call.DataFiles.{refused_by}
+use Rattle.std.proofs.Common.{◌≡◌, ◌⊎◌, ◌∙◌, inl, inr, [], IfErr, Err, Result, IfSome, length, subst, arith, rules}
+use Rattle.qcow2_image.proofs.Common.{unusable, cases_lt, not_compressed, storage, known_in, handed_on, NotCompressed, Memory, MayFailToRead, FailsOnceWritten, err_as, IsCacheHeld, MayFailLooking, MayFailTelling, IsCompressedInTables}
 use Rattle.qcow2_alloc.specs.declared.error.ImageError.TheVariants.{Compressed}
 use Rattle.qcow2_image.specs.SpecialReads.{ReportsCompressed}
 use Rattle.qcow2_image.proofs.Call.Answers.{answers_err}
@@ -75,7 +76,10 @@ returns-in-Some-clause-step g c = record {
 
 pub returns-in_err-try_readv_special-clause-refusals : goal.returns-in_err-try_readv_special-clause-refusals
 returns-in_err-try_readv_special-clause-refusals g c = record {
-  early = search rules;
+  early = let old = c.args.self.now in
+      let new = c.try_readv_special.new.self in
+      let e = c.in_err-try_readv_special.field-0.0 in
+      handed_on (λ (r : Result _ _). IfSome (unusable old) (λ x. (r ≡ Err x) × (new ≡ old))) c.from_residual.result e c.from_residual.ensures (refused_by _ _ old new (unusable old) e c.in_err-try_readv_special.ensures.refusals.early);
   nothing = search rules;
   late = λ usable. hands_met (λ e. MayFailTelling c.args.self.now c.try_readv_special.new.self c.args.offset 1 e ⊎ ((e ≡ NotCompressed c.args.offset) × ¬ IsCompressedInTables c.try_readv_special.new.self c.args.offset)) c.from_residual.result c.in_err-try_readv_special.field-0.0 c.from_residual.ensures (inl (c.in_err-try_readv_special.ensures.refusals.late usable));
 }

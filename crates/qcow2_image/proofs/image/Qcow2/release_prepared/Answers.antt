@@ -35,6 +35,7 @@ returns-clause-faults g c =
     untouched g.S.Storage.view g.F.BackingDisk.backing c.args.self.now c.unpin.new.self
     (ap (λ (m : Qcow2 _ _). m.file.storage) c.unpin.ensures.rest ∙ ap (λ (m : Qcow2 _ _). m.file.storage) c.list_new_clusters.ensures)
     (ap (λ (m : Qcow2 _ _). m.backing) c.unpin.ensures.rest ∙ ap (λ (m : Qcow2 _ _). m.backing) c.list_new_clusters.ensures)
+    (ap (λ (m : Qcow2 _ _). m.data_file) c.unpin.ensures.rest ∙ ap (λ (m : Qcow2 _ _). m.data_file) c.list_new_clusters.ensures)
 
 pub returns-clause-step : goal.returns-clause-step
 returns-clause-step g c = record {

@@ -45,7 +45,7 @@ returns-clause-sound g c = λ p out sound shared.
     let swapped = c.swap_l2.ensures.sound p out kept.sound still (says_copy view below out p mid kept.sound c.args.index c.args.old still c.in-Some.held.now c.in_ok-table.table c.in-Some.ensures.shows c.in_ok-table.ensures.ok) in
     let place = table_at h (contents_in view old.file) c.args.index in
     let some = behind_first h.cluster_bits c.args.old place (sym shared.place) (above_zero _ (λ is. shared.real (let e : place ≡ 0 = cc in e))) in
-    let loaded : GoesTo view old mid = record { image = record { number = refl; size = refl; writable = refl; external = refl }; header_cluster = behind_caches (c.l2_get_or_insert.ensures.step.header_cluster some) } in
+    let loaded : GoesTo view old mid = record { image = record { number = refl; size = refl; writable = refl; lacks = refl; beside = refl }; header_cluster = behind_caches (c.l2_get_or_insert.ensures.step.header_cluster some) } in
     record {
       does = owned_then view below out p old sound c.args.index mid kept refl c.swap_l2.new.self c.swap_l2.result swapped.does;
       may_fail = λ near. swapped.may_fail (record { within = near.within; room = near.room });

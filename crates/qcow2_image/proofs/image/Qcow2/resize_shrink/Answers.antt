@@ -1,5 +1,5 @@
 use Rattle.qcow2_image.proofs.Lemmas.{fails_none, found_pinned, none_prepared, rounded_from, err_is, not_refused, refused_for, mono_up, uncovers_no_cluster}
-use Rattle.std.proofs.Common.{◌≡◌, ◌-◌, ◌≤◌, ◌∙◌, refl, sym, subst, arith, rules, None, Ok, Result, Some}
+use Rattle.std.proofs.Common.{◌≡◌, ◌≤◌, ◌∙◌, refl, sym, subst, arith, rules, None, Ok, Result, Some}
 use Rattle.qcow2_image.proofs.Common.{passes_none, handed_on, known_in, view_in, size_of, Shrinks, ShrinksSoundly, DiscardsClusters, boundary_in, refuses_to_resize, pow_pos, cluster_size}
 use Rattle.qcow2_alloc.specs.ImageFile.{l2_pins}
 use Rattle.qcow2_image.proofs.Resize.ShrinkCalls.{fault_unprepared, met_prepared, resize_works, shrinks_early, shrinks_nothing, shrinks_prepared}

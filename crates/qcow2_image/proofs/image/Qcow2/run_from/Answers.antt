@@ -1,5 +1,5 @@
 use Rattle.std.proofs.Common.{◌≡◌, ◌-◌, ◌/◌, ◌<◌, sym, ap, ◌∙◌, subst, arith, min, is_some, Some, None, false, true, rules, ⊎_elim, ℕ, inl, inr, Err}
-use Rattle.qcow2_image.proofs.Common.{IfOk-weaker, cluster_size, host_offset, IsLongestRun, table_at, Sizes-from, cover_none, IsTop-top, contents_in, known_in, kind_at, rest_of_table, l1_index_of, l2_index_of, NamesL2Table, IsRunFrom, IfSome, MatchOption, IsEntryAt, IsCacheHeld, MayFailLooking, own_table, GetsTableQuietly, HasUnalignedEntry, UnalignedTable, MayFailFinding, MayFailLoadingL2, Uncovered, file_loads}
+use Rattle.qcow2_image.proofs.Common.{is_beside, IfOk-weaker, cluster_size, host_offset, IsLongestRun, table_at, Sizes-from, cover_none, IsTop-top, contents_in, known_in, kind_at, rest_of_table, l1_index_of, l2_index_of, NamesL2Table, IsRunFrom, IfSome, MatchOption, IsEntryAt, IsCacheHeld, MayFailLooking, own_table, GetsTableQuietly, HasUnalignedEntry, UnalignedTable, MayFailFinding, MayFailLoadingL2, Uncovered, file_loads}
 use Rattle.qcow2_image.proofs.Lemmas.{caches_moved, with_caches, none_found, behind_caches, answers_met, cache_looking, named_entry, hands_met, named_place, reads_none, uncovered_held, looks_none, met_as, finding_more, still_loaded}
 use Rattle.qcow2_image.specs.HeldMappings.{named_place as place_named}
 use Rattle.qcow2_image.proofs.Map.Looked.{compressed_there}
@@ -39,7 +39,7 @@ returns-in_ok-l2_get_or_insert-in-Some-clause-sound g c = λ p out sound.
       keeps = kept;
       known = stay.known;
       may_fail = answers_met (MayFailLooking (IsCacheHeld old out)) c.run_in_table.result (c.run_in_table.ensures.reads p kept.sound.file entry (omega (arith, limit)));
-      run = IfOk-weaker c.run_in_table.result _ _ (λ x run. subst (λ m. IsRunFrom view image c.args.offset m x.0 x.1) limit run) (c.run_in_table.ensures.run p kept.sound.file entry (omega (arith, limit)));
+      run = IfOk-weaker c.run_in_table.result _ _ (λ x run. subst (λ m. IsRunFrom view image c.args.offset m x.0 x.1) limit run) (c.run_in_table.ensures.run p kept.sound.file kept.sound.alone entry (omega (arith, limit)));
     }
 
 pub returns-in-None-clause-sound : goal.returns-in-None-clause-sound
@@ -58,7 +58,7 @@ returns-in-None-clause-sound g c = λ p out sound.
           let none : table_at h known (l1_index_of h c.args.offset) ≡ 0 = ap host_offset (sym (crash_invariant.same_top.l1 (l1_index_of h c.args.offset))) ∙ names in
           let limit : c.min-max.result ≡ min c.args.max (rest_of_table h c.args.offset) = c.min-max.ensures ∙ ap (min c.args.max) c.rest_of_table.ensures.value in
           record {
-            kind_is = c.uncovered.ensures.value ∙ ap (kind_at h (is_some old.backing) c.args.offset) (sym (cover_none h known (c.args.offset / cluster_size h) none));
+            kind_is = c.uncovered.ensures.value false ∙ ap (kind_at h (is_some old.backing) c.args.offset) (sym (cover_none h known (c.args.offset / cluster_size h) none));
             longest = subst (λ m. IsLongestRun h known c.args.offset m c.min-max.result) limit (none_found h c.args.offset sizes known c.min-max.result (omega (arith, limit)) none);
           };
     }
@@ -78,7 +78,7 @@ returns-in-None-clause-held g c = λ most is lt.
     let limit : c.min-max.result ≡ min (min most (h.size - c.args.offset)) (rest_of_table h c.args.offset) = c.min-max.ensures ∙ ap (min c.args.max) c.rest_of_table.ensures.value ∙ ap (λ m. min m (rest_of_table h c.args.offset)) is in
     let image = c.args.self.now in
     let none = subst (λ t. MatchOption t (place_named h image.l1_table c.args.offset ≡ 0) (λ cluster. (cluster ≡ own_table image c.args.offset) × ¬ (place_named h image.l1_table c.args.offset ≡ 0))) c.in-None.is c.in_ok-l2_cluster.ensures.own in
-    uncovered_held h (is_some image.backing) image.l1_table image.file.caches c.args.offset c.min-max.result most limit lt c.uncovered.result none c.uncovered.ensures.value
+    uncovered_held h (is_beside image) (is_some image.backing) image.l1_table image.file.caches c.args.offset c.min-max.result most limit lt c.uncovered.result none (c.uncovered.ensures.value (is_beside image))
 
 pub returns-in_ok-l2_get_or_insert-in-Some-clause-held : goal.returns-in_ok-l2_get_or_insert-in-Some-clause-held
 returns-in_ok-l2_get_or_insert-in-Some-clause-held g c = λ most is lt.
@@ -114,14 +114,14 @@ returns-in_err-l2_get_or_insert-in-Some-clause-still g c =
     let image = c.args.self.now in
     let h = image.file.header.fields in
     let own = subst (λ t. MatchOption t (place_named h image.l1_table c.args.offset ≡ 0) (λ cluster. (cluster ≡ own_table image c.args.offset) × ¬ (place_named h image.l1_table c.args.offset ≡ 0))) c.in-Some.is c.in_ok-l2_cluster.ensures.own in
-    λ kind n. still_loaded h (is_some image.backing) image.l1_table image.file.caches c.args.offset c.l2_get_or_insert.new.self c.in-Some.table own c.l2_get_or_insert.ensures.gets.kept kind n
+    λ kind n. still_loaded h (is_beside image) (is_some image.backing) image.l1_table image.file.caches c.args.offset c.l2_get_or_insert.new.self c.in-Some.table own c.l2_get_or_insert.ensures.gets.kept kind n
 
 pub returns-in_ok-l2_get_or_insert-in-Some-clause-still : goal.returns-in_ok-l2_get_or_insert-in-Some-clause-still
 returns-in_ok-l2_get_or_insert-in-Some-clause-still g c =
     let image = c.args.self.now in
     let h = image.file.header.fields in
     let own = subst (λ t. MatchOption t (place_named h image.l1_table c.args.offset ≡ 0) (λ cluster. (cluster ≡ own_table image c.args.offset) × ¬ (place_named h image.l1_table c.args.offset ≡ 0))) c.in-Some.is c.in_ok-l2_cluster.ensures.own in
-    λ kind n. still_loaded h (is_some image.backing) image.l1_table image.file.caches c.args.offset c.l2_get_or_insert.new.self c.in-Some.table own c.l2_get_or_insert.ensures.gets.kept kind n
+    λ kind n. still_loaded h (is_beside image) (is_some image.backing) image.l1_table image.file.caches c.args.offset c.l2_get_or_insert.new.self c.in-Some.table own c.l2_get_or_insert.ensures.gets.kept kind n
 
 pub returns-in_err-l2_get_or_insert-in-Some-clause-step : goal.returns-in_err-l2_get_or_insert-in-Some-clause-step
 returns-in_err-l2_get_or_insert-in-Some-clause-step g c = record {
@@ -197,7 +197,7 @@ returns-in_ok-l2_get_or_insert-in-Some-clause-fails g c =
 pub returns-in-None-clause-kind : goal.returns-in-None-clause-kind
 returns-in-None-clause-kind g c = record {
   whole = c.uncovered.ensures.whole;
-  special = λ so. absurd (compressed_there c.args.self.now.file.header.fields (is_some c.args.self.now.backing) c.args.offset c.uncovered.result Uncovered c.uncovered.ensures.value so);
+  special = λ so. absurd (compressed_there c.args.self.now.file.header.fields false (is_some c.args.self.now.backing) c.args.offset c.uncovered.result Uncovered (c.uncovered.ensures.value false) so);
 }
 
 pub returns-in-None-clause-still : goal.returns-in-None-clause-still

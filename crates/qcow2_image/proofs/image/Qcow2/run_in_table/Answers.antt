@@ -1,9 +1,9 @@
 use Rattle.std.proofs.Common.{◌≡◌, ◌+◌, ◌-◌, ◌/◌, ◌%◌, ◌^◌, ◌<◌, ℕ, sym, ap, ◌∙◌, subst, arith, min, refl, is_some, Some, false, true, inl}
-use Rattle.qcow2_image.proofs.Common.{cluster_size, entries_per_cluster, cover, IsLongestRun, Sizes-from, IsTop-top, contents_in, known_in, kind_at, mapping_of, l1_index_of, IsRunBehind, l2_at, IsLongestSo, named_place, HasUnalignedEntry, IsUnalignedIn, UnalignedTable, of_metadata, own_table, IsCompressed, L2TableView}
+use Rattle.qcow2_image.proofs.Common.{cluster_size, entries_per_cluster, cover, IsLongestRun, Sizes-from, IsTop-top, contents_in, known_in, is_beside, kind_in, mapping_of, l1_index_of, IsRunBehind, l2_at, IsLongestSo, named_place, HasUnalignedEntry, IsUnalignedIn, UnalignedTable, of_metadata, own_table, IsCompressed, L2TableView}
 use Rattle.qcow2_image.proofs.Lemmas.{cluster_near, says_known, run_found, run_held, hands_met, unaligned_from}
 use Rattle.qcow2_image.proofs.Map.Special.{special_found}
 use Rattle.qcow2_image.proofs.Map.Aligned.{entries_aligned}
-use Rattle.qcow2_image.proofs.Map.Looked.{compressed_there}
+use Rattle.qcow2_image.proofs.Map.Looked.{compressed_there, kind_alone}
 use Rattle.qcow2_image.proofs.image.Qcow2.run_in_table.Goals as goal
 
 pub alike_behind-requires-clause-near : goal.alike_behind-requires-clause-near
@@ -11,7 +11,7 @@ alike_behind-requires-clause-near g c =
     subst (λ n. n < 2 ^ 62) (sym (c.cluster-2.ensures ∙ ap (λ o. o / 2 ^ c.cluster_bits-bits.result) c.new-guest.ensures)) (cluster_near c.args.offset c.cluster_bits-bits.result (omega (arith, c.ranges.offset.fits)) c.cluster_bits-bits.ensures.low)
 
 pub returns-clause-run : goal.returns-clause-run
-returns-clause-run g c = λ p sound at le.
+returns-clause-run g c = λ p sound alone at le.
     let h = c.args.self.now.file.header.fields in
     let known = known_in g.S.Storage.view c.args.self.now.file in
     let crash_invariant = sound.caches.kept.kept.crash_invariant in
@@ -33,7 +33,8 @@ returns-clause-run g c = λ p sound at le.
     subst (λ n. IsRunBehind t (c.args.offset / cluster_size h) n c.in_ok-behind.behind) more (subst (λ n. IsRunBehind t n c.saturating_sub.result c.in_ok-behind.behind) own2 c.in_ok-behind.ensures.run) in
     let is : c.min.result ≡ min (cluster_size h - c.args.offset % cluster_size h + c.in_ok-behind.behind) c.args.max = c.min.ensures ∙ ap (λ n. min (n + c.in_ok-behind.behind) c.args.max) rest in
     record {
-      kind_is = c.kind_of.ensures.value ∙ ap (kind_at h (is_some c.args.self.now.backing) c.args.offset) first;
+      kind_is = c.kind_of.ensures.value ∙ ap (kind_in h (is_beside c.args.self.now) (is_some c.args.self.now.backing) c.args.offset) first
+          ∙ kind_alone c.args.self.now alone c.args.offset (cover h known (c.args.offset / cluster_size h));
       longest = subst (IsLongestRun h known c.args.offset c.args.max) (sym is) (run_found h c.args.offset sizes known t format.bits says c.args.max le c.in_ok-behind.behind behind);
     }
 
@@ -54,15 +55,15 @@ returns-clause-held g c = λ own_is named.
     let behind : IsRunBehind t (c.args.offset / cluster_size h) (c.args.max - (cluster_size h - c.args.offset % cluster_size h)) c.in_ok-behind.behind =
     subst (λ n. IsRunBehind t (c.args.offset / cluster_size h) n c.in_ok-behind.behind) more (subst (λ n. IsRunBehind t n c.saturating_sub.result c.in_ok-behind.behind) own2 c.in_ok-behind.ensures.run) in
     let is : c.min.result ≡ min (cluster_size h - c.args.offset % cluster_size h + c.in_ok-behind.behind) c.args.max = c.min.ensures ∙ ap (λ n. min (n + c.in_ok-behind.behind) c.args.max) rest in
-    let first = c.kind_of.ensures.value ∙ ap (λ n. kind_at h (is_some image.backing) c.args.offset n) (c.in_ok-first.ensures.ok ∙ ap (mapping_of t) own) in
+    let first = c.kind_of.ensures.value ∙ ap (λ n. kind_in h (is_beside image) (is_some image.backing) c.args.offset n) (c.in_ok-first.ensures.ok ∙ ap (mapping_of t) own) in
     record {
       plain = λ compressed. let same : Some t ≡ Some compressed.table = sym held ∙ compressed.held in
           let table : t ≡ compressed.table = cc in
-          special_found h (is_some image.backing) c.args.offset (mapping_of t (c.args.offset / cluster_size h)) c.kind_of.result first (subst (λ (x : L2TableView). IsCompressed (mapping_of x (c.args.offset / cluster_size h))) (sym table) compressed.compressed);
-      special = λ so. record { named = named; table = t; held = held; compressed = compressed_there h (is_some image.backing) c.args.offset c.kind_of.result (mapping_of t (c.args.offset / cluster_size h)) first so };
+          special_found h (is_beside image) (is_some image.backing) c.args.offset (mapping_of t (c.args.offset / cluster_size h)) c.kind_of.result first (subst (λ (x : L2TableView). IsCompressed (mapping_of x (c.args.offset / cluster_size h))) (sym table) compressed.compressed);
+      special = λ so. record { named = named; table = t; held = held; compressed = compressed_there h (is_beside image) (is_some image.backing) c.args.offset c.kind_of.result (mapping_of t (c.args.offset / cluster_size h)) first so };
       whole = c.kind_of.ensures.whole;
-      run = λ limit short below. subst (IsLongestSo h (is_some image.backing) image.l1_table image.file.caches c.args.offset limit c.kind_of.result) (sym is)
-          (run_held h (is_some image.backing) image.l1_table image.file.caches c.args.offset c.args.max limit short below t named held c.kind_of.result first c.in_ok-behind.behind behind);
+      run = λ limit short below. subst (IsLongestSo h (is_beside image) (is_some image.backing) image.l1_table image.file.caches c.args.offset limit c.kind_of.result) (sym is)
+          (run_held h (is_beside image) (is_some image.backing) image.l1_table image.file.caches c.args.offset c.args.max limit short below t named held c.kind_of.result first c.in_ok-behind.behind behind);
     }
 
 pub returns-in_err-first-clause-reads : goal.returns-in_err-first-clause-reads

@@ -1,4 +1,4 @@
-use Rattle.std.proofs.Common.{◌≡◌, ◌-◌, ◌∙◌, inl, inr, sym, ap, subst, rules, Err}
+use Rattle.std.proofs.Common.{◌≡◌, ◌∙◌, inl, inr, sym, ap, subst, rules, Err}
 use Rattle.qcow2_image.proofs.Common.{IfSome, MatchOption, passes_none, cluster_size, rounded_up, HaveRisen, ltb-true, IsFault, view_in, is_changed_of, Qcow2, is_failed, size_of, MarksRefused, Shrinks, DiscardsTail, WritesSizeLast, boundary_in, ReportsEachIn, ReportsFault}
 use Rattle.qcow2_image.specs.declared.discarding.ClearMode.TheVariants.{Uncovered}
 use Rattle.qcow2_image.proofs.Lemmas.{covers_after, shrinks_done, shrinks_stopped, shrinks_unwritten, size_is_last, uncovered_honest, written_stops, may_mark_refused, noted_marks, refused_on, refused_since, counted_as, counted_still, call_then, changes_later, failed_part, kept_fewer, notes_part, refused_once, answered_counts, counts_noted, behind_by, behind_none, behind_then}

@@ -31,7 +31,7 @@ returns-clause-step g c =
     let step = c.write_l1_table-done.ensures.step in
     let is = c.write_l1_table-done.ensures.step.stays in
     record {
-      stays = record { image = record { number = is.image.number; size = is.image.size; writable = is.image.writable; external = is.image.external }; failed = is.failed };
+      stays = record { image = record { number = is.image.number; size = is.image.size; writable = is.image.writable; lacks = is.image.lacks; beside = is.image.beside }; failed = is.failed };
       notes = step.notes;
       header_cluster = λ behind. step.header_cluster (behind.0, subst (λ n. 0 < n) (sym c.cluster.ensures) behind.1);
     }

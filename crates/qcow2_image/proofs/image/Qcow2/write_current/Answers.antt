@@ -1,7 +1,7 @@
 use Rattle.qcow2_image.proofs.Lemmas.{filling_none, filling_written, keeping_of_filling, keeping_then, Quietly, quiet_sound, heeds_then, held_as, keeps_storage, hands_met, met_as, told_sum, past_existing}
 use Rattle.qcow2_image.proofs.image.Qcow2.write_current.Goals as goal
-use Rattle.std.proofs.Common.{◌≡◌, ◌+◌, ◌^◌, ◌≤◌, ⊎_elim, inl, inr, None, Err, length, refl, sym, ap, subst, true, arith, rules, Result}
-use Rattle.qcow2_image.proofs.Common.{overwritten, view_in, OutdatedMapping, Overflow, handed_on, always_ok, Qcow2, Raw, Image, IsFoundWhole, IsMappedAs, PutsPart, IsWriteOutcome, pending_in, FitsTables, IsHeldAs, cases_lt, IsFault, IsCacheHeld, MayFailPutting, changes_of, storage_of_image, PutsOnce, MayFailPuttingAt, cluster_size, HeaderView, MayFailWriting}
+use Rattle.std.proofs.Common.{◌≡◌, ◌+◌, ◌^◌, ◌≤◌, ⊎_elim, inl, inr, None, Err, length, refl, sym, ap, ◌∙◌, subst, true, arith, rules, Result}
+use Rattle.qcow2_image.proofs.Common.{overwritten, view_in, OutdatedMapping, Overflow, handed_on, always_ok, Qcow2, Raw, IsFoundWhole, IsMappedAs, PutsPart, IsWriteOutcome, pending_in, FitsTables, IsHeldAs, cases_lt, IsFault, IsCacheHeld, MayFailPutting, changes_of, storage_of_image, PutsOnce, MayFailPuttingAt, cluster_size, HeaderView, MayFailWriting}
 use Rattle.qcow2_image.proofs.Write.PutParts.{mapped_in_place, puts_nothing, puts_refused, puts_then, puts_written}
 use Rattle.qcow2_image.proofs.Write.Hosted.{hosts_behind_header}
 use Rattle.qcow2_image.proofs.Write.ToldPuts.{written_current, written_plain, checked_unseen, put_refused, put_unwritten}
@@ -9,7 +9,7 @@ use Rattle.qcow2_image.proofs.Write.ToldPuts.{written_current, written_plain, ch
 pub returns-in_err-check_in_place-clause-in_place : goal.returns-in_err-check_in_place-clause-in_place
 returns-in_err-check_in_place-clause-in_place g c = λ none p out sound.
     record {
-      outdated = λ some is whole. let here = subst (λ o. IsFoundWhole g.S.Storage.view c.args.self.now (c.args.prepared.now.guest + c.args.at) (Raw Image o true) (length c.args.bytes.now)) (sym c.in-Some.ensures.1) whole in
+      outdated = λ some is whole. let here = subst (λ o. IsFoundWhole g.S.Storage.view c.args.self.now (c.args.prepared.now.guest + c.args.at) (Raw c.args.prepared.now.place o true) (length c.args.bytes.now)) (sym c.in-Some.ensures.1) whole in
           handed_on (λ r. r ≡ Err OutdatedMapping → ⊥) c.from_residual.result c.in_err-check_in_place.field-0.0 c.from_residual.ensures (λ was. (c.in_err-check_in_place.ensures.sound p out sound).outdated some was here) is;
       mapped = search rules;
     }
@@ -34,7 +34,7 @@ returns-clause-in_place g c = λ none p out sound.
     record {
       outdated = search rules;
       mapped = always_ok c.write_data.result
-          (subst (λ o. IsFoundWhole g.S.Storage.view c.args.self.now (c.args.prepared.now.guest + c.args.at) (Raw Image o true) (length c.args.bytes.now)) c.in-Some.ensures.1 ((c.in_ok-check_in_place.ensures.sound p out sound).found none));
+          (subst (λ o. IsFoundWhole g.S.Storage.view c.args.self.now (c.args.prepared.now.guest + c.args.at) (Raw c.args.prepared.now.place o true) (length c.args.bytes.now)) c.in-Some.ensures.1 ((c.in_ok-check_in_place.ensures.sound p out sound).found none));
     }
 
 pub returns-clause-puts : goal.returns-clause-puts
@@ -47,8 +47,8 @@ returns-clause-puts g c = λ fits some out k placed sound.
     let quiet : Quietly view below out old mid = record { keeps = (c.in_ok-check_in_place.ensures.sound (pending_in view below old out) out sound).keeps; list = c.in_ok-check_in_place.ensures.step.list } in
     record {
       may_fail = let n = length c.args.bytes.now in
-          let mapped : p.table ≡ None → IsMappedAs view mid (p.guest + c.args.at) (Raw Image (p.offset + c.args.at) true) n = λ none.
-          subst (λ o. IsMappedAs view mid (p.guest + c.args.at) (Raw Image o true) n) c.in-Some.ensures.1 ((c.in_ok-check_in_place.ensures.sound (pending_in view below old out) out sound).mapped none some) in
+          let mapped : p.table ≡ None → IsMappedAs view mid (p.guest + c.args.at) (Raw c.args.prepared.now.place (p.offset + c.args.at) true) n = λ none.
+          subst (λ o. IsMappedAs view mid (p.guest + c.args.at) (Raw c.args.prepared.now.place o true) n) c.in-Some.ensures.1 ((c.in_ok-check_in_place.ensures.sound (pending_in view below old out) out sound).mapped none some) in
           let behind = hosts_behind_header view below mid out (quiet_sound view below out old mid (λ _. quiet) sound) n k p c.args.at placed fits (mapped_in_place view below out k p c.args.at c.args.bytes.now placed mid mapped) 0 some in
           let host_is = c.in-Some.ensures.1 in
           met_as IsFault (MayFailPutting (IsCacheHeld old out) p c.args.at) c.write_data.result (λ e fault. inl fault) (c.write_data.ensures.fault (omega (arith, behind, host_is)));
@@ -56,12 +56,12 @@ returns-clause-puts g c = λ fits some out k placed sound.
           let bytes = c.args.bytes.now in
           let still = quiet_sound view below out old mid (λ _. quiet) sound in
           let host_is : c.in-Some.host ≡ p.offset + at = c.in-Some.ensures.1 in
-          let w = c.write_data.ensures.written in
+          let w = c.write_data.ensures.written still.alone in
           let contents = (view_in view mid.file).contents in
           let storage = c.write_data.new.self.file.storage in
           let done = subst (λ o. IsWriteOutcome c.write_data.result contents (overwritten contents o bytes) (view_in view c.write_data.new.self.file).contents) host_is (w.written still.file.honest) in
-          let mapped : p.table ≡ None → IsMappedAs view mid (p.guest + at) (Raw Image (p.offset + at) true) (length bytes) = λ none.
-          subst (λ o. IsMappedAs view mid (p.guest + at) (Raw Image o true) (length bytes)) host_is ((c.in_ok-check_in_place.ensures.sound (pending_in view below old out) out sound).mapped none some) in
+          let mapped : p.table ≡ None → IsMappedAs view mid (p.guest + at) (Raw c.args.prepared.now.place (p.offset + at) true) (length bytes) = λ none.
+          subst (λ o. IsMappedAs view mid (p.guest + at) (Raw c.args.prepared.now.place o true) (length bytes)) host_is ((c.in_ok-check_in_place.ensures.sound (pending_in view below old out) out sound).mapped none some) in
           subst (λ (image : Qcow2 _ _). PutsPart view below old image out k p at bytes c.write_data.result) (sym w.rest)
           (puts_then view below out k p at bytes placed old mid (record mid { file = record mid.file { storage = storage } }) c.write_data.result quiet sound
           (puts_written view below out k p at bytes placed mid still fits (mapped_in_place view below out k p at bytes placed mid mapped) storage (w.honest still.file.honest) (w.time still.file.honest) c.write_data.result done));
@@ -84,8 +84,8 @@ returns-in_err-check_in_place-clause-held g c = λ none some.
     let n = length c.args.bytes.now in
     let new = c.check_in_place.new.self in
     let e = c.in_err-check_in_place.field-0.0 in
-    handed_on (λ (r : Result _ _). FitsTables c.args.self.now new (c.args.prepared.now.guest + c.args.at) (Raw Image (c.args.prepared.now.offset + c.args.at) true) n r) c.from_residual.result e c.from_residual.ensures
-    (subst (λ o. FitsTables c.args.self.now new (c.args.prepared.now.guest + c.args.at) {A = Unit {0}} (Raw Image o true) n (Err e)) c.in-Some.ensures.1 (c.in_err-check_in_place.ensures.held none some))
+    handed_on (λ (r : Result _ _). FitsTables c.args.self.now new (c.args.prepared.now.guest + c.args.at) (Raw c.args.prepared.now.place (c.args.prepared.now.offset + c.args.at) true) n r) c.from_residual.result e c.from_residual.ensures
+    (subst (λ o. FitsTables c.args.self.now new (c.args.prepared.now.guest + c.args.at) {A = Unit {0}} (Raw c.args.prepared.now.place o true) n (Err e)) c.in-Some.ensures.1 (c.in_err-check_in_place.ensures.held none some))
 
 pub returns-clause-held : goal.returns-clause-held
 returns-clause-held g c = λ none some.
@@ -93,9 +93,9 @@ returns-clause-held g c = λ none some.
     let mid = c.check_in_place.new.self in
     let new = c.write_data.new.self in
     let at = c.args.prepared.now.guest + c.args.at in
-    let kind = Raw Image (c.args.prepared.now.offset + c.args.at) true in
-    let held = subst (λ o. IsHeldAs mid at (Raw Image o true) n) c.in-Some.ensures.1 (c.in_ok-check_in_place.ensures.held none some) in
-    heeds_then at kind n c.args.self.now new c.write_data.result (written_current c.write_data.result c.write_data.ensures.fails.cause) (written_plain kind c.write_data.result c.write_data.ensures.fails.cause) (held_as mid new at kind n (keeps_storage mid new new.file.storage c.write_data.ensures.written.rest) held)
+    let kind = Raw c.args.prepared.now.place (c.args.prepared.now.offset + c.args.at) true in
+    let held = subst (λ o. IsHeldAs mid at (Raw c.args.prepared.now.place o true) n) c.in-Some.ensures.1 (c.in_ok-check_in_place.ensures.held none some) in
+    heeds_then at kind n c.args.self.now new c.write_data.result (written_current c.write_data.result c.write_data.ensures.fails.cause) (written_plain kind c.write_data.result c.write_data.ensures.fails.cause) (held_as mid new at kind n (keeps_storage mid new new.file.storage new.data_file c.write_data.ensures.rest c.write_data.ensures.step.stays.image.beside) held)
 
 pub returns-in_default-clause-once : goal.returns-in_default-clause-once
 returns-in_default-clause-once g c = put_refused g.S.Storage.view g.F.BackingDisk.backing c.args.prepared.now c.args.at c.args.bytes.now c.args.self.now Overflow
@@ -114,19 +114,18 @@ returns-clause-once g c =
     let view = g.S.Storage.view in
     let mid = c.check_in_place.new.self in
     let contents = (view_in view mid.file).contents in
-    let w = c.write_data.ensures.written in
     record {
       before = mid;
       quiet = c.check_in_place.ensures.quiet;
       honest = c.check_in_place.ensures.step.notes.storage.honest;
       unseen = λ out sound. checked_unseen view g.F.BackingDisk.backing c.args.self.now mid out (λ p out sound. (c.check_in_place.ensures.sound p out sound).keeps) c.check_in_place.ensures.step.list sound;
       idle = λ some. let same = (c.check_in_place.ensures.private some).1 in (ap (λ (i : Qcow2 _ _). storage_of_image i) same, ap (λ (i : Qcow2 _ _). changes_of i.file.storage) same);
-      time = w.time;
-      written = λ honest. subst (λ o. IsWriteOutcome c.write_data.result contents (overwritten contents o c.args.bytes.now) (view_in view c.write_data.new.self.file).contents) c.in-Some.ensures.1 (w.written honest);
+      time = c.write_data.ensures.time;
+      written = λ none honest. subst (λ o. IsWriteOutcome c.write_data.result contents (overwritten contents o c.args.bytes.now) (view_in view c.write_data.new.self.file).contents) c.in-Some.ensures.1 ((c.write_data.ensures.written (c.check_in_place.ensures.data_file ∙ none)).written honest);
     }
 
 pub returns-clause-step : goal.returns-clause-step
-returns-clause-step g c = keeping_then c.check_in_place.ensures.step (keeping_of_filling (filling_written c.write_data.ensures.step c.write_data.ensures.written.rest))
+returns-clause-step g c = keeping_then c.check_in_place.ensures.step (keeping_of_filling (filling_written c.write_data.ensures.step c.write_data.ensures.rest))
 
 pub returns-in_default-clause-step : goal.returns-in_default-clause-step
 returns-in_default-clause-step g c = keeping_of_filling filling_none

@@ -1,7 +1,7 @@
 use Rattle.qcow2_image.proofs.Call.MarkedCalls.{putting_marked}
 use Rattle.qcow2_image.proofs.image.Qcow2.write_mapped.Goals as goal
 use Rattle.std.proofs.Common.{◌≡◌, ◌+◌, ◌<◌, [], true, length, sym, ◌∙◌, subst, rules, arith, refl, Result, IfErr}
-use Rattle.qcow2_image.proofs.Common.{OnOk, nil_from_length, Qcow2, Puts, ForeignState, ReadOnly, Raw, Image, IsFoundWhole, is_failed, pending_in, FitsTables, IsCacheHeld, MayFailPutting, handed_on, PutsOnce, on_ok_weaker, MayFailPuttingAt}
+use Rattle.qcow2_image.proofs.Common.{OnOk, nil_from_length, Qcow2, Puts, ForeignState, ReadOnly, Raw, IsFoundWhole, is_failed, pending_in, FitsTables, IsCacheHeld, MayFailPutting, handed_on, PutsOnce, on_ok_weaker, MayFailPuttingAt}
 use Rattle.qcow2_image.proofs.Lemmas.{may_mark, Quietly, quiet_sound, found_after, found_before, fails_none, behind_none, heeds_on, keeps_marked, held_since, putting_call, met_as, heeds_from, held_begun}
 use Rattle.qcow2_image.proofs.Call.Answers.{usable_works}
 use Rattle.qcow2_image.proofs.Write.PutParts.{puts_early, puts_none, puts_then, puts_with_outcome}
@@ -20,9 +20,9 @@ returns-clause-sound g c = λ out sound.
           λ k placed writable. subst (λ (r : Result _ _). IfErr r (MayFailPutting (IsCacheHeld old out) c.args.prepared.now c.args.at)) (sym c.mark_failure.ensures.answer)
           (held_since old c.begin_call.new.self out c.begin_call.ensures.begun (λ held. IfErr c.write_current-done.result (MayFailPutting held c.args.prepared.now c.args.at)) ((c.write_current-done.ensures.puts c.requires some out k placed (quiet_sound view below out old c.begin_call.new.self (λ _. quiet) sound)).may_fail));
       outdated = λ none is whole. (c.write_current-done.ensures.in_place none p out begun.sound).outdated some (sym c.mark_failure.ensures.answer ∙ is)
-          (found_after view below old c.begin_call.new.self out p p (c.args.prepared.now.guest + c.args.at) (length c.args.bytes.now) (Raw Image (c.args.prepared.now.offset + c.args.at) true) begun whole);
+          (found_after view below old c.begin_call.new.self out p p (c.args.prepared.now.guest + c.args.at) (length c.args.bytes.now) (Raw c.args.prepared.now.place (c.args.prepared.now.offset + c.args.at) true) begun whole);
       mapped = let place = c.args.prepared.now.guest + c.args.at in
-          let kind = Raw Image (c.args.prepared.now.offset + c.args.at) true in
+          let kind = Raw c.args.prepared.now.place (c.args.prepared.now.offset + c.args.at) true in
           let n = length c.args.bytes.now in
           λ none some. subst (λ (r : Result _ _). OnOk r (IsFoundWhole view old place kind n)) (sym c.mark_failure.ensures.answer)
           (on_ok_weaker c.write_current-done.result (λ whole. found_before view below old c.begin_call.new.self out p p place n kind begun whole) ((c.write_current-done.ensures.in_place none p out begun.sound).mapped));
@@ -71,7 +71,7 @@ pub returns-clause-held : goal.returns-clause-held
 returns-clause-held g c = λ usable none some.
     let n = length c.args.bytes.now in
     let at = c.args.prepared.now.guest + c.args.at in
-    let kind = Raw Image (c.args.prepared.now.offset + c.args.at) true in
+    let kind = Raw c.args.prepared.now.place (c.args.prepared.now.offset + c.args.at) true in
     heeds_from at kind n c.args.self.now c.begin_call.new.self c.mark_failure.new.self c.mark_failure.result (held_begun c.args.self.now c.begin_call.new.self at c.begin_call.ensures.begun)
     (subst (λ (r : Result _ _). FitsTables c.begin_call.new.self c.mark_failure.new.self at kind n r) (sym c.mark_failure.ensures.answer)
     (heeds_on at kind n c.begin_call.new.self c.write_current-done.new.self c.mark_failure.new.self c.write_current-done.result (keeps_marked c.write_current-done.new.self c.mark_failure.new.self _ c.mark_failure.ensures.rest) (c.write_current-done.ensures.held none some)))

@@ -1,6 +1,6 @@
-use Rattle.qcow2_image.proofs.Lemmas.{step_then, step_none, goes_step, works_none, fills_before, fills_none, fills_or_refuses, refused_after, zeros_from, same_version, still_at, met_before, near_behind, taking_as, hands_met}
+use Rattle.qcow2_image.proofs.Lemmas.{step_then, step_none, goes_step, works_none, fills_before, fills_none, fills_or_refuses, refused_after, zeros_from, same_version, still_at, met_before, near_behind, taking_as, hands_met, counted_on, counted_since, faults_then}
 use Rattle.qcow2_image.proofs.image.Qcow2.zero_between.Goals as goal
-use Rattle.std.proofs.Common.{◌≤◌, subst, sym, arith}
+use Rattle.std.proofs.Common.{◌≤◌, subst, sym, arith, rules}
 use Rattle.qcow2_image.proofs.Common.{handed_on, abstract_of, FillsOrRefuses, known_in, HasCompressedIn, MayFailAllocating, HasPinnedMapping, IfErr-weaker}
 
 pub returns-in_err-fill_range-clause-step : goal.returns-in_err-fill_range-clause-step
@@ -70,4 +70,20 @@ returns-clause-sound g c = λ out sound before order whole third.
           IfErr-weaker c.zero_range.result _ _ (taking_as (λ held. held) (λ kept. kept) (λ no. absurd no) (λ no. no))
           ((c.zero_range.ensures.sound out both.sound (omega (arith, next.2, order)) (still_at h h'' c.in_ok-next.next both.header ends, still_at h h'' c.args.end both.header whole.1) (subst (λ v. 3 ≤ v) (sym (same_version h h'' both.header)) third)).may_fail
           (near_behind view below out _ c.args.old c.in_ok-next.next a d both c.args.end c.args.end (omega (arith, next.2, order)) (omega arith) near));
+    }
+
+pub returns-in_err-fill_range-clause-fails : goal.returns-in_err-fill_range-clause-fails
+returns-in_err-fill_range-clause-fails g c = record {
+  faults = counted_on g.S.Storage.view g.F.BackingDisk.backing c.args.self.now c.zero_first.new.self c.fill_range.new.self c.fill_range.result c.in_err-fill_range.field-0.0 c.from_residual-in_err-fill_range.result c.in_ok-next.ensures.fails.faults.told c.fill_range.ensures.fails.faults c.in_err-fill_range.was c.from_residual-in_err-fill_range.ensures;
+  cause = search rules;
+}
+
+pub returns-clause-fails : goal.returns-clause-fails
+returns-clause-fails g c =
+    let view = g.S.Storage.view in
+    let below = g.F.BackingDisk.backing in
+    let old = c.args.self.now in
+    record {
+      faults = counted_since view below old c.fill_range.new.self c.zero_range.new.self c.zero_range.result (faults_then view below old c.zero_first.new.self c.fill_range.new.self c.in_ok-next.ensures.fails.faults.told c.in_ok-fill_range.ensures.fails.faults.told) c.zero_range.ensures.fails.faults;
+      cause = c.zero_range.ensures.fails.cause;
     }

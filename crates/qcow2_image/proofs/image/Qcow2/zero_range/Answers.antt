@@ -6,7 +6,7 @@ use Rattle.qcow2_image.proofs.image.Qcow2.zero_range.Goals as goal
 pub loop-at-init : goal.loop-at-init
 loop-at-init g c = record {
   turns = zeroed_first g.S.Storage.view g.F.BackingDisk.backing c.args.from c.args.to c.args.self.now;
-  faults = untouched g.S.Storage.view g.F.BackingDisk.backing c.args.self.now c.args.self.now refl refl;
+  faults = untouched g.S.Storage.view g.F.BackingDisk.backing c.args.self.now c.args.self.now refl refl refl;
   emptied = λ none. none;
   behind = behind_none;
   notes = notes_none;

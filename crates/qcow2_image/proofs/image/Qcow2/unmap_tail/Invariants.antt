@@ -1,7 +1,7 @@
 use Rattle.std.proofs.Common.{◌-◌, ◌<◌, ◌≡◌, ◌⊎◌, List, Option, IsTrue}
 use Rattle.qcow2_image.proofs.Common.{PreservesHeaderCluster, Prepared, HasNothingToFree, is_writable, ImageInvariant, pending_in, boundary_in, ChangesRose, RecordsChanges, SameFaults}
 use Rattle.qcow2_image.proofs.Resize.Shrinking.{IsDiscardedSoFar}
-use Rattle.qcow2_image.proofs.image.Qcow2.discard_tail.Given as goal
+use Rattle.qcow2_image.proofs.image.Qcow2.unmap_tail.Given as goal
 
 -- the tail is unmapped up to where the next step begins, and nothing waits to be freed after the first step; a change was counted if steps passed a boundary
 abbrev pub invariant-loop-at : goal.invariant-loop-at

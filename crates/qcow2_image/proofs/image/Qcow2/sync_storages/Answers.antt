@@ -1,0 +1,8 @@
+use Rattle.qcow2_image.proofs.Lemmas.{keeps_then}
+use Rattle.qcow2_image.proofs.Call.DataFiles.{keeps_beside}
+use Rattle.qcow2_image.proofs.image.Qcow2.sync_storages.Goals as goal
+
+pub returns-clause-keeps : goal.returns-clause-keeps
+returns-clause-keeps g c = λ p out sound.
+    let first = c.sync_storage.ensures.keeps p out sound in
+    keeps_then g.S.Storage.view g.F.BackingDisk.backing out c.args.self.now c.sync_storage.new.self c.sync_data_file.new.self p p p (λ k h. h) first (keeps_beside c.sync_data_file.ensures.beside p out first.sound)
