@@ -16,7 +16,7 @@ ROOT = os.path.dirname(os.path.dirname(os.path.abspath(__file__)))
 FAILURES = re.compile(r"NOT PROVED|NOT REFUSED|NOT TRIED|BAD EDIT|FAILED|: error")
 PROVED = re.compile(r"rt: (\w+) (?:proved$|is kept: )")
 TRIED = re.compile(r"wrong bodies: \d+ of \d+ tried, \d+ left")
-SCRIPTS = ["tests/program.py", "tests/causes.py", "tests/writes.py", "tests/prepared.py", "tests/clearing.py", "tests/resizing.py", "tests/preallocation.py", "tests/failures.py", "tests/each.py", "tests/caches.py", "tests/stops.py", "tests/interop/write.py", "tests/interop/growing.py", "tests/interop/open.py", "tests/interop/versions.py", "tests/interop/overlay.py", "tests/hostile.py", "tests/convert.py", "tests/check.py", "tests/tools.py", "tests/nbd.py", "tests/pages.py"]
+SCRIPTS = ["tests/program.py", "tests/causes.py", "tests/writes.py", "tests/prepared.py", "tests/clearing.py", "tests/resizing.py", "tests/preallocation.py", "tests/failures.py", "tests/each.py", "tests/caches.py", "tests/stops.py", "tests/interop/write.py", "tests/interop/growing.py", "tests/interop/open.py", "tests/interop/versions.py", "tests/interop/overlay.py", "tests/interop/data_file.py", "tests/hostile.py", "tests/convert.py", "tests/check.py", "tests/tools.py", "tests/nbd.py", "tests/pages.py"]
 
 
 def counts(words, told, look=lambda line: None):

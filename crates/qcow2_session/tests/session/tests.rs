@@ -1,6 +1,7 @@
 mod boxes;
 mod commands;
 mod creating;
+mod data_files;
 mod flushes;
 mod images;
 mod invalidation;
