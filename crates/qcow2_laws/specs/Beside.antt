@@ -1,8 +1,8 @@
 -- Consistent images whose data are in an external file: their guest clusters use no cluster of the image.
-use Rattle.std.specs.Prelude.{ℕ, ◌-◌, ◌*◌, ◌/◌, ◌≡◌, ◌≢◌, ◌<◌, ◌≤◌, true, IsTrue, ⊤, Option, Some, None}
+use Rattle.std.specs.Prelude.{ℕ, ◌-◌, ◌*◌, ◌/◌, ◌≡◌, ◌≢◌, ◌<◌, ◌≤◌, true, IsTrue, ⊤, Some, None}
 use Rattle.qcow2_metadata.specs.Bytes.{Bytes}
 use Rattle.qcow2_metadata.specs.declared.header.HeaderFields.{HeaderFields}
-use Rattle.qcow2_metadata.specs.Header.{header, HeaderReads, ReftableFits, cluster_size, reftable_entries, has_data_file}
+use Rattle.qcow2_metadata.specs.Header.{HeaderReads, ReftableFits, cluster_size, reftable_entries, has_data_file}
 use Rattle.qcow2_metadata.specs.Entries.{l1_entry, reftable_entry, count, host_offset, block_offset, is_copied, L1EntryReads, ReftableEntryReads}
 use Rattle.qcow2_metadata.specs.Cover.{cover}
 use Rattle.qcow2_metadata.specs.Named.{named_for_tables}
