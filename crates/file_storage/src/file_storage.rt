@@ -147,6 +147,8 @@ impl Storage for FileStorage {
 
     ghost only_now = { λ s c had. had };
 
+    ghost passes = { λ call old new result. CountsFailures old new result };
+
     fn name(&self) -> &str {
         "file"
     }

@@ -246,6 +246,8 @@ impl Storage for StreamedFile {
 
     ghost only_now = { λ s c had. had };
 
+    ghost passes = { λ call old new result. CountsFailures old.file new.file result };
+
     fn name(&self) -> &str {
         "file"
     }

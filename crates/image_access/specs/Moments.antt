@@ -21,6 +21,12 @@ pub record StorageView : Type 1 where
   pub req_align : ℕ
   pub mem_align : ℕ
 
+-- A call by which a storage passes on what it keeps, or drops it, and changes no bytes.
+pub data PassingCall : Type 0 where
+  FlushCall : PassingCall
+  SyncCall : PassingCall
+  InvalidateCall : PassingCall
+
 -- A change was made, if the call succeeded. If memory ran out, nothing changed. After a fault the whole change was made, or nothing.
 abbrev pub ContentsBecome : {T : Type 0} → Result T StorageError → List ℕ → List ℕ → List ℕ → Type 0
 ContentsBecome (Ok _) old changed new = new ≡ changed

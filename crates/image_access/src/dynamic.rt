@@ -14,6 +14,9 @@ impl Storage for Box<dyn DynStorage> {
 
     ghost only_now = { λ b c had. (DynStorage-box b).Storage.only_now b.value c had };
 
+    ghost passes = { λ call b now result.
+        (v : _) × (now ≡ record b { value = v }) × (DynStorage-box b).Storage.passes call b.value v result };
+
     fn name(&self) -> &str {
         (**self).name()
     }

@@ -126,6 +126,8 @@ impl Storage for MemStorage {
 
     ghost only_now = { λ m c had. had };
 
+    ghost passes = { λ call old new result. new ≡ old };
+
     fn name(&self) -> &str {
         "mem"
     }

@@ -1,6 +1,6 @@
-ghost use Rattle.std.specs.Prelude.{◌≡◌, ◌<◌, ◌≤◌, List, ℕ, length, IfOk, OnOk};
+ghost use Rattle.std.specs.Prelude.{◌≡◌, ◌<◌, ◌≤◌, List, ℕ, length, Result, IfOk, OnOk};
 ghost use Rattle.image_access.specs.Contents.{bytes_at, resized, overwritten, zeroed};
-ghost use Rattle.image_access.specs.Moments.{StorageView, ContentsStay, Changes, Calls, QuietCalls};
+ghost use Rattle.image_access.specs.Moments.{StorageView, PassingCall, FlushCall, SyncCall, InvalidateCall, ContentsStay, Changes, Calls, QuietCalls};
 
 use crate::StorageError;
 
@@ -8,6 +8,8 @@ use crate::StorageError;
 /// at all. A call is refused with `StorageError::Fault` only if the storage failed and counted a fault, and with `StorageError::Memory` if memory
 /// ran out, which changes nothing. A call of no bytes changes nothing, at any offset.
 pub trait Storage: Drop {
+    ghost use Rattle.image_access.specs.declared.error.StorageError.{StorageError};
+
     /// The view of the storage in contracts.
     ghost view: { Self → StorageView };
 
@@ -16,6 +18,9 @@ pub trait Storage: Drop {
 
     /// Since the present moment, there is no other.
     ghost only_now: { (s : Self) (c : List ℕ) → (view s).had_since (view s).moment c → c ≡ (view s).contents };
+
+    /// What a call that passes something on does to a storage of this type, beyond what it does to any storage.
+    ghost passes: { PassingCall → Self → Self → Result (Unit {0}) StorageError → Type 0 };
 
     /// A short name of the kind of storage, such as `mem`.
     fn name(&self) -> &str
@@ -57,17 +62,20 @@ pub trait Storage: Drop {
     /// survive a power loss only after `sync`.
     fn flush(&mut self) -> Result<(), StorageError>
         ensures same { ContentsStay (view self.old) (view self.new) }
-        ensures calls { QuietCalls (view self.old) (view self.new) result };
+        ensures calls { QuietCalls (view self.old) (view self.new) result }
+        ensures passes { passes FlushCall self.old self.new result };
 
     /// Returns once everything that was written would survive a power loss.
     fn sync(&mut self) -> Result<(), StorageError>
         ensures same { ContentsStay (view self.old) (view self.new) }
-        ensures calls { QuietCalls (view self.old) (view self.new) result };
+        ensures calls { QuietCalls (view self.old) (view self.new) result }
+        ensures passes { passes SyncCall self.old self.new result };
 
     /// Drops cached reads, so that later reads ask the file again.
     fn invalidate_cache(&mut self) -> Result<(), StorageError>
         ensures same { ContentsStay (view self.old) (view self.new) }
-        ensures calls { QuietCalls (view self.old) (view self.new) result };
+        ensures calls { QuietCalls (view self.old) (view self.new) result }
+        ensures passes { passes InvalidateCall self.old self.new result };
 
     /// The alignment of offsets and lengths with which the storage works best, in bytes. Others are accepted too.
     fn req_align(&self) -> usize

@@ -169,6 +169,8 @@ impl Storage for TraceStorage {
 
     ghost only_now = { λ m c had. only_all m.start m.changes c had };
 
+    ghost passes = { λ call old new result. Answers old new result old };
+
     fn name(&self) -> &str {
         "trace"
     }
@@ -240,7 +242,7 @@ impl Storage for TraceStorage {
     fn flush(&mut self) -> Result<(), StorageError>
         ensures same { ContentsStay (view_of_trace self.old) (view_of_trace self.new) }
         ensures calls { QuietCalls (view_of_trace self.old) (view_of_trace self.new) result }
-        ensures answers { Answers self.old self.new result self.old }
+        ensures passes { Answers self.old self.new result self.old }
     {
         self.calls.begin()
     }
@@ -248,7 +250,7 @@ impl Storage for TraceStorage {
     fn sync(&mut self) -> Result<(), StorageError>
         ensures same { ContentsStay (view_of_trace self.old) (view_of_trace self.new) }
         ensures calls { QuietCalls (view_of_trace self.old) (view_of_trace self.new) result }
-        ensures answers { Answers self.old self.new result self.old }
+        ensures passes { Answers self.old self.new result self.old }
     {
         self.flush()
     }
@@ -256,7 +258,7 @@ impl Storage for TraceStorage {
     fn invalidate_cache(&mut self) -> Result<(), StorageError>
         ensures same { ContentsStay (view_of_trace self.old) (view_of_trace self.new) }
         ensures calls { QuietCalls (view_of_trace self.old) (view_of_trace self.new) result }
-        ensures answers { Answers self.old self.new result self.old }
+        ensures passes { Answers self.old self.new result self.old }
     {
         self.flush()
     }

@@ -110,6 +110,8 @@ impl<D: DiskReader> Storage for DiskStorage<D> {
 
     ghost only_now = { λ s c had. had };
 
+    ghost passes = { λ call old new result. new ≡ old };
+
     fn name(&self) -> &str {
         "disk"
     }

@@ -163,7 +163,7 @@ impl<S: Storage> ImageStorage<S> {
 impl<S: Storage> Storage for ImageStorage<S> {
     ghost use Rattle.std.specs.Prelude.{◌≡◌, length, IfOk, OnOk};
     ghost use Rattle.image_access.specs.Contents.{bytes_at, overwritten, resized, zeroed};
-    ghost use Rattle.image_access.specs.Moments.{Calls, Changes, ContentsStay, QuietCalls};
+    ghost use Rattle.image_access.specs.Moments.{Calls, Changes, ContentsStay, FlushCall, InvalidateCall, QuietCalls, SyncCall};
     ghost use Rattle.qcow2_alloc.specs.ImageStorage.{storage_of, IsRefusedUntold, SameNotes};
 
     ghost view = { λ s. S.view s.storage };
@@ -171,6 +171,8 @@ impl<S: Storage> Storage for ImageStorage<S> {
     ghost counts_now = { λ s t h le. S.counts_now s.storage t h le };
 
     ghost only_now = { λ s c had. S.only_now s.storage c had };
+
+    ghost passes = { λ call old new result. S.passes call old.storage new.storage result };
 
     fn name(&self) -> &str {
         self.storage.name()
@@ -238,6 +240,7 @@ impl<S: Storage> Storage for ImageStorage<S> {
     fn flush(&mut self) -> Result<(), StorageError>
         ensures same { ContentsStay (S.view (storage_of self.old)) (S.view (storage_of self.new)) }
         ensures calls { QuietCalls (S.view (storage_of self.old)) (S.view (storage_of self.new)) result }
+        ensures passes { S.passes FlushCall (storage_of self.old) (storage_of self.new) result }
         ensures unrecorded { SameNotes self.old self.new }
     {
         self.storage.flush()
@@ -246,6 +249,7 @@ impl<S: Storage> Storage for ImageStorage<S> {
     fn sync(&mut self) -> Result<(), StorageError>
         ensures same { ContentsStay (S.view (storage_of self.old)) (S.view (storage_of self.new)) }
         ensures calls { QuietCalls (S.view (storage_of self.old)) (S.view (storage_of self.new)) result }
+        ensures passes { S.passes SyncCall (storage_of self.old) (storage_of self.new) result }
         ensures unrecorded { SameNotes self.old self.new }
     {
         self.storage.sync()
@@ -254,6 +258,7 @@ impl<S: Storage> Storage for ImageStorage<S> {
     fn invalidate_cache(&mut self) -> Result<(), StorageError>
         ensures same { ContentsStay (S.view (storage_of self.old)) (S.view (storage_of self.new)) }
         ensures calls { QuietCalls (S.view (storage_of self.old)) (S.view (storage_of self.new)) result }
+        ensures passes { S.passes InvalidateCall (storage_of self.old) (storage_of self.new) result }
         ensures unrecorded { SameNotes self.old self.new }
     {
         self.storage.invalidate_cache()

@@ -25,6 +25,8 @@ impl Storage for FarStorage {
 
     ghost only_now = { λ s c had. only_all s.inner.start s.inner.changes c had };
 
+    ghost passes = { λ call old new result. new ≡ new };
+
     fn name(&self) -> &str {
         "far"
     }

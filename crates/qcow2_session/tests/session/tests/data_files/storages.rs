@@ -70,6 +70,8 @@ impl Storage for ToldStorage {
 
     ghost only_now = { λ s c had. only_all s.inner.start s.inner.changes c had };
 
+    ghost passes = { λ call old new result. new ≡ new };
+
     fn name(&self) -> &str {
         "told"
     }
