@@ -1,8 +1,12 @@
 -- Replaying the changes that a storage recorded, one after another.
-use Rattle.std.proofs.Common.{◌≡◌, ℕ, zero, suc, ◌-◌, List, [], ◌∷◌, ◌++◌, take, is_some, if◌then◌else◌, refl, sym, ap, ◌∙◌, arith}
+use Rattle.std.proofs.Common.{◌≡◌, ℕ, zero, suc, ◌-◌, List, [], ◌∷◌, ◌++◌, take, is_some, if◌then◌else◌, Ok, refl, sym, ap, ◌∙◌, arith}
 use Prim.Native.Nat.compare
 use Rattle.std.proofs.Math.Seq.{take-nil}
+use Rattle.std.proofs.lemmas.Grind.{common_steps}
 use Rattle.image_access.specs.Changes.{applied, replayed, HadSince, write_offset, write_offsets, up_to_write}
+use Rattle.image_access.specs.CallCount.{Counted, counted}
+use Rattle.image_access.specs.Moments.{Calls}
+use Rattle.image_access.specs.TraceStorage.{Trace, view_of_trace, with_change}
 use Rattle.image_access.specs.declared.change.Change.{Change}
 use Rattle.image_access.specs.declared.change.Change.TheVariants.{Write, Zeroes, Resize}
 
@@ -32,3 +36,8 @@ had_up_to_write start n [] = record { count = 0; from = omega arith; up_to = ome
 had_up_to_write start zero (change ∷ changes) = record { count = 0; from = omega arith; up_to = omega arith; is = refl }
 had_up_to_write start (suc n) (change ∷ changes) =
     rw up_to_write-some (had_before start change changes _ (had_up_to_write (applied start change) (if is_some (write_offset change) then n else suc n) changes))
+
+-- a call that made a change, and was counted
+pub calls_once : (old : Trace) (calls : Counted) (change : Change) (new : Trace) → calls ≡ counted old.calls → new ≡ with_change (record old { calls = calls }) change
+    → Calls {T = Unit {0}} (view_of_trace old) (view_of_trace new) (Ok tt)
+calls_once old calls change new once is = rw (is, once) (grind (arith, common_steps, replayed_push))
