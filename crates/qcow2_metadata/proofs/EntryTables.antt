@@ -1,7 +1,12 @@
 -- Tables of entries of 64 bits.
-use Rattle.std.proofs.Common.{◌≡◌, ◌+◌, ◌-◌, ◌*◌, ◌/◌, ◌%◌, ◌^◌, ◌≤◌, ◌++◌, if◌then◌else◌, ℕ, inl, inr, subst, lit<, List, [], Option, nat_lt, length, replicate, refl, sym, ap, ◌∙◌, arith}
+use Rattle.std.proofs.Common.{◌≡◌, ◌+◌, ◌-◌, ◌*◌, ◌/◌, ◌%◌, ◌^◌, ◌≤◌, ◌++◌, if◌then◌else◌, ℕ, inl, inr, subst, lit<, List, [], Option, nat_lt, length, take, drop, replicate, Vec, refl, sym, ap, ◌∙◌, arith}
 use Rattle.qcow2_metadata.proofs.Common.{bit_and, drop-replicate, get_or_append_left, get_or-append_right, length-replicate, nil_from_length, and_block, and_le_l, and_mask, mod_below, pow-add, shr_split, bytes_at, overwritten, byte_at_past, length-bytes_at, put_mid-overwritten, byte_at, number_at, HeaderFields, reftable_entries, l1_entry, l2_entry, reftable_entry, L1EntryReads, ReftableEntryReads, entry_at, ChangesEntry, EntryTableView, EachReads, HasRoomIfPlaced, IsClear, IsL1TableOf, IsReasonNotToLoad, IsRefTableOf, NamesL1Table, NamesRefTable, PassesLimit, SomeUnread, MetadataError, Limit, Format}
+use Rattle.std.specs.List.{length_refill}
 use Rattle.qcow2_metadata.proofs.TableEntries.{byte_at-zeros, entry_at-loaded, entry_at-zeros, number_at-moved, number_at-zeros}
+
+-- other items in a `Vec` don't change its length
+pub refilled : {A : Type 0} (v : Vec ℕ A) (new : List ℕ) → length (take v.len (new ++ drop (length new) v.items)) ≡ length v.items
+refilled v new = sym (length_refill v.len v.items new v.ok.0) ∙ v.ok.0
 
 -- past its end a table has no entry
 pub entry_at_past : (bytes : List ℕ) (i : ℕ) → length bytes ≤ 8 * i → entry_at bytes i ≡ 0
