@@ -1,6 +1,7 @@
 -- Why there is no report.
 use Rattle.std.proofs.Common.{◌+◌, ◌*◌, ◌^◌, ◌≤◌, ℕ, List, refl, sym, subst, arith}
 use Rattle.qcow2_check.proofs.Common.{Bytes, byte_at, HeaderFields, reftable_entries, L1EntryReads, ReftableEntryReads, IsOfStorageOrMemory, MetadataError, IsReasonNotToCount}
+use Rattle.qcow2_check.specs.Report.{IsReasonNotToCheck}
 use Rattle.image_access.specs.Contents.{bytes_at}
 use Rattle.image_access.proofs.Bytes.{length-bytes_at}
 use Rattle.qcow2_metadata.specs.EntryTable.{SomeUnread, IsReasonNotToLoad}
@@ -37,3 +38,10 @@ uncounted h b Format why = absurd why
 uncounted h b Version why = why
 uncounted h b Unaligned why = why
 uncounted h b _ why = tt
+
+pub unchecked : (h : HeaderFields) (b : Bytes) (e : MetadataError) → IsReasonNotToCount h b e → IsReasonNotToCheck h b e
+unchecked h b Limit why = λ both. why both.1
+unchecked h b Format why = λ both. why both.1
+unchecked h b Version why = why
+unchecked h b Unaligned why = why
+unchecked h b _ why = tt

@@ -1,41 +1,26 @@
 use Rattle.std.proofs.Common.{◌≡◌, ◌/◌, ℕ, List, length, ap, sym, subst, ◌∙◌, arith}
-use Rattle.qcow2_check.proofs.Common.{err_from_is_err_and, byte_at, l1_entry, reftable_entry, count, L1EntryReads, ReftableEntryReads, entry_at, TalliesGrow, count_in, tables_off, blocks_off, off_l2_tables, off_refblocks, data_off_below, named_below, tables_below, marked_below, reftable_entries, IsReasonNotToCount}
+use Rattle.qcow2_check.proofs.Common.{one_shl, byte_at, l1_entry, reftable_entry, count, L1EntryReads, ReftableEntryReads, entry_at, TalliesGrow, count_in, tables_off, blocks_off, off_l2_tables, off_refblocks, data_off_below, named_below, tables_below, marked_below, reftable_entries, IsReasonNotToCount}
 use Rattle.qcow2_check.proofs.OffsetSteps.{counted_off, all_tables_off, all_blocks_off}
+use Rattle.qcow2_check.proofs.Reading.{reads_another, reads_then, reads_refused, reads_short, refused_as}
 use Rattle.qcow2_check.proofs.Refusals.{l1_unread, reftable_unread, uncounted}
 use Rattle.qcow2_check.proofs.Totals.{few_reftable_clusters, all_tallies}
 use Rattle.qcow2_check.proofs.checker.tallies.Goals as goal
 
 pub returns-in_err-l1-clause-refused : goal.returns-in_err-l1-clause-refused
 returns-in_err-l1-clause-refused g c honest =
-    let p = err_from_is_err_and c.from_residual.result c.from_residual.ensures.1 in
     let view = g.S.Storage.view c.args.storage.now in
-    rw (p.1, p.2) (l1_unread c.args.header.now view.contents _ view.is_honest honest c.in_err-l1.ensures.err)
+    rw (refused_as _ c.from_residual.ensures.1) (l1_unread c.args.header.now view.contents _ view.is_honest honest c.in_err-l1.ensures.err)
 
 pub returns-in_err-reftable-clause-refused : goal.returns-in_err-reftable-clause-refused
 returns-in_err-reftable-clause-refused g c honest =
-    let p = err_from_is_err_and c.from_residual-in_err-reftable.result c.from_residual-in_err-reftable.ensures.1 in
-    let h = c.args.header.now in
     let view = g.S.Storage.view c.load_l1_entries.new.storage in
-    let there : IsReasonNotToCount h (byte_at view.contents) c.in_err-reftable.field-0.0 =
-    reftable_unread h view.contents _ view.is_honest (c.in_ok-l1.ensures.reading.honest honest) c.in_err-reftable.ensures.err in
-    let P : List ℕ → Type 0 = λ b. IsReasonNotToCount h (byte_at b) c.in_err-reftable.field-0.0 in
-    rw (p.1, p.2) (subst P (c.in_ok-l1.ensures.reading.same honest) there)
+    let P : List ℕ → Type 0 = λ b. IsReasonNotToCount c.args.header.now (byte_at b) c.in_err-reftable.field-0.0 in
+    let there = reftable_unread c.args.header.now view.contents _ view.is_honest (c.in_ok-l1.ensures.reading.honest honest) c.in_err-reftable.ensures.err in
+    rw (refused_as _ c.from_residual-in_err-reftable.ensures.1) (subst P (c.in_ok-l1.ensures.reading.same honest) there)
 
 pub names_of_header-requires-clause-few_clusters :
     goal.names_of_header-requires-clause-few_clusters
 names_of_header-requires-clause-few_clusters g c = few_reftable_clusters c.args.header.now c.requires.in_range.cluster_bits.0 c.requires.within_limits.few_reftable_entries
-
-pub returns-in_err-names_of_l1_table-clause-refused :
-    goal.returns-in_err-names_of_l1_table-clause-refused
-returns-in_err-names_of_l1_table-clause-refused g c honest =
-    let p = err_from_is_err_and c.from_residual-in_err-names_of_l1_table.result c.from_residual-in_err-names_of_l1_table.ensures.1 in
-    rw (p.1, p.2) (uncounted _ _ _ c.in_err-names_of_l1_table.ensures.causes)
-
-pub returns-in_err-counts-clause-refused :
-    goal.returns-in_err-counts-clause-refused
-returns-in_err-counts-clause-refused g c honest =
-    let p = err_from_is_err_and c.from_residual-in_err-counts.result c.from_residual-in_err-counts.ensures.1 in
-    rw (p.1, p.2) (uncounted _ _ _ c.in_err-counts.ensures.causes)
 
 pub returns-clause-tallies : goal.returns-clause-tallies
 returns-clause-tallies g c honest =
@@ -91,3 +76,46 @@ returns-clause-tables g c honest =
       l1_entries = λ i lt. subst L1EntryReads (c.in_ok-l1.ensures.entries honest i) (c.in_ok-l1.ensures.reads i);
       reftable = λ k lt. subst ReftableEntryReads (blocks k) (c.in_ok-reftable.ensures.reads k);
     }
+
+pub returns-in_err-offsets_of_l1_table : goal.returns-in_err-offsets_of_l1_table
+returns-in_err-offsets_of_l1_table g c =
+    rw (refused_as _ c.from_residual-in_err-offsets_of_l1_table.ensures.1) (record { tallies = λ _. tt; tables = λ _. tt; fits = tt; refused = λ _. tt; reading = reads_short (reads_then c.in_ok-l1.ensures.reading c.in_ok-reftable.ensures.reading) })
+
+pub returns-in_err-offsets_of_reftable : goal.returns-in_err-offsets_of_reftable
+returns-in_err-offsets_of_reftable g c =
+    rw (refused_as _ c.from_residual-in_err-offsets_of_reftable.ensures.1) (record { tallies = λ _. tt; tables = λ _. tt; fits = tt; refused = λ _. tt; reading = reads_short (reads_then c.in_ok-l1.ensures.reading c.in_ok-reftable.ensures.reading) })
+
+pub returns-in_err-buf : goal.returns-in_err-buf
+returns-in_err-buf g c =
+    rw (refused_as _ c.from_residual-in_err-buf.ensures.1) (record { tallies = λ _. tt; tables = λ _. tt; fits = tt; refused = λ _. tt; reading = reads_short (reads_then c.in_ok-l1.ensures.reading c.in_ok-reftable.ensures.reading) })
+
+pub returns-in_err-names_of_header : goal.returns-in_err-names_of_header
+returns-in_err-names_of_header g c =
+    rw (refused_as _ c.from_residual-in_err-names_of_header.ensures.1) (record { tallies = λ _. tt; tables = λ _. tt; fits = tt; refused = λ _. tt; reading = reads_short (reads_then (reads_then c.in_ok-l1.ensures.reading c.in_ok-reftable.ensures.reading) c.in_ok-counts.ensures.reading) })
+
+pub returns-in_err-names_of_reftable : goal.returns-in_err-names_of_reftable
+returns-in_err-names_of_reftable g c =
+    rw (refused_as _ c.from_residual-in_err-names_of_reftable.ensures.1) (record { tallies = λ _. tt; tables = λ _. tt; fits = tt; refused = λ _. tt; reading = reads_short (reads_then (reads_then c.in_ok-l1.ensures.reading c.in_ok-reftable.ensures.reading) c.in_ok-counts.ensures.reading) })
+
+pub returns-in_err-counts : goal.returns-in_err-counts
+returns-in_err-counts g c =
+    rw (refused_as _ c.from_residual-in_err-counts.ensures.1) (record { tallies = λ _. tt; tables = λ _. tt; fits = tt; refused = λ _. uncounted _ _ _ c.in_err-counts.ensures.causes; reading = reads_then (reads_then c.in_ok-l1.ensures.reading c.in_ok-reftable.ensures.reading) (reads_refused c.in_err-counts.ensures.reading) })
+
+pub returns-in_err-names_of_l1_table : goal.returns-in_err-names_of_l1_table
+returns-in_err-names_of_l1_table g c =
+    rw (refused_as _ c.from_residual-in_err-names_of_l1_table.ensures.1) (record { tallies = λ _. tt; tables = λ _. tt; fits = tt; refused = λ _. uncounted _ _ _ c.in_err-names_of_l1_table.ensures.causes; reading = reads_then (reads_then (reads_then c.in_ok-l1.ensures.reading c.in_ok-reftable.ensures.reading) c.in_ok-counts.ensures.reading) (reads_refused c.in_err-names_of_l1_table.ensures.reading) })
+
+pub returns-clause-reading : goal.returns-clause-reading
+returns-clause-reading g c = reads_then (reads_then (reads_then c.in_ok-l1.ensures.reading c.in_ok-reftable.ensures.reading) c.in_ok-counts.ensures.reading) (reads_another _ _ c.in_ok-names_of_l1_table.ensures.reading)
+
+pub returns-clause-fits : goal.returns-clause-fits
+returns-clause-fits g c = c.in_ok-reftable.ensures.fits
+
+pub load-requires : goal.load-requires
+load-requires g c = record {
+  bits = c.requires.in_range.cluster_bits;
+  order = c.requires.in_range.refcount_order;
+  whole = c.as_mut_slice.ensures.len ∙ c.in_ok-buf.ensures.len ∙ one_shl c.args.header.now.cluster_bits 64 (omega arith);
+  few = omega (arith, ap length c.deref-3.ensures.value, c.in_ok-reftable.ensures.length, c.requires.within_limits.few_reftable_entries);
+  long = ap length c.deref-3.ensures.value ∙ c.in_ok-reftable.ensures.length;
+}

@@ -2,6 +2,7 @@ use Rattle.std.proofs.Common.{◌≡◌, ◌^◌, ◌%◌, ◌≤◌, length, ap
 use Rattle.qcow2_check.proofs.Common.{pow_mono, option_copied, byte_at, cluster_size, stand_at-loaded}
 use Rattle.qcow2_check.proofs.CountSteps.{whole_cluster, read_counts}
 use Rattle.qcow2_check.proofs.KeptBlocks.{keeps_placeless, keeps_known, keeps_read}
+use Rattle.qcow2_check.proofs.Reading.{reads_another}
 use Rattle.qcow2_check.proofs.counts.number_of_block.Goals as goal
 
 pub of-requires-clause-whole : goal.of-requires-clause-whole
@@ -35,3 +36,6 @@ returns-clause-keeps g c honest keeps =
     (λ j inside. c.in_ok-block.ensures j (rw long inside)
     ∙ read_counts h (byte_at contents) c.read_at.new.buf c.args.place c.requires.order (whole_cluster _ c.requires.bits.0) c.if-place-eq0.false
     (stand_at-loaded contents _ _ _ c.read_at.new.buf (c.in_ok-read_at.ensures.read honest) refl) long j inside) keeps
+
+pub returns-clause-reading : goal.returns-clause-reading
+returns-clause-reading g c = reads_another _ _ c.in_ok-read_at.ensures.reading

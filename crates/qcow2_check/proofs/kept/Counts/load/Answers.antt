@@ -1,7 +1,7 @@
 use Rattle.std.proofs.Common.{◌≡◌, ◌<◌, ◌/◌, ℕ, List, length, get_or, ap, sym, subst, ◌∙◌, arith, inl, inr, length-append}
 use Rattle.qcow2_check.proofs.Common.{cases_lt, byte_at, block_offset, entry_at, HasBlock, KeepsBlocks, KeepsMore}
 use Rattle.qcow2_check.proofs.KeptBlocks.{placed_before, placed_last, all_kept}
-use Rattle.qcow2_check.proofs.Reading.{reads_another, reads_more}
+use Rattle.qcow2_check.proofs.Reading.{reads_another, reads_then, reads_refused, reads_short, refused_as}
 use Rattle.qcow2_check.proofs.kept.Counts.load.Goals as goal
 
 pub loop-k-preserved : goal.loop-k-preserved
@@ -33,7 +33,7 @@ loop-k-preserved g c =
         | inl less ↦ subst (H i) (sym (before i less)) ((more honest).others _ _ (c.loop-k.invariant.each honest i less))
         | inr from ↦ let same : i ≡ k = omega arith in subst (H i) (sym (last i same)) (subst P (here ∙ ap at (sym same)) (more honest).here)
       ];
-      reading = reads_more _ _ _ c.loop-k.invariant.reading c.loop-k.invariant.reading.cause.told (reads_another _ _ c.in_ok-number.ensures.reading);
+      reading = reads_then c.loop-k.invariant.reading (reads_another _ _ c.in_ok-number.ensures.reading);
     }
 
 pub returns-clause-counts : goal.returns-clause-counts
@@ -44,3 +44,11 @@ returns-clause-counts g c honest are q =
     let H : ℕ → ℕ → Type 0 = λ i e. HasBlock h b c.loop-k.blocks.items (get_or c.loop-k.numbers.items i 0) (block_offset e) in
     all_kept h b _ c.loop-k.k c.counts_per_block_of-per_block.ensures.value c.loop-k.invariant.long (omega (arith, all, c.requires.long))
     (λ i lt. subst (H i) (are i) (c.loop-k.invariant.each honest i lt)) q
+
+pub returns-in_err-push-clause-reading : goal.returns-in_err-push-clause-reading
+returns-in_err-push-clause-reading g c =
+    rw (refused_as _ c.from_residual-in_err-push.ensures.1) (reads_short (reads_then c.loop-k.invariant.reading c.in_ok-number.ensures.reading))
+
+pub returns-in_err-number-clause-reading : goal.returns-in_err-number-clause-reading
+returns-in_err-number-clause-reading g c =
+    rw (refused_as _ c.from_residual.ensures.1) (reads_then c.loop-k.invariant.reading (reads_refused c.in_err-number.ensures.reading))
