@@ -8,14 +8,12 @@ use Rattle.qcow2_check.proofs.checker.tallies.Goals as goal
 
 pub returns-in_err-l1-clause-refused : goal.returns-in_err-l1-clause-refused
 returns-in_err-l1-clause-refused g c honest =
-    let view = g.S.Storage.view c.args.storage.now in
-    rw (refused_as _ c.from_residual.ensures.1) (l1_unread c.args.header.now view.contents _ view.is_honest honest c.in_err-l1.ensures.err)
+    rw (refused_as _ c.from_residual.ensures.1) (l1_unread c.args.header.now _ _ _ honest c.in_err-l1.ensures.err)
 
 pub returns-in_err-reftable-clause-refused : goal.returns-in_err-reftable-clause-refused
 returns-in_err-reftable-clause-refused g c honest =
-    let view = g.S.Storage.view c.load_l1_entries.new.storage in
     let P : List ℕ → Type 0 = λ b. IsReasonNotToCount c.args.header.now (byte_at b) c.in_err-reftable.field-0.0 in
-    let there = reftable_unread c.args.header.now view.contents _ view.is_honest (c.in_ok-l1.ensures.reading.honest honest) c.in_err-reftable.ensures.err in
+    let there = reftable_unread c.args.header.now _ _ _ (c.in_ok-l1.ensures.reading.honest honest) c.in_err-reftable.ensures.err in
     rw (refused_as _ c.from_residual-in_err-reftable.ensures.1) (subst P (c.in_ok-l1.ensures.reading.same honest) there)
 
 pub names_of_header-requires-clause-few_clusters :
