@@ -1,23 +1,24 @@
 -- How steps of the caches compose, and how one cache call is such a step.
-use Rattle.std.proofs.Common.{◌≡◌, ◌≢◌, ◌⊎◌, inr, ℕ, Bool, true, eqb, List, Option, Some, Result, Ok, Err, IsErr, IsErrAnd, IsSome, refl, sym, ◌∙◌, subst, IfSome, IsFalse}
-use Rattle.qcow2_alloc.proofs.Common.{IsNone, keys_of, lookup, lookup_entry, remove_entry, IsDistinct, promoted, StorageView, MetadataError, byte_at, L2TableView, RefBlockView, HeaderFields, Pending, MayTurn, AreClean, BlocksMayGo, TablesMayGo, CacheError, L2CacheBackend, RefBlockCacheBackend, MetadataCaches, ImageError, ImageStorage, Cache, KeepsPins, OthersStay, with_entries, Unit₀, Flushes, GetsNew, InsertsNew, Replaces, TablesGo, BlocksGo, CacheStep, TurnStep, LoadStep, PutStep, HeldStep, KeepsSoundly, PutsSoundly, KeepsL2Written, of_cache, IsFaultOr, IsOfTables, storage_of, KeepsNotes, order, order_of, l2_tables, refblocks, known_of, CacheInvariant, err_of, FailsFor, l2_steps, rb_steps}
+use Rattle.std.proofs.Common.{◌≡◌, ◌≢◌, ◌⊎◌, inr, ℕ, Bool, eqb, List, Option, Some, Result, Ok, Err, IsErr, IsErrAnd, OnOk, OnErr, refl, sym, ◌∙◌, subst, IsFalse}
+use Rattle.qcow2_alloc.proofs.Common.{keys_of, IsDistinct, StorageView, MetadataError, byte_at, L2TableView, RefBlockView, HeaderFields, Pending, MayTurn, AreClean, BlocksMayGo, TablesMayGo, CacheError, L2CacheBackend, RefBlockCacheBackend, MetadataCaches, ImageError, ImageStorage, Cache, KeepsPins, with_entries, Unit₀, Flushes, TablesGo, BlocksGo, CacheStep, TurnStep, LoadStep, PutStep, HeldStep, KeepsSoundly, PutsSoundly, KeepsL2Written, of_cache, IsFaultOr, IsOfTables, storage_of, KeepsNotes, order, order_of, l2_tables, refblocks, known_of, CacheInvariant, err_of, FailsFor, l2_steps, rb_steps}
 use Rattle.qcow2_laws.specs.Clusters as Order
+use Rattle.qcow2_metadata.specs.Tables.{CachedTable}
+use Rattle.qcow2_alloc.specs.CachePins.{SameChanges}
+use Rattle.qcow2_alloc.specs.CacheSteps.{FlushesTables, SwitchesOrder}
+use Rattle.qcow2_alloc.proofs.KeptTables.Quiet.{quiet_none}
 use Rattle.qcow2_alloc.specs.declared.cache.Direction.{Direction}
 use Rattle.qcow2_alloc.specs.declared.error.ImageError.TheVariants as I
 use Rattle.qcow2_alloc.proofs.CachePins.{marks_none, marks_tables, marks_blocks}
 use Rattle.qcow2_alloc.proofs.Faults.{CacheReports, cache_told}
 use Rattle.qcow2_alloc.proofs.KeptMarks.{kept_marks_none, kept_marks_then, marks_of_both}
-use Rattle.qcow2_alloc.proofs.KeptTables.AllWritten.{written_none, written_then, written_turned, tables_flushed_written, blocks_flushed_written, table_got_written, block_got_written}
-use Rattle.qcow2_alloc.proofs.KeptTables.ApartCalls.{apart_none, apart_then, apart_turned, tables_flushed_apart, blocks_flushed_apart, table_got_apart, block_got_apart, table_kept_apart, block_kept_apart}
-use Rattle.qcow2_alloc.proofs.KeptTables.BehindHeader.{caches_none, caches_then, turned_behind, tables_flushed_behind, blocks_flushed_behind, table_got_behind, block_got_behind, table_put_behind, block_put_behind}
+use Rattle.qcow2_alloc.proofs.KeptTables.AllWritten.{written_none, written_then, written_turned, tables_flushed_written, blocks_flushed_written}
+use Rattle.qcow2_alloc.proofs.KeptTables.ApartCalls.{apart_none, apart_then, apart_turned, tables_flushed_apart, blocks_flushed_apart}
+use Rattle.qcow2_alloc.proofs.KeptTables.BehindHeader.{caches_none, caches_then, turned_behind, tables_flushed_behind, blocks_flushed_behind}
 use Rattle.qcow2_alloc.proofs.KeptTables.Causes.{given_err, fits_less, fault_or_of_tables, in_use_of_tables}
 use Rattle.qcow2_alloc.proofs.KeptTables.Clean.{blocks_go, tables_go}
-use Rattle.qcow2_alloc.proofs.KeptTables.Fetching.{table_got, block_got}
 use Rattle.qcow2_alloc.proofs.KeptTables.Flushing.{tables_flushed, blocks_flushed}
-use Rattle.qcow2_alloc.proofs.KeptTables.InOrder.{order_none, order_then, tables_in_order, blocks_in_order, table_got_in_order, block_got_in_order, table_put_in_order, block_put_in_order}
+use Rattle.qcow2_alloc.proofs.KeptTables.InOrder.{order_none, order_then, tables_in_order, blocks_in_order}
 use Rattle.qcow2_alloc.proofs.KeptTables.Switching.{keep_none, keep_then, keep_turned}
-use Rattle.qcow2_alloc.proofs.KeptTables.Putting.{table_kept}
-use Rattle.qcow2_alloc.proofs.KeptTables.PuttingBlocks.{block_kept}
 use Rattle.qcow2_alloc.proofs.Outcomes.{on_err, on_no_ok}
 use Rattle.qcow2_alloc.proofs.Steps.{fails_of, fails_as}
 
@@ -110,6 +111,26 @@ l2_not_rb bad = absurd cc
 pub rb_not_l2 : Order.RbDependsOnL2 ≢ Order.L2DependsOnRb
 rb_not_l2 bad = absurd cc
 
+-- ---- the order of writes turns to one, from the other one
+module _ {S A : Type 0} {view : S → StorageView} {to from : Order.Direction} {tables : MetadataCaches S → List CachedTable} {others : MetadataCaches S → A} {MayGo : MetadataCaches S → Type 0} {s : ImageStorage S} {a b : MetadataCaches S} where
+  -- No table had to be written for it.
+  pub switched_at_once : order_of b ≡ to → (order_of a ≡ from → ⊥) → others b ≡ others a → SameChanges a b → SwitchesOrder view to from tables others MayGo s a s b (Ok tt)
+  switched_at_once is other rest changes = record { order = is; refused = tt; turned = tt; written = λ was. absurd (other was); others_stay = rest; changes = changes; storage_stays = λ _. refl; quiet = λ _ honest. quiet_none _ honest }
+
+  -- The tables of one kind were written for it, or that was refused.
+  pub switched_after : {t : ImageStorage S} {c : MetadataCaches S} {written result : Result (Unit {0}) ImageError} → FlushesTables view tables others s a t b written → order_of a ≡ from → (MayGo a → AreClean (tables a)) → others c ≡ others b → SameChanges b c
+      → OnOk result (order_of c ≡ to) → OnErr result (order_of c ≡ order_of a) → OnOk result (AreClean (tables c)) → SwitchesOrder view to from tables others MayGo s a t c result
+  switched_after {result} flushes was goes rest changes is refused all = record {
+    order = is;
+    refused = refused;
+    turned = on_err _ result was;
+    written = λ _. all;
+    others_stay = rest ∙ flushes.others_stay;
+    changes = (changes.0 ∙ flushes.changes.0, changes.1 ∙ flushes.changes.1);
+    storage_stays = λ other. absurd (other was);
+    quiet = λ may. flushes.quiet (goes may);
+  }
+
 -- ---- why a call of a cache is refused, which `?` hands on
 pub fails_cache : {T A : Type 0} {Refuses : ImageError → Type 0} {before now : ℕ} (answer : Result A (CacheError ℕ MetadataError)) (e : CacheError ℕ MetadataError) (r : Result T ImageError) → CacheReports before now answer → answer ≡ Err e
     → IsErr r × IsErrAnd r (λ x. x ≡ of_cache e) → Refuses (of_cache e) → FailsFor before now (err_of r) Refuses
@@ -150,24 +171,6 @@ module _ {S : Type 0} (view : S → StorageView) (old new : ImageStorage S) (cac
         ordered = tables_in_order view old new caches l2 answer flushes may;
       }
 
-    -- one is loaded
-    module _ (may_flush : Bool) (key : ℕ) (answer : Result Bool (CacheError ℕ MetadataError))
-        (hit : IsSome (lookup (eqb key) caches.l2.entries) → (answer ≡ Ok true) × (l2.entries ≡ promoted (eqb key) caches.l2.entries) × (new ≡ old))
-        (miss : IsNone (lookup (eqb key) caches.l2.entries) → GetsNew (l2_steps (seen_by view) caches.l2.backend.header.fields) eqb caches.l2.size may_flush key old caches.l2.entries answer new l2.entries) where
-      pub l2_got_step : KeepsPins eqb caches.l2.entries l2.entries → KeepsNotes view old new → OthersStay eqb key caches.l2.entries l2.entries → LoadStep view old caches new (record caches { l2 = l2 }) key
-      l2_got_step pins notes stays = record {
-        marks = marks_of_both (marks_tables caches l2 others pins) refl notes;
-        header_cluster = λ above. table_got_behind view old new caches may_flush key above l2 answer others stays hit miss;
-        all_written = table_got_written view old new caches may_flush key l2 answer hit miss;
-      }
-
-      pub l2_got_soundly : IsDistinct eqb (keys_of caches.l2.entries) → (may_flush ≡ true → TablesGo caches) → KeepsSoundly view old caches new (record caches { l2 = l2 })
-      l2_got_soundly distinct may = record {
-        keeps = table_got view old new caches may_flush key l2 others answer hit miss may;
-        apart = table_got_apart view old new caches l2 others distinct may_flush key answer may hit miss;
-        ordered = table_got_in_order view old new caches may_flush key l2 answer hit miss may;
-      }
-
   -- refblocks are flushed
   module _ (rb : Cache (RefBlockCacheBackend S) ℕ RefBlockView) (others : rb ≡ with_entries caches.rb rb.entries) where
     module _ (answer : Result Unit₀ (CacheError ℕ MetadataError)) (flushes : Flushes (rb_steps (seen_by view) caches.rb.backend.header.fields) old caches.rb.entries answer new rb.entries) where
@@ -183,24 +186,6 @@ module _ {S : Type 0} (view : S → StorageView) (old new : ImageStorage S) (cac
         keeps = blocks_flushed view old new caches rb others answer flushes may;
         apart = blocks_flushed_apart view old new caches rb others distinct answer flushes may;
         ordered = blocks_in_order view old new caches rb answer flushes may;
-      }
-
-    -- one is loaded
-    module _ (may_flush : Bool) (key : ℕ) (answer : Result Bool (CacheError ℕ MetadataError))
-        (hit : IsSome (lookup (eqb key) caches.rb.entries) → (answer ≡ Ok true) × (rb.entries ≡ promoted (eqb key) caches.rb.entries) × (new ≡ old))
-        (miss : IsNone (lookup (eqb key) caches.rb.entries) → GetsNew (rb_steps (seen_by view) caches.rb.backend.header.fields) eqb caches.rb.size may_flush key old caches.rb.entries answer new rb.entries) where
-      pub rb_got_step : KeepsPins eqb caches.rb.entries rb.entries → KeepsNotes view old new → OthersStay eqb key caches.rb.entries rb.entries → LoadStep view old caches new (record caches { rb = rb }) key
-      rb_got_step pins notes stays = record {
-        marks = marks_of_both (marks_blocks caches rb others pins) refl notes;
-        header_cluster = λ above. block_got_behind view old new caches may_flush key above rb answer others stays hit miss;
-        all_written = block_got_written view old new caches may_flush key rb answer hit miss;
-      }
-
-      pub rb_got_soundly : IsDistinct eqb (keys_of caches.rb.entries) → (may_flush ≡ true → BlocksGo caches) → KeepsSoundly view old caches new (record caches { rb = rb })
-      rb_got_soundly distinct may = record {
-        keeps = block_got view old new caches may_flush key rb others answer hit miss may;
-        apart = block_got_apart view old new caches rb others distinct may_flush key answer may hit miss;
-        ordered = block_got_in_order view old new caches may_flush key rb answer hit miss may;
       }
 
 -- ---- putting in
@@ -225,41 +210,3 @@ keeps_written {S} {is_modified} {caches} {caches'} same clean blocks = record {
   first = λ may unmodified. subst (λ (d : Order.Direction). BlocksMayGo d (l2_tables caches')) (sym same) (blocks_go (order_of caches) (l2_tables caches) (l2_tables caches') (λ all. clean all unmodified) may);
   may_go = λ may. subst (λ (d : Order.Direction). TablesMayGo d (refblocks caches')) (sym same) (tables_go (order_of caches) (refblocks caches) (refblocks caches') blocks may);
 }
-
--- a call of one cache
-module _ {S : Type 0} (view : S → StorageView) (old new : ImageStorage S) (caches : MetadataCaches S) (may_flush : Bool) (key : ℕ) where
-  -- an L2 table
-  module _ (l2 : Cache (L2CacheBackend S) ℕ L2TableView) (others : l2 ≡ with_entries caches.l2 l2.entries) (v : L2TableView) (value left : Option L2TableView) (is : value ≡ Some v) (answer : Result Bool (CacheError ℕ MetadataError))
-      (there : IfSome (lookup_entry (eqb key) caches.l2.entries) (λ e. IfSome value (λ v. Replaces (l2_steps (seen_by view) caches.l2.backend.header.fields) key e (remove_entry (eqb key) caches.l2.entries) v may_flush old caches.l2.entries answer new l2.entries left)))
-      (missing : IsNone (lookup (eqb key) caches.l2.entries) → IfSome value (λ v. InsertsNew (l2_steps (seen_by view) caches.l2.backend.header.fields) eqb caches.l2.size may_flush key v old caches.l2.entries answer new l2.entries left)) where
-    pub l2_put_step : KeepsPins eqb caches.l2.entries l2.entries → KeepsNotes view old new → OthersStay eqb key caches.l2.entries l2.entries → PutStep view old caches new (record caches { l2 = l2 }) (Some key)
-    l2_put_step pins notes stays = record {
-      marks = marks_of_both (marks_tables caches l2 others pins) refl notes;
-      header_cluster = λ above. table_put_behind view old new caches may_flush key above l2 v value left answer is others stays there missing;
-    }
-
-    -- it isn't taken
-    pub l2_kept_soundly : IsDistinct eqb (keys_of caches.l2.entries) → (may_flush ≡ true → TablesGo caches) → (answer ≡ Ok true → ⊥) → KeepsSoundly view old caches new (record caches { l2 = l2 })
-    l2_kept_soundly distinct may isnt = record {
-      keeps = λ h p honest sound. table_kept view old new caches may_flush key l2 others v value left is answer there missing may h p honest sound isnt;
-      apart = table_kept_apart view old new caches l2 others distinct may_flush key answer may v value left is there missing isnt;
-      ordered = table_put_in_order view old new caches may_flush key l2 v value left is answer there missing may;
-    }
-
-  -- a refblock
-  module _ (rb : Cache (RefBlockCacheBackend S) ℕ RefBlockView) (others : rb ≡ with_entries caches.rb rb.entries) (v : RefBlockView) (value left : Option RefBlockView) (is : value ≡ Some v) (answer : Result Bool (CacheError ℕ MetadataError))
-      (there : IfSome (lookup_entry (eqb key) caches.rb.entries) (λ e. IfSome value (λ v. Replaces (rb_steps (seen_by view) caches.rb.backend.header.fields) key e (remove_entry (eqb key) caches.rb.entries) v may_flush old caches.rb.entries answer new rb.entries left)))
-      (missing : IsNone (lookup (eqb key) caches.rb.entries) → IfSome value (λ v. InsertsNew (rb_steps (seen_by view) caches.rb.backend.header.fields) eqb caches.rb.size may_flush key v old caches.rb.entries answer new rb.entries left)) where
-    pub rb_put_step : KeepsPins eqb caches.rb.entries rb.entries → KeepsNotes view old new → OthersStay eqb key caches.rb.entries rb.entries → PutStep view old caches new (record caches { rb = rb }) (Some key)
-    rb_put_step pins notes stays = record {
-      marks = marks_of_both (marks_blocks caches rb others pins) refl notes;
-      header_cluster = λ above. block_put_behind view old new caches may_flush key above rb v value left answer is others stays there missing;
-    }
-
-    -- it isn't taken
-    pub rb_kept_soundly : IsDistinct eqb (keys_of caches.rb.entries) → (may_flush ≡ true → BlocksGo caches) → (answer ≡ Ok true → ⊥) → KeepsSoundly view old caches new (record caches { rb = rb })
-    rb_kept_soundly distinct may isnt = record {
-      keeps = λ h p honest sound. block_kept view old new caches may_flush key rb others v value left is answer there missing may h p honest sound isnt;
-      apart = block_kept_apart view old new caches rb others distinct may_flush key answer may v value left is there missing isnt;
-      ordered = block_put_in_order view old new caches may_flush key rb v value left is answer there missing may;
-    }

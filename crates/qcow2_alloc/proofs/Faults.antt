@@ -159,25 +159,6 @@ module _ {S : Type 0} (view : S → StorageView) (h : HeaderFields) where
   pub rb_flush_tells : (s t : ImageStorage S) (es fs : List (ℕ × Slot RefBlockView)) (answer : Result Unit₀ (CacheError ℕ MetadataError)) → Flushes (rb_steps seen h) s es answer t fs → FlushReports (faults_of view s) (faults_of view t) answer
   rb_flush_tells = flush_tells seen h.cluster_bits (λ (b : RefBlockView). b.bytes) (λ b. b.is_modified) cleared_rb (IsBlockOf h)
 
-  module _ (size : ℕ) (may_flush : Bool) (key : ℕ) (s t : ImageStorage S) where
-    pub l2_get_tells : (es fs : List (ℕ × Slot L2TableView)) (answer : Result Bool (CacheError ℕ MetadataError)) → (IsSome (lookup (eqb key) es) → (answer ≡ Ok true) × (fs ≡ promoted (eqb key) es) × (t ≡ s))
-        → (IsNone (lookup (eqb key) es) → GetsNew (l2_steps seen h) eqb size may_flush key s es answer t fs) → CacheReports (faults_of view s) (faults_of view t) answer
-    l2_get_tells = get_tells seen h.cluster_bits (λ (t : L2TableView). t.bytes) (λ t. t.is_modified) cleared_l2 (IsTableOf h) size may_flush key s t
-
-    pub rb_get_tells : (es fs : List (ℕ × Slot RefBlockView)) (answer : Result Bool (CacheError ℕ MetadataError)) → (IsSome (lookup (eqb key) es) → (answer ≡ Ok true) × (fs ≡ promoted (eqb key) es) × (t ≡ s))
-        → (IsNone (lookup (eqb key) es) → GetsNew (rb_steps seen h) eqb size may_flush key s es answer t fs) → CacheReports (faults_of view s) (faults_of view t) answer
-    rb_get_tells = get_tells seen h.cluster_bits (λ (b : RefBlockView). b.bytes) (λ b. b.is_modified) cleared_rb (IsBlockOf h) size may_flush key s t
-
-    pub l2_put_tells : (es fs : List (ℕ × Slot L2TableView)) (answer : Result Bool (CacheError ℕ MetadataError)) (value left : Option L2TableView) (P : Type 0) → (IsNone value → (answer ≡ Ok false) × P × (t ≡ s) × (left ≡ None))
-        → IfSome (lookup_entry (eqb key) es) (λ e. IfSome value (λ v. Replaces (l2_steps seen h) key e (remove_entry (eqb key) es) v may_flush s es answer t fs left))
-        → (IsNone (lookup (eqb key) es) → IfSome value (λ v. InsertsNew (l2_steps seen h) eqb size may_flush key v s es answer t fs left)) → CacheReports (faults_of view s) (faults_of view t) answer
-    l2_put_tells = put_tells seen h.cluster_bits (λ (t : L2TableView). t.bytes) (λ t. t.is_modified) cleared_l2 (IsTableOf h) size may_flush key s t
-
-    pub rb_put_tells : (es fs : List (ℕ × Slot RefBlockView)) (answer : Result Bool (CacheError ℕ MetadataError)) (value left : Option RefBlockView) (P : Type 0) → (IsNone value → (answer ≡ Ok false) × P × (t ≡ s) × (left ≡ None))
-        → IfSome (lookup_entry (eqb key) es) (λ e. IfSome value (λ v. Replaces (rb_steps seen h) key e (remove_entry (eqb key) es) v may_flush s es answer t fs left))
-        → (IsNone (lookup (eqb key) es) → IfSome value (λ v. InsertsNew (rb_steps seen h) eqb size may_flush key v s es answer t fs left)) → CacheReports (faults_of view s) (faults_of view t) answer
-    rb_put_tells = put_tells seen h.cluster_bits (λ (b : RefBlockView). b.bytes) (λ b. b.is_modified) cleared_rb (IsBlockOf h) size may_flush key s t
-
 module _ {S : Type 0} (view : S → StorageView) (s t : ImageStorage S) where
   -- a flush of all that was watched: where a failure is noted, that is told
   pub flush_refused : {T A : Type 0} (answer : Result A (CacheError ℕ MetadataError)) (e : CacheError ℕ MetadataError) (x : ImageError) → met_fault_of s ≡ false → RecordsFaults view s t → FlushReports (faults_of view s) (faults_of view t) answer → answer ≡ Err e

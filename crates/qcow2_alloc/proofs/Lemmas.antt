@@ -1,14 +1,14 @@
 -- The lemmas that several proofs cite, passed on from one place. Declares nothing.
 pub use Rattle.qcow2_alloc.proofs.AllocationSteps.{on_of, allocator_step_on, leaves_as, of_equal, on_none, handed_on, leaves_on, may_still, is_sound_on, takes_on, allocator_step_cached, is_sound_now, allocates_then, allocator_step_none, still_sound, allocator_step_as, still_as, place_fits, lacking_none, lacking_more, entries_entered, may_lower_still, counted_at, given_one, owed_counted, owed_has_block, named_then, named_covered, none_named, allocator_step_then, gets_then, gets_taken, none_in_memory, stands_none, gets_placed, lacking_clone, taken_one, names_refblock, fault_of_storage, table_loaded, entered_has, behind_none, entries_then, entries_less, other_range}
 pub use Rattle.qcow2_alloc.proofs.CachePins.{marks_tables, marks_blocks, marks_then}
-pub use Rattle.qcow2_alloc.proofs.CacheSteps.{cache_step_none, soundly_none, cache_step_then, soundly_then, step_in_turn, step_turned, soundly_turned, differ, l2_not_rb, neither_rb, held_none, load_step_on, load_step_then, fails_cache, fails_less, fails_putting, fails_of_tables, loads_of_tables, l2_got_step, l2_got_soundly, put_step_as, put_step_on, put_step_then, puts_refused, keeps_written, l2_put_step, l2_kept_soundly, rb_not_l2, neither_l2, rb_got_step, rb_got_soundly, rb_put_step, rb_kept_soundly, watched_step, watched_soundly, rb_flushed_step, rb_flushed_soundly, l2_flushed_step, l2_flushed_soundly}
+pub use Rattle.qcow2_alloc.proofs.CacheSteps.{cache_step_none, soundly_none, cache_step_then, soundly_then, step_in_turn, step_turned, soundly_turned, switched_at_once, switched_after, differ, l2_not_rb, neither_rb, held_none, load_step_on, load_step_then, fails_cache, fails_less, fails_putting, fails_of_tables, loads_of_tables, put_step_as, put_step_on, put_step_then, puts_refused, keeps_written, rb_not_l2, neither_l2, watched_step, watched_soundly, rb_flushed_step, rb_flushed_soundly, l2_flushed_step, l2_flushed_soundly}
 pub use Rattle.qcow2_alloc.proofs.CachedEntries.Flushing.{Flushing, flushing_more, flushing_all, length_flushed, flushed_at, failed_at}
 pub use Rattle.qcow2_alloc.proofs.CachedEntries.Knowing.{lookup-promoted, removed_apart, all_keeps, flushed_entry_keeps, failed_entry_keeps, hit_keeps, gets_keeps, inserted, replaced}
 pub use Rattle.qcow2_alloc.proofs.CachedEntries.Lists.{lookup-from_entry, pinned_kept, pinned_gone, demoted_front, removed_front, set_front, lookup_front, option_or-none, length-promoted, none_of, promoted_none, entry_none, length-pinned, none_is_none}
 pub use Rattle.qcow2_alloc.proofs.CachedEntries.Pins.{all_keep_pins, pins_promoted, gets_keep_pins, pins_same, inserts_keep_pins, replaces_keep_pins, pins_pinned, all_pinned}
 pub use Rattle.qcow2_alloc.proofs.CachedEntries.Staying.{stays_promoted, gets_stay, stays_same, inserts_stay, replaces_stay, stays_then, values_stay}
 pub use Rattle.qcow2_alloc.proofs.ChangedTables.{changed_by, entry_apart, entry_made_so, entry_set, entry_step, entry_there, if_some_then, stays, table_stays_apart, block_stays_apart, count_after, count_apart, count_set, count_step, count_there, unchanged_by}
-pub use Rattle.qcow2_alloc.proofs.Faults.{l2_get_tells, l2_put_tells, rb_get_tells, rb_put_tells, flush_refused, told_as, rb_flush_tells, l2_flush_tells}
+pub use Rattle.qcow2_alloc.proofs.Faults.{flush_refused, told_as, rb_flush_tells, l2_flush_tells}
 pub use Rattle.qcow2_alloc.proofs.FileInvariants.{file_invariant_of, file_fits}
 pub use Rattle.qcow2_alloc.proofs.FileSteps.{pending_same, one_here, leaves_then, file_step_on, on_then, on_interrupted_after, file_step_cached, reftable_cached, file_step_then, interrupted_then}
 pub use Rattle.qcow2_alloc.proofs.FormerReftables.{former_none, former_one, former_still}
@@ -35,10 +35,10 @@ pub use Rattle.qcow2_alloc.proofs.KeptTables.Loaded.{loaded_beside}
 pub use Rattle.qcow2_alloc.proofs.KeptTables.Mapping.{bits_is, covers_known}
 pub use Rattle.qcow2_alloc.proofs.KeptTables.Named.{AreCurrentIn, loaded_named, current_none}
 pub use Rattle.qcow2_alloc.proofs.KeptTables.Off.{left_of, left_err, tables_taken, blocks_taken, removed_others, removed_marks, removed_takes, removed_clean, removed_gone}
-pub use Rattle.qcow2_alloc.proofs.KeptTables.Places.{put_places, named_have_places, places_as}
+pub use Rattle.qcow2_alloc.proofs.KeptTables.Places.{put_places, named_have_places}
 pub use Rattle.qcow2_alloc.proofs.KeptTables.Putting.{put_at_last, laid_then, table_kept, table_laid}
 pub use Rattle.qcow2_alloc.proofs.KeptTables.PuttingBlocks.{block_kept, block_laid}
-pub use Rattle.qcow2_alloc.proofs.KeptTables.Quiet.{quiet_none, quiet_then, next_table, table_got_quietly, table_waits, table_got_same, table_eviction, table_put_quietly, table_put_waits, table_put_same, next_block, block_got_quietly, block_waits, block_got_same, block_eviction, block_put_quietly, block_put_waits, block_put_same, blocks_quiet, tables_quiet}
+pub use Rattle.qcow2_alloc.proofs.KeptTables.Quiet.{quiet_none, quiet_then, blocks_quiet, tables_quiet}
 pub use Rattle.qcow2_alloc.proofs.KeptTables.Standing.{own_cluster}
 pub use Rattle.qcow2_alloc.proofs.KeptTables.Switching.{tables_free, blocks_free, tables_clean, blocks_either, both_written, blocks_clean, blocks_still, always_ok, may_l2_depend, stay_then, may_rb_depend}
 pub use Rattle.qcow2_alloc.proofs.Limits.{cause_as, count_back, host_of_few, host_below, is_able, placed_fault, range_near, fault_or, grown_why, not_below, full_behind, limit_is_no_fault}

@@ -52,6 +52,7 @@ pub mod RecordedFaults
 pub mod KeptMarks
 pub mod Steps
 pub mod CacheSteps
+pub mod Tries
 pub mod ChangedTables
 pub mod Marks
 pub mod Uses

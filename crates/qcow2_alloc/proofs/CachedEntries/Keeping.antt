@@ -93,10 +93,6 @@ module _ {B V : Type 0} (is_modified : V → Bool) (key : ℕ) (cache : Cache B 
 
 module _ {B V S E : Type 0} (key : ℕ) (cache cache' : Cache B ℕ V) (s t : S) (r : Result Bool (CacheError ℕ E))
     (hit : IsSome (lookup (eqb key) cache.entries) → (r ≡ Ok true) × (cache'.entries ≡ promoted (eqb key) cache.entries) × (t ≡ s)) where
-  -- a call that isn't done found no entry
-  pub not_hit : (r ≡ Ok true → ⊥) → IsSome (value_at (eqb key) cache.entries) → ⊥
-  not_hit other there = other (hit (slot_there (lookup (eqb key) cache.entries) there)).0
-
   module _ (steps : Steps S ℕ V E) (may_flush : Bool) (is_modified : V → Bool) (fresh : (q u : S) (v : V) → steps.loaded q key v u → is_modified v ≡ false)
       (miss : IsNone (lookup (eqb key) cache.entries) → GetsNew steps eqb cache.size may_flush key s cache.entries r t cache'.entries) (stays : OthersStay eqb key cache.entries cache'.entries) where
     loads_case : (c : ℕ) (b : Bool) → eqb key c ≡ b → IsAsBefore is_modified (value_at (eqb c) cache.entries) (value_at (eqb c) cache'.entries)

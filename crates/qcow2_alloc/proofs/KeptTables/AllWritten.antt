@@ -1,9 +1,9 @@
 -- If no cached table is modified, none is afterwards, and nothing is written, whatever the tables hold.
 use Rattle.std.proofs.Common.{◌≡◌, ℕ, Bool, true, eqb, Result, Ok, IsSome, ap}
-use Rattle.qcow2_alloc.proofs.Common.{IsNone, lookup, promoted, StorageView, MetadataError, L2TableView, RefBlockView, CacheError, L2CacheBackend, RefBlockCacheBackend, MetadataCaches, ImageStorage, Cache, Unit₀, Flushes, GetsNew, storage_of, l2_steps, rb_steps, KeepAllWritten}
+use Rattle.qcow2_alloc.proofs.Common.{IsNone, lookup, promoted, StorageView, MetadataError, L2TableView, RefBlockView, CacheError, L2CacheBackend, RefBlockCacheBackend, MetadataCaches, ImageStorage, Cache, Unit₀, Flushes, GetsNew, storage_of, l2_steps, rb_steps, cleared_l2, cleared_rb, IsTableOf, IsBlockOf, KeepAllWritten}
 use Rattle.qcow2_alloc.specs.declared.cache.Direction.{Direction}
 use Rattle.qcow2_alloc.proofs.KeptTables.Clean.{clean_as, clean_next, flush_clean, get_clean}
-use Rattle.qcow2_alloc.proofs.KeptTables.Quiet.{quiet_none, quiet_then, tables_quiet, blocks_quiet, block_got_quietly, table_got_quietly}
+use Rattle.qcow2_alloc.proofs.KeptTables.Quiet.{quiet_none, quiet_then, tables_quiet, blocks_quiet, get_quiet}
 
 module _ {S : Type 0} (view : S → StorageView) where
   -- no call at all, and one call after another
@@ -53,7 +53,7 @@ module _ {S : Type 0} (view : S → StorageView) where
             caches.l2.entries l2.entries (clean_as _ _ (λ (t : L2TableView). t.bytes) (λ t. t.is_modified) caches.l2.entries all.0) answer hit miss,
         all.1,
       );
-      quiet = λ all. table_got_quietly view old new caches may_flush key l2 answer hit miss (λ may. clean_next _ (λ (t : L2TableView). t.bytes) (λ t. t.is_modified) caches.l2.entries all.0);
+      quiet = λ all. get_quiet (λ s. view (storage_of s)) caches.l2.backend.header.fields.cluster_bits (λ (t : L2TableView). t.bytes) (λ t. t.is_modified) cleared_l2 (IsTableOf caches.l2.backend.header.fields) caches.l2.size may_flush old caches.l2.entries (λ may. clean_next _ (λ (t : L2TableView). t.bytes) (λ t. t.is_modified) caches.l2.entries all.0) new l2.entries key answer hit miss;
     }
 
     -- a load of a refblock
@@ -67,7 +67,7 @@ module _ {S : Type 0} (view : S → StorageView) where
         get_clean (rb_steps (λ s. view (storage_of s)) caches.rb.backend.header.fields) rb.backend.header.fields.cluster_bits (λ (b : RefBlockView). b.bytes) (λ b. b.is_modified) (λ s t k v h. h.unmodified) caches.rb.size may_flush key old new
             caches.rb.entries rb.entries (clean_as _ _ (λ (b : RefBlockView). b.bytes) (λ b. b.is_modified) caches.rb.entries all.1) answer hit miss,
       );
-      quiet = λ all. block_got_quietly view old new caches may_flush key rb answer hit miss (λ may. clean_next _ (λ (b : RefBlockView). b.bytes) (λ b. b.is_modified) caches.rb.entries all.1);
+      quiet = λ all. get_quiet (λ s. view (storage_of s)) caches.rb.backend.header.fields.cluster_bits (λ (b : RefBlockView). b.bytes) (λ b. b.is_modified) cleared_rb (IsBlockOf caches.rb.backend.header.fields) caches.rb.size may_flush old caches.rb.entries (λ may. clean_next _ (λ (b : RefBlockView). b.bytes) (λ b. b.is_modified) caches.rb.entries all.1) new rb.entries key answer hit miss;
     }
 
 -- so are those whose direction is turned

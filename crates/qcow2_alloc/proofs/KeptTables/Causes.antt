@@ -1,10 +1,10 @@
 -- Why calls of the caches are refused, whatever they hold; and on sound caches.
-use Rattle.std.proofs.Common.{◌≡◌, ◌⊎◌, ◌<◌, ◌≤◌, ◌^◌, arith, inl, inr, ℕ, Bool, true, false, eqb, List, [], length, Option, Some, Result, Ok, Err, IfErr, IsErr, IsErrAnd, IsSome, refl, sym, ◌∙◌, subst, IfSome}
-use Rattle.qcow2_alloc.proofs.Common.{IsNone, lookup, lookup_entry, remove_entry, promoted, StorageView, Bytes, MetadataError, HeaderFields, L2TableView, RefBlockView, HasPlace, IsOfStorageOrMemory, Pending, AreNamedBlocks, Slot, CacheError, InUse, StillInUse, Memory, Backend, L2CacheBackend, RefBlockCacheBackend, MetadataCaches, with_entries, ImageError, ImageStorage, Cache, pinned, Steps, Unit₀, Flushes, GetsNew, InsertsNew, Replaces, CachesHaveRoom, AreAllPinned, IsInUseOrFault, of_metadata, of_cache, IsFault, IsFaultOr, TablesFit, BlocksFit, AllFit, AreBlocksPinned, MayFailInsertingL2, MayFailInsertingRb, MayFailLoadingL2, MayFailLoadingRb, IsOfTables, IsOfTable, storage_of, l2_steps, rb_steps, cleared_l2, cleared_rb, IsTableOf, IsBlockOf, HavePlaces, CacheInvariant, err_of, FailsFor, IsFreeOf, HasL2, l2_tables, refblocks}
+use Rattle.std.proofs.Common.{◌≡◌, ◌⊎◌, ◌≤◌, ◌^◌, arith, inl, inr, ℕ, Bool, true, false, eqb, List, [], length, Option, Some, Result, Ok, Err, IfErr, IsErr, IsErrAnd, IsSome, refl, sym, ◌∙◌, subst, IfSome}
+use Rattle.qcow2_alloc.proofs.Common.{IsNone, lookup, lookup_entry, remove_entry, promoted, StorageView, Bytes, MetadataError, HeaderFields, L2TableView, RefBlockView, HasPlace, IsOfStorageOrMemory, Pending, AreNamedBlocks, Slot, CacheError, InUse, StillInUse, Memory, Backend, L2CacheBackend, RefBlockCacheBackend, MetadataCaches, with_entries, ImageError, ImageStorage, Cache, pinned, Steps, Unit₀, Flushes, GetsNew, InsertsNew, Replaces, CachesHaveRoom, AreAllPinned, IsInUseOrFault, of_metadata, of_cache, IsFault, IsFaultOr, TablesFit, BlocksFit, AllFit, AreBlocksPinned, MayFailInsertingL2, MayFailInsertingRb, MayFailLoadingL2, MayFailLoadingRb, IsOfTables, IsOfTable, storage_of, l2_steps, rb_steps, cleared_l2, cleared_rb, IsTableOf, IsBlockOf, HavePlaces, CacheInvariant, err_of, FailsFor, IsFreeOf, l2_tables, refblocks}
 use Rattle.image_access.specs.declared.error.StorageError.TheVariants as S
 use Rattle.qcow2_metadata.specs.declared.error.MetadataError.TheVariants as M
 use Rattle.qcow2_alloc.specs.declared.error.ImageError.TheVariants as I
-use Rattle.qcow2_alloc.proofs.CachedEntries.Pins.{free_eviction, all_pinned}
+use Rattle.qcow2_alloc.proofs.CachedEntries.Pins.{all_pinned}
 use Rattle.qcow2_alloc.proofs.KeptTables.Flushing.{table_still, block_still}
 use Rattle.qcow2_alloc.proofs.KeptTables.Inserting.{found_or_not, lookup_none}
 use Rattle.qcow2_alloc.proofs.KeptTables.Fetching.{none_or_some}
@@ -63,16 +63,16 @@ pub blocks_fit_as : {S : Type 0} (a b : MetadataCaches S) → b.rb ≡ a.rb → 
 blocks_fit_as {S} a b same fit = subst (λ (rb : Cache (RefBlockCacheBackend S) ℕ RefBlockView). BlocksFit (record a { rb = rb })) (sym same) fit
 
 -- why a table is not loaded or inserted, by the tables of its kind alone
-abbrev TableLoads : {S : Type 0} → MetadataCaches S → Cache (L2CacheBackend S) ℕ L2TableView → ℕ → ImageError → Type 0
+abbrev pub TableLoads : {S : Type 0} → MetadataCaches S → Cache (L2CacheBackend S) ℕ L2TableView → ℕ → ImageError → Type 0
 TableLoads caches l2 key e = ((e ≡ I.InUse) × (AreAllPinned caches × AreAllPinned (record caches { l2 = l2 }))) ⊎ IsFaultOr (¬ (TablesFit caches × HasPlace caches.l2.backend.header.fields.cluster_bits key)) e
 
-abbrev TablePuts : {S : Type 0} → MetadataCaches S → ImageError → Type 0
+abbrev pub TablePuts : {S : Type 0} → MetadataCaches S → ImageError → Type 0
 TablePuts caches e = ((e ≡ I.InUse) × AreAllPinned caches) ⊎ IsFaultOr (¬ TablesFit caches) e
 
-abbrev BlockLoads : {S : Type 0} → MetadataCaches S → ℕ → ImageError → Type 0
+abbrev pub BlockLoads : {S : Type 0} → MetadataCaches S → ℕ → ImageError → Type 0
 BlockLoads caches key e = ((e ≡ I.InUse) × AreBlocksPinned caches) ⊎ IsFaultOr (¬ (BlocksFit caches × HasPlace caches.rb.backend.header.fields.cluster_bits key)) e
 
-abbrev BlockPuts : {S : Type 0} → MetadataCaches S → ImageError → Type 0
+abbrev pub BlockPuts : {S : Type 0} → MetadataCaches S → ImageError → Type 0
 BlockPuts caches e = ((e ≡ I.InUse) × AreBlocksPinned caches) ⊎ IsFaultOr (¬ BlocksFit caches) e
 
 -- so it is of other caches with the same tables of that kind

@@ -1,10 +1,9 @@
 -- Nothing is written if nothing has to be.
-use Rattle.std.proofs.Common.{◌≡◌, ◌≤◌, ◌∷◌, inl, inr, ℕ, Bool, true, false, eqb, List, [], length, Option, Some, None, Result, Ok, Err, IsSome, refl, sym, ap, ◌∙◌, subst, arith, IfSome}
-use Rattle.qcow2_alloc.proofs.Common.{IsNone, option_map, lookup, lookup_entry, remove_entry, promoted, StorageError, StorageView, Calls, QuietCalls, ContentsStay, passes_none, passes_on, passes_if, MetadataError, L2TableView, RefBlockView, AreClean, BlocksMayGo, TablesMayGo, Slot, CacheError, InUse, StillInUse, Memory, Backend, L2CacheBackend, RefBlockCacheBackend, MetadataCaches, ImageStorage, Cache, oldest_free, with_entries, Unit₀, FlushesEntry, FlushesAll, Flushes, HasRoomForEntry, HasNoRoom, GetsNew, InsertsNew, Replaces, storage_of, answer_done, table_steps, l2_steps, rb_steps, cleared_l2, cleared_rb, IsTableOf, IsBlockOf, cached_tables, order_of, l2_tables, refblocks, IsQuiet, NextIsClean, WritesNothing, TableGoesQuietly, BlockGoesQuietly, GetsTableQuietly, GetsBlockQuietly, PutsTableQuietly, PutsBlockQuietly}
+use Rattle.std.proofs.Common.{◌≡◌, ◌≤◌, ◌∷◌, inl, inr, ℕ, Bool, true, false, eqb, List, [], length, Option, Some, None, Result, Ok, Err, IsSome, refl, sym, ap, ◌∙◌, subst, IfSome}
+use Rattle.qcow2_alloc.proofs.Common.{IsNone, option_map, lookup, lookup_entry, remove_entry, promoted, StorageError, StorageView, Calls, QuietCalls, ContentsStay, passes_none, passes_on, passes_if, MetadataError, L2TableView, RefBlockView, AreClean, Slot, CacheError, InUse, StillInUse, Memory, Backend, L2CacheBackend, RefBlockCacheBackend, MetadataCaches, ImageStorage, Cache, oldest_free, Unit₀, FlushesEntry, FlushesAll, Flushes, HasRoomForEntry, HasNoRoom, GetsNew, InsertsNew, Replaces, storage_of, answer_done, table_steps, l2_steps, rb_steps, cleared_l2, cleared_rb, IsTableOf, IsBlockOf, cached_tables, l2_tables, refblocks, IsQuiet, NextIsClean, WritesNothing}
 use Rattle.qcow2_alloc.proofs.KeptTables.Fetching.{none_or_some}
 use Rattle.qcow2_alloc.proofs.KeptTables.Inserting.{found_or_not, lookup_none}
 use Rattle.qcow2_alloc.proofs.CachedEntries.Lists.{lookup-from_entry}
-use Rattle.qcow2_alloc.proofs.KeptTables.Causes.{not_fetched, not_put}
 
 -- ---- calls one after another
 
@@ -158,42 +157,21 @@ module _ {S V : Type 0} (view : S → StorageView) (bits : ℕ) (bytes : V → L
 -- ---- the caches
 
 -- what is held isn't missing
-new_data_not_missing : {V : Type 0} (o : Option (Slot V)) → IsSome (option_map (λ s. s.value) o) → IsNone o → ⊥
+pub new_data_not_missing : {V : Type 0} (o : Option (Slot V)) → IsSome (option_map (λ s. s.value) o) → IsNone o → ⊥
 new_data_not_missing None there none = cc
 new_data_not_missing (Some s) there none = cc
 
-value_missing : {V : Type 0} (o : Option (Slot V)) → IsNone (option_map (λ s. s.value) o) → IsNone o
+pub value_missing : {V : Type 0} (o : Option (Slot V)) → IsNone (option_map (λ s. s.value) o) → IsNone o
 value_missing None none = refl
 value_missing (Some s) none = cc
 
-value_clean : {V : Type 0} (is_modified : V → Bool) (o : Option (Slot V)) → IfSome (option_map (λ s. s.value) o) (λ v. is_modified v ≡ false) → IfSome o (λ d. is_modified d.value ≡ false)
+pub value_clean : {V : Type 0} (is_modified : V → Bool) (o : Option (Slot V)) → IfSome (option_map (λ s. s.value) o) (λ v. is_modified v ≡ false) → IfSome o (λ d. is_modified d.value ≡ false)
 value_clean is_modified None clean = tt
 value_clean is_modified (Some s) clean = clean
 
-none_clean : {V : Type 0} (is_modified : V → Bool) (o : Option (Slot V)) → IsNone o → IfSome o (λ d. is_modified d.value ≡ false)
+pub none_clean : {V : Type 0} (is_modified : V → Bool) (o : Option (Slot V)) → IsNone o → IfSome o (λ d. is_modified d.value ≡ false)
 none_clean is_modified None none = tt
 none_clean is_modified (Some s) none = cc
-
--- what goes is unmodified, in a cache of L2 tables, or of refblocks
-abbrev TableGoesClean : {S : Type 0} → Cache (L2CacheBackend S) ℕ L2TableView → ℕ → Type 0
-TableGoesClean l2 key = IfSome (lookup (eqb key) l2.entries) (λ d. d.value.is_modified ≡ false) × (IsNone (lookup (eqb key) l2.entries) → NextIsClean (λ (t : L2TableView). t.is_modified) l2.entries)
-
-abbrev BlockGoesClean : {S : Type 0} → Cache (RefBlockCacheBackend S) ℕ RefBlockView → ℕ → Type 0
-BlockGoesClean rb key = IfSome (lookup (eqb key) rb.entries) (λ d. d.value.is_modified ≡ false) × (IsNone (lookup (eqb key) rb.entries) → NextIsClean (λ (b : RefBlockView). b.is_modified) rb.entries)
-
--- so in one that is the same
-module _ {S : Type 0} where
-  pub next_table : (a b : Cache (L2CacheBackend S) ℕ L2TableView) → b ≡ a → NextIsClean (λ (t : L2TableView). t.is_modified) a.entries → NextIsClean (λ (t : L2TableView). t.is_modified) b.entries
-  next_table a b same next = subst (λ (c : Cache (L2CacheBackend S) ℕ L2TableView). NextIsClean (λ (t : L2TableView). t.is_modified) c.entries) (sym same) next
-
-  pub next_block : (a b : Cache (RefBlockCacheBackend S) ℕ RefBlockView) → b ≡ a → NextIsClean (λ (t : RefBlockView). t.is_modified) a.entries → NextIsClean (λ (t : RefBlockView). t.is_modified) b.entries
-  next_block a b same next = subst (λ (c : Cache (RefBlockCacheBackend S) ℕ RefBlockView). NextIsClean (λ (t : RefBlockView). t.is_modified) c.entries) (sym same) next
-
-  pub table_eviction : (a b : Cache (L2CacheBackend S) ℕ L2TableView) (key : ℕ) → b ≡ a → TableGoesClean a key → TableGoesClean b key
-  table_eviction a b key same eviction = subst (λ (c : Cache (L2CacheBackend S) ℕ L2TableView). TableGoesClean c key) (sym same) eviction
-
-  pub block_eviction : (a b : Cache (RefBlockCacheBackend S) ℕ RefBlockView) (key : ℕ) → b ≡ a → BlockGoesClean a key → BlockGoesClean b key
-  block_eviction a b key same eviction = subst (λ (c : Cache (RefBlockCacheBackend S) ℕ RefBlockView). BlockGoesClean c key) (sym same) eviction
 
 module _ {S : Type 0} (view : S → StorageView) (old new : ImageStorage S) (caches : MetadataCaches S) where
   abbrev seen : ImageStorage S → StorageView
@@ -207,88 +185,3 @@ module _ {S : Type 0} (view : S → StorageView) (old new : ImageStorage S) (cac
   pub blocks_quiet : (rb : Cache (RefBlockCacheBackend S) ℕ RefBlockView) (answer : Result Unit₀ (CacheError ℕ MetadataError)) → Flushes (rb_steps seen caches.rb.backend.header.fields) old caches.rb.entries answer new rb.entries
       → AreClean (refblocks caches) → WritesNothing view old new
   blocks_quiet rb answer flushes clean = flush_quiet seen caches.rb.backend.header.fields.cluster_bits (λ (b : RefBlockView). b.bytes) (λ b. b.is_modified) cleared_rb (IsBlockOf caches.rb.backend.header.fields) old new caches.rb.entries rb.entries answer flushes clean
-
-  module _ (may_flush : Bool) (key : ℕ) where
-    -- ---- an L2 table is loaded
-    module _ (l2 : Cache (L2CacheBackend S) ℕ L2TableView) (answer : Result Bool (CacheError ℕ MetadataError))
-        (hit : IsSome (lookup (eqb key) caches.l2.entries) → (answer ≡ Ok true) × (l2.entries ≡ promoted (eqb key) caches.l2.entries) × (new ≡ old))
-        (miss : IsNone (lookup (eqb key) caches.l2.entries) → GetsNew (l2_steps seen caches.l2.backend.header.fields) eqb caches.l2.size may_flush key old caches.l2.entries answer new l2.entries) where
-      pub table_got_quietly : (may_flush ≡ true → NextIsClean (λ (t : L2TableView). t.is_modified) caches.l2.entries) → WritesNothing view old new
-      table_got_quietly next = get_quiet seen caches.l2.backend.header.fields.cluster_bits (λ (t : L2TableView). t.bytes) (λ t. t.is_modified) cleared_l2 (IsTableOf caches.l2.backend.header.fields) caches.l2.size may_flush old caches.l2.entries next new l2.entries key answer hit miss
-
-      pub table_waits : answer ≡ Ok false → GetsTableQuietly caches key → TableGoesQuietly caches
-      table_waits refused may =
-          let waits = get_waits seen caches.l2.backend.header.fields.cluster_bits (λ (t : L2TableView). t.bytes) (λ t. t.is_modified) cleared_l2 (IsTableOf caches.l2.backend.header.fields) caches.l2.size may_flush old new caches.l2.entries l2.entries key answer refused hit miss in
-          elim may [
-            | inl there ↦ absurd (new_data_not_missing (lookup (eqb key) caches.l2.entries) there waits.0)
-            | inr room ↦ elim room [
-              | inl some ↦ absurd (let full = waits.1 in omega arith)
-              | inr eviction ↦ eviction
-            ]
-          ]
-
-      pub table_got_same : l2 ≡ with_entries caches.l2 l2.entries → answer ≡ Ok false → l2 ≡ caches.l2
-      table_got_same others refused = others ∙ ap (with_entries caches.l2) (not_fetched (l2_steps seen caches.l2.backend.header.fields) caches.l2.size may_flush key old new caches.l2.entries l2.entries answer refused hit miss)
-
-    -- ---- a refblock is loaded
-    module _ (rb : Cache (RefBlockCacheBackend S) ℕ RefBlockView) (answer : Result Bool (CacheError ℕ MetadataError))
-        (hit : IsSome (lookup (eqb key) caches.rb.entries) → (answer ≡ Ok true) × (rb.entries ≡ promoted (eqb key) caches.rb.entries) × (new ≡ old))
-        (miss : IsNone (lookup (eqb key) caches.rb.entries) → GetsNew (rb_steps seen caches.rb.backend.header.fields) eqb caches.rb.size may_flush key old caches.rb.entries answer new rb.entries) where
-      pub block_got_quietly : (may_flush ≡ true → NextIsClean (λ (b : RefBlockView). b.is_modified) caches.rb.entries) → WritesNothing view old new
-      block_got_quietly next = get_quiet seen caches.rb.backend.header.fields.cluster_bits (λ (b : RefBlockView). b.bytes) (λ b. b.is_modified) cleared_rb (IsBlockOf caches.rb.backend.header.fields) caches.rb.size may_flush old caches.rb.entries next new rb.entries key answer hit miss
-
-      pub block_waits : answer ≡ Ok false → GetsBlockQuietly caches key → BlockGoesQuietly caches
-      block_waits refused may =
-          let waits = get_waits seen caches.rb.backend.header.fields.cluster_bits (λ (b : RefBlockView). b.bytes) (λ b. b.is_modified) cleared_rb (IsBlockOf caches.rb.backend.header.fields) caches.rb.size may_flush old new caches.rb.entries rb.entries key answer refused hit miss in
-          elim may [
-            | inl there ↦ absurd (new_data_not_missing (lookup (eqb key) caches.rb.entries) there waits.0)
-            | inr room ↦ elim room [
-              | inl some ↦ absurd (let full = waits.1 in omega arith)
-              | inr eviction ↦ eviction
-            ]
-          ]
-
-      pub block_got_same : rb ≡ with_entries caches.rb rb.entries → answer ≡ Ok false → rb ≡ caches.rb
-      block_got_same others refused = others ∙ ap (with_entries caches.rb) (not_fetched (rb_steps seen caches.rb.backend.header.fields) caches.rb.size may_flush key old new caches.rb.entries rb.entries answer refused hit miss)
-
-    -- ---- an L2 table is put in
-    module _ (l2 : Cache (L2CacheBackend S) ℕ L2TableView) (v : L2TableView) (value left : Option L2TableView) (is : value ≡ Some v) (answer : Result Bool (CacheError ℕ MetadataError))
-        (there : IfSome (lookup_entry (eqb key) caches.l2.entries) (λ e. IfSome value (λ v. Replaces (l2_steps seen caches.l2.backend.header.fields) key e (remove_entry (eqb key) caches.l2.entries) v may_flush old caches.l2.entries answer new l2.entries left)))
-        (missing : IsNone (lookup (eqb key) caches.l2.entries) → IfSome value (λ v. InsertsNew (l2_steps seen caches.l2.backend.header.fields) eqb caches.l2.size may_flush key v old caches.l2.entries answer new l2.entries left)) where
-      pub table_put_quietly : (may_flush ≡ true → TableGoesClean caches.l2 key) → WritesNothing view old new
-      table_put_quietly eviction = put_quiet seen caches.l2.backend.header.fields.cluster_bits (λ (t : L2TableView). t.bytes) (λ t. t.is_modified) cleared_l2 (IsTableOf caches.l2.backend.header.fields) caches.l2.size may_flush old caches.l2.entries new l2.entries key v value left is answer eviction there missing
-
-      pub table_put_waits : answer ≡ Ok false → PutsTableQuietly caches key → TablesMayGo (order_of caches) (refblocks caches) × TableGoesClean caches.l2 key
-      table_put_waits refused may = elim may [
-        | inl gone ↦
-            let none = value_missing (lookup (eqb key) caches.l2.entries) gone.0 in
-            elim gone.1 [
-              | inl some ↦ absurd (let full = put_waits seen caches.l2.backend.header.fields.cluster_bits (λ (t : L2TableView). t.bytes) (λ t. t.is_modified) cleared_l2 (IsTableOf caches.l2.backend.header.fields) caches.l2.size may_flush old new caches.l2.entries l2.entries key answer refused v value left is missing none in omega arith)
-              | inr eviction ↦ (eviction.0, (none_clean (λ (t : L2TableView). t.is_modified) (lookup (eqb key) caches.l2.entries) none, λ _. eviction.1))
-            ]
-        | inr new_data ↦ (new_data.0, (value_clean (λ (t : L2TableView). t.is_modified) (lookup (eqb key) caches.l2.entries) new_data.1, λ none. absurd (new_data_not_missing (lookup (eqb key) caches.l2.entries) new_data.2 none)))
-      ]
-
-      pub table_put_same : l2 ≡ with_entries caches.l2 l2.entries → answer ≡ Ok false → l2 ≡ caches.l2
-      table_put_same others refused = others ∙ ap (with_entries caches.l2) (not_put (l2_steps seen caches.l2.backend.header.fields) caches.l2.size may_flush key old new caches.l2.entries l2.entries answer refused v value left is there missing)
-
-    -- ---- a refblock is put in
-    module _ (rb : Cache (RefBlockCacheBackend S) ℕ RefBlockView) (v : RefBlockView) (value left : Option RefBlockView) (is : value ≡ Some v) (answer : Result Bool (CacheError ℕ MetadataError))
-        (there : IfSome (lookup_entry (eqb key) caches.rb.entries) (λ e. IfSome value (λ v. Replaces (rb_steps seen caches.rb.backend.header.fields) key e (remove_entry (eqb key) caches.rb.entries) v may_flush old caches.rb.entries answer new rb.entries left)))
-        (missing : IsNone (lookup (eqb key) caches.rb.entries) → IfSome value (λ v. InsertsNew (rb_steps seen caches.rb.backend.header.fields) eqb caches.rb.size may_flush key v old caches.rb.entries answer new rb.entries left)) where
-      pub block_put_quietly : (may_flush ≡ true → BlockGoesClean caches.rb key) → WritesNothing view old new
-      block_put_quietly eviction = put_quiet seen caches.rb.backend.header.fields.cluster_bits (λ (b : RefBlockView). b.bytes) (λ b. b.is_modified) cleared_rb (IsBlockOf caches.rb.backend.header.fields) caches.rb.size may_flush old caches.rb.entries new rb.entries key v value left is answer eviction there missing
-
-      pub block_put_waits : answer ≡ Ok false → PutsBlockQuietly caches key → BlocksMayGo (order_of caches) (l2_tables caches) × BlockGoesClean caches.rb key
-      block_put_waits refused may = elim may [
-        | inl gone ↦
-            let none = value_missing (lookup (eqb key) caches.rb.entries) gone.0 in
-            elim gone.1 [
-              | inl some ↦ absurd (let full = put_waits seen caches.rb.backend.header.fields.cluster_bits (λ (b : RefBlockView). b.bytes) (λ b. b.is_modified) cleared_rb (IsBlockOf caches.rb.backend.header.fields) caches.rb.size may_flush old new caches.rb.entries rb.entries key answer refused v value left is missing none in omega arith)
-              | inr eviction ↦ (eviction.0, (none_clean (λ (b : RefBlockView). b.is_modified) (lookup (eqb key) caches.rb.entries) none, λ _. eviction.1))
-            ]
-        | inr new_data ↦ (new_data.0, (value_clean (λ (b : RefBlockView). b.is_modified) (lookup (eqb key) caches.rb.entries) new_data.1, λ none. absurd (new_data_not_missing (lookup (eqb key) caches.rb.entries) new_data.2 none)))
-      ]
-
-      pub block_put_same : rb ≡ with_entries caches.rb rb.entries → answer ≡ Ok false → rb ≡ caches.rb
-      block_put_same others refused = others ∙ ap (with_entries caches.rb) (not_put (rb_steps seen caches.rb.backend.header.fields) caches.rb.size may_flush key old new caches.rb.entries rb.entries answer refused v value left is there missing)

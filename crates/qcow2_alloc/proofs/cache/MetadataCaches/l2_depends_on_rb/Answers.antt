@@ -1,65 +1,38 @@
 use Rattle.qcow2_alloc.proofs.Common.{inl, inr, refl, ap, ◌∙◌, subst, BlocksMayGo, Direction, order, l2_tables}
 use Rattle.qcow2_alloc.specs.declared.cache.Direction.TheVariants as D
-use Rattle.qcow2_alloc.proofs.Lemmas.{cache_step_none, step_in_turn, step_turned, soundly_none, soundly_turned, differ, l2_not_rb, neither_rb, quiet_none, tables_free, may_l2_depend, on_err, on_no_ok, fails_ok, fails_on}
+use Rattle.qcow2_alloc.proofs.Lemmas.{cache_step_none, step_in_turn, step_turned, soundly_none, soundly_turned, switched_at_once, switched_after, differ, l2_not_rb, neither_rb, tables_free, may_l2_depend, on_err, on_no_ok, fails_ok, fails_on}
 use Rattle.qcow2_alloc.proofs.cache.MetadataCaches.l2_depends_on_rb.Goals.{in-RbDependsOnL2+in_ok-write_tables-in-RbDependsOnL2, in-L2DependsOnRb, in-None}
 use Rattle.qcow2_alloc.proofs.cache.MetadataCaches.l2_depends_on_rb.Goals as goal
 
-pub returns-in_err-write_tables-in-RbDependsOnL2-clause-step : goal.returns-in_err-write_tables-in-RbDependsOnL2-clause-step
-returns-in_err-write_tables-in-RbDependsOnL2-clause-step g c = step_in_turn c.write_tables.ensures.step
-
-pub returns-in_err-write_tables-in-RbDependsOnL2-clause-fails : goal.returns-in_err-write_tables-in-RbDependsOnL2-clause-fails
-returns-in_err-write_tables-in-RbDependsOnL2-clause-fails g c = fails_on c.from_residual.result c.in_err-write_tables-in-RbDependsOnL2.field-0.0 c.from_residual.ensures c.in_err-write_tables-in-RbDependsOnL2.ensures.fails
-
-pub returns-in_err-write_tables-in-RbDependsOnL2-clause-sound : goal.returns-in_err-write_tables-in-RbDependsOnL2-clause-sound
-returns-in_err-write_tables-in-RbDependsOnL2-clause-sound g c = c.write_tables.ensures.sound (tables_free c.args.self.now (inr c.in-RbDependsOnL2.is))
-
 -- only the tables that are written can refuse it
-pub returns-in_err-write_tables-in-RbDependsOnL2-clause-turns : goal.returns-in_err-write_tables-in-RbDependsOnL2-clause-turns
-returns-in_err-write_tables-in-RbDependsOnL2-clause-turns g c = record {
-  order = on_no_ok _ c.from_residual.result c.in_err-write_tables-in-RbDependsOnL2.field-0.0 c.from_residual.ensures;
-  refused = on_err _ c.from_residual.result c.write_tables.ensures.step.marks.order;
-  turned = on_err _ c.from_residual.result (ap order c.in-RbDependsOnL2.is);
-  written = λ _. on_no_ok _ c.from_residual.result c.in_err-write_tables-in-RbDependsOnL2.field-0.0 c.from_residual.ensures;
-  others_stay = c.write_tables.ensures.flushes.others_stay;
-  changes = c.write_tables.ensures.flushes.changes;
-  storage_stays = λ other. absurd (other (ap order c.in-RbDependsOnL2.is));
-  quiet = λ may. c.write_tables.ensures.flushes.quiet (subst (λ (d : Direction). BlocksMayGo d (l2_tables c.args.self.now)) (ap order c.in-RbDependsOnL2.is) may);
+pub returns-in_err-write_tables-in-RbDependsOnL2 : goal.returns-in_err-write_tables-in-RbDependsOnL2
+returns-in_err-write_tables-in-RbDependsOnL2 g c = record {
+  step = step_in_turn c.write_tables.ensures.step;
+  fails = fails_on c.from_residual.result c.in_err-write_tables-in-RbDependsOnL2.field-0.0 c.from_residual.ensures c.in_err-write_tables-in-RbDependsOnL2.ensures.fails;
+  sound = c.write_tables.ensures.sound (tables_free c.args.self.now (inr c.in-RbDependsOnL2.is));
+  turns = switched_after c.write_tables.ensures.flushes (ap order c.in-RbDependsOnL2.is) (λ may. subst (λ (d : Direction). BlocksMayGo d (l2_tables c.args.self.now)) (ap order c.in-RbDependsOnL2.is) may) refl (refl, refl) (on_no_ok _ c.from_residual.result c.in_err-write_tables-in-RbDependsOnL2.field-0.0 c.from_residual.ensures)
+      (on_err _ c.from_residual.result c.write_tables.ensures.step.marks.order) (on_no_ok _ c.from_residual.result c.in_err-write_tables-in-RbDependsOnL2.field-0.0 c.from_residual.ensures);
 }
 
-pub returns-clause-step : goal.returns-clause-step
-returns-clause-step g c = elim c.match-self.branch [
-  | in-L2DependsOnRb w ↦ rw (w.self-is, w.storage-is) (step_in_turn cache_step_none)
-  | in-None w ↦ rw (w.self-is, w.storage-is) (step_turned D.L2DependsOnRb cache_step_none)
-  | in-RbDependsOnL2+in_ok-write_tables-in-RbDependsOnL2 w ↦ rw (w.self-is, w.storage-is) (step_turned D.L2DependsOnRb w.write_tables.ensures.step)
-]
-
-pub returns-clause-fails : goal.returns-clause-fails
-returns-clause-fails g c = fails_ok (elim c.match-self.branch [
-  | in-L2DependsOnRb w ↦ rw w.storage-is refl
-  | in-None w ↦ rw w.storage-is refl
-  | in-RbDependsOnL2+in_ok-write_tables-in-RbDependsOnL2 w ↦ rw w.storage-is w.in_ok-write_tables-in-RbDependsOnL2.ensures.fails.told
-])
-
-pub returns-clause-sound : goal.returns-clause-sound
-returns-clause-sound g c = elim c.match-self.branch [
-  | in-L2DependsOnRb w ↦ rw (w.self-is, w.storage-is) soundly_none
-  | in-None w ↦ rw (w.self-is, w.storage-is) (soundly_turned D.L2DependsOnRb soundly_none (may_l2_depend g.S.Storage.view c.args.self.now c.args.storage.now (inl (ap order w.in-None.is))))
-  | in-RbDependsOnL2+in_ok-write_tables-in-RbDependsOnL2 w ↦ rw (w.self-is, w.storage-is) (soundly_turned D.L2DependsOnRb (w.write_tables.ensures.sound (tables_free c.args.self.now (inr w.in-RbDependsOnL2.is)))
-      (may_l2_depend g.S.Storage.view w.write_tables.new.self w.write_tables.new.storage (inr (ap order (w.write_tables.ensures.flushes.direction ∙ w.in-RbDependsOnL2.is), w.in_ok-write_tables-in-RbDependsOnL2.ensures.flushes.written))))
-]
-
-pub returns-clause-turns : goal.returns-clause-turns
-returns-clause-turns g c = elim c.match-self.branch [
-  | in-L2DependsOnRb w ↦ rw (w.self-is, w.storage-is) (record { order = ap order w.in-L2DependsOnRb.is; refused = tt; turned = tt; written = λ was. differ (ap order w.in-L2DependsOnRb.is) was l2_not_rb; others_stay = refl; changes = (refl, refl); storage_stays = λ _. refl; quiet = λ _ honest. quiet_none _ honest })
-  | in-None w ↦ rw (w.self-is, w.storage-is) (record { order = refl; refused = tt; turned = tt; written = λ was. differ (ap order w.in-None.is) was neither_rb; others_stay = refl; changes = (refl, refl); storage_stays = λ _. refl; quiet = λ _ honest. quiet_none _ honest })
+pub returns : goal.returns
+returns g c = elim c.match-self.branch [
+  | in-L2DependsOnRb w ↦ rw (w.self-is, w.storage-is) (record {
+    step = step_in_turn cache_step_none;
+    fails = fails_ok refl;
+    sound = soundly_none;
+    turns = switched_at_once (ap order w.in-L2DependsOnRb.is) (λ was. differ (ap order w.in-L2DependsOnRb.is) was l2_not_rb) refl (refl, refl);
+  })
+  | in-None w ↦ rw (w.self-is, w.storage-is) (record {
+    step = step_turned D.L2DependsOnRb cache_step_none;
+    fails = fails_ok refl;
+    sound = soundly_turned D.L2DependsOnRb soundly_none (may_l2_depend g.S.Storage.view c.args.self.now c.args.storage.now (inl (ap order w.in-None.is)));
+    turns = switched_at_once refl (λ was. differ (ap order w.in-None.is) was neither_rb) refl (refl, refl);
+  })
   | in-RbDependsOnL2+in_ok-write_tables-in-RbDependsOnL2 w ↦ rw (w.self-is, w.storage-is) (record {
-    order = refl;
-    refused = tt;
-    turned = tt;
-    written = λ _. w.in_ok-write_tables-in-RbDependsOnL2.ensures.flushes.written;
-    others_stay = w.write_tables.ensures.flushes.others_stay;
-    changes = w.write_tables.ensures.flushes.changes;
-    storage_stays = λ other. absurd (other (ap order w.in-RbDependsOnL2.is));
-    quiet = λ may. w.write_tables.ensures.flushes.quiet (subst (λ (d : Direction). BlocksMayGo d (l2_tables c.args.self.now)) (ap order w.in-RbDependsOnL2.is) may);
+    step = step_turned D.L2DependsOnRb w.write_tables.ensures.step;
+    fails = fails_ok w.in_ok-write_tables-in-RbDependsOnL2.ensures.fails.told;
+    sound = soundly_turned D.L2DependsOnRb (w.write_tables.ensures.sound (tables_free c.args.self.now (inr w.in-RbDependsOnL2.is)))
+        (may_l2_depend g.S.Storage.view w.write_tables.new.self w.write_tables.new.storage (inr (ap order (w.write_tables.ensures.flushes.direction ∙ w.in-RbDependsOnL2.is), w.in_ok-write_tables-in-RbDependsOnL2.ensures.flushes.written)));
+    turns = switched_after w.write_tables.ensures.flushes (ap order w.in-RbDependsOnL2.is) (λ may. subst (λ (d : Direction). BlocksMayGo d (l2_tables c.args.self.now)) (ap order w.in-RbDependsOnL2.is) may) refl (refl, refl) refl tt w.in_ok-write_tables-in-RbDependsOnL2.ensures.flushes.written;
   })
 ]

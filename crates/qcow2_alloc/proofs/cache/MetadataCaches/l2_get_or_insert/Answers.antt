@@ -1,182 +1,90 @@
-use Rattle.qcow2_alloc.proofs.Common.{L2TableView, ImageStorage, IsQuiet, subst, refl, sym, true, false, Ok, ap, ◌∙◌, eqb, of_cache, storage_of, l2_steps}
+use Rattle.qcow2_alloc.proofs.Common.{refl, sym, true, false, Ok, ap, ◌∙◌, of_cache, l2_steps, storage_of}
 use Rattle.qcow2_alloc.specs.declared.error.ImageError.TheVariants as I
 use Rattle.qcow2_alloc.proofs.CachedEntries.Hits.{got_at_last, held_in_front}
-use Rattle.qcow2_alloc.proofs.CachedEntries.Keeping.{keeps_none, keeps_from, not_hit, load_keeps}
-use Rattle.qcow2_alloc.proofs.KeptTables.Promoting.{table_promotes}
-use Rattle.qcow2_alloc.proofs.Lemmas.{table_load_refused, quiet_then, next_table, table_got_quietly, table_waits, table_got_same, stays_same, stays_then, values_stay, never, on_no_ok, l2_get_tells, fails_ok, fails_on, fails_since, load_step_on, load_step_then, soundly_none, soundly_then, fails_cache, l2_got_step, l2_got_soundly, table_load_as, fails_putting}
+use Rattle.qcow2_alloc.proofs.Lemmas.{never, on_no_ok, fails_ok, fails_on, fails_since, load_step_on, load_step_then, soundly_none, soundly_then, fails_cache, table_load_as, fails_putting}
+use Rattle.qcow2_alloc.proofs.Tries.{LoadsTable, loads_table, held, gets_at_once, gets_none, gets_again}
+use Rattle.qcow2_laws.specs.Clusters.{L2DependsOnRb}
+use Rattle.qcow2_alloc.proofs.cache.MetadataCaches.l2_get_or_insert.Given.{Over}
+use Rattle.qcow2_alloc.proofs.cache.MetadataCaches.l2_get_or_insert.Goals.{In_ok-get_or_insert, In_ok-get_or_insert-2}
 use Rattle.qcow2_alloc.proofs.cache.MetadataCaches.l2_get_or_insert.Goals as goal
 
-pub returns-in_err-branch-clause-step : goal.returns-in_err-branch-clause-step
-returns-in_err-branch-clause-step g c = l2_got_step g.S.Storage.view c.args.storage.now c.get_or_insert.new.store c.args.self.now c.get_or_insert.new.self c.get_or_insert.ensures.kept.others false c.args.cluster c.in_ok-get_or_insert.field-0 c.in_ok-get_or_insert.ensures.hit c.in_ok-get_or_insert.ensures.miss c.get_or_insert.ensures.kept.pins c.get_or_insert.ensures.keeps.0 c.get_or_insert.ensures.kept.stays
+-- What the first try does, and what the second one does.
+tried : (g : Over) (c : In_ok-get_or_insert g) → LoadsTable g.S.Storage.view c.args.cluster false c.args.storage.now c.args.self.now c.in_ok-get_or_insert.field-0 c.get_or_insert.new.store (record c.args.self.now { l2 = c.get_or_insert.new.self })
+tried g c = loads_table g.S.Storage.view false c.args.cluster c.args.storage.now c.get_or_insert.new.store c.args.self.now c.in_ok-get_or_insert.field-0 c.get_or_insert.ensures.keeps.0 c.get_or_insert.new.self c.get_or_insert.ensures.kept (λ flush. never flush) c.in_ok-get_or_insert.ensures.hit c.in_ok-get_or_insert.ensures.miss c.get_or_insert.ensures.eviction
 
-pub returns-in_err-branch-clause-fails : goal.returns-in_err-branch-clause-fails
-returns-in_err-branch-clause-fails g c =
-    fails_cache c.in_ok-get_or_insert.field-0 c.in_err-branch.field-0.0 c.from_residual-in_err-branch.result
-    (l2_get_tells g.S.Storage.view c.args.self.now.l2.backend.header.fields c.args.self.now.l2.size false c.args.cluster c.args.storage.now c.get_or_insert.new.store c.args.self.now.l2.entries c.get_or_insert.new.self.entries c.in_ok-get_or_insert.field-0 c.in_ok-get_or_insert.ensures.hit c.in_ok-get_or_insert.ensures.miss)
-    c.in_err-branch.was c.from_residual-in_err-branch.ensures
-    (table_load_as c.args.self.now c.args.self.now (of_cache c.in_err-branch.field-0.0) c.get_or_insert.new.self c.args.cluster refl (table_load_refused g.S.Storage.view c.args.storage.now c.get_or_insert.new.store c.args.self.now false c.args.cluster c.in_ok-get_or_insert.field-0 c.in_err-branch.field-0.0 c.in_err-branch.was c.get_or_insert.new.self c.get_or_insert.ensures.kept.others c.in_ok-get_or_insert.ensures.hit c.in_ok-get_or_insert.ensures.miss))
+tried_again : (g : Over) (c : In_ok-get_or_insert-2 g) → LoadsTable g.S.Storage.view c.args.cluster true c.before_l2.new.storage c.before_l2.new.self c.in_ok-get_or_insert-2.field-0 c.get_or_insert-2.new.store (record c.before_l2.new.self { l2 = c.get_or_insert-2.new.self })
+tried_again g c = loads_table g.S.Storage.view true c.args.cluster c.before_l2.new.storage c.get_or_insert-2.new.store c.before_l2.new.self c.in_ok-get_or_insert-2.field-0 c.get_or_insert-2.ensures.keeps.0 c.get_or_insert-2.new.self c.get_or_insert-2.ensures.kept (λ _. c.in_ok-before_l2.ensures.way.first) c.in_ok-get_or_insert-2.ensures.hit c.in_ok-get_or_insert-2.ensures.miss c.get_or_insert-2.ensures.eviction
 
-pub returns-in_err-branch-clause-sound : goal.returns-in_err-branch-clause-sound
-returns-in_err-branch-clause-sound g c = l2_got_soundly g.S.Storage.view c.args.storage.now c.get_or_insert.new.store c.args.self.now c.get_or_insert.new.self c.get_or_insert.ensures.kept.others false c.args.cluster c.in_ok-get_or_insert.field-0 c.in_ok-get_or_insert.ensures.hit c.in_ok-get_or_insert.ensures.miss c.get_or_insert.ensures.kept.distinct (λ flush. never flush)
+pub returns-in_err-branch : goal.returns-in_err-branch
+returns-in_err-branch g c =
+    let one = tried g (goal.at.returns-in_err-branch g c).In_ok-get_or_insert in
+    record {
+      step = one.step;
+      fails = fails_cache c.in_ok-get_or_insert.field-0 c.in_err-branch.field-0.0 c.from_residual-in_err-branch.result one.tries.told c.in_err-branch.was c.from_residual-in_err-branch.ensures
+          (table_load_as c.args.self.now c.args.self.now (of_cache c.in_err-branch.field-0.0) c.get_or_insert.new.self c.args.cluster refl (one.tries.refused c.in_err-branch.field-0.0 c.in_err-branch.was));
+      sound = one.sound;
+      gets = gets_at_once L2DependsOnRb one c.from_residual-in_err-branch.result (λ is. absurd (let bad = sym is ∙ c.in_err-branch.was in cc)) (on_no_ok _ c.from_residual-in_err-branch.result (of_cache c.in_err-branch.field-0.0) c.from_residual-in_err-branch.ensures);
+    }
 
-pub returns-in_err-branch-clause-gets : goal.returns-in_err-branch-clause-gets
-returns-in_err-branch-clause-gets g c = record {
-  cached = on_no_ok _ c.from_residual-in_err-branch.result (of_cache c.in_err-branch.field-0.0) c.from_residual-in_err-branch.ensures;
-  stay = values_stay c.args.cluster c.args.self.now.l2.entries c.get_or_insert.new.self.entries c.get_or_insert.ensures.kept.stays;
-  kept = load_keeps c.args.cluster c.args.self.now.l2 c.get_or_insert.new.self c.args.storage.now c.get_or_insert.new.store c.in_ok-get_or_insert.field-0 c.in_ok-get_or_insert.ensures.hit (l2_steps (λ s. g.S.Storage.view (storage_of s)) c.args.self.now.l2.backend.header.fields) false (λ (v : L2TableView). v.is_modified) (λ _ _ _ loaded. loaded.unmodified) c.in_ok-get_or_insert.ensures.miss c.get_or_insert.ensures.kept.stays c.get_or_insert.ensures.eviction;
-  changes = (refl, refl);
-  hit = λ there. absurd (not_hit c.args.cluster c.args.self.now.l2 c.get_or_insert.new.self c.args.storage.now c.get_or_insert.new.store c.in_ok-get_or_insert.field-0 c.in_ok-get_or_insert.ensures.hit (λ is. let bad = sym is ∙ c.in_err-branch.was in cc) there);
-  others_stay = λ _. refl;
-  quiet = λ may. table_got_quietly g.S.Storage.view c.args.storage.now c.get_or_insert.new.store c.args.self.now false c.args.cluster c.get_or_insert.new.self c.in_ok-get_or_insert.field-0 c.in_ok-get_or_insert.ensures.hit c.in_ok-get_or_insert.ensures.miss (λ flush. never flush);
-}
+pub returns-then-branch : goal.returns-then-branch
+returns-then-branch g c =
+    let one = tried g (goal.at.returns-then-branch g c).In_ok-get_or_insert in
+    record {
+      step = one.step;
+      fails = fails_ok (one.tries.told.same _ c.in_ok-branch.was);
+      sound = one.sound;
+      gets = gets_at_once L2DependsOnRb one (Ok tt) (λ _. refl) (held_in_front c.args.cluster c.get_or_insert.new.self.entries (c.in_ok-get_or_insert.ensures.front (c.in_ok-branch.was ∙ ap Ok c.if-branch.true)));
+    }
 
-pub returns-then-branch-clause-step : goal.returns-then-branch-clause-step
-returns-then-branch-clause-step g c = l2_got_step g.S.Storage.view c.args.storage.now c.get_or_insert.new.store c.args.self.now c.get_or_insert.new.self c.get_or_insert.ensures.kept.others false c.args.cluster c.in_ok-get_or_insert.field-0 c.in_ok-get_or_insert.ensures.hit c.in_ok-get_or_insert.ensures.miss c.get_or_insert.ensures.kept.pins c.get_or_insert.ensures.keeps.0 c.get_or_insert.ensures.kept.stays
+pub returns-in_err-before_l2 : goal.returns-in_err-before_l2
+returns-in_err-before_l2 g c =
+    let one = tried g (goal.at.returns-in_err-before_l2 g c).In_ok-get_or_insert in
+    record {
+      step = load_step_then one.step (load_step_on c.before_l2.ensures.step);
+      fails = fails_since (one.tries.told.same _ c.in_ok-branch.was) (fails_on c.from_residual-in_err-before_l2.result c.in_err-before_l2.field-0.0 c.from_residual-in_err-before_l2.ensures (fails_putting (λ fit. fit.0.1) c.in_err-before_l2.ensures.fails));
+      sound = soundly_then refl one.sound c.before_l2.ensures.sound;
+      gets = gets_none L2DependsOnRb one (c.in_ok-branch.was ∙ ap Ok c.if-branch.false) c.before_l2.ensures.way c.from_residual-in_err-before_l2.result (on_no_ok _ c.from_residual-in_err-before_l2.result c.in_err-before_l2.field-0.0 c.from_residual-in_err-before_l2.ensures);
+    }
 
-pub returns-then-branch-clause-fails : goal.returns-then-branch-clause-fails
-returns-then-branch-clause-fails g c = fails_ok ((l2_get_tells g.S.Storage.view c.args.self.now.l2.backend.header.fields c.args.self.now.l2.size false c.args.cluster c.args.storage.now c.get_or_insert.new.store c.args.self.now.l2.entries c.get_or_insert.new.self.entries c.in_ok-get_or_insert.field-0 c.in_ok-get_or_insert.ensures.hit c.in_ok-get_or_insert.ensures.miss).same _ c.in_ok-branch.was)
+pub returns-in_err-branch-2 : goal.returns-in_err-branch-2
+returns-in_err-branch-2 g c =
+    let one = tried g (goal.at.returns-in_err-branch-2 g c).In_ok-get_or_insert in
+    let two = tried_again g (goal.at.returns-in_err-branch-2 g c).In_ok-get_or_insert-2 in
+    let full = c.in_ok-branch.was ∙ ap Ok c.if-branch.false in
+    record {
+      step = load_step_then (load_step_then one.step (load_step_on c.before_l2.ensures.step)) two.step;
+      fails = fails_since (c.in_ok-before_l2.ensures.fails.told ∙ one.tries.told.same _ c.in_ok-branch.was)
+          (fails_cache c.in_ok-get_or_insert-2.field-0 c.in_err-branch-2.field-0.0 c.from_residual-in_err-branch-2.result two.tries.told c.in_err-branch-2.was c.from_residual-in_err-branch-2.ensures
+          (table_load_as c.args.self.now c.before_l2.new.self (of_cache c.in_err-branch-2.field-0.0) c.get_or_insert-2.new.self c.args.cluster (held one.tries full c.before_l2.ensures.way) (two.tries.refused c.in_err-branch-2.field-0.0 c.in_err-branch-2.was)));
+      sound = soundly_then c.before_l2.ensures.step.marks.order (soundly_then refl one.sound c.before_l2.ensures.sound) two.sound;
+      gets = gets_again L2DependsOnRb one full c.before_l2.ensures.way two c.from_residual-in_err-branch-2.result (on_no_ok _ c.from_residual-in_err-branch-2.result (of_cache c.in_err-branch-2.field-0.0) c.from_residual-in_err-branch-2.ensures);
+    }
 
-pub returns-then-branch-clause-sound : goal.returns-then-branch-clause-sound
-returns-then-branch-clause-sound g c = l2_got_soundly g.S.Storage.view c.args.storage.now c.get_or_insert.new.store c.args.self.now c.get_or_insert.new.self c.get_or_insert.ensures.kept.others false c.args.cluster c.in_ok-get_or_insert.field-0 c.in_ok-get_or_insert.ensures.hit c.in_ok-get_or_insert.ensures.miss c.get_or_insert.ensures.kept.distinct (λ flush. never flush)
-
-pub returns-then-branch-clause-gets : goal.returns-then-branch-clause-gets
-returns-then-branch-clause-gets g c = record {
-  cached = held_in_front c.args.cluster c.get_or_insert.new.self.entries (c.in_ok-get_or_insert.ensures.front (c.in_ok-branch.was ∙ ap Ok c.if-branch.true));
-  stay = values_stay c.args.cluster c.args.self.now.l2.entries c.get_or_insert.new.self.entries c.get_or_insert.ensures.kept.stays;
-  kept = load_keeps c.args.cluster c.args.self.now.l2 c.get_or_insert.new.self c.args.storage.now c.get_or_insert.new.store c.in_ok-get_or_insert.field-0 c.in_ok-get_or_insert.ensures.hit (l2_steps (λ s. g.S.Storage.view (storage_of s)) c.args.self.now.l2.backend.header.fields) false (λ (v : L2TableView). v.is_modified) (λ _ _ _ loaded. loaded.unmodified) c.in_ok-get_or_insert.ensures.miss c.get_or_insert.ensures.kept.stays c.get_or_insert.ensures.eviction;
-  changes = (refl, refl);
-  hit = table_promotes c.args.storage.now c.get_or_insert.new.store c.args.self.now c.args.cluster c.in_ok-get_or_insert.field-0 c.get_or_insert.new.self c.get_or_insert.ensures.kept.others c.in_ok-get_or_insert.ensures.hit;
-  others_stay = λ _. refl;
-  quiet = λ may. table_got_quietly g.S.Storage.view c.args.storage.now c.get_or_insert.new.store c.args.self.now false c.args.cluster c.get_or_insert.new.self c.in_ok-get_or_insert.field-0 c.in_ok-get_or_insert.ensures.hit c.in_ok-get_or_insert.ensures.miss (λ flush. never flush);
-}
-
-pub returns-in_err-before_l2-clause-step : goal.returns-in_err-before_l2-clause-step
-returns-in_err-before_l2-clause-step g c =
-    load_step_then (l2_got_step g.S.Storage.view c.args.storage.now c.get_or_insert.new.store c.args.self.now c.get_or_insert.new.self c.get_or_insert.ensures.kept.others false c.args.cluster c.in_ok-get_or_insert.field-0 c.in_ok-get_or_insert.ensures.hit c.in_ok-get_or_insert.ensures.miss c.get_or_insert.ensures.kept.pins c.get_or_insert.ensures.keeps.0 c.get_or_insert.ensures.kept.stays)
-    (load_step_on c.before_l2.ensures.step)
-
-pub returns-in_err-before_l2-clause-fails : goal.returns-in_err-before_l2-clause-fails
-returns-in_err-before_l2-clause-fails g c =
-    fails_since ((l2_get_tells g.S.Storage.view c.args.self.now.l2.backend.header.fields c.args.self.now.l2.size false c.args.cluster c.args.storage.now c.get_or_insert.new.store c.args.self.now.l2.entries c.get_or_insert.new.self.entries c.in_ok-get_or_insert.field-0 c.in_ok-get_or_insert.ensures.hit c.in_ok-get_or_insert.ensures.miss).same _ c.in_ok-branch.was)
-    (fails_on c.from_residual-in_err-before_l2.result c.in_err-before_l2.field-0.0 c.from_residual-in_err-before_l2.ensures (fails_putting (λ fit. fit.0.1) c.in_err-before_l2.ensures.fails))
-
-pub returns-in_err-before_l2-clause-sound : goal.returns-in_err-before_l2-clause-sound
-returns-in_err-before_l2-clause-sound g c =
-    soundly_then refl (l2_got_soundly g.S.Storage.view c.args.storage.now c.get_or_insert.new.store c.args.self.now c.get_or_insert.new.self c.get_or_insert.ensures.kept.others false c.args.cluster c.in_ok-get_or_insert.field-0 c.in_ok-get_or_insert.ensures.hit c.in_ok-get_or_insert.ensures.miss c.get_or_insert.ensures.kept.distinct (λ flush. never flush))
-    c.before_l2.ensures.sound
-
-pub returns-in_err-before_l2-clause-gets : goal.returns-in_err-before_l2-clause-gets
-returns-in_err-before_l2-clause-gets g c = record {
-  cached = on_no_ok _ c.from_residual-in_err-before_l2.result c.in_err-before_l2.field-0.0 c.from_residual-in_err-before_l2.ensures;
-  stay = values_stay c.args.cluster c.args.self.now.l2.entries c.before_l2.new.self.l2.entries (stays_then eqb c.args.cluster c.args.self.now.l2.entries c.get_or_insert.new.self.entries c.before_l2.new.self.l2.entries c.get_or_insert.ensures.kept.stays (stays_same eqb c.args.cluster c.get_or_insert.new.self.entries c.before_l2.new.self.l2.entries (ap (λ x. x.entries) c.before_l2.ensures.way.stays)));
-  kept = keeps_none (λ (v : L2TableView). v.is_modified) c.args.cluster c.args.self.now.l2 c.before_l2.new.self.l2 (c.before_l2.ensures.way.stays ∙ table_got_same g.S.Storage.view c.args.storage.now c.get_or_insert.new.store c.args.self.now false c.args.cluster c.get_or_insert.new.self c.in_ok-get_or_insert.field-0 c.in_ok-get_or_insert.ensures.hit c.in_ok-get_or_insert.ensures.miss c.get_or_insert.ensures.kept.others (c.in_ok-branch.was ∙ ap Ok c.if-branch.false));
-  changes = c.before_l2.ensures.way.changes;
-  hit = λ there. absurd (not_hit c.args.cluster c.args.self.now.l2 c.get_or_insert.new.self c.args.storage.now c.get_or_insert.new.store c.in_ok-get_or_insert.field-0 c.in_ok-get_or_insert.ensures.hit (λ is. let bad = sym is ∙ c.in_ok-branch.was ∙ ap Ok c.if-branch.false in cc) there);
-  others_stay = c.before_l2.ensures.way.others_stay;
-  quiet = λ may honest.
-      let eviction = table_waits g.S.Storage.view c.args.storage.now c.get_or_insert.new.store c.args.self.now false c.args.cluster c.get_or_insert.new.self c.in_ok-get_or_insert.field-0 c.in_ok-get_or_insert.ensures.hit c.in_ok-get_or_insert.ensures.miss (c.in_ok-branch.was ∙ ap Ok c.if-branch.false) may in
-      let one = table_got_quietly g.S.Storage.view c.args.storage.now c.get_or_insert.new.store c.args.self.now false c.args.cluster c.get_or_insert.new.self c.in_ok-get_or_insert.field-0 c.in_ok-get_or_insert.ensures.hit c.in_ok-get_or_insert.ensures.miss (λ flush. never flush) honest in
-      quiet_then (g.S.Storage.view (storage_of c.args.storage.now)) (g.S.Storage.view (storage_of c.get_or_insert.new.store)) (g.S.Storage.view (storage_of c.before_l2.new.storage)) one (c.before_l2.ensures.way.quiet eviction.0 one.honest);
-}
-
-pub returns-in_err-branch-2-clause-step : goal.returns-in_err-branch-2-clause-step
-returns-in_err-branch-2-clause-step g c =
-    load_step_then (load_step_then (l2_got_step g.S.Storage.view c.args.storage.now c.get_or_insert.new.store c.args.self.now c.get_or_insert.new.self c.get_or_insert.ensures.kept.others false c.args.cluster c.in_ok-get_or_insert.field-0 c.in_ok-get_or_insert.ensures.hit c.in_ok-get_or_insert.ensures.miss c.get_or_insert.ensures.kept.pins c.get_or_insert.ensures.keeps.0 c.get_or_insert.ensures.kept.stays)
-    (load_step_on c.before_l2.ensures.step))
-    (l2_got_step g.S.Storage.view c.before_l2.new.storage c.get_or_insert-2.new.store c.before_l2.new.self c.get_or_insert-2.new.self c.get_or_insert-2.ensures.kept.others true c.args.cluster c.in_ok-get_or_insert-2.field-0 c.in_ok-get_or_insert-2.ensures.hit c.in_ok-get_or_insert-2.ensures.miss c.get_or_insert-2.ensures.kept.pins c.get_or_insert-2.ensures.keeps.0 c.get_or_insert-2.ensures.kept.stays)
-
-pub returns-in_err-branch-2-clause-fails : goal.returns-in_err-branch-2-clause-fails
-returns-in_err-branch-2-clause-fails g c =
-    fails_since (c.in_ok-before_l2.ensures.fails.told ∙ (l2_get_tells g.S.Storage.view c.args.self.now.l2.backend.header.fields c.args.self.now.l2.size false c.args.cluster c.args.storage.now c.get_or_insert.new.store c.args.self.now.l2.entries c.get_or_insert.new.self.entries c.in_ok-get_or_insert.field-0 c.in_ok-get_or_insert.ensures.hit c.in_ok-get_or_insert.ensures.miss).same _ c.in_ok-branch.was)
-    (fails_cache c.in_ok-get_or_insert-2.field-0 c.in_err-branch-2.field-0.0 c.from_residual-in_err-branch-2.result
-    (l2_get_tells g.S.Storage.view c.before_l2.new.self.l2.backend.header.fields c.before_l2.new.self.l2.size true c.args.cluster c.before_l2.new.storage c.get_or_insert-2.new.store c.before_l2.new.self.l2.entries c.get_or_insert-2.new.self.entries c.in_ok-get_or_insert-2.field-0 c.in_ok-get_or_insert-2.ensures.hit c.in_ok-get_or_insert-2.ensures.miss)
-    c.in_err-branch-2.was c.from_residual-in_err-branch-2.ensures
-    (table_load_as c.args.self.now c.before_l2.new.self (of_cache c.in_err-branch-2.field-0.0) c.get_or_insert-2.new.self c.args.cluster (c.before_l2.ensures.way.stays ∙ table_got_same g.S.Storage.view c.args.storage.now c.get_or_insert.new.store c.args.self.now false c.args.cluster c.get_or_insert.new.self c.in_ok-get_or_insert.field-0 c.in_ok-get_or_insert.ensures.hit c.in_ok-get_or_insert.ensures.miss c.get_or_insert.ensures.kept.others (c.in_ok-branch.was ∙ ap Ok c.if-branch.false))
-    (table_load_refused g.S.Storage.view c.before_l2.new.storage c.get_or_insert-2.new.store c.before_l2.new.self true c.args.cluster c.in_ok-get_or_insert-2.field-0 c.in_err-branch-2.field-0.0 c.in_err-branch-2.was c.get_or_insert-2.new.self c.get_or_insert-2.ensures.kept.others c.in_ok-get_or_insert-2.ensures.hit c.in_ok-get_or_insert-2.ensures.miss)))
-
-pub returns-in_err-branch-2-clause-sound : goal.returns-in_err-branch-2-clause-sound
-returns-in_err-branch-2-clause-sound g c =
-    soundly_then c.before_l2.ensures.step.marks.order (soundly_then refl (l2_got_soundly g.S.Storage.view c.args.storage.now c.get_or_insert.new.store c.args.self.now c.get_or_insert.new.self c.get_or_insert.ensures.kept.others false c.args.cluster c.in_ok-get_or_insert.field-0 c.in_ok-get_or_insert.ensures.hit c.in_ok-get_or_insert.ensures.miss c.get_or_insert.ensures.kept.distinct (λ flush. never flush))
-    c.before_l2.ensures.sound)
-    (l2_got_soundly g.S.Storage.view c.before_l2.new.storage c.get_or_insert-2.new.store c.before_l2.new.self c.get_or_insert-2.new.self c.get_or_insert-2.ensures.kept.others true c.args.cluster c.in_ok-get_or_insert-2.field-0 c.in_ok-get_or_insert-2.ensures.hit c.in_ok-get_or_insert-2.ensures.miss c.get_or_insert-2.ensures.kept.distinct (λ _. c.in_ok-before_l2.ensures.way.first))
-
-pub returns-in_err-get_or_insert-2-clause-gets : goal.returns-in_err-get_or_insert-2-clause-gets
-returns-in_err-get_or_insert-2-clause-gets g c = record {
-  cached = on_no_ok _ c.from_residual-in_err-get_or_insert-2.result I.Memory c.from_residual-in_err-get_or_insert-2.ensures;
-  stay = values_stay c.args.cluster c.args.self.now.l2.entries c.get_or_insert-2.new.self.entries (stays_then eqb c.args.cluster c.args.self.now.l2.entries c.before_l2.new.self.l2.entries c.get_or_insert-2.new.self.entries (stays_then eqb c.args.cluster c.args.self.now.l2.entries c.get_or_insert.new.self.entries c.before_l2.new.self.l2.entries c.get_or_insert.ensures.kept.stays (stays_same eqb c.args.cluster c.get_or_insert.new.self.entries c.before_l2.new.self.l2.entries (ap (λ x. x.entries) c.before_l2.ensures.way.stays))) c.get_or_insert-2.ensures.kept.stays);
-  kept = keeps_none (λ (v : L2TableView). v.is_modified) c.args.cluster c.args.self.now.l2 c.get_or_insert-2.new.self (c.in_err-get_or_insert-2.ensures.refused.0 ∙ c.before_l2.ensures.way.stays ∙ table_got_same g.S.Storage.view c.args.storage.now c.get_or_insert.new.store c.args.self.now false c.args.cluster c.get_or_insert.new.self c.in_ok-get_or_insert.field-0 c.in_ok-get_or_insert.ensures.hit c.in_ok-get_or_insert.ensures.miss c.get_or_insert.ensures.kept.others (c.in_ok-branch.was ∙ ap Ok c.if-branch.false));
-  changes = c.before_l2.ensures.way.changes;
-  hit = λ there. absurd (not_hit c.args.cluster c.args.self.now.l2 c.get_or_insert.new.self c.args.storage.now c.get_or_insert.new.store c.in_ok-get_or_insert.field-0 c.in_ok-get_or_insert.ensures.hit (λ is. let bad = sym is ∙ c.in_ok-branch.was ∙ ap Ok c.if-branch.false in cc) there);
-  others_stay = c.before_l2.ensures.way.others_stay;
-  quiet = λ may honest.
-      let eviction = table_waits g.S.Storage.view c.args.storage.now c.get_or_insert.new.store c.args.self.now false c.args.cluster c.get_or_insert.new.self c.in_ok-get_or_insert.field-0 c.in_ok-get_or_insert.ensures.hit c.in_ok-get_or_insert.ensures.miss (c.in_ok-branch.was ∙ ap Ok c.if-branch.false) may in
-      let one = table_got_quietly g.S.Storage.view c.args.storage.now c.get_or_insert.new.store c.args.self.now false c.args.cluster c.get_or_insert.new.self c.in_ok-get_or_insert.field-0 c.in_ok-get_or_insert.ensures.hit c.in_ok-get_or_insert.ensures.miss (λ flush. never flush) honest in
-      subst (λ (s : ImageStorage g.row.S.Denot). IsQuiet (g.S.Storage.view (storage_of c.args.storage.now)) (g.S.Storage.view (storage_of s))) (sym c.in_err-get_or_insert-2.ensures.refused.1)
-      (quiet_then (g.S.Storage.view (storage_of c.args.storage.now)) (g.S.Storage.view (storage_of c.get_or_insert.new.store)) (g.S.Storage.view (storage_of c.before_l2.new.storage)) one (c.before_l2.ensures.way.quiet eviction.0 one.honest));
-}
-
-pub returns-in_err-branch-2-clause-gets : goal.returns-in_err-branch-2-clause-gets
-returns-in_err-branch-2-clause-gets g c = record {
-  cached = on_no_ok _ c.from_residual-in_err-branch-2.result (of_cache c.in_err-branch-2.field-0.0) c.from_residual-in_err-branch-2.ensures;
-  stay = values_stay c.args.cluster c.args.self.now.l2.entries c.get_or_insert-2.new.self.entries (stays_then eqb c.args.cluster c.args.self.now.l2.entries c.before_l2.new.self.l2.entries c.get_or_insert-2.new.self.entries (stays_then eqb c.args.cluster c.args.self.now.l2.entries c.get_or_insert.new.self.entries c.before_l2.new.self.l2.entries c.get_or_insert.ensures.kept.stays (stays_same eqb c.args.cluster c.get_or_insert.new.self.entries c.before_l2.new.self.l2.entries (ap (λ x. x.entries) c.before_l2.ensures.way.stays))) c.get_or_insert-2.ensures.kept.stays);
-  kept = keeps_from (λ (v : L2TableView). v.is_modified) c.args.cluster c.args.self.now.l2 c.before_l2.new.self.l2 c.get_or_insert-2.new.self (c.before_l2.ensures.way.stays ∙ table_got_same g.S.Storage.view c.args.storage.now c.get_or_insert.new.store c.args.self.now false c.args.cluster c.get_or_insert.new.self c.in_ok-get_or_insert.field-0 c.in_ok-get_or_insert.ensures.hit c.in_ok-get_or_insert.ensures.miss c.get_or_insert.ensures.kept.others (c.in_ok-branch.was ∙ ap Ok c.if-branch.false)) (load_keeps c.args.cluster c.before_l2.new.self.l2 c.get_or_insert-2.new.self c.before_l2.new.storage c.get_or_insert-2.new.store c.in_ok-get_or_insert-2.field-0 c.in_ok-get_or_insert-2.ensures.hit (l2_steps (λ s. g.S.Storage.view (storage_of s)) c.before_l2.new.self.l2.backend.header.fields) true (λ (v : L2TableView). v.is_modified) (λ _ _ _ loaded. loaded.unmodified) c.in_ok-get_or_insert-2.ensures.miss c.get_or_insert-2.ensures.kept.stays c.get_or_insert-2.ensures.eviction);
-  changes = c.before_l2.ensures.way.changes;
-  hit = λ there. absurd (not_hit c.args.cluster c.args.self.now.l2 c.get_or_insert.new.self c.args.storage.now c.get_or_insert.new.store c.in_ok-get_or_insert.field-0 c.in_ok-get_or_insert.ensures.hit (λ is. let bad = sym is ∙ c.in_ok-branch.was ∙ ap Ok c.if-branch.false in cc) there);
-  others_stay = c.before_l2.ensures.way.others_stay;
-  quiet = λ may honest.
-      let eviction = table_waits g.S.Storage.view c.args.storage.now c.get_or_insert.new.store c.args.self.now false c.args.cluster c.get_or_insert.new.self c.in_ok-get_or_insert.field-0 c.in_ok-get_or_insert.ensures.hit c.in_ok-get_or_insert.ensures.miss (c.in_ok-branch.was ∙ ap Ok c.if-branch.false) may in
-      let one = table_got_quietly g.S.Storage.view c.args.storage.now c.get_or_insert.new.store c.args.self.now false c.args.cluster c.get_or_insert.new.self c.in_ok-get_or_insert.field-0 c.in_ok-get_or_insert.ensures.hit c.in_ok-get_or_insert.ensures.miss (λ flush. never flush) honest in
-      let two = c.before_l2.ensures.way.quiet eviction.0 one.honest in
-      let same = c.before_l2.ensures.way.stays ∙ table_got_same g.S.Storage.view c.args.storage.now c.get_or_insert.new.store c.args.self.now false c.args.cluster c.get_or_insert.new.self c.in_ok-get_or_insert.field-0 c.in_ok-get_or_insert.ensures.hit c.in_ok-get_or_insert.ensures.miss c.get_or_insert.ensures.kept.others (c.in_ok-branch.was ∙ ap Ok c.if-branch.false) in
-      let next = next_table c.args.self.now.l2 c.before_l2.new.self.l2 same eviction.1 in
-      quiet_then (g.S.Storage.view (storage_of c.args.storage.now)) (g.S.Storage.view (storage_of c.before_l2.new.storage)) (g.S.Storage.view (storage_of c.get_or_insert-2.new.store)) (quiet_then (g.S.Storage.view (storage_of c.args.storage.now)) (g.S.Storage.view (storage_of c.get_or_insert.new.store)) (g.S.Storage.view (storage_of c.before_l2.new.storage)) one two) (table_got_quietly g.S.Storage.view c.before_l2.new.storage c.get_or_insert-2.new.store c.before_l2.new.self true c.args.cluster c.get_or_insert-2.new.self c.in_ok-get_or_insert-2.field-0 c.in_ok-get_or_insert-2.ensures.hit c.in_ok-get_or_insert-2.ensures.miss (λ _. next) two.honest);
-}
-
-pub returns-clause-step : goal.returns-clause-step
-returns-clause-step g c =
-    load_step_then (load_step_then (l2_got_step g.S.Storage.view c.args.storage.now c.get_or_insert.new.store c.args.self.now c.get_or_insert.new.self c.get_or_insert.ensures.kept.others false c.args.cluster c.in_ok-get_or_insert.field-0 c.in_ok-get_or_insert.ensures.hit c.in_ok-get_or_insert.ensures.miss c.get_or_insert.ensures.kept.pins c.get_or_insert.ensures.keeps.0 c.get_or_insert.ensures.kept.stays)
-    (load_step_on c.before_l2.ensures.step))
-    (l2_got_step g.S.Storage.view c.before_l2.new.storage c.get_or_insert-2.new.store c.before_l2.new.self c.get_or_insert-2.new.self c.get_or_insert-2.ensures.kept.others true c.args.cluster c.in_ok-get_or_insert-2.field-0 c.in_ok-get_or_insert-2.ensures.hit c.in_ok-get_or_insert-2.ensures.miss c.get_or_insert-2.ensures.kept.pins c.get_or_insert-2.ensures.keeps.0 c.get_or_insert-2.ensures.kept.stays)
-
-pub returns-clause-fails : goal.returns-clause-fails
-returns-clause-fails g c =
-    fails_ok ((l2_get_tells g.S.Storage.view c.before_l2.new.self.l2.backend.header.fields c.before_l2.new.self.l2.size true c.args.cluster c.before_l2.new.storage c.get_or_insert-2.new.store c.before_l2.new.self.l2.entries c.get_or_insert-2.new.self.entries c.in_ok-get_or_insert-2.field-0 c.in_ok-get_or_insert-2.ensures.hit c.in_ok-get_or_insert-2.ensures.miss).same _ c.in_ok-branch-2.was
-    ∙ (c.in_ok-before_l2.ensures.fails.told ∙ (l2_get_tells g.S.Storage.view c.args.self.now.l2.backend.header.fields c.args.self.now.l2.size false c.args.cluster c.args.storage.now c.get_or_insert.new.store c.args.self.now.l2.entries c.get_or_insert.new.self.entries c.in_ok-get_or_insert.field-0 c.in_ok-get_or_insert.ensures.hit c.in_ok-get_or_insert.ensures.miss).same _ c.in_ok-branch.was))
-
-pub returns-clause-sound : goal.returns-clause-sound
-returns-clause-sound g c =
-    soundly_then c.before_l2.ensures.step.marks.order (soundly_then refl (l2_got_soundly g.S.Storage.view c.args.storage.now c.get_or_insert.new.store c.args.self.now c.get_or_insert.new.self c.get_or_insert.ensures.kept.others false c.args.cluster c.in_ok-get_or_insert.field-0 c.in_ok-get_or_insert.ensures.hit c.in_ok-get_or_insert.ensures.miss c.get_or_insert.ensures.kept.distinct (λ flush. never flush))
-    c.before_l2.ensures.sound)
-    (l2_got_soundly g.S.Storage.view c.before_l2.new.storage c.get_or_insert-2.new.store c.before_l2.new.self c.get_or_insert-2.new.self c.get_or_insert-2.ensures.kept.others true c.args.cluster c.in_ok-get_or_insert-2.field-0 c.in_ok-get_or_insert-2.ensures.hit c.in_ok-get_or_insert-2.ensures.miss c.get_or_insert-2.ensures.kept.distinct (λ _. c.in_ok-before_l2.ensures.way.first))
-
-pub returns-clause-gets : goal.returns-clause-gets
-returns-clause-gets g c = record {
-  cached =
-      held_in_front c.args.cluster c.get_or_insert-2.new.self.entries (c.in_ok-get_or_insert-2.ensures.front
-      (got_at_last (l2_steps (λ s. g.S.Storage.view (storage_of s)) c.before_l2.new.self.l2.backend.header.fields) c.before_l2.new.self.l2.size c.args.cluster c.before_l2.new.storage c.get_or_insert-2.new.store c.before_l2.new.self.l2.entries c.get_or_insert-2.new.self.entries c.in_ok-get_or_insert-2.field-0 c.in_ok-branch-2.field-0 c.in_ok-branch-2.was c.in_ok-get_or_insert-2.ensures.hit c.in_ok-get_or_insert-2.ensures.miss));
-  stay = values_stay c.args.cluster c.args.self.now.l2.entries c.get_or_insert-2.new.self.entries (stays_then eqb c.args.cluster c.args.self.now.l2.entries c.before_l2.new.self.l2.entries c.get_or_insert-2.new.self.entries (stays_then eqb c.args.cluster c.args.self.now.l2.entries c.get_or_insert.new.self.entries c.before_l2.new.self.l2.entries c.get_or_insert.ensures.kept.stays (stays_same eqb c.args.cluster c.get_or_insert.new.self.entries c.before_l2.new.self.l2.entries (ap (λ x. x.entries) c.before_l2.ensures.way.stays))) c.get_or_insert-2.ensures.kept.stays);
-  kept = keeps_from (λ (v : L2TableView). v.is_modified) c.args.cluster c.args.self.now.l2 c.before_l2.new.self.l2 c.get_or_insert-2.new.self (c.before_l2.ensures.way.stays ∙ table_got_same g.S.Storage.view c.args.storage.now c.get_or_insert.new.store c.args.self.now false c.args.cluster c.get_or_insert.new.self c.in_ok-get_or_insert.field-0 c.in_ok-get_or_insert.ensures.hit c.in_ok-get_or_insert.ensures.miss c.get_or_insert.ensures.kept.others (c.in_ok-branch.was ∙ ap Ok c.if-branch.false)) (load_keeps c.args.cluster c.before_l2.new.self.l2 c.get_or_insert-2.new.self c.before_l2.new.storage c.get_or_insert-2.new.store c.in_ok-get_or_insert-2.field-0 c.in_ok-get_or_insert-2.ensures.hit (l2_steps (λ s. g.S.Storage.view (storage_of s)) c.before_l2.new.self.l2.backend.header.fields) true (λ (v : L2TableView). v.is_modified) (λ _ _ _ loaded. loaded.unmodified) c.in_ok-get_or_insert-2.ensures.miss c.get_or_insert-2.ensures.kept.stays c.get_or_insert-2.ensures.eviction);
-  changes = c.before_l2.ensures.way.changes;
-  hit = λ there. absurd (not_hit c.args.cluster c.args.self.now.l2 c.get_or_insert.new.self c.args.storage.now c.get_or_insert.new.store c.in_ok-get_or_insert.field-0 c.in_ok-get_or_insert.ensures.hit (λ is. let bad = sym is ∙ c.in_ok-branch.was ∙ ap Ok c.if-branch.false in cc) there);
-  others_stay = c.before_l2.ensures.way.others_stay;
-  quiet = λ may honest.
-      let eviction = table_waits g.S.Storage.view c.args.storage.now c.get_or_insert.new.store c.args.self.now false c.args.cluster c.get_or_insert.new.self c.in_ok-get_or_insert.field-0 c.in_ok-get_or_insert.ensures.hit c.in_ok-get_or_insert.ensures.miss (c.in_ok-branch.was ∙ ap Ok c.if-branch.false) may in
-      let one = table_got_quietly g.S.Storage.view c.args.storage.now c.get_or_insert.new.store c.args.self.now false c.args.cluster c.get_or_insert.new.self c.in_ok-get_or_insert.field-0 c.in_ok-get_or_insert.ensures.hit c.in_ok-get_or_insert.ensures.miss (λ flush. never flush) honest in
-      let two = c.before_l2.ensures.way.quiet eviction.0 one.honest in
-      let same = c.before_l2.ensures.way.stays ∙ table_got_same g.S.Storage.view c.args.storage.now c.get_or_insert.new.store c.args.self.now false c.args.cluster c.get_or_insert.new.self c.in_ok-get_or_insert.field-0 c.in_ok-get_or_insert.ensures.hit c.in_ok-get_or_insert.ensures.miss c.get_or_insert.ensures.kept.others (c.in_ok-branch.was ∙ ap Ok c.if-branch.false) in
-      let next = next_table c.args.self.now.l2 c.before_l2.new.self.l2 same eviction.1 in
-      quiet_then (g.S.Storage.view (storage_of c.args.storage.now)) (g.S.Storage.view (storage_of c.before_l2.new.storage)) (g.S.Storage.view (storage_of c.get_or_insert-2.new.store)) (quiet_then (g.S.Storage.view (storage_of c.args.storage.now)) (g.S.Storage.view (storage_of c.get_or_insert.new.store)) (g.S.Storage.view (storage_of c.before_l2.new.storage)) one two) (table_got_quietly g.S.Storage.view c.before_l2.new.storage c.get_or_insert-2.new.store c.before_l2.new.self true c.args.cluster c.get_or_insert-2.new.self c.in_ok-get_or_insert-2.field-0 c.in_ok-get_or_insert-2.ensures.hit c.in_ok-get_or_insert-2.ensures.miss (λ _. next) two.honest);
-}
+pub returns : goal.returns
+returns g c =
+    let one = tried g (goal.at.returns g c).In_ok-get_or_insert in
+    let two = tried_again g (goal.at.returns g c).In_ok-get_or_insert-2 in
+    record {
+      step = load_step_then (load_step_then one.step (load_step_on c.before_l2.ensures.step)) two.step;
+      fails = fails_ok (two.tries.told.same _ c.in_ok-branch-2.was ∙ (c.in_ok-before_l2.ensures.fails.told ∙ one.tries.told.same _ c.in_ok-branch.was));
+      sound = soundly_then c.before_l2.ensures.step.marks.order (soundly_then refl one.sound c.before_l2.ensures.sound) two.sound;
+      gets = gets_again L2DependsOnRb one (c.in_ok-branch.was ∙ ap Ok c.if-branch.false) c.before_l2.ensures.way two (Ok tt)
+          (held_in_front c.args.cluster c.get_or_insert-2.new.self.entries (c.in_ok-get_or_insert-2.ensures.front
+          (got_at_last (l2_steps (λ s. g.S.Storage.view (storage_of s)) c.before_l2.new.self.l2.backend.header.fields) c.before_l2.new.self.l2.size c.args.cluster c.before_l2.new.storage c.get_or_insert-2.new.store c.before_l2.new.self.l2.entries c.get_or_insert-2.new.self.entries c.in_ok-get_or_insert-2.field-0 c.in_ok-branch-2.field-0 c.in_ok-branch-2.was c.in_ok-get_or_insert-2.ensures.hit c.in_ok-get_or_insert-2.ensures.miss)));
+    }
 
 pub returns-in_err-get_or_insert-clause-sound : goal.returns-in_err-get_or_insert-clause-sound
 returns-in_err-get_or_insert-clause-sound g c = rw (c.in_err-get_or_insert.ensures.refused.0, c.in_err-get_or_insert.ensures.refused.1) soundly_none
 
 pub returns-in_err-get_or_insert-2-clause-step : goal.returns-in_err-get_or_insert-2-clause-step
 returns-in_err-get_or_insert-2-clause-step g c =
-    rw (c.in_err-get_or_insert-2.ensures.refused.0, c.in_err-get_or_insert-2.ensures.refused.1) (load_step_then (l2_got_step g.S.Storage.view c.args.storage.now c.get_or_insert.new.store c.args.self.now c.get_or_insert.new.self c.get_or_insert.ensures.kept.others false c.args.cluster c.in_ok-get_or_insert.field-0 c.in_ok-get_or_insert.ensures.hit c.in_ok-get_or_insert.ensures.miss c.get_or_insert.ensures.kept.pins c.get_or_insert.ensures.keeps.0 c.get_or_insert.ensures.kept.stays)
-    (load_step_on c.before_l2.ensures.step))
+    rw (c.in_err-get_or_insert-2.ensures.refused.0, c.in_err-get_or_insert-2.ensures.refused.1) (load_step_then (tried g (goal.at.returns-in_err-get_or_insert-2-clause-step g c).In_ok-get_or_insert).step (load_step_on c.before_l2.ensures.step))
 
 pub returns-in_err-get_or_insert-2-clause-sound : goal.returns-in_err-get_or_insert-2-clause-sound
 returns-in_err-get_or_insert-2-clause-sound g c =
-    rw (c.in_err-get_or_insert-2.ensures.refused.0, c.in_err-get_or_insert-2.ensures.refused.1) (soundly_then refl (l2_got_soundly g.S.Storage.view c.args.storage.now c.get_or_insert.new.store c.args.self.now c.get_or_insert.new.self c.get_or_insert.ensures.kept.others false c.args.cluster c.in_ok-get_or_insert.field-0 c.in_ok-get_or_insert.ensures.hit c.in_ok-get_or_insert.ensures.miss c.get_or_insert.ensures.kept.distinct (λ flush. never flush))
-    c.before_l2.ensures.sound)
+    rw (c.in_err-get_or_insert-2.ensures.refused.0, c.in_err-get_or_insert-2.ensures.refused.1) (soundly_then refl (tried g (goal.at.returns-in_err-get_or_insert-2-clause-sound g c).In_ok-get_or_insert).sound c.before_l2.ensures.sound)
+
+pub returns-in_err-get_or_insert-2-clause-gets : goal.returns-in_err-get_or_insert-2-clause-gets
+returns-in_err-get_or_insert-2-clause-gets g c =
+    rw (c.in_err-get_or_insert-2.ensures.refused.0, c.in_err-get_or_insert-2.ensures.refused.1) (gets_none L2DependsOnRb (tried g (goal.at.returns-in_err-get_or_insert-2-clause-gets g c).In_ok-get_or_insert) (c.in_ok-branch.was ∙ ap Ok c.if-branch.false) c.before_l2.ensures.way
+    c.from_residual-in_err-get_or_insert-2.result (on_no_ok _ c.from_residual-in_err-get_or_insert-2.result I.Memory c.from_residual-in_err-get_or_insert-2.ensures))

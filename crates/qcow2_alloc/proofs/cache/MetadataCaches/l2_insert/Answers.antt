@@ -1,216 +1,134 @@
-use Rattle.std.proofs.Common.{◌≡◌, ◌+◌, ◌*◌, Bool, true, false, inr, Some, Result, Ok, Err, refl, sym, ap, ◌∙◌, eqb}
-use Rattle.qcow2_alloc.proofs.Common.{inl, cluster_size, of_cache, Bytes, storage_of, laid_at}
-use Rattle.qcow2_alloc.proofs.Lemmas.{table_put, l2_taken, taken_at_last, if_some, stay_then, table_put_refused, put_at_last, laid_then, table_kept, table_laid, tables_as, table_put_clean, order_then, table_put_in_order, quiet_none, quiet_then, table_eviction, table_put_quietly, table_put_waits, table_put_same, stays_same, stays_then, values_stay, never, on_no_ok, apart_then, table_kept_apart, table_put_apart, tables_under_then, l2_put_tells, fails_by, fails_ok, fails_on, fails_since, memory_other, cache_step_none, put_step_as, put_step_on, put_step_then, soundly_none, soundly_then, fails_cache, puts_refused, keeps_written, l2_put_step, l2_kept_soundly, table_put_as, fails_putting}
+use Rattle.std.proofs.Common.{◌≡◌}
+use Rattle.qcow2_alloc.proofs.Common.{inl, inr, true, false, Some, Ok, refl, sym, ap, ◌∙◌, eqb, of_cache, storage_of, laid_at, AreClean, l2_tables}
+use Rattle.qcow2_alloc.proofs.Lemmas.{if_some, put_at_last, laid_then, tables_as, table_put_clean, quiet_none, stays_same, values_stay, never, on_no_ok, tables_under_then, fails_by, fails_ok, fails_on, fails_since, memory_other, cache_step_none, put_step_as, put_step_on, put_step_then, soundly_none, soundly_then, fails_cache, puts_refused, keeps_written, table_put_as, fails_putting}
+use Rattle.qcow2_alloc.proofs.Tries.{PutsTableFor, puts_table, held, puts_at_once, puts_none, puts_again, soundly_at_once, soundly_again}
+use Rattle.qcow2_laws.specs.Clusters.{L2DependsOnRb}
 use Rattle.qcow2_alloc.specs.declared.error.ImageError.TheVariants as I
+use Rattle.qcow2_alloc.proofs.cache.MetadataCaches.l2_insert.Given.{Over}
+use Rattle.qcow2_alloc.proofs.cache.MetadataCaches.l2_insert.Goals.{In_ok-insert, In_ok-insert-2}
 use Rattle.qcow2_alloc.proofs.cache.MetadataCaches.l2_insert.Goals as goal
 
-ok_false : {E : Type 0} {r : Result Bool E} → r ≡ Ok false → r ≡ Ok true → ⊥
-ok_false a b = let e = sym a ∙ b in cc
+-- What the first try does, and what the second one does.
+tried : (g : Over) (c : In_ok-insert g) → PutsTableFor g.S.Storage.view c.in-Some.cluster c.args.table false c.args.storage.now c.args.self.now c.in_ok-insert.field-0 c.insert.new.value c.insert.new.store (record c.args.self.now { l2 = c.insert.new.self })
+tried g c = puts_table g.S.Storage.view false c.in-Some.cluster c.args.storage.now c.insert.new.store c.args.self.now c.in_ok-insert.field-0 c.insert.ensures.keeps.0 c.insert.new.self c.insert.ensures.kept (λ flush. never flush) c.args.table (Some c.args.table) c.insert.new.value refl (sym c.get_cluster.ensures.value ∙ c.in-Some.is) c.in_ok-insert.ensures.there c.in_ok-insert.ensures.missing
 
-err_ok : {E : Type 0} {r : Result Bool E} {x : E} → r ≡ Err x → r ≡ Ok true → ⊥
-err_ok a b = let e = sym a ∙ b in cc
+tried_again : (g : Over) (c : In_ok-insert-2 g) → c.insert.new.value ≡ Some c.args.table
+    → PutsTableFor g.S.Storage.view c.in-Some.cluster c.args.table true c.before_l2.new.storage c.before_l2.new.self c.in_ok-insert-2.field-0 c.insert-2.new.value c.insert-2.new.store (record c.before_l2.new.self { l2 = c.insert-2.new.self })
+tried_again g c left = puts_table g.S.Storage.view true c.in-Some.cluster c.before_l2.new.storage c.insert-2.new.store c.before_l2.new.self c.in_ok-insert-2.field-0 c.insert-2.ensures.keeps.0 c.insert-2.new.self c.insert-2.ensures.kept (λ _. c.in_ok-before_l2.ensures.way.first) c.args.table c.insert.new.value c.insert-2.new.value left (sym c.get_cluster.ensures.value ∙ c.in-Some.is) c.in_ok-insert-2.ensures.there c.in_ok-insert-2.ensures.missing
 
--- two answers of one call
-alike : {A E : Type 0} {r : Result A E} {x y : A} → r ≡ Ok x → r ≡ Ok y → x ≡ y
-alike a b = let e = sym a ∙ b in cc
+-- The L2 tables are unmodified still after the first try, and after way was made.
+clean : (g : Over) (c : In_ok-insert g) → AreClean (l2_tables c.args.self.now) → c.args.table.is_modified ≡ false → AreClean (l2_tables (record c.args.self.now { l2 = c.insert.new.self }))
+clean g c = table_put_clean g.S.Storage.view c.args.storage.now c.insert.new.store c.args.self.now false c.in-Some.cluster c.insert.new.self c.args.table (Some c.args.table) c.insert.new.value refl c.in_ok-insert.field-0 c.in_ok-insert.ensures.there c.in_ok-insert.ensures.missing
 
-pub returns-in_err-branch-clause-step : goal.returns-in_err-branch-clause-step
-returns-in_err-branch-clause-step g c =
-    put_step_as (sym c.get_cluster.ensures.value ∙ c.in-Some.is) (l2_put_step g.S.Storage.view c.args.storage.now c.insert.new.store c.args.self.now false c.in-Some.cluster c.insert.new.self c.insert.ensures.kept.others c.args.table (Some c.args.table) c.insert.new.value refl c.in_ok-insert.field-0 c.in_ok-insert.ensures.there c.in_ok-insert.ensures.missing c.insert.ensures.kept.pins c.insert.ensures.keeps.0 c.insert.ensures.kept.stays)
+clean_again : (g : Over) (c : In_ok-insert-2 g) → c.insert.new.value ≡ Some c.args.table → AreClean (l2_tables c.before_l2.new.self) → c.args.table.is_modified ≡ false → AreClean (l2_tables (record c.before_l2.new.self { l2 = c.insert-2.new.self }))
+clean_again g c left = table_put_clean g.S.Storage.view c.before_l2.new.storage c.insert-2.new.store c.before_l2.new.self true c.in-Some.cluster c.insert-2.new.self c.args.table c.insert.new.value c.insert-2.new.value left c.in_ok-insert-2.field-0 c.in_ok-insert-2.ensures.there c.in_ok-insert-2.ensures.missing
 
-pub returns-in_err-branch-clause-fails : goal.returns-in_err-branch-clause-fails
-returns-in_err-branch-clause-fails g c =
-    fails_cache c.in_ok-insert.field-0 c.in_err-branch.field-0.0 c.from_residual-in_err-branch.result
-    (l2_put_tells g.S.Storage.view c.args.self.now.l2.backend.header.fields c.args.self.now.l2.size false c.in-Some.cluster c.args.storage.now c.insert.new.store c.args.self.now.l2.entries c.insert.new.self.entries c.in_ok-insert.field-0 (Some c.args.table) c.insert.new.value _ (λ none. let n = c.insert.ensures.nothing none in (alike c.in_ok-insert.was n.0, n.1, n.2, n.3)) c.in_ok-insert.ensures.there c.in_ok-insert.ensures.missing)
-    c.in_err-branch.was c.from_residual-in_err-branch.ensures
-    (table_put_as c.args.self.now c.args.self.now (of_cache c.in_err-branch.field-0.0) refl (table_put_refused g.S.Storage.view c.args.storage.now c.insert.new.store c.args.self.now false c.in-Some.cluster c.in_ok-insert.field-0 c.in_err-branch.field-0.0 c.in_err-branch.was c.insert.new.self c.args.table (Some c.args.table) c.insert.new.value refl c.in_ok-insert.ensures.there c.in_ok-insert.ensures.missing))
+pub returns-in_err-branch : goal.returns-in_err-branch
+returns-in_err-branch g c =
+    let path = goal.at.returns-in_err-branch g c in
+    let one = tried g path.In_ok-insert in
+    let is = sym c.get_cluster.ensures.value ∙ c.in-Some.is in
+    let e = c.in_err-branch.field-0.0 in
+    record {
+      step = put_step_as is one.step;
+      fails = fails_cache c.in_ok-insert.field-0 e c.from_residual-in_err-branch.result one.tries.told c.in_err-branch.was c.from_residual-in_err-branch.ensures (table_put_as c.args.self.now c.args.self.now (of_cache e) refl (one.tries.refused e c.in_err-branch.was));
+      sound = puts_refused c.from_residual-in_err-branch.result (of_cache e) c.from_residual-in_err-branch.ensures (one.sound (λ went. let bad = sym c.in_err-branch.was ∙ went in cc));
+      puts = puts_at_once one c.args.table.cluster is L2DependsOnRb c.from_residual-in_err-branch.result (on_no_ok _ c.from_residual-in_err-branch.result (of_cache e) c.from_residual-in_err-branch.ensures);
+      written = keeps_written refl (clean g path.In_ok-insert) (λ all. all);
+    }
 
-pub returns-in_err-branch-clause-sound : goal.returns-in_err-branch-clause-sound
-returns-in_err-branch-clause-sound g c =
-    puts_refused c.from_residual-in_err-branch.result (of_cache c.in_err-branch.field-0.0) c.from_residual-in_err-branch.ensures
-    (l2_kept_soundly g.S.Storage.view c.args.storage.now c.insert.new.store c.args.self.now false c.in-Some.cluster c.insert.new.self c.insert.ensures.kept.others c.args.table (Some c.args.table) c.insert.new.value refl c.in_ok-insert.field-0 c.in_ok-insert.ensures.there c.in_ok-insert.ensures.missing c.insert.ensures.kept.distinct (λ flush. never flush) (λ went. err_ok c.in_err-branch.was went))
+pub returns-then-branch : goal.returns-then-branch
+returns-then-branch g c =
+    let path = goal.at.returns-then-branch g c in
+    let one = tried g path.In_ok-insert in
+    let is = sym c.get_cluster.ensures.value ∙ c.in-Some.is in
+    let went = c.in_ok-branch.was ∙ ap Ok c.if-branch.true in
+    record {
+      step = put_step_as is one.step;
+      fails = fails_ok (one.tries.told.same _ c.in_ok-branch.was);
+      sound = soundly_at_once one c.args.table.cluster is went;
+      puts = puts_at_once one c.args.table.cluster is L2DependsOnRb (Ok tt) (if_some _ c.args.table.cluster c.in-Some.cluster is (one.taken.new_data went));
+      written = keeps_written refl (clean g path.In_ok-insert) (λ all. all);
+    }
 
-pub returns-in_err-branch-clause-puts : goal.returns-in_err-branch-clause-puts
-returns-in_err-branch-clause-puts g c = record {
-  cached = on_no_ok _ c.from_residual-in_err-branch.result (of_cache c.in_err-branch.field-0.0) c.from_residual-in_err-branch.ensures;
-  stay = if_some _ c.args.table.cluster c.in-Some.cluster (sym c.get_cluster.ensures.value ∙ c.in-Some.is) (values_stay c.in-Some.cluster c.args.self.now.l2.entries c.insert.new.self.entries c.insert.ensures.kept.stays);
-  others_stay = λ _. refl;
-  quiet = if_some _ c.args.table.cluster c.in-Some.cluster (sym c.get_cluster.ensures.value ∙ c.in-Some.is) (λ may. table_put_quietly g.S.Storage.view c.args.storage.now c.insert.new.store c.args.self.now false c.in-Some.cluster c.insert.new.self c.args.table (Some c.args.table) c.insert.new.value refl c.in_ok-insert.field-0 c.in_ok-insert.ensures.there c.in_ok-insert.ensures.missing (λ flush. never flush));
+pub returns-in_err-before_l2 : goal.returns-in_err-before_l2
+returns-in_err-before_l2 g c =
+    let path = goal.at.returns-in_err-before_l2 g c in
+    let one = tried g path.In_ok-insert in
+    let is = sym c.get_cluster.ensures.value ∙ c.in-Some.is in
+    let full = c.in_ok-branch.was ∙ ap Ok c.if-branch.false in
+    let e = c.in_err-before_l2.field-0.0 in
+    record {
+      step = put_step_as is (put_step_then one.step (put_step_on c.before_l2.ensures.step));
+      fails = fails_since (one.tries.told.same _ c.in_ok-branch.was) (fails_on c.from_residual-in_err-before_l2.result e c.from_residual-in_err-before_l2.ensures (fails_putting (λ fit. fit.1) c.in_err-before_l2.ensures.fails));
+      sound = puts_refused c.from_residual-in_err-before_l2.result e c.from_residual-in_err-before_l2.ensures (soundly_then refl (one.sound (λ went. let bad = sym full ∙ went in cc)) c.before_l2.ensures.sound);
+      puts = puts_none one c.args.table.cluster is full c.before_l2.ensures.way c.from_residual-in_err-before_l2.result (on_no_ok _ c.from_residual-in_err-before_l2.result e c.from_residual-in_err-before_l2.ensures);
+      written = keeps_written c.before_l2.ensures.step.marks.order (λ all unmodified. tables_as (record c.args.self.now { l2 = c.insert.new.self }) c.before_l2.new.self c.before_l2.ensures.way.stays (clean g path.In_ok-insert all unmodified)) c.before_l2.ensures.blocks;
+    }
+
+pub returns-in_err-branch-2 : goal.returns-in_err-branch-2
+returns-in_err-branch-2 g c =
+    let path = goal.at.returns-in_err-branch-2 g c in
+    let one = tried g path.In_ok-insert in
+    let full = c.in_ok-branch.was ∙ ap Ok c.if-branch.false in
+    let two = tried_again g path.In_ok-insert-2 (one.taken.kept full) in
+    let is = sym c.get_cluster.ensures.value ∙ c.in-Some.is in
+    let e = c.in_err-branch-2.field-0.0 in
+    record {
+      step = put_step_as is (put_step_then (put_step_then one.step (put_step_on c.before_l2.ensures.step)) two.step);
+      fails = fails_since (c.in_ok-before_l2.ensures.fails.told ∙ one.tries.told.same _ c.in_ok-branch.was)
+          (fails_cache c.in_ok-insert-2.field-0 e c.from_residual-in_err-branch-2.result two.tries.told c.in_err-branch-2.was c.from_residual-in_err-branch-2.ensures
+          (table_put_as c.args.self.now c.before_l2.new.self (of_cache e) (held one.tries full c.before_l2.ensures.way) (two.tries.refused e c.in_err-branch-2.was)));
+      sound = puts_refused c.from_residual-in_err-branch-2.result (of_cache e) c.from_residual-in_err-branch-2.ensures
+          (soundly_then c.before_l2.ensures.step.marks.order (soundly_then refl (one.sound (λ went. let bad = sym full ∙ went in cc)) c.before_l2.ensures.sound) (two.sound (λ went. let bad = sym c.in_err-branch-2.was ∙ went in cc)));
+      puts = puts_again one c.args.table.cluster is full c.before_l2.ensures.way two c.from_residual-in_err-branch-2.result (on_no_ok _ c.from_residual-in_err-branch-2.result (of_cache e) c.from_residual-in_err-branch-2.ensures);
+      written = keeps_written c.before_l2.ensures.step.marks.order (λ all unmodified. clean_again g path.In_ok-insert-2 (one.taken.kept full) (tables_as (record c.args.self.now { l2 = c.insert.new.self }) c.before_l2.new.self c.before_l2.ensures.way.stays (clean g path.In_ok-insert all unmodified)) unmodified) c.before_l2.ensures.blocks;
+    }
+
+pub returns : goal.returns
+returns g c =
+    let path = goal.at.returns g c in
+    let view = g.S.Storage.view in
+    let one = tried g path.In_ok-insert in
+    let full = c.in_ok-branch.was ∙ ap Ok c.if-branch.false in
+    let two = tried_again g path.In_ok-insert-2 (one.taken.kept full) in
+    let went = put_at_last c.in-Some.cluster c.args.table c.insert-2.new.self.entries c.in_ok-insert-2.field-0 c.insert-2.new.value c.in_ok-branch-2.field-0 c.in_ok-branch-2.was two.taken in
+    let is = sym c.get_cluster.ensures.value ∙ c.in-Some.is in
+    let a = c.args.self.now in
+    let before = c.before_l2.new.self in
+    let d = record before { l2 = c.insert-2.new.self } in
+    let same = c.before_l2.ensures.step.marks.order in
+    let kept = soundly_then refl (one.sound (λ went. let bad = sym full ∙ went in cc)) c.before_l2.ensures.sound in
+    record {
+      step = put_step_as is (put_step_then (put_step_then one.step (put_step_on c.before_l2.ensures.step)) two.step);
+      fails = fails_ok (two.tries.told.same _ c.in_ok-branch-2.was ∙ (c.in_ok-before_l2.ensures.fails.told ∙ one.tries.told.same _ c.in_ok-branch.was));
+      sound = soundly_again one c.args.table.cluster is full c.before_l2.ensures.way two kept same
+          (λ h p honest sound fits marked.
+          let k = kept.keeps h p honest sound in
+          if_some _ c.args.table.cluster c.in-Some.cluster is (laid_then view h p c.args.storage.now c.before_l2.new.storage c.insert-2.new.store a before d (laid_at h c.in-Some.cluster c.args.table.bytes) _ _ k (rw is at (two.lays went h p k.honest k.sound fits marked))))
+          (λ h honest are. if_some _ c.args.table.cluster c.in-Some.cluster is (tables_under_then view c.args.storage.now c.before_l2.new.storage c.insert-2.new.store a before d c.in-Some.cluster c.args.table.bytes c.args.table.is_modified same kept.apart (λ h honest are. rw is at (two.lays_apart went h honest are)) h honest are));
+      puts = puts_again one c.args.table.cluster is full c.before_l2.ensures.way two (Ok tt) (if_some _ c.args.table.cluster c.in-Some.cluster is (two.taken.new_data went));
+      written = keeps_written same (λ all unmodified. clean_again g path.In_ok-insert-2 (one.taken.kept full) (tables_as (record a { l2 = c.insert.new.self }) before c.before_l2.ensures.way.stays (clean g path.In_ok-insert all unmodified)) unmodified) c.before_l2.ensures.blocks;
+    }
+
+pub returns-in_err-insert-2 : goal.returns-in_err-insert-2
+returns-in_err-insert-2 g c = record {
+  step =
+      rw (c.in_err-insert-2.ensures.refused.0, c.in_err-insert-2.ensures.refused.1) (put_step_as (sym c.get_cluster.ensures.value ∙ c.in-Some.is) (put_step_then (tried g (goal.at.returns-in_err-insert-2 g c).In_ok-insert).step (put_step_on c.before_l2.ensures.step)));
+  fails =
+      rw c.in_err-insert-2.ensures.refused.1 (fails_since (c.in_ok-before_l2.ensures.fails.told ∙ (tried g (goal.at.returns-in_err-insert-2 g c).In_ok-insert).tries.told.same _ c.in_ok-branch.was)
+      (fails_on c.from_residual-in_err-insert-2.result I.Memory c.from_residual-in_err-insert-2.ensures (fails_by I.Memory memory_other refl (inr (inl (inr refl))))));
+  sound =
+      let full = c.in_ok-branch.was ∙ ap Ok c.if-branch.false in
+      rw (c.in_err-insert-2.ensures.refused.0, c.in_err-insert-2.ensures.refused.1) (puts_refused c.from_residual-in_err-insert-2.result I.Memory c.from_residual-in_err-insert-2.ensures
+      (soundly_then refl ((tried g (goal.at.returns-in_err-insert-2 g c).In_ok-insert).sound (λ went. let bad = sym full ∙ went in cc)) c.before_l2.ensures.sound));
+  puts =
+      let path = goal.at.returns-in_err-insert-2 g c in
+      rw (c.in_err-insert-2.ensures.refused.0, c.in_err-insert-2.ensures.refused.1) (puts_none (tried g path.In_ok-insert) c.args.table.cluster (sym c.get_cluster.ensures.value ∙ c.in-Some.is) (c.in_ok-branch.was ∙ ap Ok c.if-branch.false) c.before_l2.ensures.way c.from_residual-in_err-insert-2.result
+      (on_no_ok _ c.from_residual-in_err-insert-2.result I.Memory c.from_residual-in_err-insert-2.ensures));
+  written =
+      rw c.in_err-insert-2.ensures.refused.0 (keeps_written c.before_l2.ensures.step.marks.order (λ all unmodified. tables_as (record c.args.self.now { l2 = c.insert.new.self }) c.before_l2.new.self c.before_l2.ensures.way.stays (clean g (goal.at.returns-in_err-insert-2 g c).In_ok-insert all unmodified)) c.before_l2.ensures.blocks);
 }
-
-pub returns-in_err-branch-clause-written : goal.returns-in_err-branch-clause-written
-returns-in_err-branch-clause-written g c = keeps_written refl (λ all clean. table_put_clean g.S.Storage.view c.args.storage.now c.insert.new.store c.args.self.now false c.in-Some.cluster c.insert.new.self c.args.table (Some c.args.table) c.insert.new.value refl c.in_ok-insert.field-0 c.in_ok-insert.ensures.there c.in_ok-insert.ensures.missing all clean) (λ all. all)
-
-pub returns-then-branch-clause-step : goal.returns-then-branch-clause-step
-returns-then-branch-clause-step g c =
-    put_step_as (sym c.get_cluster.ensures.value ∙ c.in-Some.is) (l2_put_step g.S.Storage.view c.args.storage.now c.insert.new.store c.args.self.now false c.in-Some.cluster c.insert.new.self c.insert.ensures.kept.others c.args.table (Some c.args.table) c.insert.new.value refl c.in_ok-insert.field-0 c.in_ok-insert.ensures.there c.in_ok-insert.ensures.missing c.insert.ensures.kept.pins c.insert.ensures.keeps.0 c.insert.ensures.kept.stays)
-
-pub returns-then-branch-clause-fails : goal.returns-then-branch-clause-fails
-returns-then-branch-clause-fails g c = fails_ok ((l2_put_tells g.S.Storage.view c.args.self.now.l2.backend.header.fields c.args.self.now.l2.size false c.in-Some.cluster c.args.storage.now c.insert.new.store c.args.self.now.l2.entries c.insert.new.self.entries c.in_ok-insert.field-0 (Some c.args.table) c.insert.new.value _ (λ none. let n = c.insert.ensures.nothing none in (alike c.in_ok-insert.was n.0, n.1, n.2, n.3)) c.in_ok-insert.ensures.there c.in_ok-insert.ensures.missing).same _ c.in_ok-branch.was)
-
-pub returns-then-branch-clause-sound : goal.returns-then-branch-clause-sound
-returns-then-branch-clause-sound g c = record {
-  keeps = λ h p honest sound fits clean holds.
-      table_put g.S.Storage.view c.args.storage.now c.insert.new.store c.args.self.now false c.in-Some.cluster c.insert.new.self c.insert.ensures.kept.others c.args.table (Some c.args.table) c.insert.new.value refl c.in_ok-insert.field-0 c.in_ok-insert.ensures.there c.in_ok-insert.ensures.missing (λ flush. never flush) h p honest sound fits clean (rw (sym c.get_cluster.ensures.value ∙ c.in-Some.is) at holds);
-  laid = λ h p honest sound fits marked.
-      if_some _ c.args.table.cluster c.in-Some.cluster (sym c.get_cluster.ensures.value ∙ c.in-Some.is)
-      (table_laid g.S.Storage.view c.args.storage.now c.insert.new.store c.args.self.now false c.in-Some.cluster c.insert.new.self c.insert.ensures.kept.others c.args.table (Some c.args.table) c.insert.new.value refl c.in_ok-insert.field-0 c.in_ok-insert.ensures.there c.in_ok-insert.ensures.missing (λ flush. never flush) h p honest sound (c.in_ok-branch.was ∙ ap Ok c.if-branch.true) fits marked);
-  laid_apart = λ h honest are. if_some _ c.args.table.cluster c.in-Some.cluster (sym c.get_cluster.ensures.value ∙ c.in-Some.is) (table_put_apart g.S.Storage.view c.args.storage.now c.insert.new.store c.args.self.now c.insert.new.self c.insert.ensures.kept.others c.insert.ensures.kept.distinct false c.in-Some.cluster c.in_ok-insert.field-0 (λ flush. never flush) c.args.table (Some c.args.table) c.insert.new.value refl c.in_ok-insert.ensures.there c.in_ok-insert.ensures.missing (c.in_ok-branch.was ∙ ap Ok c.if-branch.true) h honest are);
-  refused = tt;
-  apart = tt;
-  ordered = table_put_in_order g.S.Storage.view c.args.storage.now c.insert.new.store c.args.self.now false c.in-Some.cluster c.insert.new.self c.args.table (Some c.args.table) c.insert.new.value refl c.in_ok-insert.field-0 c.in_ok-insert.ensures.there c.in_ok-insert.ensures.missing (λ flush. never flush);
-}
-
-pub returns-then-branch-clause-puts : goal.returns-then-branch-clause-puts
-returns-then-branch-clause-puts g c = record {
-  cached =
-      if_some _ c.args.table.cluster c.in-Some.cluster (sym c.get_cluster.ensures.value ∙ c.in-Some.is) ((l2_taken g.S.Storage.view c.args.storage.now c.insert.new.store c.args.self.now false c.in-Some.cluster c.insert.new.self c.insert.ensures.kept.others c.args.table (Some c.args.table) c.insert.new.value refl c.in_ok-insert.field-0 c.in_ok-insert.ensures.there c.in_ok-insert.ensures.missing).new_data (c.in_ok-branch.was ∙ ap Ok c.if-branch.true));
-  stay = if_some _ c.args.table.cluster c.in-Some.cluster (sym c.get_cluster.ensures.value ∙ c.in-Some.is) (values_stay c.in-Some.cluster c.args.self.now.l2.entries c.insert.new.self.entries c.insert.ensures.kept.stays);
-  others_stay = λ _. refl;
-  quiet = if_some _ c.args.table.cluster c.in-Some.cluster (sym c.get_cluster.ensures.value ∙ c.in-Some.is) (λ may. table_put_quietly g.S.Storage.view c.args.storage.now c.insert.new.store c.args.self.now false c.in-Some.cluster c.insert.new.self c.args.table (Some c.args.table) c.insert.new.value refl c.in_ok-insert.field-0 c.in_ok-insert.ensures.there c.in_ok-insert.ensures.missing (λ flush. never flush));
-}
-
-pub returns-then-branch-clause-written : goal.returns-then-branch-clause-written
-returns-then-branch-clause-written g c = keeps_written refl (λ all clean. table_put_clean g.S.Storage.view c.args.storage.now c.insert.new.store c.args.self.now false c.in-Some.cluster c.insert.new.self c.args.table (Some c.args.table) c.insert.new.value refl c.in_ok-insert.field-0 c.in_ok-insert.ensures.there c.in_ok-insert.ensures.missing all clean) (λ all. all)
-
-pub returns-in_err-before_l2-clause-step : goal.returns-in_err-before_l2-clause-step
-returns-in_err-before_l2-clause-step g c =
-    put_step_as (sym c.get_cluster.ensures.value ∙ c.in-Some.is) (put_step_then (l2_put_step g.S.Storage.view c.args.storage.now c.insert.new.store c.args.self.now false c.in-Some.cluster c.insert.new.self c.insert.ensures.kept.others c.args.table (Some c.args.table) c.insert.new.value refl c.in_ok-insert.field-0 c.in_ok-insert.ensures.there c.in_ok-insert.ensures.missing c.insert.ensures.kept.pins c.insert.ensures.keeps.0 c.insert.ensures.kept.stays)
-    (put_step_on c.before_l2.ensures.step))
-
-pub returns-in_err-before_l2-clause-fails : goal.returns-in_err-before_l2-clause-fails
-returns-in_err-before_l2-clause-fails g c =
-    fails_since ((l2_put_tells g.S.Storage.view c.args.self.now.l2.backend.header.fields c.args.self.now.l2.size false c.in-Some.cluster c.args.storage.now c.insert.new.store c.args.self.now.l2.entries c.insert.new.self.entries c.in_ok-insert.field-0 (Some c.args.table) c.insert.new.value _ (λ none. let n = c.insert.ensures.nothing none in (alike c.in_ok-insert.was n.0, n.1, n.2, n.3)) c.in_ok-insert.ensures.there c.in_ok-insert.ensures.missing).same _ c.in_ok-branch.was)
-    (fails_on c.from_residual-in_err-before_l2.result c.in_err-before_l2.field-0.0 c.from_residual-in_err-before_l2.ensures (fails_putting (λ fit. fit.1) c.in_err-before_l2.ensures.fails))
-
-pub returns-in_err-before_l2-clause-sound : goal.returns-in_err-before_l2-clause-sound
-returns-in_err-before_l2-clause-sound g c =
-    puts_refused c.from_residual-in_err-before_l2.result c.in_err-before_l2.field-0.0 c.from_residual-in_err-before_l2.ensures
-    (soundly_then refl (l2_kept_soundly g.S.Storage.view c.args.storage.now c.insert.new.store c.args.self.now false c.in-Some.cluster c.insert.new.self c.insert.ensures.kept.others c.args.table (Some c.args.table) c.insert.new.value refl c.in_ok-insert.field-0 c.in_ok-insert.ensures.there c.in_ok-insert.ensures.missing c.insert.ensures.kept.distinct (λ flush. never flush) (λ went. ok_false (c.in_ok-branch.was ∙ ap Ok c.if-branch.false) went))
-    c.before_l2.ensures.sound)
-
-pub returns-in_err-before_l2-clause-puts : goal.returns-in_err-before_l2-clause-puts
-returns-in_err-before_l2-clause-puts g c = record {
-  cached = on_no_ok _ c.from_residual-in_err-before_l2.result c.in_err-before_l2.field-0.0 c.from_residual-in_err-before_l2.ensures;
-  stay = if_some _ c.args.table.cluster c.in-Some.cluster (sym c.get_cluster.ensures.value ∙ c.in-Some.is) (values_stay c.in-Some.cluster c.args.self.now.l2.entries c.before_l2.new.self.l2.entries (stays_then eqb c.in-Some.cluster c.args.self.now.l2.entries c.insert.new.self.entries c.before_l2.new.self.l2.entries c.insert.ensures.kept.stays (stays_same eqb c.in-Some.cluster c.insert.new.self.entries c.before_l2.new.self.l2.entries (ap (λ x. x.entries) c.before_l2.ensures.way.stays))));
-  others_stay = c.before_l2.ensures.way.others_stay;
-  quiet = if_some _ c.args.table.cluster c.in-Some.cluster (sym c.get_cluster.ensures.value ∙ c.in-Some.is) (λ may honest.
-      let eviction = table_put_waits g.S.Storage.view c.args.storage.now c.insert.new.store c.args.self.now false c.in-Some.cluster c.insert.new.self c.args.table (Some c.args.table) c.insert.new.value refl c.in_ok-insert.field-0 c.in_ok-insert.ensures.there c.in_ok-insert.ensures.missing (c.in_ok-branch.was ∙ ap Ok c.if-branch.false) may in
-      let one = table_put_quietly g.S.Storage.view c.args.storage.now c.insert.new.store c.args.self.now false c.in-Some.cluster c.insert.new.self c.args.table (Some c.args.table) c.insert.new.value refl c.in_ok-insert.field-0 c.in_ok-insert.ensures.there c.in_ok-insert.ensures.missing (λ flush. never flush) honest in
-      quiet_then (g.S.Storage.view (storage_of c.args.storage.now)) (g.S.Storage.view (storage_of c.insert.new.store)) (g.S.Storage.view (storage_of c.before_l2.new.storage)) one (c.before_l2.ensures.way.quiet eviction.0 one.honest));
-}
-
-pub returns-in_err-before_l2-clause-written : goal.returns-in_err-before_l2-clause-written
-returns-in_err-before_l2-clause-written g c = keeps_written c.before_l2.ensures.step.marks.order (λ all clean. tables_as (record c.args.self.now { l2 = c.insert.new.self }) c.before_l2.new.self c.before_l2.ensures.way.stays (table_put_clean g.S.Storage.view c.args.storage.now c.insert.new.store c.args.self.now false c.in-Some.cluster c.insert.new.self c.args.table (Some c.args.table) c.insert.new.value refl c.in_ok-insert.field-0 c.in_ok-insert.ensures.there c.in_ok-insert.ensures.missing all clean)) c.before_l2.ensures.blocks
-
-pub returns-in_err-branch-2-clause-step : goal.returns-in_err-branch-2-clause-step
-returns-in_err-branch-2-clause-step g c =
-    put_step_as (sym c.get_cluster.ensures.value ∙ c.in-Some.is) (put_step_then (put_step_then (l2_put_step g.S.Storage.view c.args.storage.now c.insert.new.store c.args.self.now false c.in-Some.cluster c.insert.new.self c.insert.ensures.kept.others c.args.table (Some c.args.table) c.insert.new.value refl c.in_ok-insert.field-0 c.in_ok-insert.ensures.there c.in_ok-insert.ensures.missing c.insert.ensures.kept.pins c.insert.ensures.keeps.0 c.insert.ensures.kept.stays)
-    (put_step_on c.before_l2.ensures.step))
-    (l2_put_step g.S.Storage.view c.before_l2.new.storage c.insert-2.new.store c.before_l2.new.self true c.in-Some.cluster c.insert-2.new.self c.insert-2.ensures.kept.others c.args.table c.insert.new.value c.insert-2.new.value ((l2_taken g.S.Storage.view c.args.storage.now c.insert.new.store c.args.self.now false c.in-Some.cluster c.insert.new.self c.insert.ensures.kept.others c.args.table (Some c.args.table) c.insert.new.value refl c.in_ok-insert.field-0 c.in_ok-insert.ensures.there c.in_ok-insert.ensures.missing).kept (c.in_ok-branch.was ∙ ap Ok c.if-branch.false)) c.in_ok-insert-2.field-0 c.in_ok-insert-2.ensures.there c.in_ok-insert-2.ensures.missing c.insert-2.ensures.kept.pins c.insert-2.ensures.keeps.0 c.insert-2.ensures.kept.stays))
-
-pub returns-in_err-branch-2-clause-fails : goal.returns-in_err-branch-2-clause-fails
-returns-in_err-branch-2-clause-fails g c =
-    fails_since (c.in_ok-before_l2.ensures.fails.told ∙ (l2_put_tells g.S.Storage.view c.args.self.now.l2.backend.header.fields c.args.self.now.l2.size false c.in-Some.cluster c.args.storage.now c.insert.new.store c.args.self.now.l2.entries c.insert.new.self.entries c.in_ok-insert.field-0 (Some c.args.table) c.insert.new.value _ (λ none. let n = c.insert.ensures.nothing none in (alike c.in_ok-insert.was n.0, n.1, n.2, n.3)) c.in_ok-insert.ensures.there c.in_ok-insert.ensures.missing).same _ c.in_ok-branch.was)
-    (fails_cache c.in_ok-insert-2.field-0 c.in_err-branch-2.field-0.0 c.from_residual-in_err-branch-2.result
-    (l2_put_tells g.S.Storage.view c.before_l2.new.self.l2.backend.header.fields c.before_l2.new.self.l2.size true c.in-Some.cluster c.before_l2.new.storage c.insert-2.new.store c.before_l2.new.self.l2.entries c.insert-2.new.self.entries c.in_ok-insert-2.field-0 c.insert.new.value c.insert-2.new.value _ (λ none. let n = c.insert-2.ensures.nothing none in (alike c.in_ok-insert-2.was n.0, n.1, n.2, n.3)) c.in_ok-insert-2.ensures.there c.in_ok-insert-2.ensures.missing)
-    c.in_err-branch-2.was c.from_residual-in_err-branch-2.ensures
-    (table_put_as c.args.self.now c.before_l2.new.self (of_cache c.in_err-branch-2.field-0.0) (c.before_l2.ensures.way.stays ∙ table_put_same g.S.Storage.view c.args.storage.now c.insert.new.store c.args.self.now false c.in-Some.cluster c.insert.new.self c.args.table (Some c.args.table) c.insert.new.value refl c.in_ok-insert.field-0 c.in_ok-insert.ensures.there c.in_ok-insert.ensures.missing c.insert.ensures.kept.others (c.in_ok-branch.was ∙ ap Ok c.if-branch.false))
-    (table_put_refused g.S.Storage.view c.before_l2.new.storage c.insert-2.new.store c.before_l2.new.self true c.in-Some.cluster c.in_ok-insert-2.field-0 c.in_err-branch-2.field-0.0 c.in_err-branch-2.was c.insert-2.new.self c.args.table c.insert.new.value c.insert-2.new.value ((l2_taken g.S.Storage.view c.args.storage.now c.insert.new.store c.args.self.now false c.in-Some.cluster c.insert.new.self c.insert.ensures.kept.others c.args.table (Some c.args.table) c.insert.new.value refl c.in_ok-insert.field-0 c.in_ok-insert.ensures.there c.in_ok-insert.ensures.missing).kept (c.in_ok-branch.was ∙ ap Ok c.if-branch.false)) c.in_ok-insert-2.ensures.there c.in_ok-insert-2.ensures.missing)))
-
-pub returns-in_err-branch-2-clause-sound : goal.returns-in_err-branch-2-clause-sound
-returns-in_err-branch-2-clause-sound g c =
-    puts_refused c.from_residual-in_err-branch-2.result (of_cache c.in_err-branch-2.field-0.0) c.from_residual-in_err-branch-2.ensures
-    (soundly_then c.before_l2.ensures.step.marks.order (soundly_then refl (l2_kept_soundly g.S.Storage.view c.args.storage.now c.insert.new.store c.args.self.now false c.in-Some.cluster c.insert.new.self c.insert.ensures.kept.others c.args.table (Some c.args.table) c.insert.new.value refl c.in_ok-insert.field-0 c.in_ok-insert.ensures.there c.in_ok-insert.ensures.missing c.insert.ensures.kept.distinct (λ flush. never flush) (λ went. ok_false (c.in_ok-branch.was ∙ ap Ok c.if-branch.false) went))
-    c.before_l2.ensures.sound)
-    (l2_kept_soundly g.S.Storage.view c.before_l2.new.storage c.insert-2.new.store c.before_l2.new.self true c.in-Some.cluster c.insert-2.new.self c.insert-2.ensures.kept.others c.args.table c.insert.new.value c.insert-2.new.value ((l2_taken g.S.Storage.view c.args.storage.now c.insert.new.store c.args.self.now false c.in-Some.cluster c.insert.new.self c.insert.ensures.kept.others c.args.table (Some c.args.table) c.insert.new.value refl c.in_ok-insert.field-0 c.in_ok-insert.ensures.there c.in_ok-insert.ensures.missing).kept (c.in_ok-branch.was ∙ ap Ok c.if-branch.false)) c.in_ok-insert-2.field-0 c.in_ok-insert-2.ensures.there c.in_ok-insert-2.ensures.missing c.insert-2.ensures.kept.distinct (λ _. c.in_ok-before_l2.ensures.way.first) (λ went. err_ok c.in_err-branch-2.was went)))
-
-pub returns-in_err-branch-2-clause-puts : goal.returns-in_err-branch-2-clause-puts
-returns-in_err-branch-2-clause-puts g c = record {
-  cached = on_no_ok _ c.from_residual-in_err-branch-2.result (of_cache c.in_err-branch-2.field-0.0) c.from_residual-in_err-branch-2.ensures;
-  stay = if_some _ c.args.table.cluster c.in-Some.cluster (sym c.get_cluster.ensures.value ∙ c.in-Some.is) (values_stay c.in-Some.cluster c.args.self.now.l2.entries c.insert-2.new.self.entries (stays_then eqb c.in-Some.cluster c.args.self.now.l2.entries c.before_l2.new.self.l2.entries c.insert-2.new.self.entries (stays_then eqb c.in-Some.cluster c.args.self.now.l2.entries c.insert.new.self.entries c.before_l2.new.self.l2.entries c.insert.ensures.kept.stays (stays_same eqb c.in-Some.cluster c.insert.new.self.entries c.before_l2.new.self.l2.entries (ap (λ x. x.entries) c.before_l2.ensures.way.stays))) c.insert-2.ensures.kept.stays));
-  others_stay = c.before_l2.ensures.way.others_stay;
-  quiet = if_some _ c.args.table.cluster c.in-Some.cluster (sym c.get_cluster.ensures.value ∙ c.in-Some.is) (λ may honest.
-      let eviction = table_put_waits g.S.Storage.view c.args.storage.now c.insert.new.store c.args.self.now false c.in-Some.cluster c.insert.new.self c.args.table (Some c.args.table) c.insert.new.value refl c.in_ok-insert.field-0 c.in_ok-insert.ensures.there c.in_ok-insert.ensures.missing (c.in_ok-branch.was ∙ ap Ok c.if-branch.false) may in
-      let one = table_put_quietly g.S.Storage.view c.args.storage.now c.insert.new.store c.args.self.now false c.in-Some.cluster c.insert.new.self c.args.table (Some c.args.table) c.insert.new.value refl c.in_ok-insert.field-0 c.in_ok-insert.ensures.there c.in_ok-insert.ensures.missing (λ flush. never flush) honest in
-      let two = c.before_l2.ensures.way.quiet eviction.0 one.honest in
-      let same = c.before_l2.ensures.way.stays ∙ table_put_same g.S.Storage.view c.args.storage.now c.insert.new.store c.args.self.now false c.in-Some.cluster c.insert.new.self c.args.table (Some c.args.table) c.insert.new.value refl c.in_ok-insert.field-0 c.in_ok-insert.ensures.there c.in_ok-insert.ensures.missing c.insert.ensures.kept.others (c.in_ok-branch.was ∙ ap Ok c.if-branch.false) in
-      let next = table_eviction c.args.self.now.l2 c.before_l2.new.self.l2 c.in-Some.cluster same eviction.1 in
-      quiet_then (g.S.Storage.view (storage_of c.args.storage.now)) (g.S.Storage.view (storage_of c.before_l2.new.storage)) (g.S.Storage.view (storage_of c.insert-2.new.store)) (quiet_then (g.S.Storage.view (storage_of c.args.storage.now)) (g.S.Storage.view (storage_of c.insert.new.store)) (g.S.Storage.view (storage_of c.before_l2.new.storage)) one two) (table_put_quietly g.S.Storage.view c.before_l2.new.storage c.insert-2.new.store c.before_l2.new.self true c.in-Some.cluster c.insert-2.new.self c.args.table c.insert.new.value c.insert-2.new.value ((l2_taken g.S.Storage.view c.args.storage.now c.insert.new.store c.args.self.now false c.in-Some.cluster c.insert.new.self c.insert.ensures.kept.others c.args.table (Some c.args.table) c.insert.new.value refl c.in_ok-insert.field-0 c.in_ok-insert.ensures.there c.in_ok-insert.ensures.missing).kept (c.in_ok-branch.was ∙ ap Ok c.if-branch.false)) c.in_ok-insert-2.field-0 c.in_ok-insert-2.ensures.there c.in_ok-insert-2.ensures.missing (λ _. next) two.honest));
-}
-
-pub returns-in_err-branch-2-clause-written : goal.returns-in_err-branch-2-clause-written
-returns-in_err-branch-2-clause-written g c = keeps_written c.before_l2.ensures.step.marks.order (λ all clean.
-    let before = tables_as (record c.args.self.now { l2 = c.insert.new.self }) c.before_l2.new.self c.before_l2.ensures.way.stays (table_put_clean g.S.Storage.view c.args.storage.now c.insert.new.store c.args.self.now false c.in-Some.cluster c.insert.new.self c.args.table (Some c.args.table) c.insert.new.value refl c.in_ok-insert.field-0 c.in_ok-insert.ensures.there c.in_ok-insert.ensures.missing all clean) in
-    table_put_clean g.S.Storage.view c.before_l2.new.storage c.insert-2.new.store c.before_l2.new.self true c.in-Some.cluster c.insert-2.new.self c.args.table c.insert.new.value c.insert-2.new.value ((l2_taken g.S.Storage.view c.args.storage.now c.insert.new.store c.args.self.now false c.in-Some.cluster c.insert.new.self c.insert.ensures.kept.others c.args.table (Some c.args.table) c.insert.new.value refl c.in_ok-insert.field-0 c.in_ok-insert.ensures.there c.in_ok-insert.ensures.missing).kept (c.in_ok-branch.was ∙ ap Ok c.if-branch.false)) c.in_ok-insert-2.field-0 c.in_ok-insert-2.ensures.there c.in_ok-insert-2.ensures.missing before clean) c.before_l2.ensures.blocks
-
-pub returns-clause-step : goal.returns-clause-step
-returns-clause-step g c =
-    put_step_as (sym c.get_cluster.ensures.value ∙ c.in-Some.is) (put_step_then (put_step_then (l2_put_step g.S.Storage.view c.args.storage.now c.insert.new.store c.args.self.now false c.in-Some.cluster c.insert.new.self c.insert.ensures.kept.others c.args.table (Some c.args.table) c.insert.new.value refl c.in_ok-insert.field-0 c.in_ok-insert.ensures.there c.in_ok-insert.ensures.missing c.insert.ensures.kept.pins c.insert.ensures.keeps.0 c.insert.ensures.kept.stays)
-    (put_step_on c.before_l2.ensures.step))
-    (l2_put_step g.S.Storage.view c.before_l2.new.storage c.insert-2.new.store c.before_l2.new.self true c.in-Some.cluster c.insert-2.new.self c.insert-2.ensures.kept.others c.args.table c.insert.new.value c.insert-2.new.value ((l2_taken g.S.Storage.view c.args.storage.now c.insert.new.store c.args.self.now false c.in-Some.cluster c.insert.new.self c.insert.ensures.kept.others c.args.table (Some c.args.table) c.insert.new.value refl c.in_ok-insert.field-0 c.in_ok-insert.ensures.there c.in_ok-insert.ensures.missing).kept (c.in_ok-branch.was ∙ ap Ok c.if-branch.false)) c.in_ok-insert-2.field-0 c.in_ok-insert-2.ensures.there c.in_ok-insert-2.ensures.missing c.insert-2.ensures.kept.pins c.insert-2.ensures.keeps.0 c.insert-2.ensures.kept.stays))
-
-pub returns-clause-fails : goal.returns-clause-fails
-returns-clause-fails g c =
-    fails_ok ((l2_put_tells g.S.Storage.view c.before_l2.new.self.l2.backend.header.fields c.before_l2.new.self.l2.size true c.in-Some.cluster c.before_l2.new.storage c.insert-2.new.store c.before_l2.new.self.l2.entries c.insert-2.new.self.entries c.in_ok-insert-2.field-0 c.insert.new.value c.insert-2.new.value _ (λ none. let n = c.insert-2.ensures.nothing none in (alike c.in_ok-insert-2.was n.0, n.1, n.2, n.3)) c.in_ok-insert-2.ensures.there c.in_ok-insert-2.ensures.missing).same _ c.in_ok-branch-2.was
-    ∙ (c.in_ok-before_l2.ensures.fails.told ∙ (l2_put_tells g.S.Storage.view c.args.self.now.l2.backend.header.fields c.args.self.now.l2.size false c.in-Some.cluster c.args.storage.now c.insert.new.store c.args.self.now.l2.entries c.insert.new.self.entries c.in_ok-insert.field-0 (Some c.args.table) c.insert.new.value _ (λ none. let n = c.insert.ensures.nothing none in (alike c.in_ok-insert.was n.0, n.1, n.2, n.3)) c.in_ok-insert.ensures.there c.in_ok-insert.ensures.missing).same _ c.in_ok-branch.was))
-
-pub returns-clause-sound : goal.returns-clause-sound
-returns-clause-sound g c = record {
-  keeps = λ h p honest sound fits clean holds.
-      let one = table_put g.S.Storage.view c.args.storage.now c.insert.new.store c.args.self.now false c.in-Some.cluster c.insert.new.self c.insert.ensures.kept.others c.args.table (Some c.args.table) c.insert.new.value refl c.in_ok-insert.field-0 c.in_ok-insert.ensures.there c.in_ok-insert.ensures.missing (λ flush. never flush) h p honest sound fits clean (rw (sym c.get_cluster.ensures.value ∙ c.in-Some.is) at holds) in
-      let two = stay_then g.S.Storage.view h p c.args.storage.now c.insert.new.store c.before_l2.new.storage c.args.self.now (record c.args.self.now { l2 = c.insert.new.self }) c.before_l2.new.self one (c.before_l2.ensures.sound.keeps h p one.honest one.sound) in
-      stay_then g.S.Storage.view h p c.args.storage.now c.before_l2.new.storage c.insert-2.new.store c.args.self.now c.before_l2.new.self (record c.before_l2.new.self { l2 = c.insert-2.new.self }) two
-      (table_put g.S.Storage.view c.before_l2.new.storage c.insert-2.new.store c.before_l2.new.self true c.in-Some.cluster c.insert-2.new.self c.insert-2.ensures.kept.others c.args.table c.insert.new.value c.insert-2.new.value ((l2_taken g.S.Storage.view c.args.storage.now c.insert.new.store c.args.self.now false c.in-Some.cluster c.insert.new.self c.insert.ensures.kept.others c.args.table (Some c.args.table) c.insert.new.value refl c.in_ok-insert.field-0 c.in_ok-insert.ensures.there c.in_ok-insert.ensures.missing).kept (c.in_ok-branch.was ∙ ap Ok c.if-branch.false)) c.in_ok-insert-2.field-0 c.in_ok-insert-2.ensures.there c.in_ok-insert-2.ensures.missing (λ _. c.in_ok-before_l2.ensures.way.first) h p two.honest two.sound fits clean
-      (λ i lt. (rw (sym c.get_cluster.ensures.value ∙ c.in-Some.is) at holds) i lt ∙ ap (λ (m : Bytes). m (c.in-Some.cluster * cluster_size h + i)) (sym two.known)));
-  laid = λ h p honest sound fits marked.
-      let one = table_kept g.S.Storage.view c.args.storage.now c.insert.new.store c.args.self.now false c.in-Some.cluster c.insert.new.self c.insert.ensures.kept.others c.args.table (Some c.args.table) c.insert.new.value refl c.in_ok-insert.field-0 c.in_ok-insert.ensures.there c.in_ok-insert.ensures.missing (λ flush. never flush) h p honest sound (λ went. ok_false (c.in_ok-branch.was ∙ ap Ok c.if-branch.false) went) in
-      let two = stay_then g.S.Storage.view h p c.args.storage.now c.insert.new.store c.before_l2.new.storage c.args.self.now (record c.args.self.now { l2 = c.insert.new.self }) c.before_l2.new.self one (c.before_l2.ensures.sound.keeps h p one.honest one.sound) in
-      if_some _ c.args.table.cluster c.in-Some.cluster (sym c.get_cluster.ensures.value ∙ c.in-Some.is)
-      (laid_then g.S.Storage.view h p c.args.storage.now c.before_l2.new.storage c.insert-2.new.store c.args.self.now c.before_l2.new.self (record c.before_l2.new.self { l2 = c.insert-2.new.self }) (laid_at h c.in-Some.cluster c.args.table.bytes) _ _ two
-      (table_laid g.S.Storage.view c.before_l2.new.storage c.insert-2.new.store c.before_l2.new.self true c.in-Some.cluster c.insert-2.new.self c.insert-2.ensures.kept.others c.args.table c.insert.new.value c.insert-2.new.value ((l2_taken g.S.Storage.view c.args.storage.now c.insert.new.store c.args.self.now false c.in-Some.cluster c.insert.new.self c.insert.ensures.kept.others c.args.table (Some c.args.table) c.insert.new.value refl c.in_ok-insert.field-0 c.in_ok-insert.ensures.there c.in_ok-insert.ensures.missing).kept (c.in_ok-branch.was ∙ ap Ok c.if-branch.false)) c.in_ok-insert-2.field-0 c.in_ok-insert-2.ensures.there c.in_ok-insert-2.ensures.missing (λ _. c.in_ok-before_l2.ensures.way.first) h p two.honest two.sound (put_at_last c.in-Some.cluster c.args.table c.insert-2.new.self.entries c.in_ok-insert-2.field-0 c.insert-2.new.value c.in_ok-branch-2.field-0 c.in_ok-branch-2.was (l2_taken g.S.Storage.view c.before_l2.new.storage c.insert-2.new.store c.before_l2.new.self true c.in-Some.cluster c.insert-2.new.self c.insert-2.ensures.kept.others c.args.table c.insert.new.value c.insert-2.new.value ((l2_taken g.S.Storage.view c.args.storage.now c.insert.new.store c.args.self.now false c.in-Some.cluster c.insert.new.self c.insert.ensures.kept.others c.args.table (Some c.args.table) c.insert.new.value refl c.in_ok-insert.field-0 c.in_ok-insert.ensures.there c.in_ok-insert.ensures.missing).kept (c.in_ok-branch.was ∙ ap Ok c.if-branch.false)) c.in_ok-insert-2.field-0 c.in_ok-insert-2.ensures.there c.in_ok-insert-2.ensures.missing)) fits marked));
-  laid_apart = λ h honest are. if_some _ c.args.table.cluster c.in-Some.cluster (sym c.get_cluster.ensures.value ∙ c.in-Some.is)
-      (tables_under_then g.S.Storage.view c.args.storage.now c.before_l2.new.storage c.insert-2.new.store c.args.self.now c.before_l2.new.self (record c.before_l2.new.self { l2 = c.insert-2.new.self }) c.in-Some.cluster c.args.table.bytes c.args.table.is_modified c.before_l2.ensures.step.marks.order (apart_then refl (table_kept_apart g.S.Storage.view c.args.storage.now c.insert.new.store c.args.self.now c.insert.new.self c.insert.ensures.kept.others c.insert.ensures.kept.distinct false c.in-Some.cluster c.in_ok-insert.field-0 (λ flush. never flush) c.args.table (Some c.args.table) c.insert.new.value refl c.in_ok-insert.ensures.there c.in_ok-insert.ensures.missing (λ went. ok_false (c.in_ok-branch.was ∙ ap Ok c.if-branch.false) went)) c.before_l2.ensures.sound.apart) (table_put_apart g.S.Storage.view c.before_l2.new.storage c.insert-2.new.store c.before_l2.new.self c.insert-2.new.self c.insert-2.ensures.kept.others c.insert-2.ensures.kept.distinct true c.in-Some.cluster c.in_ok-insert-2.field-0 (λ _. c.in_ok-before_l2.ensures.way.first) c.args.table c.insert.new.value c.insert-2.new.value ((l2_taken g.S.Storage.view c.args.storage.now c.insert.new.store c.args.self.now false c.in-Some.cluster c.insert.new.self c.insert.ensures.kept.others c.args.table (Some c.args.table) c.insert.new.value refl c.in_ok-insert.field-0 c.in_ok-insert.ensures.there c.in_ok-insert.ensures.missing).kept (c.in_ok-branch.was ∙ ap Ok c.if-branch.false)) c.in_ok-insert-2.ensures.there c.in_ok-insert-2.ensures.missing (put_at_last c.in-Some.cluster c.args.table c.insert-2.new.self.entries c.in_ok-insert-2.field-0 c.insert-2.new.value c.in_ok-branch-2.field-0 c.in_ok-branch-2.was (l2_taken g.S.Storage.view c.before_l2.new.storage c.insert-2.new.store c.before_l2.new.self true c.in-Some.cluster c.insert-2.new.self c.insert-2.ensures.kept.others c.args.table c.insert.new.value c.insert-2.new.value ((l2_taken g.S.Storage.view c.args.storage.now c.insert.new.store c.args.self.now false c.in-Some.cluster c.insert.new.self c.insert.ensures.kept.others c.args.table (Some c.args.table) c.insert.new.value refl c.in_ok-insert.field-0 c.in_ok-insert.ensures.there c.in_ok-insert.ensures.missing).kept (c.in_ok-branch.was ∙ ap Ok c.if-branch.false)) c.in_ok-insert-2.field-0 c.in_ok-insert-2.ensures.there c.in_ok-insert-2.ensures.missing))) h honest are);
-  refused = tt;
-  apart = tt;
-  ordered =
-      let kept = soundly_then refl (l2_kept_soundly g.S.Storage.view c.args.storage.now c.insert.new.store c.args.self.now false c.in-Some.cluster c.insert.new.self c.insert.ensures.kept.others c.args.table (Some c.args.table) c.insert.new.value refl c.in_ok-insert.field-0 c.in_ok-insert.ensures.there c.in_ok-insert.ensures.missing c.insert.ensures.kept.distinct (λ flush. never flush) (λ went. ok_false (c.in_ok-branch.was ∙ ap Ok c.if-branch.false) went))
-      c.before_l2.ensures.sound in
-      order_then g.S.Storage.view c.args.storage.now c.before_l2.new.storage c.insert-2.new.store c.args.self.now c.before_l2.new.self kept.keeps kept.ordered c.before_l2.ensures.step.marks.order
-      (table_put_in_order g.S.Storage.view c.before_l2.new.storage c.insert-2.new.store c.before_l2.new.self true c.in-Some.cluster c.insert-2.new.self c.args.table c.insert.new.value c.insert-2.new.value ((l2_taken g.S.Storage.view c.args.storage.now c.insert.new.store c.args.self.now false c.in-Some.cluster c.insert.new.self c.insert.ensures.kept.others c.args.table (Some c.args.table) c.insert.new.value refl c.in_ok-insert.field-0 c.in_ok-insert.ensures.there c.in_ok-insert.ensures.missing).kept (c.in_ok-branch.was ∙ ap Ok c.if-branch.false)) c.in_ok-insert-2.field-0 c.in_ok-insert-2.ensures.there c.in_ok-insert-2.ensures.missing (λ _. c.in_ok-before_l2.ensures.way.first));
-}
-
-pub returns-clause-puts : goal.returns-clause-puts
-returns-clause-puts g c = record {
-  cached =
-      if_some _ c.args.table.cluster c.in-Some.cluster (sym c.get_cluster.ensures.value ∙ c.in-Some.is) (taken_at_last c.in-Some.cluster c.args.table c.insert-2.new.self.entries c.in_ok-insert-2.field-0 c.insert-2.new.value c.in_ok-branch-2.field-0 c.in_ok-branch-2.was
-      (l2_taken g.S.Storage.view c.before_l2.new.storage c.insert-2.new.store c.before_l2.new.self true c.in-Some.cluster c.insert-2.new.self c.insert-2.ensures.kept.others c.args.table c.insert.new.value c.insert-2.new.value ((l2_taken g.S.Storage.view c.args.storage.now c.insert.new.store c.args.self.now false c.in-Some.cluster c.insert.new.self c.insert.ensures.kept.others c.args.table (Some c.args.table) c.insert.new.value refl c.in_ok-insert.field-0 c.in_ok-insert.ensures.there c.in_ok-insert.ensures.missing).kept (c.in_ok-branch.was ∙ ap Ok c.if-branch.false)) c.in_ok-insert-2.field-0 c.in_ok-insert-2.ensures.there c.in_ok-insert-2.ensures.missing));
-  stay = if_some _ c.args.table.cluster c.in-Some.cluster (sym c.get_cluster.ensures.value ∙ c.in-Some.is) (values_stay c.in-Some.cluster c.args.self.now.l2.entries c.insert-2.new.self.entries (stays_then eqb c.in-Some.cluster c.args.self.now.l2.entries c.before_l2.new.self.l2.entries c.insert-2.new.self.entries (stays_then eqb c.in-Some.cluster c.args.self.now.l2.entries c.insert.new.self.entries c.before_l2.new.self.l2.entries c.insert.ensures.kept.stays (stays_same eqb c.in-Some.cluster c.insert.new.self.entries c.before_l2.new.self.l2.entries (ap (λ x. x.entries) c.before_l2.ensures.way.stays))) c.insert-2.ensures.kept.stays));
-  others_stay = c.before_l2.ensures.way.others_stay;
-  quiet = if_some _ c.args.table.cluster c.in-Some.cluster (sym c.get_cluster.ensures.value ∙ c.in-Some.is) (λ may honest.
-      let eviction = table_put_waits g.S.Storage.view c.args.storage.now c.insert.new.store c.args.self.now false c.in-Some.cluster c.insert.new.self c.args.table (Some c.args.table) c.insert.new.value refl c.in_ok-insert.field-0 c.in_ok-insert.ensures.there c.in_ok-insert.ensures.missing (c.in_ok-branch.was ∙ ap Ok c.if-branch.false) may in
-      let one = table_put_quietly g.S.Storage.view c.args.storage.now c.insert.new.store c.args.self.now false c.in-Some.cluster c.insert.new.self c.args.table (Some c.args.table) c.insert.new.value refl c.in_ok-insert.field-0 c.in_ok-insert.ensures.there c.in_ok-insert.ensures.missing (λ flush. never flush) honest in
-      let two = c.before_l2.ensures.way.quiet eviction.0 one.honest in
-      let same = c.before_l2.ensures.way.stays ∙ table_put_same g.S.Storage.view c.args.storage.now c.insert.new.store c.args.self.now false c.in-Some.cluster c.insert.new.self c.args.table (Some c.args.table) c.insert.new.value refl c.in_ok-insert.field-0 c.in_ok-insert.ensures.there c.in_ok-insert.ensures.missing c.insert.ensures.kept.others (c.in_ok-branch.was ∙ ap Ok c.if-branch.false) in
-      let next = table_eviction c.args.self.now.l2 c.before_l2.new.self.l2 c.in-Some.cluster same eviction.1 in
-      quiet_then (g.S.Storage.view (storage_of c.args.storage.now)) (g.S.Storage.view (storage_of c.before_l2.new.storage)) (g.S.Storage.view (storage_of c.insert-2.new.store)) (quiet_then (g.S.Storage.view (storage_of c.args.storage.now)) (g.S.Storage.view (storage_of c.insert.new.store)) (g.S.Storage.view (storage_of c.before_l2.new.storage)) one two) (table_put_quietly g.S.Storage.view c.before_l2.new.storage c.insert-2.new.store c.before_l2.new.self true c.in-Some.cluster c.insert-2.new.self c.args.table c.insert.new.value c.insert-2.new.value ((l2_taken g.S.Storage.view c.args.storage.now c.insert.new.store c.args.self.now false c.in-Some.cluster c.insert.new.self c.insert.ensures.kept.others c.args.table (Some c.args.table) c.insert.new.value refl c.in_ok-insert.field-0 c.in_ok-insert.ensures.there c.in_ok-insert.ensures.missing).kept (c.in_ok-branch.was ∙ ap Ok c.if-branch.false)) c.in_ok-insert-2.field-0 c.in_ok-insert-2.ensures.there c.in_ok-insert-2.ensures.missing (λ _. next) two.honest));
-}
-
-pub returns-clause-written : goal.returns-clause-written
-returns-clause-written g c = keeps_written c.before_l2.ensures.step.marks.order (λ all clean.
-    let before = tables_as (record c.args.self.now { l2 = c.insert.new.self }) c.before_l2.new.self c.before_l2.ensures.way.stays (table_put_clean g.S.Storage.view c.args.storage.now c.insert.new.store c.args.self.now false c.in-Some.cluster c.insert.new.self c.args.table (Some c.args.table) c.insert.new.value refl c.in_ok-insert.field-0 c.in_ok-insert.ensures.there c.in_ok-insert.ensures.missing all clean) in
-    table_put_clean g.S.Storage.view c.before_l2.new.storage c.insert-2.new.store c.before_l2.new.self true c.in-Some.cluster c.insert-2.new.self c.args.table c.insert.new.value c.insert-2.new.value ((l2_taken g.S.Storage.view c.args.storage.now c.insert.new.store c.args.self.now false c.in-Some.cluster c.insert.new.self c.insert.ensures.kept.others c.args.table (Some c.args.table) c.insert.new.value refl c.in_ok-insert.field-0 c.in_ok-insert.ensures.there c.in_ok-insert.ensures.missing).kept (c.in_ok-branch.was ∙ ap Ok c.if-branch.false)) c.in_ok-insert-2.field-0 c.in_ok-insert-2.ensures.there c.in_ok-insert-2.ensures.missing before clean) c.before_l2.ensures.blocks
-
-pub returns-in_err-insert-2-clause-step : goal.returns-in_err-insert-2-clause-step
-returns-in_err-insert-2-clause-step g c =
-    rw (c.in_err-insert-2.ensures.refused.0, c.in_err-insert-2.ensures.refused.1) (put_step_as (sym c.get_cluster.ensures.value ∙ c.in-Some.is) (put_step_then (l2_put_step g.S.Storage.view c.args.storage.now c.insert.new.store c.args.self.now false c.in-Some.cluster c.insert.new.self c.insert.ensures.kept.others c.args.table (Some c.args.table) c.insert.new.value refl c.in_ok-insert.field-0 c.in_ok-insert.ensures.there c.in_ok-insert.ensures.missing c.insert.ensures.kept.pins c.insert.ensures.keeps.0 c.insert.ensures.kept.stays)
-    (put_step_on c.before_l2.ensures.step)))
-
-pub returns-in_err-insert-2-clause-sound : goal.returns-in_err-insert-2-clause-sound
-returns-in_err-insert-2-clause-sound g c =
-    rw (c.in_err-insert-2.ensures.refused.0, c.in_err-insert-2.ensures.refused.1) (puts_refused c.from_residual-in_err-insert-2.result I.Memory c.from_residual-in_err-insert-2.ensures
-    (soundly_then refl (l2_kept_soundly g.S.Storage.view c.args.storage.now c.insert.new.store c.args.self.now false c.in-Some.cluster c.insert.new.self c.insert.ensures.kept.others c.args.table (Some c.args.table) c.insert.new.value refl c.in_ok-insert.field-0 c.in_ok-insert.ensures.there c.in_ok-insert.ensures.missing c.insert.ensures.kept.distinct (λ flush. never flush) (λ went. ok_false (c.in_ok-branch.was ∙ ap Ok c.if-branch.false) went))
-    c.before_l2.ensures.sound))
 
 pub returns-in_err-insert-clause-step : goal.returns-in_err-insert-clause-step
 returns-in_err-insert-clause-step g c =
@@ -229,27 +147,6 @@ returns-in_err-insert-clause-puts g c =
       quiet = if_some _ c.args.table.cluster c.in-Some.cluster (sym c.get_cluster.ensures.value ∙ c.in-Some.is) (λ may honest. rw c.in_err-insert.ensures.refused.1 (quiet_none (g.S.Storage.view (storage_of c.args.storage.now)) honest));
     }
 
-pub returns-in_err-insert-2-clause-puts : goal.returns-in_err-insert-2-clause-puts
-returns-in_err-insert-2-clause-puts g c =
-    rw (c.in_err-insert-2.ensures.refused.0, c.in_err-insert-2.ensures.refused.1) (record {
-      cached = on_no_ok _ c.from_residual-in_err-insert-2.result I.Memory c.from_residual-in_err-insert-2.ensures;
-      stay = if_some _ c.args.table.cluster c.in-Some.cluster (sym c.get_cluster.ensures.value ∙ c.in-Some.is) (values_stay c.in-Some.cluster c.args.self.now.l2.entries c.before_l2.new.self.l2.entries (stays_then eqb c.in-Some.cluster c.args.self.now.l2.entries c.insert.new.self.entries c.before_l2.new.self.l2.entries c.insert.ensures.kept.stays (stays_same eqb c.in-Some.cluster c.insert.new.self.entries c.before_l2.new.self.l2.entries (ap (λ x. x.entries) c.before_l2.ensures.way.stays))));
-      others_stay = c.before_l2.ensures.way.others_stay;
-      quiet = if_some _ c.args.table.cluster c.in-Some.cluster (sym c.get_cluster.ensures.value ∙ c.in-Some.is) (λ may honest.
-          let eviction = table_put_waits g.S.Storage.view c.args.storage.now c.insert.new.store c.args.self.now false c.in-Some.cluster c.insert.new.self c.args.table (Some c.args.table) c.insert.new.value refl c.in_ok-insert.field-0 c.in_ok-insert.ensures.there c.in_ok-insert.ensures.missing (c.in_ok-branch.was ∙ ap Ok c.if-branch.false) may in
-          let one = table_put_quietly g.S.Storage.view c.args.storage.now c.insert.new.store c.args.self.now false c.in-Some.cluster c.insert.new.self c.args.table (Some c.args.table) c.insert.new.value refl c.in_ok-insert.field-0 c.in_ok-insert.ensures.there c.in_ok-insert.ensures.missing (λ flush. never flush) honest in
-          quiet_then (g.S.Storage.view (storage_of c.args.storage.now)) (g.S.Storage.view (storage_of c.insert.new.store)) (g.S.Storage.view (storage_of c.before_l2.new.storage)) one (c.before_l2.ensures.way.quiet eviction.0 one.honest));
-    })
-
 pub returns-in_err-insert-clause-written : goal.returns-in_err-insert-clause-written
 returns-in_err-insert-clause-written g c =
     rw c.in_err-insert.ensures.refused.0 (keeps_written refl (λ all clean. all) (λ all. all))
-
-pub returns-in_err-insert-2-clause-written : goal.returns-in_err-insert-2-clause-written
-returns-in_err-insert-2-clause-written g c =
-    rw c.in_err-insert-2.ensures.refused.0 (keeps_written c.before_l2.ensures.step.marks.order (λ all clean. tables_as (record c.args.self.now { l2 = c.insert.new.self }) c.before_l2.new.self c.before_l2.ensures.way.stays (table_put_clean g.S.Storage.view c.args.storage.now c.insert.new.store c.args.self.now false c.in-Some.cluster c.insert.new.self c.args.table (Some c.args.table) c.insert.new.value refl c.in_ok-insert.field-0 c.in_ok-insert.ensures.there c.in_ok-insert.ensures.missing all clean)) c.before_l2.ensures.blocks)
-
-pub returns-in_err-insert-2-clause-fails : goal.returns-in_err-insert-2-clause-fails
-returns-in_err-insert-2-clause-fails g c =
-    rw c.in_err-insert-2.ensures.refused.1 (fails_since (c.in_ok-before_l2.ensures.fails.told ∙ (l2_put_tells g.S.Storage.view c.args.self.now.l2.backend.header.fields c.args.self.now.l2.size false c.in-Some.cluster c.args.storage.now c.insert.new.store c.args.self.now.l2.entries c.insert.new.self.entries c.in_ok-insert.field-0 (Some c.args.table) c.insert.new.value _ (λ none. let n = c.insert.ensures.nothing none in (alike c.in_ok-insert.was n.0, n.1, n.2, n.3)) c.in_ok-insert.ensures.there c.in_ok-insert.ensures.missing).same _ c.in_ok-branch.was)
-    (fails_on c.from_residual-in_err-insert-2.result I.Memory c.from_residual-in_err-insert-2.ensures (fails_by I.Memory memory_other refl (inr (inl (inr refl))))))

@@ -1,197 +1,120 @@
-use Rattle.std.proofs.Common.{◌≡◌, ◌+◌, ◌*◌, inr, Bool, true, false, Some, Result, Ok, Err, refl, sym, ap, ◌∙◌, eqb}
-use Rattle.qcow2_alloc.proofs.Common.{inl, cluster_size, of_cache, Bytes, storage_of, laid_at}
-use Rattle.qcow2_alloc.proofs.Lemmas.{block_put, rb_taken, taken_at_last, if_some, stay_then, block_put_refused, put_at_last, laid_then, block_kept, block_laid, order_then, block_put_in_order, quiet_none, quiet_then, block_eviction, block_put_quietly, block_put_waits, block_put_same, stays_same, stays_then, values_stay, never, on_no_ok, apart_then, block_kept_apart, block_put_apart, blocks_under_then, rb_put_tells, fails_by, fails_ok, fails_on, fails_since, memory_other, cache_step_none, put_step_as, put_step_on, put_step_then, soundly_none, soundly_then, fails_cache, puts_refused, rb_put_step, rb_kept_soundly, block_put_as, fails_putting}
+use Rattle.std.proofs.Common.{◌≡◌}
+use Rattle.qcow2_alloc.proofs.Common.{inl, inr, true, false, Some, Ok, refl, sym, ap, ◌∙◌, eqb, of_cache, storage_of, laid_at, cluster_size}
+use Rattle.qcow2_alloc.proofs.Lemmas.{if_some, put_at_last, laid_then, quiet_none, stays_same, values_stay, never, on_no_ok, blocks_under_then, fails_by, fails_ok, fails_on, fails_since, memory_other, cache_step_none, put_step_as, put_step_on, put_step_then, soundly_none, soundly_then, fails_cache, puts_refused, block_put_as, fails_putting}
+use Rattle.qcow2_alloc.proofs.Tries.{PutsBlockFor, puts_block, held, puts_at_once, puts_none, puts_again, soundly_at_once, soundly_again}
+use Rattle.qcow2_laws.specs.Clusters.{RbDependsOnL2}
 use Rattle.qcow2_alloc.specs.declared.error.ImageError.TheVariants as I
+use Rattle.qcow2_alloc.proofs.cache.MetadataCaches.rb_insert.Given.{Over}
+use Rattle.qcow2_alloc.proofs.cache.MetadataCaches.rb_insert.Goals.{In_ok-insert, In_ok-insert-2}
 use Rattle.qcow2_alloc.proofs.cache.MetadataCaches.rb_insert.Goals as goal
 
-ok_false : {E : Type 0} {r : Result Bool E} → r ≡ Ok false → r ≡ Ok true → ⊥
-ok_false a b = let e = sym a ∙ b in cc
+-- What the first try does, and what the second one does.
+tried : (g : Over) (c : In_ok-insert g) → PutsBlockFor g.S.Storage.view c.in-Some.cluster c.args.block false c.args.storage.now c.args.self.now c.in_ok-insert.field-0 c.insert.new.value c.insert.new.store (record c.args.self.now { rb = c.insert.new.self })
+tried g c = puts_block g.S.Storage.view false c.in-Some.cluster c.args.storage.now c.insert.new.store c.args.self.now c.in_ok-insert.field-0 c.insert.ensures.keeps.0 c.insert.new.self c.insert.ensures.kept (λ flush. never flush) c.args.block (Some c.args.block) c.insert.new.value refl (sym c.get_cluster.ensures.value ∙ c.in-Some.is) c.in_ok-insert.ensures.there c.in_ok-insert.ensures.missing
 
-err_ok : {E : Type 0} {r : Result Bool E} {x : E} → r ≡ Err x → r ≡ Ok true → ⊥
-err_ok a b = let e = sym a ∙ b in cc
+tried_again : (g : Over) (c : In_ok-insert-2 g) → c.insert.new.value ≡ Some c.args.block
+    → PutsBlockFor g.S.Storage.view c.in-Some.cluster c.args.block true c.before_rb.new.storage c.before_rb.new.self c.in_ok-insert-2.field-0 c.insert-2.new.value c.insert-2.new.store (record c.before_rb.new.self { rb = c.insert-2.new.self })
+tried_again g c left = puts_block g.S.Storage.view true c.in-Some.cluster c.before_rb.new.storage c.insert-2.new.store c.before_rb.new.self c.in_ok-insert-2.field-0 c.insert-2.ensures.keeps.0 c.insert-2.new.self c.insert-2.ensures.kept (λ _. c.in_ok-before_rb.ensures.way.first) c.args.block c.insert.new.value c.insert-2.new.value left (sym c.get_cluster.ensures.value ∙ c.in-Some.is) c.in_ok-insert-2.ensures.there c.in_ok-insert-2.ensures.missing
 
--- two answers of one call
-alike : {A E : Type 0} {r : Result A E} {x y : A} → r ≡ Ok x → r ≡ Ok y → x ≡ y
-alike a b = let e = sym a ∙ b in cc
+pub returns-in_err-branch : goal.returns-in_err-branch
+returns-in_err-branch g c =
+    let path = goal.at.returns-in_err-branch g c in
+    let one = tried g path.In_ok-insert in
+    let is = sym c.get_cluster.ensures.value ∙ c.in-Some.is in
+    let e = c.in_err-branch.field-0.0 in
+    record {
+      step = put_step_as is one.step;
+      fails = fails_cache c.in_ok-insert.field-0 e c.from_residual-in_err-branch.result one.tries.told c.in_err-branch.was c.from_residual-in_err-branch.ensures (block_put_as c.args.self.now c.args.self.now (of_cache e) refl (one.tries.refused e c.in_err-branch.was));
+      sound = puts_refused c.from_residual-in_err-branch.result (of_cache e) c.from_residual-in_err-branch.ensures (one.sound (λ went. let bad = sym c.in_err-branch.was ∙ went in cc));
+      puts = puts_at_once one c.args.block.cluster is RbDependsOnL2 c.from_residual-in_err-branch.result (on_no_ok _ c.from_residual-in_err-branch.result (of_cache e) c.from_residual-in_err-branch.ensures);
+    }
 
-pub returns-in_err-branch-clause-step : goal.returns-in_err-branch-clause-step
-returns-in_err-branch-clause-step g c =
-    put_step_as (sym c.get_cluster.ensures.value ∙ c.in-Some.is) (rb_put_step g.S.Storage.view c.args.storage.now c.insert.new.store c.args.self.now false c.in-Some.cluster c.insert.new.self c.insert.ensures.kept.others c.args.block (Some c.args.block) c.insert.new.value refl c.in_ok-insert.field-0 c.in_ok-insert.ensures.there c.in_ok-insert.ensures.missing c.insert.ensures.kept.pins c.insert.ensures.keeps.0 c.insert.ensures.kept.stays)
+pub returns-then-branch : goal.returns-then-branch
+returns-then-branch g c =
+    let path = goal.at.returns-then-branch g c in
+    let one = tried g path.In_ok-insert in
+    let is = sym c.get_cluster.ensures.value ∙ c.in-Some.is in
+    let went = c.in_ok-branch.was ∙ ap Ok c.if-branch.true in
+    record {
+      step = put_step_as is one.step;
+      fails = fails_ok (one.tries.told.same _ c.in_ok-branch.was);
+      sound = soundly_at_once one c.args.block.cluster is went;
+      puts = puts_at_once one c.args.block.cluster is RbDependsOnL2 (Ok tt) (if_some _ c.args.block.cluster c.in-Some.cluster is (one.taken.new_data went));
+    }
 
-pub returns-in_err-branch-clause-fails : goal.returns-in_err-branch-clause-fails
-returns-in_err-branch-clause-fails g c =
-    fails_cache c.in_ok-insert.field-0 c.in_err-branch.field-0.0 c.from_residual-in_err-branch.result
-    (rb_put_tells g.S.Storage.view c.args.self.now.rb.backend.header.fields c.args.self.now.rb.size false c.in-Some.cluster c.args.storage.now c.insert.new.store c.args.self.now.rb.entries c.insert.new.self.entries c.in_ok-insert.field-0 (Some c.args.block) c.insert.new.value _ (λ none. let n = c.insert.ensures.nothing none in (alike c.in_ok-insert.was n.0, n.1, n.2, n.3)) c.in_ok-insert.ensures.there c.in_ok-insert.ensures.missing)
-    c.in_err-branch.was c.from_residual-in_err-branch.ensures
-    (block_put_as c.args.self.now c.args.self.now (of_cache c.in_err-branch.field-0.0) refl (block_put_refused g.S.Storage.view c.args.storage.now c.insert.new.store c.args.self.now false c.in-Some.cluster c.in_ok-insert.field-0 c.in_err-branch.field-0.0 c.in_err-branch.was c.insert.new.self c.args.block (Some c.args.block) c.insert.new.value refl c.in_ok-insert.ensures.there c.in_ok-insert.ensures.missing))
+pub returns-in_err-before_rb : goal.returns-in_err-before_rb
+returns-in_err-before_rb g c =
+    let path = goal.at.returns-in_err-before_rb g c in
+    let one = tried g path.In_ok-insert in
+    let is = sym c.get_cluster.ensures.value ∙ c.in-Some.is in
+    let full = c.in_ok-branch.was ∙ ap Ok c.if-branch.false in
+    let e = c.in_err-before_rb.field-0.0 in
+    record {
+      step = put_step_as is (put_step_then one.step (put_step_on c.before_rb.ensures.step));
+      fails = fails_since (one.tries.told.same _ c.in_ok-branch.was) (fails_on c.from_residual-in_err-before_rb.result e c.from_residual-in_err-before_rb.ensures (fails_putting (λ fit. fit.0) c.in_err-before_rb.ensures.fails));
+      sound = puts_refused c.from_residual-in_err-before_rb.result e c.from_residual-in_err-before_rb.ensures (soundly_then refl (one.sound (λ went. let bad = sym full ∙ went in cc)) c.before_rb.ensures.sound);
+      puts = puts_none one c.args.block.cluster is full c.before_rb.ensures.way c.from_residual-in_err-before_rb.result (on_no_ok _ c.from_residual-in_err-before_rb.result e c.from_residual-in_err-before_rb.ensures);
+    }
 
-pub returns-in_err-branch-clause-sound : goal.returns-in_err-branch-clause-sound
-returns-in_err-branch-clause-sound g c =
-    puts_refused c.from_residual-in_err-branch.result (of_cache c.in_err-branch.field-0.0) c.from_residual-in_err-branch.ensures
-    (rb_kept_soundly g.S.Storage.view c.args.storage.now c.insert.new.store c.args.self.now false c.in-Some.cluster c.insert.new.self c.insert.ensures.kept.others c.args.block (Some c.args.block) c.insert.new.value refl c.in_ok-insert.field-0 c.in_ok-insert.ensures.there c.in_ok-insert.ensures.missing c.insert.ensures.kept.distinct (λ flush. never flush) (λ went. err_ok c.in_err-branch.was went))
+pub returns-in_err-branch-2 : goal.returns-in_err-branch-2
+returns-in_err-branch-2 g c =
+    let path = goal.at.returns-in_err-branch-2 g c in
+    let one = tried g path.In_ok-insert in
+    let full = c.in_ok-branch.was ∙ ap Ok c.if-branch.false in
+    let two = tried_again g path.In_ok-insert-2 (one.taken.kept full) in
+    let is = sym c.get_cluster.ensures.value ∙ c.in-Some.is in
+    let e = c.in_err-branch-2.field-0.0 in
+    record {
+      step = put_step_as is (put_step_then (put_step_then one.step (put_step_on c.before_rb.ensures.step)) two.step);
+      fails = fails_since (c.in_ok-before_rb.ensures.fails.told ∙ one.tries.told.same _ c.in_ok-branch.was)
+          (fails_cache c.in_ok-insert-2.field-0 e c.from_residual-in_err-branch-2.result two.tries.told c.in_err-branch-2.was c.from_residual-in_err-branch-2.ensures
+          (block_put_as c.args.self.now c.before_rb.new.self (of_cache e) (held one.tries full c.before_rb.ensures.way) (two.tries.refused e c.in_err-branch-2.was)));
+      sound = puts_refused c.from_residual-in_err-branch-2.result (of_cache e) c.from_residual-in_err-branch-2.ensures
+          (soundly_then c.before_rb.ensures.step.marks.order (soundly_then refl (one.sound (λ went. let bad = sym full ∙ went in cc)) c.before_rb.ensures.sound) (two.sound (λ went. let bad = sym c.in_err-branch-2.was ∙ went in cc)));
+      puts = puts_again one c.args.block.cluster is full c.before_rb.ensures.way two c.from_residual-in_err-branch-2.result (on_no_ok _ c.from_residual-in_err-branch-2.result (of_cache e) c.from_residual-in_err-branch-2.ensures);
+    }
 
-pub returns-in_err-branch-clause-puts : goal.returns-in_err-branch-clause-puts
-returns-in_err-branch-clause-puts g c = record {
-  cached = on_no_ok _ c.from_residual-in_err-branch.result (of_cache c.in_err-branch.field-0.0) c.from_residual-in_err-branch.ensures;
-  stay = if_some _ c.args.block.cluster c.in-Some.cluster (sym c.get_cluster.ensures.value ∙ c.in-Some.is) (values_stay c.in-Some.cluster c.args.self.now.rb.entries c.insert.new.self.entries c.insert.ensures.kept.stays);
-  others_stay = λ _. refl;
-  quiet = if_some _ c.args.block.cluster c.in-Some.cluster (sym c.get_cluster.ensures.value ∙ c.in-Some.is) (λ may. block_put_quietly g.S.Storage.view c.args.storage.now c.insert.new.store c.args.self.now false c.in-Some.cluster c.insert.new.self c.args.block (Some c.args.block) c.insert.new.value refl c.in_ok-insert.field-0 c.in_ok-insert.ensures.there c.in_ok-insert.ensures.missing (λ flush. never flush));
+pub returns : goal.returns
+returns g c =
+    let path = goal.at.returns g c in
+    let view = g.S.Storage.view in
+    let one = tried g path.In_ok-insert in
+    let full = c.in_ok-branch.was ∙ ap Ok c.if-branch.false in
+    let two = tried_again g path.In_ok-insert-2 (one.taken.kept full) in
+    let went = put_at_last c.in-Some.cluster c.args.block c.insert-2.new.self.entries c.in_ok-insert-2.field-0 c.insert-2.new.value c.in_ok-branch-2.field-0 c.in_ok-branch-2.was two.taken in
+    let is = sym c.get_cluster.ensures.value ∙ c.in-Some.is in
+    let a = c.args.self.now in
+    let before = c.before_rb.new.self in
+    let d = record before { rb = c.insert-2.new.self } in
+    let same = c.before_rb.ensures.step.marks.order in
+    let kept = soundly_then refl (one.sound (λ went. let bad = sym full ∙ went in cc)) c.before_rb.ensures.sound in
+    record {
+      step = put_step_as is (put_step_then (put_step_then one.step (put_step_on c.before_rb.ensures.step)) two.step);
+      fails = fails_ok (two.tries.told.same _ c.in_ok-branch-2.was ∙ (c.in_ok-before_rb.ensures.fails.told ∙ one.tries.told.same _ c.in_ok-branch.was));
+      sound = soundly_again one c.args.block.cluster is full c.before_rb.ensures.way two kept same
+          (λ h p honest sound fits marked.
+          let k = kept.keeps h p honest sound in
+          if_some _ c.args.block.cluster c.in-Some.cluster is (λ free. laid_then view h p c.args.storage.now c.before_rb.new.storage c.insert-2.new.store a before d (laid_at h c.in-Some.cluster c.args.block.bytes) _ _ k (rw is at (two.lays went h p k.honest k.sound fits marked) (c.before_rb.ensures.free (cluster_size h) c.in-Some.cluster free))))
+          (λ h honest are. if_some _ c.args.block.cluster c.in-Some.cluster is (blocks_under_then view c.args.storage.now c.before_rb.new.storage c.insert-2.new.store a before d c.in-Some.cluster c.args.block.bytes c.args.block.is_modified same kept.apart (λ h honest are. rw is at (two.lays_apart went h honest are)) h honest are));
+      puts = puts_again one c.args.block.cluster is full c.before_rb.ensures.way two (Ok tt) (if_some _ c.args.block.cluster c.in-Some.cluster is (two.taken.new_data went));
+    }
+
+pub returns-in_err-insert-2 : goal.returns-in_err-insert-2
+returns-in_err-insert-2 g c = record {
+  step =
+      rw (c.in_err-insert-2.ensures.refused.0, c.in_err-insert-2.ensures.refused.1) (put_step_as (sym c.get_cluster.ensures.value ∙ c.in-Some.is) (put_step_then (tried g (goal.at.returns-in_err-insert-2 g c).In_ok-insert).step (put_step_on c.before_rb.ensures.step)));
+  fails =
+      rw c.in_err-insert-2.ensures.refused.1 (fails_since (c.in_ok-before_rb.ensures.fails.told ∙ (tried g (goal.at.returns-in_err-insert-2 g c).In_ok-insert).tries.told.same _ c.in_ok-branch.was)
+      (fails_on c.from_residual-in_err-insert-2.result I.Memory c.from_residual-in_err-insert-2.ensures (fails_by I.Memory memory_other refl (inr (inl (inr refl))))));
+  sound =
+      let full = c.in_ok-branch.was ∙ ap Ok c.if-branch.false in
+      rw (c.in_err-insert-2.ensures.refused.0, c.in_err-insert-2.ensures.refused.1) (puts_refused c.from_residual-in_err-insert-2.result I.Memory c.from_residual-in_err-insert-2.ensures
+      (soundly_then refl ((tried g (goal.at.returns-in_err-insert-2 g c).In_ok-insert).sound (λ went. let bad = sym full ∙ went in cc)) c.before_rb.ensures.sound));
+  puts =
+      let path = goal.at.returns-in_err-insert-2 g c in
+      rw (c.in_err-insert-2.ensures.refused.0, c.in_err-insert-2.ensures.refused.1) (puts_none (tried g path.In_ok-insert) c.args.block.cluster (sym c.get_cluster.ensures.value ∙ c.in-Some.is) (c.in_ok-branch.was ∙ ap Ok c.if-branch.false) c.before_rb.ensures.way c.from_residual-in_err-insert-2.result
+      (on_no_ok _ c.from_residual-in_err-insert-2.result I.Memory c.from_residual-in_err-insert-2.ensures));
 }
-
-pub returns-then-branch-clause-step : goal.returns-then-branch-clause-step
-returns-then-branch-clause-step g c =
-    put_step_as (sym c.get_cluster.ensures.value ∙ c.in-Some.is) (rb_put_step g.S.Storage.view c.args.storage.now c.insert.new.store c.args.self.now false c.in-Some.cluster c.insert.new.self c.insert.ensures.kept.others c.args.block (Some c.args.block) c.insert.new.value refl c.in_ok-insert.field-0 c.in_ok-insert.ensures.there c.in_ok-insert.ensures.missing c.insert.ensures.kept.pins c.insert.ensures.keeps.0 c.insert.ensures.kept.stays)
-
-pub returns-then-branch-clause-fails : goal.returns-then-branch-clause-fails
-returns-then-branch-clause-fails g c = fails_ok ((rb_put_tells g.S.Storage.view c.args.self.now.rb.backend.header.fields c.args.self.now.rb.size false c.in-Some.cluster c.args.storage.now c.insert.new.store c.args.self.now.rb.entries c.insert.new.self.entries c.in_ok-insert.field-0 (Some c.args.block) c.insert.new.value _ (λ none. let n = c.insert.ensures.nothing none in (alike c.in_ok-insert.was n.0, n.1, n.2, n.3)) c.in_ok-insert.ensures.there c.in_ok-insert.ensures.missing).same _ c.in_ok-branch.was)
-
-pub returns-then-branch-clause-sound : goal.returns-then-branch-clause-sound
-returns-then-branch-clause-sound g c = record {
-  keeps = λ h p honest sound fits clean holds.
-      block_put g.S.Storage.view c.args.storage.now c.insert.new.store c.args.self.now false c.in-Some.cluster c.insert.new.self c.insert.ensures.kept.others c.args.block (Some c.args.block) c.insert.new.value refl c.in_ok-insert.field-0 c.in_ok-insert.ensures.there c.in_ok-insert.ensures.missing (λ flush. never flush) h p honest sound fits clean (rw (sym c.get_cluster.ensures.value ∙ c.in-Some.is) at holds);
-  laid = λ h p honest sound fits marked.
-      if_some _ c.args.block.cluster c.in-Some.cluster (sym c.get_cluster.ensures.value ∙ c.in-Some.is)
-      (λ free. block_laid g.S.Storage.view c.args.storage.now c.insert.new.store c.args.self.now false c.in-Some.cluster c.insert.new.self c.insert.ensures.kept.others c.args.block (Some c.args.block) c.insert.new.value refl c.in_ok-insert.field-0 c.in_ok-insert.ensures.there c.in_ok-insert.ensures.missing (λ flush. never flush) h p honest sound (c.in_ok-branch.was ∙ ap Ok c.if-branch.true) fits marked free);
-  laid_apart = λ h honest are. if_some _ c.args.block.cluster c.in-Some.cluster (sym c.get_cluster.ensures.value ∙ c.in-Some.is) (block_put_apart g.S.Storage.view c.args.storage.now c.insert.new.store c.args.self.now c.insert.new.self c.insert.ensures.kept.others c.insert.ensures.kept.distinct false c.in-Some.cluster c.in_ok-insert.field-0 (λ flush. never flush) c.args.block (Some c.args.block) c.insert.new.value refl c.in_ok-insert.ensures.there c.in_ok-insert.ensures.missing (c.in_ok-branch.was ∙ ap Ok c.if-branch.true) h honest are);
-  refused = tt;
-  apart = tt;
-  ordered = block_put_in_order g.S.Storage.view c.args.storage.now c.insert.new.store c.args.self.now false c.in-Some.cluster c.insert.new.self c.args.block (Some c.args.block) c.insert.new.value refl c.in_ok-insert.field-0 c.in_ok-insert.ensures.there c.in_ok-insert.ensures.missing (λ flush. never flush);
-}
-
-pub returns-then-branch-clause-puts : goal.returns-then-branch-clause-puts
-returns-then-branch-clause-puts g c = record {
-  cached =
-      if_some _ c.args.block.cluster c.in-Some.cluster (sym c.get_cluster.ensures.value ∙ c.in-Some.is) ((rb_taken g.S.Storage.view c.args.storage.now c.insert.new.store c.args.self.now false c.in-Some.cluster c.insert.new.self c.insert.ensures.kept.others c.args.block (Some c.args.block) c.insert.new.value refl c.in_ok-insert.field-0 c.in_ok-insert.ensures.there c.in_ok-insert.ensures.missing).new_data (c.in_ok-branch.was ∙ ap Ok c.if-branch.true));
-  stay = if_some _ c.args.block.cluster c.in-Some.cluster (sym c.get_cluster.ensures.value ∙ c.in-Some.is) (values_stay c.in-Some.cluster c.args.self.now.rb.entries c.insert.new.self.entries c.insert.ensures.kept.stays);
-  others_stay = λ _. refl;
-  quiet = if_some _ c.args.block.cluster c.in-Some.cluster (sym c.get_cluster.ensures.value ∙ c.in-Some.is) (λ may. block_put_quietly g.S.Storage.view c.args.storage.now c.insert.new.store c.args.self.now false c.in-Some.cluster c.insert.new.self c.args.block (Some c.args.block) c.insert.new.value refl c.in_ok-insert.field-0 c.in_ok-insert.ensures.there c.in_ok-insert.ensures.missing (λ flush. never flush));
-}
-
-pub returns-in_err-before_rb-clause-step : goal.returns-in_err-before_rb-clause-step
-returns-in_err-before_rb-clause-step g c =
-    put_step_as (sym c.get_cluster.ensures.value ∙ c.in-Some.is) (put_step_then (rb_put_step g.S.Storage.view c.args.storage.now c.insert.new.store c.args.self.now false c.in-Some.cluster c.insert.new.self c.insert.ensures.kept.others c.args.block (Some c.args.block) c.insert.new.value refl c.in_ok-insert.field-0 c.in_ok-insert.ensures.there c.in_ok-insert.ensures.missing c.insert.ensures.kept.pins c.insert.ensures.keeps.0 c.insert.ensures.kept.stays)
-    (put_step_on c.before_rb.ensures.step))
-
-pub returns-in_err-before_rb-clause-fails : goal.returns-in_err-before_rb-clause-fails
-returns-in_err-before_rb-clause-fails g c =
-    fails_since ((rb_put_tells g.S.Storage.view c.args.self.now.rb.backend.header.fields c.args.self.now.rb.size false c.in-Some.cluster c.args.storage.now c.insert.new.store c.args.self.now.rb.entries c.insert.new.self.entries c.in_ok-insert.field-0 (Some c.args.block) c.insert.new.value _ (λ none. let n = c.insert.ensures.nothing none in (alike c.in_ok-insert.was n.0, n.1, n.2, n.3)) c.in_ok-insert.ensures.there c.in_ok-insert.ensures.missing).same _ c.in_ok-branch.was)
-    (fails_on c.from_residual-in_err-before_rb.result c.in_err-before_rb.field-0.0 c.from_residual-in_err-before_rb.ensures (fails_putting (λ fit. fit.0) c.in_err-before_rb.ensures.fails))
-
-pub returns-in_err-before_rb-clause-sound : goal.returns-in_err-before_rb-clause-sound
-returns-in_err-before_rb-clause-sound g c =
-    puts_refused c.from_residual-in_err-before_rb.result c.in_err-before_rb.field-0.0 c.from_residual-in_err-before_rb.ensures
-    (soundly_then refl (rb_kept_soundly g.S.Storage.view c.args.storage.now c.insert.new.store c.args.self.now false c.in-Some.cluster c.insert.new.self c.insert.ensures.kept.others c.args.block (Some c.args.block) c.insert.new.value refl c.in_ok-insert.field-0 c.in_ok-insert.ensures.there c.in_ok-insert.ensures.missing c.insert.ensures.kept.distinct (λ flush. never flush) (λ went. ok_false (c.in_ok-branch.was ∙ ap Ok c.if-branch.false) went))
-    c.before_rb.ensures.sound)
-
-pub returns-in_err-before_rb-clause-puts : goal.returns-in_err-before_rb-clause-puts
-returns-in_err-before_rb-clause-puts g c = record {
-  cached = on_no_ok _ c.from_residual-in_err-before_rb.result c.in_err-before_rb.field-0.0 c.from_residual-in_err-before_rb.ensures;
-  stay = if_some _ c.args.block.cluster c.in-Some.cluster (sym c.get_cluster.ensures.value ∙ c.in-Some.is) (values_stay c.in-Some.cluster c.args.self.now.rb.entries c.before_rb.new.self.rb.entries (stays_then eqb c.in-Some.cluster c.args.self.now.rb.entries c.insert.new.self.entries c.before_rb.new.self.rb.entries c.insert.ensures.kept.stays (stays_same eqb c.in-Some.cluster c.insert.new.self.entries c.before_rb.new.self.rb.entries (ap (λ x. x.entries) c.before_rb.ensures.way.stays))));
-  others_stay = c.before_rb.ensures.way.others_stay;
-  quiet = if_some _ c.args.block.cluster c.in-Some.cluster (sym c.get_cluster.ensures.value ∙ c.in-Some.is) (λ may honest.
-      let eviction = block_put_waits g.S.Storage.view c.args.storage.now c.insert.new.store c.args.self.now false c.in-Some.cluster c.insert.new.self c.args.block (Some c.args.block) c.insert.new.value refl c.in_ok-insert.field-0 c.in_ok-insert.ensures.there c.in_ok-insert.ensures.missing (c.in_ok-branch.was ∙ ap Ok c.if-branch.false) may in
-      let one = block_put_quietly g.S.Storage.view c.args.storage.now c.insert.new.store c.args.self.now false c.in-Some.cluster c.insert.new.self c.args.block (Some c.args.block) c.insert.new.value refl c.in_ok-insert.field-0 c.in_ok-insert.ensures.there c.in_ok-insert.ensures.missing (λ flush. never flush) honest in
-      quiet_then (g.S.Storage.view (storage_of c.args.storage.now)) (g.S.Storage.view (storage_of c.insert.new.store)) (g.S.Storage.view (storage_of c.before_rb.new.storage)) one (c.before_rb.ensures.way.quiet eviction.0 one.honest));
-}
-
-pub returns-in_err-branch-2-clause-step : goal.returns-in_err-branch-2-clause-step
-returns-in_err-branch-2-clause-step g c =
-    put_step_as (sym c.get_cluster.ensures.value ∙ c.in-Some.is) (put_step_then (put_step_then (rb_put_step g.S.Storage.view c.args.storage.now c.insert.new.store c.args.self.now false c.in-Some.cluster c.insert.new.self c.insert.ensures.kept.others c.args.block (Some c.args.block) c.insert.new.value refl c.in_ok-insert.field-0 c.in_ok-insert.ensures.there c.in_ok-insert.ensures.missing c.insert.ensures.kept.pins c.insert.ensures.keeps.0 c.insert.ensures.kept.stays)
-    (put_step_on c.before_rb.ensures.step))
-    (rb_put_step g.S.Storage.view c.before_rb.new.storage c.insert-2.new.store c.before_rb.new.self true c.in-Some.cluster c.insert-2.new.self c.insert-2.ensures.kept.others c.args.block c.insert.new.value c.insert-2.new.value ((rb_taken g.S.Storage.view c.args.storage.now c.insert.new.store c.args.self.now false c.in-Some.cluster c.insert.new.self c.insert.ensures.kept.others c.args.block (Some c.args.block) c.insert.new.value refl c.in_ok-insert.field-0 c.in_ok-insert.ensures.there c.in_ok-insert.ensures.missing).kept (c.in_ok-branch.was ∙ ap Ok c.if-branch.false)) c.in_ok-insert-2.field-0 c.in_ok-insert-2.ensures.there c.in_ok-insert-2.ensures.missing c.insert-2.ensures.kept.pins c.insert-2.ensures.keeps.0 c.insert-2.ensures.kept.stays))
-
-pub returns-in_err-branch-2-clause-fails : goal.returns-in_err-branch-2-clause-fails
-returns-in_err-branch-2-clause-fails g c =
-    fails_since (c.in_ok-before_rb.ensures.fails.told ∙ (rb_put_tells g.S.Storage.view c.args.self.now.rb.backend.header.fields c.args.self.now.rb.size false c.in-Some.cluster c.args.storage.now c.insert.new.store c.args.self.now.rb.entries c.insert.new.self.entries c.in_ok-insert.field-0 (Some c.args.block) c.insert.new.value _ (λ none. let n = c.insert.ensures.nothing none in (alike c.in_ok-insert.was n.0, n.1, n.2, n.3)) c.in_ok-insert.ensures.there c.in_ok-insert.ensures.missing).same _ c.in_ok-branch.was)
-    (fails_cache c.in_ok-insert-2.field-0 c.in_err-branch-2.field-0.0 c.from_residual-in_err-branch-2.result
-    (rb_put_tells g.S.Storage.view c.before_rb.new.self.rb.backend.header.fields c.before_rb.new.self.rb.size true c.in-Some.cluster c.before_rb.new.storage c.insert-2.new.store c.before_rb.new.self.rb.entries c.insert-2.new.self.entries c.in_ok-insert-2.field-0 c.insert.new.value c.insert-2.new.value _ (λ none. let n = c.insert-2.ensures.nothing none in (alike c.in_ok-insert-2.was n.0, n.1, n.2, n.3)) c.in_ok-insert-2.ensures.there c.in_ok-insert-2.ensures.missing)
-    c.in_err-branch-2.was c.from_residual-in_err-branch-2.ensures
-    (block_put_as c.args.self.now c.before_rb.new.self (of_cache c.in_err-branch-2.field-0.0) (c.before_rb.ensures.way.stays ∙ block_put_same g.S.Storage.view c.args.storage.now c.insert.new.store c.args.self.now false c.in-Some.cluster c.insert.new.self c.args.block (Some c.args.block) c.insert.new.value refl c.in_ok-insert.field-0 c.in_ok-insert.ensures.there c.in_ok-insert.ensures.missing c.insert.ensures.kept.others (c.in_ok-branch.was ∙ ap Ok c.if-branch.false))
-    (block_put_refused g.S.Storage.view c.before_rb.new.storage c.insert-2.new.store c.before_rb.new.self true c.in-Some.cluster c.in_ok-insert-2.field-0 c.in_err-branch-2.field-0.0 c.in_err-branch-2.was c.insert-2.new.self c.args.block c.insert.new.value c.insert-2.new.value ((rb_taken g.S.Storage.view c.args.storage.now c.insert.new.store c.args.self.now false c.in-Some.cluster c.insert.new.self c.insert.ensures.kept.others c.args.block (Some c.args.block) c.insert.new.value refl c.in_ok-insert.field-0 c.in_ok-insert.ensures.there c.in_ok-insert.ensures.missing).kept (c.in_ok-branch.was ∙ ap Ok c.if-branch.false)) c.in_ok-insert-2.ensures.there c.in_ok-insert-2.ensures.missing)))
-
-pub returns-in_err-branch-2-clause-sound : goal.returns-in_err-branch-2-clause-sound
-returns-in_err-branch-2-clause-sound g c =
-    puts_refused c.from_residual-in_err-branch-2.result (of_cache c.in_err-branch-2.field-0.0) c.from_residual-in_err-branch-2.ensures
-    (soundly_then c.before_rb.ensures.step.marks.order (soundly_then refl (rb_kept_soundly g.S.Storage.view c.args.storage.now c.insert.new.store c.args.self.now false c.in-Some.cluster c.insert.new.self c.insert.ensures.kept.others c.args.block (Some c.args.block) c.insert.new.value refl c.in_ok-insert.field-0 c.in_ok-insert.ensures.there c.in_ok-insert.ensures.missing c.insert.ensures.kept.distinct (λ flush. never flush) (λ went. ok_false (c.in_ok-branch.was ∙ ap Ok c.if-branch.false) went))
-    c.before_rb.ensures.sound)
-    (rb_kept_soundly g.S.Storage.view c.before_rb.new.storage c.insert-2.new.store c.before_rb.new.self true c.in-Some.cluster c.insert-2.new.self c.insert-2.ensures.kept.others c.args.block c.insert.new.value c.insert-2.new.value ((rb_taken g.S.Storage.view c.args.storage.now c.insert.new.store c.args.self.now false c.in-Some.cluster c.insert.new.self c.insert.ensures.kept.others c.args.block (Some c.args.block) c.insert.new.value refl c.in_ok-insert.field-0 c.in_ok-insert.ensures.there c.in_ok-insert.ensures.missing).kept (c.in_ok-branch.was ∙ ap Ok c.if-branch.false)) c.in_ok-insert-2.field-0 c.in_ok-insert-2.ensures.there c.in_ok-insert-2.ensures.missing c.insert-2.ensures.kept.distinct (λ _. c.in_ok-before_rb.ensures.way.first) (λ went. err_ok c.in_err-branch-2.was went)))
-
-pub returns-in_err-branch-2-clause-puts : goal.returns-in_err-branch-2-clause-puts
-returns-in_err-branch-2-clause-puts g c = record {
-  cached = on_no_ok _ c.from_residual-in_err-branch-2.result (of_cache c.in_err-branch-2.field-0.0) c.from_residual-in_err-branch-2.ensures;
-  stay = if_some _ c.args.block.cluster c.in-Some.cluster (sym c.get_cluster.ensures.value ∙ c.in-Some.is) (values_stay c.in-Some.cluster c.args.self.now.rb.entries c.insert-2.new.self.entries (stays_then eqb c.in-Some.cluster c.args.self.now.rb.entries c.before_rb.new.self.rb.entries c.insert-2.new.self.entries (stays_then eqb c.in-Some.cluster c.args.self.now.rb.entries c.insert.new.self.entries c.before_rb.new.self.rb.entries c.insert.ensures.kept.stays (stays_same eqb c.in-Some.cluster c.insert.new.self.entries c.before_rb.new.self.rb.entries (ap (λ x. x.entries) c.before_rb.ensures.way.stays))) c.insert-2.ensures.kept.stays));
-  others_stay = c.before_rb.ensures.way.others_stay;
-  quiet = if_some _ c.args.block.cluster c.in-Some.cluster (sym c.get_cluster.ensures.value ∙ c.in-Some.is) (λ may honest.
-      let eviction = block_put_waits g.S.Storage.view c.args.storage.now c.insert.new.store c.args.self.now false c.in-Some.cluster c.insert.new.self c.args.block (Some c.args.block) c.insert.new.value refl c.in_ok-insert.field-0 c.in_ok-insert.ensures.there c.in_ok-insert.ensures.missing (c.in_ok-branch.was ∙ ap Ok c.if-branch.false) may in
-      let one = block_put_quietly g.S.Storage.view c.args.storage.now c.insert.new.store c.args.self.now false c.in-Some.cluster c.insert.new.self c.args.block (Some c.args.block) c.insert.new.value refl c.in_ok-insert.field-0 c.in_ok-insert.ensures.there c.in_ok-insert.ensures.missing (λ flush. never flush) honest in
-      let two = c.before_rb.ensures.way.quiet eviction.0 one.honest in
-      let same = c.before_rb.ensures.way.stays ∙ block_put_same g.S.Storage.view c.args.storage.now c.insert.new.store c.args.self.now false c.in-Some.cluster c.insert.new.self c.args.block (Some c.args.block) c.insert.new.value refl c.in_ok-insert.field-0 c.in_ok-insert.ensures.there c.in_ok-insert.ensures.missing c.insert.ensures.kept.others (c.in_ok-branch.was ∙ ap Ok c.if-branch.false) in
-      let next = block_eviction c.args.self.now.rb c.before_rb.new.self.rb c.in-Some.cluster same eviction.1 in
-      quiet_then (g.S.Storage.view (storage_of c.args.storage.now)) (g.S.Storage.view (storage_of c.before_rb.new.storage)) (g.S.Storage.view (storage_of c.insert-2.new.store)) (quiet_then (g.S.Storage.view (storage_of c.args.storage.now)) (g.S.Storage.view (storage_of c.insert.new.store)) (g.S.Storage.view (storage_of c.before_rb.new.storage)) one two) (block_put_quietly g.S.Storage.view c.before_rb.new.storage c.insert-2.new.store c.before_rb.new.self true c.in-Some.cluster c.insert-2.new.self c.args.block c.insert.new.value c.insert-2.new.value ((rb_taken g.S.Storage.view c.args.storage.now c.insert.new.store c.args.self.now false c.in-Some.cluster c.insert.new.self c.insert.ensures.kept.others c.args.block (Some c.args.block) c.insert.new.value refl c.in_ok-insert.field-0 c.in_ok-insert.ensures.there c.in_ok-insert.ensures.missing).kept (c.in_ok-branch.was ∙ ap Ok c.if-branch.false)) c.in_ok-insert-2.field-0 c.in_ok-insert-2.ensures.there c.in_ok-insert-2.ensures.missing (λ _. next) two.honest));
-}
-
-pub returns-clause-step : goal.returns-clause-step
-returns-clause-step g c =
-    put_step_as (sym c.get_cluster.ensures.value ∙ c.in-Some.is) (put_step_then (put_step_then (rb_put_step g.S.Storage.view c.args.storage.now c.insert.new.store c.args.self.now false c.in-Some.cluster c.insert.new.self c.insert.ensures.kept.others c.args.block (Some c.args.block) c.insert.new.value refl c.in_ok-insert.field-0 c.in_ok-insert.ensures.there c.in_ok-insert.ensures.missing c.insert.ensures.kept.pins c.insert.ensures.keeps.0 c.insert.ensures.kept.stays)
-    (put_step_on c.before_rb.ensures.step))
-    (rb_put_step g.S.Storage.view c.before_rb.new.storage c.insert-2.new.store c.before_rb.new.self true c.in-Some.cluster c.insert-2.new.self c.insert-2.ensures.kept.others c.args.block c.insert.new.value c.insert-2.new.value ((rb_taken g.S.Storage.view c.args.storage.now c.insert.new.store c.args.self.now false c.in-Some.cluster c.insert.new.self c.insert.ensures.kept.others c.args.block (Some c.args.block) c.insert.new.value refl c.in_ok-insert.field-0 c.in_ok-insert.ensures.there c.in_ok-insert.ensures.missing).kept (c.in_ok-branch.was ∙ ap Ok c.if-branch.false)) c.in_ok-insert-2.field-0 c.in_ok-insert-2.ensures.there c.in_ok-insert-2.ensures.missing c.insert-2.ensures.kept.pins c.insert-2.ensures.keeps.0 c.insert-2.ensures.kept.stays))
-
-pub returns-clause-fails : goal.returns-clause-fails
-returns-clause-fails g c =
-    fails_ok ((rb_put_tells g.S.Storage.view c.before_rb.new.self.rb.backend.header.fields c.before_rb.new.self.rb.size true c.in-Some.cluster c.before_rb.new.storage c.insert-2.new.store c.before_rb.new.self.rb.entries c.insert-2.new.self.entries c.in_ok-insert-2.field-0 c.insert.new.value c.insert-2.new.value _ (λ none. let n = c.insert-2.ensures.nothing none in (alike c.in_ok-insert-2.was n.0, n.1, n.2, n.3)) c.in_ok-insert-2.ensures.there c.in_ok-insert-2.ensures.missing).same _ c.in_ok-branch-2.was
-    ∙ (c.in_ok-before_rb.ensures.fails.told ∙ (rb_put_tells g.S.Storage.view c.args.self.now.rb.backend.header.fields c.args.self.now.rb.size false c.in-Some.cluster c.args.storage.now c.insert.new.store c.args.self.now.rb.entries c.insert.new.self.entries c.in_ok-insert.field-0 (Some c.args.block) c.insert.new.value _ (λ none. let n = c.insert.ensures.nothing none in (alike c.in_ok-insert.was n.0, n.1, n.2, n.3)) c.in_ok-insert.ensures.there c.in_ok-insert.ensures.missing).same _ c.in_ok-branch.was))
-
-pub returns-clause-sound : goal.returns-clause-sound
-returns-clause-sound g c = record {
-  keeps = λ h p honest sound fits clean holds.
-      let one = block_put g.S.Storage.view c.args.storage.now c.insert.new.store c.args.self.now false c.in-Some.cluster c.insert.new.self c.insert.ensures.kept.others c.args.block (Some c.args.block) c.insert.new.value refl c.in_ok-insert.field-0 c.in_ok-insert.ensures.there c.in_ok-insert.ensures.missing (λ flush. never flush) h p honest sound fits clean (rw (sym c.get_cluster.ensures.value ∙ c.in-Some.is) at holds) in
-      let two = stay_then g.S.Storage.view h p c.args.storage.now c.insert.new.store c.before_rb.new.storage c.args.self.now (record c.args.self.now { rb = c.insert.new.self }) c.before_rb.new.self one (c.before_rb.ensures.sound.keeps h p one.honest one.sound) in
-      stay_then g.S.Storage.view h p c.args.storage.now c.before_rb.new.storage c.insert-2.new.store c.args.self.now c.before_rb.new.self (record c.before_rb.new.self { rb = c.insert-2.new.self }) two
-      (block_put g.S.Storage.view c.before_rb.new.storage c.insert-2.new.store c.before_rb.new.self true c.in-Some.cluster c.insert-2.new.self c.insert-2.ensures.kept.others c.args.block c.insert.new.value c.insert-2.new.value ((rb_taken g.S.Storage.view c.args.storage.now c.insert.new.store c.args.self.now false c.in-Some.cluster c.insert.new.self c.insert.ensures.kept.others c.args.block (Some c.args.block) c.insert.new.value refl c.in_ok-insert.field-0 c.in_ok-insert.ensures.there c.in_ok-insert.ensures.missing).kept (c.in_ok-branch.was ∙ ap Ok c.if-branch.false)) c.in_ok-insert-2.field-0 c.in_ok-insert-2.ensures.there c.in_ok-insert-2.ensures.missing (λ _. c.in_ok-before_rb.ensures.way.first) h p two.honest two.sound fits clean
-      (λ i lt. (rw (sym c.get_cluster.ensures.value ∙ c.in-Some.is) at holds) i lt ∙ ap (λ (m : Bytes). m (c.in-Some.cluster * cluster_size h + i)) (sym two.known)));
-  laid = λ h p honest sound fits marked.
-      let one = block_kept g.S.Storage.view c.args.storage.now c.insert.new.store c.args.self.now false c.in-Some.cluster c.insert.new.self c.insert.ensures.kept.others c.args.block (Some c.args.block) c.insert.new.value refl c.in_ok-insert.field-0 c.in_ok-insert.ensures.there c.in_ok-insert.ensures.missing (λ flush. never flush) h p honest sound (λ went. ok_false (c.in_ok-branch.was ∙ ap Ok c.if-branch.false) went) in
-      let two = stay_then g.S.Storage.view h p c.args.storage.now c.insert.new.store c.before_rb.new.storage c.args.self.now (record c.args.self.now { rb = c.insert.new.self }) c.before_rb.new.self one (c.before_rb.ensures.sound.keeps h p one.honest one.sound) in
-      if_some _ c.args.block.cluster c.in-Some.cluster (sym c.get_cluster.ensures.value ∙ c.in-Some.is)
-      (λ free. laid_then g.S.Storage.view h p c.args.storage.now c.before_rb.new.storage c.insert-2.new.store c.args.self.now c.before_rb.new.self (record c.before_rb.new.self { rb = c.insert-2.new.self }) (laid_at h c.in-Some.cluster c.args.block.bytes) _ _ two
-      (block_laid g.S.Storage.view c.before_rb.new.storage c.insert-2.new.store c.before_rb.new.self true c.in-Some.cluster c.insert-2.new.self c.insert-2.ensures.kept.others c.args.block c.insert.new.value c.insert-2.new.value ((rb_taken g.S.Storage.view c.args.storage.now c.insert.new.store c.args.self.now false c.in-Some.cluster c.insert.new.self c.insert.ensures.kept.others c.args.block (Some c.args.block) c.insert.new.value refl c.in_ok-insert.field-0 c.in_ok-insert.ensures.there c.in_ok-insert.ensures.missing).kept (c.in_ok-branch.was ∙ ap Ok c.if-branch.false)) c.in_ok-insert-2.field-0 c.in_ok-insert-2.ensures.there c.in_ok-insert-2.ensures.missing (λ _. c.in_ok-before_rb.ensures.way.first) h p two.honest two.sound (put_at_last c.in-Some.cluster c.args.block c.insert-2.new.self.entries c.in_ok-insert-2.field-0 c.insert-2.new.value c.in_ok-branch-2.field-0 c.in_ok-branch-2.was (rb_taken g.S.Storage.view c.before_rb.new.storage c.insert-2.new.store c.before_rb.new.self true c.in-Some.cluster c.insert-2.new.self c.insert-2.ensures.kept.others c.args.block c.insert.new.value c.insert-2.new.value ((rb_taken g.S.Storage.view c.args.storage.now c.insert.new.store c.args.self.now false c.in-Some.cluster c.insert.new.self c.insert.ensures.kept.others c.args.block (Some c.args.block) c.insert.new.value refl c.in_ok-insert.field-0 c.in_ok-insert.ensures.there c.in_ok-insert.ensures.missing).kept (c.in_ok-branch.was ∙ ap Ok c.if-branch.false)) c.in_ok-insert-2.field-0 c.in_ok-insert-2.ensures.there c.in_ok-insert-2.ensures.missing)) fits marked (c.before_rb.ensures.free (cluster_size h) c.in-Some.cluster free)));
-  laid_apart = λ h honest are. if_some _ c.args.block.cluster c.in-Some.cluster (sym c.get_cluster.ensures.value ∙ c.in-Some.is)
-      (blocks_under_then g.S.Storage.view c.args.storage.now c.before_rb.new.storage c.insert-2.new.store c.args.self.now c.before_rb.new.self (record c.before_rb.new.self { rb = c.insert-2.new.self }) c.in-Some.cluster c.args.block.bytes c.args.block.is_modified c.before_rb.ensures.step.marks.order (apart_then refl (block_kept_apart g.S.Storage.view c.args.storage.now c.insert.new.store c.args.self.now c.insert.new.self c.insert.ensures.kept.others c.insert.ensures.kept.distinct false c.in-Some.cluster c.in_ok-insert.field-0 (λ flush. never flush) c.args.block (Some c.args.block) c.insert.new.value refl c.in_ok-insert.ensures.there c.in_ok-insert.ensures.missing (λ went. ok_false (c.in_ok-branch.was ∙ ap Ok c.if-branch.false) went)) c.before_rb.ensures.sound.apart) (block_put_apart g.S.Storage.view c.before_rb.new.storage c.insert-2.new.store c.before_rb.new.self c.insert-2.new.self c.insert-2.ensures.kept.others c.insert-2.ensures.kept.distinct true c.in-Some.cluster c.in_ok-insert-2.field-0 (λ _. c.in_ok-before_rb.ensures.way.first) c.args.block c.insert.new.value c.insert-2.new.value ((rb_taken g.S.Storage.view c.args.storage.now c.insert.new.store c.args.self.now false c.in-Some.cluster c.insert.new.self c.insert.ensures.kept.others c.args.block (Some c.args.block) c.insert.new.value refl c.in_ok-insert.field-0 c.in_ok-insert.ensures.there c.in_ok-insert.ensures.missing).kept (c.in_ok-branch.was ∙ ap Ok c.if-branch.false)) c.in_ok-insert-2.ensures.there c.in_ok-insert-2.ensures.missing (put_at_last c.in-Some.cluster c.args.block c.insert-2.new.self.entries c.in_ok-insert-2.field-0 c.insert-2.new.value c.in_ok-branch-2.field-0 c.in_ok-branch-2.was (rb_taken g.S.Storage.view c.before_rb.new.storage c.insert-2.new.store c.before_rb.new.self true c.in-Some.cluster c.insert-2.new.self c.insert-2.ensures.kept.others c.args.block c.insert.new.value c.insert-2.new.value ((rb_taken g.S.Storage.view c.args.storage.now c.insert.new.store c.args.self.now false c.in-Some.cluster c.insert.new.self c.insert.ensures.kept.others c.args.block (Some c.args.block) c.insert.new.value refl c.in_ok-insert.field-0 c.in_ok-insert.ensures.there c.in_ok-insert.ensures.missing).kept (c.in_ok-branch.was ∙ ap Ok c.if-branch.false)) c.in_ok-insert-2.field-0 c.in_ok-insert-2.ensures.there c.in_ok-insert-2.ensures.missing))) h honest are);
-  refused = tt;
-  apart = tt;
-  ordered =
-      let kept = soundly_then refl (rb_kept_soundly g.S.Storage.view c.args.storage.now c.insert.new.store c.args.self.now false c.in-Some.cluster c.insert.new.self c.insert.ensures.kept.others c.args.block (Some c.args.block) c.insert.new.value refl c.in_ok-insert.field-0 c.in_ok-insert.ensures.there c.in_ok-insert.ensures.missing c.insert.ensures.kept.distinct (λ flush. never flush) (λ went. ok_false (c.in_ok-branch.was ∙ ap Ok c.if-branch.false) went))
-      c.before_rb.ensures.sound in
-      order_then g.S.Storage.view c.args.storage.now c.before_rb.new.storage c.insert-2.new.store c.args.self.now c.before_rb.new.self kept.keeps kept.ordered c.before_rb.ensures.step.marks.order
-      (block_put_in_order g.S.Storage.view c.before_rb.new.storage c.insert-2.new.store c.before_rb.new.self true c.in-Some.cluster c.insert-2.new.self c.args.block c.insert.new.value c.insert-2.new.value ((rb_taken g.S.Storage.view c.args.storage.now c.insert.new.store c.args.self.now false c.in-Some.cluster c.insert.new.self c.insert.ensures.kept.others c.args.block (Some c.args.block) c.insert.new.value refl c.in_ok-insert.field-0 c.in_ok-insert.ensures.there c.in_ok-insert.ensures.missing).kept (c.in_ok-branch.was ∙ ap Ok c.if-branch.false)) c.in_ok-insert-2.field-0 c.in_ok-insert-2.ensures.there c.in_ok-insert-2.ensures.missing (λ _. c.in_ok-before_rb.ensures.way.first));
-}
-
-pub returns-clause-puts : goal.returns-clause-puts
-returns-clause-puts g c = record {
-  cached =
-      if_some _ c.args.block.cluster c.in-Some.cluster (sym c.get_cluster.ensures.value ∙ c.in-Some.is) (taken_at_last c.in-Some.cluster c.args.block c.insert-2.new.self.entries c.in_ok-insert-2.field-0 c.insert-2.new.value c.in_ok-branch-2.field-0 c.in_ok-branch-2.was
-      (rb_taken g.S.Storage.view c.before_rb.new.storage c.insert-2.new.store c.before_rb.new.self true c.in-Some.cluster c.insert-2.new.self c.insert-2.ensures.kept.others c.args.block c.insert.new.value c.insert-2.new.value ((rb_taken g.S.Storage.view c.args.storage.now c.insert.new.store c.args.self.now false c.in-Some.cluster c.insert.new.self c.insert.ensures.kept.others c.args.block (Some c.args.block) c.insert.new.value refl c.in_ok-insert.field-0 c.in_ok-insert.ensures.there c.in_ok-insert.ensures.missing).kept (c.in_ok-branch.was ∙ ap Ok c.if-branch.false)) c.in_ok-insert-2.field-0 c.in_ok-insert-2.ensures.there c.in_ok-insert-2.ensures.missing));
-  stay = if_some _ c.args.block.cluster c.in-Some.cluster (sym c.get_cluster.ensures.value ∙ c.in-Some.is) (values_stay c.in-Some.cluster c.args.self.now.rb.entries c.insert-2.new.self.entries (stays_then eqb c.in-Some.cluster c.args.self.now.rb.entries c.before_rb.new.self.rb.entries c.insert-2.new.self.entries (stays_then eqb c.in-Some.cluster c.args.self.now.rb.entries c.insert.new.self.entries c.before_rb.new.self.rb.entries c.insert.ensures.kept.stays (stays_same eqb c.in-Some.cluster c.insert.new.self.entries c.before_rb.new.self.rb.entries (ap (λ x. x.entries) c.before_rb.ensures.way.stays))) c.insert-2.ensures.kept.stays));
-  others_stay = c.before_rb.ensures.way.others_stay;
-  quiet = if_some _ c.args.block.cluster c.in-Some.cluster (sym c.get_cluster.ensures.value ∙ c.in-Some.is) (λ may honest.
-      let eviction = block_put_waits g.S.Storage.view c.args.storage.now c.insert.new.store c.args.self.now false c.in-Some.cluster c.insert.new.self c.args.block (Some c.args.block) c.insert.new.value refl c.in_ok-insert.field-0 c.in_ok-insert.ensures.there c.in_ok-insert.ensures.missing (c.in_ok-branch.was ∙ ap Ok c.if-branch.false) may in
-      let one = block_put_quietly g.S.Storage.view c.args.storage.now c.insert.new.store c.args.self.now false c.in-Some.cluster c.insert.new.self c.args.block (Some c.args.block) c.insert.new.value refl c.in_ok-insert.field-0 c.in_ok-insert.ensures.there c.in_ok-insert.ensures.missing (λ flush. never flush) honest in
-      let two = c.before_rb.ensures.way.quiet eviction.0 one.honest in
-      let same = c.before_rb.ensures.way.stays ∙ block_put_same g.S.Storage.view c.args.storage.now c.insert.new.store c.args.self.now false c.in-Some.cluster c.insert.new.self c.args.block (Some c.args.block) c.insert.new.value refl c.in_ok-insert.field-0 c.in_ok-insert.ensures.there c.in_ok-insert.ensures.missing c.insert.ensures.kept.others (c.in_ok-branch.was ∙ ap Ok c.if-branch.false) in
-      let next = block_eviction c.args.self.now.rb c.before_rb.new.self.rb c.in-Some.cluster same eviction.1 in
-      quiet_then (g.S.Storage.view (storage_of c.args.storage.now)) (g.S.Storage.view (storage_of c.before_rb.new.storage)) (g.S.Storage.view (storage_of c.insert-2.new.store)) (quiet_then (g.S.Storage.view (storage_of c.args.storage.now)) (g.S.Storage.view (storage_of c.insert.new.store)) (g.S.Storage.view (storage_of c.before_rb.new.storage)) one two) (block_put_quietly g.S.Storage.view c.before_rb.new.storage c.insert-2.new.store c.before_rb.new.self true c.in-Some.cluster c.insert-2.new.self c.args.block c.insert.new.value c.insert-2.new.value ((rb_taken g.S.Storage.view c.args.storage.now c.insert.new.store c.args.self.now false c.in-Some.cluster c.insert.new.self c.insert.ensures.kept.others c.args.block (Some c.args.block) c.insert.new.value refl c.in_ok-insert.field-0 c.in_ok-insert.ensures.there c.in_ok-insert.ensures.missing).kept (c.in_ok-branch.was ∙ ap Ok c.if-branch.false)) c.in_ok-insert-2.field-0 c.in_ok-insert-2.ensures.there c.in_ok-insert-2.ensures.missing (λ _. next) two.honest));
-}
-
-pub returns-in_err-insert-2-clause-step : goal.returns-in_err-insert-2-clause-step
-returns-in_err-insert-2-clause-step g c =
-    rw (c.in_err-insert-2.ensures.refused.0, c.in_err-insert-2.ensures.refused.1) (put_step_as (sym c.get_cluster.ensures.value ∙ c.in-Some.is) (put_step_then (rb_put_step g.S.Storage.view c.args.storage.now c.insert.new.store c.args.self.now false c.in-Some.cluster c.insert.new.self c.insert.ensures.kept.others c.args.block (Some c.args.block) c.insert.new.value refl c.in_ok-insert.field-0 c.in_ok-insert.ensures.there c.in_ok-insert.ensures.missing c.insert.ensures.kept.pins c.insert.ensures.keeps.0 c.insert.ensures.kept.stays)
-    (put_step_on c.before_rb.ensures.step)))
-
-pub returns-in_err-insert-2-clause-sound : goal.returns-in_err-insert-2-clause-sound
-returns-in_err-insert-2-clause-sound g c =
-    rw (c.in_err-insert-2.ensures.refused.0, c.in_err-insert-2.ensures.refused.1) (puts_refused c.from_residual-in_err-insert-2.result I.Memory c.from_residual-in_err-insert-2.ensures
-    (soundly_then refl (rb_kept_soundly g.S.Storage.view c.args.storage.now c.insert.new.store c.args.self.now false c.in-Some.cluster c.insert.new.self c.insert.ensures.kept.others c.args.block (Some c.args.block) c.insert.new.value refl c.in_ok-insert.field-0 c.in_ok-insert.ensures.there c.in_ok-insert.ensures.missing c.insert.ensures.kept.distinct (λ flush. never flush) (λ went. ok_false (c.in_ok-branch.was ∙ ap Ok c.if-branch.false) went))
-    c.before_rb.ensures.sound))
 
 pub returns-in_err-insert-clause-step : goal.returns-in_err-insert-clause-step
 returns-in_err-insert-clause-step g c =
@@ -209,20 +132,3 @@ returns-in_err-insert-clause-puts g c =
       others_stay = λ _. refl;
       quiet = if_some _ c.args.block.cluster c.in-Some.cluster (sym c.get_cluster.ensures.value ∙ c.in-Some.is) (λ may honest. rw c.in_err-insert.ensures.refused.1 (quiet_none (g.S.Storage.view (storage_of c.args.storage.now)) honest));
     }
-
-pub returns-in_err-insert-2-clause-puts : goal.returns-in_err-insert-2-clause-puts
-returns-in_err-insert-2-clause-puts g c =
-    rw (c.in_err-insert-2.ensures.refused.0, c.in_err-insert-2.ensures.refused.1) (record {
-      cached = on_no_ok _ c.from_residual-in_err-insert-2.result I.Memory c.from_residual-in_err-insert-2.ensures;
-      stay = if_some _ c.args.block.cluster c.in-Some.cluster (sym c.get_cluster.ensures.value ∙ c.in-Some.is) (values_stay c.in-Some.cluster c.args.self.now.rb.entries c.before_rb.new.self.rb.entries (stays_then eqb c.in-Some.cluster c.args.self.now.rb.entries c.insert.new.self.entries c.before_rb.new.self.rb.entries c.insert.ensures.kept.stays (stays_same eqb c.in-Some.cluster c.insert.new.self.entries c.before_rb.new.self.rb.entries (ap (λ x. x.entries) c.before_rb.ensures.way.stays))));
-      others_stay = c.before_rb.ensures.way.others_stay;
-      quiet = if_some _ c.args.block.cluster c.in-Some.cluster (sym c.get_cluster.ensures.value ∙ c.in-Some.is) (λ may honest.
-          let eviction = block_put_waits g.S.Storage.view c.args.storage.now c.insert.new.store c.args.self.now false c.in-Some.cluster c.insert.new.self c.args.block (Some c.args.block) c.insert.new.value refl c.in_ok-insert.field-0 c.in_ok-insert.ensures.there c.in_ok-insert.ensures.missing (c.in_ok-branch.was ∙ ap Ok c.if-branch.false) may in
-          let one = block_put_quietly g.S.Storage.view c.args.storage.now c.insert.new.store c.args.self.now false c.in-Some.cluster c.insert.new.self c.args.block (Some c.args.block) c.insert.new.value refl c.in_ok-insert.field-0 c.in_ok-insert.ensures.there c.in_ok-insert.ensures.missing (λ flush. never flush) honest in
-          quiet_then (g.S.Storage.view (storage_of c.args.storage.now)) (g.S.Storage.view (storage_of c.insert.new.store)) (g.S.Storage.view (storage_of c.before_rb.new.storage)) one (c.before_rb.ensures.way.quiet eviction.0 one.honest));
-    })
-
-pub returns-in_err-insert-2-clause-fails : goal.returns-in_err-insert-2-clause-fails
-returns-in_err-insert-2-clause-fails g c =
-    rw c.in_err-insert-2.ensures.refused.1 (fails_since (c.in_ok-before_rb.ensures.fails.told ∙ (rb_put_tells g.S.Storage.view c.args.self.now.rb.backend.header.fields c.args.self.now.rb.size false c.in-Some.cluster c.args.storage.now c.insert.new.store c.args.self.now.rb.entries c.insert.new.self.entries c.in_ok-insert.field-0 (Some c.args.block) c.insert.new.value _ (λ none. let n = c.insert.ensures.nothing none in (alike c.in_ok-insert.was n.0, n.1, n.2, n.3)) c.in_ok-insert.ensures.there c.in_ok-insert.ensures.missing).same _ c.in_ok-branch.was)
-    (fails_on c.from_residual-in_err-insert-2.result I.Memory c.from_residual-in_err-insert-2.ensures (fails_by I.Memory memory_other refl (inr (inl (inr refl))))))
