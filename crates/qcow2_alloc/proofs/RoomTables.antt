@@ -1,8 +1,8 @@
 -- A longer reftable is written after its refblocks, and is then ready.
 use Rattle.std.proofs.Common.{◌≡◌, ◌+◌, ◌*◌, ◌/◌, ◌%◌, ◌<◌, ◌≤◌, ℕ, List, None, Result, Ok, Err, sym, ◌∙◌, subst, arith, inl, inr}
-use Rattle.qcow2_alloc.proofs.Common.{KeepsUsed, mod_below, StorageView, Bytes, HeaderFields, cluster_size, counts_per_block, block_offset, EntryTableView, entry_at, AreClean, BlocksMayGo, Pending, SameIn, Sizes, block_count-moved, in_one, Allocator, MetadataCaches, ImageError, ImageFile, ImageStorage, run_at, HasBytesAt, InternalAllocatorStep, InternalAllocatorGrowth, with_run, without_reftable, IsGrown, StandsGrown, NamesReftable, KeepsPinsAndNotes, view_in, contents_in, AllocatorInvariant, RefusedFileStep, storage_of, order_of, l2_tables, refblocks, rb_at, InternalCacheStep, WritesTable}
+use Rattle.qcow2_alloc.proofs.Common.{KeepsUsed, mod_below, StorageView, Bytes, HeaderFields, cluster_size, counts_per_block, block_offset, EntryTableView, entry_at, AreClean, BlocksMayGo, Pending, SameIn, Sizes, block_count-moved, in_one, Allocator, ImageError, ImageFile, run_at, HasBytesAt, InternalAllocatorStep, InternalAllocatorGrowth, with_run, without_reftable, IsGrown, StandsGrown, NamesReftable, contents_in, AllocatorInvariant, RefusedFileStep, order_of, l2_tables, refblocks, rb_at, WritesTable}
 use Rattle.qcow2_alloc.proofs.Hints.{used_stays}
-use Rattle.qcow2_alloc.proofs.AllocationSteps.{on_of, allocator_step_on, allocator_step_cached}
+use Rattle.qcow2_alloc.proofs.AllocationSteps.{on_of, allocator_step_on}
 use Rattle.qcow2_alloc.proofs.FileSteps.{leaves_then}
 use Rattle.qcow2_alloc.specs.ImageFile.{IsFault}
 use Rattle.qcow2_alloc.proofs.PlacedRooms.{Counting}
@@ -37,20 +37,6 @@ in_longer first blocks n c le some =
     let high = within.1 in
     let one = run_in first n c low (omega (arith, high, le)) in
     omega (arith, one)
-
--- ---- a call of the caches leaves the clusters of a run as they are
-module _ {S : Type 0} (view : S → StorageView) (p : Pending) (first n : ℕ) (file : ImageFile S) (a : Allocator) (storage : ImageStorage S) (caches : MetadataCaches S)
-    (sound : AllocatorInvariant view a (with_run p file.header.fields a.reftable first n) file) (may : BlocksMayGo (order_of file.caches) (l2_tables file.caches))
-    (stays : InternalCacheStep file.header.fields (with_run p file.header.fields a.reftable first n) (view_in view file) file.caches (view (storage_of storage)) caches)
-    (marks : KeepsPinsAndNotes file.caches caches) (may_now : BlocksMayGo (order_of caches) (l2_tables caches)) where
-  abbrev fresh : Pending
-  fresh = with_run p file.header.fields a.reftable first n
-
-  abbrev called : ImageFile S
-  called = record file { storage = storage; caches = caches }
-
-  step_called : InternalAllocatorStep view fresh file a called fresh
-  step_called = allocator_step_cached view fresh file a storage caches sound stays marks
 
 module _ {S : Type 0} (view : S → StorageView) (p : Pending) (first n : ℕ) (a : Allocator) (f f' : ImageFile S) (cluster clusters : ℕ) (bytes : List ℕ) (h : HeaderFields) (same : f.header.fields ≡ h) where
   -- what a write of a table says, with the header that the file has all along

@@ -66,11 +66,6 @@ run_ends first end cluster a b c low lt one two =
     spares_more (IsWithin first cluster) (λ k. k ≡ cluster) (IsWithin first end) a b c false (λ k is. elim is [ inl within ↦ (within.0, (let below = within.1 in omega (arith, below, lt))) | inr same ↦ (omega (arith, low, same), omega (arith, same, lt)) ])
     (λ so. absurd (let bad : false ≡ true = so in cc)) one two
 
--- the run is spared to its end
-pub run_all : (first end cluster : ℕ) (a b : List (ℕ × ℕ)) → end ≤ cluster → cluster ≤ end → Spares (IsWithin first cluster) a b true → Spares (IsWithin first end) a b true
-run_all first end cluster a b past high one =
-    spares_as (IsWithin first cluster) (IsWithin first end) a b true (λ k is. (is.0, (let lt = is.1 in omega (arith, lt, high)))) (λ so k is. (is.0, (let lt = is.1 in omega (arith, lt, past)))) one
-
 -- the cluster of an offset of 64 bits
 pub first_near : (offset bits : ℕ) → offset < 2 ^ 64 → 9 ≤ bits → offset / 2 ^ bits < 2 ^ 55
 first_near offset bits near low =

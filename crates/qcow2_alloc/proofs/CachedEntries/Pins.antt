@@ -1,5 +1,5 @@
 -- What a call does to the pins of the entries: each key keeps its own pins.
-use Rattle.std.proofs.Common.{◌≡◌, ◌<◌, ◌≤◌, ◌∷◌, ℕ, Bool, true, false, cond, inl, inr, List, [], length, Option, Some, None, Result, refl, sym, ap, ◌∙◌, subst, arith, nat_lt, IfSome, IsSome}
+use Rattle.std.proofs.Common.{◌≡◌, ◌∷◌, ℕ, Bool, true, false, cond, inl, inr, List, [], Option, Some, None, Result, refl, sym, ap, ◌∙◌, subst, arith, nat_lt, IfSome, IsSome}
 use Rattle.qcow2_alloc.proofs.Common.{nat_tests, IsEquivalence, AllByRecursion, IsDistinct, option_map, option_map_or, option_or, keys_of, lookup, lookup_entry, remove_entry, set_value, lookup-remove_entry, promoted, Slot, CacheError, slot_of, pins_at, is_pinned, pinned, oldest_free, KeepsPins, Steps, FlushesEntry, FlushesAll, HasRoomForEntry, InsertsNew, GetsNew, Replaces}
 use Rattle.qcow2_alloc.proofs.CachedEntries.Knowing.{lookup_alike, removed_apart, lookup-promoted}
 use Rattle.qcow2_alloc.proofs.CachedEntries.Lists.{oldest_cases, oldest_free-lookup, pinned_kept, pinned_gone, none_is_none, lookup-from_entry}
@@ -76,15 +76,6 @@ module _ {K V : Type 0} where
         | true ↦ λ t g. oldest_cases (oldest_free es) true f e g (λ later. oldest_unpinned es e later) (λ none _. absurd (let g' = rw none at g in cc))
         | false ↦ λ t g. oldest_cases (oldest_free es) false f e g (λ later. oldest_unpinned es e later) (λ _ is. subst (λ (x : K × Slot V). is_pinned x.1 ≡ false) is t)
       ]) refl h
-
-  -- where there is an entry, and none is pinned, there is an oldest one
-  some_oldest : (o : Option (K × Slot V)) (e : K × Slot V) → option_or o (Some e) ≡ None → ⊥
-  some_oldest None e h = cc
-  some_oldest (Some x) e h = cc
-
-  pub free_eviction : (size : ℕ) (es : List (K × Slot V)) → 0 < size → size ≤ length es → pinned es ≡ [] → oldest_free es ≡ None → ⊥
-  free_eviction size [] some full free none = omega arith
-  free_eviction size (e ∷ es) some full free none = let c = free_case e es (is_pinned e.1) free in some_oldest (oldest_free es) e (rw c.0 at none)
 
   -- where there is no oldest one, all are pinned
   none_left : (o : Option (K × Slot V)) (b : Bool) (e : K × Slot V) → option_or o (cond b None (Some e)) ≡ None → (o ≡ None) × (b ≡ true)

@@ -1,6 +1,6 @@
 -- The reftable still names each refblock that it named before, and the offset of every table fits into 64 bits.
 use Rattle.std.proofs.Common.{◌≡◌, ◌⊎◌, ◌*◌, ◌/◌, ◌%◌, ◌^◌, ◌<◌, inl, inr, ℕ, List, sym, ap, ◌∙◌, subst, arith}
-use Rattle.qcow2_alloc.proofs.Common.{mod_below, pow_pos, div-add-mod', Bytes, HeaderFields, cluster_size, l1_entry, reftable_entry, host_offset, block_offset, L2TableView, RefBlockView, HasPlace, CachedTable, Direction, Pending, SameTop, known_bytes, IsFreeOf, HasL2, HasBlock, AreNamedBlocks, SameTop-sym, SameTop-trans, Slot, MetadataCaches, IsTableOf, IsBlockOf, cached_tables, AreKept, l2_tables, refblocks, CacheInvariant}
+use Rattle.qcow2_alloc.proofs.Common.{mod_below, pow_pos, div-add-mod', Bytes, HeaderFields, cluster_size, l1_entry, reftable_entry, host_offset, block_offset, RefBlockView, HasPlace, CachedTable, Direction, Pending, SameTop, known_bytes, IsFreeOf, HasL2, HasBlock, AreNamedBlocks, SameTop-sym, SameTop-trans, Slot, MetadataCaches, IsBlockOf, cached_tables, AreKept, refblocks, CacheInvariant}
 use Rattle.qcow2_alloc.proofs.KeptTables.Standing.{AreStanding, standing_of, free_or_named}
 
 -- ---- where tables are named
@@ -21,12 +21,6 @@ block_place h on_storage bits same k has =
 
 -- ---- the modified tables of sound caches stand there
 module _ {S : Type 0} (h : HeaderFields) (p : Pending) (caches : MetadataCaches S) (on_storage : Bytes) (sound : CacheInvariant h p caches on_storage) where
-  pub tables_stand : AreStanding (λ (t : L2TableView). t.is_modified) (IsTableOf caches.l2.backend.header.fields) (HasL2 h on_storage) caches.l2.entries
-  tables_stand =
-      standing_of caches.l2.backend.header.fields.cluster_bits (λ (t : L2TableView). t.bytes) (λ t. t.is_modified) (IsTableOf caches.l2.backend.header.fields) (HasL2 h on_storage) caches.l2.entries sound.l2_fit
-      (subst (λ n. (c : ℕ) → IsFreeOf (2 ^ n) (l2_tables caches) c ⊎ HasL2 h on_storage c) (sym sound.l2_format.bits)
-      (λ c. elim (sound.kept.kept.l2_stand c) [ inl free ↦ inl free | inr has ↦ inr (has.0, has.1, has.2) ]))
-
   pub blocks_stand : AreNamedBlocks h (refblocks caches) on_storage → AreStanding (λ (b : RefBlockView). b.is_modified) (IsBlockOf caches.rb.backend.header.fields) (HasBlock h on_storage) caches.rb.entries
   blocks_stand named_blocks =
       standing_of caches.rb.backend.header.fields.cluster_bits (λ (b : RefBlockView). b.bytes) (λ b. b.is_modified) (IsBlockOf caches.rb.backend.header.fields) (HasBlock h on_storage) caches.rb.entries sound.rb_fit

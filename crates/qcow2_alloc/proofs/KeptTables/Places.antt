@@ -1,6 +1,6 @@
 -- The clusters of modified refblocks have places, also those of new ones.
 use Rattle.std.proofs.Common.{◌≡◌, ◌*◌, ◌^◌, ◌==◌, ◌∷◌, inl, inr, ℕ, Bool, true, List, [], Option, Some, None, IsSome, refl, sym, ap, subst, IfSome}
-use Rattle.qcow2_alloc.proofs.Common.{cases_eq, eq-eqb, ne_eqb, Bytes, HeaderFields, RefBlockView, HasPlace, Pending, HasBlock, AreNamedBlocks, Slot, RefBlockCacheBackend, MetadataCaches, Cache, value_at, cached_tables, AllValuesFit, AreElsewhere, AreLoaded, refblocks, rb_at, HavePlaces, CacheInvariant, OthersStayHeld, IsBlockOf}
+use Rattle.qcow2_alloc.proofs.Common.{cases_eq, eq-eqb, ne_eqb, Bytes, HeaderFields, RefBlockView, HasPlace, Pending, HasBlock, AreNamedBlocks, Slot, MetadataCaches, value_at, cached_tables, AllValuesFit, AreElsewhere, AreLoaded, refblocks, rb_at, HavePlaces, CacheInvariant, OthersStayHeld, IsBlockOf}
 use Rattle.qcow2_alloc.proofs.KeptTables.BlocksNamed.{blocks_stand, block_place}
 use Rattle.qcow2_alloc.proofs.KeptTables.Standing.{AreStanding}
 
@@ -52,11 +52,6 @@ module _ {S : Type 0} (h : HeaderFields) (p : Pending) (caches : MetadataCaches 
       (HasBlock h on_storage) on_storage caches.rb.entries sound.rb_fit
       (subst (λ n. AreLoaded (2 ^ n) (HasBlock h on_storage) (refblocks caches) on_storage) (sym sound.rb_format.bits) sound.kept.rb_loaded)
       (λ c. subst (λ n. IfSome (value_at (λ k. c == k) caches.rb.entries) (λ b. b.is_modified ≡ true → HasPlace n c)) (sym sound.rb_format.bits) (places c))
-
--- the same refblocks
-pub places_as : {S : Type 0} (h : HeaderFields) (old new : MetadataCaches S) → new.rb ≡ old.rb → HavePlaces h old → HavePlaces h new
-places_as {S} h old new same places =
-    subst (λ (rb : Cache (RefBlockCacheBackend S) ℕ RefBlockView). (c : ℕ) → IfSome (value_at (λ k. c == k) rb.entries) (λ b. b.is_modified ≡ true → HasPlace h.cluster_bits c)) (sym same) places
 
 -- a modified refblock has a place there
 abbrev IsPlaced : HeaderFields → ℕ → RefBlockView → Type 0
