@@ -1,7 +1,11 @@
 use Rattle.std.proofs.Common.{ℕ, ◌≡◌, ◌≢◌, ◌/◌, ◌^◌, ◌<◌, ◌≤◌, ◌⊎◌, arith, inl, inr, Ok, Err, Some, None, true, refl, sym, ap, ◌∙◌, subst, Result, Option, false, rules, IfErr}
-use Rattle.qcow2_alloc.proofs.Common.{count, one_at, Pending, ClustersToFreeEntry, ImageFile, taken_as, InternalAllocatorGrowth, AllocatesAt, pending_then, IsUsed, KeepsNoFreeBelowHint, StaysUsed, counts_per_block, ImageError, IsFault, IsFaultOr, CantCount, IsHostCluster, run_in, IsAllocatedMetadata, AllocatesOnly}
+use Rattle.qcow2_alloc.specs.LowestRuns.{NoFreeBelowHint}
+use Rattle.qcow2_alloc.specs.Steps.{AllocatesAtSoundly}
+use Rattle.qcow2_alloc.proofs.Common.{AllocatorInvariant, IsPastLimits, count, one_at, Pending, ClustersToFreeEntry, ImageFile, taken_as, InternalAllocatorGrowth, AllocatesAt, pending_then, IsUsed, KeepsNoFreeBelowHint, StaysUsed, counts_per_block, ImageError, IsFault, IsFaultOr, CantCount, IsHostCluster, run_in, IsAllocatedMetadata, AllocatesOnly}
 use Rattle.qcow2_alloc.proofs.Lemmas.{handed_on, on_of, allocator_step_on, allocator_step_cached, is_sound_now, leaves_on, of_equal, listed_after_same, header_used, hint_stays, passed_still, taken_alone, on_no_ok, if_no_ok, alone_none, alone_since, lists_used_none, made_before, made_one, made_refused, made_untaken, data_then, fails_by, fails_ok, fails_on, fails_since, memory_other, data_cached, fault_alone, file_fits, fails_of_tables}
 use Rattle.qcow2_alloc.specs.declared.error.ImageError.TheVariants as I
+use Rattle.qcow2_alloc.proofs.allocation.Allocator.allocate_data_at.Given.{Over}
+use Rattle.qcow2_alloc.proofs.allocation.Allocator.allocate_data_at.Goals.{After-l2_depends_on_rb}
 use Rattle.qcow2_alloc.proofs.allocation.Allocator.allocate_data_at.Goals as goal
 
 -- the range of a cluster, as its number says it, beside the most entries of a reftable
@@ -10,6 +14,30 @@ past_limit at cluster bits per is counts past = let same : at / 2 ^ bits ≡ clu
 
 within_limit : (at cluster bits per : ℕ) → at ≡ cluster → per ≡ 2 ^ bits → at / 2 ^ bits < 1048576 → cluster / per < 2 ^ 20
 within_limit at cluster bits per is counts below = let same : at / 2 ^ bits ≡ cluster / per = ap (λ n. n / 2 ^ bits) is ∙ ap (λ n. cluster / n) (sym counts) in omega (arith, below, same)
+
+abbrev turned : (g : Over) → After-l2_depends_on_rb g → ImageFile g.row.S.Denot
+turned g c = record c.args.file.now { storage = c.l2_depends_on_rb.new.storage; caches = c.l2_depends_on_rb.new.self }
+
+-- The order of writes turned, and the cluster is not given, for a reason that lies in it.
+not_given : (g : Over) (c : After-l2_depends_on_rb g) (p : Pending) → AllocatorInvariant g.S.Storage.view c.args.self.now p c.args.file.now
+    → (NoFreeBelowHint g.S.Storage.view c.args.self.now c.args.file.now → IsPastLimits c.args.file.now.header.fields c.args.cluster ⊎ (IsUsed g.S.Storage.view (turned g c) c.args.cluster × (IsUsed g.S.Storage.view c.args.file.now c.args.cluster ⊎ IsAllocatedMetadata c.args.file.now.header.fields c.args.self.now.reftable c.args.self.now.reftable c.args.cluster)))
+    → AllocatesAtSoundly g.S.Storage.view p c.args.cluster c.args.self.now c.args.file.now c.args.self.now (turned g c) (Ok None)
+not_given g c p sound why =
+    let one = allocator_step_cached g.S.Storage.view p c.args.file.now c.args.self.now c.l2_depends_on_rb.new.storage c.l2_depends_on_rb.new.self sound (c.l2_depends_on_rb.ensures.sound.keeps c.args.file.now.header.fields p sound.sound.honest sound.sound.caches) c.l2_depends_on_rb.ensures.step.marks.pins in
+    let known = (c.l2_depends_on_rb.ensures.sound.keeps c.args.file.now.header.fields p sound.sound.honest sound.sound.caches).known in
+    record {
+      takes = subst (λ (r : Pending). InternalAllocatorGrowth g.S.Storage.view p c.args.file.now c.args.self.now (turned g c) r) (sym (listed_after_same p c.args.file.now.free_list c.args.file.now.free_list refl)) (on_of g.S.Storage.view p p c.args.file.now (turned g c) c.args.self.now one);
+      leaks = refl;
+      listed = lists_used_none g.S.Storage.view c.args.file.now (turned g c) refl;
+      made = let alone = alone_none g.S.Storage.view c.args.file.now (turned g c) refl known in
+          ((λ k used. inl (alone.0 k used)), alone.1);
+      uses = λ k used. subst (λ b. count c.args.file.now.header.fields b k ≢ 0) (sym known) used;
+      kept = tt;
+      within = tt;
+      none = λ hint _. why hint;
+      hint = λ hint. hint_stays g.S.Storage.view p c.args.file.now (turned g c) c.args.self.now c.args.self.now one (passed_still c.args.self.now) hint;
+      limit = λ _. tt;
+    }
 
 pub returns-in_err-l2_depends_on_rb-clause-step : goal.returns-in_err-l2_depends_on_rb-clause-step
 returns-in_err-l2_depends_on_rb-clause-step g c = data_cached c.l2_depends_on_rb.ensures.step.marks.pins c.l2_depends_on_rb.ensures.step.marks.notes c.l2_depends_on_rb.ensures.step.header_cluster
@@ -67,67 +95,21 @@ returns-in-Ok-false-clause-order g c = c.allocate_cluster.ensures.step.marks.ord
 
 pub returns-then-at-eq0-clause-sound : goal.returns-then-at-eq0-clause-sound
 returns-then-at-eq0-clause-sound g c = λ p sound.
-    let file : ImageFile g.row.S.Denot = record c.args.file.now { storage = c.l2_depends_on_rb.new.storage; caches = c.l2_depends_on_rb.new.self } in
+    let path = (goal.at.returns-then-at-eq0-clause-sound g c).After-l2_depends_on_rb in
     let one = allocator_step_cached g.S.Storage.view p c.args.file.now c.args.self.now c.l2_depends_on_rb.new.storage c.l2_depends_on_rb.new.self sound (c.l2_depends_on_rb.ensures.sound.keeps c.args.file.now.header.fields p sound.sound.honest sound.sound.caches) c.l2_depends_on_rb.ensures.step.marks.pins in
-    let known = (c.l2_depends_on_rb.ensures.sound.keeps c.args.file.now.header.fields p sound.sound.honest sound.sound.caches).known in
-    record {
-      takes = subst (λ (r : Pending). InternalAllocatorGrowth g.S.Storage.view p c.args.file.now c.args.self.now file r) (sym (listed_after_same p c.args.file.now.free_list c.args.file.now.free_list refl)) (on_of g.S.Storage.view p p c.args.file.now file c.args.self.now one);
-      leaks = refl;
-      listed = lists_used_none g.S.Storage.view c.args.file.now file refl;
-      made = let alone = alone_none g.S.Storage.view c.args.file.now file refl known in
-          ((λ k used. inl (alone.0 k used)), alone.1);
-      uses = λ k used. let h = c.args.file.now.header.fields in
-          subst (λ b. count h b k ≢ 0) (sym known) used;
-      kept = tt;
-      within = tt;
-      none = λ hint _. let here = sym c.if-at-eq0.true ∙ c.value-at.ensures in
-          inr (
-            subst (λ n. IsUsed g.S.Storage.view file n) here (header_used g.S.Storage.view p file (is_sound_now g.S.Storage.view p p c.args.file.now file c.args.self.now one).sound),
-            inl (subst (λ n. IsUsed g.S.Storage.view c.args.file.now n) here (header_used g.S.Storage.view p c.args.file.now sound.sound)),
-          );
-      hint = λ hint. hint_stays g.S.Storage.view p c.args.file.now file c.args.self.now c.args.self.now one (passed_still c.args.self.now) hint;
-      limit = λ _. tt;
-    }
+    let here = sym c.if-at-eq0.true ∙ c.value-at.ensures in
+    not_given g path p sound (λ _. inr (
+      subst (λ n. IsUsed g.S.Storage.view (turned g path) n) here (header_used g.S.Storage.view p (turned g path) (is_sound_now g.S.Storage.view p p c.args.file.now (turned g path) c.args.self.now one).sound),
+      inl (subst (λ n. IsUsed g.S.Storage.view c.args.file.now n) here (header_used g.S.Storage.view p c.args.file.now sound.sound)),
+    ))
 
 pub returns-then-not-is_nameable-clause-sound : goal.returns-then-not-is_nameable-clause-sound
-returns-then-not-is_nameable-clause-sound g c = λ p sound.
-    let file : ImageFile g.row.S.Denot = record c.args.file.now { storage = c.l2_depends_on_rb.new.storage; caches = c.l2_depends_on_rb.new.self } in
-    let one = allocator_step_cached g.S.Storage.view p c.args.file.now c.args.self.now c.l2_depends_on_rb.new.storage c.l2_depends_on_rb.new.self sound (c.l2_depends_on_rb.ensures.sound.keeps c.args.file.now.header.fields p sound.sound.honest sound.sound.caches) c.l2_depends_on_rb.ensures.step.marks.pins in
-    let known = (c.l2_depends_on_rb.ensures.sound.keeps c.args.file.now.header.fields p sound.sound.honest sound.sound.caches).known in
-    record {
-      takes = subst (λ (r : Pending). InternalAllocatorGrowth g.S.Storage.view p c.args.file.now c.args.self.now file r) (sym (listed_after_same p c.args.file.now.free_list c.args.file.now.free_list refl)) (on_of g.S.Storage.view p p c.args.file.now file c.args.self.now one);
-      leaks = refl;
-      listed = lists_used_none g.S.Storage.view c.args.file.now file refl;
-      made = let alone = alone_none g.S.Storage.view c.args.file.now file refl known in
-          ((λ k used. inl (alone.0 k used)), alone.1);
-      uses = λ k used. let h = c.args.file.now.header.fields in
-          subst (λ b. count h b k ≢ 0) (sym known) used;
-      kept = tt;
-      within = tt;
-      none = λ hint _. inl (inl (search rules));
-      hint = λ hint. hint_stays g.S.Storage.view p c.args.file.now file c.args.self.now c.args.self.now one (passed_still c.args.self.now) hint;
-      limit = λ _. tt;
-    }
+returns-then-not-is_nameable-clause-sound g c = λ p sound. not_given g (goal.at.returns-then-not-is_nameable-clause-sound g c).After-l2_depends_on_rb p sound (λ _. inl (inl (search rules)))
 
 pub returns-then-range-clause-sound : goal.returns-then-range-clause-sound
 returns-then-range-clause-sound g c = λ p sound.
-    let file : ImageFile g.row.S.Denot = record c.args.file.now { storage = c.l2_depends_on_rb.new.storage; caches = c.l2_depends_on_rb.new.self } in
-    let one = allocator_step_cached g.S.Storage.view p c.args.file.now c.args.self.now c.l2_depends_on_rb.new.storage c.l2_depends_on_rb.new.self sound (c.l2_depends_on_rb.ensures.sound.keeps c.args.file.now.header.fields p sound.sound.honest sound.sound.caches) c.l2_depends_on_rb.ensures.step.marks.pins in
-    let known = (c.l2_depends_on_rb.ensures.sound.keeps c.args.file.now.header.fields p sound.sound.honest sound.sound.caches).known in
-    record {
-      takes = subst (λ (r : Pending). InternalAllocatorGrowth g.S.Storage.view p c.args.file.now c.args.self.now file r) (sym (listed_after_same p c.args.file.now.free_list c.args.file.now.free_list refl)) (on_of g.S.Storage.view p p c.args.file.now file c.args.self.now one);
-      leaks = refl;
-      listed = lists_used_none g.S.Storage.view c.args.file.now file refl;
-      made = let alone = alone_none g.S.Storage.view c.args.file.now file refl known in
-          ((λ k used. inl (alone.0 k used)), alone.1);
-      uses = λ k used. let h = c.args.file.now.header.fields in
-          subst (λ b. count h b k ≢ 0) (sym known) used;
-      kept = tt;
-      within = tt;
-      none = λ hint _. inl (inr (past_limit c.value-at.result c.args.cluster c.rb_bits.result (counts_per_block c.args.file.now.header.fields) c.value-at.ensures c.rb_bits.ensures.counts c.if-range.true));
-      hint = λ hint. hint_stays g.S.Storage.view p c.args.file.now file c.args.self.now c.args.self.now one (passed_still c.args.self.now) hint;
-      limit = λ _. tt;
-    }
+    not_given g (goal.at.returns-then-range-clause-sound g c).After-l2_depends_on_rb p sound
+    (λ _. inl (inr (past_limit c.value-at.result c.args.cluster c.rb_bits.result (counts_per_block c.args.file.now.header.fields) c.value-at.ensures c.rb_bits.ensures.counts c.if-range.true)))
 
 pub returns-in-Ok-false-clause-sound : goal.returns-in-Ok-false-clause-sound
 returns-in-Ok-false-clause-sound g c = λ p sound.
