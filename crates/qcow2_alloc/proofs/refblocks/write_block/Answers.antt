@@ -80,19 +80,36 @@ returns-in_err-write_new_refblock-clause-sound g c = λ p d t range sound place 
     handed_on (WritesBlock g.S.Storage.view (placing d p c.args.cluster) c.args.file.now t (record c.args.file.now { storage = c.write_new_refblock.new.self; caches = c.rb_remove.new.self }) c.args.block.now c.args.cluster)
     c.from_residual-in_err-write_new_refblock.result (of_storage c.in_err-write_new_refblock.field-0.0) c.from_residual-in_err-write_new_refblock.ensures (fault_of_storage c.in_err-write_new_refblock.field-0.0, inl (two.file_step, two.reftable))
 
-pub returns-clause-sound : goal.returns-clause-sound
-returns-clause-sound g c = λ p d t range sound place fits is. (
-  still g.S.Storage.view d p range c.args.cluster c.args.file.now t c.flush_rb.new.storage c.flush_rb.new.self sound c.flush_rb.ensures.sound.keeps c.flush_rb.ensures.step.marks.pins c.rb_remove.new.self c.in_ok-flush_rb.ensures.flushes.first place
-      c.rb_remove.ensures.step.order c.rb_remove.ensures.tables c.rb_remove.result c.rb_remove.ensures.same c.rb_remove.ensures.removes c.rb_remove.ensures.step.marks (storage_of c.set_write_kind.new.self) c.write_new_refblock.new.self
-      c.args.block.now c.write_new_refblock.result fits c.requires.placed is.whole c.set_write_kind.ensures.storage c.write_new_refblock.ensures.writes.written c.write_new_refblock.ensures.writes.calls,
-  record {
-    uncached = gone g.S.Storage.view d p range c.args.cluster c.args.file.now t c.flush_rb.new.storage c.flush_rb.new.self sound c.flush_rb.ensures.sound.keeps c.flush_rb.ensures.step.marks.pins c.rb_remove.new.self c.in_ok-flush_rb.ensures.flushes.first place
-        c.rb_remove.ensures.step.order c.rb_remove.ensures.tables c.rb_remove.result c.rb_remove.ensures.same c.rb_remove.ensures.removes c.rb_remove.ensures.step.marks;
-    stands = stand_there g.S.Storage.view d p range c.args.cluster c.args.file.now t c.flush_rb.new.storage c.flush_rb.new.self sound c.flush_rb.ensures.sound.keeps c.flush_rb.ensures.step.marks.pins c.rb_remove.new.self c.in_ok-flush_rb.ensures.flushes.first place
+pub returns : goal.returns
+returns g c = record {
+  step =
+      let flushed : ImageFile g.row.S.Denot = record c.args.file.now { storage = c.flush_rb.new.storage; caches = c.flush_rb.new.self } in
+      let elsewhere = placed_elsewhere c.args.block.now.cluster_bits c.args.block.now.bytes c.args.block.now.cluster (subst (λ o. IsSome o) (sym c.requires.placed) refl) (subst (λ o. IfSome o (λ k. 0 < k)) (sym c.requires.placed) c.requires.elsewhere) c.write_new_refblock.ensures.writes in record {
+        header = refl;
+        list = refl;
+        marks = kept_marks_then (kept_marks_then c.flush_rb.ensures.step.marks (marks_of_caches c.rb_remove.ensures.step.marks c.rb_remove.ensures.step.order)) (marks_of_storage refl (placed_kept c.flush_rb.new.storage c.set_write_kind.new.self c.write_new_refblock.new.self c.write_new_refblock.result c.set_write_kind.ensures.storage c.set_write_kind.ensures.changed c.args.block.now.cluster _ (subst (λ o. IsSome o) (sym c.requires.placed) refl) c.write_new_refblock.ensures.writes.written c.write_new_refblock.ensures.writes.calls c.write_new_refblock.ensures.writes.recorded));
+        header_cluster = λ r bits.
+            spares_then (spares_then (spares_cached r c.args.file.now c.flush_rb.new.storage c.flush_rb.new.self c.flush_rb.ensures.step.header_cluster) (spares_tables r flushed c.rb_remove.new.self c.rb_remove.ensures.step.header_cluster))
+            (spares_written r (record flushed { caches = c.rb_remove.new.self }) c.args.block.now.cluster_bits c.write_new_refblock.new.self bits (subst (λ s. KeepsHeaderCluster c.args.block.now.cluster_bits (g.S.Storage.view s) (g.S.Storage.view (storage_of c.write_new_refblock.new.self))) c.set_write_kind.ensures.storage elsewhere));
+      };
+  fails = fails_ok (c.in_ok-write_new_refblock.ensures.writes.calls.cause.told ∙ (same_faults g.S.Storage.view c.set_write_kind.ensures.storage ∙ c.in_ok-flush_rb.ensures.fails.told));
+  sound = λ p d t range sound place fits is. (
+    still g.S.Storage.view d p range c.args.cluster c.args.file.now t c.flush_rb.new.storage c.flush_rb.new.self sound c.flush_rb.ensures.sound.keeps c.flush_rb.ensures.step.marks.pins c.rb_remove.new.self c.in_ok-flush_rb.ensures.flushes.first place
         c.rb_remove.ensures.step.order c.rb_remove.ensures.tables c.rb_remove.result c.rb_remove.ensures.same c.rb_remove.ensures.removes c.rb_remove.ensures.step.marks (storage_of c.set_write_kind.new.self) c.write_new_refblock.new.self
-        c.args.block.now c.write_new_refblock.result fits c.requires.placed is.whole c.set_write_kind.ensures.storage c.write_new_refblock.ensures.writes.written c.write_new_refblock.ensures.writes.calls c.in_ok-write_new_refblock.field-0 c.in_ok-write_new_refblock.was;
-  },
-)
+        c.args.block.now c.write_new_refblock.result fits c.requires.placed is.whole c.set_write_kind.ensures.storage c.write_new_refblock.ensures.writes.written c.write_new_refblock.ensures.writes.calls,
+    record {
+      uncached = gone g.S.Storage.view d p range c.args.cluster c.args.file.now t c.flush_rb.new.storage c.flush_rb.new.self sound c.flush_rb.ensures.sound.keeps c.flush_rb.ensures.step.marks.pins c.rb_remove.new.self c.in_ok-flush_rb.ensures.flushes.first place
+          c.rb_remove.ensures.step.order c.rb_remove.ensures.tables c.rb_remove.result c.rb_remove.ensures.same c.rb_remove.ensures.removes c.rb_remove.ensures.step.marks;
+      stands = stand_there g.S.Storage.view d p range c.args.cluster c.args.file.now t c.flush_rb.new.storage c.flush_rb.new.self sound c.flush_rb.ensures.sound.keeps c.flush_rb.ensures.step.marks.pins c.rb_remove.new.self c.in_ok-flush_rb.ensures.flushes.first place
+          c.rb_remove.ensures.step.order c.rb_remove.ensures.tables c.rb_remove.result c.rb_remove.ensures.same c.rb_remove.ensures.removes c.rb_remove.ensures.step.marks (storage_of c.set_write_kind.new.self) c.write_new_refblock.new.self
+          c.args.block.now c.write_new_refblock.result fits c.requires.placed is.whole c.set_write_kind.ensures.storage c.write_new_refblock.ensures.writes.written c.write_new_refblock.ensures.writes.calls c.in_ok-write_new_refblock.field-0 c.in_ok-write_new_refblock.was;
+    },
+  );
+  counted = c.rb_remove.ensures.removes.clean c.in_ok-flush_rb.ensures.flushes.written;
+  recorded = c.in_ok-write_new_refblock.ensures.writes.recorded.0;
+  first =
+      subst (λ o. BlocksMayGo o (l2_tables c.rb_remove.new.self)) (sym c.rb_remove.ensures.step.order) (subst (BlocksMayGo (order_of c.flush_rb.new.self)) (sym c.rb_remove.ensures.tables) c.in_ok-flush_rb.ensures.flushes.first);
+}
 
 pub returns-in_err-flush_rb-clause-step : goal.returns-in_err-flush_rb-clause-step
 returns-in_err-flush_rb-clause-step g c = record {
@@ -114,34 +131,9 @@ returns-in_err-write_new_refblock-clause-step g c =
           (spares_written r (record flushed { caches = c.rb_remove.new.self }) c.args.block.now.cluster_bits c.write_new_refblock.new.self bits (subst (λ s. KeepsHeaderCluster c.args.block.now.cluster_bits (g.S.Storage.view s) (g.S.Storage.view (storage_of c.write_new_refblock.new.self))) c.set_write_kind.ensures.storage elsewhere));
     }
 
-pub returns-clause-step : goal.returns-clause-step
-returns-clause-step g c =
-    let flushed : ImageFile g.row.S.Denot = record c.args.file.now { storage = c.flush_rb.new.storage; caches = c.flush_rb.new.self } in
-    let elsewhere = placed_elsewhere c.args.block.now.cluster_bits c.args.block.now.bytes c.args.block.now.cluster (subst (λ o. IsSome o) (sym c.requires.placed) refl) (subst (λ o. IfSome o (λ k. 0 < k)) (sym c.requires.placed) c.requires.elsewhere) c.write_new_refblock.ensures.writes in record {
-      header = refl;
-      list = refl;
-      marks = kept_marks_then (kept_marks_then c.flush_rb.ensures.step.marks (marks_of_caches c.rb_remove.ensures.step.marks c.rb_remove.ensures.step.order)) (marks_of_storage refl (placed_kept c.flush_rb.new.storage c.set_write_kind.new.self c.write_new_refblock.new.self c.write_new_refblock.result c.set_write_kind.ensures.storage c.set_write_kind.ensures.changed c.args.block.now.cluster _ (subst (λ o. IsSome o) (sym c.requires.placed) refl) c.write_new_refblock.ensures.writes.written c.write_new_refblock.ensures.writes.calls c.write_new_refblock.ensures.writes.recorded));
-      header_cluster = λ r bits.
-          spares_then (spares_then (spares_cached r c.args.file.now c.flush_rb.new.storage c.flush_rb.new.self c.flush_rb.ensures.step.header_cluster) (spares_tables r flushed c.rb_remove.new.self c.rb_remove.ensures.step.header_cluster))
-          (spares_written r (record flushed { caches = c.rb_remove.new.self }) c.args.block.now.cluster_bits c.write_new_refblock.new.self bits (subst (λ s. KeepsHeaderCluster c.args.block.now.cluster_bits (g.S.Storage.view s) (g.S.Storage.view (storage_of c.write_new_refblock.new.self))) c.set_write_kind.ensures.storage elsewhere));
-    }
-
-pub returns-clause-counted : goal.returns-clause-counted
-returns-clause-counted g c = c.rb_remove.ensures.removes.clean c.in_ok-flush_rb.ensures.flushes.written
-
-pub returns-clause-first : goal.returns-clause-first
-returns-clause-first g c =
-    subst (λ o. BlocksMayGo o (l2_tables c.rb_remove.new.self)) (sym c.rb_remove.ensures.step.order) (subst (BlocksMayGo (order_of c.flush_rb.new.self)) (sym c.rb_remove.ensures.tables) c.in_ok-flush_rb.ensures.flushes.first)
-
-pub returns-clause-recorded : goal.returns-clause-recorded
-returns-clause-recorded g c = c.in_ok-write_new_refblock.ensures.writes.recorded.0
-
 pub returns-in_err-flush_rb-clause-fails : goal.returns-in_err-flush_rb-clause-fails
 returns-in_err-flush_rb-clause-fails g c = fails_on c.from_residual.result c.in_err-flush_rb.field-0.0 c.from_residual.ensures (fails_of_tables c.in_err-flush_rb.ensures.fails)
 
 pub returns-in_err-write_new_refblock-clause-fails : goal.returns-in_err-write_new_refblock-clause-fails
 returns-in_err-write_new_refblock-clause-fails g c =
     fails_since (same_faults g.S.Storage.view c.set_write_kind.ensures.storage ∙ c.in_ok-flush_rb.ensures.fails.told) (fails_storage c.from_residual-in_err-write_new_refblock.result c.in_err-write_new_refblock.field-0.0 c.from_residual-in_err-write_new_refblock.ensures c.in_err-write_new_refblock.ensures.writes.calls.cause)
-
-pub returns-clause-fails : goal.returns-clause-fails
-returns-clause-fails g c = fails_ok (c.in_ok-write_new_refblock.ensures.writes.calls.cause.told ∙ (same_faults g.S.Storage.view c.set_write_kind.ensures.storage ∙ c.in_ok-flush_rb.ensures.fails.told))

@@ -53,31 +53,41 @@ returns-in_err-block-clause-sound g c = λ p sound may longer.
     handed_on (CachesBlocks g.S.Storage.view q c.args.file.now c.args.self.now c.placing.file c.args.self.now.reftable c.placing.table c.args.room) c.from_residual.result c.in_err-block.field-0.0 c.from_residual.ensures
     (inr c.in_err-block.ensures.memory, before.0)
 
-pub returns-in_err-cache_new_block-clause-sound : goal.returns-in_err-cache_new_block-clause-sound
-returns-in_err-cache_new_block-clause-sound g c = λ p sound may longer.
-    let view = g.S.Storage.view in
-    let a = c.args.self.now in
-    let n = room_length c.args.room in
-    let first = c.args.room.first in
-    let q = with_run p c.args.file.now.header.fields c.args.self.now.reftable c.args.room.first (room_length c.args.room) in
-    let inv = c.placing.invariant in
-    let before = inv.sound p sound may longer in
-    let at_in : 0 < run_at first n c.new-place.result =
-    (let is = c.new-place.ensures in let low = inv.low in let high = inv.high in let lt = c.placing-test.true in let end = inv.end_is in
-    let one = run_in first n c.new-place.result (omega (arith, is, low)) (omega (arith, is, high, lt, end)) in omega (arith, one)) in
-    let here = place_here c.args.file.now.header c.placing.file.header c.placing.at c.placing.cluster first n _ c.new-place.result inv.step.header c.new-place.ensures inv.high c.placing-test.true inv.end_is c.requires.room.near in
-    handed_on (CachesBlocks view q c.args.file.now a c.cache_new_block.new.file a.reftable c.placing.table c.args.room) c.from_residual-in_err-cache_new_block.result c.in_err-cache_new_block.field-0.0 c.from_residual-in_err-cache_new_block.ensures
-    (c.in_err-cache_new_block.ensures.sound q a c.args.file.now first n c.new-place.result before.0 before.1 c.in_ok-block.ensures.cluster at_in here c.in_ok-block.ensures.format c.in_ok-block.ensures.whole c.in_ok-block.ensures.modified)
+pub returns-in_err-cache_new_block : goal.returns-in_err-cache_new_block
+returns-in_err-cache_new_block g c = record {
+  step = table_step_then c.placing.invariant.step (c.cache_new_block.ensures.step c.args.self.now.reftable);
+  fails = fails_on c.from_residual-in_err-cache_new_block.result c.in_err-cache_new_block.field-0.0 c.from_residual-in_err-cache_new_block.ensures (fails_since c.placing.invariant.faults c.in_err-cache_new_block.ensures.fails);
+  sound = λ p sound may longer.
+      let view = g.S.Storage.view in
+      let a = c.args.self.now in
+      let n = room_length c.args.room in
+      let first = c.args.room.first in
+      let q = with_run p c.args.file.now.header.fields c.args.self.now.reftable c.args.room.first (room_length c.args.room) in
+      let inv = c.placing.invariant in
+      let before = inv.sound p sound may longer in
+      let at_in : 0 < run_at first n c.new-place.result =
+      (let is = c.new-place.ensures in let low = inv.low in let high = inv.high in let lt = c.placing-test.true in let end = inv.end_is in
+      let one = run_in first n c.new-place.result (omega (arith, is, low)) (omega (arith, is, high, lt, end)) in omega (arith, one)) in
+      let here = place_here c.args.file.now.header c.placing.file.header c.placing.at c.placing.cluster first n _ c.new-place.result inv.step.header c.new-place.ensures inv.high c.placing-test.true inv.end_is c.requires.room.near in
+      handed_on (CachesBlocks view q c.args.file.now a c.cache_new_block.new.file a.reftable c.placing.table c.args.room) c.from_residual-in_err-cache_new_block.result c.in_err-cache_new_block.field-0.0 c.from_residual-in_err-cache_new_block.ensures
+      (c.in_err-cache_new_block.ensures.sound q a c.args.file.now first n c.new-place.result before.0 before.1 c.in_ok-block.ensures.cluster at_in here c.in_ok-block.ensures.format c.in_ok-block.ensures.whole c.in_ok-block.ensures.modified);
+  table = record { rest = c.placing.invariant.rest; as_long = c.placing.invariant.as_long; lacking = c.placing.invariant.lacking };
+}
 
-pub returns-in_err-bring_to_front-clause-sound : goal.returns-in_err-bring_to_front-clause-sound
-returns-in_err-bring_to_front-clause-sound g c = λ p sound may longer.
-    let a = c.args.self.now in
-    let n = room_length c.args.room in
-    let first = c.args.room.first in
-    let q = with_run p c.args.file.now.header.fields c.args.self.now.reftable c.args.room.first (room_length c.args.room) in
-    let before = c.placing.invariant.sound p sound may longer in
-    handed_on (CachesBlocks g.S.Storage.view q c.args.file.now a c.bring_to_front.new.file a.reftable c.placing.table c.args.room) c.from_residual-in_err-bring_to_front.result c.in_err-bring_to_front.field-0.0 c.from_residual-in_err-bring_to_front.ensures
-    (c.in_err-bring_to_front.ensures.sound q c.args.file.now first n before.0 before.1)
+pub returns-in_err-bring_to_front : goal.returns-in_err-bring_to_front
+returns-in_err-bring_to_front g c = record {
+  step = table_step_then c.placing.invariant.step c.bring_to_front.ensures.step;
+  fails = fails_on c.from_residual-in_err-bring_to_front.result c.in_err-bring_to_front.field-0.0 c.from_residual-in_err-bring_to_front.ensures (fails_since c.placing.invariant.faults c.in_err-bring_to_front.ensures.fails);
+  sound = λ p sound may longer.
+      let a = c.args.self.now in
+      let n = room_length c.args.room in
+      let first = c.args.room.first in
+      let q = with_run p c.args.file.now.header.fields c.args.self.now.reftable c.args.room.first (room_length c.args.room) in
+      let before = c.placing.invariant.sound p sound may longer in
+      handed_on (CachesBlocks g.S.Storage.view q c.args.file.now a c.bring_to_front.new.file a.reftable c.placing.table c.args.room) c.from_residual-in_err-bring_to_front.result c.in_err-bring_to_front.field-0.0 c.from_residual-in_err-bring_to_front.ensures
+      (c.in_err-bring_to_front.ensures.sound q c.args.file.now first n before.0 before.1);
+  table = record { rest = c.placing.invariant.rest; as_long = c.placing.invariant.as_long; lacking = c.placing.invariant.lacking };
+}
 
 pub placing-preserved : goal.placing-preserved
 placing-preserved g c =
@@ -221,29 +231,11 @@ pub returns-in_err-block-clause-fails : goal.returns-in_err-block-clause-fails
 returns-in_err-block-clause-fails g c =
     fails_since c.placing.invariant.faults (fails_on c.from_residual.result c.in_err-block.field-0.0 c.from_residual.ensures (fails_by c.in_err-block.field-0.0 (other_as c.in_err-block.ensures.memory memory_other) refl c.in_err-block.ensures.cause))
 
-pub returns-in_err-cache_new_block-clause-fails : goal.returns-in_err-cache_new_block-clause-fails
-returns-in_err-cache_new_block-clause-fails g c = fails_on c.from_residual-in_err-cache_new_block.result c.in_err-cache_new_block.field-0.0 c.from_residual-in_err-cache_new_block.ensures (fails_since c.placing.invariant.faults c.in_err-cache_new_block.ensures.fails)
-
 pub returns-clause-fails : goal.returns-clause-fails
 returns-clause-fails g c = fails_ok c.placing.invariant.faults
 
-pub returns-in_err-cache_new_block-clause-step : goal.returns-in_err-cache_new_block-clause-step
-returns-in_err-cache_new_block-clause-step g c = table_step_then c.placing.invariant.step (c.cache_new_block.ensures.step c.args.self.now.reftable)
-
-pub returns-in_err-bring_to_front-clause-step : goal.returns-in_err-bring_to_front-clause-step
-returns-in_err-bring_to_front-clause-step g c = table_step_then c.placing.invariant.step c.bring_to_front.ensures.step
-
-pub returns-in_err-bring_to_front-clause-fails : goal.returns-in_err-bring_to_front-clause-fails
-returns-in_err-bring_to_front-clause-fails g c = fails_on c.from_residual-in_err-bring_to_front.result c.in_err-bring_to_front.field-0.0 c.from_residual-in_err-bring_to_front.ensures (fails_since c.placing.invariant.faults c.in_err-bring_to_front.ensures.fails)
-
-pub returns-in_err-bring_to_front-clause-table : goal.returns-in_err-bring_to_front-clause-table
-returns-in_err-bring_to_front-clause-table g c = record { rest = c.placing.invariant.rest; as_long = c.placing.invariant.as_long; lacking = c.placing.invariant.lacking }
-
 pub returns-in_err-block-clause-table : goal.returns-in_err-block-clause-table
 returns-in_err-block-clause-table g c = record { rest = c.placing.invariant.rest; as_long = c.placing.invariant.as_long; lacking = c.placing.invariant.lacking }
-
-pub returns-in_err-cache_new_block-clause-table : goal.returns-in_err-cache_new_block-clause-table
-returns-in_err-cache_new_block-clause-table g c = record { rest = c.placing.invariant.rest; as_long = c.placing.invariant.as_long; lacking = c.placing.invariant.lacking }
 
 pub returns-clause-table : goal.returns-clause-table
 returns-clause-table g c = record { rest = c.placing.invariant.rest; as_long = c.placing.invariant.as_long; lacking = c.placing.invariant.lacking }

@@ -1,6 +1,6 @@
 use Rattle.std.proofs.Common.{◌≡◌, ◌==◌, ◌/◌, ◌%◌, ◌^◌, ℕ, true, Option, Some, None, Ok, refl, ap, ◌∙◌, sym, subst, IfSome, IsSome}
 use Rattle.qcow2_alloc.proofs.Common.{unwrap_or, one_at, owed_as, DecrementsOne, KeepsNoFreeBelowHint, contents_in, ReportsCount, NamesBlock, TriesToDecrement}
-use Rattle.qcow2_alloc.proofs.Lemmas.{hint_lowered, is_zero, lowered_so, passed_still, stands_still, hint_refused, handed_on, of_equal, allocator_step_as, may_lower_still, counted_at, given_one, owed_counted, owed_has_block, marks_of_caches, handed_unaligned, ok_no_err, fails_ok, fails_on, table_step_as, table_step_tables, table_step_then}
+use Rattle.qcow2_alloc.proofs.Lemmas.{search_same, hint_lowered, is_zero, lowered_so, passed_still, stands_still, hint_refused, handed_on, of_equal, allocator_step_as, may_lower_still, counted_at, given_one, owed_counted, owed_has_block, marks_of_caches, handed_unaligned, ok_no_err, fails_ok, fails_on, table_step_as, table_step_tables, table_step_then}
 use Rattle.qcow2_alloc.proofs.Leaks.{tried}
 use Rattle.qcow2_alloc.specs.declared.error.ImageError.TheVariants as I
 use Rattle.qcow2_alloc.proofs.AlignedBlocks.{unaligned_as}
@@ -11,16 +11,46 @@ none_left : (o : Option ℕ) (P : ℕ → Type 0) → IsSome o → IfSome o P �
 none_left None P some holds none = cc
 none_left (Some n) P some holds none = is_zero n (none n holds)
 
-pub returns-in_err-block-clause-sound : goal.returns-in_err-block-clause-sound
-returns-in_err-block-clause-sound g c = λ p owed sound may.
-    handed_on (DecrementsOne g.S.Storage.view (owed_as owed p (one_at c.args.cluster)) c.args.file.now c.args.self.now c.load_block.new.file p)
-    c.from_residual.result c.in_err-block.field-0.0 c.from_residual.ensures (c.in_err-block.ensures.sound (owed_as owed p (one_at c.args.cluster)) sound)
+pub returns-in_err-block : goal.returns-in_err-block
+returns-in_err-block g c = record {
+  step = c.load_block.ensures.step;
+  reftable = refl;
+  leaked = refl;
+  tries =
+      handed_on (TriesToDecrement c.args.file.now.header.fields c.args.self.now.reftable c.args.file.now.caches c.load_block.new.file.caches c.args.cluster) c.from_residual.result c.in_err-block.field-0.0 c.from_residual.ensures c.load_block.ensures.loads;
+  first = λ _. search_same c.args.self.now;
+  sound = λ p owed sound may.
+      handed_on (DecrementsOne g.S.Storage.view (owed_as owed p (one_at c.args.cluster)) c.args.file.now c.args.self.now c.load_block.new.file p)
+      c.from_residual.result c.in_err-block.field-0.0 c.from_residual.ensures (c.in_err-block.ensures.sound (owed_as owed p (one_at c.args.cluster)) sound);
+  fails = fails_on c.from_residual.result c.in_err-block.field-0.0 c.from_residual.ensures c.in_err-block.ensures.fails;
+  hint = λ p owed sound may hint.
+      handed_on (KeepsNoFreeBelowHint g.S.Storage.view c.args.self.now c.load_block.new.file) c.from_residual.result c.in_err-block.field-0.0 c.from_residual.ensures
+      (hint_refused g.S.Storage.view (owed_as owed p (one_at c.args.cluster)) c.args.file.now c.load_block.new.file c.args.self.now c.args.self.now c.in_err-block.field-0.0 (passed_still c.args.self.now) (c.in_err-block.ensures.sound (owed_as owed p (one_at c.args.cluster)) sound).1 hint);
+  unaligned = λ u.
+      let refused = c.in_err-block.ensures.unaligned (unaligned_as c.args.file.now.header.fields c.args.self.now.reftable c.args.cluster _ c.rb_bits-bits.ensures.counts u) in
+      (handed_unaligned c.from_residual.result c.in_err-block.field-0.0 c.from_residual.ensures refused.0, refused.1);
+}
 
 pub returns-in_default-clause-sound : goal.returns-in_default-clause-sound
 returns-in_default-clause-sound g c = λ p owed sound may.
     let l = rw c.in_default.is at (c.in_ok-block.ensures.sound (owed_as owed p (one_at c.args.cluster)) sound) in
     owed_has_block g.S.Storage.view owed p c.args.cluster _ c.rb_bits-bits.result (owed_as owed p (one_at c.args.cluster)) c.load_block.new.file c.args.file.now.header.fields (ap (λ x. x.fields) c.load_block.ensures.step.header) refl l.0.file_step.sound
     c.rb_bits-bits.ensures.counts refl l.1
+
+pub returns-in_default-clause-hint : goal.returns-in_default-clause-hint
+returns-in_default-clause-hint g c = λ p owed sound may hint. absurd (returns-in_default-clause-sound g c p owed sound may)
+
+pub returns-in_default-clause-tries : goal.returns-in_default-clause-tries
+returns-in_default-clause-tries g c = c.load_block.ensures.loads
+
+pub returns-in_default-clause-step : goal.returns-in_default-clause-step
+returns-in_default-clause-step g c = c.load_block.ensures.step
+
+pub returns-in_default-clause-fails : goal.returns-in_default-clause-fails
+returns-in_default-clause-fails g c = fails_ok c.in_ok-block.ensures.fails.told
+
+pub returns-in_default-clause-unaligned : goal.returns-in_default-clause-unaligned
+returns-in_default-clause-unaligned g c = λ u. ok_no_err _ I.UnalignedTable (c.in_ok-block.ensures.unaligned (unaligned_as c.args.file.now.header.fields c.args.self.now.reftable c.args.cluster _ c.rb_bits-bits.ensures.counts u)).0
 
 pub returns-clause-sound : goal.returns-clause-sound
 returns-clause-sound g c = λ p owed sound may.
@@ -32,14 +62,6 @@ returns-clause-sound g c = λ p owed sound may.
     (allocator_step_as g.S.Storage.view (owed_as owed p (one_at c.args.cluster)) p c.args.file.now (record c.load_block.new.file { caches = c.rb_release-left.new.self }) c.args.self.now c.record_decrement.new.self c.record_decrement.ensures.reftable
     (given_one g.S.Storage.view (owed_as owed p (one_at c.args.cluster)) c.args.file.now c.load_block.new.file c.args.self.now l.0 c.args.cluster c.in-Some.block c.rb_index-index.result at c.rb_release-left.new.self c.rb_release-left.ensures.step.order c.rb_release-left.ensures.step.marks
     owed p (may_lower_still owed c.args.file.now c.load_block.new.file c.load_block.ensures.step.marks.order may) refl (c.rb_release-left.ensures.sound.counted lowered)))
-
-pub returns-in_err-block-clause-hint : goal.returns-in_err-block-clause-hint
-returns-in_err-block-clause-hint g c = λ p owed sound may hint.
-    handed_on (KeepsNoFreeBelowHint g.S.Storage.view c.args.self.now c.load_block.new.file) c.from_residual.result c.in_err-block.field-0.0 c.from_residual.ensures
-    (hint_refused g.S.Storage.view (owed_as owed p (one_at c.args.cluster)) c.args.file.now c.load_block.new.file c.args.self.now c.args.self.now c.in_err-block.field-0.0 (passed_still c.args.self.now) (c.in_err-block.ensures.sound (owed_as owed p (one_at c.args.cluster)) sound).1 hint)
-
-pub returns-in_default-clause-hint : goal.returns-in_default-clause-hint
-returns-in_default-clause-hint g c = λ p owed sound may hint. absurd (returns-in_default-clause-sound g c p owed sound may)
 
 pub returns-clause-hint : goal.returns-clause-hint
 returns-clause-hint g c = λ p owed sound may hint.
@@ -64,38 +86,11 @@ returns-clause-tries g c =
     rw c.is_some.ensures (tried h c.args.self.now.reftable c.args.file.now.caches c.load_block.new.file.caches c.rb_release-left.new.self c.load_block.ensures.loads c.in-Some.block c.rb_index-index.result c.args.cluster index names c.rb_release-left.result
     c.rb_release-left.ensures.counts c.rb_release-left.ensures.missing c.rb_release-left.ensures.recorded c.rb_release-left.ensures.refused)
 
-pub returns-in_err-block-clause-tries : goal.returns-in_err-block-clause-tries
-returns-in_err-block-clause-tries g c =
-    handed_on (TriesToDecrement c.args.file.now.header.fields c.args.self.now.reftable c.args.file.now.caches c.load_block.new.file.caches c.args.cluster) c.from_residual.result c.in_err-block.field-0.0 c.from_residual.ensures c.load_block.ensures.loads
-
-pub returns-in_default-clause-tries : goal.returns-in_default-clause-tries
-returns-in_default-clause-tries g c = c.load_block.ensures.loads
-
-pub returns-in_err-block-clause-step : goal.returns-in_err-block-clause-step
-returns-in_err-block-clause-step g c = c.load_block.ensures.step
-
-pub returns-in_err-block-clause-fails : goal.returns-in_err-block-clause-fails
-returns-in_err-block-clause-fails g c = fails_on c.from_residual.result c.in_err-block.field-0.0 c.from_residual.ensures c.in_err-block.ensures.fails
-
-pub returns-in_default-clause-step : goal.returns-in_default-clause-step
-returns-in_default-clause-step g c = c.load_block.ensures.step
-
-pub returns-in_default-clause-fails : goal.returns-in_default-clause-fails
-returns-in_default-clause-fails g c = fails_ok c.in_ok-block.ensures.fails.told
-
 pub returns-clause-step : goal.returns-clause-step
 returns-clause-step g c = table_step_as c.record_decrement.ensures.reftable refl (table_step_then c.load_block.ensures.step (table_step_tables (marks_of_caches c.rb_release-left.ensures.step.marks c.rb_release-left.ensures.step.order) c.rb_release-left.ensures.step.header_cluster))
 
 pub returns-clause-fails : goal.returns-clause-fails
 returns-clause-fails g c = fails_ok c.in_ok-block.ensures.fails.told
-
-pub returns-in_err-block-clause-unaligned : goal.returns-in_err-block-clause-unaligned
-returns-in_err-block-clause-unaligned g c = λ u.
-    let refused = c.in_err-block.ensures.unaligned (unaligned_as c.args.file.now.header.fields c.args.self.now.reftable c.args.cluster _ c.rb_bits-bits.ensures.counts u) in
-    (handed_unaligned c.from_residual.result c.in_err-block.field-0.0 c.from_residual.ensures refused.0, refused.1)
-
-pub returns-in_default-clause-unaligned : goal.returns-in_default-clause-unaligned
-returns-in_default-clause-unaligned g c = λ u. ok_no_err _ I.UnalignedTable (c.in_ok-block.ensures.unaligned (unaligned_as c.args.file.now.header.fields c.args.self.now.reftable c.args.cluster _ c.rb_bits-bits.ensures.counts u)).0
 
 pub returns-clause-unaligned : goal.returns-clause-unaligned
 returns-clause-unaligned g c = λ u. ok_no_err _ I.UnalignedTable (c.in_ok-block.ensures.unaligned (unaligned_as c.args.file.now.header.fields c.args.self.now.reftable c.args.cluster _ c.rb_bits-bits.ensures.counts u)).0

@@ -14,15 +14,20 @@ returns-in_err-load_block-clause-sound g c = λ p sound.
       fault = λ within near. handed_on (λ (r : Result (Unit {0}) ImageError). IfErr r IsFault) c.from_residual.result c.in_err-load_block.field-0.0 c.from_residual.ensures (c.in_err-load_block.ensures.sound p sound).0;
     }
 
-pub returns-then-is_some-clause-fails : goal.returns-then-is_some-clause-fails
-returns-then-is_some-clause-fails g c = fails_ok c.in_ok-load_block.ensures.fails.told
-
-pub returns-then-is_some-clause-sound : goal.returns-then-is_some-clause-sound
-returns-then-is_some-clause-sound g c = λ p sound.
-    record {
-      gets = (c.in_ok-load_block.ensures.sound p sound).0;
-      fault = λ within near. tt;
-    }
+pub returns-then-is_some : goal.returns-then-is_some
+returns-then-is_some g c = record {
+  step = c.load_block.ensures.step;
+  fails = fails_ok c.in_ok-load_block.ensures.fails.told;
+  sound = λ p sound.
+      record {
+        gets = (c.in_ok-load_block.ensures.sound p sound).0;
+        fault = λ within near. tt;
+      };
+  entries = entries_none _ c.args.self.now.reftable;
+  leaks = refl;
+  first = search_same c.args.self.now;
+  has = c.in_ok-load_block.ensures.finds.has (sym c.is_some.ensures ∙ c.if-is_some.true);
+}
 
 pub returns-then-not-can_name-clause-fails : goal.returns-then-not-can_name-clause-fails
 returns-then-not-can_name-clause-fails g c = fails_by I.Limit limit_other c.in_ok-load_block.ensures.fails.told tt
@@ -43,28 +48,21 @@ returns-then-not-can_name-clause-sound g c = λ p sound.
           absurd (let bad : true ≡ false = sym able ∙ not in cc);
     }
 
-pub returns-in_err-block-clause-step : goal.returns-in_err-block-clause-step
-returns-in_err-block-clause-step g c = c.load_block.ensures.step
-
-pub returns-in_err-block-clause-fails : goal.returns-in_err-block-clause-fails
-returns-in_err-block-clause-fails g c = fails_on c.from_residual-in_err-block.result c.in_err-block.field-0.0 c.from_residual-in_err-block.ensures (fails_by c.in_err-block.field-0.0 (other_as c.in_err-block.ensures.memory memory_other) c.in_ok-load_block.ensures.fails.told c.in_err-block.ensures.cause)
-
-pub returns-in_err-block-clause-sound : goal.returns-in_err-block-clause-sound
-returns-in_err-block-clause-sound g c = λ p sound.
-    let one = (c.in_ok-load_block.ensures.sound p sound).0 in
-    record {
-      gets = handed_on (GetsBlock g.S.Storage.view p c.args.file.now c.args.self.now c.load_block.new.file) c.from_residual-in_err-block.result c.in_err-block.field-0.0 c.from_residual-in_err-block.ensures (inl (one.file_step, one.reftable));
-      fault = λ within near. handed_on (λ (r : Result (Unit {0}) ImageError). IfErr r IsFault) c.from_residual-in_err-block.result c.in_err-block.field-0.0 c.from_residual-in_err-block.ensures (inr c.in_err-block.ensures.memory);
-    }
-
-pub returns-in_err-block-clause-first : goal.returns-in_err-block-clause-first
-returns-in_err-block-clause-first g c = search_same c.args.self.now
-
-pub returns-in_err-block-clause-entries : goal.returns-in_err-block-clause-entries
-returns-in_err-block-clause-entries g c = entries_none _ c.args.self.now.reftable
-
-pub returns-in_err-block-clause-has : goal.returns-in_err-block-clause-has
-returns-in_err-block-clause-has g c = on_no_ok _ c.from_residual-in_err-block.result c.in_err-block.field-0.0 c.from_residual-in_err-block.ensures
+pub returns-in_err-block : goal.returns-in_err-block
+returns-in_err-block g c = record {
+  step = c.load_block.ensures.step;
+  fails = fails_on c.from_residual-in_err-block.result c.in_err-block.field-0.0 c.from_residual-in_err-block.ensures (fails_by c.in_err-block.field-0.0 (other_as c.in_err-block.ensures.memory memory_other) c.in_ok-load_block.ensures.fails.told c.in_err-block.ensures.cause);
+  sound = λ p sound.
+      let one = (c.in_ok-load_block.ensures.sound p sound).0 in
+      record {
+        gets = handed_on (GetsBlock g.S.Storage.view p c.args.file.now c.args.self.now c.load_block.new.file) c.from_residual-in_err-block.result c.in_err-block.field-0.0 c.from_residual-in_err-block.ensures (inl (one.file_step, one.reftable));
+        fault = λ within near. handed_on (λ (r : Result (Unit {0}) ImageError). IfErr r IsFault) c.from_residual-in_err-block.result c.in_err-block.field-0.0 c.from_residual-in_err-block.ensures (inr c.in_err-block.ensures.memory);
+      };
+  entries = entries_none _ c.args.self.now.reftable;
+  leaks = refl;
+  first = search_same c.args.self.now;
+  has = on_no_ok _ c.from_residual-in_err-block.result c.in_err-block.field-0.0 c.from_residual-in_err-block.ensures;
+}
 
 pub returns-clause-step : goal.returns-clause-step
 returns-clause-step g c = record {
@@ -100,12 +98,6 @@ returns-in_err-load_block-clause-first g c = search_same c.args.self.now
 pub returns-in_err-load_block-clause-entries : goal.returns-in_err-load_block-clause-entries
 returns-in_err-load_block-clause-entries g c = entries_none _ c.args.self.now.reftable
 
-pub returns-then-is_some-clause-first : goal.returns-then-is_some-clause-first
-returns-then-is_some-clause-first g c = search_same c.args.self.now
-
-pub returns-then-is_some-clause-entries : goal.returns-then-is_some-clause-entries
-returns-then-is_some-clause-entries g c = entries_none _ c.args.self.now.reftable
-
 pub returns-then-not-can_name-clause-first : goal.returns-then-not-can_name-clause-first
 returns-then-not-can_name-clause-first g c = search_same c.args.self.now
 
@@ -126,6 +118,3 @@ place_block-requires g c = record {
   };
   block = (c.in_ok-block.ensures.format, c.in_ok-block.ensures.whole);
 }
-
-pub returns-then-is_some-clause-has : goal.returns-then-is_some-clause-has
-returns-then-is_some-clause-has g c = c.in_ok-load_block.ensures.finds.has (sym c.is_some.ensures ∙ c.if-is_some.true)

@@ -3,14 +3,12 @@ use Rattle.qcow2_alloc.proofs.Common.{cases_eq, option_copied, ReportsZero}
 use Rattle.qcow2_alloc.proofs.KeptTables.Counting.{zero_told}
 use Rattle.qcow2_alloc.proofs.allocation.Allocator.free_from.Goals as goal
 
-pub returns-in_default-clause-within : goal.returns-in_default-clause-within
-returns-in_default-clause-within g c = let below = c.requires.below in omega (arith, below)
-
-pub returns-in_default-clause-spared : goal.returns-in_default-clause-spared
-returns-in_default-clause-spared g c = λ k low high. absurd (omega (arith, low, high))
-
-pub returns-in_default-clause-free : goal.returns-in_default-clause-free
-returns-in_default-clause-free g c = λ k low high. absurd (omega (arith, low, high))
+pub returns-in_default : goal.returns-in_default
+returns-in_default g c = record {
+  within = let below = c.requires.below in omega (arith, below);
+  spared = λ k low high. absurd (omega (arith, low, high));
+  free = λ k low high. absurd (omega (arith, low, high));
+}
 
 pub counting-init : goal.counting-init
 counting-init g c = record { from = omega arith; below = c.spared_from-stop.ensures.from; free = λ k from below. absurd (omega (arith, from, below)) }
@@ -37,20 +35,16 @@ counting-preserved g c = record {
   ];
 }
 
-pub returns-then-not-is_zero-clause-within : goal.returns-then-not-is_zero-clause-within
-returns-then-not-is_zero-clause-within g c = let from = c.counting.invariant.from in let below = c.counting.invariant.below in let to = c.spared_from-stop.ensures.to in omega (arith, from, below, to)
+pub returns-then-not-is_zero : goal.returns-then-not-is_zero
+returns-then-not-is_zero g c = record {
+  within = let from = c.counting.invariant.from in let below = c.counting.invariant.below in let to = c.spared_from-stop.ensures.to in omega (arith, from, below, to);
+  spared = λ k low high. c.spared_from-stop.ensures.none k low (let from = c.counting.invariant.from in let below = c.counting.invariant.below in omega (arith, from, below, high));
+  free = λ k low high. c.counting.invariant.free k low (let from = c.counting.invariant.from in omega (arith, from, high));
+}
 
-pub returns-then-not-is_zero-clause-spared : goal.returns-then-not-is_zero-clause-spared
-returns-then-not-is_zero-clause-spared g c = λ k low high. c.spared_from-stop.ensures.none k low (let from = c.counting.invariant.from in let below = c.counting.invariant.below in omega (arith, from, below, high))
-
-pub returns-then-not-is_zero-clause-free : goal.returns-then-not-is_zero-clause-free
-returns-then-not-is_zero-clause-free g c = λ k low high. c.counting.invariant.free k low (let from = c.counting.invariant.from in omega (arith, from, high))
-
-pub returns-clause-within : goal.returns-clause-within
-returns-clause-within g c = let from = c.counting.invariant.from in let below = c.counting.invariant.below in let to = c.spared_from-stop.ensures.to in omega (arith, from, below, to)
-
-pub returns-clause-spared : goal.returns-clause-spared
-returns-clause-spared g c = λ k low high. c.spared_from-stop.ensures.none k low (let from = c.counting.invariant.from in let below = c.counting.invariant.below in omega (arith, from, below, high))
-
-pub returns-clause-free : goal.returns-clause-free
-returns-clause-free g c = λ k low high. c.counting.invariant.free k low (let from = c.counting.invariant.from in omega (arith, from, high))
+pub returns : goal.returns
+returns g c = record {
+  within = let from = c.counting.invariant.from in let below = c.counting.invariant.below in let to = c.spared_from-stop.ensures.to in omega (arith, from, below, to);
+  spared = λ k low high. c.spared_from-stop.ensures.none k low (let from = c.counting.invariant.from in let below = c.counting.invariant.below in omega (arith, from, below, high));
+  free = λ k low high. c.counting.invariant.free k low (let from = c.counting.invariant.from in omega (arith, from, high));
+}

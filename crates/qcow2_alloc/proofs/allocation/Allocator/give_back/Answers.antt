@@ -22,18 +22,42 @@ lowering-init g c = record {
       (subst (λ m. AllocatorInvariant g.S.Storage.view c.args.self.now (taken_as d p (run_at c.args.first m)) c.args.file.now) whole sound, λ k none used. used);
 }
 
-pub returns-in_err-decrement_or_leak-clause-sound : goal.returns-in_err-decrement_or_leak-clause-sound
-returns-in_err-decrement_or_leak-clause-sound g c = λ p p' d start new_data b recorded.
-    let one = c.lowering.invariant.sound p p' d start new_data b in
-    let q : Pending = (taken_as d p' (run_at (c.lowering.cluster + 1) ((c.args.first + c.args.n) - (c.lowering.cluster + 1)))) in
-    let same = taken_first d p' c.lowering.cluster (c.args.first + c.args.n) c.lowering-test.true in
-    let moved = subst (λ (r : Pending). InternalFileGrowth g.S.Storage.view p r start c.lowering.file) (sym same) one.file_step in
-    let low = (c.in_err-decrement_or_leak.ensures.sound q (Taken d) (record { sound = moved.sound; reftable = one.reftable }) tt).gives in
-    handed_on (GivesBackAs g.S.Storage.view p start c.decrement_or_leak.new.self c.decrement_or_leak.new.file p') c.from_residual.result c.in_err-decrement_or_leak.field-0.0 c.from_residual.ensures (
-      low.0,
-      inr (on_interrupted_after g.S.Storage.view p (taken_as d q (one_at c.lowering.cluster)) start c.lowering.file c.decrement_or_leak.new.file c.decrement_or_leak.new.self c.in_err-decrement_or_leak.field-0.0 moved low.0
-          (c.decrement_or_leak.ensures.step.marks.pins.changes.recorded (c.lowering.invariant.step.marks.pins.changes.recorded (recorded (let lt = c.lowering-test.true in let le = c.lowering.auto.cluster in omega arith)))) low.1),
-    )
+pub returns-in_err-decrement_or_leak : goal.returns-in_err-decrement_or_leak
+returns-in_err-decrement_or_leak g c = record {
+  step = table_step_then c.lowering.invariant.step c.decrement_or_leak.ensures.step;
+  reftable = c.decrement_or_leak.ensures.reftable ∙ c.lowering.invariant.reftable;
+  none = λ is. absurd (c.if-n-eq0.false is);
+  sound = λ p p' d start new_data b recorded.
+      let one = c.lowering.invariant.sound p p' d start new_data b in
+      let q : Pending = (taken_as d p' (run_at (c.lowering.cluster + 1) ((c.args.first + c.args.n) - (c.lowering.cluster + 1)))) in
+      let same = taken_first d p' c.lowering.cluster (c.args.first + c.args.n) c.lowering-test.true in
+      let moved = subst (λ (r : Pending). InternalFileGrowth g.S.Storage.view p r start c.lowering.file) (sym same) one.file_step in
+      let low = (c.in_err-decrement_or_leak.ensures.sound q (Taken d) (record { sound = moved.sound; reftable = one.reftable }) tt).gives in
+      handed_on (GivesBackAs g.S.Storage.view p start c.decrement_or_leak.new.self c.decrement_or_leak.new.file p') c.from_residual.result c.in_err-decrement_or_leak.field-0.0 c.from_residual.ensures (
+        low.0,
+        inr (on_interrupted_after g.S.Storage.view p (taken_as d q (one_at c.lowering.cluster)) start c.lowering.file c.decrement_or_leak.new.file c.decrement_or_leak.new.self c.in_err-decrement_or_leak.field-0.0 moved low.0
+            (c.decrement_or_leak.ensures.step.marks.pins.changes.recorded (c.lowering.invariant.step.marks.pins.changes.recorded (recorded (let lt = c.lowering-test.true in let le = c.lowering.auto.cluster in omega arith)))) low.1),
+      );
+  fails = fails_on c.from_residual.result c.in_err-decrement_or_leak.field-0.0 c.from_residual.ensures (fails_since c.lowering.invariant.faults c.in_err-decrement_or_leak.ensures.fails);
+  leaks = λ p d sound.
+      let one = c.lowering.invariant.kept p d sound in
+      let q : Pending = (taken_as d p (run_at (c.lowering.cluster + 1) ((c.args.first + c.args.n) - (c.lowering.cluster + 1)))) in
+      let same = taken_first d p c.lowering.cluster (c.args.first + c.args.n) c.lowering-test.true in
+      (c.decrement_or_leak.ensures.sound q (Taken d) (subst (λ (r : Pending). AllocatorInvariant g.S.Storage.view c.lowering.self r c.lowering.file) (sym same) one.0) tt).leaks ∙ c.lowering.invariant.leaks p d sound;
+  hint = λ p d sound hint.
+      let one = c.lowering.invariant.kept p d sound in
+      let q : Pending = (taken_as d p (run_at (c.lowering.cluster + 1) ((c.args.first + c.args.n) - (c.lowering.cluster + 1)))) in
+      let same = taken_first d p c.lowering.cluster (c.args.first + c.args.n) c.lowering-test.true in
+      handed_on (KeepsNoFreeBelowHint g.S.Storage.view c.decrement_or_leak.new.self c.decrement_or_leak.new.file) c.from_residual.result c.in_err-decrement_or_leak.field-0.0 c.from_residual.ensures
+      ((c.in_err-decrement_or_leak.ensures.sound q (Taken d) (subst (λ (r : Pending). AllocatorInvariant g.S.Storage.view c.lowering.self r c.lowering.file) (sym same) one.0) tt).hint (c.lowering.invariant.hint p d sound hint));
+  kept = λ p d sound.
+      let one = c.lowering.invariant.kept p d sound in
+      let q : Pending = (taken_as d p (run_at (c.lowering.cluster + 1) ((c.args.first + c.args.n) - (c.lowering.cluster + 1)))) in
+      let same = taken_first d p c.lowering.cluster (c.args.first + c.args.n) c.lowering-test.true in
+      let low = (c.in_err-decrement_or_leak.ensures.sound q (Taken d) (subst (λ (r : Pending). AllocatorInvariant g.S.Storage.view c.lowering.self r c.lowering.file) (sym same) one.0) tt).gives in
+      handed_on (KeepsUsedBut g.S.Storage.view (run_at c.args.first c.args.n) c.args.file.now c.decrement_or_leak.new.file) c.from_residual.result c.in_err-decrement_or_leak.field-0.0 c.from_residual.ensures
+      (kept_refused g.S.Storage.view (run_at c.args.first c.args.n) (taken_as d q (one_at c.lowering.cluster)) c.args.file.now c.lowering.file c.decrement_or_leak.new.file c.decrement_or_leak.new.self c.in_err-decrement_or_leak.field-0.0 low.1 one.1);
+}
 
 pub lowering-preserved : goal.lowering-preserved
 lowering-preserved g c = record {
@@ -79,47 +103,14 @@ returns-clause-sound g c = λ p p' d start new_data b recorded.
     subst (λ (r : Pending). InternalAllocatorGrowth g.S.Storage.view p start c.lowering.self c.lowering.file r)
     (taken_none d p' c.lowering.cluster ((c.args.first + c.args.n) - c.lowering.cluster) (let past = c.lowering-test.false in omega arith)) (c.lowering.invariant.sound p p' d start new_data b)
 
-pub returns-in_err-decrement_or_leak-clause-hint : goal.returns-in_err-decrement_or_leak-clause-hint
-returns-in_err-decrement_or_leak-clause-hint g c = λ p d sound hint.
-    let one = c.lowering.invariant.kept p d sound in
-    let q : Pending = (taken_as d p (run_at (c.lowering.cluster + 1) ((c.args.first + c.args.n) - (c.lowering.cluster + 1)))) in
-    let same = taken_first d p c.lowering.cluster (c.args.first + c.args.n) c.lowering-test.true in
-    handed_on (KeepsNoFreeBelowHint g.S.Storage.view c.decrement_or_leak.new.self c.decrement_or_leak.new.file) c.from_residual.result c.in_err-decrement_or_leak.field-0.0 c.from_residual.ensures
-    ((c.in_err-decrement_or_leak.ensures.sound q (Taken d) (subst (λ (r : Pending). AllocatorInvariant g.S.Storage.view c.lowering.self r c.lowering.file) (sym same) one.0) tt).hint (c.lowering.invariant.hint p d sound hint))
-
-pub returns-in_err-decrement_or_leak-clause-kept : goal.returns-in_err-decrement_or_leak-clause-kept
-returns-in_err-decrement_or_leak-clause-kept g c = λ p d sound.
-    let one = c.lowering.invariant.kept p d sound in
-    let q : Pending = (taken_as d p (run_at (c.lowering.cluster + 1) ((c.args.first + c.args.n) - (c.lowering.cluster + 1)))) in
-    let same = taken_first d p c.lowering.cluster (c.args.first + c.args.n) c.lowering-test.true in
-    let low = (c.in_err-decrement_or_leak.ensures.sound q (Taken d) (subst (λ (r : Pending). AllocatorInvariant g.S.Storage.view c.lowering.self r c.lowering.file) (sym same) one.0) tt).gives in
-    handed_on (KeepsUsedBut g.S.Storage.view (run_at c.args.first c.args.n) c.args.file.now c.decrement_or_leak.new.file) c.from_residual.result c.in_err-decrement_or_leak.field-0.0 c.from_residual.ensures
-    (kept_refused g.S.Storage.view (run_at c.args.first c.args.n) (taken_as d q (one_at c.lowering.cluster)) c.args.file.now c.lowering.file c.decrement_or_leak.new.file c.decrement_or_leak.new.self c.in_err-decrement_or_leak.field-0.0 low.1 one.1)
-
 pub returns-clause-kept : goal.returns-clause-kept
 returns-clause-kept g c = λ p d sound. (c.lowering.invariant.kept p d sound).1
-
-pub returns-in_err-decrement_or_leak-clause-step : goal.returns-in_err-decrement_or_leak-clause-step
-returns-in_err-decrement_or_leak-clause-step g c = table_step_then c.lowering.invariant.step c.decrement_or_leak.ensures.step
-
-pub returns-in_err-decrement_or_leak-clause-fails : goal.returns-in_err-decrement_or_leak-clause-fails
-returns-in_err-decrement_or_leak-clause-fails g c = fails_on c.from_residual.result c.in_err-decrement_or_leak.field-0.0 c.from_residual.ensures (fails_since c.lowering.invariant.faults c.in_err-decrement_or_leak.ensures.fails)
-
-pub returns-in_err-decrement_or_leak-clause-reftable : goal.returns-in_err-decrement_or_leak-clause-reftable
-returns-in_err-decrement_or_leak-clause-reftable g c = c.decrement_or_leak.ensures.reftable ∙ c.lowering.invariant.reftable
 
 pub returns-then-n-eq0-clause-step : goal.returns-then-n-eq0-clause-step
 returns-then-n-eq0-clause-step g c = table_step_none
 
 pub returns-clause-fails : goal.returns-clause-fails
 returns-clause-fails g c = fails_ok c.lowering.invariant.faults
-
-pub returns-in_err-decrement_or_leak-clause-leaks : goal.returns-in_err-decrement_or_leak-clause-leaks
-returns-in_err-decrement_or_leak-clause-leaks g c = λ p d sound.
-    let one = c.lowering.invariant.kept p d sound in
-    let q : Pending = (taken_as d p (run_at (c.lowering.cluster + 1) ((c.args.first + c.args.n) - (c.lowering.cluster + 1)))) in
-    let same = taken_first d p c.lowering.cluster (c.args.first + c.args.n) c.lowering-test.true in
-    (c.decrement_or_leak.ensures.sound q (Taken d) (subst (λ (r : Pending). AllocatorInvariant g.S.Storage.view c.lowering.self r c.lowering.file) (sym same) one.0) tt).leaks ∙ c.lowering.invariant.leaks p d sound
 
 pub returns-then-n-eq0-clause-leaks : goal.returns-then-n-eq0-clause-leaks
 returns-then-n-eq0-clause-leaks g c = λ p d sound. refl

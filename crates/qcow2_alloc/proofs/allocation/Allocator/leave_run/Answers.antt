@@ -78,36 +78,34 @@ leaving-preserved g c =
       }
     ]
 
-pub returns-in_err-decrement_or_leak-clause-step : goal.returns-in_err-decrement_or_leak-clause-step
-returns-in_err-decrement_or_leak-clause-step g c = table_step_then c.leaving.invariant.step c.decrement_or_leak.ensures.step
-
-pub returns-in_err-decrement_or_leak-clause-fails : goal.returns-in_err-decrement_or_leak-clause-fails
-returns-in_err-decrement_or_leak-clause-fails g c = fails_on c.from_residual.result c.in_err-decrement_or_leak.field-0.0 c.from_residual.ensures (fails_since c.leaving.invariant.faults c.in_err-decrement_or_leak.ensures.fails)
-
-pub returns-in_err-decrement_or_leak-clause-reftable : goal.returns-in_err-decrement_or_leak-clause-reftable
-returns-in_err-decrement_or_leak-clause-reftable g c = c.decrement_or_leak.ensures.reftable ∙ c.leaving.invariant.reftable
+pub returns-in_err-decrement_or_leak : goal.returns-in_err-decrement_or_leak
+returns-in_err-decrement_or_leak g c = record {
+  step = table_step_then c.leaving.invariant.step c.decrement_or_leak.ensures.step;
+  reftable = c.decrement_or_leak.ensures.reftable ∙ c.leaving.invariant.reftable;
+  first =
+      search_then c.args.self.now c.leaving.self c.decrement_or_leak.new.self c.leaving.invariant.first (c.decrement_or_leak.ensures.first (let low = c.requires.free in let is = c.leaving.invariant.first.first in let le = c.leaving.auto.cluster in omega (arith, low, is, le)));
+  sound = λ p start same b.
+      let view = g.S.Storage.view in
+      let t = c.args.self.now.reftable in
+      let at = c.leaving.cluster in
+      let end = c.args.first + c.args.n in
+      let before = c.leaving.invariant.sound p start same b in
+      let has : lacks t (at / counts_per_block start.header.fields) ≡ false = ap (λ x. lacks t (at / counts_per_block x.fields)) same ∙ ap (λ n. lacks t (at / n)) c.leaving.invariant.counts ∙ ap (λ x. lacks x (at / 2 ^ c.rb_bits-bits.result)) (sym c.leaving.invariant.reftable)
+      ∙ sym c.lacks_block.ensures ∙ c.if-not-lacks_block.true in
+      record {
+        gives = λ recorded. let low = (c.in_err-decrement_or_leak.ensures.sound (with_run p start.header.fields t (at + 1) (end - (at + 1))) (Taken false) (owed_now view p t at end start c.leaving.file c.decrement_or_leak.new.file c.leaving.self c.decrement_or_leak.new.self c.leaving-test.true has before) tt).gives in
+            handed_on (GivesBack view p start c.decrement_or_leak.new.self c.decrement_or_leak.new.file p) c.from_residual.result c.in_err-decrement_or_leak.field-0.0 c.from_residual.ensures
+            (left_fault view p t at end start c.leaving.file c.decrement_or_leak.new.file c.leaving.self c.decrement_or_leak.new.self c.leaving-test.true has before c.args.first c.args.n c.in_err-decrement_or_leak.field-0.0 c.leaving.auto.cluster c.leaving-test.true
+            (elim recorded [ inl none ↦ inl none | inr changed ↦ inr (c.decrement_or_leak.ensures.step.marks.pins.changes.recorded (c.leaving.invariant.step.marks.pins.changes.recorded changed)) ]) low);
+        leaks = (c.decrement_or_leak.ensures.sound (with_run p start.header.fields t (at + 1) (end - (at + 1))) (Taken false) (owed_now view p t at end start c.leaving.file c.decrement_or_leak.new.file c.leaving.self c.decrement_or_leak.new.self c.leaving-test.true has before) tt).leaks
+            ∙ c.leaving.invariant.leaks p start same b;
+        kept = on_no_ok _ c.from_residual.result c.in_err-decrement_or_leak.field-0.0 c.from_residual.ensures;
+      };
+  fails = fails_on c.from_residual.result c.in_err-decrement_or_leak.field-0.0 c.from_residual.ensures (fails_since c.leaving.invariant.faults c.in_err-decrement_or_leak.ensures.fails);
+}
 
 pub returns-clause-fails : goal.returns-clause-fails
 returns-clause-fails g c = fails_ok c.leaving.invariant.faults
-
-pub returns-in_err-decrement_or_leak-clause-sound : goal.returns-in_err-decrement_or_leak-clause-sound
-returns-in_err-decrement_or_leak-clause-sound g c = λ p start same b.
-    let view = g.S.Storage.view in
-    let t = c.args.self.now.reftable in
-    let at = c.leaving.cluster in
-    let end = c.args.first + c.args.n in
-    let before = c.leaving.invariant.sound p start same b in
-    let has : lacks t (at / counts_per_block start.header.fields) ≡ false = ap (λ x. lacks t (at / counts_per_block x.fields)) same ∙ ap (λ n. lacks t (at / n)) c.leaving.invariant.counts ∙ ap (λ x. lacks x (at / 2 ^ c.rb_bits-bits.result)) (sym c.leaving.invariant.reftable)
-    ∙ sym c.lacks_block.ensures ∙ c.if-not-lacks_block.true in
-    record {
-      gives = λ recorded. let low = (c.in_err-decrement_or_leak.ensures.sound (with_run p start.header.fields t (at + 1) (end - (at + 1))) (Taken false) (owed_now view p t at end start c.leaving.file c.decrement_or_leak.new.file c.leaving.self c.decrement_or_leak.new.self c.leaving-test.true has before) tt).gives in
-          handed_on (GivesBack view p start c.decrement_or_leak.new.self c.decrement_or_leak.new.file p) c.from_residual.result c.in_err-decrement_or_leak.field-0.0 c.from_residual.ensures
-          (left_fault view p t at end start c.leaving.file c.decrement_or_leak.new.file c.leaving.self c.decrement_or_leak.new.self c.leaving-test.true has before c.args.first c.args.n c.in_err-decrement_or_leak.field-0.0 c.leaving.auto.cluster c.leaving-test.true
-          (elim recorded [ inl none ↦ inl none | inr changed ↦ inr (c.decrement_or_leak.ensures.step.marks.pins.changes.recorded (c.leaving.invariant.step.marks.pins.changes.recorded changed)) ]) low);
-      leaks = (c.decrement_or_leak.ensures.sound (with_run p start.header.fields t (at + 1) (end - (at + 1))) (Taken false) (owed_now view p t at end start c.leaving.file c.decrement_or_leak.new.file c.leaving.self c.decrement_or_leak.new.self c.leaving-test.true has before) tt).leaks
-          ∙ c.leaving.invariant.leaks p start same b;
-      kept = on_no_ok _ c.from_residual.result c.in_err-decrement_or_leak.field-0.0 c.from_residual.ensures;
-    }
 
 pub returns-clause-sound : goal.returns-clause-sound
 returns-clause-sound g c = λ p start same b.
@@ -117,7 +115,3 @@ returns-clause-sound g c = λ p start same b.
       leaks = c.leaving.invariant.leaks p start same b;
       kept = c.leaving.invariant.kept p start same b;
     }
-
-pub returns-in_err-decrement_or_leak-clause-first : goal.returns-in_err-decrement_or_leak-clause-first
-returns-in_err-decrement_or_leak-clause-first g c =
-    search_then c.args.self.now c.leaving.self c.decrement_or_leak.new.self c.leaving.invariant.first (c.decrement_or_leak.ensures.first (let low = c.requires.free in let is = c.leaving.invariant.first.first in let le = c.leaving.auto.cluster in omega (arith, low, is, le)))

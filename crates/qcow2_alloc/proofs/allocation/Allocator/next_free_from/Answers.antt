@@ -1,6 +1,6 @@
 use Rattle.std.proofs.Common.{◌≡◌, refl, ap, subst, sym, ◌∙◌}
 use Rattle.qcow2_alloc.proofs.Common.{HeaderView, KeepsNoFreeBelowHint, NoFreeBelowHint, SearchContinuesIn, PassesKnown, Allocator}
-use Rattle.qcow2_alloc.proofs.Lemmas.{handed_on, allocator_step_as, allocator_step_then, is_sound_now, leaves_then, hint_passed, hint_refused, hint_stays, passed_still, moved_on, stayed, stood_still, fails_ok, fails_on, fails_since, table_step_as, table_step_then}
+use Rattle.qcow2_alloc.proofs.Lemmas.{if_no_ok, handed_on, allocator_step_as, allocator_step_then, is_sound_now, leaves_then, hint_passed, hint_refused, hint_stays, passed_still, moved_on, stayed, stood_still, fails_ok, fails_on, fails_since, table_step_as, table_step_then}
 use Rattle.qcow2_alloc.proofs.allocation.Allocator.next_free_from.Goals.{then-cluster-self, else-cluster-self}
 use Rattle.qcow2_alloc.proofs.allocation.Allocator.next_free_from.Goals as goal
 
@@ -18,10 +18,28 @@ returns-in_err-keep_range-clause-moves g c = record {
   first = ap (λ (t : Allocator). t.first_free_cluster) c.keep_range.ensures.rest ∙ stood_still c.args.self.now.first_free_cluster c.args.cluster c.from_residual.result c.in_err-keep_range.field-0.0 c.from_residual.ensures;
 }
 
-pub returns-in_err-next-clause-moves : goal.returns-in_err-next-clause-moves
-returns-in_err-next-clause-moves g c = record {
-  rest = c.keep_range.ensures.rest ∙ ap (λ n. record c.args.self.now { first_free_cluster = n; read = c.keep_range.new.self.read; free = c.keep_range.new.self.free; crowded = c.keep_range.new.self.crowded }) (sym (ap (λ (t : Allocator). t.first_free_cluster) c.keep_range.ensures.rest));
-  first = ap (λ (t : Allocator). t.first_free_cluster) c.keep_range.ensures.rest ∙ stood_still c.args.self.now.first_free_cluster c.args.cluster c.from_residual-in_err-next.result c.in_err-next.field-0.0 c.from_residual-in_err-next.ensures;
+pub returns-in_err-next : goal.returns-in_err-next
+returns-in_err-next g c = record {
+  step = table_step_then c.keep_range.ensures.step c.next_open.ensures.step;
+  moves = record {
+    rest = c.keep_range.ensures.rest ∙ ap (λ n. record c.args.self.now { first_free_cluster = n; read = c.keep_range.new.self.read; free = c.keep_range.new.self.free; crowded = c.keep_range.new.self.crowded }) (sym (ap (λ (t : Allocator). t.first_free_cluster) c.keep_range.ensures.rest));
+    first = ap (λ (t : Allocator). t.first_free_cluster) c.keep_range.ensures.rest ∙ stood_still c.args.self.now.first_free_cluster c.args.cluster c.from_residual-in_err-next.result c.in_err-next.field-0.0 c.from_residual-in_err-next.ensures;
+  };
+  sound = λ p sound.
+      let view = g.S.Storage.view in
+      let kept = c.in_ok-keep_range.ensures.sound p sound in
+      let went = c.in_err-next.ensures.sound p (is_sound_now view p p c.args.file.now c.keep_range.new.file c.keep_range.new.self kept) in
+      handed_on (PassesKnown view p c.args.self.now c.args.file.now c.keep_range.new.self c.next_open.new.file c.args.cluster) c.from_residual-in_err-next.result c.in_err-next.field-0.0 c.from_residual-in_err-next.ensures
+      (went.0, leaves_then view p c.args.file.now c.keep_range.new.file c.next_open.new.file c.keep_range.new.self c.in_err-next.field-0.0 kept.file_step went.1);
+  fails = fails_on c.from_residual-in_err-next.result c.in_err-next.field-0.0 c.from_residual-in_err-next.ensures (fails_since c.in_ok-keep_range.ensures.fails.told c.in_err-next.ensures.fails);
+  behind = if_no_ok _ c.from_residual-in_err-next.result c.in_err-next.field-0.0 c.from_residual-in_err-next.ensures;
+  far = if_no_ok _ c.from_residual-in_err-next.result c.in_err-next.field-0.0 c.from_residual-in_err-next.ensures;
+  hint = λ p sound hint.
+      let view = g.S.Storage.view in
+      let kept = c.in_ok-keep_range.ensures.sound p sound in
+      let went = c.in_err-next.ensures.sound p (is_sound_now view p p c.args.file.now c.keep_range.new.file c.keep_range.new.self kept) in
+      handed_on (KeepsNoFreeBelowHint view c.keep_range.new.self c.next_open.new.file) c.from_residual-in_err-next.result c.in_err-next.field-0.0 c.from_residual-in_err-next.ensures
+      (hint_refused view p c.keep_range.new.file c.next_open.new.file c.keep_range.new.self c.keep_range.new.self c.in_err-next.field-0.0 (passed_still c.keep_range.new.self) went.1 (c.in_ok-keep_range.ensures.hint p sound hint));
 }
 
 pub returns-clause-moves : goal.returns-clause-moves
@@ -41,28 +59,6 @@ returns-clause-moves g c =
 
 pub returns-in_err-keep_range-clause-fails : goal.returns-in_err-keep_range-clause-fails
 returns-in_err-keep_range-clause-fails g c = fails_on c.from_residual.result c.in_err-keep_range.field-0.0 c.from_residual.ensures c.in_err-keep_range.ensures.fails
-
-pub returns-in_err-next-clause-step : goal.returns-in_err-next-clause-step
-returns-in_err-next-clause-step g c = table_step_then c.keep_range.ensures.step c.next_open.ensures.step
-
-pub returns-in_err-next-clause-fails : goal.returns-in_err-next-clause-fails
-returns-in_err-next-clause-fails g c = fails_on c.from_residual-in_err-next.result c.in_err-next.field-0.0 c.from_residual-in_err-next.ensures (fails_since c.in_ok-keep_range.ensures.fails.told c.in_err-next.ensures.fails)
-
-pub returns-in_err-next-clause-sound : goal.returns-in_err-next-clause-sound
-returns-in_err-next-clause-sound g c = λ p sound.
-    let view = g.S.Storage.view in
-    let kept = c.in_ok-keep_range.ensures.sound p sound in
-    let went = c.in_err-next.ensures.sound p (is_sound_now view p p c.args.file.now c.keep_range.new.file c.keep_range.new.self kept) in
-    handed_on (PassesKnown view p c.args.self.now c.args.file.now c.keep_range.new.self c.next_open.new.file c.args.cluster) c.from_residual-in_err-next.result c.in_err-next.field-0.0 c.from_residual-in_err-next.ensures
-    (went.0, leaves_then view p c.args.file.now c.keep_range.new.file c.next_open.new.file c.keep_range.new.self c.in_err-next.field-0.0 kept.file_step went.1)
-
-pub returns-in_err-next-clause-hint : goal.returns-in_err-next-clause-hint
-returns-in_err-next-clause-hint g c = λ p sound hint.
-    let view = g.S.Storage.view in
-    let kept = c.in_ok-keep_range.ensures.sound p sound in
-    let went = c.in_err-next.ensures.sound p (is_sound_now view p p c.args.file.now c.keep_range.new.file c.keep_range.new.self kept) in
-    handed_on (KeepsNoFreeBelowHint view c.keep_range.new.self c.next_open.new.file) c.from_residual-in_err-next.result c.in_err-next.field-0.0 c.from_residual-in_err-next.ensures
-    (hint_refused view p c.keep_range.new.file c.next_open.new.file c.keep_range.new.self c.keep_range.new.self c.in_err-next.field-0.0 (passed_still c.keep_range.new.self) went.1 (c.in_ok-keep_range.ensures.hint p sound hint))
 
 pub returns-clause-step : goal.returns-clause-step
 returns-clause-step g c =

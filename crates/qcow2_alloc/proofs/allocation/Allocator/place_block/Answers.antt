@@ -22,11 +22,24 @@ at_number view itself p old new t block range k at result is writes =
 pub set_cluster-requires : goal.set_cluster-requires
 set_cluster-requires g c = has_place c.args.block c.args.file.now.header.fields c.args.at c.new-cluster.result c.requires.block.0 c.new-cluster.ensures c.requires.place.nameable_here
 
-pub returns-in_err-write_block-clause-sound : goal.returns-in_err-write_block-clause-sound
-returns-in_err-write_block-clause-sound g c = λ p itself sound place counts.
-    handed_on (PlacesBlock g.S.Storage.view (placing itself p c.args.at) c.args.file.now c.args.self.now c.write_block.new.file p c.args.range c.args.at)
-    c.from_residual.result c.in_err-write_block.field-0.0 c.from_residual.ensures
-    (at_number g.S.Storage.view itself p c.args.file.now c.write_block.new.file c.args.self.now c.set_cluster.new.self c.args.range c.new-cluster.result c.args.at (Err c.in_err-write_block.field-0.0) c.new-cluster.ensures (λ s has. c.in_err-write_block.ensures.sound p itself c.args.self.now c.args.range s has (format_in _ c.args.block c.set_cluster.new.self _ c.set_cluster.ensures c.requires.block.0) (whole_in c.args.block c.set_cluster.new.self c.new-cluster.result c.set_cluster.ensures c.requires.block.1 (has_place c.args.block c.args.file.now.header.fields c.args.at c.new-cluster.result c.requires.block.0 c.new-cluster.ensures c.requires.place.nameable_here))) sound place)
+pub returns-in_err-write_block : goal.returns-in_err-write_block
+returns-in_err-write_block g c = record {
+  step = record {
+    header = c.write_block.ensures.step.header;
+    list = c.write_block.ensures.step.list;
+    named = entries_none _ c.args.self.now.reftable;
+    marks = c.write_block.ensures.step.marks;
+    header_cluster = c.write_block.ensures.step.header_cluster c.args.self.now.reftable (format_in _ c.args.block c.set_cluster.new.self _ c.set_cluster.ensures c.requires.block.0).bits;
+  };
+  fails = fails_on c.from_residual.result c.in_err-write_block.field-0.0 c.from_residual.ensures c.in_err-write_block.ensures.fails;
+  sound = λ p itself sound place counts.
+      handed_on (PlacesBlock g.S.Storage.view (placing itself p c.args.at) c.args.file.now c.args.self.now c.write_block.new.file p c.args.range c.args.at)
+      c.from_residual.result c.in_err-write_block.field-0.0 c.from_residual.ensures
+      (at_number g.S.Storage.view itself p c.args.file.now c.write_block.new.file c.args.self.now c.set_cluster.new.self c.args.range c.new-cluster.result c.args.at (Err c.in_err-write_block.field-0.0) c.new-cluster.ensures (λ s has. c.in_err-write_block.ensures.sound p itself c.args.self.now c.args.range s has (format_in _ c.args.block c.set_cluster.new.self _ c.set_cluster.ensures c.requires.block.0) (whole_in c.args.block c.set_cluster.new.self c.new-cluster.result c.set_cluster.ensures c.requires.block.1 (has_place c.args.block c.args.file.now.header.fields c.args.at c.new-cluster.result c.requires.block.0 c.new-cluster.ensures c.requires.place.nameable_here))) sound place);
+  recorded = on_no_ok _ c.from_residual.result c.in_err-write_block.field-0.0 c.from_residual.ensures;
+  has = on_no_ok _ c.from_residual.result c.in_err-write_block.field-0.0 c.from_residual.ensures;
+  rest = refl;
+}
 
 -- the last step: the entry is written, or is not
 module _ {S : Type 0} (view : S → StorageView) (d : Bool) (p : Pending) (range at : ℕ) (old file : ImageFile S) (t : Allocator) (t' : EntryTableView) (storage : ImageStorage S) (asked : S) (block : RefBlockView)
@@ -86,90 +99,53 @@ module _ {S : Type 0} (view : S → StorageView) (d : Bool) (p : Pending) (range
         names_refblock view p named t' so.0.sound so.1 range (at * cluster_size h) at h.cluster_bits (sym at_place) some refl refl,
       )
 
-pub returns-in_err-write_reftable_entry-clause-sound : goal.returns-in_err-write_reftable_entry-clause-sound
-returns-in_err-write_reftable_entry-clause-sound g c = λ p itself sound place counts.
-    let three = at_number g.S.Storage.view itself p c.args.file.now c.write_block.new.file c.args.self.now c.set_cluster.new.self c.args.range c.new-cluster.result c.args.at (Ok c.in_ok-write_block.field-0) c.new-cluster.ensures (λ s has. c.in_ok-write_block.ensures.sound p itself c.args.self.now c.args.range s has (format_in _ c.args.block c.set_cluster.new.self _ c.set_cluster.ensures c.requires.block.0) (whole_in c.args.block c.set_cluster.new.self c.new-cluster.result c.set_cluster.ensures c.requires.block.1 (has_place c.args.block c.args.file.now.header.fields c.args.at c.new-cluster.result c.requires.block.0 c.new-cluster.ensures c.requires.place.nameable_here))) sound place in
-    handed_on (PlacesBlock g.S.Storage.view (placing itself p c.args.at) c.args.file.now (record c.args.self.now { reftable = c.enter_refblock.new.self }) (record c.write_block.new.file { storage = c.write_reftable_entry.new.self }) p c.args.range c.args.at)
-    c.from_residual-in_err-write_reftable_entry.result (of_storage c.in_err-write_reftable_entry.field-0.0) c.from_residual-in_err-write_reftable_entry.ensures
-    (not_placed g.S.Storage.view itself p c.args.range c.args.at c.args.file.now c.write_block.new.file c.args.self.now c.enter_refblock.new.self c.write_reftable_entry.new.self (storage_of c.set_write_kind.new.self) c.set_cluster.new.self c.write_reftable_entry.result
-    three c.in_ok-write_block.ensures.counted c.in_ok-write_block.ensures.first (subst (λ h. HasPlaceFor itself h c.args.self.now.reftable c.args.range c.args.at) (sym (ap (λ x. x.fields) c.write_block.ensures.step.header)) place)
-    c.requires.place.within c.enter_refblock.ensures.rest (subst (λ k. ChangesEntry c.args.self.now.reftable.bytes c.enter_refblock.new.self.bytes c.args.range (k * 2 ^ c.args.self.now.reftable.cluster_bits)) c.new-cluster.ensures c.enter_refblock.ensures.entry)
-    (c.enter_refblock.ensures.offset ∙ ap (λ k. k * 2 ^ c.args.self.now.reftable.cluster_bits) c.new-cluster.ensures) c.write_reftable_entry.ensures.fits (whole_in c.args.block c.set_cluster.new.self c.new-cluster.result c.set_cluster.ensures c.requires.block.1 (has_place c.args.block c.args.file.now.header.fields c.args.at c.new-cluster.result c.requires.block.0 c.new-cluster.ensures c.requires.place.nameable_here)) (subst (λ h. IsBlockOf h c.set_cluster.new.self) (sym (ap (λ x. x.fields) c.write_block.ensures.step.header)) (format_in _ c.args.block c.set_cluster.new.self _ c.set_cluster.ensures c.requires.block.0))
-    (λ i. ap (λ (b : RefBlockView). count_at b i) c.set_cluster.ensures ∙ counts i) c.set_write_kind.ensures.storage c.write_reftable_entry.ensures.written c.write_reftable_entry.ensures.calls (note_kept c.set_write_kind.new.self c.write_reftable_entry.new.self c.write_reftable_entry.result c.write_reftable_entry.ensures.recorded (c.set_write_kind.ensures.changed.note ∙ c.in_ok-write_block.ensures.recorded)) (of_storage c.in_err-write_reftable_entry.field-0.0) (fault_of_storage c.in_err-write_reftable_entry.field-0.0))
-
-pub returns-clause-sound : goal.returns-clause-sound
-returns-clause-sound g c = λ p itself sound place counts.
-    let three = at_number g.S.Storage.view itself p c.args.file.now c.write_block.new.file c.args.self.now c.set_cluster.new.self c.args.range c.new-cluster.result c.args.at (Ok c.in_ok-write_block.field-0) c.new-cluster.ensures (λ s has. c.in_ok-write_block.ensures.sound p itself c.args.self.now c.args.range s has (format_in _ c.args.block c.set_cluster.new.self _ c.set_cluster.ensures c.requires.block.0) (whole_in c.args.block c.set_cluster.new.self c.new-cluster.result c.set_cluster.ensures c.requires.block.1 (has_place c.args.block c.args.file.now.header.fields c.args.at c.new-cluster.result c.requires.block.0 c.new-cluster.ensures c.requires.place.nameable_here))) sound place in
-    is_placed g.S.Storage.view itself p c.args.range c.args.at c.args.file.now c.write_block.new.file c.args.self.now c.enter_refblock.new.self c.write_reftable_entry.new.self (storage_of c.set_write_kind.new.self) c.set_cluster.new.self c.write_reftable_entry.result
-    three c.in_ok-write_block.ensures.counted c.in_ok-write_block.ensures.first (subst (λ h. HasPlaceFor itself h c.args.self.now.reftable c.args.range c.args.at) (sym (ap (λ x. x.fields) c.write_block.ensures.step.header)) place)
-    c.requires.place.within c.enter_refblock.ensures.rest (subst (λ k. ChangesEntry c.args.self.now.reftable.bytes c.enter_refblock.new.self.bytes c.args.range (k * 2 ^ c.args.self.now.reftable.cluster_bits)) c.new-cluster.ensures c.enter_refblock.ensures.entry)
-    (c.enter_refblock.ensures.offset ∙ ap (λ k. k * 2 ^ c.args.self.now.reftable.cluster_bits) c.new-cluster.ensures) c.write_reftable_entry.ensures.fits (whole_in c.args.block c.set_cluster.new.self c.new-cluster.result c.set_cluster.ensures c.requires.block.1 (has_place c.args.block c.args.file.now.header.fields c.args.at c.new-cluster.result c.requires.block.0 c.new-cluster.ensures c.requires.place.nameable_here)) (subst (λ h. IsBlockOf h c.set_cluster.new.self) (sym (ap (λ x. x.fields) c.write_block.ensures.step.header)) (format_in _ c.args.block c.set_cluster.new.self _ c.set_cluster.ensures c.requires.block.0))
-    (λ i. ap (λ (b : RefBlockView). count_at b i) c.set_cluster.ensures ∙ counts i) c.set_write_kind.ensures.storage c.write_reftable_entry.ensures.written c.write_reftable_entry.ensures.calls c.in_ok-write_reftable_entry.field-0 c.in_ok-write_reftable_entry.was
-
-pub returns-in_err-write_block-clause-step : goal.returns-in_err-write_block-clause-step
-returns-in_err-write_block-clause-step g c = record {
-  header = c.write_block.ensures.step.header;
-  list = c.write_block.ensures.step.list;
-  named = entries_none _ c.args.self.now.reftable;
-  marks = c.write_block.ensures.step.marks;
-  header_cluster = c.write_block.ensures.step.header_cluster c.args.self.now.reftable (format_in _ c.args.block c.set_cluster.new.self _ c.set_cluster.ensures c.requires.block.0).bits;
+pub returns-in_err-write_reftable_entry : goal.returns-in_err-write_reftable_entry
+returns-in_err-write_reftable_entry g c = record {
+  step = record {
+    header = c.write_block.ensures.step.header;
+    list = c.write_block.ensures.step.list;
+    named = entries_entered c.args.self.now.reftable c.enter_refblock.new.self c.args.range c.new-cluster.result (subst (λ n. 0 < n) (sym c.new-cluster.ensures) c.requires.place.elsewhere) c.enter_refblock.ensures.rest c.enter_refblock.ensures.entry c.enter_refblock.ensures.offset;
+    marks = kept_marks_then c.write_block.ensures.step.marks
+        (marks_of_storage refl (placed_kept c.write_block.new.file.storage c.set_write_kind.new.self c.write_reftable_entry.new.self c.write_reftable_entry.result c.set_write_kind.ensures.storage c.set_write_kind.ensures.changed c.enter_refblock.new.self.cluster _
+        (subst (λ (x : EntryTableView). IsSome x.cluster) (sym c.enter_refblock.ensures.rest) c.requires.place.placed) c.write_reftable_entry.ensures.written c.write_reftable_entry.ensures.calls c.write_reftable_entry.ensures.recorded));
+    header_cluster = spares_then (c.write_block.ensures.step.header_cluster c.args.self.now.reftable (format_in _ c.args.block c.set_cluster.new.self _ c.set_cluster.ensures c.requires.block.0).bits) (spares_entry g.S.Storage.view c.args.self.now.reftable c.enter_refblock.new.self c.write_block.new.file c.write_block.new.file.caches (storage_of c.set_write_kind.new.self) c.write_reftable_entry.new.self _ _ c.write_reftable_entry.result (λ bits are. are) (ap (λ (t : EntryTableView). t.cluster_bits) c.enter_refblock.ensures.rest) (ap (λ (t : EntryTableView). t.cluster) c.enter_refblock.ensures.rest) c.set_write_kind.ensures.storage c.write_reftable_entry.ensures.written c.write_reftable_entry.ensures.calls (let within = c.requires.place.within in omega (arith, within)) (subst (λ (t : EntryTableView). IsSome t.cluster) (sym c.enter_refblock.ensures.rest) c.requires.place.placed));
+  };
+  fails =
+      fails_since (same_faults g.S.Storage.view c.set_write_kind.ensures.storage ∙ c.in_ok-write_block.ensures.fails.told) (fails_storage c.from_residual-in_err-write_reftable_entry.result c.in_err-write_reftable_entry.field-0.0 c.from_residual-in_err-write_reftable_entry.ensures c.in_err-write_reftable_entry.ensures.calls.cause);
+  sound = λ p itself sound place counts.
+      let three = at_number g.S.Storage.view itself p c.args.file.now c.write_block.new.file c.args.self.now c.set_cluster.new.self c.args.range c.new-cluster.result c.args.at (Ok c.in_ok-write_block.field-0) c.new-cluster.ensures (λ s has. c.in_ok-write_block.ensures.sound p itself c.args.self.now c.args.range s has (format_in _ c.args.block c.set_cluster.new.self _ c.set_cluster.ensures c.requires.block.0) (whole_in c.args.block c.set_cluster.new.self c.new-cluster.result c.set_cluster.ensures c.requires.block.1 (has_place c.args.block c.args.file.now.header.fields c.args.at c.new-cluster.result c.requires.block.0 c.new-cluster.ensures c.requires.place.nameable_here))) sound place in
+      handed_on (PlacesBlock g.S.Storage.view (placing itself p c.args.at) c.args.file.now (record c.args.self.now { reftable = c.enter_refblock.new.self }) (record c.write_block.new.file { storage = c.write_reftable_entry.new.self }) p c.args.range c.args.at)
+      c.from_residual-in_err-write_reftable_entry.result (of_storage c.in_err-write_reftable_entry.field-0.0) c.from_residual-in_err-write_reftable_entry.ensures
+      (not_placed g.S.Storage.view itself p c.args.range c.args.at c.args.file.now c.write_block.new.file c.args.self.now c.enter_refblock.new.self c.write_reftable_entry.new.self (storage_of c.set_write_kind.new.self) c.set_cluster.new.self c.write_reftable_entry.result
+      three c.in_ok-write_block.ensures.counted c.in_ok-write_block.ensures.first (subst (λ h. HasPlaceFor itself h c.args.self.now.reftable c.args.range c.args.at) (sym (ap (λ x. x.fields) c.write_block.ensures.step.header)) place)
+      c.requires.place.within c.enter_refblock.ensures.rest (subst (λ k. ChangesEntry c.args.self.now.reftable.bytes c.enter_refblock.new.self.bytes c.args.range (k * 2 ^ c.args.self.now.reftable.cluster_bits)) c.new-cluster.ensures c.enter_refblock.ensures.entry)
+      (c.enter_refblock.ensures.offset ∙ ap (λ k. k * 2 ^ c.args.self.now.reftable.cluster_bits) c.new-cluster.ensures) c.write_reftable_entry.ensures.fits (whole_in c.args.block c.set_cluster.new.self c.new-cluster.result c.set_cluster.ensures c.requires.block.1 (has_place c.args.block c.args.file.now.header.fields c.args.at c.new-cluster.result c.requires.block.0 c.new-cluster.ensures c.requires.place.nameable_here)) (subst (λ h. IsBlockOf h c.set_cluster.new.self) (sym (ap (λ x. x.fields) c.write_block.ensures.step.header)) (format_in _ c.args.block c.set_cluster.new.self _ c.set_cluster.ensures c.requires.block.0))
+      (λ i. ap (λ (b : RefBlockView). count_at b i) c.set_cluster.ensures ∙ counts i) c.set_write_kind.ensures.storage c.write_reftable_entry.ensures.written c.write_reftable_entry.ensures.calls (note_kept c.set_write_kind.new.self c.write_reftable_entry.new.self c.write_reftable_entry.result c.write_reftable_entry.ensures.recorded (c.set_write_kind.ensures.changed.note ∙ c.in_ok-write_block.ensures.recorded)) (of_storage c.in_err-write_reftable_entry.field-0.0) (fault_of_storage c.in_err-write_reftable_entry.field-0.0));
+  recorded = on_no_ok _ c.from_residual-in_err-write_reftable_entry.result (of_storage c.in_err-write_reftable_entry.field-0.0) c.from_residual-in_err-write_reftable_entry.ensures;
+  has = on_no_ok _ c.from_residual-in_err-write_reftable_entry.result (of_storage c.in_err-write_reftable_entry.field-0.0) c.from_residual-in_err-write_reftable_entry.ensures;
+  rest = refl;
 }
 
-pub returns-in_err-write_block-clause-fails : goal.returns-in_err-write_block-clause-fails
-returns-in_err-write_block-clause-fails g c = fails_on c.from_residual.result c.in_err-write_block.field-0.0 c.from_residual.ensures c.in_err-write_block.ensures.fails
-
-pub returns-in_err-write_block-clause-recorded : goal.returns-in_err-write_block-clause-recorded
-returns-in_err-write_block-clause-recorded g c = on_no_ok _ c.from_residual.result c.in_err-write_block.field-0.0 c.from_residual.ensures
-
-pub returns-in_err-write_reftable_entry-clause-step : goal.returns-in_err-write_reftable_entry-clause-step
-returns-in_err-write_reftable_entry-clause-step g c = record {
-  header = c.write_block.ensures.step.header;
-  list = c.write_block.ensures.step.list;
-  named = entries_entered c.args.self.now.reftable c.enter_refblock.new.self c.args.range c.new-cluster.result (subst (λ n. 0 < n) (sym c.new-cluster.ensures) c.requires.place.elsewhere) c.enter_refblock.ensures.rest c.enter_refblock.ensures.entry c.enter_refblock.ensures.offset;
-  marks = kept_marks_then c.write_block.ensures.step.marks
-      (marks_of_storage refl (placed_kept c.write_block.new.file.storage c.set_write_kind.new.self c.write_reftable_entry.new.self c.write_reftable_entry.result c.set_write_kind.ensures.storage c.set_write_kind.ensures.changed c.enter_refblock.new.self.cluster _
-      (subst (λ (x : EntryTableView). IsSome x.cluster) (sym c.enter_refblock.ensures.rest) c.requires.place.placed) c.write_reftable_entry.ensures.written c.write_reftable_entry.ensures.calls c.write_reftable_entry.ensures.recorded));
-  header_cluster = spares_then (c.write_block.ensures.step.header_cluster c.args.self.now.reftable (format_in _ c.args.block c.set_cluster.new.self _ c.set_cluster.ensures c.requires.block.0).bits) (spares_entry g.S.Storage.view c.args.self.now.reftable c.enter_refblock.new.self c.write_block.new.file c.write_block.new.file.caches (storage_of c.set_write_kind.new.self) c.write_reftable_entry.new.self _ _ c.write_reftable_entry.result (λ bits are. are) (ap (λ (t : EntryTableView). t.cluster_bits) c.enter_refblock.ensures.rest) (ap (λ (t : EntryTableView). t.cluster) c.enter_refblock.ensures.rest) c.set_write_kind.ensures.storage c.write_reftable_entry.ensures.written c.write_reftable_entry.ensures.calls (let within = c.requires.place.within in omega (arith, within)) (subst (λ (t : EntryTableView). IsSome t.cluster) (sym c.enter_refblock.ensures.rest) c.requires.place.placed));
+pub returns : goal.returns
+returns g c = record {
+  step = record {
+    header = c.write_block.ensures.step.header;
+    list = c.write_block.ensures.step.list;
+    named = entries_entered c.args.self.now.reftable c.enter_refblock.new.self c.args.range c.new-cluster.result (subst (λ n. 0 < n) (sym c.new-cluster.ensures) c.requires.place.elsewhere) c.enter_refblock.ensures.rest c.enter_refblock.ensures.entry c.enter_refblock.ensures.offset;
+    marks = kept_marks_then c.write_block.ensures.step.marks
+        (marks_of_storage refl (placed_kept c.write_block.new.file.storage c.set_write_kind.new.self c.write_reftable_entry.new.self c.write_reftable_entry.result c.set_write_kind.ensures.storage c.set_write_kind.ensures.changed c.enter_refblock.new.self.cluster _
+        (subst (λ (x : EntryTableView). IsSome x.cluster) (sym c.enter_refblock.ensures.rest) c.requires.place.placed) c.write_reftable_entry.ensures.written c.write_reftable_entry.ensures.calls c.write_reftable_entry.ensures.recorded));
+    header_cluster = spares_then (c.write_block.ensures.step.header_cluster c.args.self.now.reftable (format_in _ c.args.block c.set_cluster.new.self _ c.set_cluster.ensures c.requires.block.0).bits) (spares_entry g.S.Storage.view c.args.self.now.reftable c.enter_refblock.new.self c.write_block.new.file c.write_block.new.file.caches (storage_of c.set_write_kind.new.self) c.write_reftable_entry.new.self _ _ c.write_reftable_entry.result (λ bits are. are) (ap (λ (t : EntryTableView). t.cluster_bits) c.enter_refblock.ensures.rest) (ap (λ (t : EntryTableView). t.cluster) c.enter_refblock.ensures.rest) c.set_write_kind.ensures.storage c.write_reftable_entry.ensures.written c.write_reftable_entry.ensures.calls (let within = c.requires.place.within in omega (arith, within)) (subst (λ (t : EntryTableView). IsSome t.cluster) (sym c.enter_refblock.ensures.rest) c.requires.place.placed));
+  };
+  fails = fails_ok (c.in_ok-write_reftable_entry.ensures.calls.cause.told ∙ (same_faults g.S.Storage.view c.set_write_kind.ensures.storage ∙ c.in_ok-write_block.ensures.fails.told));
+  sound = λ p itself sound place counts.
+      let three = at_number g.S.Storage.view itself p c.args.file.now c.write_block.new.file c.args.self.now c.set_cluster.new.self c.args.range c.new-cluster.result c.args.at (Ok c.in_ok-write_block.field-0) c.new-cluster.ensures (λ s has. c.in_ok-write_block.ensures.sound p itself c.args.self.now c.args.range s has (format_in _ c.args.block c.set_cluster.new.self _ c.set_cluster.ensures c.requires.block.0) (whole_in c.args.block c.set_cluster.new.self c.new-cluster.result c.set_cluster.ensures c.requires.block.1 (has_place c.args.block c.args.file.now.header.fields c.args.at c.new-cluster.result c.requires.block.0 c.new-cluster.ensures c.requires.place.nameable_here))) sound place in
+      is_placed g.S.Storage.view itself p c.args.range c.args.at c.args.file.now c.write_block.new.file c.args.self.now c.enter_refblock.new.self c.write_reftable_entry.new.self (storage_of c.set_write_kind.new.self) c.set_cluster.new.self c.write_reftable_entry.result
+      three c.in_ok-write_block.ensures.counted c.in_ok-write_block.ensures.first (subst (λ h. HasPlaceFor itself h c.args.self.now.reftable c.args.range c.args.at) (sym (ap (λ x. x.fields) c.write_block.ensures.step.header)) place)
+      c.requires.place.within c.enter_refblock.ensures.rest (subst (λ k. ChangesEntry c.args.self.now.reftable.bytes c.enter_refblock.new.self.bytes c.args.range (k * 2 ^ c.args.self.now.reftable.cluster_bits)) c.new-cluster.ensures c.enter_refblock.ensures.entry)
+      (c.enter_refblock.ensures.offset ∙ ap (λ k. k * 2 ^ c.args.self.now.reftable.cluster_bits) c.new-cluster.ensures) c.write_reftable_entry.ensures.fits (whole_in c.args.block c.set_cluster.new.self c.new-cluster.result c.set_cluster.ensures c.requires.block.1 (has_place c.args.block c.args.file.now.header.fields c.args.at c.new-cluster.result c.requires.block.0 c.new-cluster.ensures c.requires.place.nameable_here)) (subst (λ h. IsBlockOf h c.set_cluster.new.self) (sym (ap (λ x. x.fields) c.write_block.ensures.step.header)) (format_in _ c.args.block c.set_cluster.new.self _ c.set_cluster.ensures c.requires.block.0))
+      (λ i. ap (λ (b : RefBlockView). count_at b i) c.set_cluster.ensures ∙ counts i) c.set_write_kind.ensures.storage c.write_reftable_entry.ensures.written c.write_reftable_entry.ensures.calls c.in_ok-write_reftable_entry.field-0 c.in_ok-write_reftable_entry.was;
+  recorded = or_left (is_changed_of c.write_reftable_entry.new.self) c.write_block.new.file.caches.is_changed (note_kept c.set_write_kind.new.self c.write_reftable_entry.new.self c.write_reftable_entry.result c.write_reftable_entry.ensures.recorded (c.set_write_kind.ensures.changed.note ∙ c.in_ok-write_block.ensures.recorded));
+  has = entered_has c.enter_refblock.new.self c.args.range c.new-cluster.result c.args.self.now.reftable.cluster_bits (subst (λ n. 0 < n) (sym c.new-cluster.ensures) c.requires.place.elsewhere) c.enter_refblock.ensures.offset;
+  rest = refl;
 }
-
-pub returns-clause-step : goal.returns-clause-step
-returns-clause-step g c = record {
-  header = c.write_block.ensures.step.header;
-  list = c.write_block.ensures.step.list;
-  named = entries_entered c.args.self.now.reftable c.enter_refblock.new.self c.args.range c.new-cluster.result (subst (λ n. 0 < n) (sym c.new-cluster.ensures) c.requires.place.elsewhere) c.enter_refblock.ensures.rest c.enter_refblock.ensures.entry c.enter_refblock.ensures.offset;
-  marks = kept_marks_then c.write_block.ensures.step.marks
-      (marks_of_storage refl (placed_kept c.write_block.new.file.storage c.set_write_kind.new.self c.write_reftable_entry.new.self c.write_reftable_entry.result c.set_write_kind.ensures.storage c.set_write_kind.ensures.changed c.enter_refblock.new.self.cluster _
-      (subst (λ (x : EntryTableView). IsSome x.cluster) (sym c.enter_refblock.ensures.rest) c.requires.place.placed) c.write_reftable_entry.ensures.written c.write_reftable_entry.ensures.calls c.write_reftable_entry.ensures.recorded));
-  header_cluster = spares_then (c.write_block.ensures.step.header_cluster c.args.self.now.reftable (format_in _ c.args.block c.set_cluster.new.self _ c.set_cluster.ensures c.requires.block.0).bits) (spares_entry g.S.Storage.view c.args.self.now.reftable c.enter_refblock.new.self c.write_block.new.file c.write_block.new.file.caches (storage_of c.set_write_kind.new.self) c.write_reftable_entry.new.self _ _ c.write_reftable_entry.result (λ bits are. are) (ap (λ (t : EntryTableView). t.cluster_bits) c.enter_refblock.ensures.rest) (ap (λ (t : EntryTableView). t.cluster) c.enter_refblock.ensures.rest) c.set_write_kind.ensures.storage c.write_reftable_entry.ensures.written c.write_reftable_entry.ensures.calls (let within = c.requires.place.within in omega (arith, within)) (subst (λ (t : EntryTableView). IsSome t.cluster) (sym c.enter_refblock.ensures.rest) c.requires.place.placed));
-}
-
-pub returns-in_err-write_reftable_entry-clause-recorded : goal.returns-in_err-write_reftable_entry-clause-recorded
-returns-in_err-write_reftable_entry-clause-recorded g c = on_no_ok _ c.from_residual-in_err-write_reftable_entry.result (of_storage c.in_err-write_reftable_entry.field-0.0) c.from_residual-in_err-write_reftable_entry.ensures
-
-pub returns-in_err-write_block-clause-has : goal.returns-in_err-write_block-clause-has
-returns-in_err-write_block-clause-has g c = on_no_ok _ c.from_residual.result c.in_err-write_block.field-0.0 c.from_residual.ensures
-
-pub returns-in_err-write_reftable_entry-clause-has : goal.returns-in_err-write_reftable_entry-clause-has
-returns-in_err-write_reftable_entry-clause-has g c = on_no_ok _ c.from_residual-in_err-write_reftable_entry.result (of_storage c.in_err-write_reftable_entry.field-0.0) c.from_residual-in_err-write_reftable_entry.ensures
-
-pub returns-clause-has : goal.returns-clause-has
-returns-clause-has g c = entered_has c.enter_refblock.new.self c.args.range c.new-cluster.result c.args.self.now.reftable.cluster_bits (subst (λ n. 0 < n) (sym c.new-cluster.ensures) c.requires.place.elsewhere) c.enter_refblock.ensures.offset
-
-pub returns-clause-recorded : goal.returns-clause-recorded
-returns-clause-recorded g c = or_left (is_changed_of c.write_reftable_entry.new.self) c.write_block.new.file.caches.is_changed (note_kept c.set_write_kind.new.self c.write_reftable_entry.new.self c.write_reftable_entry.result c.write_reftable_entry.ensures.recorded (c.set_write_kind.ensures.changed.note ∙ c.in_ok-write_block.ensures.recorded))
-
-pub returns-in_err-write_reftable_entry-clause-fails : goal.returns-in_err-write_reftable_entry-clause-fails
-returns-in_err-write_reftable_entry-clause-fails g c =
-    fails_since (same_faults g.S.Storage.view c.set_write_kind.ensures.storage ∙ c.in_ok-write_block.ensures.fails.told) (fails_storage c.from_residual-in_err-write_reftable_entry.result c.in_err-write_reftable_entry.field-0.0 c.from_residual-in_err-write_reftable_entry.ensures c.in_err-write_reftable_entry.ensures.calls.cause)
-
-pub returns-clause-fails : goal.returns-clause-fails
-returns-clause-fails g c = fails_ok (c.in_ok-write_reftable_entry.ensures.calls.cause.told ∙ (same_faults g.S.Storage.view c.set_write_kind.ensures.storage ∙ c.in_ok-write_block.ensures.fails.told))
-
-pub returns-in_err-write_block-clause-rest : goal.returns-in_err-write_block-clause-rest
-returns-in_err-write_block-clause-rest g c = refl
-
-pub returns-in_err-write_reftable_entry-clause-rest : goal.returns-in_err-write_reftable_entry-clause-rest
-returns-in_err-write_reftable_entry-clause-rest g c = refl
-
-pub returns-clause-rest : goal.returns-clause-rest
-returns-clause-rest g c = refl

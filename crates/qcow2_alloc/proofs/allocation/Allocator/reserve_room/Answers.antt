@@ -38,18 +38,31 @@ returns-in_err-allocate_if_free-clause-sound g c = λ p sound.
       stopped = λ hint. if_no_ok _ c.from_residual.result c.in_err-allocate_if_free.field-0.0 c.from_residual.ensures;
     }
 
-pub returns-then-not-branch-clause-sound : goal.returns-then-not-branch-clause-sound
-returns-then-not-branch-clause-sound g c = λ p sound.
-    record {
-      reaches = let before = c.reaching.invariant.sound p sound in
-          let q : Pending = with_run p c.args.file.now.header.fields c.args.self.now.reftable c.args.first c.reaching.taken in
-          run_not_taken g.S.Storage.view p c.args.self.now.reftable c.args.first c.reaching.taken (c.args.first + c.reaching.taken) c.args.file.now c.reaching.file c.allocate_if_free.new.file c.reaching.self c.allocate_if_free.new.self c.reaching.self.reftable
-          c.in_ok-allocate_if_free.field-0 before c.if-not-branch.true (c.in_ok-allocate_if_free.ensures.sound q (is_sound_now g.S.Storage.view p q c.args.file.now c.reaching.file c.reaching.self before));
-      stopped = λ hint some within. let before = c.reaching.invariant.sound p sound in
-          let q : Pending = with_run p c.args.file.now.header.fields c.args.self.now.reftable c.args.first c.reaching.taken in
-          c.in_ok-allocate_if_free.ensures.used q (is_sound_now g.S.Storage.view p q c.args.file.now c.reaching.file c.reaching.self before)
-          (hint_taken g.S.Storage.view p false (counted_run c.args.file.now.header.fields c.args.self.now.reftable c.args.first c.reaching.taken) c.args.file.now c.reaching.file c.args.self.now c.reaching.self before (passed_same c.args.self.now c.reaching.self c.reaching.invariant.same) hint) c.if-not-branch.true;
-    }
+pub returns-then-not-branch : goal.returns-then-not-branch
+returns-then-not-branch g c = record {
+  step = table_step_then c.reaching.invariant.step c.allocate_if_free.ensures.step;
+  fails = fails_ok (c.in_ok-allocate_if_free.ensures.fails.told ∙ c.reaching.invariant.faults);
+  sound = λ p sound.
+      record {
+        reaches = let before = c.reaching.invariant.sound p sound in
+            let q : Pending = with_run p c.args.file.now.header.fields c.args.self.now.reftable c.args.first c.reaching.taken in
+            run_not_taken g.S.Storage.view p c.args.self.now.reftable c.args.first c.reaching.taken (c.args.first + c.reaching.taken) c.args.file.now c.reaching.file c.allocate_if_free.new.file c.reaching.self c.allocate_if_free.new.self c.reaching.self.reftable
+            c.in_ok-allocate_if_free.field-0 before c.if-not-branch.true (c.in_ok-allocate_if_free.ensures.sound q (is_sound_now g.S.Storage.view p q c.args.file.now c.reaching.file c.reaching.self before));
+        stopped = λ hint some within. let before = c.reaching.invariant.sound p sound in
+            let q : Pending = with_run p c.args.file.now.header.fields c.args.self.now.reftable c.args.first c.reaching.taken in
+            c.in_ok-allocate_if_free.ensures.used q (is_sound_now g.S.Storage.view p q c.args.file.now c.reaching.file c.reaching.self before)
+            (hint_taken g.S.Storage.view p false (counted_run c.args.file.now.header.fields c.args.self.now.reftable c.args.first c.reaching.taken) c.args.file.now c.reaching.file c.args.self.now c.reaching.self before (passed_same c.args.self.now c.reaching.self c.reaching.invariant.same) hint) c.if-not-branch.true;
+      };
+  reach = record {
+    within = c.reaching.invariant.within;
+    few = c.reaching.invariant.few;
+    blocks = c.reaching.invariant.blocks;
+    short = λ some n le.
+        more_short c.args.self.now.reftable (counts_per_block c.args.file.now.header.fields) c.args.first c.reaching.taken c.reaching.blocks c.args.clusters c.reaching.invariant.blocks c.reaching-test.true c.reaching.invariant.short n (omega (arith, le));
+    recorded = still_noted c.args.file.now.header.fields c.args.self.now.reftable c.args.first c.reaching.taken c.reaching.file.caches.is_changed c.allocate_if_free.new.file.caches.is_changed c.allocate_if_free.ensures.step.marks.pins.changes.recorded c.reaching.invariant.recorded;
+  };
+  same = c.allocate_if_free.ensures.same ∙ c.reaching.invariant.same;
+}
 
 pub reaching-preserved : goal.reaching-preserved
 reaching-preserved g c =
@@ -99,15 +112,6 @@ returns-in_err-allocate_if_free-clause-fails g c = fails_on c.from_residual.resu
 pub returns-in_err-allocate_if_free-clause-same : goal.returns-in_err-allocate_if_free-clause-same
 returns-in_err-allocate_if_free-clause-same g c = c.allocate_if_free.ensures.same ∙ c.reaching.invariant.same
 
-pub returns-then-not-branch-clause-step : goal.returns-then-not-branch-clause-step
-returns-then-not-branch-clause-step g c = table_step_then c.reaching.invariant.step c.allocate_if_free.ensures.step
-
-pub returns-then-not-branch-clause-fails : goal.returns-then-not-branch-clause-fails
-returns-then-not-branch-clause-fails g c = fails_ok (c.in_ok-allocate_if_free.ensures.fails.told ∙ c.reaching.invariant.faults)
-
-pub returns-then-not-branch-clause-same : goal.returns-then-not-branch-clause-same
-returns-then-not-branch-clause-same g c = c.allocate_if_free.ensures.same ∙ c.reaching.invariant.same
-
 pub returns-clause-fails : goal.returns-clause-fails
 returns-clause-fails g c = fails_ok c.reaching.invariant.faults
 
@@ -122,14 +126,4 @@ returns-clause-reach g c = record {
     | else-reaching-test w ↦ absurd (some (let up_to = c.reaching.invariant.up_to in let past = w.reaching-test.false in omega (arith, up_to, past)))
   ];
   recorded = c.reaching.invariant.recorded;
-}
-
-pub returns-then-not-branch-clause-reach : goal.returns-then-not-branch-clause-reach
-returns-then-not-branch-clause-reach g c = record {
-  within = c.reaching.invariant.within;
-  few = c.reaching.invariant.few;
-  blocks = c.reaching.invariant.blocks;
-  short = λ some n le.
-      more_short c.args.self.now.reftable (counts_per_block c.args.file.now.header.fields) c.args.first c.reaching.taken c.reaching.blocks c.args.clusters c.reaching.invariant.blocks c.reaching-test.true c.reaching.invariant.short n (omega (arith, le));
-  recorded = still_noted c.args.file.now.header.fields c.args.self.now.reftable c.args.first c.reaching.taken c.reaching.file.caches.is_changed c.allocate_if_free.new.file.caches.is_changed c.allocate_if_free.ensures.step.marks.pins.changes.recorded c.reaching.invariant.recorded;
 }

@@ -9,59 +9,28 @@ Past index t = entries_of t ≤ index
 abbrev Sets : ℕ → Bool → L2TableView → Option (ℕ × ℕ) → L2TableView → Type 0
 Sets index keep t = SetsTableEntry t index (zero_entry (if keep then copied_host (cover_at t index) else None))
 
-pub returns-clause-step : goal.returns-clause-step
-returns-clause-step g c =
+pub returns : goal.returns
+returns g c =
     let ch = changed_by (Past c.args.index) (Sets c.args.index c.args.keep) c.args.cluster c.args.self.now.l2 c.change.new.self c.change.result c.change.ensures.changes c.in_ok-old_data.old_data c.in_ok-old_data.was in
-    rw ch.is (entry_step c.args.self.now c.args.cluster ch.after c.one_more-self.result c.one_more-self.ensures)
+    record {
+      step = rw ch.is (entry_step c.args.self.now c.args.cluster ch.after c.one_more-self.result c.one_more-self.ensures);
+      zeroed = λ h p on_storage i sound at own there.
+          let covers = covers_known h p on_storage c.args.self.now sound c.args.cluster c.args.index ch.before ch.found i at in
+          rw ch.is (entry_made_so c.args.self.now c.args.cluster ch.after c.one_more-self.result c.one_more-self.ensures ch.found ch.by h p on_storage i sound at own _ (ap (λ (m : L2Mapping). zero_entry (if c.args.keep then copied_host m else None)) covers));
+      recorded = λ h p on_storage i sound at there. refl;
+      entry = rw ch.is (if_some _ (value_at (eqb c.args.cluster) c.args.self.now.l2.entries) ch.before ch.found (λ inside. entry_set c.args.self.now c.args.cluster ch.after c.one_more-self.result c.one_more-self.ensures ch.found ch.by));
+      apart = rw ch.is (entry_apart c.args.self.now c.args.cluster ch.after c.one_more-self.result c.one_more-self.ensures c.change.ensures.distinct);
+      refused = λ refused. let past = subst (λ (o : Option L2TableView). IfSome o (Past c.args.index)) ch.found refused in let inside = ch.by.inside in absurd (omega arith);
+    }
 
-pub returns-clause-apart : goal.returns-clause-apart
-returns-clause-apart g c =
-    let ch = changed_by (Past c.args.index) (Sets c.args.index c.args.keep) c.args.cluster c.args.self.now.l2 c.change.new.self c.change.result c.change.ensures.changes c.in_ok-old_data.old_data c.in_ok-old_data.was in
-    rw ch.is (entry_apart c.args.self.now c.args.cluster ch.after c.one_more-self.result c.one_more-self.ensures c.change.ensures.distinct)
-
-pub returns-clause-entry : goal.returns-clause-entry
-returns-clause-entry g c =
-    let ch = changed_by (Past c.args.index) (Sets c.args.index c.args.keep) c.args.cluster c.args.self.now.l2 c.change.new.self c.change.result c.change.ensures.changes c.in_ok-old_data.old_data c.in_ok-old_data.was in
-    rw ch.is (if_some _ (value_at (eqb c.args.cluster) c.args.self.now.l2.entries) ch.before ch.found (λ inside. entry_set c.args.self.now c.args.cluster ch.after c.one_more-self.result c.one_more-self.ensures ch.found ch.by))
-
-pub returns-clause-zeroed : goal.returns-clause-zeroed
-returns-clause-zeroed g c =
-    λ h p on_storage i sound at own there.
-    let ch = changed_by (Past c.args.index) (Sets c.args.index c.args.keep) c.args.cluster c.args.self.now.l2 c.change.new.self c.change.result c.change.ensures.changes c.in_ok-old_data.old_data c.in_ok-old_data.was in
-    let covers = covers_known h p on_storage c.args.self.now sound c.args.cluster c.args.index ch.before ch.found i at in
-    rw ch.is (entry_made_so c.args.self.now c.args.cluster ch.after c.one_more-self.result c.one_more-self.ensures ch.found ch.by h p on_storage i sound at own _ (ap (λ (m : L2Mapping). zero_entry (if c.args.keep then copied_host m else None)) covers))
-
-pub returns-clause-refused : goal.returns-clause-refused
-returns-clause-refused g c = λ refused.
-    let ch = changed_by (Past c.args.index) (Sets c.args.index c.args.keep) c.args.cluster c.args.self.now.l2 c.change.new.self c.change.result c.change.ensures.changes c.in_ok-old_data.old_data c.in_ok-old_data.was in
-    let past = subst (λ (o : Option L2TableView). IfSome o (Past c.args.index)) ch.found refused in let inside = ch.by.inside in absurd (omega arith)
-
-pub returns-in_err-old_data-clause-step : goal.returns-in_err-old_data-clause-step
-returns-in_err-old_data-clause-step g c =
+pub returns-in_err-old_data : goal.returns-in_err-old_data
+returns-in_err-old_data g c =
     let left = stays (Past c.args.index) (Sets c.args.index c.args.keep) c.args.cluster c.args.self.now.l2 c.change.new.self c.change.result c.change.ensures.changes c.in_err-old_data.was in
-    rw left.0 held_none
-
-pub returns-in_err-old_data-clause-apart : goal.returns-in_err-old_data-clause-apart
-returns-in_err-old_data-clause-apart g c =
-    let left = stays (Past c.args.index) (Sets c.args.index c.args.keep) c.args.cluster c.args.self.now.l2 c.change.new.self c.change.result c.change.ensures.changes c.in_err-old_data.was in
-    rw left.0 (table_stays_apart c.args.self.now c.args.cluster c.change.ensures.distinct)
-
-pub returns-in_err-old_data-clause-entry : goal.returns-in_err-old_data-clause-entry
-returns-in_err-old_data-clause-entry g c =
-    let left = stays (Past c.args.index) (Sets c.args.index c.args.keep) c.args.cluster c.args.self.now.l2 c.change.new.self c.change.result c.change.ensures.changes c.in_err-old_data.was in
-    if_some_then (Past c.args.index) _ (value_at (eqb c.args.cluster) c.args.self.now.l2.entries) left.1 (λ t past inside. absurd (omega arith))
-
-pub returns-in_err-old_data-clause-zeroed : goal.returns-in_err-old_data-clause-zeroed
-returns-in_err-old_data-clause-zeroed g c = λ h p on_storage i sound at own there.
-    let left = stays (Past c.args.index) (Sets c.args.index c.args.keep) c.args.cluster c.args.self.now.l2 c.change.new.self c.change.result c.change.ensures.changes c.in_err-old_data.was in
-    absurd (entry_there c.args.self.now c.args.cluster (Past c.args.index) c.args.index h p on_storage i sound at there left.1 (λ t inside bits past. omega arith))
-
-pub returns-in_err-old_data-clause-recorded : goal.returns-in_err-old_data-clause-recorded
-returns-in_err-old_data-clause-recorded g c = λ h p on_storage i sound at there.
-    let left = stays (Past c.args.index) (Sets c.args.index c.args.keep) c.args.cluster c.args.self.now.l2 c.change.new.self c.change.result c.change.ensures.changes c.in_err-old_data.was in
-    absurd (entry_there c.args.self.now c.args.cluster (Past c.args.index) c.args.index h p on_storage i sound at there left.1 (λ t inside bits past. omega arith))
-
-pub returns-in_err-old_data-clause-refused : goal.returns-in_err-old_data-clause-refused
-returns-in_err-old_data-clause-refused g c = λ refused.
-    let left = stays (Past c.args.index) (Sets c.args.index c.args.keep) c.args.cluster c.args.self.now.l2 c.change.new.self c.change.result c.change.ensures.changes c.in_err-old_data.was in
-    (c.from_residual.ensures, rw left.0 refl)
+    record {
+      step = rw left.0 held_none;
+      zeroed = λ h p on_storage i sound at own there. absurd (entry_there c.args.self.now c.args.cluster (Past c.args.index) c.args.index h p on_storage i sound at there left.1 (λ t inside bits past. omega arith));
+      recorded = λ h p on_storage i sound at there. absurd (entry_there c.args.self.now c.args.cluster (Past c.args.index) c.args.index h p on_storage i sound at there left.1 (λ t inside bits past. omega arith));
+      entry = if_some_then (Past c.args.index) _ (value_at (eqb c.args.cluster) c.args.self.now.l2.entries) left.1 (λ t past inside. absurd (omega arith));
+      apart = rw left.0 (table_stays_apart c.args.self.now c.args.cluster c.change.ensures.distinct);
+      refused = λ refused. (c.from_residual.ensures, rw left.0 refl);
+    }

@@ -17,58 +17,39 @@ Refuses index b = index < counts_of b → count_at b index + 1 ≡ count_limit b
 abbrev Sets : ℕ → RefBlockView → Unit {0} → RefBlockView → Type 0
 Sets index b _ w = (count_at b index + 1 < count_limit b) × SetsTableCount b index (count_at b index + 1) w
 
-pub returns-in_default-clause-step : goal.returns-in_default-clause-step
-returns-in_default-clause-step g c =
+pub returns-in_default : goal.returns-in_default
+returns-in_default g c =
     let left = stays (Refuses c.args.index) (Sets c.args.index) c.args.cluster c.args.self.now.rb c.change.new.self c.change.result c.change.ensures.changes c.in_default.is in
-    rw left.0 held_none
+    record {
+      step = rw left.0 held_none;
+      sound = rw left.0 (record {
+        counted = λ bad. never bad;
+        made = λ h p on_storage k sound at there counted.
+            absurd (count_there c.args.self.now c.args.cluster (Refuses c.args.index) c.args.index h p on_storage k sound at there left.1 (λ b inside is refused. not_full b.refcount_order (count_at b c.args.index) (sym is ∙ counted) (refused inside)));
+        apart = block_stays_apart c.args.self.now c.args.cluster c.change.ensures.distinct;
+      });
+      counts = left.1;
+      recorded = λ bad. never bad;
+      refused = λ _. rw left.0 refl;
+      missing = λ _. refl;
+    }
 
-pub returns-in_default-clause-sound : goal.returns-in_default-clause-sound
-returns-in_default-clause-sound g c =
-    let left = stays (Refuses c.args.index) (Sets c.args.index) c.args.cluster c.args.self.now.rb c.change.new.self c.change.result c.change.ensures.changes c.in_default.is in
-    rw left.0 (record {
-      counted = λ bad. never bad;
-      made = λ h p on_storage k sound at there counted.
-          absurd (count_there c.args.self.now c.args.cluster (Refuses c.args.index) c.args.index h p on_storage k sound at there left.1 (λ b inside is refused. not_full b.refcount_order (count_at b c.args.index) (sym is ∙ counted) (refused inside)));
-      apart = block_stays_apart c.args.self.now c.args.cluster c.change.ensures.distinct;
-    })
-
-pub returns-in_default-clause-counts : goal.returns-in_default-clause-counts
-returns-in_default-clause-counts g c =
-    let left = stays (Refuses c.args.index) (Sets c.args.index) c.args.cluster c.args.self.now.rb c.change.new.self c.change.result c.change.ensures.changes c.in_default.is in
-    left.1
-
-pub returns-in_default-clause-refused : goal.returns-in_default-clause-refused
-returns-in_default-clause-refused g c = λ _.
-    let left = stays (Refuses c.args.index) (Sets c.args.index) c.args.cluster c.args.self.now.rb c.change.new.self c.change.result c.change.ensures.changes c.in_default.is in
-    rw left.0 refl
-
-pub returns-clause-step : goal.returns-clause-step
-returns-clause-step g c =
+pub returns : goal.returns
+returns g c =
     let ch = changed_by (Refuses c.args.index) (Sets c.args.index) c.args.cluster c.args.self.now.rb c.change.new.self c.change.result c.change.ensures.changes _ c.in-Some.is in
-    rw ch.is (count_step c.args.self.now c.args.cluster ch.after c.one_more-self.result c.one_more-self.ensures)
-
-pub returns-clause-sound : goal.returns-clause-sound
-returns-clause-sound g c =
-    let ch = changed_by (Refuses c.args.index) (Sets c.args.index) c.args.cluster c.args.self.now.rb c.change.new.self c.change.result c.change.ensures.changes _ c.in-Some.is in
-    let is = ch.by.1.same in
-    rw ch.is (record {
-      counted = λ _ h p on_storage k sound at free.
-          raised h p on_storage c.args.self.now sound c.args.cluster c.args.index ch.before ch.found k at ch.after (ap (λ (b : RefBlockView). b.is_modified) is) (ap (λ (b : RefBlockView). b.cluster_bits) is) (ap (λ (b : RefBlockView). b.refcount_order) is)
-          (count_after c.args.self.now c.args.cluster ch.after c.one_more-self.result c.one_more-self.ensures) refl refl refl ch.by.1.counted free;
-      made = λ h p on_storage k sound at there counted. refl;
-      apart = count_apart c.args.self.now c.args.cluster ch.after c.one_more-self.result c.one_more-self.ensures c.change.ensures.distinct;
-    })
-
-pub returns-clause-counts : goal.returns-clause-counts
-returns-clause-counts g c =
-    let ch = changed_by (Refuses c.args.index) (Sets c.args.index) c.args.cluster c.args.self.now.rb c.change.new.self c.change.result c.change.ensures.changes _ c.in-Some.is in
-    rw ch.is (if_some _ (value_at (eqb c.args.cluster) c.args.self.now.rb.entries) ch.before ch.found (ch.by.1.inside, ch.by.0, count_set c.args.self.now c.args.cluster ch.after c.one_more-self.result c.one_more-self.ensures ch.found ch.by.1))
-
-pub returns-clause-recorded : goal.returns-clause-recorded
-returns-clause-recorded g c = λ _.
-    c.one_more-self.ensures
-
-pub returns-clause-missing : goal.returns-clause-missing
-returns-clause-missing g c = λ none.
-    let ch = changed_by (Refuses c.args.index) (Sets c.args.index) c.args.cluster c.args.self.now.rb c.change.new.self c.change.result c.change.ensures.changes _ c.in-Some.is in
-    let bad = subst (λ (o : Option RefBlockView). IsNone o) ch.found none in cc
+    record {
+      step = rw ch.is (count_step c.args.self.now c.args.cluster ch.after c.one_more-self.result c.one_more-self.ensures);
+      sound =
+          let is = ch.by.1.same in
+          rw ch.is (record {
+            counted = λ _ h p on_storage k sound at free.
+                raised h p on_storage c.args.self.now sound c.args.cluster c.args.index ch.before ch.found k at ch.after (ap (λ (b : RefBlockView). b.is_modified) is) (ap (λ (b : RefBlockView). b.cluster_bits) is) (ap (λ (b : RefBlockView). b.refcount_order) is)
+                (count_after c.args.self.now c.args.cluster ch.after c.one_more-self.result c.one_more-self.ensures) refl refl refl ch.by.1.counted free;
+            made = λ h p on_storage k sound at there counted. refl;
+            apart = count_apart c.args.self.now c.args.cluster ch.after c.one_more-self.result c.one_more-self.ensures c.change.ensures.distinct;
+          });
+      counts = rw ch.is (if_some _ (value_at (eqb c.args.cluster) c.args.self.now.rb.entries) ch.before ch.found (ch.by.1.inside, ch.by.0, count_set c.args.self.now c.args.cluster ch.after c.one_more-self.result c.one_more-self.ensures ch.found ch.by.1));
+      recorded = λ _. c.one_more-self.ensures;
+      refused = λ bad. absurd cc;
+      missing = λ none. let bad = subst (λ (o : Option RefBlockView). IsNone o) ch.found none in cc;
+    }

@@ -35,46 +35,28 @@ returns-in_err-left-clause-refused g c = λ _.
     let left = stays (Refuses c.args.index) (Sets c.args.index) c.args.cluster c.args.self.now.rb c.change.new.self c.change.result c.change.ensures.changes c.in_err-left.was in
     rw left.0 refl
 
-pub returns-clause-step : goal.returns-clause-step
-returns-clause-step g c =
+pub returns : goal.returns
+returns g c =
     let ch = changed_by (Refuses c.args.index) (Sets c.args.index) c.args.cluster c.args.self.now.rb c.change.new.self c.change.result c.change.ensures.changes c.in_ok-left.left c.in_ok-left.was in
-    rw ch.is (count_step c.args.self.now c.args.cluster ch.after c.one_more-self.result c.one_more-self.ensures)
-
-pub returns-clause-sound : goal.returns-clause-sound
-returns-clause-sound g c =
-    let ch = changed_by (Refuses c.args.index) (Sets c.args.index) c.args.cluster c.args.self.now.rb c.change.new.self c.change.result c.change.ensures.changes c.in_ok-left.left c.in_ok-left.was in
-    let is = ch.by.1.same in
-    let fewer = subst (ChangesCount ch.before.refcount_order ch.before.bytes ch.after.bytes c.args.index) (one_less (count_at ch.before c.args.index) c.in_ok-left.left ch.by.0) ch.by.1.counted in
-    rw ch.is (record {
-      counted = λ _ h p on_storage k sound at.
-          lowered h p on_storage c.args.self.now sound c.args.cluster c.args.index ch.before ch.found k at ch.after (ap (λ (b : RefBlockView). b.is_modified) is) (ap (λ (b : RefBlockView). b.cluster_bits) is) (ap (λ (b : RefBlockView). b.refcount_order) is)
-          (count_after c.args.self.now c.args.cluster ch.after c.one_more-self.result c.one_more-self.ensures) refl refl refl fewer (one_above (count_at ch.before c.args.index) c.in_ok-left.left ch.by.0);
-      made = λ h p on_storage k sound at there counted. refl;
-      apart = count_apart c.args.self.now c.args.cluster ch.after c.one_more-self.result c.one_more-self.ensures c.change.ensures.distinct;
-    })
-
-pub returns-clause-counts : goal.returns-clause-counts
-returns-clause-counts g c =
-    let ch = changed_by (Refuses c.args.index) (Sets c.args.index) c.args.cluster c.args.self.now.rb c.change.new.self c.change.result c.change.ensures.changes c.in_ok-left.left c.in_ok-left.was in
-    rw ch.is (if_some _ (value_at (eqb c.args.cluster) c.args.self.now.rb.entries) ch.before ch.found (ch.by.1.inside, ch.by.0, count_set c.args.self.now c.args.cluster ch.after c.one_more-self.result c.one_more-self.ensures ch.found ch.by.1))
-
-pub returns-clause-left : goal.returns-clause-left
-returns-clause-left g c =
-    let ch = changed_by (Refuses c.args.index) (Sets c.args.index) c.args.cluster c.args.self.now.rb c.change.new.self c.change.result c.change.ensures.changes c.in_ok-left.left c.in_ok-left.was in
-    let set = count_set c.args.self.now c.args.cluster ch.after c.one_more-self.result c.one_more-self.ensures ch.found ch.by.1 in
-    rw ch.is (λ h p on_storage k sound at.
-    count_is h p on_storage (count_after c.args.self.now c.args.cluster ch.after c.one_more-self.result c.one_more-self.ensures) sound c.args.cluster c.args.index (changed_block ch.before set.count.bytes) set.count.here k at ∙ set.count.change.count_is)
-
-pub returns-clause-recorded : goal.returns-clause-recorded
-returns-clause-recorded g c = λ _.
-    c.one_more-self.ensures
-
-pub returns-clause-cached : goal.returns-clause-cached
-returns-clause-cached g c = λ _.
-    let ch = changed_by (Refuses c.args.index) (Sets c.args.index) c.args.cluster c.args.self.now.rb c.change.new.self c.change.result c.change.ensures.changes c.in_ok-left.left c.in_ok-left.was in
-    rw ch.is (still_new_data c.args.cluster c.args.self.now.rb.entries ch.before ch.after ch.found)
-
-pub returns-clause-missing : goal.returns-clause-missing
-returns-clause-missing g c = λ none.
-    let ch = changed_by (Refuses c.args.index) (Sets c.args.index) c.args.cluster c.args.self.now.rb c.change.new.self c.change.result c.change.ensures.changes c.in_ok-left.left c.in_ok-left.was in
-    let bad = subst (λ (o : Option RefBlockView). IsNone o) ch.found none in cc
+    record {
+      step = rw ch.is (count_step c.args.self.now c.args.cluster ch.after c.one_more-self.result c.one_more-self.ensures);
+      sound =
+          let is = ch.by.1.same in
+          let fewer = subst (ChangesCount ch.before.refcount_order ch.before.bytes ch.after.bytes c.args.index) (one_less (count_at ch.before c.args.index) c.in_ok-left.left ch.by.0) ch.by.1.counted in
+          rw ch.is (record {
+            counted = λ _ h p on_storage k sound at.
+                lowered h p on_storage c.args.self.now sound c.args.cluster c.args.index ch.before ch.found k at ch.after (ap (λ (b : RefBlockView). b.is_modified) is) (ap (λ (b : RefBlockView). b.cluster_bits) is) (ap (λ (b : RefBlockView). b.refcount_order) is)
+                (count_after c.args.self.now c.args.cluster ch.after c.one_more-self.result c.one_more-self.ensures) refl refl refl fewer (one_above (count_at ch.before c.args.index) c.in_ok-left.left ch.by.0);
+            made = λ h p on_storage k sound at there counted. refl;
+            apart = count_apart c.args.self.now c.args.cluster ch.after c.one_more-self.result c.one_more-self.ensures c.change.ensures.distinct;
+          });
+      counts = rw ch.is (if_some _ (value_at (eqb c.args.cluster) c.args.self.now.rb.entries) ch.before ch.found (ch.by.1.inside, ch.by.0, count_set c.args.self.now c.args.cluster ch.after c.one_more-self.result c.one_more-self.ensures ch.found ch.by.1));
+      left =
+          let set = count_set c.args.self.now c.args.cluster ch.after c.one_more-self.result c.one_more-self.ensures ch.found ch.by.1 in
+          rw ch.is (λ h p on_storage k sound at.
+          count_is h p on_storage (count_after c.args.self.now c.args.cluster ch.after c.one_more-self.result c.one_more-self.ensures) sound c.args.cluster c.args.index (changed_block ch.before set.count.bytes) set.count.here k at ∙ set.count.change.count_is);
+      recorded = λ _. c.one_more-self.ensures;
+      refused = λ none. absurd cc;
+      cached = λ _. rw ch.is (still_new_data c.args.cluster c.args.self.now.rb.entries ch.before ch.after ch.found);
+      missing = λ none. let bad = subst (λ (o : Option RefBlockView). IsNone o) ch.found none in cc;
+    }

@@ -9,26 +9,24 @@ Past index b = counts_of b < index
 abbrev Finds : ℕ → RefBlockView → ℕ → RefBlockView → Type 0
 Finds index b a w = IsFirstZero b index a × (w ≡ b)
 
-pub returns-in-Some-clause-used : goal.returns-in-Some-clause-used
-returns-in-Some-clause-used g c = λ h p on_storage k i sound at low high zero.
-    let ch = changed_by (Past c.args.index) (Finds c.args.index) c.args.cluster c.args.self.now.rb c.change.new.self c.change.result c.change.ensures.changes c.in-Some.first c.in-Some.is in
-    let first = ch.by.0 in
-    let less = c.saturating_sub.ensures in
-    first.above i low (omega (arith, low, high, less)) (sym (count_is h p on_storage c.args.self.now sound c.args.cluster i ch.before ch.found k at) ∙ zero)
-
-pub returns-in-Some-clause-first : goal.returns-in-Some-clause-first
-returns-in-Some-clause-first g c =
-    let ch = changed_by (Past c.args.index) (Finds c.args.index) c.args.cluster c.args.self.now.rb c.change.new.self c.change.result c.change.ensures.changes c.in-Some.first c.in-Some.is in
-    let first = ch.by.0 in
-    let behind = first.behind in
-    let less = c.saturating_sub.ensures in
-    let at : c.in-Some.first ≡ c.args.index + c.saturating_sub.result = omega (arith, behind, less) in
-    if_some _ (value_at (eqb c.args.cluster) c.args.self.now.rb.entries) ch.before ch.found (λ within. subst (IsFirstZero ch.before c.args.index) at first)
-
-pub returns-in-Some-clause-same : goal.returns-in-Some-clause-same
-returns-in-Some-clause-same g c =
-    let ch = changed_by (Past c.args.index) (Finds c.args.index) c.args.cluster c.args.self.now.rb c.change.new.self c.change.result c.change.ensures.changes c.in-Some.first c.in-Some.is in
-    rw (unchanged_by (Past c.args.index) (Finds c.args.index) c.args.cluster c.args.self.now.rb c.change.new.self c.change.result ch ch.by.1) refl
+pub returns-in-Some : goal.returns-in-Some
+returns-in-Some g c = record {
+  used = λ h p on_storage k i sound at low high zero.
+      let ch = changed_by (Past c.args.index) (Finds c.args.index) c.args.cluster c.args.self.now.rb c.change.new.self c.change.result c.change.ensures.changes c.in-Some.first c.in-Some.is in
+      let first = ch.by.0 in
+      let less = c.saturating_sub.ensures in
+      first.above i low (omega (arith, low, high, less)) (sym (count_is h p on_storage c.args.self.now sound c.args.cluster i ch.before ch.found k at) ∙ zero);
+  first =
+      let ch = changed_by (Past c.args.index) (Finds c.args.index) c.args.cluster c.args.self.now.rb c.change.new.self c.change.result c.change.ensures.changes c.in-Some.first c.in-Some.is in
+      let first = ch.by.0 in
+      let behind = first.behind in
+      let less = c.saturating_sub.ensures in
+      let at : c.in-Some.first ≡ c.args.index + c.saturating_sub.result = omega (arith, behind, less) in
+      if_some _ (value_at (eqb c.args.cluster) c.args.self.now.rb.entries) ch.before ch.found (λ within. subst (IsFirstZero ch.before c.args.index) at first);
+  same =
+      let ch = changed_by (Past c.args.index) (Finds c.args.index) c.args.cluster c.args.self.now.rb c.change.new.self c.change.result c.change.ensures.changes c.in-Some.first c.in-Some.is in
+      rw (unchanged_by (Past c.args.index) (Finds c.args.index) c.args.cluster c.args.self.now.rb c.change.new.self c.change.result ch ch.by.1) refl;
+}
 
 pub returns-in-None-clause-first : goal.returns-in-None-clause-first
 returns-in-None-clause-first g c =
