@@ -1,6 +1,6 @@
 use Rattle.std.proofs.Common.{◌/◌, ◌^◌, sym, ap, subst, arith, ◌∙◌, Result, refl, Ok, IfErr}
 use Rattle.qcow2_alloc.proofs.Common.{Pending, counts_per_block, GrowsTable, pending_then, KeepsNoFreeBelowHint, KeepsUsed, IsUsed, CantCount, IsFaultOr, IsHostCluster, entry_count, ImageError}
-use Rattle.qcow2_alloc.proofs.Lemmas.{has_some, handed_on, is_sound_on, on_none, listed_after_same, grows_none, grows_on, header_counts, header_bits, has_entries, hint_used, ok_as, range_as, uses_got, uses_then, hint_or_interruption, fault_or, grown_why, not_below, entries_none, lists_used_none, lists_used_one, lists_used_still, fails_on, fails_since, step_on, step_then, step_grown, step_none, fails_by, limit_other, former_none, former_one, former_still}
+use Rattle.qcow2_alloc.proofs.Lemmas.{fails_ok, has_some, handed_on, is_sound_on, on_none, listed_after_same, grows_none, grows_on, header_counts, header_bits, has_entries, hint_used, ok_as, range_as, uses_got, uses_then, hint_or_interruption, fault_or, grown_why, not_below, entries_none, lists_used_none, lists_used_one, lists_used_still, fails_on, fails_since, step_on, step_then, step_grown, step_none, fails_by, limit_other, former_none, former_one, former_still}
 use Rattle.qcow2_alloc.specs.declared.error.ImageError.TheVariants as I
 use Rattle.qcow2_alloc.proofs.allocation.Allocator.ensure_refblock.Goals as goal
 
@@ -89,38 +89,32 @@ returns-clause-sound g c = λ p sound.
           (subst (λ n. IsHostCluster n c.args.cluster) (sym (header_bits c.args.file.now.header c.grow_reftable.new.file.header c.grow_reftable.ensures.step.header)) near));
     }
 
-pub returns-then-not-lacks_block-clause-step : goal.returns-then-not-lacks_block-clause-step
-returns-then-not-lacks_block-clause-step g c = step_none
+pub returns-then-not-lacks_block : goal.returns-then-not-lacks_block
+returns-then-not-lacks_block g c = record {
+  step = step_none;
+  sound = λ p sound.
+      record {
+        reaches = subst (λ (q : Pending). GrowsTable g.S.Storage.view p c.args.file.now c.args.self.now c.args.file.now q (Ok tt)) (sym (listed_after_same p c.args.file.now.free_list c.args.file.now.free_list refl))
+            (on_none g.S.Storage.view p c.args.file.now c.args.self.now sound);
+        leaks = refl;
+        listed = lists_used_none g.S.Storage.view c.args.file.now c.args.file.now refl;
+        uses = λ k used. used;
+        hint = λ hint. hint;
+        limit = λ _ _. tt;
+      };
+  fails = fails_ok refl;
+  has =
+      range_as c.args.self.now.reftable c.args.cluster (2 ^ c.rb_bits.result) (counts_per_block c.args.file.now.header.fields) c.rb_bits.ensures.counts
+      (has_some c.args.self.now.reftable (c.args.cluster / 2 ^ c.rb_bits.result) (sym c.lacks_block.ensures ∙ c.if-not-lacks_block.true));
+  named = λ within. entries_none _ c.args.self.now.reftable;
+}
 
-pub returns-then-not-lacks_block-clause-has : goal.returns-then-not-lacks_block-clause-has
-returns-then-not-lacks_block-clause-has g c =
-    range_as c.args.self.now.reftable c.args.cluster (2 ^ c.rb_bits.result) (counts_per_block c.args.file.now.header.fields) c.rb_bits.ensures.counts
-    (has_some c.args.self.now.reftable (c.args.cluster / 2 ^ c.rb_bits.result) (sym c.lacks_block.ensures ∙ c.if-not-lacks_block.true))
-
-pub returns-then-not-lacks_block-clause-named : goal.returns-then-not-lacks_block-clause-named
-returns-then-not-lacks_block-clause-named g c = λ within. entries_none _ c.args.self.now.reftable
-
-pub returns-then-not-lacks_block-clause-sound : goal.returns-then-not-lacks_block-clause-sound
-returns-then-not-lacks_block-clause-sound g c = λ p sound.
-    record {
-      reaches = subst (λ (q : Pending). GrowsTable g.S.Storage.view p c.args.file.now c.args.self.now c.args.file.now q (Ok tt)) (sym (listed_after_same p c.args.file.now.free_list c.args.file.now.free_list refl))
-          (on_none g.S.Storage.view p c.args.file.now c.args.self.now sound);
-      leaks = refl;
-      listed = lists_used_none g.S.Storage.view c.args.file.now c.args.file.now refl;
-      uses = λ k used. used;
-      hint = λ hint. hint;
-      limit = λ _ _. tt;
-    }
-
-pub returns-then-entries-eq0-clause-step : goal.returns-then-entries-eq0-clause-step
-returns-then-entries-eq0-clause-step g c = step_none
-
-pub returns-then-entries-eq0-clause-fails : goal.returns-then-entries-eq0-clause-fails
-returns-then-entries-eq0-clause-fails g c = fails_by I.Limit limit_other refl tt
-
-pub returns-then-entries-eq0-clause-named : goal.returns-then-entries-eq0-clause-named
-returns-then-entries-eq0-clause-named g c = λ within. entries_none _ c.args.self.now.reftable
-
-pub returns-then-entries-eq0-clause-sound : goal.returns-then-entries-eq0-clause-sound
-returns-then-entries-eq0-clause-sound g c = λ p sound.
-    absurd (let some = has_entries g.S.Storage.view p c.args.file.now c.args.self.now.reftable sound.sound sound.reftable in let count = c.len-entries.ensures.value in let none = c.if-entries-eq0.true in omega (arith, some, count, none))
+pub returns-then-entries-eq0 : goal.returns-then-entries-eq0
+returns-then-entries-eq0 g c = record {
+  step = step_none;
+  sound = λ p sound.
+      absurd (let some = has_entries g.S.Storage.view p c.args.file.now c.args.self.now.reftable sound.sound sound.reftable in let count = c.len-entries.ensures.value in let none = c.if-entries-eq0.true in omega (arith, some, count, none));
+  fails = fails_by I.Limit limit_other refl tt;
+  has = tt;
+  named = λ within. entries_none _ c.args.self.now.reftable;
+}

@@ -13,13 +13,30 @@ in_range cluster k per low within =
       sym (ap (λ n. n % per) is ∙ mod-mul-add (cluster / per) per (cluster % per + (k - cluster)) within),
     )
 
-pub returns-in_err-block-clause-sound : goal.returns-in_err-block-clause-sound
-returns-in_err-block-clause-sound g c = λ p sound.
-    handed_on (PassesKnown g.S.Storage.view p c.args.self.now c.args.file.now c.args.self.now c.load_block.new.file c.args.cluster)
-    c.from_residual.result c.in_err-block.field-0.0 c.from_residual.ensures (c.in_err-block.ensures.sound p sound)
+pub returns-in_err-block : goal.returns-in_err-block
+returns-in_err-block g c = record {
+  step = c.load_block.ensures.step;
+  sound = λ p sound.
+      handed_on (PassesKnown g.S.Storage.view p c.args.self.now c.args.file.now c.args.self.now c.load_block.new.file c.args.cluster)
+      c.from_residual.result c.in_err-block.field-0.0 c.from_residual.ensures (c.in_err-block.ensures.sound p sound);
+  fails = fails_on c.from_residual.result c.in_err-block.field-0.0 c.from_residual.ensures c.in_err-block.ensures.fails;
+  behind = if_no_ok _ c.from_residual.result c.in_err-block.field-0.0 c.from_residual.ensures;
+  far = if_no_ok _ c.from_residual.result c.in_err-block.field-0.0 c.from_residual.ensures;
+}
 
-pub returns-in_default-clause-sound : goal.returns-in_default-clause-sound
-returns-in_default-clause-sound g c = λ p sound. ((c.in_ok-block.ensures.sound p sound).0, λ hint k low high. absurd (omega (arith, low, high)))
+pub returns-in_default : goal.returns-in_default
+returns-in_default g c = record {
+  step = c.load_block.ensures.step;
+  sound = λ p sound. ((c.in_ok-block.ensures.sound p sound).0, λ hint k low high. absurd (omega (arith, low, high)));
+  fails = fails_ok c.in_ok-block.ensures.fails.told;
+  behind = omega arith;
+  far =
+      inl (inl (
+        refl,
+        subst (λ n. HasNone c.args.self.now.reftable (c.args.cluster / n)) (sym c.rb_bits-bits.ensures.counts)
+            (none_named c.args.file.now.header.fields c.args.self.now.reftable (c.args.cluster / 2 ^ c.rb_bits-bits.result) c.in_ok-block.field-0 (ap is_some c.in_default.is) c.in_ok-block.ensures.finds.names),
+      ));
+}
 
 pub returns-clause-sound : goal.returns-clause-sound
 returns-clause-sound g c = λ p sound.
@@ -37,18 +54,6 @@ returns-clause-sound g c = λ p sound.
           let at = counted_at g.S.Storage.view c.load_block.new.file c.args.file.now.header.fields (ap (λ x. x.fields) c.load_block.ensures.step.header) k _ c.in-Some.block (k % 2 ^ bits) bits l.1 c.rb_bits-bits.ensures.counts place.0 refl in
           c.rb_used_from-used.ensures.used c.load_block.new.file.header.fields p (contents_in g.S.Storage.view c.load_block.new.file) k (k % 2 ^ bits) l.0.file_step.sound.caches at (omega (arith, index, moved)) (omega (arith, low, high, index, least, moved)),
     ))
-
-pub returns-in_err-block-clause-step : goal.returns-in_err-block-clause-step
-returns-in_err-block-clause-step g c = c.load_block.ensures.step
-
-pub returns-in_err-block-clause-fails : goal.returns-in_err-block-clause-fails
-returns-in_err-block-clause-fails g c = fails_on c.from_residual.result c.in_err-block.field-0.0 c.from_residual.ensures c.in_err-block.ensures.fails
-
-pub returns-in_default-clause-step : goal.returns-in_default-clause-step
-returns-in_default-clause-step g c = c.load_block.ensures.step
-
-pub returns-in_default-clause-fails : goal.returns-in_default-clause-fails
-returns-in_default-clause-fails g c = fails_ok c.in_ok-block.ensures.fails.told
 
 -- it goes on at the first count of 0 of its refblock, or where the next range begins
 goes_far : {S : Type 0} (h : HeaderFields) (reftable : EntryTableView) (caches : MetadataCaches S) (cluster block index used per next : ℕ) → counts_per_block h ≡ per → index ≡ cluster % per → index < per
@@ -77,17 +82,6 @@ goes_far h reftable caches cluster block index used per next counts at low names
   where
     ends : (q per : ℕ) → 0 < per → (q * per + per) % per ≡ 0
     ends q per some = let e : q * per + per ≡ (q + 1) * per + 0 = omega arith in ap (λ n. n % per) e ∙ mod-mul-add (q + 1) per 0 some
-
-pub returns-in_err-block-clause-far : goal.returns-in_err-block-clause-far
-returns-in_err-block-clause-far g c = if_no_ok _ c.from_residual.result c.in_err-block.field-0.0 c.from_residual.ensures
-
-pub returns-in_default-clause-far : goal.returns-in_default-clause-far
-returns-in_default-clause-far g c =
-    inl (inl (
-      refl,
-      subst (λ n. HasNone c.args.self.now.reftable (c.args.cluster / n)) (sym c.rb_bits-bits.ensures.counts)
-          (none_named c.args.file.now.header.fields c.args.self.now.reftable (c.args.cluster / 2 ^ c.rb_bits-bits.result) c.in_ok-block.field-0 (ap is_some c.in_default.is) c.in_ok-block.ensures.finds.names),
-    ))
 
 pub returns-clause-far : goal.returns-clause-far
 returns-clause-far g c =
