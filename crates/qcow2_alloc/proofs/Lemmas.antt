@@ -30,7 +30,7 @@ pub use Rattle.qcow2_alloc.proofs.KeptTables.Fetching.{none_or_some, table_got, 
 pub use Rattle.qcow2_alloc.proofs.KeptTables.Flushing.{blocks_written, tables_written}
 pub use Rattle.qcow2_alloc.proofs.KeptTables.Getting.{cluster_aligned}
 pub use Rattle.qcow2_alloc.proofs.KeptTables.InOrder.{order_then, table_put_in_order, block_put_in_order}
-pub use Rattle.qcow2_alloc.proofs.KeptTables.Inserting.{if_some, table_put, l2_taken, taken_at_last, block_put, rb_taken}
+pub use Rattle.qcow2_alloc.proofs.KeptTables.Inserting.{if_some, l2_taken, taken_at_last, rb_taken}
 pub use Rattle.qcow2_alloc.proofs.KeptTables.Loaded.{loaded_beside}
 pub use Rattle.qcow2_alloc.proofs.KeptTables.Mapping.{bits_is, covers_known}
 pub use Rattle.qcow2_alloc.proofs.KeptTables.Named.{AreCurrentIn, loaded_named, current_none}

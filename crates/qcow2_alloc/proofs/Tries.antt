@@ -19,10 +19,10 @@ use Rattle.qcow2_alloc.proofs.KeptTables.BehindHeader.{table_got_behind, block_g
 use Rattle.qcow2_alloc.proofs.KeptTables.Causes.{TableLoads, BlockLoads, TablePuts, BlockPuts, not_fetched, not_put, table_load_refused, block_load_refused, table_put_refused, block_put_refused}
 use Rattle.qcow2_alloc.proofs.KeptTables.Fetching.{table_got, block_got}
 use Rattle.qcow2_alloc.proofs.KeptTables.InOrder.{order_then, table_got_in_order, block_got_in_order, table_put_in_order, block_put_in_order}
-use Rattle.qcow2_alloc.proofs.KeptTables.Inserting.{IsTakenOrKept, if_some, table_put, l2_taken, block_put, rb_taken}
+use Rattle.qcow2_alloc.proofs.KeptTables.Inserting.{IsTakenOrKept, if_some, l2_taken, rb_taken}
 use Rattle.qcow2_alloc.proofs.KeptTables.Promoting.{table_promotes, block_promotes}
-use Rattle.qcow2_alloc.proofs.KeptTables.Putting.{table_kept, table_laid}
-use Rattle.qcow2_alloc.proofs.KeptTables.PuttingBlocks.{block_kept, block_laid}
+use Rattle.qcow2_alloc.proofs.KeptTables.Putting.{table_kept, table_put, table_laid}
+use Rattle.qcow2_alloc.proofs.KeptTables.PuttingBlocks.{block_kept, block_put, block_laid}
 use Rattle.qcow2_alloc.proofs.KeptTables.Quiet.{quiet_then, get_quiet, put_quiet, get_waits, put_waits, new_data_not_missing, value_missing, value_clean, none_clean}
 use Rattle.qcow2_alloc.proofs.KeptTables.Switching.{stay_then}
 use Rattle.qcow2_alloc.proofs.Outcomes.{never}

@@ -248,18 +248,9 @@ module _ {S V : Type 0} (view : S → StorageView) (bits : ℕ) (bytes : V → L
         still_holds : (s t : S) (es fs : List (ℕ × Slot V)) → Done s t es fs → Holds s es → Holds t fs
         still_holds s t es fs d holds i lt = holds i lt ∙ ap (λ (m : Bytes). m (k * 2 ^ bits + i)) (sym d.known)
 
-        put_done : (s t : S) (es fs : List (ℕ × Slot V)) (r : Result Bool (CacheError ℕ MetadataError)) → Holds s es → Puts view bits bytes is_modified cleared IsFit unmodified same_bytes P all safety k v s t es fs r → Done s t es fs
+        pub put_done : (s t : S) (es fs : List (ℕ × Slot V)) (r : Result Bool (CacheError ℕ MetadataError)) → Holds s es → Puts view bits bytes is_modified cleared IsFit unmodified same_bytes P all safety k v s t es fs r → Done s t es fs
         put_done s t es fs (Ok true) holds ready =
             subst (λ l. Done s t es l) (sym ready.is) (done_then s t t es ready.rest ((k, slot_of v ready.pins) ∷ ready.rest) ready.done
             (added t ready.pins ready.rest ready.done.honest ready.done.kept ready.away (still_holds s t es ready.rest ready.done holds)))
         put_done s t es fs (Ok false) holds done = done
         put_done s t es fs (Err e) holds done = done
-
-        pub insert_done : (s t : S) (es fs : List (ℕ × Slot V)) (r : Result Bool (CacheError ℕ MetadataError)) (left : Option V) → (view s).is_honest → P (tables es) (contents s) → lookup (eqb k) es ≡ None → Holds s es
-            → InsertsNew (table_steps view bits bytes is_modified cleared IsFit) eqb size may_flush k v s es r t fs left → Done s t es fs
-        insert_done s t es fs r left honest kept missing holds h = put_done s t es fs r holds (insert_put s t es fs r left honest kept missing h)
-
-        pub replace_done : (s t : S) (es : List (ℕ × Slot V)) (e : ℕ × Slot V) (found : lookup_entry (eqb k) es ≡ Some e) (honest : (view s).is_honest) (kept : P (tables es) (contents s))
-            (fs : List (ℕ × Slot V)) (r : Result Bool (CacheError ℕ MetadataError)) (left : Option V) → Holds s es
-            → Replaces (table_steps view bits bytes is_modified cleared IsFit) k e (remove_entry (eqb k) es) v may_flush s es r t fs left → Done s t es fs
-        replace_done s t es e found honest kept fs r left holds h = put_done s t es fs r holds (replace_put s t es e found honest kept fs r left h)

@@ -1,15 +1,7 @@
--- A table is inserted into the caches.
-use Rattle.std.proofs.Common.{◌≡◌, ◌+◌, ◌*◌, ◌<◌, ◌^◌, ◌%◌, ◌∷◌, ℕ, Bool, true, false, eqb, List, Option, Some, None, Result, Ok, Err, arith, refl, sym, ap, ◌∙◌, subst, IfSome}
-use Rattle.qcow2_alloc.proofs.Common.{IsNone, option_map, lookup, lookup_entry, remove_entry, Contains-lookup_entry, nat_tests, StorageView, Bytes, byte_at, HeaderFields, Pending, MetadataError, cluster_size, L2TableView, RefBlockView, CachedTable, known_bytes, BlocksMayGo, TablesMayGo, HasL2, HasBlock, Slot, CacheError, L2CacheBackend, RefBlockCacheBackend, MetadataCaches, ImageStorage, Cache, slot_of, value_at, with_entries, Steps, InsertsNew, Replaces, storage_of, l2_steps, rb_steps, cleared_l2, cleared_rb, IsTableOf, IsBlockOf, cached_tables, AllValuesFit, AreElsewhere, AreKept, HasFormat, order_of, l2_tables, refblocks, CacheInvariant, InternalCacheStep, HoldsKnown}
+-- What a call that puts a table into a cache takes, or keeps.
+use Rattle.std.proofs.Common.{◌≡◌, ◌∷◌, ℕ, Bool, true, false, eqb, List, Option, Some, None, Result, Ok, Err, arith, refl, sym, ap, ◌∙◌, subst, IfSome}
+use Rattle.qcow2_alloc.proofs.Common.{IsNone, option_map, lookup, lookup_entry, remove_entry, Contains-lookup_entry, nat_tests, StorageView, HeaderFields, MetadataError, L2TableView, RefBlockView, Slot, CacheError, L2CacheBackend, RefBlockCacheBackend, MetadataCaches, ImageStorage, Cache, slot_of, value_at, with_entries, Steps, InsertsNew, Replaces, storage_of, l2_steps, rb_steps, IsTableOf, IsBlockOf, HasFormat}
 use Rattle.qcow2_alloc.proofs.CachedEntries.Lists.{lookup-from_entry}
-use Rattle.qcow2_alloc.proofs.KeptTables.BlocksNamed.{named_blocks_beside, named_blocks_anew, blocks_stand, block_place}
-use Rattle.qcow2_alloc.proofs.KeptTables.Standing.{clean_stands, insert_stands, replace_stands}
-use Rattle.qcow2_alloc.proofs.KeptTables.Writing.{crash_safety, Flushed}
-use Rattle.qcow2_alloc.proofs.KeptTables.Entries.{AreDistinct}
-use Rattle.qcow2_alloc.proofs.KeptTables.Fitting.{insert_fits, replace_fits}
-use Rattle.qcow2_alloc.proofs.KeptTables.Listing.{loaded_distinct, l2_drop, l2_add, l2_promote, rb_drop, rb_add, rb_promote}
-use Rattle.qcow2_alloc.proofs.KeptTables.Getting.{HoldsWhatStands, insert_done, replace_done}
-use Rattle.qcow2_alloc.proofs.KeptTables.Flushing.{l2_step, rb_step, table_still, block_still}
 
 pub found_or_not : {X Y : Type 0} (o : Option X) → (o ≡ None → Y) → ((x : X) → o ≡ Some x → Y) → Y
 found_or_not None none some = none refl
@@ -80,42 +72,6 @@ module _ {S : Type 0} (view : S → StorageView) (old new : ImageStorage S) (cac
         (λ e some. taken_place (l2_steps seen caches.l2.backend.header.fields) may_flush key v old new caches.l2.entries l2.entries e (remove_entry (eqb key) caches.l2.entries) answer left
         (Contains-lookup_entry (eqb key) caches.l2.entries e some).1 (rw is at (rw some at there)))
 
-    pub table_put : (may_flush ≡ true → TablesMayGo (order_of caches) (refblocks caches)) → (h : HeaderFields) (p : Pending) → (seen old).is_honest → CacheInvariant h p caches (byte_at (seen old).contents)
-        → IsTableOf h v → v.is_modified ≡ false → HoldsKnown h caches (byte_at (seen old).contents) v.bytes key → InternalCacheStep h p (seen old) caches (seen new) (record caches { l2 = l2 })
-    table_put may h p honest sound fits clean holds =
-        let of_format = table_as caches.l2.backend.header.fields h v sound.l2_format fits in
-        let bits = caches.l2.backend.header.fields.cluster_bits in
-        let P : List CachedTable → Bytes → Type 0 = λ ts on_storage. AreKept h (order_of caches) p ts (refblocks caches) on_storage in
-        let all : List CachedTable → Bytes → Bytes = λ ts on_storage. known_bytes (cluster_size h) ts (refblocks caches) on_storage in
-        let same_backend : l2.backend ≡ caches.l2.backend = ap (λ c. c.backend) others in
-        let distinct : (ts : List CachedTable) (on_storage : Bytes) → P ts on_storage → AreDistinct ts = λ ts on_storage are. loaded_distinct (cluster_size h) (HasL2 h on_storage) on_storage ts are.l2_loaded in
-        let add : (t : CachedTable) (ts : List CachedTable) (on_storage : Bytes) → P ts on_storage → t.place % 2 ^ bits ≡ 0 → AreElsewhere t.place ts → t.is_modified ≡ false → HoldsWhatStands all (2 ^ bits) t ts on_storage
-        → P (t ∷ ts) on_storage × (all (t ∷ ts) on_storage ≡ all ts on_storage) =
-        λ t ts on_storage are aligned away clean current.
-        l2_add h (order_of caches) p (refblocks caches) t ts on_storage are (subst (λ n. t.place % 2 ^ n ≡ 0) sound.l2_format.bits aligned) away clean (subst (λ n. HoldsWhatStands all (2 ^ n) t ts on_storage) sound.l2_format.bits current) in
-        let holds' : (i : ℕ) → i < 2 ^ bits → byte_at v.bytes i ≡ all (l2_tables caches) (byte_at (seen old).contents) (key * 2 ^ bits + i) =
-        subst (λ n. (i : ℕ) → i < 2 ^ n → byte_at v.bytes i ≡ all (l2_tables caches) (byte_at (seen old).contents) (key * 2 ^ n + i)) (sym sound.l2_format.bits) holds in
-        let f : Flushed seen bits (λ (t : L2TableView). t.bytes) (λ t. t.is_modified) cleared_l2 (IsTableOf caches.l2.backend.header.fields) (λ v. refl) (λ v. refl) P all crash_safety old new (l2_tables caches)
-        (cached_tables bits (λ (t : L2TableView). t.bytes) (λ t. t.is_modified) l2.entries) =
-        found_or_not (lookup_entry (eqb key) caches.l2.entries)
-        (λ none. insert_done seen bits (λ (t : L2TableView). t.bytes) (λ t. t.is_modified) cleared_l2 (IsTableOf caches.l2.backend.header.fields) (λ v. refl) (λ v. refl) P all crash_safety distinct (l2_drop h (order_of caches) p (refblocks caches)) add (l2_promote h (order_of caches) p (refblocks caches)) caches.l2.size may_flush
-        (λ flush. l2_step h (order_of caches) p bits sound.l2_format.bits (refblocks caches) (may flush)) key v clean
-        old new caches.l2.entries l2.entries answer left honest sound.kept (lookup_none (eqb key) caches.l2.entries none) holds'
-        (rw is at (missing (rw (lookup_none (eqb key) caches.l2.entries none) refl))))
-        (λ e some. replace_done seen bits (λ (t : L2TableView). t.bytes) (λ t. t.is_modified) cleared_l2 (IsTableOf caches.l2.backend.header.fields) (λ v. refl) (λ v. refl) P all crash_safety distinct (l2_drop h (order_of caches) p (refblocks caches)) add (l2_promote h (order_of caches) p (refblocks caches)) caches.l2.size may_flush
-        (λ flush. l2_step h (order_of caches) p bits sound.l2_format.bits (refblocks caches) (may flush)) key v clean
-        old new caches.l2.entries e some honest sound.kept l2.entries answer left holds' (rw is at (rw some at there))) in
-        let fit : AllValuesFit (IsTableOf caches.l2.backend.header.fields) l2.entries = found_or_not (lookup_entry (eqb key) caches.l2.entries)
-        (λ none. insert_fits seen caches.l2.backend.header.fields.cluster_bits (λ (t : L2TableView). t.bytes) (λ t. t.is_modified) cleared_l2 (IsTableOf caches.l2.backend.header.fields) (table_still caches.l2.backend.header.fields) caches.l2.size may_flush old new key v caches.l2.entries l2.entries answer left (λ _. of_format) sound.l2_fit (rw is at (missing (rw (lookup_none (eqb key) caches.l2.entries none) refl))))
-        (λ e some. replace_fits seen caches.l2.backend.header.fields.cluster_bits (λ (t : L2TableView). t.bytes) (λ t. t.is_modified) cleared_l2 (IsTableOf caches.l2.backend.header.fields) (table_still caches.l2.backend.header.fields) may_flush old new key v caches.l2.entries l2.entries e answer left some (λ _. of_format) sound.l2_fit (rw is at (rw some at there))) in
-        rw same_backend (record {
-          honest = f.honest;
-          sound = record { l2_format = sound.l2_format; rb_format = sound.rb_format; l2_fit = fit; rb_fit = sound.rb_fit; kept = f.kept };
-          known = f.known;
-          named_blocks = named_blocks_beside h (order_of caches) (order_of caches) p p (l2_tables caches) (refblocks caches) (cached_tables bits (λ (t : L2TableView). t.bytes) (λ t. t.is_modified) l2.entries) (refblocks caches) (byte_at (seen old).contents) (byte_at (seen new).contents) sound.kept f.kept f.known;
-          since = f.since;
-        })
-
   -- ---- a refblock
   module _ (rb : Cache (RefBlockCacheBackend S) ℕ RefBlockView) (others : rb ≡ with_entries caches.rb rb.entries) (v : RefBlockView) (value left : Option RefBlockView) (is : value ≡ Some v) (answer : Result Bool (CacheError ℕ MetadataError))
       (there : IfSome (lookup_entry (eqb key) caches.rb.entries) (λ e. IfSome value (λ v.
@@ -130,43 +86,3 @@ module _ {S : Type 0} (view : S → StorageView) (old new : ImageStorage S) (cac
         (rw is at (missing (rw (lookup_none (eqb key) caches.rb.entries none) refl))))
         (λ e some. taken_place (rb_steps seen caches.rb.backend.header.fields) may_flush key v old new caches.rb.entries rb.entries e (remove_entry (eqb key) caches.rb.entries) answer left
         (Contains-lookup_entry (eqb key) caches.rb.entries e some).1 (rw is at (rw some at there)))
-
-    pub block_put : (may_flush ≡ true → BlocksMayGo (order_of caches) (l2_tables caches)) → (h : HeaderFields) (p : Pending) → (seen old).is_honest → CacheInvariant h p caches (byte_at (seen old).contents)
-        → IsBlockOf h v → v.is_modified ≡ false → HoldsKnown h caches (byte_at (seen old).contents) v.bytes key → InternalCacheStep h p (seen old) caches (seen new) (record caches { rb = rb })
-    block_put may h p honest sound fits clean holds =
-        let of_format = block_as caches.rb.backend.header.fields h v sound.rb_format fits in
-        let bits = caches.rb.backend.header.fields.cluster_bits in
-        let P : List CachedTable → Bytes → Type 0 = λ ts on_storage. AreKept h (order_of caches) p (l2_tables caches) ts on_storage in
-        let all : List CachedTable → Bytes → Bytes = λ ts on_storage. known_bytes (cluster_size h) (l2_tables caches) ts on_storage in
-        let same_backend : rb.backend ≡ caches.rb.backend = ap (λ c. c.backend) others in
-        let distinct : (ts : List CachedTable) (on_storage : Bytes) → P ts on_storage → AreDistinct ts = λ ts on_storage are. loaded_distinct (cluster_size h) (HasBlock h on_storage) on_storage ts are.rb_loaded in
-        let add : (t : CachedTable) (ts : List CachedTable) (on_storage : Bytes) → P ts on_storage → t.place % 2 ^ bits ≡ 0 → AreElsewhere t.place ts → t.is_modified ≡ false → HoldsWhatStands all (2 ^ bits) t ts on_storage
-        → P (t ∷ ts) on_storage × (all (t ∷ ts) on_storage ≡ all ts on_storage) =
-        λ t ts on_storage are aligned away clean current.
-        rb_add h (order_of caches) p (l2_tables caches) t ts on_storage are (subst (λ n. t.place % 2 ^ n ≡ 0) sound.rb_format.bits aligned) away clean (subst (λ n. HoldsWhatStands all (2 ^ n) t ts on_storage) sound.rb_format.bits current) in
-        let holds' : (i : ℕ) → i < 2 ^ bits → byte_at v.bytes i ≡ all (refblocks caches) (byte_at (seen old).contents) (key * 2 ^ bits + i) =
-        subst (λ n. (i : ℕ) → i < 2 ^ n → byte_at v.bytes i ≡ all (refblocks caches) (byte_at (seen old).contents) (key * 2 ^ n + i)) (sym sound.rb_format.bits) holds in
-        let f : Flushed seen bits (λ (b : RefBlockView). b.bytes) (λ b. b.is_modified) cleared_rb (IsBlockOf caches.rb.backend.header.fields) (λ v. refl) (λ v. refl) P all crash_safety old new (refblocks caches)
-        (cached_tables bits (λ (b : RefBlockView). b.bytes) (λ b. b.is_modified) rb.entries) =
-        found_or_not (lookup_entry (eqb key) caches.rb.entries)
-        (λ none. insert_done seen bits (λ (b : RefBlockView). b.bytes) (λ b. b.is_modified) cleared_rb (IsBlockOf caches.rb.backend.header.fields) (λ v. refl) (λ v. refl) P all crash_safety distinct (rb_drop h (order_of caches) p (l2_tables caches)) add (rb_promote h (order_of caches) p (l2_tables caches)) caches.rb.size may_flush
-        (λ flush. rb_step h (order_of caches) p bits sound.rb_format.bits (l2_tables caches) (may flush)) key v clean
-        old new caches.rb.entries rb.entries answer left honest sound.kept (lookup_none (eqb key) caches.rb.entries none) holds'
-        (rw is at (missing (rw (lookup_none (eqb key) caches.rb.entries none) refl))))
-        (λ e some. replace_done seen bits (λ (b : RefBlockView). b.bytes) (λ b. b.is_modified) cleared_rb (IsBlockOf caches.rb.backend.header.fields) (λ v. refl) (λ v. refl) P all crash_safety distinct (rb_drop h (order_of caches) p (l2_tables caches)) add (rb_promote h (order_of caches) p (l2_tables caches)) caches.rb.size may_flush
-        (λ flush. rb_step h (order_of caches) p bits sound.rb_format.bits (l2_tables caches) (may flush)) key v clean
-        old new caches.rb.entries e some honest sound.kept rb.entries answer left holds' (rw is at (rw some at there))) in
-        let fit : AllValuesFit (IsBlockOf caches.rb.backend.header.fields) rb.entries = found_or_not (lookup_entry (eqb key) caches.rb.entries)
-        (λ none. insert_fits seen caches.rb.backend.header.fields.cluster_bits (λ (b : RefBlockView). b.bytes) (λ b. b.is_modified) cleared_rb (IsBlockOf caches.rb.backend.header.fields) (block_still caches.rb.backend.header.fields) caches.rb.size may_flush old new key v caches.rb.entries rb.entries answer left (λ _. of_format) sound.rb_fit (rw is at (missing (rw (lookup_none (eqb key) caches.rb.entries none) refl))))
-        (λ e some. replace_fits seen caches.rb.backend.header.fields.cluster_bits (λ (b : RefBlockView). b.bytes) (λ b. b.is_modified) cleared_rb (IsBlockOf caches.rb.backend.header.fields) (block_still caches.rb.backend.header.fields) may_flush old new key v caches.rb.entries rb.entries e answer left some (λ _. of_format) sound.rb_fit (rw is at (rw some at there))) in
-        rw same_backend (record {
-          honest = f.honest;
-          sound = record { l2_format = sound.l2_format; rb_format = sound.rb_format; l2_fit = sound.l2_fit; rb_fit = fit; kept = f.kept };
-          known = f.known;
-          named_blocks = λ named_blocks.
-              named_blocks_anew h (order_of caches) (order_of caches) p p (l2_tables caches) (refblocks caches) (l2_tables caches) (cached_tables bits (λ (b : RefBlockView). b.bytes) (λ b. b.is_modified) rb.entries) (byte_at (seen old).contents) (byte_at (seen new).contents) sound.kept f.kept f.known bits sound.rb_format.bits (IsBlockOf caches.rb.backend.header.fields) rb.entries
-              (found_or_not (lookup_entry (eqb key) caches.rb.entries)
-              (λ none. insert_stands seen bits (λ (b : RefBlockView). b.bytes) (λ b. b.is_modified) cleared_rb (IsBlockOf caches.rb.backend.header.fields) (λ v. refl) (block_still caches.rb.backend.header.fields) (HasBlock h (byte_at (seen old).contents)) (block_place h (byte_at (seen old).contents) caches.rb.backend.header.fields.cluster_bits sound.rb_format.bits) caches.rb.size may_flush old new key v caches.rb.entries rb.entries answer left (λ _. clean_stands (λ (b : RefBlockView). b.is_modified) (IsBlockOf caches.rb.backend.header.fields) (HasBlock h (byte_at (seen old).contents)) key v of_format clean) (blocks_stand h p caches (byte_at (seen old).contents) sound named_blocks) (rw is at (missing (rw (lookup_none (eqb key) caches.rb.entries none) refl))))
-              (λ e some. replace_stands seen bits (λ (b : RefBlockView). b.bytes) (λ b. b.is_modified) cleared_rb (IsBlockOf caches.rb.backend.header.fields) (λ v. refl) (block_still caches.rb.backend.header.fields) (HasBlock h (byte_at (seen old).contents)) (block_place h (byte_at (seen old).contents) caches.rb.backend.header.fields.cluster_bits sound.rb_format.bits) may_flush old new key v caches.rb.entries rb.entries e answer left some (λ _. clean_stands (λ (b : RefBlockView). b.is_modified) (IsBlockOf caches.rb.backend.header.fields) (HasBlock h (byte_at (seen old).contents)) e.0 v of_format clean) (blocks_stand h p caches (byte_at (seen old).contents) sound named_blocks) (rw is at (rw some at there))));
-          since = f.since;
-        })

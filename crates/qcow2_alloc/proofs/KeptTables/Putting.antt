@@ -1,13 +1,13 @@
--- A modified table is inserted into the caches, or nothing is.
-use Rattle.std.proofs.Common.{◌≡◌, ◌*◌, ◌%◌, ◌^◌, ◌∷◌, ℕ, Bool, true, false, eqb, List, [], Option, Some, Result, Ok, refl, sym, ap, ◌∙◌, subst, IfSome}
-use Rattle.qcow2_alloc.proofs.Common.{mul-mod_left, IsNone, lookup, lookup_entry, remove_entry, StorageView, Bytes, byte_at, HeaderFields, MetadataError, cluster_size, L2TableView, CachedTable, known, Pending, CrashInvariant, known_bytes, TablesMayGo, AreNamedBlocks, HasL2, HasOwnL2, Slot, CacheError, L2CacheBackend, MetadataCaches, ImageStorage, Cache, slot_of, with_entries, InsertsNew, Replaces, storage_of, l2_steps, cleared_l2, IsTableOf, cached_table, cached_tables, AllValuesFit, AreElsewhere, AreKept, laid_at, order_of, l2_tables, refblocks, CacheInvariant, InternalCacheStep, Overlay}
+-- An L2 table is put into the caches, or nothing is.
+use Rattle.std.proofs.Common.{◌≡◌, ◌+◌, ◌*◌, ◌%◌, ◌^◌, ◌<◌, ◌∷◌, ℕ, Bool, true, false, eqb, List, [], Option, Some, Result, Ok, refl, sym, ap, ◌∙◌, subst, IfSome}
+use Rattle.qcow2_alloc.proofs.Common.{mul-mod_left, HoldsKnown, IsNone, lookup, lookup_entry, remove_entry, StorageView, Bytes, byte_at, HeaderFields, MetadataError, cluster_size, L2TableView, CachedTable, known, Pending, CrashInvariant, known_bytes, TablesMayGo, AreNamedBlocks, HasL2, HasOwnL2, Slot, CacheError, L2CacheBackend, MetadataCaches, ImageStorage, Cache, slot_of, with_entries, InsertsNew, Replaces, storage_of, l2_steps, cleared_l2, IsTableOf, cached_table, cached_tables, AllValuesFit, AreElsewhere, AreKept, laid_at, order_of, l2_tables, refblocks, CacheInvariant, InternalCacheStep, Overlay}
 use Rattle.qcow2_alloc.proofs.KeptTables.BlocksNamed.{named_blocks_beside}
 use Rattle.qcow2_alloc.proofs.KeptTables.Standing.{own_cluster}
-use Rattle.qcow2_alloc.proofs.KeptTables.Writing.{crash_safety, Ready, Puts, nothing_new, made_ready}
+use Rattle.qcow2_alloc.proofs.KeptTables.Writing.{crash_safety, Flushed, Ready, Puts, nothing_new, made_ready}
 use Rattle.qcow2_alloc.proofs.KeptTables.Entries.{AreDistinct}
 use Rattle.qcow2_alloc.proofs.KeptTables.Fitting.{insert_fits, replace_fits}
 use Rattle.qcow2_alloc.proofs.KeptTables.Listing.{loaded_distinct, l2_drop, l2_add, l2_promote}
-use Rattle.qcow2_alloc.proofs.KeptTables.Getting.{HoldsWhatStands, insert_put, replace_put}
+use Rattle.qcow2_alloc.proofs.KeptTables.Getting.{HoldsWhatStands, insert_put, replace_put, put_done}
 use Rattle.qcow2_alloc.proofs.KeptTables.Flushing.{l2_step, table_still}
 use Rattle.qcow2_alloc.proofs.KeptTables.Inserting.{IsTakenOrKept, found_or_not, lookup_none, table_as}
 use Rattle.qcow2_alloc.proofs.KeptTables.Laying.{laid_first, l2_laid}
@@ -78,17 +78,28 @@ module _ {S : Type 0} (view : S → StorageView) (old new : ImageStorage S) (cac
         (λ none. insert_fits seen bits (λ (t : L2TableView). t.bytes) (λ t. t.is_modified) cleared_l2 IsFit (table_still caches.l2.backend.header.fields) caches.l2.size may_flush old new key v caches.l2.entries l2.entries answer left fits sound.l2_fit (rw is at (missing (rw (lookup_none (eqb key) caches.l2.entries none) refl))))
         (λ e some. replace_fits seen bits (λ (t : L2TableView). t.bytes) (λ t. t.is_modified) cleared_l2 IsFit (table_still caches.l2.backend.header.fields) may_flush old new key v caches.l2.entries l2.entries e answer left some fits sound.l2_fit (rw is at (rw some at there)))
 
-    pub table_kept : (answer ≡ Ok true → ⊥) → InternalCacheStep h p (seen old) caches (seen new) (record caches { l2 = l2 })
-    table_kept isnt =
+    -- The caches are as sound as before, where the call leaves what was kept.
+    still_sound : Flushed seen bits (λ (t : L2TableView). t.bytes) (λ t. t.is_modified) cleared_l2 IsFit (λ v. refl) (λ v. refl) P all crash_safety old new (l2_tables caches) (tables l2.entries) → AllValuesFit IsFit l2.entries → InternalCacheStep h p (seen old) caches (seen new) (record caches { l2 = l2 })
+    still_sound f fit =
         let same_backend : l2.backend ≡ caches.l2.backend = ap (λ c. c.backend) others in
-        let f = nothing_new seen bits (λ (t : L2TableView). t.bytes) (λ t. t.is_modified) cleared_l2 IsFit (λ v. refl) (λ v. refl) P all crash_safety key v old new caches.l2.entries l2.entries answer isnt puts in
         rw same_backend (record {
           honest = f.honest;
-          sound = record { l2_format = sound.l2_format; rb_format = sound.rb_format; l2_fit = fit (λ went. absurd (isnt went)); rb_fit = sound.rb_fit; kept = f.kept };
+          sound = record { l2_format = sound.l2_format; rb_format = sound.rb_format; l2_fit = fit; rb_fit = sound.rb_fit; kept = f.kept };
           known = f.known;
           named_blocks = named_blocks_beside h (order_of caches) (order_of caches) p p (l2_tables caches) (refblocks caches) (tables l2.entries) (refblocks caches) (byte_at (seen old).contents) (byte_at (seen new).contents) sound.kept f.kept f.known;
           since = f.since;
         })
+
+    pub table_kept : (answer ≡ Ok true → ⊥) → InternalCacheStep h p (seen old) caches (seen new) (record caches { l2 = l2 })
+    table_kept isnt = still_sound (nothing_new seen bits (λ (t : L2TableView). t.bytes) (λ t. t.is_modified) cleared_l2 IsFit (λ v. refl) (λ v. refl) P all crash_safety key v old new caches.l2.entries l2.entries answer isnt puts) (fit (λ went. absurd (isnt went)))
+
+    -- an unmodified one with the known contents
+    pub table_put : IsTableOf h v → v.is_modified ≡ false → HoldsKnown h caches (byte_at (seen old).contents) v.bytes key → InternalCacheStep h p (seen old) caches (seen new) (record caches { l2 = l2 })
+    table_put fits clean holds =
+        let holds' = subst (λ n. (i : ℕ) → i < 2 ^ n → byte_at v.bytes i ≡ all (l2_tables caches) (byte_at (seen old).contents) (key * 2 ^ n + i)) (sym sound.l2_format.bits) holds in
+        still_sound (put_done seen bits (λ (t : L2TableView). t.bytes) (λ t. t.is_modified) cleared_l2 IsFit (λ v. refl) (λ v. refl) P all crash_safety distinct (l2_drop h (order_of caches) p (refblocks caches)) add (l2_promote h (order_of caches) p (refblocks caches)) caches.l2.size may_flush
+        (λ flush. l2_step h (order_of caches) p bits sound.l2_format.bits (refblocks caches) (may flush)) key v clean old new caches.l2.entries l2.entries answer holds' puts)
+        (fit (λ _. table_as caches.l2.backend.header.fields h v sound.l2_format fits))
 
     module _ (went : answer ≡ Ok true) (fits : IsTableOf h v) (marked : v.is_modified ≡ true) where
       ready : Ready seen bits (λ (t : L2TableView). t.bytes) (λ t. t.is_modified) cleared_l2 IsFit (λ v. refl) (λ v. refl) P all crash_safety key v old new caches.l2.entries l2.entries

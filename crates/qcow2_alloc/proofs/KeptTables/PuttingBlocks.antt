@@ -1,13 +1,13 @@
--- A modified refblock is inserted into the caches, or nothing is.
-use Rattle.std.proofs.Common.{◌≡◌, ◌⊎◌, ◌*◌, ◌/◌, ◌%◌, ◌^◌, ◌∷◌, ℕ, Bool, true, false, eqb, List, [], Option, Some, Result, Ok, refl, sym, ap, ◌∙◌, subst, IfSome}
-use Rattle.qcow2_alloc.proofs.Common.{mul-mod_left, IsNone, lookup, lookup_entry, remove_entry, Contains-lookup_entry, StorageView, Bytes, byte_at, HeaderFields, MetadataError, cluster_size, RefBlockView, CachedTable, known, Pending, CrashInvariant, IsUnnamed, known_bytes, BlocksMayGo, IsFreeOf, AreNamedBlocks, HasBlock, SameTop-sym, overlays_within, within_cluster, Slot, CacheError, RefBlockCacheBackend, MetadataCaches, ImageStorage, Cache, slot_of, with_entries, InsertsNew, Replaces, storage_of, same_number, rb_steps, cleared_rb, IsBlockOf, cached_table, cached_tables, AllValuesFit, AreElsewhere, AreKept, laid_at, order_of, l2_tables, refblocks, CacheInvariant, InternalCacheStep, Overlay}
+-- A refblock is put into the caches, or nothing is.
+use Rattle.std.proofs.Common.{◌≡◌, ◌⊎◌, ◌+◌, ◌*◌, ◌/◌, ◌%◌, ◌^◌, ◌<◌, ◌∷◌, ℕ, Bool, true, false, eqb, List, [], Option, Some, Result, Ok, refl, sym, ap, ◌∙◌, subst, IfSome}
+use Rattle.qcow2_alloc.proofs.Common.{mul-mod_left, HoldsKnown, IsNone, lookup, lookup_entry, remove_entry, Contains-lookup_entry, StorageView, Bytes, byte_at, HeaderFields, MetadataError, cluster_size, RefBlockView, CachedTable, known, Pending, CrashInvariant, IsUnnamed, known_bytes, BlocksMayGo, IsFreeOf, AreNamedBlocks, HasBlock, SameTop-sym, overlays_within, within_cluster, Slot, CacheError, RefBlockCacheBackend, MetadataCaches, ImageStorage, Cache, slot_of, with_entries, InsertsNew, Replaces, storage_of, same_number, rb_steps, cleared_rb, IsBlockOf, cached_table, cached_tables, AllValuesFit, AreElsewhere, AreKept, laid_at, order_of, l2_tables, refblocks, CacheInvariant, InternalCacheStep, Overlay}
 use Rattle.qcow2_alloc.proofs.KeptTables.BlocksNamed.{top_still, named_blocks_anew, blocks_stand, block_place}
-use Rattle.qcow2_alloc.proofs.KeptTables.Standing.{IsStanding, AreStanding, own_cluster, insert_stands, replace_stands}
-use Rattle.qcow2_alloc.proofs.KeptTables.Writing.{crash_safety, block_named, Ready, Puts, nothing_new, made_ready}
+use Rattle.qcow2_alloc.proofs.KeptTables.Standing.{IsStanding, AreStanding, own_cluster, insert_stands, replace_stands, clean_stands}
+use Rattle.qcow2_alloc.proofs.KeptTables.Writing.{crash_safety, block_named, Flushed, Ready, Puts, nothing_new, made_ready}
 use Rattle.qcow2_alloc.proofs.KeptTables.Entries.{AreDistinct}
 use Rattle.qcow2_alloc.proofs.KeptTables.Fitting.{insert_fits, replace_fits}
 use Rattle.qcow2_alloc.proofs.KeptTables.Listing.{loaded_distinct, rb_drop, rb_add, rb_promote}
-use Rattle.qcow2_alloc.proofs.KeptTables.Getting.{HoldsWhatStands, insert_put, replace_put}
+use Rattle.qcow2_alloc.proofs.KeptTables.Getting.{HoldsWhatStands, insert_put, replace_put, put_done}
 use Rattle.qcow2_alloc.proofs.KeptTables.Flushing.{rb_step, block_still}
 use Rattle.qcow2_alloc.proofs.KeptTables.Inserting.{found_or_not, lookup_none, block_as}
 use Rattle.qcow2_alloc.proofs.KeptTables.Laying.{laid_under, rb_laid}
@@ -75,19 +75,34 @@ module _ {S : Type 0} (view : S → StorageView) (old new : ImageStorage S) (cac
         (λ went. subst (λ n. IsStanding (λ (b : RefBlockView). b.is_modified) IsFit Named n v) (same_number key e.0 (Contains-lookup_entry (eqb key) caches.rb.entries e some).1) (stands went))
         (blocks_stand h p caches (byte_at (seen old).contents) sound named_blocks) (rw is at (rw some at there)))
 
-    pub block_kept : (answer ≡ Ok true → ⊥) → InternalCacheStep h p (seen old) caches (seen new) (record caches { rb = rb })
-    block_kept isnt =
+    -- The caches are as sound as before, where the call leaves what was kept.
+    still_sound : Flushed seen bits (λ (b : RefBlockView). b.bytes) (λ b. b.is_modified) cleared_rb IsFit (λ v. refl) (λ v. refl) P all crash_safety old new (refblocks caches) (blocks rb.entries) → AllValuesFit IsFit rb.entries
+        → (AreNamedBlocks h (refblocks caches) (byte_at (seen old).contents) → BlocksStand rb.entries) → InternalCacheStep h p (seen old) caches (seen new) (record caches { rb = rb })
+    still_sound f fit stand =
         let same_backend : rb.backend ≡ caches.rb.backend = ap (λ c. c.backend) others in
-        let f = nothing_new seen bits (λ (b : RefBlockView). b.bytes) (λ b. b.is_modified) cleared_rb IsFit (λ v. refl) (λ v. refl) P all crash_safety key v old new caches.rb.entries rb.entries answer isnt puts in
         rw same_backend (record {
           honest = f.honest;
-          sound = record { l2_format = sound.l2_format; rb_format = sound.rb_format; l2_fit = sound.l2_fit; rb_fit = fit (λ went. absurd (isnt went)); kept = f.kept };
+          sound = record { l2_format = sound.l2_format; rb_format = sound.rb_format; l2_fit = sound.l2_fit; rb_fit = fit; kept = f.kept };
           known = f.known;
           named_blocks = λ named_blocks.
               named_blocks_anew h (order_of caches) (order_of caches) p p (l2_tables caches) (refblocks caches) (l2_tables caches) (blocks rb.entries) (byte_at (seen old).contents) (byte_at (seen new).contents) sound.kept f.kept f.known bits sound.rb_format.bits IsFit rb.entries
-              (stand named_blocks (λ went. absurd (isnt went)));
+              (stand named_blocks);
           since = f.since;
         })
+
+    pub block_kept : (answer ≡ Ok true → ⊥) → InternalCacheStep h p (seen old) caches (seen new) (record caches { rb = rb })
+    block_kept isnt =
+        still_sound (nothing_new seen bits (λ (b : RefBlockView). b.bytes) (λ b. b.is_modified) cleared_rb IsFit (λ v. refl) (λ v. refl) P all crash_safety key v old new caches.rb.entries rb.entries answer isnt puts) (fit (λ went. absurd (isnt went)))
+        (λ named_blocks. stand named_blocks (λ went. absurd (isnt went)))
+
+    -- an unmodified one with the known contents
+    pub block_put : IsBlockOf h v → v.is_modified ≡ false → HoldsKnown h caches (byte_at (seen old).contents) v.bytes key → InternalCacheStep h p (seen old) caches (seen new) (record caches { rb = rb })
+    block_put fits clean holds =
+        let of_format = block_as caches.rb.backend.header.fields h v sound.rb_format fits in
+        let holds' = subst (λ n. (i : ℕ) → i < 2 ^ n → byte_at v.bytes i ≡ all (refblocks caches) (byte_at (seen old).contents) (key * 2 ^ n + i)) (sym sound.rb_format.bits) holds in
+        still_sound (put_done seen bits (λ (b : RefBlockView). b.bytes) (λ b. b.is_modified) cleared_rb IsFit (λ v. refl) (λ v. refl) P all crash_safety distinct (rb_drop h (order_of caches) p (l2_tables caches)) add (rb_promote h (order_of caches) p (l2_tables caches)) caches.rb.size may_flush
+        (λ flush. rb_step h (order_of caches) p bits sound.rb_format.bits (l2_tables caches) (may flush)) key v clean old new caches.rb.entries rb.entries answer holds' puts)
+        (fit (λ _. of_format)) (λ named_blocks. stand named_blocks (λ _. clean_stands (λ (b : RefBlockView). b.is_modified) IsFit Named key v of_format clean))
 
     module _ (went : answer ≡ Ok true) (fits : IsBlockOf h v) (marked : v.is_modified ≡ true) where
       ready : Ready seen bits (λ (b : RefBlockView). b.bytes) (λ b. b.is_modified) cleared_rb IsFit (λ v. refl) (λ v. refl) P all crash_safety key v old new caches.rb.entries rb.entries
