@@ -8,13 +8,17 @@ returns-in_err-write_tables-in-None-clause-fails g c = fails_on c.from_residual.
 pub returns-in_err-write_tables-in-None-clause-sound : goal.returns-in_err-write_tables-in-None-clause-sound
 returns-in_err-write_tables-in-None-clause-sound g c = c.write_tables.ensures.sound (tables_free c.args.self.now c.in-None.is)
 
-pub returns-in_ok-write_tables-in-None : goal.returns-in_ok-write_tables-in-None
-returns-in_ok-write_tables-in-None g c = record {
-  step = cache_step_then c.write_tables.ensures.step c.write_blocks.ensures.step;
-  fails = fails_since c.in_ok-write_tables-in-None.ensures.fails.told (fails_less (λ fit. blocks_fit_as c.args.self.now c.write_tables.new.self c.write_tables.ensures.flushes.others_stay fit.1) c.write_blocks.ensures.fails);
-  sound = soundly_then c.write_tables.ensures.step.marks.order (c.write_tables.ensures.sound (tables_free c.args.self.now c.in-None.is)) (c.write_blocks.ensures.sound (blocks_either c.write_tables.new.self c.args.self.now c.write_tables.ensures.flushes.direction c.in-None.is c.in_ok-write_tables-in-None.ensures.flushes.written));
-  written = both_written c.write_tables.new.self c.write_blocks.new.self c.write_blocks.result c.write_blocks.ensures.flushes.others_stay c.in_ok-write_tables-in-None.ensures.flushes.written c.write_blocks.ensures.flushes.written;
-}
+pub returns-in_ok-write_tables-in-None-clause-step : goal.returns-in_ok-write_tables-in-None-clause-step
+returns-in_ok-write_tables-in-None-clause-step g c = cache_step_then c.write_tables.ensures.step c.write_blocks.ensures.step
+
+pub returns-in_ok-write_tables-in-None-clause-fails : goal.returns-in_ok-write_tables-in-None-clause-fails
+returns-in_ok-write_tables-in-None-clause-fails g c = fails_since c.in_ok-write_tables-in-None.ensures.fails.told (fails_less (λ fit. blocks_fit_as c.args.self.now c.write_tables.new.self c.write_tables.ensures.flushes.others_stay fit.1) c.write_blocks.ensures.fails)
+
+pub returns-in_ok-write_tables-in-None-clause-sound : goal.returns-in_ok-write_tables-in-None-clause-sound
+returns-in_ok-write_tables-in-None-clause-sound g c = soundly_then c.write_tables.ensures.step.marks.order (c.write_tables.ensures.sound (tables_free c.args.self.now c.in-None.is)) (c.write_blocks.ensures.sound (blocks_either c.write_tables.new.self c.args.self.now c.write_tables.ensures.flushes.direction c.in-None.is c.in_ok-write_tables-in-None.ensures.flushes.written))
+
+pub returns-in_ok-write_tables-in-None-clause-written : goal.returns-in_ok-write_tables-in-None-clause-written
+returns-in_ok-write_tables-in-None-clause-written g c = both_written c.write_tables.new.self c.write_blocks.new.self c.write_blocks.result c.write_blocks.ensures.flushes.others_stay c.in_ok-write_tables-in-None.ensures.flushes.written c.write_blocks.ensures.flushes.written
 
 pub returns-in_err-write_blocks-in-L2DependsOnRb-clause-fails : goal.returns-in_err-write_blocks-in-L2DependsOnRb-clause-fails
 returns-in_err-write_blocks-in-L2DependsOnRb-clause-fails g c = fails_on c.from_residual-in_err-write_blocks-in-L2DependsOnRb.result c.in_err-write_blocks-in-L2DependsOnRb.field-0.0 c.from_residual-in_err-write_blocks-in-L2DependsOnRb.ensures (fails_less (λ fit. fit.1) c.in_err-write_blocks-in-L2DependsOnRb.ensures.fails)

@@ -12,24 +12,14 @@ returns-in_err-write_tables-in-RbDependsOnL2-clause-fails g c = fails_on c.from_
 pub returns-in_err-write_tables-in-RbDependsOnL2-clause-sound : goal.returns-in_err-write_tables-in-RbDependsOnL2-clause-sound
 returns-in_err-write_tables-in-RbDependsOnL2-clause-sound g c = c.write_tables.ensures.sound (tables_free c.args.self.now (inr c.in-RbDependsOnL2.is))
 
-pub returns-in_ok-write_tables-in-RbDependsOnL2 : goal.returns-in_ok-write_tables-in-RbDependsOnL2
-returns-in_ok-write_tables-in-RbDependsOnL2 g c = record {
-  step = cache_step_then c.write_tables.ensures.step c.write_blocks.ensures.step;
-  fails = fails_since c.in_ok-write_tables-in-RbDependsOnL2.ensures.fails.told (fails_less (λ fit. blocks_fit_as c.args.self.now c.write_tables.new.self c.write_tables.ensures.flushes.others_stay fit.1) c.write_blocks.ensures.fails);
-  sound = soundly_then c.write_tables.ensures.step.marks.order (c.write_tables.ensures.sound (tables_free c.args.self.now (inr c.in-RbDependsOnL2.is))) (c.write_blocks.ensures.sound (blocks_clean c.write_tables.new.self (c.write_tables.ensures.flushes.direction ∙ c.in-RbDependsOnL2.is) c.in_ok-write_tables-in-RbDependsOnL2.ensures.flushes.written));
-  flushes = record {
-    written = c.write_blocks.ensures.flushes.written;
-    first =
-        always_ok c.write_blocks.result (blocks_clean c.write_blocks.new.self (c.write_blocks.ensures.flushes.direction ∙ (c.write_tables.ensures.flushes.direction ∙ c.in-RbDependsOnL2.is))
-        (tables_as c.write_tables.new.self c.write_blocks.new.self c.write_blocks.ensures.flushes.others_stay c.in_ok-write_tables-in-RbDependsOnL2.ensures.flushes.written));
-    held = λ k. c.write_blocks.ensures.held k ∙ ap (λ x. option_map (λ b. b.bytes) (value_at (λ j. eqb k j) x.entries)) c.write_tables.ensures.flushes.others_stay;
-    tables = λ other. absurd (other (ap order c.in-RbDependsOnL2.is));
-    quiet = λ clean may honest.
-        let one = c.write_tables.ensures.flushes.quiet (subst (λ (d : Direction). BlocksMayGo d (l2_tables c.args.self.now)) (ap order c.in-RbDependsOnL2.is) may) honest in
-        quiet_then (g.S.Storage.view (storage_of c.args.storage.now)) (g.S.Storage.view (storage_of c.write_tables.new.storage)) (g.S.Storage.view (storage_of c.write_blocks.new.storage)) one
-        (c.write_blocks.ensures.flushes.quiet (blocks_as c.args.self.now c.write_tables.new.self c.write_tables.ensures.flushes.others_stay clean) one.honest);
-  };
-}
+pub returns-in_ok-write_tables-in-RbDependsOnL2-clause-step : goal.returns-in_ok-write_tables-in-RbDependsOnL2-clause-step
+returns-in_ok-write_tables-in-RbDependsOnL2-clause-step g c = cache_step_then c.write_tables.ensures.step c.write_blocks.ensures.step
+
+pub returns-in_ok-write_tables-in-RbDependsOnL2-clause-fails : goal.returns-in_ok-write_tables-in-RbDependsOnL2-clause-fails
+returns-in_ok-write_tables-in-RbDependsOnL2-clause-fails g c = fails_since c.in_ok-write_tables-in-RbDependsOnL2.ensures.fails.told (fails_less (λ fit. blocks_fit_as c.args.self.now c.write_tables.new.self c.write_tables.ensures.flushes.others_stay fit.1) c.write_blocks.ensures.fails)
+
+pub returns-in_ok-write_tables-in-RbDependsOnL2-clause-sound : goal.returns-in_ok-write_tables-in-RbDependsOnL2-clause-sound
+returns-in_ok-write_tables-in-RbDependsOnL2-clause-sound g c = soundly_then c.write_tables.ensures.step.marks.order (c.write_tables.ensures.sound (tables_free c.args.self.now (inr c.in-RbDependsOnL2.is))) (c.write_blocks.ensures.sound (blocks_clean c.write_tables.new.self (c.write_tables.ensures.flushes.direction ∙ c.in-RbDependsOnL2.is) c.in_ok-write_tables-in-RbDependsOnL2.ensures.flushes.written))
 
 pub returns-in-None-clause-flushes : goal.returns-in-None-clause-flushes
 returns-in-None-clause-flushes g c = record {
@@ -48,6 +38,20 @@ returns-in_err-write_tables-in-RbDependsOnL2-clause-flushes g c = record {
   tables = λ other. absurd (other (ap order c.in-RbDependsOnL2.is));
   quiet = λ clean may.
       c.write_tables.ensures.flushes.quiet (subst (λ (d : Direction). BlocksMayGo d (l2_tables c.args.self.now)) (ap order c.in-RbDependsOnL2.is) may);
+}
+
+pub returns-in_ok-write_tables-in-RbDependsOnL2-clause-flushes : goal.returns-in_ok-write_tables-in-RbDependsOnL2-clause-flushes
+returns-in_ok-write_tables-in-RbDependsOnL2-clause-flushes g c = record {
+  written = c.write_blocks.ensures.flushes.written;
+  first =
+      always_ok c.write_blocks.result (blocks_clean c.write_blocks.new.self (c.write_blocks.ensures.flushes.direction ∙ (c.write_tables.ensures.flushes.direction ∙ c.in-RbDependsOnL2.is))
+      (tables_as c.write_tables.new.self c.write_blocks.new.self c.write_blocks.ensures.flushes.others_stay c.in_ok-write_tables-in-RbDependsOnL2.ensures.flushes.written));
+  held = λ k. c.write_blocks.ensures.held k ∙ ap (λ x. option_map (λ b. b.bytes) (value_at (λ j. eqb k j) x.entries)) c.write_tables.ensures.flushes.others_stay;
+  tables = λ other. absurd (other (ap order c.in-RbDependsOnL2.is));
+  quiet = λ clean may honest.
+      let one = c.write_tables.ensures.flushes.quiet (subst (λ (d : Direction). BlocksMayGo d (l2_tables c.args.self.now)) (ap order c.in-RbDependsOnL2.is) may) honest in
+      quiet_then (g.S.Storage.view (storage_of c.args.storage.now)) (g.S.Storage.view (storage_of c.write_tables.new.storage)) (g.S.Storage.view (storage_of c.write_blocks.new.storage)) one
+      (c.write_blocks.ensures.flushes.quiet (blocks_as c.args.self.now c.write_tables.new.self c.write_tables.ensures.flushes.others_stay clean) one.honest);
 }
 
 pub returns-in-None-clause-fails : goal.returns-in-None-clause-fails

@@ -5,23 +5,16 @@ use Rattle.qcow2_alloc.proofs.Tries.{PutsTableFor, puts_table, held, puts_at_onc
 use Rattle.qcow2_laws.specs.Clusters.{L2DependsOnRb}
 use Rattle.qcow2_alloc.specs.declared.error.ImageError.TheVariants as I
 use Rattle.qcow2_alloc.proofs.cache.MetadataCaches.l2_insert.Given.{Over}
-use Rattle.qcow2_alloc.proofs.cache.MetadataCaches.l2_insert.Goals.{In_ok-insert, In_ok-insert-2}
+use Rattle.qcow2_alloc.proofs.cache.MetadataCaches.l2_insert.Goals.{In_ok-insert}
 use Rattle.qcow2_alloc.proofs.cache.MetadataCaches.l2_insert.Goals as goal
 
--- What the first try does, and what the second one does.
+-- What the first try does.
 tried : (g : Over) (c : In_ok-insert g) → PutsTableFor g.S.Storage.view c.in-Some.cluster c.args.table false c.args.storage.now c.args.self.now c.in_ok-insert.field-0 c.insert.new.value c.insert.new.store (record c.args.self.now { l2 = c.insert.new.self })
 tried g c = puts_table g.S.Storage.view false c.in-Some.cluster c.args.storage.now c.insert.new.store c.args.self.now c.in_ok-insert.field-0 c.insert.ensures.keeps.0 c.insert.new.self c.insert.ensures.kept (λ flush. never flush) c.args.table (Some c.args.table) c.insert.new.value refl (sym c.get_cluster.ensures.value ∙ c.in-Some.is) c.in_ok-insert.ensures.there c.in_ok-insert.ensures.missing
 
-tried_again : (g : Over) (c : In_ok-insert-2 g) → c.insert.new.value ≡ Some c.args.table
-    → PutsTableFor g.S.Storage.view c.in-Some.cluster c.args.table true c.before_l2.new.storage c.before_l2.new.self c.in_ok-insert-2.field-0 c.insert-2.new.value c.insert-2.new.store (record c.before_l2.new.self { l2 = c.insert-2.new.self })
-tried_again g c left = puts_table g.S.Storage.view true c.in-Some.cluster c.before_l2.new.storage c.insert-2.new.store c.before_l2.new.self c.in_ok-insert-2.field-0 c.insert-2.ensures.keeps.0 c.insert-2.new.self c.insert-2.ensures.kept (λ _. c.in_ok-before_l2.ensures.way.first) c.args.table c.insert.new.value c.insert-2.new.value left (sym c.get_cluster.ensures.value ∙ c.in-Some.is) c.in_ok-insert-2.ensures.there c.in_ok-insert-2.ensures.missing
-
--- The L2 tables are unmodified still after the first try, and after way was made.
+-- The L2 tables are unmodified still after the first try.
 clean : (g : Over) (c : In_ok-insert g) → AreClean (l2_tables c.args.self.now) → c.args.table.is_modified ≡ false → AreClean (l2_tables (record c.args.self.now { l2 = c.insert.new.self }))
 clean g c = table_put_clean g.S.Storage.view c.args.storage.now c.insert.new.store c.args.self.now false c.in-Some.cluster c.insert.new.self c.args.table (Some c.args.table) c.insert.new.value refl c.in_ok-insert.field-0 c.in_ok-insert.ensures.there c.in_ok-insert.ensures.missing
-
-clean_again : (g : Over) (c : In_ok-insert-2 g) → c.insert.new.value ≡ Some c.args.table → AreClean (l2_tables c.before_l2.new.self) → c.args.table.is_modified ≡ false → AreClean (l2_tables (record c.before_l2.new.self { l2 = c.insert-2.new.self }))
-clean_again g c left = table_put_clean g.S.Storage.view c.before_l2.new.storage c.insert-2.new.store c.before_l2.new.self true c.in-Some.cluster c.insert-2.new.self c.args.table c.insert.new.value c.insert-2.new.value left c.in_ok-insert-2.field-0 c.in_ok-insert-2.ensures.there c.in_ok-insert-2.ensures.missing
 
 pub returns-in_err-branch : goal.returns-in_err-branch
 returns-in_err-branch g c =
@@ -71,7 +64,7 @@ returns-in_err-branch-2 g c =
     let path = goal.at.returns-in_err-branch-2 g c in
     let one = tried g path.In_ok-insert in
     let full = c.in_ok-branch.was ∙ ap Ok c.if-branch.false in
-    let two = tried_again g path.In_ok-insert-2 (one.taken.kept full) in
+    let two = puts_table g.S.Storage.view true c.in-Some.cluster c.before_l2.new.storage c.insert-2.new.store c.before_l2.new.self c.in_ok-insert-2.field-0 c.insert-2.ensures.keeps.0 c.insert-2.new.self c.insert-2.ensures.kept (λ _. c.in_ok-before_l2.ensures.way.first) c.args.table c.insert.new.value c.insert-2.new.value (one.taken.kept full) (sym c.get_cluster.ensures.value ∙ c.in-Some.is) c.in_ok-insert-2.ensures.there c.in_ok-insert-2.ensures.missing in
     let is = sym c.get_cluster.ensures.value ∙ c.in-Some.is in
     let e = c.in_err-branch-2.field-0.0 in
     record {
@@ -82,7 +75,7 @@ returns-in_err-branch-2 g c =
       sound = puts_refused c.from_residual-in_err-branch-2.result (of_cache e) c.from_residual-in_err-branch-2.ensures
           (soundly_then c.before_l2.ensures.step.marks.order (soundly_then refl (one.sound (λ went. let bad = sym full ∙ went in cc)) c.before_l2.ensures.sound) (two.sound (λ went. let bad = sym c.in_err-branch-2.was ∙ went in cc)));
       puts = puts_again one c.args.table.cluster is full c.before_l2.ensures.way two c.from_residual-in_err-branch-2.result (on_no_ok _ c.from_residual-in_err-branch-2.result (of_cache e) c.from_residual-in_err-branch-2.ensures);
-      written = keeps_written c.before_l2.ensures.step.marks.order (λ all unmodified. clean_again g path.In_ok-insert-2 (one.taken.kept full) (tables_as (record c.args.self.now { l2 = c.insert.new.self }) c.before_l2.new.self c.before_l2.ensures.way.stays (clean g path.In_ok-insert all unmodified)) unmodified) c.before_l2.ensures.blocks;
+      written = keeps_written c.before_l2.ensures.step.marks.order (λ all unmodified. table_put_clean g.S.Storage.view c.before_l2.new.storage c.insert-2.new.store c.before_l2.new.self true c.in-Some.cluster c.insert-2.new.self c.args.table c.insert.new.value c.insert-2.new.value (one.taken.kept full) c.in_ok-insert-2.field-0 c.in_ok-insert-2.ensures.there c.in_ok-insert-2.ensures.missing (tables_as (record c.args.self.now { l2 = c.insert.new.self }) c.before_l2.new.self c.before_l2.ensures.way.stays (clean g path.In_ok-insert all unmodified)) unmodified) c.before_l2.ensures.blocks;
     }
 
 pub returns : goal.returns
@@ -91,7 +84,7 @@ returns g c =
     let view = g.S.Storage.view in
     let one = tried g path.In_ok-insert in
     let full = c.in_ok-branch.was ∙ ap Ok c.if-branch.false in
-    let two = tried_again g path.In_ok-insert-2 (one.taken.kept full) in
+    let two = puts_table g.S.Storage.view true c.in-Some.cluster c.before_l2.new.storage c.insert-2.new.store c.before_l2.new.self c.in_ok-insert-2.field-0 c.insert-2.ensures.keeps.0 c.insert-2.new.self c.insert-2.ensures.kept (λ _. c.in_ok-before_l2.ensures.way.first) c.args.table c.insert.new.value c.insert-2.new.value (one.taken.kept full) (sym c.get_cluster.ensures.value ∙ c.in-Some.is) c.in_ok-insert-2.ensures.there c.in_ok-insert-2.ensures.missing in
     let went = put_at_last c.in-Some.cluster c.args.table c.insert-2.new.self.entries c.in_ok-insert-2.field-0 c.insert-2.new.value c.in_ok-branch-2.field-0 c.in_ok-branch-2.was two.taken in
     let is = sym c.get_cluster.ensures.value ∙ c.in-Some.is in
     let a = c.args.self.now in
@@ -108,7 +101,7 @@ returns g c =
           if_some _ c.args.table.cluster c.in-Some.cluster is (laid_then view h p c.args.storage.now c.before_l2.new.storage c.insert-2.new.store a before d (laid_at h c.in-Some.cluster c.args.table.bytes) _ _ k (rw is at (two.lays went h p k.honest k.sound fits marked))))
           (λ h honest are. if_some _ c.args.table.cluster c.in-Some.cluster is (tables_under_then view c.args.storage.now c.before_l2.new.storage c.insert-2.new.store a before d c.in-Some.cluster c.args.table.bytes c.args.table.is_modified same kept.apart (λ h honest are. rw is at (two.lays_apart went h honest are)) h honest are));
       puts = puts_again one c.args.table.cluster is full c.before_l2.ensures.way two (Ok tt) (if_some _ c.args.table.cluster c.in-Some.cluster is (two.taken.new_data went));
-      written = keeps_written same (λ all unmodified. clean_again g path.In_ok-insert-2 (one.taken.kept full) (tables_as (record a { l2 = c.insert.new.self }) before c.before_l2.ensures.way.stays (clean g path.In_ok-insert all unmodified)) unmodified) c.before_l2.ensures.blocks;
+      written = keeps_written same (λ all unmodified. table_put_clean g.S.Storage.view c.before_l2.new.storage c.insert-2.new.store c.before_l2.new.self true c.in-Some.cluster c.insert-2.new.self c.args.table c.insert.new.value c.insert-2.new.value (one.taken.kept full) c.in_ok-insert-2.field-0 c.in_ok-insert-2.ensures.there c.in_ok-insert-2.ensures.missing (tables_as (record a { l2 = c.insert.new.self }) before c.before_l2.ensures.way.stays (clean g path.In_ok-insert all unmodified)) unmodified) c.before_l2.ensures.blocks;
     }
 
 pub returns-in_err-insert-2 : goal.returns-in_err-insert-2

@@ -15,28 +15,38 @@ returns-in_err-write_blocks-in-L2DependsOnRb g c = record {
   held = c.write_blocks.ensures.held;
 }
 
-pub returns : goal.returns
-returns g c = elim c.match-self.branch [
-  | in-RbDependsOnL2 w ↦ rw (w.self-is, w.storage-is) (record {
-    step = step_in_turn cache_step_none;
-    fails = fails_ok refl;
-    sound = soundly_none;
-    turns = switched_at_once (ap order w.in-RbDependsOnL2.is) (λ was. differ (ap order w.in-RbDependsOnL2.is) was rb_not_l2) refl (refl, refl);
-    held = λ cluster. refl;
-  })
-  | in-None w ↦ rw (w.self-is, w.storage-is) (record {
-    step = step_turned D.RbDependsOnL2 cache_step_none;
-    fails = fails_ok refl;
-    sound = soundly_turned D.RbDependsOnL2 soundly_none (may_rb_depend g.S.Storage.view c.args.self.now c.args.storage.now (inl (ap order w.in-None.is)));
-    turns = switched_at_once refl (λ was. differ (ap order w.in-None.is) was neither_l2) refl (refl, refl);
-    held = λ cluster. refl;
-  })
-  | in-L2DependsOnRb+in_ok-write_blocks-in-L2DependsOnRb w ↦ rw (w.self-is, w.storage-is) (record {
-    step = step_turned D.RbDependsOnL2 w.write_blocks.ensures.step;
-    fails = fails_ok w.in_ok-write_blocks-in-L2DependsOnRb.ensures.fails.told;
-    sound = soundly_turned D.RbDependsOnL2 (w.write_blocks.ensures.sound (blocks_free c.args.self.now (inr w.in-L2DependsOnRb.is)))
-        (may_rb_depend g.S.Storage.view w.write_blocks.new.self w.write_blocks.new.storage (inr (ap order (w.write_blocks.ensures.flushes.direction ∙ w.in-L2DependsOnRb.is), w.in_ok-write_blocks-in-L2DependsOnRb.ensures.flushes.written)));
-    turns = switched_after w.write_blocks.ensures.flushes (ap order w.in-L2DependsOnRb.is) (λ may. subst (λ (d : Direction). TablesMayGo d (refblocks c.args.self.now)) (ap order w.in-L2DependsOnRb.is) may) refl (refl, refl) refl tt w.in_ok-write_blocks-in-L2DependsOnRb.ensures.flushes.written;
-    held = w.write_blocks.ensures.held;
-  })
+pub returns-clause-step : goal.returns-clause-step
+returns-clause-step g c = elim c.match-self.branch [
+  | in-RbDependsOnL2 w ↦ rw (w.self-is, w.storage-is) (step_in_turn cache_step_none)
+  | in-None w ↦ rw (w.self-is, w.storage-is) (step_turned D.RbDependsOnL2 cache_step_none)
+  | in-L2DependsOnRb+in_ok-write_blocks-in-L2DependsOnRb w ↦ rw (w.self-is, w.storage-is) (step_turned D.RbDependsOnL2 w.write_blocks.ensures.step)
+]
+
+pub returns-clause-fails : goal.returns-clause-fails
+returns-clause-fails g c = fails_ok (elim c.match-self.branch [
+  | in-RbDependsOnL2 w ↦ rw w.storage-is refl
+  | in-None w ↦ rw w.storage-is refl
+  | in-L2DependsOnRb+in_ok-write_blocks-in-L2DependsOnRb w ↦ rw w.storage-is w.in_ok-write_blocks-in-L2DependsOnRb.ensures.fails.told
+])
+
+pub returns-clause-sound : goal.returns-clause-sound
+returns-clause-sound g c = elim c.match-self.branch [
+  | in-RbDependsOnL2 w ↦ rw (w.self-is, w.storage-is) soundly_none
+  | in-None w ↦ rw (w.self-is, w.storage-is) (soundly_turned D.RbDependsOnL2 soundly_none (may_rb_depend g.S.Storage.view c.args.self.now c.args.storage.now (inl (ap order w.in-None.is))))
+  | in-L2DependsOnRb+in_ok-write_blocks-in-L2DependsOnRb w ↦ rw (w.self-is, w.storage-is) (soundly_turned D.RbDependsOnL2 (w.write_blocks.ensures.sound (blocks_free c.args.self.now (inr w.in-L2DependsOnRb.is)))
+      (may_rb_depend g.S.Storage.view w.write_blocks.new.self w.write_blocks.new.storage (inr (ap order (w.write_blocks.ensures.flushes.direction ∙ w.in-L2DependsOnRb.is), w.in_ok-write_blocks-in-L2DependsOnRb.ensures.flushes.written))))
+]
+
+pub returns-clause-held : goal.returns-clause-held
+returns-clause-held g c = elim c.match-self.branch [
+  | in-RbDependsOnL2 w ↦ rw w.self-is (λ cluster. refl)
+  | in-None w ↦ rw w.self-is (λ cluster. refl)
+  | in-L2DependsOnRb+in_ok-write_blocks-in-L2DependsOnRb w ↦ rw w.self-is w.write_blocks.ensures.held
+]
+
+pub returns-clause-turns : goal.returns-clause-turns
+returns-clause-turns g c = elim c.match-self.branch [
+  | in-RbDependsOnL2 w ↦ rw (w.self-is, w.storage-is) (switched_at_once (ap order w.in-RbDependsOnL2.is) (λ was. differ (ap order w.in-RbDependsOnL2.is) was rb_not_l2) refl (refl, refl))
+  | in-None w ↦ rw (w.self-is, w.storage-is) (switched_at_once refl (λ was. differ (ap order w.in-None.is) was neither_l2) refl (refl, refl))
+  | in-L2DependsOnRb+in_ok-write_blocks-in-L2DependsOnRb w ↦ rw (w.self-is, w.storage-is) (switched_after w.write_blocks.ensures.flushes (ap order w.in-L2DependsOnRb.is) (λ may. subst (λ (d : Direction). TablesMayGo d (refblocks c.args.self.now)) (ap order w.in-L2DependsOnRb.is) may) refl (refl, refl) refl tt w.in_ok-write_blocks-in-L2DependsOnRb.ensures.flushes.written)
 ]

@@ -5,15 +5,12 @@ use Rattle.qcow2_alloc.proofs.Lemmas.{never, on_no_ok, fails_ok, fails_on, fails
 use Rattle.qcow2_alloc.proofs.Tries.{LoadsBlock, loads_block, held, gets_at_once, gets_none, gets_again}
 use Rattle.qcow2_laws.specs.Clusters.{RbDependsOnL2}
 use Rattle.qcow2_alloc.proofs.cache.MetadataCaches.rb_get_or_insert.Given.{Over}
-use Rattle.qcow2_alloc.proofs.cache.MetadataCaches.rb_get_or_insert.Goals.{In_ok-get_or_insert, In_ok-get_or_insert-2}
+use Rattle.qcow2_alloc.proofs.cache.MetadataCaches.rb_get_or_insert.Goals.{In_ok-get_or_insert}
 use Rattle.qcow2_alloc.proofs.cache.MetadataCaches.rb_get_or_insert.Goals as goal
 
--- What the first try does, and what the second one does.
+-- What the first try does.
 tried : (g : Over) (c : In_ok-get_or_insert g) → LoadsBlock g.S.Storage.view c.args.cluster false c.args.storage.now c.args.self.now c.in_ok-get_or_insert.field-0 c.get_or_insert.new.store (record c.args.self.now { rb = c.get_or_insert.new.self })
 tried g c = loads_block g.S.Storage.view false c.args.cluster c.args.storage.now c.get_or_insert.new.store c.args.self.now c.in_ok-get_or_insert.field-0 c.get_or_insert.ensures.keeps.0 c.get_or_insert.new.self c.get_or_insert.ensures.kept (λ flush. never flush) c.in_ok-get_or_insert.ensures.hit c.in_ok-get_or_insert.ensures.miss c.get_or_insert.ensures.eviction
-
-tried_again : (g : Over) (c : In_ok-get_or_insert-2 g) → LoadsBlock g.S.Storage.view c.args.cluster true c.before_rb.new.storage c.before_rb.new.self c.in_ok-get_or_insert-2.field-0 c.get_or_insert-2.new.store (record c.before_rb.new.self { rb = c.get_or_insert-2.new.self })
-tried_again g c = loads_block g.S.Storage.view true c.args.cluster c.before_rb.new.storage c.get_or_insert-2.new.store c.before_rb.new.self c.in_ok-get_or_insert-2.field-0 c.get_or_insert-2.ensures.keeps.0 c.get_or_insert-2.new.self c.get_or_insert-2.ensures.kept (λ _. c.in_ok-before_rb.ensures.way.first) c.in_ok-get_or_insert-2.ensures.hit c.in_ok-get_or_insert-2.ensures.miss c.get_or_insert-2.ensures.eviction
 
 pub returns-in_err-branch : goal.returns-in_err-branch
 returns-in_err-branch g c =
@@ -52,7 +49,7 @@ returns-in_err-before_rb g c =
 pub returns-in_err-branch-2 : goal.returns-in_err-branch-2
 returns-in_err-branch-2 g c =
     let one = tried g (goal.at.returns-in_err-branch-2 g c).In_ok-get_or_insert in
-    let two = tried_again g (goal.at.returns-in_err-branch-2 g c).In_ok-get_or_insert-2 in
+    let two = loads_block g.S.Storage.view true c.args.cluster c.before_rb.new.storage c.get_or_insert-2.new.store c.before_rb.new.self c.in_ok-get_or_insert-2.field-0 c.get_or_insert-2.ensures.keeps.0 c.get_or_insert-2.new.self c.get_or_insert-2.ensures.kept (λ _. c.in_ok-before_rb.ensures.way.first) c.in_ok-get_or_insert-2.ensures.hit c.in_ok-get_or_insert-2.ensures.miss c.get_or_insert-2.ensures.eviction in
     let full = c.in_ok-branch.was ∙ ap Ok c.if-branch.false in
     record {
       step = load_step_then (load_step_then one.step (load_step_on c.before_rb.ensures.step)) two.step;
@@ -67,7 +64,7 @@ returns-in_err-branch-2 g c =
 pub returns : goal.returns
 returns g c =
     let one = tried g (goal.at.returns g c).In_ok-get_or_insert in
-    let two = tried_again g (goal.at.returns g c).In_ok-get_or_insert-2 in
+    let two = loads_block g.S.Storage.view true c.args.cluster c.before_rb.new.storage c.get_or_insert-2.new.store c.before_rb.new.self c.in_ok-get_or_insert-2.field-0 c.get_or_insert-2.ensures.keeps.0 c.get_or_insert-2.new.self c.get_or_insert-2.ensures.kept (λ _. c.in_ok-before_rb.ensures.way.first) c.in_ok-get_or_insert-2.ensures.hit c.in_ok-get_or_insert-2.ensures.miss c.get_or_insert-2.ensures.eviction in
     record {
       step = load_step_then (load_step_then one.step (load_step_on c.before_rb.ensures.step)) two.step;
       fails = fails_ok (two.tries.told.same _ c.in_ok-branch-2.was ∙ (c.in_ok-before_rb.ensures.fails.told ∙ one.tries.told.same _ c.in_ok-branch.was));

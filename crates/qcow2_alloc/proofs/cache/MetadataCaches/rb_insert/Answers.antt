@@ -1,20 +1,15 @@
-use Rattle.std.proofs.Common.{◌≡◌}
 use Rattle.qcow2_alloc.proofs.Common.{inl, inr, true, false, Some, Ok, refl, sym, ap, ◌∙◌, eqb, of_cache, storage_of, laid_at, cluster_size}
 use Rattle.qcow2_alloc.proofs.Lemmas.{if_some, put_at_last, laid_then, quiet_none, stays_same, values_stay, never, on_no_ok, blocks_under_then, fails_by, fails_ok, fails_on, fails_since, memory_other, cache_step_none, put_step_as, put_step_on, put_step_then, soundly_none, soundly_then, fails_cache, puts_refused, block_put_as, fails_putting}
 use Rattle.qcow2_alloc.proofs.Tries.{PutsBlockFor, puts_block, held, puts_at_once, puts_none, puts_again, soundly_at_once, soundly_again}
 use Rattle.qcow2_laws.specs.Clusters.{RbDependsOnL2}
 use Rattle.qcow2_alloc.specs.declared.error.ImageError.TheVariants as I
 use Rattle.qcow2_alloc.proofs.cache.MetadataCaches.rb_insert.Given.{Over}
-use Rattle.qcow2_alloc.proofs.cache.MetadataCaches.rb_insert.Goals.{In_ok-insert, In_ok-insert-2}
+use Rattle.qcow2_alloc.proofs.cache.MetadataCaches.rb_insert.Goals.{In_ok-insert}
 use Rattle.qcow2_alloc.proofs.cache.MetadataCaches.rb_insert.Goals as goal
 
--- What the first try does, and what the second one does.
+-- What the first try does.
 tried : (g : Over) (c : In_ok-insert g) → PutsBlockFor g.S.Storage.view c.in-Some.cluster c.args.block false c.args.storage.now c.args.self.now c.in_ok-insert.field-0 c.insert.new.value c.insert.new.store (record c.args.self.now { rb = c.insert.new.self })
 tried g c = puts_block g.S.Storage.view false c.in-Some.cluster c.args.storage.now c.insert.new.store c.args.self.now c.in_ok-insert.field-0 c.insert.ensures.keeps.0 c.insert.new.self c.insert.ensures.kept (λ flush. never flush) c.args.block (Some c.args.block) c.insert.new.value refl (sym c.get_cluster.ensures.value ∙ c.in-Some.is) c.in_ok-insert.ensures.there c.in_ok-insert.ensures.missing
-
-tried_again : (g : Over) (c : In_ok-insert-2 g) → c.insert.new.value ≡ Some c.args.block
-    → PutsBlockFor g.S.Storage.view c.in-Some.cluster c.args.block true c.before_rb.new.storage c.before_rb.new.self c.in_ok-insert-2.field-0 c.insert-2.new.value c.insert-2.new.store (record c.before_rb.new.self { rb = c.insert-2.new.self })
-tried_again g c left = puts_block g.S.Storage.view true c.in-Some.cluster c.before_rb.new.storage c.insert-2.new.store c.before_rb.new.self c.in_ok-insert-2.field-0 c.insert-2.ensures.keeps.0 c.insert-2.new.self c.insert-2.ensures.kept (λ _. c.in_ok-before_rb.ensures.way.first) c.args.block c.insert.new.value c.insert-2.new.value left (sym c.get_cluster.ensures.value ∙ c.in-Some.is) c.in_ok-insert-2.ensures.there c.in_ok-insert-2.ensures.missing
 
 pub returns-in_err-branch : goal.returns-in_err-branch
 returns-in_err-branch g c =
@@ -61,7 +56,7 @@ returns-in_err-branch-2 g c =
     let path = goal.at.returns-in_err-branch-2 g c in
     let one = tried g path.In_ok-insert in
     let full = c.in_ok-branch.was ∙ ap Ok c.if-branch.false in
-    let two = tried_again g path.In_ok-insert-2 (one.taken.kept full) in
+    let two = puts_block g.S.Storage.view true c.in-Some.cluster c.before_rb.new.storage c.insert-2.new.store c.before_rb.new.self c.in_ok-insert-2.field-0 c.insert-2.ensures.keeps.0 c.insert-2.new.self c.insert-2.ensures.kept (λ _. c.in_ok-before_rb.ensures.way.first) c.args.block c.insert.new.value c.insert-2.new.value (one.taken.kept full) (sym c.get_cluster.ensures.value ∙ c.in-Some.is) c.in_ok-insert-2.ensures.there c.in_ok-insert-2.ensures.missing in
     let is = sym c.get_cluster.ensures.value ∙ c.in-Some.is in
     let e = c.in_err-branch-2.field-0.0 in
     record {
@@ -80,7 +75,7 @@ returns g c =
     let view = g.S.Storage.view in
     let one = tried g path.In_ok-insert in
     let full = c.in_ok-branch.was ∙ ap Ok c.if-branch.false in
-    let two = tried_again g path.In_ok-insert-2 (one.taken.kept full) in
+    let two = puts_block g.S.Storage.view true c.in-Some.cluster c.before_rb.new.storage c.insert-2.new.store c.before_rb.new.self c.in_ok-insert-2.field-0 c.insert-2.ensures.keeps.0 c.insert-2.new.self c.insert-2.ensures.kept (λ _. c.in_ok-before_rb.ensures.way.first) c.args.block c.insert.new.value c.insert-2.new.value (one.taken.kept full) (sym c.get_cluster.ensures.value ∙ c.in-Some.is) c.in_ok-insert-2.ensures.there c.in_ok-insert-2.ensures.missing in
     let went = put_at_last c.in-Some.cluster c.args.block c.insert-2.new.self.entries c.in_ok-insert-2.field-0 c.insert-2.new.value c.in_ok-branch-2.field-0 c.in_ok-branch-2.was two.taken in
     let is = sym c.get_cluster.ensures.value ∙ c.in-Some.is in
     let a = c.args.self.now in
