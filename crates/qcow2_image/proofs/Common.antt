@@ -95,7 +95,7 @@ pub use Rattle.qcow2_image.specs.Clearing.{ClearsImageCovers, ClearsPart, Clears
 pub use Rattle.qcow2_image.specs.ClearingCalls.{ClearsSoundly, ClearsStep, FailsToClear, ClearsInTable}
 pub use Rattle.qcow2_image.specs.CopyRange.{HasByte, announced_range_of, copy_range_of, uncut_copy_range}
 pub use Rattle.qcow2_image.specs.Created.{Enlarges, IsNewDisk, IsPreallocated, IsStopOfCreating, IsUnwritten, ShowsZeros, StopsCreating, IsReasonAgainst, backing_format_in, backing_name_in, data_file_name_in, IsCreated, IsReasonNotToCreate, longest_disk, StaysCreating, IsNewHeader, IsMade, IsThreeWith, WritesThree, begins_image, CountsThree, NamesOne, AllocatesPlace, HasLogarithms, IsAllowed, IsReasonNotToCreateOpen, LacksPlaceCreating, IsUnmapped, HoldsNewDisk, OpensGrown, empty_of, IsCoverOf}
-pub use Rattle.qcow2_image.specs.DataFiles.{CallsBeside}
+pub use Rattle.qcow2_image.specs.DataFiles.{CallsBeside, DataFileStep}
 pub use Rattle.qcow2_image.specs.Faults.{faults_beside, CountsImageFaults, SameFaults, ReportsEachIn, ReportsFault, NoFewerFaults, OneRose, IsNotOfStorage, ReportsEach}
 pub use Rattle.qcow2_image.specs.Found.{l1_index_of, l2_index_of, kind_in, mapping_of, NamesL2Table, found_kind, IsRunBehind, AreAlikeBehind, IsAlikeTo, IsFoundInImage, IsFoundWhole, IsMappedAs, writable_place, further_by, IsRunFrom, is_data_file}
 pub use Rattle.qcow2_image.specs.Growing.{FitsSize, Extends, Lasts, ReachesSize, SameFormat, WritesBack, LastsCall, LastsKnown, LastsPart, KeepsSurplus, LeavesSound}
@@ -124,7 +124,7 @@ pub use Rattle.qcow2_image.specs.Ranges.{ReleasesOneMapping, MayGoOn, AllocatesD
 pub use Rattle.qcow2_image.specs.Readable.{IsJustifiedRefusal, IsNewlyOpened, OpeningStep, files_missing, IsReasonAgainstTables, NeededTablesRead, OpensRightly, IsTableRefused, HeaderSuits, IsReadable}
 pub use Rattle.qcow2_image.specs.Refusals.{passes, refuse_if, refuses_to_prepare, unusable, MayFail, MayFailToRead, MayFailToGrow, FreesRefused, MayFailPreparing, failed_after, MarksFailed, MarksRefused, IsUnlimited, IsFaultOrLimit, failed_by}
 pub use Rattle.qcow2_image.specs.Resizing.{GrowsTo, all_given_by_grow, refuses_to_resize, takes_over, boundary_in, RefusesUnchanged, SetsSize, WritesSize, WritesSizeLast, GrowsTables, LacksZeros, Shrinks, DiscardsNext, all_given_by_shrink, all_given_by_shrunk, RefusesDiscard, StopsAt, StopsStep, IsTurnEnd, DiscardsPart, DiscardsTail, TurnStep, DiscardsStep, LeavesTables, IsResized, size_after, GrowsLast, MayFailShrinking, CantDiscard, ShowsBelow, MayStand, ShrinksSoundly, DiscardsClusters}
-pub use Rattle.qcow2_image.specs.Unwritten.{ContentsStayThroughout, ReadsQuietly, LoadsQuietly, LooksQuietly}
+pub use Rattle.qcow2_image.specs.Unwritten.{ContentsStayThroughout, ReadsQuietly, LoadsQuietly, LooksQuietly, OnlyLooks}
 pub use Rattle.qcow2_image.specs.WriteSteps.{KeepingStep, AllocatingStep, BeginsSoundly, PuttingCall, FillingStep, AllocatingStepWhere, keeping, CanEnter}
 pub use Rattle.qcow2_image.specs.declared.builder.Qcow2CreateBuilder.{Qcow2CreateBuilder}
 pub use Rattle.qcow2_image.specs.declared.copy_range.CopyRange.{CopyRange}

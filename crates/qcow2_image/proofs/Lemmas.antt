@@ -47,7 +47,7 @@ pub use Rattle.qcow2_image.proofs.Map.FailingFinds.{unaligned_from, finding_more
 pub use Rattle.qcow2_image.proofs.Map.Held.{writable_held, held_whole, heeds_else, same_found, heeds_then, held_as, none_eof, heeds_on, keeps_marked, uncovered_held, run_held, keeps_storage, plain_marked, reads_marked, special_of, reads_from, still_loaded, heeds_from, held_begun}
 pub use Rattle.qcow2_image.proofs.Map.Loading.{caches_moved, still_moved, with_caches, if_ok_any, read_moved, all_known}
 pub use Rattle.qcow2_image.proofs.Map.Looked.{found_after, found_before, found_whole, mapped_as, none_past, none_found, cluster_near, says_known, run_found}
-pub use Rattle.qcow2_image.proofs.Map.Quiet.{reads_call, reads_bytes, reads_same, kept_throughout, reads_none, looks_begun, looks_call, looks_none, looks_then}
+pub use Rattle.qcow2_image.proofs.Map.Quiet.{reads_call, reads_bytes, reads_same, kept_throughout, reads_none, looks_begun, looks_call, looks_none, looks_then, only_none}
 pub use Rattle.qcow2_image.proofs.Open.Reftables.{allocator_moved}
 pub use Rattle.qcow2_image.proofs.Preallocate.Covers.{boundary, covers_own, covers_stay, stay_covers}
 pub use Rattle.qcow2_image.proofs.Preallocate.FailingFills.{never_past, met_piece, met_filling_freed, met_before, near_behind, met_behind, near_longer_ends, under_prepared, never_far}

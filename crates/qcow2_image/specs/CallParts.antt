@@ -2,7 +2,7 @@
 use Rattle.qcow2_metadata.specs.Header.{cluster_size}
 use Rattle.qcow2_image.specs.InternalSteps.{RefusedFillingStep, HoldsTable}
 use Rattle.qcow2_alloc.specs.ImageError.{IsFault as IsFaultOfTables}
-use Rattle.std.specs.Prelude.{Bool, true, false, ℕ, ◌+◌, ◌*◌, ◌/◌, ◌≡◌, ◌<◌, ◌≤◌, ◌==◌, ◌⊎◌, List, [], ◌∷◌, length, Option, Some, None, IsSome, IsSomeAnd, IsTrue, Result, Ok, Err, slice_get, slice_set, if◌then◌else◌}
+use Rattle.std.specs.Prelude.{Bool, true, false, ℕ, ◌+◌, ◌*◌, ◌/◌, ◌≡◌, ◌<◌, ◌≤◌, ◌==◌, ◌⊎◌, List, [], ◌∷◌, length, Option, Some, None, IsSome, IsSomeAnd, IsTrue, IfErr, IfSome, Result, Ok, Err, slice_get, slice_set, if◌then◌else◌}
 use Rattle.image_access.specs.Backing.{BackingView}
 use Rattle.image_access.specs.Contents.{overwritten}
 use Rattle.image_access.specs.Moments.{StorageView, EachMomentSince, IsLeftBy}
@@ -83,6 +83,19 @@ module _ {S F : Type 0} (view : S → StorageView) where
     pub rest : new ≡ record old { file = record old.file { storage = new.file.storage }; data_file = new.data_file }
     pub storage : storage_of_image new ≡ storage_of_image old
     pub written : IsSomeAnd new.data_file (λ now. (view file).is_honest → (view now).is_honest × IsWriteOutcome result (view file).contents (change (view file).contents) (view now).contents)
+
+  -- Bytes are written as data to the image's own storage. Behind the header's cluster only a fault refuses this.
+  pub record WritesOwnData (old new : Qcow2 S F) (host : ℕ) (bytes : List ℕ) (result : Result (Unit {0}) ImageError) : Type 0 where
+    pub fault : cluster_size old.file.header.fields ≤ host → IfErr result IsFaultOfTables
+    pub written : WritesBytes old new host bytes result
+
+  -- Bytes are written as data: to the data file, which this change is made of then, or without one to the image's own storage. Behind the header's cluster only a fault refuses this.
+  pub record WritesData (old new : Qcow2 S F) (host : ℕ) (bytes : List ℕ) (change : List ℕ → List ℕ) (result : Result (Unit {0}) ImageError) : Type 0 where
+    pub fault : cluster_size old.file.header.fields ≤ host → IfErr result IsFaultOfTables
+    pub rest : new ≡ record old { file = record old.file { storage = new.file.storage }; data_file = new.data_file }
+    pub time : (view_in view old.file).is_honest → EachMomentSince (view_in view old.file) (view_in view new.file) (IsLeftBy (view_in view new.file))
+    pub written : old.data_file ≡ None → WritesBytes old new host bytes result
+    pub beside : IfSome old.data_file (WritesBeside old new change result)
 
   module _ (backing : F → BackingView) where
     -- Bytes are put into a prepared mapping.

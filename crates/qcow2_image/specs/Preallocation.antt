@@ -76,6 +76,11 @@ AreZeros Short = Unit {0}
 AreZeros Taken = Unit {0}
 AreZeros (Plain zeros) = zeros.items ≡ replicate (length zeros.items) 0
 
+-- Zeros are written, and at least so many at once can be.
+pub record WritesZeros (count : ℕ) (writes : ZeroWrites) : Type 0 where
+  pub few : count ≤ most_of writes
+  pub zeros : AreZeros writes
+
 module _ {S F : Type 0} (view : S → StorageView) (backing : F → BackingView) where
   -- A part of a call puts zeros from one offset up to another.
   pub record FillsPart (first from to : ℕ) (old new : Qcow2 S F) (out : List (Option Prepared)) : Type 0 where

@@ -1,5 +1,5 @@
--- What a growth and its parts do to a sound image: an L1 table is replaced by a longer one. Why a flush is refused.
-use Rattle.std.specs.Prelude.{ℕ, ◌+◌, ◌<◌, ◌≡◌, ◌⊎◌, false, List, [], Option, None, IsTrue, Result, IfErr}
+-- What a growth and its parts do to a sound image: an L1 table is replaced by a longer one. What a flush does, and why it is refused.
+use Rattle.std.specs.Prelude.{ℕ, ◌+◌, ◌<◌, ◌≡◌, ◌⊎◌, false, List, [], max, Option, None, IsTrue, Result, IfErr, IfOk, OnOk}
 use Rattle.image_access.specs.Backing.{BackingView}
 use Rattle.image_access.specs.Moments.{StorageView}
 use Rattle.image_access.specs.declared.storage.PreallocateMode.{PreallocateMode}
@@ -7,18 +7,23 @@ use Rattle.qcow2_metadata.specs.EntryTable.{EntryTableView, entry_count}
 use Rattle.qcow2_metadata.specs.Header.{cluster_size, rounded_up}
 use Rattle.qcow2_laws.specs.CrashInvariant.{Pending}
 use Rattle.qcow2_alloc.specs.ImageError.{IsFault, IsOfTables}
-use Rattle.qcow2_alloc.specs.ImageFile.{known_in}
+use Rattle.qcow2_alloc.specs.FreeList.{with_listed}
+use Rattle.qcow2_alloc.specs.ImageFile.{contents_in, known_in}
 use Rattle.qcow2_alloc.specs.declared.error.ImageError.{ImageError}
 use Rattle.qcow2_alloc.specs.declared.error.ImageError.TheVariants.{Preallocation}
-use Rattle.qcow2_image.specs.Image.{is_failed, is_writable, size_of}
-use Rattle.qcow2_image.specs.ImageInvariant.{abstract_of}
-use Rattle.qcow2_image.specs.InternalSteps.{ListGrows}
+use Rattle.qcow2_image.specs.Found.{l1_index_of}
+use Rattle.qcow2_image.specs.Growing.{LastsPart}
+use Rattle.qcow2_image.specs.Image.{HasNothingToFree, is_failed, is_writable, size_of}
+use Rattle.qcow2_image.specs.ImageInvariant.{ImageInvariant, abstract_of, pending_in}
+use Rattle.qcow2_image.specs.InternalSteps.{FreesListed, ListGrows}
+use Rattle.qcow2_image.specs.L1Entries.{IsPlacedNear}
 use Rattle.qcow2_image.specs.Limits.{IfLimit, IsLimited, IsLimitedInternal, entries_reaching}
 use Rattle.qcow2_image.specs.ListedClusters.{LeavesListed}
 use Rattle.qcow2_image.specs.LongerTables.{MakesEntry, AllocatesTable}
 use Rattle.qcow2_image.specs.MayFail.{MayFailGrowing}
 use Rattle.qcow2_image.specs.Refusals.{IsFaultOrLimit}
 use Rattle.qcow2_image.specs.Resizing.{GrowsLast, GrowsTables, all_given_by_grow, boundary_in, refuses_to_resize, takes_over}
+use Rattle.qcow2_image.specs.Unwritten.{ReadsQuietly}
 use Rattle.qcow2_image.specs.declared.image.Qcow2.{Qcow2}
 use Rattle.qcow2_image.specs.declared.prepared.Prepared.{Prepared}
 
@@ -35,6 +40,24 @@ module _ {S F : Type 0} (view : S → StorageView) (backing : F → BackingView)
     pub fault : IfErr result IsFaultOrLimit
     pub limit : IfLimit result (IsLimited view backing [] (offset + 1) old out)
     pub listed : IfErr result (λ e. IsFault e ⊎ ListGrows old new)
+
+  -- The L1 table has an entry for an offset and all old entries then, a change is recorded, and no cluster waits to be freed. On a sound image guests don't see this, and it lasts over every disk below.
+  pub record LengthensTable (offset : ℕ) (old new : Qcow2 S F) (result : Result (Unit {0}) ImageError) : Type 0 where
+    pub recorded : OnOk result (IsTrue new.file.caches.is_changed)
+    pub placed : old.l1_table.cluster_bits ≡ old.file.header.fields.cluster_bits → OnOk result (IsPlacedNear new.l1_table)
+    pub length : OnOk result (entry_count new.l1_table ≡ max (entry_count old.l1_table) (l1_index_of old.file.header.fields offset + 1))
+    pub emptied : OnOk result (HasNothingToFree new)
+    pub sound : (out : List (Option Prepared)) → ImageInvariant view backing (pending_in view backing old out) old out → ReachesSoundly offset old new out result
+    pub lasts : (out : List (Option Prepared)) → ImageInvariant view backing (pending_in view backing old out) old out → LastsPart view old new result
+
+  -- The clusters that wait are freed, the cached tables are written, and the storage is flushed. The header stays the same, and an image that can't be written writes nothing. On a sound image only a fault refuses this.
+  pub record WritesTables (old new : Qcow2 S F) (result : Result (Unit {0}) ImageError) : Type 0 where
+    pub header : new.file.header ≡ old.file.header
+    pub fault : (p : Pending) (out : List (Option Prepared)) → ImageInvariant view backing (with_listed p old.file.free_list) old out → IfErr result IsFault
+    pub emptied : IsTrue (is_writable old) → OnOk result (HasNothingToFree new)
+    pub frees : (p : Pending) (out : List (Option Prepared)) → ImageInvariant view backing (with_listed p old.file.free_list) old out → FreesListed view backing p old new out result
+    pub quiet : is_writable old ≡ false → ReadsQuietly view old new
+    pub written : IfOk result (λ done. known_in view new.file ≡ contents_in view new.file)
 
   -- A flush of an image that has not failed is refused only for a cause that reading and writing tables has. On a sound image a refusal is a fault.
   pub record FlushFails (old : Qcow2 S F) (result : Result (Unit {0}) ImageError) : Type 0 where

@@ -4,7 +4,7 @@ use Rattle.image_access.specs.Moments.{ContentsStay, StorageView, EachMomentSinc
 use Rattle.qcow2_alloc.specs.MetadataCaches.{AreAllWritten}
 use Rattle.qcow2_alloc.specs.Quiet.{GetsTableQuietly, KeepAllWritten, WritesNothing}
 use Rattle.qcow2_image.specs.declared.image.Qcow2.{Qcow2}
-use Rattle.qcow2_image.specs.HeldMappings.{named_place}
+use Rattle.qcow2_image.specs.HeldMappings.{StaysHeld, named_place}
 use Rattle.qcow2_image.specs.PinnedTables.{own_table}
 
 -- The contents are the same now, and at every moment since.
@@ -27,3 +27,9 @@ LoadsQuietly image offset = (named_place image.file.header.fields image.l1_table
 -- Nothing is written, if the L2 table of an offset can be looked at without a write.
 abbrev pub LooksQuietly : {S F : Type 0} → (S → StorageView) → (offset : ℕ) → Qcow2 S F → Qcow2 S F → Type 0
 LooksQuietly view offset old new = LoadsQuietly old offset → WritesNothing view old.file.storage new.file.storage
+
+-- A look at an offset writes nothing, if its L2 table can be looked at without a write. What the tables in memory map there stays mapped so, and the data file stays the same.
+pub record OnlyLooks {S F : Type 0} (view : S → StorageView) (offset : ℕ) (old new : Qcow2 S F) : Type 0 where
+  pub quiet : LooksQuietly view offset old new
+  pub still : StaysHeld old new offset
+  pub data_file : new.data_file ≡ old.data_file

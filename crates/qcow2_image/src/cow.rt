@@ -8,7 +8,7 @@ ghost use Rattle.qcow2_image.specs.MayFail.{HasUnannounced, IsCopiedCompressed, 
 ghost use Rattle.qcow2_laws.specs.CrashInvariant.{Pending};
 ghost use Rattle.qcow2_alloc.specs.ImageFile.{known_in};
 ghost use Rattle.image_access.specs.Contents.{zeroed};
-ghost use Rattle.qcow2_image.specs.CallParts.{WritesBeside, WritesBytes};
+ghost use Rattle.qcow2_image.specs.CallParts.{WritesData, WritesOwnData};
 ghost use Rattle.qcow2_image.specs.InternalSteps.{InternalFillingStep, HoldsAll, IsCopied, IsFilled, IsKeptAlone};
 ghost use Rattle.qcow2_image.specs.InternalSteps.{IsInHeldCluster, is_announced};
 ghost use Rattle.qcow2_image.specs.CopyRange.{HasByte};
@@ -140,14 +140,8 @@ impl<S: Storage, F: WrappedFormat<S>> Qcow2<S, F> {
     fn write_zeros(&mut self, at: u64, length: u64) -> Result<(), ImageError>
         ensures step { ImageStep S.view self.old self.new }
         ensures fails { FailsUnlimited S.view F.backing self.old self.new result MayFail }
-        ensures fault { cluster_size self.old.file.header.fields ≤ at → IfErr result IsFault }
-        ensures rest { self.new ≡ record self.old {
-          file = record self.old.file { storage = self.new.file.storage };
-          data_file = self.new.data_file;
-        } }
-        ensures written { self.old.data_file ≡ None → WritesBytes S.view self.old self.new at (replicate length 0) result }
-        ensures beside { IfSome self.old.data_file
-            (WritesBeside S.view self.old self.new (λ b. zeroed b at length) result) }
+        ensures puts { WritesData S.view self.old self.new at (replicate length 0)
+            (λ b. zeroed b at length) result }
     {
         match &mut self.data_file {
             Some(file) => {
@@ -162,8 +156,7 @@ impl<S: Storage, F: WrappedFormat<S>> Qcow2<S, F> {
     fn write_own_zeros(&mut self, at: u64, length: u64) -> Result<(), ImageError>
         ensures step { ImageStep S.view self.old self.new }
         ensures fails { FailsUnlimited S.view F.backing self.old self.new result MayFail }
-        ensures fault { cluster_size self.old.file.header.fields ≤ at → IfErr result IsFault }
-        ensures written { WritesBytes S.view self.old self.new at (replicate length 0) result }
+        ensures puts { WritesOwnData S.view self.old self.new at (replicate length 0) result }
     {
         if at < self.file.header.cluster_size() {
             return Err(ImageError::Metadata);

@@ -2,23 +2,19 @@
 ghost use Rattle.std.specs.Prelude.{◌≡◌, ◌↔◌, ◌<◌, ◌/◌, IfErr, IfOk, IfSome, IsErr, IsTrue, List, MatchResult, OnOk, Option};
 ghost use Rattle.std.specs.Prelude.{Err, None, Ok, false, length};
 ghost use Rattle.image_access.specs.Contents.{bytes_at, resized};
-ghost use Rattle.image_access.specs.Moments.{ContentsStay};
 ghost use Rattle.qcow2_alloc.specs.ImageFile.{view_in};
 ghost use Rattle.qcow2_alloc.specs.ImageStorage.{RecordsWrite};
-ghost use Rattle.qcow2_alloc.specs.Quiet.{WritesNothing};
 ghost use Rattle.qcow2_metadata.specs.Header.{cluster_size};
 ghost use Rattle.qcow2_metadata.specs.L2Mapping.{IsHostCluster};
 ghost use Rattle.qcow2_alloc.specs.ImageError.{IsFault, of_storage};
 ghost use Rattle.qcow2_alloc.specs.declared.error.ImageError.TheVariants.{Failed, MappingPrepared};
 ghost use Rattle.qcow2_image.specs.Backings.{HasPinnedMapping};
 ghost use Rattle.qcow2_image.specs.CallParts.{WritesBeside};
-ghost use Rattle.qcow2_image.specs.DataFiles.{CallsBeside};
+ghost use Rattle.qcow2_image.specs.DataFiles.{CallsBeside, DataFileStep, ReadsData};
 ghost use Rattle.qcow2_image.specs.HeldMappings.{ReadsFrom};
 ghost use Rattle.qcow2_image.specs.Image.{HasPinnedTable, is_failed, is_placed_by_guest, place_in, storage_of_image};
-ghost use Rattle.qcow2_image.specs.ImageInvariant.{ImageInvariant, abstract_of};
-ghost use Rattle.qcow2_image.specs.ImageSteps.{ImageFails, ImageStep, ReadingStep};
-ghost use Rattle.qcow2_image.specs.InternalSteps.{InternalStep};
-ghost use Rattle.qcow2_laws.specs.CrashInvariant.{Pending};
+ghost use Rattle.qcow2_image.specs.ImageInvariant.{abstract_of};
+ghost use Rattle.qcow2_image.specs.ImageSteps.{ImageFails, ReadingStep};
 ghost use Rattle.qcow2_image.specs.declared.prepared.Prepared.{Prepared};
 
 use crate::{ImageError, Place, Qcow2};
@@ -82,16 +78,9 @@ impl<S: Storage, F: WrappedFormat<S>> Qcow2<S, F> {
     pub(crate) fn read_data(&mut self, at: u64, bytes: &mut [u8]) -> Result<(), ImageError>
         ensures step { ReadingStep S.view self.old self.new }
         ensures fails { ImageFails S.view F.backing self.old self.new result IsFault }
-        ensures rest { self.new ≡ record self.old {
-          file = record self.old.file { storage = self.new.file.storage };
-          data_file = self.new.data_file;
-        } }
-        ensures keeps { (p : Pending) (out : List (Option Prepared)) → ImageInvariant S.view F.backing p self.old out
-            → InternalStep S.view F.backing p p self.old self.new out }
+        ensures data { ReadsData S.view F.backing self.old self.new }
         ensures own { self.old.data_file ≡ None → (view_in S.view self.old.file).is_honest
             → IfOk result (λ done. bytes.new ≡ bytes_at (view_in S.view self.old.file).contents at (length bytes.old)) }
-        ensures same { ContentsStay (view_in S.view self.old.file) (view_in S.view self.new.file) }
-        ensures quiet { WritesNothing S.view self.old.file.storage self.new.file.storage }
         ensures reads { OnOk result (ReadsFrom S.view self.old self.new at bytes.new) }
     {
         match &mut self.data_file {
@@ -107,16 +96,9 @@ impl<S: Storage, F: WrappedFormat<S>> Qcow2<S, F> {
     fn read_own_data(&mut self, at: u64, bytes: &mut [u8]) -> Result<(), ImageError>
         ensures step { ReadingStep S.view self.old self.new }
         ensures fails { ImageFails S.view F.backing self.old self.new result IsFault }
-        ensures rest { self.new ≡ record self.old {
-          file = record self.old.file { storage = self.new.file.storage };
-          data_file = self.new.data_file;
-        } }
-        ensures keeps { (p : Pending) (out : List (Option Prepared)) → ImageInvariant S.view F.backing p self.old out
-            → InternalStep S.view F.backing p p self.old self.new out }
+        ensures data { ReadsData S.view F.backing self.old self.new }
         ensures own { (view_in S.view self.old.file).is_honest
             → IfOk result (λ done. bytes.new ≡ bytes_at (view_in S.view self.old.file).contents at (length bytes.old)) }
-        ensures same { ContentsStay (view_in S.view self.old.file) (view_in S.view self.new.file) }
-        ensures quiet { WritesNothing S.view self.old.file.storage self.new.file.storage }
         ensures reads { OnOk result ((view_in S.view self.old.file).is_honest
             → bytes.new ≡ bytes_at (view_in S.view self.new.file).contents at (length bytes.new)) }
     {
@@ -170,15 +152,10 @@ impl<S: Storage, F: WrappedFormat<S>> Qcow2<S, F> {
 
     // Resizes the data file, if there is one, as a change of the call.
     pub(crate) fn resize_data_file(&mut self, size: u64) -> Result<(), ImageError>
-        ensures step { ImageStep S.view self.old self.new }
-        ensures fails { ImageFails S.view F.backing self.old self.new result IsFault }
+        ensures step { DataFileStep S.view F.backing self.old self.new IsFault result }
         ensures none { self.old.data_file ≡ None → (result ≡ Ok tt) × (self.new ≡ self.old) }
         ensures resizes { IfSome self.old.data_file
             (WritesBeside S.view self.old self.new (λ b. resized b size) result) }
-        ensures rest { self.new ≡ record self.old {
-          file = record self.old.file { storage = self.new.file.storage };
-          data_file = self.new.data_file;
-        } }
     {
         if let Some(file) = &mut self.data_file {
             let done = file.resize(size, StoragePreallocate::None);
@@ -189,13 +166,8 @@ impl<S: Storage, F: WrappedFormat<S>> Qcow2<S, F> {
 
     // Resizes a data file that has data at their guest offsets, as a change of the call.
     pub(crate) fn resize_placed_data(&mut self, size: u64) -> Result<(), ImageError>
-        ensures step { ImageStep S.view self.old self.new }
-        ensures fails { ImageFails S.view F.backing self.old self.new result IsFault }
+        ensures step { DataFileStep S.view F.backing self.old self.new IsFault result }
         ensures none { self.old.data_file ≡ None → (result ≡ Ok tt) × (self.new ≡ self.old) }
-        ensures rest { self.new ≡ record self.old {
-          file = record self.old.file { storage = self.new.file.storage };
-          data_file = self.new.data_file;
-        } }
     {
         if self.is_placed_by_guest() {
             return self.resize_data_file(size);

@@ -91,7 +91,7 @@ impl<S: Storage, F: WrappedFormat<S>> Qcow2<S, F> {
     ghost use Rattle.qcow2_image.specs.CallParts.{EndsFreeing};
     ghost use Rattle.qcow2_alloc.specs.ImageError.{IsFault, IsOfTables};
     ghost use Rattle.qcow2_image.specs.Calls.{FlushesImage};
-    ghost use Rattle.qcow2_image.specs.SizeSteps.{FlushFails};
+    ghost use Rattle.qcow2_image.specs.SizeSteps.{FlushFails, WritesTables};
     ghost use Rattle.qcow2_alloc.specs.ImageFile.{contents_in, known_in, view_in};
     ghost use Rattle.qcow2_image.specs.InternalSteps.{InternalStep, FreesListed};
     ghost use Rattle.qcow2_alloc.specs.FreeList.{with_listed};
@@ -450,16 +450,7 @@ impl<S: Storage, F: WrappedFormat<S>> Qcow2<S, F> {
     fn write_back(&mut self) -> Result<(), ImageError>
         ensures step { ImageStep S.view self.old self.new }
         ensures fails { ImageFails S.view F.backing self.old self.new result IsOfTables }
-        ensures header { self.new.file.header ≡ self.old.file.header }
-        ensures fault { (p : Pending) (out : List (Option Prepared))
-            → ImageInvariant S.view F.backing (with_listed p self.old.file.free_list) self.old out
-            → IfErr result IsFault }
-        ensures emptied { IsTrue (is_writable self.old) → OnOk result (HasNothingToFree self.new) }
-        ensures frees { (p : Pending) (out : List (Option Prepared))
-            → ImageInvariant S.view F.backing (with_listed p self.old.file.free_list) self.old out
-            → FreesListed S.view F.backing p self.old self.new out result }
-        ensures quiet { is_writable self.old ≡ false → ReadsQuietly S.view self.old self.new }
-        ensures written { IfOk result (λ done. known_in S.view self.new.file ≡ contents_in S.view self.new.file) }
+        ensures tables { WritesTables S.view F.backing self.old self.new result }
     {
         self.flush_image()?;
         self.flush_data_file()
@@ -470,16 +461,7 @@ impl<S: Storage, F: WrappedFormat<S>> Qcow2<S, F> {
     fn flush_image(&mut self) -> Result<(), ImageError>
         ensures step { ImageStep S.view self.old self.new }
         ensures fails { ImageFails S.view F.backing self.old self.new result IsOfTables }
-        ensures header { self.new.file.header ≡ self.old.file.header }
-        ensures fault { (p : Pending) (out : List (Option Prepared))
-            → ImageInvariant S.view F.backing (with_listed p self.old.file.free_list) self.old out
-            → IfErr result IsFault }
-        ensures emptied { IsTrue (is_writable self.old) → OnOk result (HasNothingToFree self.new) }
-        ensures frees { (p : Pending) (out : List (Option Prepared))
-            → ImageInvariant S.view F.backing (with_listed p self.old.file.free_list) self.old out
-            → FreesListed S.view F.backing p self.old self.new out result }
-        ensures quiet { is_writable self.old ≡ false → ReadsQuietly S.view self.old self.new }
-        ensures written { IfOk result (λ done. known_in S.view self.new.file ≡ contents_in S.view self.new.file) }
+        ensures tables { WritesTables S.view F.backing self.old self.new result }
     {
         self.process_free_list()?;
         self.file.caches.flush_all(&mut self.file.storage)?;

@@ -5,9 +5,8 @@ ghost use Rattle.qcow2_image.specs.WriteSteps.{ReadsSpecial, RefusesOrSkips, Ref
 ghost use Rattle.qcow2_image.specs.ImageSteps.{FailsUnlimited, ImageFails, ImageStep, ReadingCall};
 ghost use Rattle.qcow2_image.specs.ImageSteps.{ReadingStep};
 ghost use Rattle.std.specs.Prelude.{◌≡◌, ◌≢◌, ◌+◌, ◌^◌, ◌<◌, ◌≤◌, List, [], Option, length, ◌⊎◌, IfOk};
-ghost use Rattle.std.specs.Prelude.{IfErr, IfSome, IsErr, IsSome, MatchOption, Ok, Err, Some, None};
+ghost use Rattle.std.specs.Prelude.{IfErr, IsErr, IsSome, MatchOption, Ok, Err, Some, None};
 ghost use Rattle.std.specs.Prelude.{is_some, true, OnOk};
-ghost use Rattle.qcow2_metadata.specs.Header.{cluster_size};
 ghost use Rattle.qcow2_alloc.specs.ImageError.{IsFault};
 ghost use Rattle.qcow2_image.specs.MayFail.{IsSpecial, MayFailReading, MayFailWriting};
 ghost use Rattle.qcow2_image.specs.LookupCauses.{MayFailFindingAgain, MayFailPuttingAt, MayFailReadingFound, MayFailTelling};
@@ -17,21 +16,19 @@ ghost use Rattle.qcow2_image.specs.Calls.{AnswersCall, Puts};
 ghost use Rattle.qcow2_image.specs.Faults.{IsNotOfStorage};
 ghost use Rattle.qcow2_image.specs.Found.{AreBytesOf, IsMappedAs, further_by};
 ghost use Rattle.image_access.specs.Contents.{overwritten};
-ghost use Rattle.image_access.specs.Moments.{EachMomentSince, IsLeftBy};
-ghost use Rattle.qcow2_image.specs.CallParts.{WritesBeside, WritesBytes};
+ghost use Rattle.qcow2_image.specs.CallParts.{WritesData, WritesOwnData};
 ghost use Rattle.qcow2_image.specs.HeldMappings.{FitsTables, IsCompressedInTables, KeepsHeld, ReadsAs};
-ghost use Rattle.qcow2_alloc.specs.ImageFile.{view_in};
 ghost use Rattle.qcow2_image.specs.InternalSteps.{InternalStep};
 ghost use Rattle.qcow2_image.specs.ImageInvariant.{IsHonestBacking, ImageInvariant, backing_bytes, disk_of};
 ghost use Rattle.qcow2_image.specs.declared.mapping.MappingKind.TheVariants.{Eof, Raw};
 ghost use Rattle.qcow2_image.specs.declared.prepared.Prepared.{Prepared};
 ghost use Rattle.qcow2_image.specs.Image.{size_of};
 ghost use Rattle.qcow2_image.specs.Prepared.{image_of, table_of};
-ghost use Rattle.qcow2_image.specs.Refusals.{unusable, refuses_mapping, refuses_to_read, MayFail, MayFailToRead};
+ghost use Rattle.qcow2_image.specs.Refusals.{unusable, refuses_mapping, refuses_to_read, MayFailToRead};
 ghost use Rattle.qcow2_alloc.specs.declared.error.ImageError.TheVariants.{Compressed, NotCompressed, OutdatedMapping};
 ghost use Rattle.qcow2_alloc.specs.declared.error.ImageError.TheVariants.{ReadOnly};
 ghost use Rattle.qcow2_image.specs.Noted.{PutsOnce};
-ghost use Rattle.qcow2_image.specs.Unwritten.{LooksQuietly};
+ghost use Rattle.qcow2_image.specs.Unwritten.{LooksQuietly, OnlyLooks};
 ghost use Rattle.qcow2_alloc.specs.Quiet.{WritesNothing};
 
 use crate::mappings::passes;
@@ -143,8 +140,7 @@ impl<S: Storage, F: WrappedFormat<S>> Qcow2<S, F> {
         ensures sound { ChecksRange S.view F.backing self.old self.new offset length wanted.now result }
         ensures held { 0 < length → FitsTables self.old self.new offset wanted.now length result }
         ensures special { OnOk result (IsSpecial wanted.now → IsCompressedInTables self.new offset) }
-        ensures quiet { LooksQuietly S.view offset self.old self.new }
-        ensures data_file { self.new.data_file ≡ self.old.data_file }
+        ensures looks { OnlyLooks S.view offset self.old self.new }
     {
         let (kind, found) = self.look_up(offset, length)?;
         if found >= length && wanted.is(&kind) {
@@ -355,8 +351,7 @@ impl<S: Storage, F: WrappedFormat<S>> Qcow2<S, F> {
         ensures private { IsSome (table_of prepared.now) → (result ≡ Ok tt) × (self.new ≡ self.old) }
         ensures held { table_of prepared.now ≡ None → 0 < length
             → FitsTables self.old self.new (prepared.now.guest + at) (Raw prepared.now.place host true) length result }
-        ensures quiet { LooksQuietly S.view (prepared.now.guest + at) self.old self.new }
-        ensures data_file { self.new.data_file ≡ self.old.data_file }
+        ensures looks { OnlyLooks S.view (prepared.now.guest + at) self.old self.new }
     {
         if prepared.table.is_some() {
             return Ok(());
@@ -375,17 +370,8 @@ impl<S: Storage, F: WrappedFormat<S>> Qcow2<S, F> {
     pub(crate) fn write_data(&mut self, host: u64, bytes: &[u8]) -> Result<(), ImageError>
         ensures step { ImageStep S.view self.old self.new }
         ensures fails { FailsUnlimited S.view F.backing self.old self.new result MayFailWriting }
-        ensures header { self.new.file.header ≡ self.old.file.header }
-        ensures fault { cluster_size self.old.file.header.fields ≤ host → IfErr result IsFault }
-        ensures rest { self.new ≡ record self.old {
-          file = record self.old.file { storage = self.new.file.storage };
-          data_file = self.new.data_file;
-        } }
-        ensures time { (view_in S.view self.old.file).is_honest → EachMomentSince (view_in S.view self.old.file)
-            (view_in S.view self.new.file) (IsLeftBy (view_in S.view self.new.file)) }
-        ensures written { self.old.data_file ≡ None → WritesBytes S.view self.old self.new host bytes.now result }
-        ensures beside { IfSome self.old.data_file
-            (WritesBeside S.view self.old self.new (λ b. overwritten b host bytes.now) result) }
+        ensures puts { WritesData S.view self.old self.new host bytes.now
+            (λ b. overwritten b host bytes.now) result }
     {
         match &mut self.data_file {
             Some(file) => {
@@ -400,9 +386,7 @@ impl<S: Storage, F: WrappedFormat<S>> Qcow2<S, F> {
     fn write_own_data(&mut self, host: u64, bytes: &[u8]) -> Result<(), ImageError>
         ensures step { ImageStep S.view self.old self.new }
         ensures fails { FailsUnlimited S.view F.backing self.old self.new result MayFailWriting }
-        ensures header { self.new.file.header ≡ self.old.file.header }
-        ensures fault { cluster_size self.old.file.header.fields ≤ host → IfErr result IsFault }
-        ensures written { WritesBytes S.view self.old self.new host bytes.now result }
+        ensures puts { WritesOwnData S.view self.old self.new host bytes.now result }
     {
         if host < self.file.header.cluster_size() {
             return Err(ImageError::Metadata);

@@ -19,13 +19,13 @@ ghost use Rattle.qcow2_disk.specs.Found.{rest_of_table};
 ghost use Rattle.qcow2_image.specs.Faults.{IsNotOfStorage};
 ghost use Rattle.qcow2_image.specs.Found.{found_kind, further_by, kind_in, mapping_of, IsRunBehind, NamesL2Table, IsRunFrom};
 ghost use Rattle.qcow2_image.specs.Found.{l1_index_of, l2_index_of};
-ghost use Rattle.qcow2_image.specs.HeldMappings.{IsCompressedInTables, IsHeldFrom, IsHeldRun, StaysHeld, named_place};
+ghost use Rattle.qcow2_image.specs.HeldMappings.{IsCompressedInTables, IsHeldFrom, IsHeldRun, named_place};
 ghost use Rattle.qcow2_image.specs.MayFail.{IsSpecial};
 ghost use Rattle.qcow2_image.specs.PinnedTables.{own_table};
 ghost use Rattle.qcow2_image.specs.ImageInvariant.{HasL1Table, ImageInvariant};
 ghost use Rattle.qcow2_metadata.specs.Header.{cluster_size};
 ghost use Rattle.qcow2_image.specs.declared.mapping.MappingKind.TheVariants.{Eof};
-ghost use Rattle.qcow2_image.specs.Unwritten.{LooksQuietly};
+ghost use Rattle.qcow2_image.specs.Unwritten.{LooksQuietly, OnlyLooks};
 
 use crate::{Mapping, MappingKind, Qcow2};
 use image_access::{Storage, WrappedFormat};
@@ -102,9 +102,7 @@ impl<S: Storage, F: WrappedFormat<S>> Qcow2<S, F> {
         ensures past { size_of self.old ≤ offset → result ≡ Ok (Eof, 0) }
         ensures held { offset < size_of self.old → IfOk result (λ (kind, n). IsHeldRun self.new offset max kind n) }
         ensures kind { IfOk result (λ (kind, n). IsKindIn self.new offset kind) }
-        ensures still { StaysHeld self.old self.new offset }
-        ensures quiet { LooksQuietly S.view offset self.old self.new }
-        ensures data_file { self.new.data_file ≡ self.old.data_file }
+        ensures looks { OnlyLooks S.view offset self.old self.new }
     {
         let size = self.file.header.size();
         if offset >= size {
@@ -129,9 +127,7 @@ impl<S: Storage, F: WrappedFormat<S>> Qcow2<S, F> {
             → IfOk result (λ (kind, n). IsHeldRun self.new offset limit kind n) }
         ensures kind { IfOk result (λ (kind, n). IsKindIn self.new offset kind) }
         ensures plain { IfOk result (λ (kind, n). IsCompressedInTables self.new offset → IsSpecial kind) }
-        ensures still { StaysHeld self.old self.new offset }
-        ensures quiet { LooksQuietly S.view offset self.old self.new }
-        ensures data_file { self.new.data_file ≡ self.old.data_file }
+        ensures looks { OnlyLooks S.view offset self.old self.new }
     {
         let max = max.min(self.rest_of_table(offset));
         match self.l2_cluster(offset)? {

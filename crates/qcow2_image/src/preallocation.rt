@@ -1,7 +1,7 @@
 //! Preallocation: zeros are put past the end of a disk before its size grows.
 ghost use Rattle.qcow2_image.specs.SoundParts.{FillsPart};
 ghost use Rattle.qcow2_image.specs.ImageSteps.{FailsUnlimited, ImageFails, ImageStep};
-ghost use Rattle.std.specs.Prelude.{ℕ, List, Option, ◌≡◌, ◌%◌, ◌^◌, ◌<◌, ◌≤◌, Err, IfOk, IfErr, IfSome, IsTrue, OnOk, max};
+ghost use Rattle.std.specs.Prelude.{ℕ, List, Option, ◌≡◌, ◌%◌, ◌^◌, ◌<◌, ◌≤◌, Err, IfOk, IfErr, IsTrue, OnOk, max};
 ghost use Rattle.std.specs.Prelude.{replicate, slice_get, slice_set, None, Ok, Some};
 ghost use Rattle.qcow2_alloc.specs.ImageFile.{known_in};
 ghost use Rattle.qcow2_image.specs.Backings.{HasPinnedMapping};
@@ -15,11 +15,11 @@ ghost use Rattle.qcow2_alloc.specs.ImageStorage.{storage_of, RecordsWrite};
 ghost use Rattle.qcow2_alloc.specs.WriteKinds.{HasDataKind};
 ghost use Rattle.qcow2_alloc.specs.declared.error.ImageError.TheVariants.{Version};
 ghost use Rattle.qcow2_image.specs.declared.prepared.Prepared.{Prepared};
-ghost use Rattle.qcow2_image.specs.CallParts.{WritesBeside, WritesBytes};
+ghost use Rattle.qcow2_image.specs.CallParts.{WritesData, WritesOwnData};
 ghost use Rattle.qcow2_image.specs.Image.{HasNothingToFree, is_writable, size_of};
 ghost use Rattle.qcow2_image.specs.ImageInvariant.{ImageInvariant, pending_in};
 ghost use Rattle.qcow2_image.specs.Preallocation.{AreZeros, CommitsWhole, FillsFirst, FillsGrownOrRefuses};
-ghost use Rattle.qcow2_image.specs.Preallocation.{FillsOrRefuses, IsWholeRange, most_of};
+ghost use Rattle.qcow2_image.specs.Preallocation.{FillsOrRefuses, IsWholeRange, WritesZeros, most_of};
 ghost use Rattle.qcow2_image.specs.Refusals.{FreesRefused, MayFail, MayFailPreparing, MayFailToGrow};
 ghost use Rattle.qcow2_image.specs.Faults.{IsNotOfStorage, SameFaults};
 
@@ -74,8 +74,7 @@ impl ZeroWrites {
         at: u64,
         count: u64,
     ) -> Result<(), StorageError>
-        requires few { count ≤ most_of self.now }
-        requires zeros { AreZeros self.now }
+        requires zeros { WritesZeros count self.now }
         requires told { HasDataKind storage.old }
         ensures written { Changes (S.view (storage_of storage.old)) (S.view (storage_of storage.new)) result
             (λ b. zeroed b at count) }
@@ -96,8 +95,7 @@ impl ZeroWrites {
         at: u64,
         count: u64,
     ) -> Result<(), StorageError>
-        requires few { count ≤ most_of self.now }
-        requires zeros { AreZeros self.now }
+        requires { WritesZeros count self.now }
         ensures written { Changes (S.view file.old) (S.view file.new) result (λ b. zeroed b at count) }
         ensures calls { Calls (S.view file.old) (S.view file.new) result }
     {
@@ -179,8 +177,7 @@ impl<S: Storage, F: WrappedFormat<S>> Qcow2<S, F> {
     // Resizes a data file that has data at their guest offsets, and puts zeros past the end, in clusters of their own.
     fn allocate_grown(&mut self, old: u64, size: u64, writes: &ZeroWrites) -> Result<(), ImageError>
         requires writable { IsTrue (is_writable self.old) }
-        requires few { 2 ^ 21 ≤ most_of writes.now }
-        requires zeros { AreZeros writes.now }
+        requires zeros { WritesZeros (2 ^ 21) writes.now }
         ensures step { ImageStep S.view self.old self.new }
         ensures fails { ImageFails S.view F.backing self.old self.new result (MayFailPreparing self.new) }
         ensures sound { (out : List (Option Prepared))
@@ -207,8 +204,7 @@ impl<S: Storage, F: WrappedFormat<S>> Qcow2<S, F> {
         writes: &ZeroWrites,
     ) -> Result<(), ImageError>
         requires writable { IsTrue (is_writable self.old) }
-        requires few { 2 ^ 21 ≤ most_of writes.now }
-        requires zeros { AreZeros writes.now }
+        requires zeros { WritesZeros (2 ^ 21) writes.now }
         ensures step { ImageStep S.view self.old self.new }
         ensures fails { ImageFails S.view F.backing self.old self.new result (MayFailPreparing self.new) }
         ensures sound { (out : List (Option Prepared))
@@ -330,8 +326,7 @@ impl<S: Storage, F: WrappedFormat<S>> Qcow2<S, F> {
     // Writes zeros to a range, which has clusters of its own then.
     fn fill_range(&mut self, from: u64, to: u64, writes: &ZeroWrites) -> Result<(), ImageError>
         requires writable { IsTrue (is_writable self.old) }
-        requires few { 2 ^ 21 ≤ most_of writes.now }
-        requires zeros { AreZeros writes.now }
+        requires zeros { WritesZeros (2 ^ 21) writes.now }
         ensures step { ImageStep S.view self.old self.new }
         ensures fails { ImageFails S.view F.backing self.old self.new result (MayFailPreparing self.new) }
         ensures sound { (out : List (Option Prepared))
@@ -353,8 +348,7 @@ impl<S: Storage, F: WrappedFormat<S>> Qcow2<S, F> {
     // Writes zeros to the first bytes of a range, in a prepared mapping. Returns where they end.
     fn fill_first(&mut self, from: u64, to: u64, writes: &ZeroWrites) -> Result<u64, ImageError>
         requires writable { IsTrue (is_writable self.old) }
-        requires few { 2 ^ 21 ≤ most_of writes.now }
-        requires zeros { AreZeros writes.now }
+        requires zeros { WritesZeros (2 ^ 21) writes.now }
         requires some { from < to }
         ensures step { ImageStep S.view self.old self.new }
         ensures fails { ImageFails S.view F.backing self.old self.new result (MayFailPreparing self.new) }
@@ -383,18 +377,11 @@ impl<S: Storage, F: WrappedFormat<S>> Qcow2<S, F> {
     // Writes zeros into a mapping, to the data file if there is one. In the image's own file a place in the header's cluster, which no mapping
     // has, is refused 19 (metadata).
     fn put_zeros(&mut self, host: u64, count: u64, writes: &ZeroWrites) -> Result<(), ImageError>
-        requires few { count ≤ most_of writes.now }
-        requires zeros { AreZeros writes.now }
+        requires { WritesZeros count writes.now }
         ensures step { ImageStep S.view self.old self.new }
         ensures fails { FailsUnlimited S.view F.backing self.old self.new result MayFail }
-        ensures fault { cluster_size self.old.file.header.fields ≤ host → IfErr result IsFault }
-        ensures rest { self.new ≡ record self.old {
-          file = record self.old.file { storage = self.new.file.storage };
-          data_file = self.new.data_file;
-        } }
-        ensures written { self.old.data_file ≡ None → WritesBytes S.view self.old self.new host (replicate count 0) result }
-        ensures beside { IfSome self.old.data_file
-            (WritesBeside S.view self.old self.new (λ b. zeroed b host count) result) }
+        ensures puts { WritesData S.view self.old self.new host (replicate count 0)
+            (λ b. zeroed b host count) result }
     {
         match &mut self.data_file {
             Some(file) => {
@@ -412,12 +399,10 @@ impl<S: Storage, F: WrappedFormat<S>> Qcow2<S, F> {
         count: u64,
         writes: &ZeroWrites,
     ) -> Result<(), ImageError>
-        requires few { count ≤ most_of writes.now }
-        requires zeros { AreZeros writes.now }
+        requires { WritesZeros count writes.now }
         ensures step { ImageStep S.view self.old self.new }
         ensures fails { FailsUnlimited S.view F.backing self.old self.new result MayFail }
-        ensures fault { cluster_size self.old.file.header.fields ≤ host → IfErr result IsFault }
-        ensures written { WritesBytes S.view self.old self.new host (replicate count 0) result }
+        ensures puts { WritesOwnData S.view self.old self.new host (replicate count 0) result }
     {
         if host < self.file.header.cluster_size() {
             return Err(ImageError::Metadata);

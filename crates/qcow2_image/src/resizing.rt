@@ -1,16 +1,14 @@
 //! Resizing the disk. Clusters past a smaller end are discarded first, and the size is written last.
-ghost use Rattle.qcow2_image.specs.L1Entries.{IsPlacedNear};
+ghost use Rattle.qcow2_image.specs.DataFiles.{DataFileStep};
 ghost use Rattle.qcow2_image.specs.SoundParts.{GrowsSoundly};
-ghost use Rattle.qcow2_image.specs.SizeSteps.{GrowsOrRefuses, ReachesSoundly};
+ghost use Rattle.qcow2_image.specs.SizeSteps.{GrowsOrRefuses, LengthensTable};
 ghost use Rattle.qcow2_image.specs.Faults.{IsNotOfStorage};
 ghost use Rattle.qcow2_image.specs.ImageSteps.{CallStep, ImageFails, ImageStep, MarkedStep};
 ghost use Rattle.qcow2_image.specs.Noted.{RecordsChanges};
 ghost use Rattle.qcow2_image.specs.BehindHeader.{PreservesHeaderCluster};
 ghost use Rattle.qcow2_alloc.specs.KeptMarks.{HaveRisen, KeepsFileNotes};
-ghost use Rattle.std.specs.Prelude.{List, Option, ◌≡◌, ◌⊎◌, ◌+◌, ◌-◌, ◌<◌, ◌≤◌, max, [], Some, None, Ok, Err, IfErr, IfSome, OnOk, OnErr, IsTrue, MatchOption, false, ◌∷◌};
+ghost use Rattle.std.specs.Prelude.{List, Option, ◌≡◌, ◌⊎◌, ◌-◌, ◌<◌, ◌≤◌, [], Some, None, Ok, Err, IfErr, IfSome, OnOk, OnErr, IsTrue, MatchOption, false, ◌∷◌};
 ghost use Rattle.image_access.specs.Moments.{IsLeftBy, EachMomentSince};
-ghost use Rattle.qcow2_metadata.specs.EntryTable.{entry_count};
-ghost use Rattle.qcow2_image.specs.Found.{l1_index_of};
 ghost use Rattle.qcow2_metadata.specs.Header.{with_fields, with_size};
 ghost use Rattle.qcow2_laws.specs.CrashInvariant.{Pending};
 ghost use Rattle.qcow2_alloc.specs.declared.error.ImageError.TheVariants.{MappingPrepared, Preallocation};
@@ -20,7 +18,7 @@ ghost use Rattle.qcow2_alloc.specs.ImageStorage.{is_changed_of};
 ghost use Rattle.qcow2_image.specs.Backings.{HasPinnedMapping};
 ghost use Rattle.qcow2_image.specs.Resizing.{RefusesPinned, ShrinksSoundly, TailStep, TurnStep, DiscardsSoundly, DiscardsStep};
 ghost use Rattle.qcow2_image.specs.declared.prepared.Prepared.{Prepared};
-ghost use Rattle.qcow2_image.specs.Growing.{LastsCall, LastsPart};
+ghost use Rattle.qcow2_image.specs.Growing.{LastsCall};
 ghost use Rattle.qcow2_image.specs.Image.{HasNothingToFree, IsSameImage, has_noted_change, is_failed, is_writable};
 ghost use Rattle.qcow2_image.specs.Image.{size_of, with_marks};
 ghost use Rattle.qcow2_image.specs.ImageInvariant.{ImageInvariant, abstract_of, pending_in};
@@ -308,18 +306,7 @@ impl<S: Storage, F: WrappedFormat<S>> Qcow2<S, F> {
         requires writable { IsTrue (is_writable self.old) }
         ensures step { ImageStep S.view self.old self.new }
         ensures fails { ImageFails S.view F.backing self.old self.new result MayFail }
-        ensures recorded { OnOk result (IsTrue self.new.file.caches.is_changed) }
-        ensures placed { self.old.l1_table.cluster_bits ≡ self.old.file.header.fields.cluster_bits
-            → OnOk result (IsPlacedNear self.new.l1_table) }
-        ensures length { OnOk result (entry_count self.new.l1_table ≡ max (entry_count self.old.l1_table)
-            (l1_index_of self.old.file.header.fields (size - 1) + 1)) }
-        ensures emptied { OnOk result (HasNothingToFree self.new) }
-        ensures sound { (out : List (Option Prepared))
-            → ImageInvariant S.view F.backing (pending_in S.view F.backing self.old out) self.old out
-            → ReachesSoundly S.view F.backing (size - 1) self.old self.new out result }
-        ensures lasts { (out : List (Option Prepared))
-            → ImageInvariant S.view F.backing (pending_in S.view F.backing self.old out) self.old out
-            → LastsPart S.view self.old self.new result }
+        ensures longer { LengthensTable S.view F.backing (size - 1) self.old self.new result }
     {
         self.lengthen_data_file(size, mode)?;
         self.lengthen_l1_table(size - 1)
@@ -328,13 +315,8 @@ impl<S: Storage, F: WrappedFormat<S>> Qcow2<S, F> {
     // Grows a data file that has data at their guest offsets, if the mode allocates no clusters.
     fn lengthen_data_file(&mut self, size: u64, mode: PreallocateMode) -> Result<(), ImageError>
         requires some { 0 < size }
-        ensures step { ImageStep S.view self.old self.new }
-        ensures fails { ImageFails S.view F.backing self.old self.new result MayFail }
+        ensures step { DataFileStep S.view F.backing self.old self.new MayFail result }
         ensures none { self.old.data_file ≡ None → (result ≡ Ok tt) × (self.new ≡ self.old) }
-        ensures rest { self.new ≡ record self.old {
-          file = record self.old.file { storage = self.new.file.storage };
-          data_file = self.new.data_file;
-        } }
     {
         if allocates(mode) {
             return Ok(());
@@ -348,12 +330,7 @@ impl<S: Storage, F: WrappedFormat<S>> Qcow2<S, F> {
     // Grows the data file, if the L1 table wouldn't be too long for the size.
     fn lengthen_placed_data(&mut self, size: u64) -> Result<(), ImageError>
         requires some { 0 < size }
-        ensures step { ImageStep S.view self.old self.new }
-        ensures fails { ImageFails S.view F.backing self.old self.new result MayFail }
-        ensures rest { self.new ≡ record self.old {
-          file = record self.old.file { storage = self.new.file.storage };
-          data_file = self.new.data_file;
-        } }
+        ensures step { DataFileStep S.view F.backing self.old self.new MayFail result }
     {
         self.check_l1_length(size)?;
         self.resize_data_file(size)
@@ -379,18 +356,7 @@ impl<S: Storage, F: WrappedFormat<S>> Qcow2<S, F> {
         requires writable { IsTrue (is_writable self.old) }
         ensures step { ImageStep S.view self.old self.new }
         ensures fails { ImageFails S.view F.backing self.old self.new result MayFail }
-        ensures recorded { OnOk result (IsTrue self.new.file.caches.is_changed) }
-        ensures placed { self.old.l1_table.cluster_bits ≡ self.old.file.header.fields.cluster_bits
-            → OnOk result (IsPlacedNear self.new.l1_table) }
-        ensures length { OnOk result (entry_count self.new.l1_table ≡ max (entry_count self.old.l1_table)
-            (l1_index_of self.old.file.header.fields offset + 1)) }
-        ensures emptied { OnOk result (HasNothingToFree self.new) }
-        ensures sound { (out : List (Option Prepared))
-            → ImageInvariant S.view F.backing (pending_in S.view F.backing self.old out) self.old out
-            → ReachesSoundly S.view F.backing offset self.old self.new out result }
-        ensures lasts { (out : List (Option Prepared))
-            → ImageInvariant S.view F.backing (pending_in S.view F.backing self.old out) self.old out
-            → LastsPart S.view self.old self.new result }
+        ensures longer { LengthensTable S.view F.backing offset self.old self.new result }
     {
         let index = GuestOffset::new(offset).l1_index(self.file.header.cluster_bits());
         self.grow_l1_table(index)?;

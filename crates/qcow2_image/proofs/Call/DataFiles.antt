@@ -1,7 +1,9 @@
 -- Calls that reach the data file of an image alone leave all else the same.
 use Rattle.std.proofs.Common.{◌≡◌, ◌∙◌, ℕ, arith, if◌then◌else◌, true, false, ◌&&◌, List, Option, Some, None, Bool, is_none, is_some, refl, sym, ap, subst, IfSome, MatchOption, Result, Ok, Err}
-use Rattle.qcow2_image.proofs.Common.{BackingView, StorageView, DataFile, Image, IsOwn, IsPlacedBehind, IsSameImage, cluster_size, Pending, notes_none, has_data_file, ImageError, CallsBeside, ImageInvariant, ImageStays, ImageStep, InternalStep, KeepsFileNotes, PreservesHeaderCluster, Prepared, Qcow2, ReadingStep, ReadsQuietly, is_failed, is_placed_by_guest, is_writable, number_of, size_of}
+use Rattle.qcow2_image.proofs.Common.{BackingView, StorageView, DataFile, Image, IsOwn, IsPlacedBehind, IsSameImage, cluster_size, Pending, notes_none, has_data_file, ImageError, CallsBeside, DataFileStep, ImageInvariant, ImageStays, ImageStep, InternalStep, KeepsFileNotes, PreservesHeaderCluster, Prepared, Qcow2, ReadingStep, ReadsQuietly, is_failed, is_placed_by_guest, is_writable, number_of, size_of}
 use Rattle.qcow2_image.proofs.Call.BehindHeader.{behind_none}
+use Rattle.qcow2_image.proofs.Call.FaultCounts.{counted_ok, untouched}
+use Rattle.qcow2_image.proofs.Call.ImageSteps.{step_none}
 use Rattle.qcow2_image.proofs.Map.Quiet.{reads_none}
 use Rattle.qcow2_image.proofs.Prepare.UnlinkedL2Table.{keeps_none}
 
@@ -43,6 +45,14 @@ own_since p same own = (own.0 ∙ same.number, own.1 ∙ ap (λ (b : Bool). if b
 -- without a data file a mapping lies behind the header as before
 pub behind_since : {S F : Type 0} {old mid : Qcow2 S F} {host : ℕ} → IsSameImage old mid → cluster_size mid.file.header.fields ≡ cluster_size old.file.header.fields → IsPlacedBehind old host → IsPlacedBehind mid host
 behind_since same size behind none = let least = behind (sym same.beside ∙ none) in omega (arith, size, least)
+
+-- a part that does nothing leaves the data file the same
+pub data_file_none : {S F : Type 0} {view : S → StorageView} {backing : F → BackingView} {Refuses : ImageError → Type 0} (image : Qcow2 S F) → DataFileStep view backing image image Refuses (Ok tt)
+data_file_none {view} {backing} image = record {
+  part = step_none;
+  fails = record { faults = counted_ok view backing image image tt (untouched view backing image image refl refl refl); cause = tt };
+  rest = refl;
+}
 
 module _ {S F : Type 0} {view : S → StorageView} {backing : F → BackingView} {old new : Qcow2 S F} {result : Result (Unit {0}) ImageError} (beside : CallsBeside view backing old new result) where
   pub stays_beside : ImageStays old new

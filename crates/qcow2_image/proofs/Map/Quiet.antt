@@ -1,6 +1,6 @@
 -- Tables are loaded and evicted, and bytes are read, in an image without modified cached tables: nothing is written, whatever the image contains.
-use Rattle.std.proofs.Common.{◌≡◌, ⊎_elim, inl, inr, ℕ, Bool, Result, sym, ap, subst, ◌∙◌}
-use Rattle.qcow2_image.proofs.Common.{StorageView, ContentsStay, EachMomentSince, IsLeftBy, QuietCalls, passes_if, StorageError, ImageFile, ImageStorage, storage_of, AreAllWritten, IsQuiet, KeepAllWritten, written_none, written_then, Qcow2, IsBegun, ContentsStayThroughout, ReadsQuietly, MetadataCaches, GetsTableQuietly, own_table, LoadsQuietly, LooksQuietly}
+use Rattle.std.proofs.Common.{◌≡◌, ⊎_elim, inl, inr, ℕ, Bool, Result, refl, sym, ap, subst, ◌∙◌}
+use Rattle.qcow2_image.proofs.Common.{StorageView, ContentsStay, EachMomentSince, IsLeftBy, QuietCalls, passes_if, StorageError, ImageFile, ImageStorage, storage_of, AreAllWritten, IsQuiet, KeepAllWritten, written_none, written_then, Qcow2, IsBegun, ContentsStayThroughout, ReadsQuietly, MetadataCaches, GetsTableQuietly, own_table, LoadsQuietly, LooksQuietly, OnlyLooks}
 use Rattle.qcow2_alloc.proofs.KeptTables.Quiet.{quiet_none, quiet_read, quiet_then}
 use Rattle.qcow2_alloc.specs.Quiet.{WritesNothing}
 
@@ -41,6 +41,9 @@ module _ {S F : Type 0} (view : S → StorageView) where
 
   pub looks_none : (offset : ℕ) (image : Qcow2 S F) → LooksQuietly view offset image image
   looks_none offset image loads honest = quiet_none (view (storage_of image.file.storage)) honest
+
+  pub only_none : (offset : ℕ) (image : Qcow2 S F) → OnlyLooks view offset image image
+  only_none offset image = record { quiet = looks_none offset image; still = λ kind n is. is; data_file = refl }
 
   -- what follows a lookup writes nothing
   pub looks_then : (offset : ℕ) (old mid new : Qcow2 S F) → LooksQuietly view offset old mid → WritesNothing view mid.file.storage new.file.storage → LooksQuietly view offset old new

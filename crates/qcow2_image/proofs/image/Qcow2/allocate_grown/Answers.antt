@@ -5,7 +5,7 @@ use Rattle.qcow2_image.proofs.Lemmas.{step_then}
 use Rattle.qcow2_image.proofs.image.Qcow2.allocate_grown.Goals as goal
 
 pub returns-clause-step : goal.returns-clause-step
-returns-clause-step g c = step_then c.resize_placed_data.ensures.step c.fill_new_clusters.ensures.step
+returns-clause-step g c = step_then c.resize_placed_data.ensures.step.part c.fill_new_clusters.ensures.step
 
 pub returns-clause-sound : goal.returns-clause-sound
 returns-clause-sound g c = λ out sound le.

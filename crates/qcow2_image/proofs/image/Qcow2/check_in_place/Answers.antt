@@ -1,6 +1,6 @@
-use Rattle.qcow2_image.proofs.Lemmas.{filling_none, keeping_of_filling, keeping_of_read, hands_met, met_as, looks_none}
+use Rattle.qcow2_image.proofs.Lemmas.{filling_none, keeping_of_filling, keeping_of_read, hands_met, met_as, only_none}
 use Rattle.std.proofs.Common.{◌≡◌, ◌+◌, ◌∙◌, inr, None, true, sym, subst, arith, rules, Result, ℕ}
-use Rattle.qcow2_image.proofs.Common.{Raw, IsFoundWhole, IsMappedAs, handed_on, none_of, FitsTables, IsCacheHeld, MayFailLookingAgain, table_of, IfOk-weaker, on_ok_weaker, LooksQuietly, ImageError, MayFailFindingAgain, IsHeldAs, OutdatedMapping}
+use Rattle.qcow2_image.proofs.Common.{Raw, IsFoundWhole, IsMappedAs, handed_on, none_of, FitsTables, IsCacheHeld, MayFailLookingAgain, table_of, IfOk-weaker, on_ok_weaker, OnlyLooks, ImageError, MayFailFindingAgain, IsHeldAs, OutdatedMapping}
 use Rattle.qcow2_alloc.specs.declared.error.ImageError.TheVariants.{Compressed}
 use Rattle.qcow2_image.proofs.image.Qcow2.check_in_place.Goals as goal
 
@@ -44,14 +44,14 @@ returns-in_err-guest-clause-step g c = keeping_of_filling filling_none
 pub returns-clause-step : goal.returns-clause-step
 returns-clause-step g c = keeping_of_read c.check_mapped.ensures.step
 
-pub returns-then-is_some-clause-quiet : goal.returns-then-is_some-clause-quiet
-returns-then-is_some-clause-quiet g c = looks_none g.S.Storage.view (c.args.prepared.now.guest + c.args.at) c.args.self.now
+pub returns-then-is_some-clause-looks : goal.returns-then-is_some-clause-looks
+returns-then-is_some-clause-looks g c = only_none g.S.Storage.view (c.args.prepared.now.guest + c.args.at) c.args.self.now
 
-pub returns-in_err-guest-clause-quiet : goal.returns-in_err-guest-clause-quiet
-returns-in_err-guest-clause-quiet g c = looks_none g.S.Storage.view (c.args.prepared.now.guest + c.args.at) c.args.self.now
+pub returns-in_err-guest-clause-looks : goal.returns-in_err-guest-clause-looks
+returns-in_err-guest-clause-looks g c = only_none g.S.Storage.view (c.args.prepared.now.guest + c.args.at) c.args.self.now
 
-pub returns-clause-quiet : goal.returns-clause-quiet
-returns-clause-quiet g c = subst (λ o. LooksQuietly g.S.Storage.view o c.args.self.now c.check_mapped.new.self) c.in_ok-guest.ensures.place c.check_mapped.ensures.quiet
+pub returns-clause-looks : goal.returns-clause-looks
+returns-clause-looks g c = subst (λ o. OnlyLooks g.S.Storage.view o c.args.self.now c.check_mapped.new.self) c.in_ok-guest.ensures.place c.check_mapped.ensures.looks
 
 pub returns-clause-fails : goal.returns-clause-fails
 returns-clause-fails g c = record {

@@ -69,7 +69,7 @@ returns-clause-held g c = λ some.
       | else-found-length-via-then-found-length+else-is w ↦ absurd (let no : false ≡ true = subst IsTrue w.if-is.false (w.is.ensures.1 both.0) in cc)
       | else-found-length-via-else-found-length w ↦ absurd (let short = w.if-found-length.false in omega (arith, both.1))
     ] in
-    record { outdated = λ outdated. (λ was. isnt (c.look_up.ensures.still c.args.wanted.now c.args.length was), isnt); compressed = λ compressed. let no : OutdatedMapping ≡ Compressed = compressed in absurd cc }
+    record { outdated = λ outdated. (λ was. isnt (c.look_up.ensures.looks.still c.args.wanted.now c.args.length was), isnt); compressed = λ compressed. let no : OutdatedMapping ≡ Compressed = compressed in absurd cc }
 
 pub returns-in_err-kind-clause-held : goal.returns-in_err-kind-clause-held
 returns-in_err-kind-clause-held g c = λ some.

@@ -12,7 +12,7 @@ returns-in-Zero-clause-image_step g c = λ p out cluster sound holds own.
     let old = c.args.self.now in
     let zeros : List ℕ = replicate c.args.length 0 in
     image_step_data view below out old c.write_zeros.new.self p sound cluster c.args.at zeros (own_of view below p old old out cluster c.args.at c.args.length (length zeros) (length-replicate {A = ℕ} c.args.length 0) refl own) holds
-    c.write_zeros.result (c.write_zeros.ensures.written sound.alone)
+    c.write_zeros.result (c.write_zeros.ensures.puts.written sound.alone)
 
 pub returns-in-Zero-clause-copies : goal.returns-in-Zero-clause-copies
 returns-in-Zero-clause-copies g c = λ p out sound mapped.
@@ -26,7 +26,7 @@ returns-in-Zero-clause-copies g c = λ p out sound mapped.
     ap known_byte (there i (let n = length-replicate {A = ℕ} c.args.length 0 in omega arith) ∙ get_or-replicate c.args.length i 0 0 lt)
     ∙ sym (zero_shown (state_in view old.file p) sound.file.caches.kept.kept.crash_invariant sound.inside c.args.guest c.args.length mapped.alike (is_some old.backing) (backing_bytes view below old.backing)
     (cover h (known_in view old.file) (c.args.guest / cluster_size h)) refl (none_below view below old.backing) c.in-Zero.explicit (ap found_kind (sym c.in-Zero.is) ∙ mapped.kind_is) i lt))
-    (there_written view old c.write_zeros.new.self c.args.at zeros c.write_zeros.result (c.write_zeros.ensures.written sound.alone) sound.file.honest)
+    (there_written view old c.write_zeros.new.self c.args.at zeros c.write_zeros.result (c.write_zeros.ensures.puts.written sound.alone) sound.file.honest)
 
 pub returns-in_err-read_as-clause-image_step : goal.returns-in_err-read_as-clause-image_step
 returns-in_err-read_as-clause-image_step g c = λ p out cluster sound holds own.
@@ -43,7 +43,7 @@ returns-clause-image_step g c = λ p out cluster sound holds own.
     let first = c.read_as.ensures.keeps p out sound in
     image_step_then view below out old mid c.write_data.new.self p p p (image_step_kept view below out old mid p p sound holds holds first)
     (image_step_data view below out mid c.write_data.new.self p first.sound cluster c.args.at bytes (own_of view below p old mid out cluster c.args.at c.args.length (length bytes) long c.read_as.ensures.step.header own) holds c.write_data.result
-    (c.write_data.ensures.written first.sound.alone))
+    (c.write_data.ensures.puts.written first.sound.alone))
 
 pub returns-clause-copies : goal.returns-clause-copies
 returns-clause-copies g c = λ p out sound mapped.
@@ -58,20 +58,20 @@ returns-clause-copies g c = λ p out sound mapped.
     let read = c.in_ok-read_as.ensures.shows p out sound (subst (IsMappedAs view old c.args.guest c.args.kind.now) (sym long) mapped) in
     IfOk-weaker c.write_data.result _ _
     (λ done there i lt. ap known_byte (there i (omega (arith, still, lt))) ∙ sym (read i (omega (arith, still, lt))) ∙ ap (λ (d : Disk). d.value (c.args.guest + i)) (disk_kept view below old mid out p sound first))
-    (there_written view mid c.write_data.new.self c.args.at bytes c.write_data.result (c.write_data.ensures.written first.sound.alone) first.sound.file.honest)
+    (there_written view mid c.write_data.new.self c.args.at bytes c.write_data.result (c.write_data.ensures.puts.written first.sound.alone) first.sound.file.honest)
 
 pub returns-in-Zero-clause-may_fail : goal.returns-in-Zero-clause-may_fail
-returns-in-Zero-clause-may_fail g c = λ behind. met_as IsFault (MayFailReading c.args.kind.now) c.write_zeros.result (λ e fault. inl fault) (c.write_zeros.ensures.fault behind)
+returns-in-Zero-clause-may_fail g c = λ behind. met_as IsFault (MayFailReading c.args.kind.now) c.write_zeros.result (λ e fault. inl fault) (c.write_zeros.ensures.puts.fault behind)
 
 pub returns-in_err-read_as-clause-may_fail : goal.returns-in_err-read_as-clause-may_fail
 returns-in_err-read_as-clause-may_fail g c = λ behind. hands_met (MayFailReading c.args.kind.now) c.from_residual-in_err-read_as.result c.in_err-read_as.field-0.0 c.from_residual-in_err-read_as.ensures c.in_err-read_as.ensures.fails.cause
 
 pub returns-clause-may_fail : goal.returns-clause-may_fail
 returns-clause-may_fail g c = λ behind.
-    met_as IsFault (MayFailReading c.args.kind.now) c.write_data.result (λ e fault. inl fault) (c.write_data.ensures.fault (subst (λ (v : HeaderView). cluster_size v.fields ≤ c.args.at) (sym c.read_as.ensures.step.header) behind))
+    met_as IsFault (MayFailReading c.args.kind.now) c.write_data.result (λ e fault. inl fault) (c.write_data.ensures.puts.fault (subst (λ (v : HeaderView). cluster_size v.fields ≤ c.args.at) (sym c.read_as.ensures.step.header) behind))
 
 pub returns-in-Zero-clause-step : goal.returns-in-Zero-clause-step
-returns-in-Zero-clause-step g c = filling_written c.write_zeros.ensures.step c.write_zeros.ensures.rest
+returns-in-Zero-clause-step g c = filling_written c.write_zeros.ensures.step c.write_zeros.ensures.puts.rest
 
 pub returns-in_err-read_as-clause-step : goal.returns-in_err-read_as-clause-step
 returns-in_err-read_as-clause-step g c = filling_of_read c.read_as.ensures.step c.read_as.ensures.allocator c.read_as.ensures.tables.l1_table
@@ -84,7 +84,7 @@ returns-in_err-read_as-clause-fails g c = record {
 }
 
 pub returns-clause-step : goal.returns-clause-step
-returns-clause-step g c = filling_then (filling_of_read c.read_as.ensures.step c.read_as.ensures.allocator c.read_as.ensures.tables.l1_table) (filling_written c.write_data.ensures.step c.write_data.ensures.rest)
+returns-clause-step g c = filling_then (filling_of_read c.read_as.ensures.step c.read_as.ensures.allocator c.read_as.ensures.tables.l1_table) (filling_written c.write_data.ensures.step c.write_data.ensures.puts.rest)
 
 pub returns-clause-fails : goal.returns-clause-fails
 returns-clause-fails g c = record {

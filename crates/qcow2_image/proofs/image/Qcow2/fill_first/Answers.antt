@@ -35,7 +35,7 @@ returns-in_err-prepared-clause-sound g c = λ out sound.
     let e = c.in_err-prepared.field-0.0 in
     let most = c.most.ensures in
     let asked = c.min.ensures in
-    let few = c.requires.few in
+    let few = c.requires.zeros.few in
     let lt = c.requires.some in
     let some : 0 < c.min.result = omega (arith, most, asked, few, lt) in
     record {
@@ -59,7 +59,7 @@ returns-in-Err-clause-sound g c = λ out sound.
     let p = c.in_ok-prepared.prepared in
     let lt = c.requires.some in
     let from = c.args.from in
-    let few = subst (λ m. 2 ^ 21 ≤ m) (sym c.most.ensures) c.requires.few in
+    let few = subst (λ m. 2 ^ 21 ≤ m) (sym c.most.ensures) c.requires.zeros.few in
     let to = c.args.to in
     let asked = c.min.ensures in
     let n = c.min.result in
@@ -73,7 +73,7 @@ returns-in-Err-clause-sound g c = λ out sound.
     record {
       fills = λ whole. let fits = all_fits view below out old mid p from to c.most.result n c.min-count.result sound ready answered lt whole few asked counted in
           let within = all_within view below out old mid p from to c.most.result n c.min-count.result sound ready answered lt whole few asked counted in
-          let put = all_put view below out old mid p from to c.most.result n c.min-count.result sound ready answered lt whole few asked counted c.put_zeros.new.self _ (c.in-Err.ensures.written own) in
+          let put = all_put view below out old mid p from to c.most.result n c.min-count.result sound ready answered lt whole few asked counted c.put_zeros.new.self _ (c.in-Err.ensures.puts.written own) in
           refused_after view below out old old c.process_free_list_after.new.self to from to from from from (from + p.length) (omega arith) (omega (arith, lt)) (omega arith) within (fills_none view below out old to from sound (works_none (abstract_of view below old out) sound)) (goes_step step_none) e'
           (record {
             left = piece_gone view below out old mid p from n sound ready answered fits c.put_zeros.new.self c.release_prepared.new.self c.process_free_list_after.new.self to e e' within put c.release_prepared.ensures.sees c.process_free_list_after.ensures.refused.fault (λ still. c.process_free_list_after.ensures.frees out still);
@@ -82,7 +82,7 @@ returns-in-Err-clause-sound g c = λ out sound.
                 let gone = sound_now view below out old mid p from n sound ready answered fits c.put_zeros.new.self c.release_prepared.new.self c.process_free_list_after.new.self to e e' within put c.release_prepared.ensures.sees c.process_free_list_after.ensures.refused.fault in
                 elim (c.process_free_list_after.ensures.told.1 out gone) [ inl same ↦ other_limit _ e c.in-Err.ensures.fails.limited (sym same ∙ is) | inr fault ↦ other_limit _ e' (fault_unlimited e' fault) is ];
           });
-      may_fail = λ whole near. let fault = c.in-Err.ensures.fault (all_behind view below out old c.prepare.new.self p c.args.from c.args.to c.most.result c.min.result c.min-count.result sound ready answered lt whole few asked counted (c.in_ok-prepared.ensures.some some).some) in
+      may_fail = λ whole near. let fault = c.in-Err.ensures.puts.fault (all_behind view below out old c.prepare.new.self p c.args.from c.args.to c.most.result c.min.result c.min-count.result sound ready answered lt whole few asked counted (c.in_ok-prepared.ensures.some some).some) in
           inl (inl (inl (subst (λ (x : ImageError). IsFault x) (sym (c.process_free_list_after.ensures.refused.fault fault).0) fault)));
     }
 
@@ -100,7 +100,7 @@ returns-in_err-process_free_list-clause-sound g c = λ out sound.
     let n = c.min.result in
     let lt = c.requires.some in
     let e = c.in_err-process_free_list.field-0.0 in
-    let few = subst (λ m. 2 ^ 21 ≤ m) (sym c.most.ensures) c.requires.few in
+    let few = subst (λ m. 2 ^ 21 ≤ m) (sym c.most.ensures) c.requires.zeros.few in
     let asked = c.min.ensures in
     let some : 0 < c.min.result = omega (arith, asked, few, lt) in
     let counted = c.min-count.ensures ∙ ap (min p.length) (c.most-2.ensures ∙ sym c.most.ensures) in
@@ -109,12 +109,12 @@ returns-in_err-process_free_list-clause-sound g c = λ out sound.
     let answered = (c.in_ok-prepared.ensures.sound some out sound).answers in
     record {
       fills = λ whole. let within = all_within view below out old mid p from to c.most.result n c.min-count.result sound ready answered lt whole few asked counted in
-          let part = all_filled view below out old mid p from to c.most.result n c.min-count.result sound ready answered lt whole few asked counted (c.in_ok-prepared.ensures.some some).some c.put_zeros.new.self done (c.in_default.ensures.written own) c.commit_filled.ensures.commits c.commit_filled.ensures.header c.in_ok-prepared.ensures.l1_place in
+          let part = all_filled view below out old mid p from to c.most.result n c.min-count.result sound ready answered lt whole few asked counted (c.in_ok-prepared.ensures.some some).some c.put_zeros.new.self done (c.in_default.ensures.puts.written own) c.commit_filled.ensures.commits c.commit_filled.ensures.header c.in_ok-prepared.ensures.l1_place in
           let listed = subst (λ (x : Pending). ImageInvariant view below x done out) (all_listed view below done out) part.sound in
           handed_on (λ r. FillsFirst view below to from to old new out r) c.from_residual-in_err-process_free_list.result e c.from_residual-in_err-process_free_list.ensures
           (fills_refused view below out old done new to from (from + p.length) part to e within (tables_met e c.in_err-process_free_list.ensures.cause) (fault_unlimited e (c.in_err-process_free_list.ensures.faults (beside view below done out) out listed))
           (freed_refused view below done out new e part.sound (c.in_err-process_free_list.ensures.frees (beside view below done out) out listed)) c.process_free_list.ensures.keeps_rest.header);
-      may_fail = λ whole near. let part = all_filled view below out old mid p from to c.most.result n c.min-count.result sound ready answered lt whole few asked counted (c.in_ok-prepared.ensures.some some).some c.put_zeros.new.self done (c.in_default.ensures.written own) c.commit_filled.ensures.commits c.commit_filled.ensures.header c.in_ok-prepared.ensures.l1_place in
+      may_fail = λ whole near. let part = all_filled view below out old mid p from to c.most.result n c.min-count.result sound ready answered lt whole few asked counted (c.in_ok-prepared.ensures.some some).some c.put_zeros.new.self done (c.in_default.ensures.puts.written own) c.commit_filled.ensures.commits c.commit_filled.ensures.header c.in_ok-prepared.ensures.l1_place in
           let listed = subst (λ (x : Pending). ImageInvariant view below x done out) (all_listed view below done out) part.sound in
           hands_met (MayFailAllocating (HasPinnedMapping out) (HasPinnedMapping out) (HasCompressedIn from to old.file.header.fields (known_in view old.file)) ⊥) c.from_residual-in_err-process_free_list.result c.in_err-process_free_list.field-0.0 c.from_residual-in_err-process_free_list.ensures
           (inl (inl (inl (c.in_err-process_free_list.ensures.faults (beside view below done out) out listed))));
@@ -133,7 +133,7 @@ returns-clause-sound g c = λ out sound.
     let to = c.args.to in
     let n = c.min.result in
     let lt = c.requires.some in
-    let few = subst (λ m. 2 ^ 21 ≤ m) (sym c.most.ensures) c.requires.few in
+    let few = subst (λ m. 2 ^ 21 ≤ m) (sym c.most.ensures) c.requires.zeros.few in
     let asked = c.min.ensures in
     let some : 0 < c.min.result = omega (arith, asked, few, lt) in
     let counted = c.min-count.ensures ∙ ap (min p.length) (c.most-2.ensures ∙ sym c.most.ensures) in
@@ -145,7 +145,7 @@ returns-clause-sound g c = λ out sound.
       may_fail = search rules;
       fills = λ whole. let next : c.min-next.result ≡ c.args.from + c.in_ok-prepared.prepared.length =
           all_next view below out old mid p from to c.most.result n c.min-count.result sound ready answered lt whole few asked counted c.min-next.result (c.min-next.ensures ∙ ap (min to) c.saturating_add.ensures) high in
-          let part = all_filled view below out old mid p from to c.most.result n c.min-count.result sound ready answered lt whole few asked counted (c.in_ok-prepared.ensures.some some).some c.put_zeros.new.self done (c.in_default.ensures.written own) c.commit_filled.ensures.commits c.commit_filled.ensures.header c.in_ok-prepared.ensures.l1_place in
+          let part = all_filled view below out old mid p from to c.most.result n c.min-count.result sound ready answered lt whole few asked counted (c.in_ok-prepared.ensures.some some).some c.put_zeros.new.self done (c.in_default.ensures.puts.written own) c.commit_filled.ensures.commits c.commit_filled.ensures.header c.in_ok-prepared.ensures.l1_place in
           let listed = subst (λ (x : Pending). ImageInvariant view below x done out) (all_listed view below done out) part.sound in
           subst (λ k. FillsPart view below to from k old new out) (sym next)
           (fills_stays view below out old done new to from (from + p.length) part (tidy_stays view below done out new part.sound (c.in_ok-process_free_list.ensures.frees (beside view below done out) out listed)) c.process_free_list.ensures.keeps_rest.header);

@@ -16,12 +16,12 @@ pub returns-in-Some-clause-image_step : goal.returns-in-Some-clause-image_step
 returns-in-Some-clause-image_step g c = λ p out sound holds is_kept.
     let within = c.in-Some.ensures.within in
     image_step_filled g.S.Storage.view g.F.BackingDisk.backing out c.args.self.now c.write_zeros.new.self p sound holds c.args.offset c.args.host c.in-Some.range.start (c.in-Some.range.end - c.in-Some.range.start) is_kept
-    (omega (arith, within.0, within.1)) c.write_zeros.result (c.write_zeros.ensures.written sound.alone)
+    (omega (arith, within.0, within.1)) c.write_zeros.result (c.write_zeros.ensures.puts.written sound.alone)
 
 pub returns-in-Some-clause-fills : goal.returns-in-Some-clause-fills
 returns-in-Some-clause-fills g c = λ p out sound kept.
     filled_with_zeros g.S.Storage.view g.F.BackingDisk.backing out c.args.self.now c.write_zeros.new.self p sound c.args.offset c.args.host c.args.length c.args.overwrite kept c.in-Some.range
-    (λ i lt none. some_has c.part_to_fill.result c.in-Some.range i c.in-Some.is (c.part_to_fill.ensures.all i lt none)) c.write_zeros.result (c.write_zeros.ensures.written sound.alone)
+    (λ i lt none. some_has c.part_to_fill.result c.in-Some.range i c.in-Some.is (c.part_to_fill.ensures.all i lt none)) c.write_zeros.result (c.write_zeros.ensures.puts.written sound.alone)
 
 pub returns-in-None-clause-step : goal.returns-in-None-clause-step
 returns-in-None-clause-step g c = step_none

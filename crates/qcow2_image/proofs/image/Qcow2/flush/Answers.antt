@@ -18,8 +18,8 @@ returns-clause-sees g c =
     let q : Pending = with_listed p old.file.free_list in
     let first = c.begin_call.ensures.keeps q out (subst (λ (x : Pending). ImageInvariant view below x old out) (all_listed view below old out) sound) in
     frees_on view below out old mid new p r c.begin_call.ensures.list first
-    (c.write_back-done.ensures.frees p out (subst (λ l. ImageInvariant view below (with_listed p l) mid out) (sym c.begin_call.ensures.list) first.sound)))
-    c.write_back-done.ensures.written))
+    (c.write_back-done.ensures.tables.frees p out (subst (λ l. ImageInvariant view below (with_listed p l) mid out) (sym c.begin_call.ensures.list) first.sound)))
+    c.write_back-done.ensures.tables.written))
 
 pub returns-clause-writes : goal.returns-clause-writes
 returns-clause-writes g c = λ p sound.
@@ -30,12 +30,12 @@ returns-clause-writes g c = λ p sound.
     let new = c.write_back-done.new.self in
     let first = c.begin_call.ensures.keeps (with_listed p old.file.free_list) [] sound in
     written_back view below p old new c.mark_failure.new.self c.write_back-done.result c.mark_failure.result
-    (frees_on view below [] old mid new p c.write_back-done.result c.begin_call.ensures.list first (c.write_back-done.ensures.frees p [] (subst (λ l. ImageInvariant view below (with_listed p l) mid []) (sym c.begin_call.ensures.list) first.sound)))
+    (frees_on view below [] old mid new p c.write_back-done.result c.begin_call.ensures.list first (c.write_back-done.ensures.tables.frees p [] (subst (λ l. ImageInvariant view below (with_listed p l) mid []) (sym c.begin_call.ensures.list) first.sound)))
     c.mark_failure.ensures.answer c.mark_failure.ensures.rest (may_mark c.write_back-done.new.self c.mark_failure.new.self c.write_back-done.result c.mark_failure.ensures.marks)
 
 pub returns-clause-quiet : goal.returns-clause-quiet
 returns-clause-quiet g c = λ reading.
-    reads_call g.S.Storage.view c.args.self.now c.begin_call.new.self c.write_back-done.new.self c.mark_failure.new.self _ c.begin_call.ensures.begun (c.write_back-done.ensures.quiet (c.begin_call.ensures.stays.image.writable ∙ reading)) c.mark_failure.ensures.rest
+    reads_call g.S.Storage.view c.args.self.now c.begin_call.new.self c.write_back-done.new.self c.mark_failure.new.self _ c.begin_call.ensures.begun (c.write_back-done.ensures.tables.quiet (c.begin_call.ensures.stays.image.writable ∙ reading)) c.mark_failure.ensures.rest
 
 pub returns-clause-step : goal.returns-clause-step
 returns-clause-step g c = record {
@@ -58,5 +58,5 @@ returns-clause-fails g c = record {
       let begun = c.begin_call.new.self in
       let kept = quiet_sound view below out c.args.self.now begun (λ s. record { keeps = c.begin_call.ensures.keeps (pending_in view below c.args.self.now out) out s; list = c.begin_call.ensures.list }) sound in
       subst (λ (r : Result _ _). IfErr r IsFault) (sym c.mark_failure.ensures.answer)
-      (c.write_back-done.ensures.fault (beside view below begun out) out (subst (λ (x : Pending). ImageInvariant view below x begun out) (all_listed view below begun out) kept));
+      (c.write_back-done.ensures.tables.fault (beside view below begun out) out (subst (λ (x : Pending). ImageInvariant view below x begun out) (all_listed view below begun out) kept));
 }

@@ -140,10 +140,10 @@ returns-clause-found g c =
     }
 
 pub returns-clause-quiet : goal.returns-clause-quiet
-returns-clause-quiet g c = looks_call g.S.Storage.view c.args.offset c.args.self.now c.begin_call.new.self c.look_up-found.new.self c.mark_failure.new.self _ c.begin_call.ensures.begun c.look_up-found.ensures.quiet c.mark_failure.ensures.rest
+returns-clause-quiet g c = looks_call g.S.Storage.view c.args.offset c.args.self.now c.begin_call.new.self c.look_up-found.new.self c.mark_failure.new.self _ c.begin_call.ensures.begun c.look_up-found.ensures.looks.quiet c.mark_failure.ensures.rest
 
 pub returns-in_err-kind-clause-quiet : goal.returns-in_err-kind-clause-quiet
-returns-in_err-kind-clause-quiet g c = looks_call g.S.Storage.view c.args.offset c.args.self.now c.begin_call.new.self c.look_up-found.new.self c.mark_failure.new.self _ c.begin_call.ensures.begun c.look_up-found.ensures.quiet c.mark_failure.ensures.rest
+returns-in_err-kind-clause-quiet g c = looks_call g.S.Storage.view c.args.offset c.args.self.now c.begin_call.new.self c.look_up-found.new.self c.mark_failure.new.self _ c.begin_call.ensures.begun c.look_up-found.ensures.looks.quiet c.mark_failure.ensures.rest
 
 pub returns-in_err-check_usable-clause-quiet : goal.returns-in_err-check_usable-clause-quiet
 returns-in_err-check_usable-clause-quiet g c = looks_none g.S.Storage.view c.args.offset c.args.self.now

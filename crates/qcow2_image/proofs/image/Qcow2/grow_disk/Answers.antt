@@ -25,7 +25,7 @@ returns-in_err-mark_failure-clause-sees g c =
     subst (λ (r : Result _ _). GrowsTo view below old c.mark_failure.new.self c.args.size c.args.mode r) (sym (err_is c.from_residual.result c.from_residual.ensures))
     (subst (λ (image : Qcow2 _ _). GrowsTo view below old image c.args.size c.args.mode (Err e)) (sym c.mark_failure.ensures.rest)
     (grows_not view below old c.args.size c.args.mode c.requires.usable c.requires.larger begun mid e marked first
-    (λ out sound. subst (MakesEntry view below begun mid out) done ((c.lengthen_files-longer.ensures.sound out sound).makes))
+    (λ out sound. subst (MakesEntry view below begun mid out) done ((c.lengthen_files-longer.ensures.longer.sound out sound).makes))
     (c.lengthen_files-longer.ensures.step.stays.image.number ∙ c.begin_call.ensures.stays.image.number)
     (subst (λ (r : Result _ _). MayMarkBy r (is_failed mid) marked) done (may_mark c.lengthen_files-longer.new.self c.mark_failure.new.self c.lengthen_files-longer.result c.mark_failure.ensures.marks))
     (subst (λ (r : Result _ _). IfErr r (λ x. x ≡ Memory → IsTrue (has_noted_change mid) → IsTrue marked)) done (marks_memory c.lengthen_files-longer.new.self c.mark_failure.new.self c.lengthen_files-longer.new.self c.lengthen_files-longer.result c.mark_failure.ensures.marks (ap (λ (i : Qcow2 _ _). i.file) c.mark_failure.ensures.rest)))))
@@ -44,7 +44,7 @@ returns-in_err-mark_fault-clause-sees g c =
     let same : c.mark_failure.new.self ≡ c.lengthen_files-longer.new.self = c.mark_failure.ensures.rest ∙ ap (λ f. record mid { is_failed = f }) kept in
     let longer : (out : _) → ImageInvariant view below (pending_in view below old out) old out → InternalCall view below old c.mark_failure.new.self out = λ out sound.
     let call = first out sound in
-    subst (λ (image : Qcow2 _ _). InternalCall view below old image out) (sym same) (stays_then view below out old begun mid call (subst (MakesEntry view below begun mid out) made ((c.lengthen_files-longer.ensures.sound out call.sound).makes))) in
+    subst (λ (image : Qcow2 _ _). InternalCall view below old image out) (sym same) (stays_then view below out old begun mid call (subst (MakesEntry view below begun mid out) made ((c.lengthen_files-longer.ensures.longer.sound out call.sound).makes))) in
     let filled = c.fill_grown-filled.new.self in
     let e = c.in_err-mark_fault.field-0.0 in
     let marked = is_failed c.mark_fault.new.self in
@@ -71,7 +71,7 @@ returns-clause-sees g c =
     let same : c.mark_failure.new.self ≡ c.lengthen_files-longer.new.self = c.mark_failure.ensures.rest ∙ ap (λ f. record mid { is_failed = f }) kept in
     let longer : (out : _) → ImageInvariant view below (pending_in view below old out) old out → InternalCall view below old c.mark_failure.new.self out = λ out sound.
     let call = first out sound in
-    subst (λ (image : Qcow2 _ _). InternalCall view below old image out) (sym same) (stays_then view below out old begun mid call (subst (MakesEntry view below begun mid out) made ((c.lengthen_files-longer.ensures.sound out call.sound).makes))) in
+    subst (λ (image : Qcow2 _ _). InternalCall view below old image out) (sym same) (stays_then view below out old begun mid call (subst (MakesEntry view below begun mid out) made ((c.lengthen_files-longer.ensures.longer.sound out call.sound).makes))) in
     let numbered = c.mark_failure.ensures.image.number ∙ c.lengthen_files-longer.ensures.step.stays.image.number ∙ c.begin_call.ensures.stays.image.number in
     let put : c.fill_grown-filled.result ≡ Ok c.in_ok-mark_fault.field-0 = sym c.mark_fault.ensures.answer ∙ c.in_ok-mark_fault.was in
     let whole : c.mark_fault.new.self ≡ c.fill_grown-filled.new.self = subst (λ (r : Result _ _). OnOk r (c.mark_fault.new.self ≡ c.fill_grown-filled.new.self)) put c.mark_fault.ensures.same in
@@ -88,14 +88,14 @@ returns-clause-sees g c =
 pub mark_fault-requires : goal.mark_fault-requires
 mark_fault-requires g c =
     let made : c.lengthen_files-longer.result ≡ Ok c.in_ok-mark_failure.field-0 = sym c.mark_failure.ensures.answer ∙ c.in_ok-mark_failure.was in
-    record { recorded = kept_noted g.S.Storage.view c.mark_failure.new.self c.fill_grown-filled.new.self c.fill_grown-filled.ensures.step.notes (subst (λ (f : ImageFile _). IsTrue (has_noted f)) (sym (ap (λ (i : Qcow2 _ _). i.file) c.mark_failure.ensures.rest)) (or_right (is_changed_of c.lengthen_files-longer.new.self.file.storage) c.lengthen_files-longer.new.self.file.caches.is_changed (subst (λ (r : Result _ _). OnOk r (IsTrue c.lengthen_files-longer.new.self.file.caches.is_changed)) made c.lengthen_files-longer.ensures.recorded))) }
+    record { recorded = kept_noted g.S.Storage.view c.mark_failure.new.self c.fill_grown-filled.new.self c.fill_grown-filled.ensures.step.notes (subst (λ (f : ImageFile _). IsTrue (has_noted f)) (sym (ap (λ (i : Qcow2 _ _). i.file) c.mark_failure.ensures.rest)) (or_right (is_changed_of c.lengthen_files-longer.new.self.file.storage) c.lengthen_files-longer.new.self.file.caches.is_changed (subst (λ (r : Result _ _). OnOk r (IsTrue c.lengthen_files-longer.new.self.file.caches.is_changed)) made c.lengthen_files-longer.ensures.longer.recorded))) }
 
 pub mark_fault-requires-2 : goal.mark_fault-requires-2
 mark_fault-requires-2 g c =
     let made : c.lengthen_files-longer.result ≡ Ok c.in_ok-mark_failure.field-0 = sym c.mark_failure.ensures.answer ∙ c.in_ok-mark_failure.was in
     record {
       recorded = kept_noted g.S.Storage.view c.mark_fault.new.self c.write_size-written.new.self c.write_size-written.ensures.notes
-          (subst (λ (f : ImageFile _). IsTrue (has_noted f)) (sym c.mark_fault.ensures.file) (kept_noted g.S.Storage.view c.mark_failure.new.self c.fill_grown-filled.new.self c.fill_grown-filled.ensures.step.notes (subst (λ (f : ImageFile _). IsTrue (has_noted f)) (sym (ap (λ (i : Qcow2 _ _). i.file) c.mark_failure.ensures.rest)) (or_right (is_changed_of c.lengthen_files-longer.new.self.file.storage) c.lengthen_files-longer.new.self.file.caches.is_changed (subst (λ (r : Result _ _). OnOk r (IsTrue c.lengthen_files-longer.new.self.file.caches.is_changed)) made c.lengthen_files-longer.ensures.recorded)))));
+          (subst (λ (f : ImageFile _). IsTrue (has_noted f)) (sym c.mark_fault.ensures.file) (kept_noted g.S.Storage.view c.mark_failure.new.self c.fill_grown-filled.new.self c.fill_grown-filled.ensures.step.notes (subst (λ (f : ImageFile _). IsTrue (has_noted f)) (sym (ap (λ (i : Qcow2 _ _). i.file) c.mark_failure.ensures.rest)) (or_right (is_changed_of c.lengthen_files-longer.new.self.file.storage) c.lengthen_files-longer.new.self.file.caches.is_changed (subst (λ (r : Result _ _). OnOk r (IsTrue c.lengthen_files-longer.new.self.file.caches.is_changed)) made c.lengthen_files-longer.ensures.longer.recorded)))));
     }
 
 pub returns-in_err-mark_failure-clause-step : goal.returns-in_err-mark_failure-clause-step
@@ -161,36 +161,36 @@ returns-in_err-mark_failure-clause-sound g c = λ out sound.
     let e = c.in_err-mark_failure.field-0.0 in
     let offset = c.args.size - 1 in
     let marked = is_failed c.mark_failure.new.self in
-    let limited = subst (λ (r : Result _ _). IfLimit r (IsLimited view below [] (offset + 1) begun out)) done ((c.lengthen_files-longer.ensures.sound out (first out sound).sound).limit) in
+    let limited = subst (λ (r : Result _ _). IfLimit r (IsLimited view below [] (offset + 1) begun out)) done ((c.lengthen_files-longer.ensures.longer.sound out (first out sound).sound).limit) in
     let begins = goes_begun c.begin_call.ensures.stays c.begin_call.ensures.begun in
-    let reaches = c.lengthen_files-longer.ensures.sound out (first out sound).sound in
+    let reaches = c.lengthen_files-longer.ensures.longer.sound out (first out sound).sound in
     let listed = limit_listed old begun mid marked c.args.mode e c.begin_call.ensures.list (subst (λ (r : Result _ _). IfErr r IsFaultOrLimit) done reaches.fault) (subst (λ (r : Result _ _). IfErr r (λ x. IsFault x ⊎ ListGrows begun mid)) done reaches.listed) in
     let lasts_begun = (let kept = c.begin_call.ensures.keeps (pending_in view below old out) out sound in lasts_step view (pending_in view below old out) (pending_in view below old out) old begun kept.safe_step kept.since) in
     record {
       may_fail = hands_met (MayFailGrowing out c.args.mode (size_of old) (rounded_up (cluster_size h) c.args.size) h (known_in view old.file)) c.from_residual.result e c.from_residual.ensures
-          (inl (inl (inl (subst (λ (r : Result _ _). IfErr r IsFaultOrLimit) done ((c.lengthen_files-longer.ensures.sound out (first out sound).sound).fault)))));
+          (inl (inl (inl (subst (λ (r : Result _ _). IfErr r IsFaultOrLimit) done ((c.lengthen_files-longer.ensures.longer.sound out (first out sound).sound).fault)))));
       limit = let larger = c.requires.larger in
           let least = up_least (cluster_size h) c.args.size (pow_pos h.cluster_bits) in
           hands_limit c.from_residual.result e c.from_residual.ensures (λ is. limited_giving (all_given_by_grow view below old c.args.size c.args.mode) (limited_since (omega (arith, larger, least)) begins (first out sound) (limited is)));
       last = record {
         last = subst (λ (image : Qcow2 _ _). WritesSizeLast view below old image) (sym c.mark_failure.ensures.rest)
             (last_not view below old c.args.size c.args.mode c.requires.usable c.requires.larger begun mid e (is_failed c.mark_failure.new.self) first
-            (λ out sound. subst (MakesEntry view below begun mid out) done (c.lengthen_files-longer.ensures.sound out sound).makes) out sound);
+            (λ out sound. subst (MakesEntry view below begun mid out) done (c.lengthen_files-longer.ensures.longer.sound out sound).makes) out sound);
         lasts = λ shows. subst (λ (r : Result _ _). LastsCall view (c.args.size ∷ []) old c.mark_failure.new.self r) (sym (err_is c.from_residual.result c.from_residual.ensures))
             (subst (λ (image : Qcow2 _ _). Lasts view old image (c.args.size ∷ [])) (sym c.mark_failure.ensures.rest)
-            (lasts_asking view old mid c.args.size (lasts_then view old begun mid [] [] lasts_begun (part_lasts view begun mid e (subst (λ (r : Result _ _). LastsPart view begun mid r) done (c.lengthen_files-longer.ensures.lasts out (first out sound).sound))))));
+            (lasts_asking view old mid c.args.size (lasts_then view old begun mid [] [] lasts_begun (part_lasts view begun mid e (subst (λ (r : Result _ _). LastsPart view begun mid r) done (c.lengthen_files-longer.ensures.longer.lasts out (first out sound).sound))))));
       };
       tables = subst (λ (r : Result _ _). GrowsTables view below old c.mark_failure.new.self c.args.size c.args.mode out r) (sym (err_is c.from_residual.result c.from_residual.ensures))
           (record {
             taken = λ is. met_taken e (subst (λ (r : Result _ _). IfErr r MayFail) done c.lengthen_files-longer.ensures.fails.cause) is;
             zeros = λ zero lacks. subst (λ (image : Qcow2 _ _). RefusesUnchanged view below old image out e) (sym c.mark_failure.ensures.rest)
                 (unchanged_not view below old c.args.size c.args.mode c.requires.usable c.requires.larger begun mid e marked first
-                (λ list still. subst (MakesEntry view below begun mid list) done ((c.lengthen_files-longer.ensures.sound list still).makes))
+                (λ list still. subst (MakesEntry view below begun mid list) done ((c.lengthen_files-longer.ensures.longer.sound list still).makes))
                 (c.lengthen_files-longer.ensures.step.stays.image.number ∙ c.begin_call.ensures.stays.image.number)
                 (subst (λ (r : Result _ _). MayMarkBy r (is_failed mid) marked) done (may_mark c.lengthen_files-longer.new.self c.mark_failure.new.self c.lengthen_files-longer.result c.mark_failure.ensures.marks))
                 (subst (λ (r : Result _ _). IfErr r (λ x. x ≡ Memory → IsTrue (has_noted_change mid) → IsTrue marked)) done (marks_memory c.lengthen_files-longer.new.self c.mark_failure.new.self c.lengthen_files-longer.new.self c.lengthen_files-longer.result c.mark_failure.ensures.marks (ap (λ (i : Qcow2 _ _). i.file) c.mark_failure.ensures.rest))) out);
             version = λ zero lacks.
-                let why = subst (λ (r : Result _ _). IfErr r IsFaultOrLimit) done ((c.lengthen_files-longer.ensures.sound out (first out sound).sound).fault) in
+                let why = subst (λ (r : Result _ _). IfErr r IsFaultOrLimit) done ((c.lengthen_files-longer.ensures.longer.sound out (first out sound).sound).fault) in
                 let larger = c.requires.larger in
                 elim why [
                   | inl fault ↦ inr (inl fault)
@@ -214,10 +214,10 @@ returns-in_err-mark_fault-clause-sound g c = λ out sound.
     let kept = subst (λ (r : Result _ _). MayMarkBy r (is_failed mid) (is_failed long)) made (may_mark c.lengthen_files-longer.new.self c.mark_failure.new.self c.lengthen_files-longer.result c.mark_failure.ensures.marks) in
     let same : c.mark_failure.new.self ≡ c.lengthen_files-longer.new.self = c.mark_failure.ensures.rest ∙ ap (λ f. record mid { is_failed = f }) kept in
     let begins = first out sound in
-    let lengthens = subst (MakesEntry view below begun mid out) made ((c.lengthen_files-longer.ensures.sound out begins.sound).makes) in
+    let lengthens = subst (MakesEntry view below begun mid out) made ((c.lengthen_files-longer.ensures.longer.sound out begins.sound).makes) in
     let call : InternalCall view below old c.mark_failure.new.self out = subst (λ (image : Qcow2 _ _). InternalCall view below old image out) (sym same) (stays_then view below out old begun mid begins lengthens) in
-    let length = subst (λ (r : Result _ _). OnOk r (entry_count mid.l1_table ≡ max (entry_count begun.l1_table) (l1_index_of begun.file.header.fields (c.args.size - 1) + 1))) made c.lengthen_files-longer.ensures.length in
-    let empty : HasNothingToFree c.mark_failure.new.self = subst (λ (i : Qcow2 _ _). HasNothingToFree i) (sym same) (subst (λ (r : Result _ _). OnOk r (HasNothingToFree mid)) made c.lengthen_files-longer.ensures.emptied) in
+    let length = subst (λ (r : Result _ _). OnOk r (entry_count mid.l1_table ≡ max (entry_count begun.l1_table) (l1_index_of begun.file.header.fields (c.args.size - 1) + 1))) made c.lengthen_files-longer.ensures.longer.length in
+    let empty : HasNothingToFree c.mark_failure.new.self = subst (λ (i : Qcow2 _ _). HasNothingToFree i) (sym same) (subst (λ (r : Result _ _). OnOk r (HasNothingToFree mid)) made c.lengthen_files-longer.ensures.longer.emptied) in
     let filled = c.fill_grown-filled.new.self in
     let step = c.begin_call.ensures.keeps (pending_in view below old out) out sound in
     let e = c.in_err-mark_fault.field-0.0 in
@@ -228,7 +228,7 @@ returns-in_err-mark_fault-clause-sound g c = λ out sound.
       may_fail = let told = reaches_begun old.file.header.fields begun.file.header.fields mid.file.header.fields (c.args.size - 1) step.unseen.header
           (reaches_told view below out (pending_in view below begun out) (pending_in view below mid out) begun mid (c.args.size - 1) begins.sound lengthens.sound length) in
           let longer = subst (λ (image : Qcow2 _ _). ReachesOffset (c.args.size - 1) old.file.header.fields image.file.header.fields) (sym same) told in
-          let placed = subst (λ (image : Qcow2 _ _). IsPlacedNear image.l1_table) (sym same) (subst (λ (r : Result _ _). OnOk r (IsPlacedNear mid.l1_table)) made (c.lengthen_files-longer.ensures.placed begins.sound.l1_table.bits)) in
+          let placed = subst (λ (image : Qcow2 _ _). IsPlacedNear image.l1_table) (sym same) (subst (λ (r : Result _ _). OnOk r (IsPlacedNear mid.l1_table)) made (c.lengthen_files-longer.ensures.longer.placed begins.sound.l1_table.bits)) in
           let near = near_longer_ends view below out old.file.header.fields (pending_in view below long out) long c.args.size (let l = c.requires.larger in omega (arith, l)) call.header longer call.sound placed in
           let h = old.file.header.fields in
           let from : c.size-end.result ≡ size_of c.args.self.now = c.size-end.ensures ∙ ap (λ (x : HeaderFields). x.size) call.header in
@@ -243,7 +243,7 @@ returns-in_err-mark_fault-clause-sound g c = λ out sound.
       last = record {
         last = let longer : (out : _) → ImageInvariant view below (pending_in view below old out) old out → InternalCall view below old c.mark_failure.new.self out = λ out sound.
             let call = first out sound in
-            subst (λ (image : Qcow2 _ _). InternalCall view below old image out) (sym same) (stays_then view below out old begun mid call (subst (MakesEntry view below begun mid out) made (c.lengthen_files-longer.ensures.sound out call.sound).makes)) in
+            subst (λ (image : Qcow2 _ _). InternalCall view below old image out) (sym same) (stays_then view below out old begun mid call (subst (MakesEntry view below begun mid out) made (c.lengthen_files-longer.ensures.longer.sound out call.sound).makes)) in
             let numbered = c.mark_failure.ensures.image.number ∙ c.lengthen_files-longer.ensures.step.stays.image.number ∙ c.begin_call.ensures.stays.image.number in
             subst (λ (image : Qcow2 _ _). WritesSizeLast view below old image) (sym c.mark_fault.ensures.rest)
             (last_in_part view below old c.args.size c.args.mode c.requires.usable c.requires.larger long longer filled e marked
@@ -288,13 +288,13 @@ returns-clause-sound g c = λ out sound.
     let kept = subst (λ (r : Result _ _). MayMarkBy r (is_failed mid) (is_failed long)) made (may_mark c.lengthen_files-longer.new.self c.mark_failure.new.self c.lengthen_files-longer.result c.mark_failure.ensures.marks) in
     let same : c.mark_failure.new.self ≡ c.lengthen_files-longer.new.self = c.mark_failure.ensures.rest ∙ ap (λ f. record mid { is_failed = f }) kept in
     let begins = first out sound in
-    let lengthens = subst (MakesEntry view below begun mid out) made ((c.lengthen_files-longer.ensures.sound out begins.sound).makes) in
+    let lengthens = subst (MakesEntry view below begun mid out) made ((c.lengthen_files-longer.ensures.longer.sound out begins.sound).makes) in
     let call : InternalCall view below old c.mark_failure.new.self out = subst (λ (image : Qcow2 _ _). InternalCall view below old image out) (sym same) (stays_then view below out old begun mid begins lengthens) in
     let filled = c.fill_grown-filled.new.self in
     let put : c.fill_grown-filled.result ≡ Ok c.in_ok-mark_fault.field-0 = sym c.mark_fault.ensures.answer ∙ c.in_ok-mark_fault.was in
     let whole : c.mark_fault.new.self ≡ c.fill_grown-filled.new.self = subst (λ (r : Result _ _). OnOk r (c.mark_fault.new.self ≡ c.fill_grown-filled.new.self)) put c.mark_fault.ensures.same in
     let fills = subst (FillsGrownOrRefuses view below c.args.size c.args.mode long filled out) put ((c.fill_grown-filled.ensures.sound out call.sound).fills) in
-    let length = subst (λ (r : Result _ _). OnOk r (entry_count mid.l1_table ≡ max (entry_count begun.l1_table) (l1_index_of begun.file.header.fields (c.args.size - 1) + 1))) made c.lengthen_files-longer.ensures.length in
+    let length = subst (λ (r : Result _ _). OnOk r (entry_count mid.l1_table ≡ max (entry_count begun.l1_table) (l1_index_of begun.file.header.fields (c.args.size - 1) + 1))) made c.lengthen_files-longer.ensures.longer.length in
     let reach : l1_index_of c.begin_call.new.self.file.header.fields (c.args.size - 1) < entry_count c.lengthen_files-longer.new.self.l1_table = omega (arith, length) in
     let lengthened = subst (λ (image : Qcow2 _ _). ReachesSize (with_size image.file.header.fields c.args.size)) (sym same) (reaches_lengthened view below out begun mid c.args.size lengthens reach) in
     let reached = reaches_filled view below out long filled c.args.size call.sound (let l = c.requires.larger in let s = ap (λ (h : HeaderFields). h.size) call.header in omega (arith, l, s)) c.args.mode (λ none. (c.fill_grown-filled.ensures.unfilled none).1) lengthened fills in
@@ -309,7 +309,7 @@ returns-clause-sound g c = λ out sound.
       last = record {
         last = let longer : (out : _) → ImageInvariant view below (pending_in view below old out) old out → InternalCall view below old c.mark_failure.new.self out = λ out sound.
             let call = first out sound in
-            subst (λ (image : Qcow2 _ _). InternalCall view below old image out) (sym same) (stays_then view below out old begun mid call (subst (MakesEntry view below begun mid out) made (c.lengthen_files-longer.ensures.sound out call.sound).makes)) in
+            subst (λ (image : Qcow2 _ _). InternalCall view below old image out) (sym same) (stays_then view below out old begun mid call (subst (MakesEntry view below begun mid out) made (c.lengthen_files-longer.ensures.longer.sound out call.sound).makes)) in
             let numbered = c.mark_failure.ensures.image.number ∙ c.lengthen_files-longer.ensures.step.stays.image.number ∙ c.begin_call.ensures.stays.image.number in
             let fills : (out : _) → ImageInvariant view below (pending_in view below long out) long out → FillsGrown view below c.args.size c.args.mode long c.mark_fault.new.self out = λ out sound.
             subst (λ (image : Qcow2 _ _). FillsGrown view below c.args.size c.args.mode long image out) (sym whole)
@@ -319,7 +319,7 @@ returns-clause-sound g c = λ out sound.
             (ap (λ (i : Qcow2 _ _). i.number) c.write_size-written.ensures.rest ∙ c.mark_fault.ensures.image.number ∙ c.fill_grown-filled.ensures.step.stays.image.number ∙ numbered)
             (is_failed c.mark_fault-2.new.self) c.write_size-written.ensures.time out sound);
         lasts = λ shows.
-            let there = known_then view old begun mid [] [] lasts_begun (subst (λ (r : Result _ _). LastsPart view begun mid r) made (c.lengthen_files-longer.ensures.lasts out begins.sound)) in
+            let there = known_then view old begun mid [] [] lasts_begun (subst (λ (r : Result _ _). LastsPart view begun mid r) made (c.lengthen_files-longer.ensures.longer.lasts out begins.sound)) in
             let unfilled : c.mark_fault.new.self ≡ mid = whole ∙ (c.fill_grown-filled.ensures.unfilled (shown_none c.args.mode shows)).1 ∙ same in
             let new = c.write_size-written.new.self in
             let sized = subst (λ (image : Qcow2 _ _). LastsCall view (c.args.size ∷ []) image new c.write_size-written.result) unfilled (c.write_size-written.ensures.lasts (pending_in view below c.mark_fault.new.self out) out grown.sound) in
@@ -332,11 +332,11 @@ returns-clause-sound g c = λ out sound.
           let longer = subst (λ (image : Qcow2 _ _). ReachesOffset (c.args.size - 1) old.file.header.fields image.file.header.fields) (sym same) told in
           let as_long = reaches_on old.file.header.fields long.file.header.fields c.mark_fault.new.self.file.header.fields c.args.size (let l = c.requires.larger in omega (arith, l)) call.header longer grown.l1_table in
           let never : c.args.mode ≡ Zero → LacksZeros old → ⊥ = λ zero lacks.
-          let empty : HasNothingToFree c.mark_failure.new.self = subst (λ (i : Qcow2 _ _). HasNothingToFree i) (sym same) (subst (λ (r : Result _ _). OnOk r (HasNothingToFree mid)) made c.lengthen_files-longer.ensures.emptied) in
+          let empty : HasNothingToFree c.mark_failure.new.self = subst (λ (i : Qcow2 _ _). HasNothingToFree i) (sym same) (subst (λ (r : Result _ _). OnOk r (HasNothingToFree mid)) made c.lengthen_files-longer.ensures.longer.emptied) in
           let refused = c.fill_grown-filled.ensures.version empty zero (subst (λ n. n < 3) (sym (same_version old.file.header.fields long.file.header.fields call.header)) lacks) in
           absurd (let no : Ok c.in_ok-mark_fault.field-0 ≡ Err Version = sym put ∙ refused.0 in cc) in
           let new = c.write_size-written.new.self in
-          let none : HasNothingToFree mid = subst (λ (r : Result _ _). OnOk r (HasNothingToFree mid)) made c.lengthen_files-longer.ensures.emptied in
+          let none : HasNothingToFree mid = subst (λ (r : Result _ _). OnOk r (HasNothingToFree mid)) made c.lengthen_files-longer.ensures.longer.emptied in
           let still : HasNothingToFree filled = subst (λ (r : Result _ _). OnOk r (HasNothingToFree filled)) put (c.fill_grown-filled.ensures.emptied (subst (λ (image : Qcow2 _ _). HasNothingToFree image) (sym same) none)) in
           let emptied : HasNothingToFree new = ap (λ (i : Qcow2 _ _). i.file.free_list) c.write_size-written.ensures.rest ∙ subst (λ (image : Qcow2 _ _). HasNothingToFree image) (sym whole) still in
           subst (λ (image : Qcow2 _ _). GrowsTables view below old image c.args.size c.args.mode out c.mark_fault-2.result) (sym c.mark_fault-2.ensures.rest)

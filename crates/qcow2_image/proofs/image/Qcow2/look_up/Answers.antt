@@ -1,7 +1,7 @@
 use Rattle.std.proofs.Common.{◌≡◌, ◌-◌, ap, arith, min, refl, rules, subst}
 use Rattle.qcow2_image.proofs.Common.{IfOk-weaker, rest_of_table, IsRunFrom, MayFailFinding}
 use Rattle.qcow2_image.proofs.image.Qcow2.look_up.Goals as goal
-use Rattle.qcow2_image.proofs.Lemmas.{looks_none, met_as, finding_more}
+use Rattle.qcow2_image.proofs.Lemmas.{only_none, met_as, finding_more}
 
 pub returns-clause-sound : goal.returns-clause-sound
 returns-clause-sound g c = λ p out sound.
@@ -36,8 +36,8 @@ returns-clause-held g c = λ lt. c.run_from.ensures.held c.args.max (let a = c.m
 pub returns-then-offset-size-clause-sound : goal.returns-then-offset-size-clause-sound
 returns-then-offset-size-clause-sound g c = λ p out sound. record { keeps = search rules; known = refl; may_fail = tt; found = search rules }
 
-pub returns-then-offset-size-clause-quiet : goal.returns-then-offset-size-clause-quiet
-returns-then-offset-size-clause-quiet g c = looks_none g.S.Storage.view c.args.offset c.args.self.now
+pub returns-then-offset-size-clause-looks : goal.returns-then-offset-size-clause-looks
+returns-then-offset-size-clause-looks g c = only_none g.S.Storage.view c.args.offset c.args.self.now
 
 pub returns-clause-fails : goal.returns-clause-fails
 returns-clause-fails g c =
@@ -47,9 +47,6 @@ returns-clause-fails g c =
       faults = c.run_from.ensures.fails.faults;
       cause = met_as (MayFailFinding old new c.args.offset c.min.result) (MayFailFinding old new c.args.offset c.args.max) c.run_from.result (finding_more old new c.args.offset c.min.result c.args.max (let a = c.min.ensures in omega arith)) c.run_from.ensures.fails.cause;
     }
-
-pub returns-then-offset-size-clause-still : goal.returns-then-offset-size-clause-still
-returns-then-offset-size-clause-still g c = λ kind n is. is
 
 pub returns-then-offset-size-clause-kind : goal.returns-then-offset-size-clause-kind
 returns-then-offset-size-clause-kind g c = record { whole = refl; special = λ so. absurd so }

@@ -2,8 +2,8 @@ use Rattle.qcow2_image.proofs.Common.{ap, replicate, rules, notes_of_storage, to
 use Rattle.qcow2_image.proofs.Lemmas.{behind_guard, behind_wrote, storage_unlimited, hands_fault, hands_unlimited, step_none}
 use Rattle.qcow2_image.proofs.image.Qcow2.put_own_zeros.Goals as goal
 
-pub returns-in_err-write-clause-fault : goal.returns-in_err-write-clause-fault
-returns-in_err-write-clause-fault g c = λ behind. hands_fault c.from_residual.result (of_storage c.in_err-write.field-0.0) c.from_residual.ensures (fault_of_storage c.in_err-write.field-0.0)
+pub returns-in_err-write-clause-puts : goal.returns-in_err-write-clause-puts
+returns-in_err-write-clause-puts g c = record { fault = λ behind. hands_fault c.from_residual.result (of_storage c.in_err-write.field-0.0) c.from_residual.ensures (fault_of_storage c.in_err-write.field-0.0); written = search rules }
 
 pub returns-in_err-write-clause-step : goal.returns-in_err-write-clause-step
 returns-in_err-write-clause-step g c = record {

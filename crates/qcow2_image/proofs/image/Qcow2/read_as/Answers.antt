@@ -78,8 +78,8 @@ returns-in-Raw-clause-shows g c = λ p out sound mapped.
     IfOk-weaker c.read_data.result _ _
     (λ done read i lt.
     let within : i < n = subst (λ m. i < m) (ap length read ∙ length-bytes_at contents c.in-Raw.offset n) lt in
-    ap (λ (image : Qcow2 _ _). (disk_of view g.F.BackingDisk.backing image).value (c.args.offset + i)) c.read_data.ensures.rest
-    ∙ ap (λ (bytes : List ℕ). (disk (known_of h file.caches (byte_at bytes)) below).value (c.args.offset + i)) (c.read_data.ensures.same sound.file.honest)
+    ap (λ (image : Qcow2 _ _). (disk_of view g.F.BackingDisk.backing image).value (c.args.offset + i)) c.read_data.ensures.data.rest
+    ∙ ap (λ (bytes : List ℕ). (disk (known_of h file.caches (byte_at bytes)) below).value (c.args.offset + i)) (c.read_data.ensures.data.same sound.file.honest)
     ∙ raw_shown (state_in view file p) sound.file.caches.kept.kept.crash_invariant sound.inside c.args.offset n mapped.alike (is_some c.args.self.now.backing) below
     (cover h (known_in view file) (c.args.offset / cluster_size h)) refl (is_data_file c.in-Raw.place) c.in-Raw.offset c.in-Raw.writable (ap found_kind (sym c.in-Raw.is) ∙ mapped.kind_is) i within
     ∙ ap known_byte (sym (ap (λ (b : List ℕ). byte_at b i) read ∙ byte_at-bytes_at contents c.in-Raw.offset n i within)))
@@ -93,7 +93,7 @@ returns-in-Raw-clause-fails g c = record {
 }
 
 pub returns-in-Raw-clause-tables : goal.returns-in-Raw-clause-tables
-returns-in-Raw-clause-tables g c = keeps_storage c.args.self.now c.read_data.new.self c.read_data.new.self.file.storage c.read_data.new.self.data_file c.read_data.ensures.rest c.read_data.ensures.step.part.stays.image.beside
+returns-in-Raw-clause-tables g c = keeps_storage c.args.self.now c.read_data.new.self c.read_data.new.self.file.storage c.read_data.new.self.data_file c.read_data.ensures.data.rest c.read_data.ensures.step.part.stays.image.beside
 
 pub returns-in-Raw-clause-reads : goal.returns-in-Raw-clause-reads
 returns-in-Raw-clause-reads g c = subst (λ k. OnOk c.read_data.result (ReadsAs g.S.Storage.view c.args.self.now c.read_data.new.self k c.read_data.new.bytes)) (sym c.in-Raw.is) c.read_data.ensures.reads

@@ -93,19 +93,19 @@ pub returns-in_err-offset-clause-quiet : goal.returns-in_err-offset-clause-quiet
 returns-in_err-offset-clause-quiet g c = looks_none g.S.Storage.view (c.args.mapping.now.offset + c.args.at) c.args.self.now
 
 pub returns-in_err-check_mapped-clause-quiet : goal.returns-in_err-check_mapped-clause-quiet
-returns-in_err-check_mapped-clause-quiet g c = subst (λ o. LooksQuietly g.S.Storage.view o c.args.self.now c.check_mapped.new.self) c.in_ok-offset.ensures.place c.check_mapped.ensures.quiet
+returns-in_err-check_mapped-clause-quiet g c = subst (λ o. LooksQuietly g.S.Storage.view o c.args.self.now c.check_mapped.new.self) c.in_ok-offset.ensures.place c.check_mapped.ensures.looks.quiet
 
 pub returns-clause-quiet : goal.returns-clause-quiet
 returns-clause-quiet g c =
     let view = g.S.Storage.view in
     let old = c.args.self.now in
     let mid = c.check_mapped.new.self in
-    looks_then view (c.args.mapping.now.offset + c.args.at) old mid c.read_as.new.self (subst (λ o. LooksQuietly view o old mid) c.in_ok-offset.ensures.place c.check_mapped.ensures.quiet) c.read_as.ensures.quiet
+    looks_then view (c.args.mapping.now.offset + c.args.at) old mid c.read_as.new.self (subst (λ o. LooksQuietly view o old mid) c.in_ok-offset.ensures.place c.check_mapped.ensures.looks.quiet) c.read_as.ensures.quiet
 
 pub returns-clause-reads : goal.returns-clause-reads
 returns-clause-reads g c =
     let view = g.S.Storage.view in
-    on_ok_weaker c.read_as.result (λ reads. reads_from view c.args.self.now c.check_mapped.new.self c.read_as.new.self (further_by c.args.at c.args.mapping.now.kind) c.read_as.new.bytes c.check_mapped.ensures.data_file c.check_mapped.ensures.step.part.notes.storage.honest
+    on_ok_weaker c.read_as.result (λ reads. reads_from view c.args.self.now c.check_mapped.new.self c.read_as.new.self (further_by c.args.at c.args.mapping.now.kind) c.read_as.new.bytes c.check_mapped.ensures.looks.data_file c.check_mapped.ensures.step.part.notes.storage.honest
     (subst (λ k. ReadsAs view c.check_mapped.new.self c.read_as.new.self k c.read_as.new.bytes) c.further-kind.ensures reads)) c.read_as.ensures.reads
 
 pub returns-in_err-offset-clause-fails : goal.returns-in_err-offset-clause-fails

@@ -1,9 +1,16 @@
-use Rattle.std.proofs.Common.{◌≡◌, ◌-◌, ◌/◌, ◌<◌, sym, ap, ◌∙◌, subst, arith, min, is_some, Some, None, false, true, rules, ⊎_elim, ℕ, inl, inr, Err}
-use Rattle.qcow2_image.proofs.Common.{is_beside, IfOk-weaker, cluster_size, host_offset, IsLongestRun, table_at, Sizes-from, cover_none, IsTop-top, contents_in, known_in, kind_at, rest_of_table, l1_index_of, l2_index_of, NamesL2Table, IsRunFrom, IfSome, MatchOption, IsEntryAt, IsCacheHeld, MayFailLooking, own_table, GetsTableQuietly, HasUnalignedEntry, UnalignedTable, MayFailFinding, MayFailLoadingL2, Uncovered, file_loads}
-use Rattle.qcow2_image.proofs.Lemmas.{caches_moved, with_caches, none_found, behind_caches, answers_met, cache_looking, named_entry, hands_met, named_place, reads_none, uncovered_held, looks_none, met_as, finding_more, still_loaded}
+use Rattle.std.proofs.Common.{◌≡◌, ◌-◌, ◌/◌, ◌<◌, refl, sym, ap, ◌∙◌, subst, arith, min, is_some, Option, Some, None, false, true, rules, ⊎_elim, ℕ, inl, inr, Err}
+use Rattle.qcow2_image.proofs.Common.{Qcow2, is_beside, IfOk-weaker, cluster_size, host_offset, IsLongestRun, table_at, Sizes-from, cover_none, IsTop-top, contents_in, known_in, kind_at, rest_of_table, l1_index_of, l2_index_of, NamesL2Table, IsRunFrom, IfSome, MatchOption, IsEntryAt, IsCacheHeld, MayFailLooking, own_table, GetsTableQuietly, HasUnalignedEntry, UnalignedTable, MayFailFinding, MayFailLoadingL2, Uncovered, file_loads}
+use Rattle.qcow2_image.proofs.Lemmas.{caches_moved, with_caches, none_found, behind_caches, answers_met, cache_looking, named_entry, hands_met, named_place, reads_none, uncovered_held, only_none, met_as, finding_more, still_loaded}
 use Rattle.qcow2_image.specs.HeldMappings.{named_place as place_named}
 use Rattle.qcow2_image.proofs.Map.Looked.{compressed_there}
 use Rattle.qcow2_image.proofs.image.Qcow2.run_from.Goals as goal
+
+-- an offset has its own L2 table, or none
+abbrev HasOwn : {S F : Type 0} → Qcow2 S F → ℕ → Option ℕ → Type 0
+HasOwn image offset table = MatchOption table (place_named image.file.header.fields image.l1_table offset ≡ 0) (λ cluster. (cluster ≡ own_table image offset) × ¬ (place_named image.file.header.fields image.l1_table offset ≡ 0))
+
+own_found : {S F : Type 0} (image : Qcow2 S F) (offset : ℕ) (was is : Option ℕ) → was ≡ is → HasOwn image offset was → HasOwn image offset is
+own_found image offset was is same own = subst (HasOwn image offset) same own
 
 pub returns-in_err-l2_get_or_insert-in-Some-clause-sound : goal.returns-in_err-l2_get_or_insert-in-Some-clause-sound
 returns-in_err-l2_get_or_insert-in-Some-clause-sound g c = λ p out sound.
@@ -77,7 +84,7 @@ returns-in-None-clause-held g c = λ most is lt.
     let h = c.args.self.now.file.header.fields in
     let limit : c.min-max.result ≡ min (min most (h.size - c.args.offset)) (rest_of_table h c.args.offset) = c.min-max.ensures ∙ ap (min c.args.max) c.rest_of_table.ensures.value ∙ ap (λ m. min m (rest_of_table h c.args.offset)) is in
     let image = c.args.self.now in
-    let none = subst (λ t. MatchOption t (place_named h image.l1_table c.args.offset ≡ 0) (λ cluster. (cluster ≡ own_table image c.args.offset) × ¬ (place_named h image.l1_table c.args.offset ≡ 0))) c.in-None.is c.in_ok-l2_cluster.ensures.own in
+    let none = own_found image c.args.offset _ _ c.in-None.is c.in_ok-l2_cluster.ensures.own in
     uncovered_held h (is_beside image) (is_some image.backing) image.l1_table image.file.caches c.args.offset c.min-max.result most limit lt c.uncovered.result none (c.uncovered.ensures.value (is_beside image))
 
 pub returns-in_ok-l2_get_or_insert-in-Some-clause-held : goal.returns-in_ok-l2_get_or_insert-in-Some-clause-held
@@ -85,43 +92,43 @@ returns-in_ok-l2_get_or_insert-in-Some-clause-held g c = λ most is lt.
     let h = c.args.self.now.file.header.fields in
     let limit : c.min-max.result ≡ min (min most (h.size - c.args.offset)) (rest_of_table h c.args.offset) = c.min-max.ensures ∙ ap (min c.args.max) c.rest_of_table.ensures.value ∙ ap (λ m. min m (rest_of_table h c.args.offset)) is in
     let image = c.args.self.now in
-    let own = subst (λ t. MatchOption t (place_named h image.l1_table c.args.offset ≡ 0) (λ cluster. (cluster ≡ own_table image c.args.offset) × ¬ (place_named h image.l1_table c.args.offset ≡ 0))) c.in-Some.is c.in_ok-l2_cluster.ensures.own in
+    let own = own_found image c.args.offset _ _ c.in-Some.is c.in_ok-l2_cluster.ensures.own in
     IfOk-weaker c.run_in_table.result _ _ (λ x held. held.run most limit lt) (c.run_in_table.ensures.held own.0 own.1)
 
 pub returns-in_ok-l2_get_or_insert-in-Some-clause-plain : goal.returns-in_ok-l2_get_or_insert-in-Some-clause-plain
 returns-in_ok-l2_get_or_insert-in-Some-clause-plain g c =
-    let image = c.args.self.now in
-    let h = image.file.header.fields in
-    let own = subst (λ t. MatchOption t (place_named h image.l1_table c.args.offset ≡ 0) (λ cluster. (cluster ≡ own_table image c.args.offset) × ¬ (place_named h image.l1_table c.args.offset ≡ 0))) c.in-Some.is c.in_ok-l2_cluster.ensures.own in
+    let own = own_found c.args.self.now c.args.offset _ _ c.in-Some.is c.in_ok-l2_cluster.ensures.own in
     IfOk-weaker c.run_in_table.result _ _ (λ x held. held.plain) (c.run_in_table.ensures.held own.0 own.1)
 
 pub returns-in_ok-l2_get_or_insert-in-Some-clause-kind : goal.returns-in_ok-l2_get_or_insert-in-Some-clause-kind
 returns-in_ok-l2_get_or_insert-in-Some-clause-kind g c =
-    let image = c.args.self.now in
-    let h = image.file.header.fields in
-    let own = subst (λ t. MatchOption t (place_named h image.l1_table c.args.offset ≡ 0) (λ cluster. (cluster ≡ own_table image c.args.offset) × ¬ (place_named h image.l1_table c.args.offset ≡ 0))) c.in-Some.is c.in_ok-l2_cluster.ensures.own in
+    let own = own_found c.args.self.now c.args.offset _ _ c.in-Some.is c.in_ok-l2_cluster.ensures.own in
     IfOk-weaker c.run_in_table.result _ _ (λ x held. record { whole = held.whole; special = held.special }) (c.run_in_table.ensures.held own.0 own.1)
 
 pub returns-in-None-clause-plain : goal.returns-in-None-clause-plain
-returns-in-None-clause-plain g c =
-    let image = c.args.self.now in
-    let h = image.file.header.fields in
-    let none = subst (λ t. MatchOption t (place_named h image.l1_table c.args.offset ≡ 0) (λ cluster. (cluster ≡ own_table image c.args.offset) × ¬ (place_named h image.l1_table c.args.offset ≡ 0))) c.in-None.is c.in_ok-l2_cluster.ensures.own in
-    λ compressed. absurd (compressed.named none)
+returns-in-None-clause-plain g c = λ compressed. absurd (compressed.named (own_found c.args.self.now c.args.offset _ _ c.in-None.is c.in_ok-l2_cluster.ensures.own))
 
-pub returns-in_err-l2_get_or_insert-in-Some-clause-still : goal.returns-in_err-l2_get_or_insert-in-Some-clause-still
-returns-in_err-l2_get_or_insert-in-Some-clause-still g c =
+pub returns-in_err-l2_get_or_insert-in-Some-clause-looks : goal.returns-in_err-l2_get_or_insert-in-Some-clause-looks
+returns-in_err-l2_get_or_insert-in-Some-clause-looks g c =
     let image = c.args.self.now in
     let h = image.file.header.fields in
-    let own = subst (λ t. MatchOption t (place_named h image.l1_table c.args.offset ≡ 0) (λ cluster. (cluster ≡ own_table image c.args.offset) × ¬ (place_named h image.l1_table c.args.offset ≡ 0))) c.in-Some.is c.in_ok-l2_cluster.ensures.own in
-    λ kind n. still_loaded h (is_beside image) (is_some image.backing) image.l1_table image.file.caches c.args.offset c.l2_get_or_insert.new.self c.in-Some.table own c.l2_get_or_insert.ensures.gets.kept kind n
+    let own = own_found image c.args.offset _ _ c.in-Some.is c.in_ok-l2_cluster.ensures.own in
+    record {
+      quiet = λ loads honest. c.l2_get_or_insert.ensures.gets.quiet (⊎_elim (λ is. absurd (own.1 is)) (λ gets. subst (GetsTableQuietly image.file.caches) (sym own.0) gets) loads) honest;
+      still = λ kind n. still_loaded h (is_beside image) (is_some image.backing) image.l1_table image.file.caches c.args.offset c.l2_get_or_insert.new.self c.in-Some.table own c.l2_get_or_insert.ensures.gets.kept kind n;
+      data_file = refl;
+    }
 
-pub returns-in_ok-l2_get_or_insert-in-Some-clause-still : goal.returns-in_ok-l2_get_or_insert-in-Some-clause-still
-returns-in_ok-l2_get_or_insert-in-Some-clause-still g c =
+pub returns-in_ok-l2_get_or_insert-in-Some-clause-looks : goal.returns-in_ok-l2_get_or_insert-in-Some-clause-looks
+returns-in_ok-l2_get_or_insert-in-Some-clause-looks g c =
     let image = c.args.self.now in
     let h = image.file.header.fields in
-    let own = subst (λ t. MatchOption t (place_named h image.l1_table c.args.offset ≡ 0) (λ cluster. (cluster ≡ own_table image c.args.offset) × ¬ (place_named h image.l1_table c.args.offset ≡ 0))) c.in-Some.is c.in_ok-l2_cluster.ensures.own in
-    λ kind n. still_loaded h (is_beside image) (is_some image.backing) image.l1_table image.file.caches c.args.offset c.l2_get_or_insert.new.self c.in-Some.table own c.l2_get_or_insert.ensures.gets.kept kind n
+    let own = own_found image c.args.offset _ _ c.in-Some.is c.in_ok-l2_cluster.ensures.own in
+    record {
+      quiet = λ loads honest. c.l2_get_or_insert.ensures.gets.quiet (⊎_elim (λ is. absurd (own.1 is)) (λ gets. subst (GetsTableQuietly image.file.caches) (sym own.0) gets) loads) honest;
+      still = λ kind n. still_loaded h (is_beside image) (is_some image.backing) image.l1_table image.file.caches c.args.offset c.l2_get_or_insert.new.self c.in-Some.table own c.l2_get_or_insert.ensures.gets.kept kind n;
+      data_file = refl;
+    }
 
 pub returns-in_err-l2_get_or_insert-in-Some-clause-step : goal.returns-in_err-l2_get_or_insert-in-Some-clause-step
 returns-in_err-l2_get_or_insert-in-Some-clause-step g c = record {
@@ -145,25 +152,11 @@ returns-in-None-clause-step g c = record { part = search rules; header = search 
 pub returns-in_err-l2_cluster-clause-step : goal.returns-in_err-l2_cluster-clause-step
 returns-in_err-l2_cluster-clause-step g c = record { part = search rules; header = search rules; list = search rules; quiet = reads_none g.S.Storage.view c.args.self.now }
 
-pub returns-in_err-l2_get_or_insert-in-Some-clause-quiet : goal.returns-in_err-l2_get_or_insert-in-Some-clause-quiet
-returns-in_err-l2_get_or_insert-in-Some-clause-quiet g c = λ loads honest.
-    let image = c.args.self.now in
-    let none : ℕ = place_named image.file.header.fields image.l1_table c.args.offset in
-    let own = subst (λ t. MatchOption t (none ≡ 0) (λ cluster. (cluster ≡ own_table image c.args.offset) × ¬ (none ≡ 0))) c.in-Some.is c.in_ok-l2_cluster.ensures.own in
-    c.l2_get_or_insert.ensures.gets.quiet (⊎_elim (λ is. absurd (own.1 is)) (λ gets. subst (GetsTableQuietly image.file.caches) (sym own.0) gets) loads) honest
+pub returns-in-None-clause-looks : goal.returns-in-None-clause-looks
+returns-in-None-clause-looks g c = only_none g.S.Storage.view c.args.offset c.args.self.now
 
-pub returns-in_ok-l2_get_or_insert-in-Some-clause-quiet : goal.returns-in_ok-l2_get_or_insert-in-Some-clause-quiet
-returns-in_ok-l2_get_or_insert-in-Some-clause-quiet g c = λ loads honest.
-    let image = c.args.self.now in
-    let none : ℕ = place_named image.file.header.fields image.l1_table c.args.offset in
-    let own = subst (λ t. MatchOption t (none ≡ 0) (λ cluster. (cluster ≡ own_table image c.args.offset) × ¬ (none ≡ 0))) c.in-Some.is c.in_ok-l2_cluster.ensures.own in
-    c.l2_get_or_insert.ensures.gets.quiet (⊎_elim (λ is. absurd (own.1 is)) (λ gets. subst (GetsTableQuietly image.file.caches) (sym own.0) gets) loads) honest
-
-pub returns-in-None-clause-quiet : goal.returns-in-None-clause-quiet
-returns-in-None-clause-quiet g c = looks_none g.S.Storage.view c.args.offset c.args.self.now
-
-pub returns-in_err-l2_cluster-clause-quiet : goal.returns-in_err-l2_cluster-clause-quiet
-returns-in_err-l2_cluster-clause-quiet g c = looks_none g.S.Storage.view c.args.offset c.args.self.now
+pub returns-in_err-l2_cluster-clause-looks : goal.returns-in_err-l2_cluster-clause-looks
+returns-in_err-l2_cluster-clause-looks g c = only_none g.S.Storage.view c.args.offset c.args.self.now
 
 pub returns-in_err-l2_cluster-clause-fails : goal.returns-in_err-l2_cluster-clause-fails
 returns-in_err-l2_cluster-clause-fails g c = record {
@@ -174,7 +167,7 @@ returns-in_err-l2_cluster-clause-fails g c = record {
 pub returns-in_err-l2_get_or_insert-in-Some-clause-fails : goal.returns-in_err-l2_get_or_insert-in-Some-clause-fails
 returns-in_err-l2_get_or_insert-in-Some-clause-fails g c =
     let image = c.args.self.now in
-    let own = subst (λ t. MatchOption t (place_named image.file.header.fields image.l1_table c.args.offset ≡ 0) (λ cluster. (cluster ≡ own_table image c.args.offset) × ¬ (place_named image.file.header.fields image.l1_table c.args.offset ≡ 0))) c.in-Some.is c.in_ok-l2_cluster.ensures.own in
+    let own = own_found image c.args.offset _ _ c.in-Some.is c.in_ok-l2_cluster.ensures.own in
     let e = c.in_err-l2_get_or_insert-in-Some.field-0.0 in
     let new = record image { file = record image.file { storage = c.l2_get_or_insert.new.storage; caches = c.l2_get_or_insert.new.self } } in
     record {
@@ -186,7 +179,7 @@ returns-in_err-l2_get_or_insert-in-Some-clause-fails g c =
 pub returns-in_ok-l2_get_or_insert-in-Some-clause-fails : goal.returns-in_ok-l2_get_or_insert-in-Some-clause-fails
 returns-in_ok-l2_get_or_insert-in-Some-clause-fails g c =
     let image = c.args.self.now in
-    let own = subst (λ t. MatchOption t (place_named image.file.header.fields image.l1_table c.args.offset ≡ 0) (λ cluster. (cluster ≡ own_table image c.args.offset) × ¬ (place_named image.file.header.fields image.l1_table c.args.offset ≡ 0))) c.in-Some.is c.in_ok-l2_cluster.ensures.own in
+    let own = own_found image c.args.offset _ _ c.in-Some.is c.in_ok-l2_cluster.ensures.own in
     let new = record image { file = record image.file { storage = c.l2_get_or_insert.new.storage; caches = c.l2_get_or_insert.new.self } } in
     record {
       faults = search rules;
@@ -199,9 +192,3 @@ returns-in-None-clause-kind g c = record {
   whole = c.uncovered.ensures.whole;
   special = λ so. absurd (compressed_there c.args.self.now.file.header.fields false (is_some c.args.self.now.backing) c.args.offset c.uncovered.result Uncovered (c.uncovered.ensures.value false) so);
 }
-
-pub returns-in-None-clause-still : goal.returns-in-None-clause-still
-returns-in-None-clause-still g c = λ kind n is. is
-
-pub returns-in_err-l2_cluster-clause-still : goal.returns-in_err-l2_cluster-clause-still
-returns-in_err-l2_cluster-clause-still g c = λ kind n is. is

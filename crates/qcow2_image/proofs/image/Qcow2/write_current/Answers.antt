@@ -51,12 +51,12 @@ returns-clause-puts g c = λ fits some out k placed sound.
           subst (λ o. IsMappedAs view mid (p.guest + c.args.at) (Raw c.args.prepared.now.place o true) n) c.in-Some.ensures.1 ((c.in_ok-check_in_place.ensures.sound (pending_in view below old out) out sound).mapped none some) in
           let behind = hosts_behind_header view below mid out (quiet_sound view below out old mid (λ _. quiet) sound) n k p c.args.at placed fits (mapped_in_place view below out k p c.args.at c.args.bytes.now placed mid mapped) 0 some in
           let host_is = c.in-Some.ensures.1 in
-          met_as IsFault (MayFailPutting (IsCacheHeld old out) p c.args.at) c.write_data.result (λ e fault. inl fault) (c.write_data.ensures.fault (omega (arith, behind, host_is)));
+          met_as IsFault (MayFailPutting (IsCacheHeld old out) p c.args.at) c.write_data.result (λ e fault. inl fault) (c.write_data.ensures.puts.fault (omega (arith, behind, host_is)));
       puts = let at = c.args.at in
           let bytes = c.args.bytes.now in
           let still = quiet_sound view below out old mid (λ _. quiet) sound in
           let host_is : c.in-Some.host ≡ p.offset + at = c.in-Some.ensures.1 in
-          let w = c.write_data.ensures.written still.alone in
+          let w = c.write_data.ensures.puts.written still.alone in
           let contents = (view_in view mid.file).contents in
           let storage = c.write_data.new.self.file.storage in
           let done = subst (λ o. IsWriteOutcome c.write_data.result contents (overwritten contents o bytes) (view_in view c.write_data.new.self.file).contents) host_is (w.written still.file.honest) in
@@ -95,7 +95,7 @@ returns-clause-held g c = λ none some.
     let at = c.args.prepared.now.guest + c.args.at in
     let kind = Raw c.args.prepared.now.place (c.args.prepared.now.offset + c.args.at) true in
     let held = subst (λ o. IsHeldAs mid at (Raw c.args.prepared.now.place o true) n) c.in-Some.ensures.1 (c.in_ok-check_in_place.ensures.held none some) in
-    heeds_then at kind n c.args.self.now new c.write_data.result (written_current c.write_data.result c.write_data.ensures.fails.cause) (written_plain kind c.write_data.result c.write_data.ensures.fails.cause) (held_as mid new at kind n (keeps_storage mid new new.file.storage new.data_file c.write_data.ensures.rest c.write_data.ensures.step.stays.image.beside) held)
+    heeds_then at kind n c.args.self.now new c.write_data.result (written_current c.write_data.result c.write_data.ensures.fails.cause) (written_plain kind c.write_data.result c.write_data.ensures.fails.cause) (held_as mid new at kind n (keeps_storage mid new new.file.storage new.data_file c.write_data.ensures.puts.rest c.write_data.ensures.step.stays.image.beside) held)
 
 pub returns-in_default-clause-once : goal.returns-in_default-clause-once
 returns-in_default-clause-once g c = put_refused g.S.Storage.view g.F.BackingDisk.backing c.args.prepared.now c.args.at c.args.bytes.now c.args.self.now Overflow
@@ -106,7 +106,7 @@ returns-in_err-check_in_place-clause-once g c =
     let new = c.check_in_place.new.self in
     let e = c.in_err-check_in_place.field-0.0 in
     handed_on (PutsOnce g.S.Storage.view g.F.BackingDisk.backing p c.args.at c.args.bytes.now c.args.self.now new) c.from_residual.result e c.from_residual.ensures
-    (put_unwritten g.S.Storage.view g.F.BackingDisk.backing p c.args.at c.args.bytes.now c.args.self.now new e c.check_in_place.ensures.step.notes.storage.honest (λ some. (c.check_in_place.ensures.private some).1) c.check_in_place.ensures.quiet
+    (put_unwritten g.S.Storage.view g.F.BackingDisk.backing p c.args.at c.args.bytes.now c.args.self.now new e c.check_in_place.ensures.step.notes.storage.honest (λ some. (c.check_in_place.ensures.private some).1) c.check_in_place.ensures.looks.quiet
     (λ out sound. checked_unseen g.S.Storage.view g.F.BackingDisk.backing c.args.self.now new out (λ p out sound. (c.check_in_place.ensures.sound p out sound).keeps) c.check_in_place.ensures.step.list sound))
 
 pub returns-clause-once : goal.returns-clause-once
@@ -116,16 +116,16 @@ returns-clause-once g c =
     let contents = (view_in view mid.file).contents in
     record {
       before = mid;
-      quiet = c.check_in_place.ensures.quiet;
+      quiet = c.check_in_place.ensures.looks.quiet;
       honest = c.check_in_place.ensures.step.notes.storage.honest;
       unseen = λ out sound. checked_unseen view g.F.BackingDisk.backing c.args.self.now mid out (λ p out sound. (c.check_in_place.ensures.sound p out sound).keeps) c.check_in_place.ensures.step.list sound;
       idle = λ some. let same = (c.check_in_place.ensures.private some).1 in (ap (λ (i : Qcow2 _ _). storage_of_image i) same, ap (λ (i : Qcow2 _ _). changes_of i.file.storage) same);
-      time = c.write_data.ensures.time;
-      written = λ none honest. subst (λ o. IsWriteOutcome c.write_data.result contents (overwritten contents o c.args.bytes.now) (view_in view c.write_data.new.self.file).contents) c.in-Some.ensures.1 ((c.write_data.ensures.written (c.check_in_place.ensures.data_file ∙ none)).written honest);
+      time = c.write_data.ensures.puts.time;
+      written = λ none honest. subst (λ o. IsWriteOutcome c.write_data.result contents (overwritten contents o c.args.bytes.now) (view_in view c.write_data.new.self.file).contents) c.in-Some.ensures.1 ((c.write_data.ensures.puts.written (c.check_in_place.ensures.looks.data_file ∙ none)).written honest);
     }
 
 pub returns-clause-step : goal.returns-clause-step
-returns-clause-step g c = keeping_then c.check_in_place.ensures.step (keeping_of_filling (filling_written c.write_data.ensures.step c.write_data.ensures.rest))
+returns-clause-step g c = keeping_then c.check_in_place.ensures.step (keeping_of_filling (filling_written c.write_data.ensures.step c.write_data.ensures.puts.rest))
 
 pub returns-in_default-clause-step : goal.returns-in_default-clause-step
 returns-in_default-clause-step g c = keeping_of_filling filling_none
@@ -158,7 +158,7 @@ returns-clause-fails g c =
       faults = search rules;
       cause = elim (cases_lt c.in-Some.host (cluster_size mid.file.header.fields)) [
         | inl lt ↦ met_as MayFailWriting Why c.write_data.result (λ e why. ⊎_elim (λ fault. inl fault) (λ header. inr (inr (inr (header, let at = c.in-Some.ensures.1 in omega (arith, lt, at, size))))) why) c.write_data.ensures.fails.cause
-        | inr le ↦ met_as IsFault Why c.write_data.result (λ e fault. inl fault) (c.write_data.ensures.fault le)
+        | inr le ↦ met_as IsFault Why c.write_data.result (λ e fault. inl fault) (c.write_data.ensures.puts.fault le)
       ];
     }
 

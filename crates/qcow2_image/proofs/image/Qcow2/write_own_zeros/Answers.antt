@@ -2,8 +2,8 @@ use Rattle.qcow2_image.proofs.Common.{told_kept, notes_of_storage, ap, replicate
 use Rattle.qcow2_image.proofs.Lemmas.{behind_guard, behind_wrote, hands_unlimited, hands_fault, storage_unlimited, step_none}
 use Rattle.qcow2_image.proofs.image.Qcow2.write_own_zeros.Goals as goal
 
-pub returns-in_err-write_zero_data-clause-fault : goal.returns-in_err-write_zero_data-clause-fault
-returns-in_err-write_zero_data-clause-fault g c = λ behind. hands_fault c.from_residual.result (of_storage c.in_err-write_zero_data.field-0.0) c.from_residual.ensures (fault_of_storage c.in_err-write_zero_data.field-0.0)
+pub returns-in_err-write_zero_data-clause-puts : goal.returns-in_err-write_zero_data-clause-puts
+returns-in_err-write_zero_data-clause-puts g c = record { fault = λ behind. hands_fault c.from_residual.result (of_storage c.in_err-write_zero_data.field-0.0) c.from_residual.ensures (fault_of_storage c.in_err-write_zero_data.field-0.0); written = search rules }
 
 pub returns-in_err-write_zero_data-clause-step : goal.returns-in_err-write_zero_data-clause-step
 returns-in_err-write_zero_data-clause-step g c = record {

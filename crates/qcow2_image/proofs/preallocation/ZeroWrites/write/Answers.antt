@@ -8,7 +8,7 @@ first_zeros n zeros few are = ap (take n) are ∙ take-replicate n (length zeros
 
 pub returns-in-Plain-clause-written : goal.returns-in-Plain-clause-written
 returns-in-Plain-clause-written g c = λ honest.
-    let few = subst (λ (w : ZeroWrites). c.args.count ≤ most_of w) c.in-Plain.is c.requires.few in
-    let are = subst (λ (w : ZeroWrites). AreZeros w) c.in-Plain.is c.requires.zeros in
+    let few = subst (λ (w : ZeroWrites). c.args.count ≤ most_of w) c.in-Plain.is c.requires.zeros.few in
+    let are = subst (λ (w : ZeroWrites). AreZeros w) c.in-Plain.is c.requires.zeros.zeros in
     let contents = (g.S.Storage.view (storage_of c.args.storage.now)).contents in
     subst (λ (bytes : List ℕ). ContentsBecome c.write_data.result contents (overwritten contents c.args.at bytes) (g.S.Storage.view (storage_of c.write_data.new.self)).contents) (ap (take c.args.count) c.deref.ensures.value ∙ first_zeros c.args.count c.in-Plain.zeros.items few are) (c.write_data.ensures.writes.written honest)
