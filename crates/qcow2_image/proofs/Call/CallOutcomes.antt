@@ -13,27 +13,9 @@ memory_outcome before now (inl same) = inr (inr (same, λ is. absurd cc))
 memory_outcome before now (inr marked) = inr (inl (refl, marked))
 
 pub outcome : (e : ImageError) (before now : Bool) → MayMark e before now → IsOutcome e before now
-outcome I.ReadOnly before now m = inr (inr (m, λ is. absurd cc))
-outcome I.BeyondSize before now m = inr (inr (m, λ is. absurd cc))
-outcome I.Version before now m = inr (inr (m, λ is. absurd cc))
-outcome I.UnalignedTable before now m = inr (inr (m, λ is. absurd cc))
-outcome I.InvalidOption before now m = inr (inr (m, λ is. absurd cc))
-outcome I.Preallocation before now m = inr (inr (m, λ is. absurd cc))
-outcome I.Compressed before now m = inr (inr (m, λ is. absurd cc))
-outcome I.InUse before now m = inr (inr (m, λ is. absurd cc))
-outcome I.TablePrepared before now m = inr (inr (m, λ is. absurd cc))
-outcome I.OutdatedMapping before now m = inr (inr (m, λ is. absurd cc))
-outcome I.ForeignState before now m = inr (inr (m, λ is. absurd cc))
-outcome I.Dependency before now m = inr (inr (m, λ is. absurd cc))
-outcome I.Limit before now m = inr (inr (m, λ is. absurd cc))
 outcome I.Memory before now m = memory_outcome before now m
 outcome I.Storage before now m = inl (refl, m)
-outcome I.Failed before now m = inr (inr (m, λ is. absurd cc))
-outcome I.MappingPrepared before now m = inr (inr (m, λ is. absurd cc))
-outcome (I.NotCompressed offset) before now m = inr (inr (m, λ is. absurd cc))
-outcome I.Metadata before now m = inr (inr (m, λ is. absurd cc))
-outcome I.Overflow before now m = inr (inr (m, λ is. absurd cc))
-outcome (I.StillInUse tables) before now m = inr (inr (m, λ is. absurd cc))
+outcome e before now m = inr (inr (m, λ is. absurd cc))
 
 pub is_fault : (e : ImageError) (before now : Bool) → IsOutcome e before now → refusal_of e ≡ storage → IsTrue now
 is_fault e before now (inl failed) is = failed.1

@@ -5,74 +5,25 @@ use Rattle.image_access.specs.declared.error.StorageError.TheVariants as S
 use Rattle.qcow2_metadata.specs.declared.error.MetadataError.TheVariants as M
 use Rattle.qcow2_alloc.specs.declared.error.ImageError.TheVariants as I
 
-pub tables_met : (e : ImageError) → IsOfTables e → MayFail e
-tables_met I.ReadOnly h = absurd h
-tables_met I.BeyondSize h = absurd h
-tables_met I.Version h = absurd h
-tables_met I.UnalignedTable h = tt
-tables_met I.InvalidOption h = absurd h
-tables_met I.Preallocation h = absurd h
-tables_met I.Compressed h = absurd h
-tables_met I.InUse h = tt
-tables_met I.TablePrepared h = absurd h
-tables_met I.OutdatedMapping h = absurd h
-tables_met I.ForeignState h = absurd h
-tables_met I.Dependency h = absurd h
-tables_met I.Limit h = tt
-tables_met I.Memory h = tt
-tables_met I.Storage h = tt
-tables_met I.Failed h = absurd h
-tables_met I.MappingPrepared h = absurd h
-tables_met (I.NotCompressed offset) h = absurd h
-tables_met I.Metadata h = absurd h
-tables_met I.Overflow h = absurd h
-tables_met (I.StillInUse tables) h = absurd h
-
 pub tables_read : (e : ImageError) → IsOfTables e → MayFailToRead e
-tables_read I.ReadOnly h = absurd h
-tables_read I.BeyondSize h = absurd h
-tables_read I.Version h = absurd h
 tables_read I.UnalignedTable h = tt
-tables_read I.InvalidOption h = absurd h
-tables_read I.Preallocation h = absurd h
-tables_read I.Compressed h = absurd h
 tables_read I.InUse h = tt
-tables_read I.TablePrepared h = absurd h
-tables_read I.OutdatedMapping h = absurd h
-tables_read I.ForeignState h = absurd h
-tables_read I.Dependency h = absurd h
 tables_read I.Limit h = tt
 tables_read I.Memory h = tt
 tables_read I.Storage h = tt
-tables_read I.Failed h = absurd h
-tables_read I.MappingPrepared h = absurd h
-tables_read (I.NotCompressed offset) h = absurd h
-tables_read I.Metadata h = absurd h
-tables_read I.Overflow h = absurd h
-tables_read (I.StillInUse tables) h = absurd h
+tables_read e h = absurd h
 
 pub read_met : (e : ImageError) → MayFailToRead e → MayFail e
-read_met I.ReadOnly h = absurd h
-read_met I.BeyondSize h = absurd h
-read_met I.Version h = absurd h
 read_met I.UnalignedTable h = tt
-read_met I.InvalidOption h = absurd h
-read_met I.Preallocation h = absurd h
 read_met I.Compressed h = tt
 read_met I.InUse h = tt
-read_met I.TablePrepared h = absurd h
-read_met I.OutdatedMapping h = absurd h
-read_met I.ForeignState h = absurd h
-read_met I.Dependency h = absurd h
 read_met I.Limit h = tt
 read_met I.Memory h = tt
 read_met I.Storage h = tt
-read_met I.Failed h = absurd h
-read_met I.MappingPrepared h = absurd h
-read_met (I.NotCompressed offset) h = absurd h
-read_met I.Metadata h = absurd h
-read_met I.Overflow h = absurd h
-read_met (I.StillInUse tables) h = absurd h
+read_met e h = absurd h
+
+pub tables_met : (e : ImageError) → IsOfTables e → MayFail e
+tables_met e tables = read_met e (tables_read e tables)
 
 pub reftable_met : (e : ImageError) → IsOfReftableLoad e → MayFail e
 reftable_met e (inl is) = subst MayFail (sym is) tt
@@ -114,20 +65,14 @@ pub memory_met : (e : MetadataError) → e ≡ M.Memory → MayFail (of_metadata
 memory_met e is = subst (λ (x : MetadataError). MayFail (of_metadata x)) (sym is) tt
 
 pub length_met : (IsTooLong : Type 0) (e : MetadataError) → IsOfLengthOrMemory IsTooLong e → MayFail (of_metadata e)
-length_met IsTooLong (M.Storage e) h = absurd h
 length_met IsTooLong M.Memory h = tt
-length_met IsTooLong M.Version h = absurd h
-length_met IsTooLong M.Unaligned h = absurd h
 length_met IsTooLong M.Limit h = tt
-length_met IsTooLong M.Format h = absurd h
+length_met IsTooLong e h = absurd h
 
 pub header_anew : (e : MetadataError) → MayFailToInvalidate (of_metadata e)
 header_anew (M.Storage e) = inl (storage_met e)
-header_anew M.Memory = inl tt
 header_anew M.Version = inr (inl refl)
-header_anew M.Unaligned = inl tt
-header_anew M.Limit = inl tt
-header_anew M.Format = inl tt
+header_anew e = inl tt
 
 pub prepared_anew : (e : ImageError) → IsOfPrepared e → MayFailToInvalidate e
 prepared_anew e (inl used) = inr (inr used)

@@ -19,27 +19,8 @@ either_is false true now is = inr is
 either_is false false now is = inl is
 
 pub may_mark_after : (e : ImageError) (before recorded now : Bool) → failed_after e before recorded now → MayMark e before now
-may_mark_after I.ReadOnly before recorded now m = m
-may_mark_after I.BeyondSize before recorded now m = m
-may_mark_after I.Version before recorded now m = m
-may_mark_after I.UnalignedTable before recorded now m = m
-may_mark_after I.InvalidOption before recorded now m = m
-may_mark_after I.Preallocation before recorded now m = m
-may_mark_after I.Compressed before recorded now m = m
-may_mark_after I.InUse before recorded now m = m
-may_mark_after I.TablePrepared before recorded now m = m
-may_mark_after I.OutdatedMapping before recorded now m = m
-may_mark_after I.ForeignState before recorded now m = m
-may_mark_after I.Dependency before recorded now m = m
-may_mark_after I.Limit before recorded now m = m
 may_mark_after I.Memory before recorded now m = either_is before recorded now m
-may_mark_after I.Storage before recorded now m = m
-may_mark_after I.Failed before recorded now m = m
-may_mark_after I.MappingPrepared before recorded now m = m
-may_mark_after (I.NotCompressed offset) before recorded now m = m
-may_mark_after I.Metadata before recorded now m = m
-may_mark_after I.Overflow before recorded now m = m
-may_mark_after (I.StillInUse tables) before recorded now m = m
+may_mark_after e before recorded now m = m
 
 module _ {S F : Type 0} (old new : Qcow2 S F) where
   -- what marks say at least
@@ -88,27 +69,9 @@ memory_on false true mid noted' now first second keeps = second ∙ or_left mid 
 memory_on false false mid noted' now first second keeps = second ∙ ap (λ m. m || noted') first
 
 pub failed_on : (e : ImageError) (before recorded mid noted' now : Bool) → failed_after e before recorded mid → failed_after e mid noted' now → (IsTrue recorded → IsTrue noted') → failed_after e before noted' now
-failed_on I.ReadOnly before recorded mid noted' now first second keeps = second ∙ first
-failed_on I.BeyondSize before recorded mid noted' now first second keeps = second ∙ first
-failed_on I.Version before recorded mid noted' now first second keeps = second ∙ first
-failed_on I.UnalignedTable before recorded mid noted' now first second keeps = second ∙ first
-failed_on I.InvalidOption before recorded mid noted' now first second keeps = second ∙ first
-failed_on I.Preallocation before recorded mid noted' now first second keeps = second ∙ first
-failed_on I.Compressed before recorded mid noted' now first second keeps = second ∙ first
-failed_on I.InUse before recorded mid noted' now first second keeps = second ∙ first
-failed_on I.TablePrepared before recorded mid noted' now first second keeps = second ∙ first
-failed_on I.OutdatedMapping before recorded mid noted' now first second keeps = second ∙ first
-failed_on I.ForeignState before recorded mid noted' now first second keeps = second ∙ first
-failed_on I.Dependency before recorded mid noted' now first second keeps = second ∙ first
-failed_on I.Limit before recorded mid noted' now first second keeps = second ∙ first
 failed_on I.Memory before recorded mid noted' now first second keeps = memory_on before recorded mid noted' now first second keeps
 failed_on I.Storage before recorded mid noted' now first second keeps = second
-failed_on I.Failed before recorded mid noted' now first second keeps = second ∙ first
-failed_on I.MappingPrepared before recorded mid noted' now first second keeps = second ∙ first
-failed_on (I.NotCompressed offset) before recorded mid noted' now first second keeps = second ∙ first
-failed_on I.Metadata before recorded mid noted' now first second keeps = second ∙ first
-failed_on I.Overflow before recorded mid noted' now first second keeps = second ∙ first
-failed_on (I.StillInUse tables) before recorded mid noted' now first second keeps = second ∙ first
+failed_on e before recorded mid noted' now first second keeps = second ∙ first
 
 module _ {S F : Type 0} (old mid new : Qcow2 S F) (keeps : IsTrue (has_noted_change mid) → IsTrue (has_noted_change new)) where
   pub refused_on : (e : ImageError) → MarksRefused old mid e → MarksRefused mid new e → MarksRefused old new e

@@ -27,15 +27,9 @@ looking_unlimited e (inr used) = subst IsUnlimited (sym used.0) tt
 pub short_fault : (Past : Type 0) → (Past → ⊥) → (e : MetadataError) → IsOfLengthOrMemory Past e → IsFault (of_metadata e)
 short_fault Past not M.Memory why = inr refl
 short_fault Past not M.Limit why = absurd (not why)
-short_fault Past not (M.Storage e) why = absurd why
-short_fault Past not M.Version why = absurd why
-short_fault Past not M.Unaligned why = absurd why
-short_fault Past not M.Format why = absurd why
+short_fault Past not e why = absurd why
 
 pub short_unlimited : (Past : Type 0) → (Past → ⊥) → (e : MetadataError) → IsOfLengthOrMemory Past e → IsUnlimited (of_metadata e)
 short_unlimited Past not M.Memory why = tt
 short_unlimited Past not M.Limit why = absurd (not why)
-short_unlimited Past not (M.Storage e) why = absurd why
-short_unlimited Past not M.Version why = absurd why
-short_unlimited Past not M.Unaligned why = absurd why
-short_unlimited Past not M.Format why = absurd why
+short_unlimited Past not e why = absurd why

@@ -1,20 +1,23 @@
--- What stays the same in an image if its header does, except the pointer to the reftable.
+-- What stays the same in an image if its header does, except the pointer to the reftable and the size.
 use Rattle.std.proofs.Common.{◌≡◌, ℕ, sym, ◌∙◌, subst, Option, None, Some}
-use Rattle.qcow2_image.proofs.Common.{Bytes, HeaderFields, with_reftable, l1_entry, cover, cover_under, L2TableView, KeepsFormat, l1_format, ListsTables, IsEntryAt, Qcow2, Prepared, ClusterMapping, InPlace, Kept, New, SaysKnown, ListGrows, IsClusterMappingAt, IsReadyWith}
+use Rattle.qcow2_image.proofs.Common.{Bytes, HeaderFields, with_reftable, with_size, l1_entry, cover, cover_under, L2TableView, KeepsFormat, l1_format, ListsTables, IsEntryAt, Qcow2, Prepared, ClusterMapping, InPlace, Kept, New, SaysKnown, ListGrows, IsClusterMappingAt, IsReadyWith}
 
 -- ---- what is read with it
-module _ (h : HeaderFields) (offset clusters : ℕ) (known on_storage : Bytes) where
-  entry_with : (i table j : ℕ) → IsEntryAt h known i table j → IsEntryAt (with_reftable h offset clusters) known i table j
+module _ (h : HeaderFields) (size offset clusters : ℕ) (known on_storage : Bytes) where
+  abbrev other : HeaderFields
+  other = with_size (with_reftable h offset clusters) size
+
+  entry_with : (i table j : ℕ) → IsEntryAt h known i table j → IsEntryAt other known i table j
   unfolding l1_entry
   entry_with i table j is = record { real = is.real; place = is.place; within = is.within }
 
-  mapping_with : (q : Prepared) (i : ℕ) (cluster_mapping : ClusterMapping) → IsClusterMappingAt h known on_storage q i cluster_mapping → IsClusterMappingAt (with_reftable h offset clusters) known on_storage q i cluster_mapping
+  mapping_with : (q : Prepared) (i : ℕ) (cluster_mapping : ClusterMapping) → IsClusterMappingAt h known on_storage q i cluster_mapping → IsClusterMappingAt other known on_storage q i cluster_mapping
   unfolding cover cover_under l1_entry
   mapping_with q i InPlace is = is
   mapping_with q i Kept is = record { first = is.first; place = is.place; nameable = is.nameable; entry = is.entry }
   mapping_with q i (New taken old_data) is = record { first = is.first; is = is.is; place = is.place; nameable = is.nameable; entry = is.entry; reach = is.reach; drops = is.drops }
 
-  ready_with : (q : Prepared) (t : Option ℕ) → IsReadyWith h known on_storage q t → IsReadyWith (with_reftable h offset clusters) known on_storage q t
+  pub ready_with : (q : Prepared) (t : Option ℕ) → IsReadyWith h known on_storage q t → IsReadyWith other known on_storage q t
   unfolding l1_entry
   ready_with q None is = is
   ready_with q (Some table) is = record {
@@ -28,19 +31,19 @@ module _ (h : HeaderFields) (offset clusters : ℕ) (known on_storage : Bytes) w
     each = λ i cluster_mapping at. mapping_with q i cluster_mapping (is.each i cluster_mapping at);
   }
 
-  says_with : (i : ℕ) (t : L2TableView) → SaysKnown h known i t → SaysKnown (with_reftable h offset clusters) known i t
+  says_with : (i : ℕ) (t : L2TableView) → SaysKnown h known i t → SaysKnown other known i t
   unfolding cover cover_under l1_entry
   says_with i t is = record { format = record { bits = is.format.bits; zero_bit = is.format.zero_bit; external = is.format.external }; says = is.says }
 
 module _ (h h' : HeaderFields) (e : KeepsFormat h h') (known on_storage : Bytes) where
   pub entry_at_format : (i table j : ℕ) → IsEntryAt h known i table j → IsEntryAt h' known i table j
-  entry_at_format i table j is = subst (λ (x : HeaderFields). IsEntryAt x known i table j) (sym e) (entry_with h h'.reftable_offset h'.reftable_clusters known on_storage i table j is)
+  entry_at_format i table j is = subst (λ (x : HeaderFields). IsEntryAt x known i table j) (sym e) (entry_with h h.size h'.reftable_offset h'.reftable_clusters known on_storage i table j is)
 
   pub ready_format : (q : Prepared) (t : Option ℕ) → IsReadyWith h known on_storage q t → IsReadyWith h' known on_storage q t
-  ready_format q t is = subst (λ (x : HeaderFields). IsReadyWith x known on_storage q t) (sym e) (ready_with h h'.reftable_offset h'.reftable_clusters known on_storage q t is)
+  ready_format q t is = subst (λ (x : HeaderFields). IsReadyWith x known on_storage q t) (sym e) (ready_with h h.size h'.reftable_offset h'.reftable_clusters known on_storage q t is)
 
   pub says_format : (i : ℕ) (t : L2TableView) → SaysKnown h known i t → SaysKnown h' known i t
-  says_format i t is = subst (λ (x : HeaderFields). SaysKnown x known i t) (sym e) (says_with h h'.reftable_offset h'.reftable_clusters known on_storage i t is)
+  says_format i t is = subst (λ (x : HeaderFields). SaysKnown x known i t) (sym e) (says_with h h.size h'.reftable_offset h'.reftable_clusters known on_storage i t is)
 
   -- an L1 entry that two images share by one header they share by the other
   pub l1_shared : (i : ℕ) → l1_entry h' known i ≡ l1_entry h' on_storage i → l1_entry h known i ≡ l1_entry h on_storage i

@@ -1,5 +1,5 @@
 -- A cached table of a sound file is readable: the host clusters that its entries name are aligned.
-use Rattle.std.proofs.Common.{◌≡◌, ◌+◌, ◌*◌, ◌/◌, ◌%◌, ◌^◌, ◌<◌, ℕ, Some, None, sym, ap, ◌∙◌, subst}
+use Rattle.std.proofs.Common.{◌≡◌, ◌+◌, ◌*◌, ◌/◌, ◌%◌, ◌^◌, ◌<◌, ℕ, Some, sym, ap, ◌∙◌, subst}
 use Rattle.qcow2_image.proofs.Common.{div-mul-add, mod-mul-add, mod_below, StorageView, CoverIsAligned, HeaderFields, L2Mapping, entries_per_cluster, HasAlignedHost, L2TableView, entries_of, Pending, Sizes-from, ImageFile, FileInvariant, contents_in, known_in, IsEntryAt, ShowsKnown, mapping_of}
 use Rattle.qcow2_metadata.specs.declared.l2_mapping.L2Mapping.TheVariants as M
 use Rattle.qcow2_metadata.specs.L2Table.{cover_at}
@@ -7,10 +7,8 @@ use Rattle.qcow2_image.proofs.Map.Looked.{cached_says}
 
 aligned_host : (h : HeaderFields) (v : L2Mapping) → CoverIsAligned h v → HasAlignedHost h.cluster_bits v
 aligned_host h (M.Data host copied) is = is
-aligned_host h (M.Zero None) is = tt
 aligned_host h (M.Zero (Some k)) is = is
-aligned_host h (M.Compressed place sectors) is = tt
-aligned_host h M.Uncovered is = tt
+aligned_host h v is = tt
 
 pub cached_aligned : {S : Type 0} (view : S → StorageView) (file : ImageFile S) (p : Pending) (t : L2TableView) (table i cluster : ℕ) → FileInvariant view p file → ShowsKnown file.caches table t
     → IsEntryAt file.header.fields (known_in view file) i table (cluster % entries_per_cluster file.header.fields) → cluster / entries_per_cluster file.header.fields ≡ i → HasAlignedHost t.cluster_bits (mapping_of t cluster)

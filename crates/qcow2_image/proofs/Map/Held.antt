@@ -246,18 +246,14 @@ reads_from {S} view start old new (M.Raw place host writable) bytes same honest 
   by None (Some b) same read = absurd cc
   by (Some a) None same read = absurd cc
 reads_from view start old new (M.Indirect offset) bytes same honest read = tt
-reads_from view start old new (M.Zero explicit) bytes same honest read = read
-reads_from view start old new (M.Special offset) bytes same honest read = read
-reads_from view start old new M.Eof bytes same honest read = read
+reads_from view start old new kind bytes same honest read = read
 
 -- the same once a failure is marked
 pub reads_marked : {S F : Type 0} (view : S → StorageView) (start old new : Qcow2 S F) (failed : Bool) (kind : MappingKind) (bytes : List ℕ) → old.data_file ≡ start.data_file → ((view_in view start.file).is_honest → (view_in view old.file).is_honest) → ReadsAs view old new kind bytes
     → ReadsAs view start (record new { is_failed = failed }) kind bytes
 reads_marked view start old new failed (M.Raw place host writable) bytes same honest read = reads_from view start old new (M.Raw place host writable) bytes same honest read
 reads_marked view start old new failed (M.Indirect offset) bytes same honest read = tt
-reads_marked view start old new failed (M.Zero explicit) bytes same honest read = read
-reads_marked view start old new failed (M.Special offset) bytes same honest read = read
-reads_marked view start old new failed M.Eof bytes same honest read = read
+reads_marked view start old new failed kind bytes same honest read = read
 
 -- how much was found, of what was answered
 abbrev found_of : {A E : Type 0} → Result (A × ℕ) E → ℕ

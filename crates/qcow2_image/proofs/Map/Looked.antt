@@ -1,6 +1,6 @@
 -- What a lookup finds: the longest run of clusters that are mapped alike, within one L2 table.
 use Rattle.std.proofs.Common.{◌≡◌, ◌+◌, ◌-◌, ◌*◌, ◌/◌, ◌%◌, ◌^◌, ◌<◌, ◌≤◌, ◌≢◌, ◌==◌, if◌then◌else◌, ⊎_elim, ℕ, zero, suc, refl, sym, ap, ◌∙◌, arith, subst, min, Bool, true, false, is_some, List, None, Option}
-use Rattle.qcow2_image.proofs.Common.{is_beside, fun_ext, div-add-mod', div-mul-add, mod_below, div-div-eq-div-mul, div-mul-le_self, pow_mono, shr_mono, common_steps, Bytes, HeaderFields, cluster_size, entries_per_cluster, with_reftable, l2_entry, entry_at, cover, cover_of, entry_cover, L2TableView, L2Mapping, Data, Zero, Compressed, Uncovered, AreDataAt, IsAlike, IsAlikeAt, IsAlikeRun, IsDataAt, IsLongestRun, table_at, Sizes, cover_none, cover_in, Sizes-from, IsTableOf, run_first, run_less, run_begins, clusters_on, clusters_end, run_longest, cases_lt, BackingView, StorageView, contents_in, known_in, FileInvariant, ImageFile, IsEntryAt, ShowsKnown, Pending, SameCovers, cover_with, IsTop-top, Qcow2, MappingKind, size_of, Kind, raw, indirect, zeros, special, eof, kind_at, kind_in, rest_of_table, IsCompressed, Image, DataFile, Prepared, IsSpecial, InternalStep, found_kind, mapping_of, l1_index_of, AreAlikeBehind, IsAlikeTo, IsRunBehind, IsFoundInImage, IsFoundWhole, IsMappedAs}
+use Rattle.qcow2_image.proofs.Common.{is_beside, fun_ext, div-add-mod', div-mul-add, mod_below, div-div-eq-div-mul, div-mul-le_self, pow_mono, shr_mono, common_steps, Bytes, HeaderFields, cluster_size, entries_per_cluster, with_reftable, l2_entry, entry_at, cover, cover_of, entry_cover, L2TableView, L2Mapping, Data, Compressed, Uncovered, AreDataAt, IsAlike, IsAlikeAt, IsAlikeRun, IsDataAt, IsLongestRun, table_at, Sizes, cover_none, cover_in, Sizes-from, IsTableOf, run_first, run_less, run_begins, clusters_on, clusters_end, run_longest, cases_lt, BackingView, StorageView, contents_in, known_in, FileInvariant, ImageFile, IsEntryAt, ShowsKnown, Pending, SameCovers, cover_with, IsTop-top, Qcow2, MappingKind, size_of, Kind, raw, indirect, zeros, special, eof, kind_at, kind_in, rest_of_table, IsCompressed, Image, DataFile, Prepared, IsSpecial, InternalStep, found_kind, mapping_of, l1_index_of, AreAlikeBehind, IsAlikeTo, IsRunBehind, IsFoundInImage, IsFoundWhole, IsMappedAs}
 use Rattle.qcow2_image.specs.declared.mapping.MappingKind.TheVariants as M
 use Rattle.qcow2_disk.specs.Found.{IsFound as IsFoundOf}
 
@@ -136,10 +136,7 @@ told_of eof = M.Eof
 told_back : (k : MappingKind) → told_of (found_kind k) ≡ k
 told_back (M.Raw Image offset writable) = refl
 told_back (M.Raw DataFile offset writable) = refl
-told_back (M.Indirect offset) = refl
-told_back (M.Zero explicit) = refl
-told_back (M.Special offset) = refl
-told_back M.Eof = refl
+told_back k = refl
 
 -- kinds that are reported alike are the same
 pub same_kind : (a b : MappingKind) → found_kind a ≡ found_kind b → a ≡ b
@@ -158,25 +155,19 @@ found_whole view image offset n kind wanted found is whole = ⊎_elim
 -- no cluster is mapped as what lies past the end
 pub kind_within : (h : HeaderFields) (backed : Bool) (offset : ℕ) (m : L2Mapping) → eof ≡ kind_at h backed offset m → ⊥
 kind_within h backed offset (Data host copied) is = absurd cc
-kind_within h backed offset (Zero kept) is = absurd cc
-kind_within h backed offset (Compressed host sectors) is = absurd cc
 kind_within h true offset Uncovered is = absurd cc
-kind_within h false offset Uncovered is = absurd cc
+kind_within h backed offset m is = absurd cc
 
 -- with a data file or without
 pub never_past : (h : HeaderFields) (beside backed : Bool) (offset : ℕ) (m : L2Mapping) → eof ≡ kind_in h beside backed offset m → ⊥
 never_past h beside backed offset (Data host copied) is = absurd cc
-never_past h beside backed offset (Zero kept) is = absurd cc
-never_past h beside backed offset (Compressed host sectors) is = absurd cc
 never_past h beside true offset Uncovered is = absurd cc
-never_past h beside false offset Uncovered is = absurd cc
+never_past h beside backed offset m is = absurd cc
 
 -- without a data file
 pub kind_inside : (h : HeaderFields) (backed : Bool) (offset : ℕ) (m : L2Mapping) → kind_in h false backed offset m ≡ kind_at h backed offset m
 kind_inside h backed offset (Data host copied) = refl
-kind_inside h backed offset (Zero kept) = refl
-kind_inside h backed offset (Compressed host sectors) = refl
-kind_inside h backed offset Uncovered = refl
+kind_inside h backed offset m = refl
 
 pub kind_alone : {S F : Type 0} (image : Qcow2 S F) → image.data_file ≡ None → (offset : ℕ) (m : L2Mapping) → kind_in image.file.header.fields (is_beside image) (is_some image.backing) offset m ≡ kind_at image.file.header.fields (is_some image.backing) offset m
 kind_alone image none offset m = ap (λ (file : Option _). kind_in image.file.header.fields (is_some file) (is_some image.backing) offset m) none ∙ kind_inside image.file.header.fields (is_some image.backing) offset m
@@ -285,11 +276,6 @@ module _ (h : HeaderFields) (known : Bytes) (backed : Bool) (offset : ℕ) where
 -- what is mapped as compressed is compressed
 pub compressed_there : (h : HeaderFields) (beside backed : Bool) (offset : ℕ) (kind : MappingKind) (m : L2Mapping) → found_kind kind ≡ kind_in h beside backed offset m → IsSpecial kind → IsCompressed m
 compressed_there h beside backed offset kind (Compressed host sectors) is so = tt
-compressed_there h beside backed offset (M.Special at) (Data host copied) is so = absurd cc
-compressed_there h beside backed offset (M.Special at) (Zero kept) is so = absurd cc
 compressed_there h beside true offset (M.Special at) Uncovered is so = absurd cc
-compressed_there h beside false offset (M.Special at) Uncovered is so = absurd cc
-compressed_there h beside backed offset (M.Raw file at writable) m is so = absurd so
-compressed_there h beside backed offset (M.Indirect at) m is so = absurd so
-compressed_there h beside backed offset (M.Zero explicit) m is so = absurd so
-compressed_there h beside backed offset M.Eof m is so = absurd so
+compressed_there h beside backed offset (M.Special at) m is so = absurd cc
+compressed_there h beside backed offset kind m is so = absurd so

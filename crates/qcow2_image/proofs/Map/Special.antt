@@ -1,43 +1,31 @@
 -- A lookup finds a special range exactly if the guest cluster is compressed, also past the size.
 use Rattle.std.proofs.Common.{◌≡◌, ◌/◌, inl, ℕ, Bool, true, false, refl, sym, ◌∙◌, subst, [], ap}
-use Rattle.qcow2_image.proofs.Common.{Bytes, cover, header, cluster_size, HeaderFields, L2Mapping, Data, Zero, Compressed, Uncovered, Refusal, AnsweredEffect, RefusedEffect, IsSame, storage, AbstractImage, Kind, raw, indirect, zeros, special, eof, kind_at, kind_in, IsCompressed, IsCompressedAt, IsSpecial, MappingKind, found_kind}
+use Rattle.qcow2_image.proofs.Common.{Bytes, cover, header, cluster_size, HeaderFields, L2Mapping, Compressed, Uncovered, Refusal, AnsweredEffect, RefusedEffect, IsSame, storage, AbstractImage, Kind, special, kind_at, kind_in, IsCompressed, IsCompressedAt, IsSpecial, MappingKind, found_kind}
 use Rattle.qcow2_image.specs.declared.mapping.MappingKind.TheVariants as M
 use Rattle.qcow2_image.specs.SpecialReads.{is_special}
 
 special_compressed : (h : HeaderFields) (b : Bool) (offset o : ℕ) (v : L2Mapping) → special o ≡ kind_at h b offset v → IsCompressed v
-special_compressed h b offset o (Data host copied) e = absurd cc
-special_compressed h b offset o (Zero kept) e = absurd cc
 special_compressed h b offset o (Compressed place sectors) e = tt
 special_compressed h true offset o Uncovered e = absurd cc
-special_compressed h false offset o Uncovered e = absurd cc
+special_compressed h b offset o v e = absurd cc
 
 compressed_special : (h : HeaderFields) (b : Bool) (offset : ℕ) (v : L2Mapping) → IsCompressed v → is_special (kind_at h b offset v) ≡ true
-compressed_special h b offset (Data host copied) is = absurd is
-compressed_special h b offset (Zero kept) is = absurd is
 compressed_special h b offset (Compressed place sectors) is = refl
-compressed_special h b offset Uncovered is = absurd is
+compressed_special h b offset v is = absurd is
 
 -- the kind of compressed data
 pub special_told : (kind : MappingKind) → IsSpecial kind → is_special (found_kind kind) ≡ true
 special_told (M.Special o) is = refl
-special_told (M.Raw place host writable) is = absurd is
-special_told (M.Indirect o) is = absurd is
-special_told (M.Zero explicit) is = absurd is
-special_told M.Eof is = absurd is
+special_told kind is = absurd is
 
 -- the kind that a compressed cluster is found as
 compressed_kind : (h : HeaderFields) (beside b : Bool) (offset : ℕ) (v : L2Mapping) → IsCompressed v → is_special (kind_in h beside b offset v) ≡ true
-compressed_kind h beside b offset (Data host copied) is = absurd is
-compressed_kind h beside b offset (Zero kept) is = absurd is
 compressed_kind h beside b offset (Compressed place sectors) is = refl
-compressed_kind h beside b offset Uncovered is = absurd is
+compressed_kind h beside b offset v is = absurd is
 
 pub special_found : (h : HeaderFields) (beside b : Bool) (offset : ℕ) (v : L2Mapping) (kind : MappingKind) → found_kind kind ≡ kind_in h beside b offset v → IsCompressed v → IsSpecial kind
 special_found h beside b offset v (M.Special o) found is = tt
-special_found h beside b offset v (M.Raw place host writable) found is = absurd (let no = ap is_special found ∙ compressed_kind h beside b offset v is in cc)
-special_found h beside b offset v (M.Indirect o) found is = absurd (let no = ap is_special found ∙ compressed_kind h beside b offset v is in cc)
-special_found h beside b offset v (M.Zero explicit) found is = absurd (let no = ap is_special found ∙ compressed_kind h beside b offset v is in cc)
-special_found h beside b offset v M.Eof found is = absurd (let no = ap is_special found ∙ compressed_kind h beside b offset v is in cc)
+special_found h beside b offset v kind found is = absurd (let no = ap is_special found ∙ compressed_kind h beside b offset v is in cc)
 
 module _ (known : Bytes) (b : Bool) (offset : ℕ) where
   abbrev IsKindThere : Kind → Type 0
@@ -46,10 +34,7 @@ module _ (known : Bytes) (b : Bool) (offset : ℕ) where
   -- it was found to be special
   pub found_special : (kind : Kind) → IsKindThere kind → is_special kind ≡ true → IsCompressedAt known offset
   found_special (special o) found is = special_compressed (header known) b offset o (cover (header known) known (offset / cluster_size (header known))) found
-  found_special (raw external host writable) found is = absurd cc
-  found_special (indirect o) found is = absurd cc
-  found_special (zeros explicit) found is = absurd cc
-  found_special eof found is = absurd cc
+  found_special kind found is = absurd cc
 
   -- it wasn't
   pub found_plain : (kind : Kind) → IsKindThere kind → is_special kind ≡ false → IsCompressedAt known offset → ⊥
@@ -61,10 +46,7 @@ module _ (known : Bytes) (b : Bool) (offset : ℕ) where
 -- such a kind
 pub special_kind : (kind : MappingKind) → is_special (found_kind kind) ≡ true → IsSpecial kind
 special_kind (M.Special o) is = tt
-special_kind (M.Raw file host writable) is = absurd cc
-special_kind (M.Indirect o) is = absurd cc
-special_kind (M.Zero explicit) is = absurd cc
-special_kind M.Eof is = absurd cc
+special_kind kind is = absurd cc
 
 -- a call refuses by itself, after its work was done
 pub refuses_after : {old new : AbstractImage} (e : Refusal) → (e ≡ storage → ⊥) → AnsweredEffect old new [] [] (IsSame old new) → RefusedEffect old new [] [] e (IsSame old new)

@@ -36,12 +36,7 @@ some_missing missing v needs none = let bad : false ≡ true = ap (λ (m : Missi
 -- a refusal that comes during the work is not a missing file
 pub metadata_not_missing : (e : MetadataError) → of_metadata e ≡ Dependency → ⊥
 metadata_not_missing (M.Storage T.Fault) is = absurd (cc)
-metadata_not_missing (M.Storage T.Memory) is = absurd (cc)
-metadata_not_missing M.Memory is = absurd (cc)
-metadata_not_missing M.Version is = absurd (cc)
-metadata_not_missing M.Unaligned is = absurd (cc)
-metadata_not_missing M.Limit is = absurd (cc)
-metadata_not_missing M.Format is = absurd (cc)
+metadata_not_missing e is = absurd (cc)
 
 pub not_missing : (e : ImageError) → MayFail e → e ≡ Dependency → ⊥
 not_missing e may_fail is = subst MayFail is may_fail

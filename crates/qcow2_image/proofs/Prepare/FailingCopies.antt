@@ -1,5 +1,5 @@
 -- Why copying, and allocating a first cluster, are refused: for a fault, a limit, or compressed data.
-use Rattle.std.proofs.Common.{◌≡◌, ◌⊎◌, ◌+◌, ◌-◌, ◌*◌, ◌/◌, ◌%◌, ◌^◌, ◌<◌, ◌≤◌, inl, inr, ℕ, Bool, true, false, List, Option, Some, None, Result, Ok, Err, refl, sym, ap, ◌∙◌, subst, arith, IfErr, IsErr, IsErrAnd}
+use Rattle.std.proofs.Common.{◌≡◌, ◌⊎◌, ◌+◌, ◌-◌, ◌*◌, ◌/◌, ◌%◌, ◌^◌, ◌<◌, ◌≤◌, inl, inr, ℕ, Bool, true, List, Option, Some, None, Result, Ok, Err, refl, sym, ap, ◌∙◌, subst, arith, IfErr, IsErr, IsErrAnd}
 use Rattle.qcow2_image.proofs.Common.{cases_lt, div-add-mod', div-mul-add, mod-mul-add, mul-le, pow-add, pow_pos, BackingView, StorageView, Bytes, cover, cluster_size, named_for_tables, HeaderFields, L2Mapping, Data, Zero, Compressed, Uncovered, Kind, special, kind_at, IsCompressed, Pending, Hosting, IsHostedAt, DriverState, StateInvariant, in_own, beside_tables, shares, IsFault, known_in, state_in, IsFaultOr, ImageError, handed_on, own_cluster, found_kind, ImageInvariant, MayFailAlone, MayFailMapped, MayFailReading, IsSpecial, IsFaultOrLimit, Qcow2, MappingKind, Prepared, MayFail, MayFailCopying}
 use Rattle.std.specs.Prelude.{SomeIff}
 use Rattle.qcow2_laws.specs.GuestLaws.{Kept as HostedKept, Held as HostedHeld}
@@ -35,18 +35,13 @@ IsSpecialKind (special offset) = Unit {0}
 IsSpecialKind kind = ⊥
 
 found_special : (kind : MappingKind) → IsSpecial kind → IsSpecialKind (found_kind kind)
-found_special (M.Raw place offset writable) is = absurd is
-found_special (M.Indirect offset) is = absurd is
-found_special (M.Zero explicit) is = absurd is
 found_special (M.Special offset) is = tt
-found_special M.Eof is = absurd is
+found_special kind is = absurd is
 
 special_at : (h : HeaderFields) (backed : Bool) (offset : ℕ) (mapping : L2Mapping) → IsSpecialKind (kind_at h backed offset mapping) → IsCompressed mapping
-special_at h backed offset (Data host copied) is = absurd is
-special_at h backed offset (Zero kept) is = absurd is
 special_at h backed offset (Compressed place sectors) is = tt
 special_at h true offset Uncovered is = absurd is
-special_at h false offset Uncovered is = absurd is
+special_at h backed offset mapping is = absurd is
 
 special_in : (h : HeaderFields) (beside backed : Bool) (offset : ℕ) (mapping : L2Mapping) → IsSpecialKind (kind_in h beside backed offset mapping) → IsCompressed mapping
 special_in h beside backed offset (Data host copied) is = absurd is

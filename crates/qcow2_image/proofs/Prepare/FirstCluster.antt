@@ -20,6 +20,22 @@ module _ {S F : Type 0} (view : S → StorageView) (backing : F → BackingView)
   pub listed_after_on : (p : Pending) (old mid new : Qcow2 S F) → new.file.free_list ≡ mid.file.free_list → pending_with_listed p old mid ≡ pending_with_listed p old new
   listed_after_on p old mid new list = ap (λ l. since_listed p old.file.free_list l) (sym list)
 
+  -- the list is another one, and a step to what is pending then is safe
+  pub sound_listed : (p q : Pending) (image : Qcow2 S F) (list : List ClustersToFreeEntry) → ImageInvariant view backing p image out → SafeStep (state_in view image.file p) (state_in view image.file q) nothing_given []
+      → ImageInvariant view backing q (record image { file = record image.file { free_list = list } }) out
+  sound_listed p q image list sound step = record {
+    works = sound.works;
+    file = file_invariant_of sound.file.honest (sound_while image.file.header.fields p q image.file.caches (contents_in view image.file) step.sound sound.file.caches) sound.file.named_blocks sound.file.room;
+    l1_table = record { cluster = sound.l1_table.cluster; bits = sound.l1_table.bits; count = sound.l1_table.count; entries = sound.l1_table.entries };
+    reftable = reftable_still view image.file (record image.file { free_list = list }) refl refl (λ k. refl) image.allocator sound.reftable;
+    inside = sound.inside;
+    alone = sound.alone;
+    below = sound.below;
+    ready = λ k r at. let was = sound.ready k r at in record { own = was.own; mapped = was.mapped };
+    pinned = sound.pinned;
+    once = sound.once;
+  }
+
   -- ---- by the allocator
   module _ (old : Qcow2 S F) (p : Pending) (sound : ImageInvariant view backing p old out) (holds : HoldsAll view backing p out) (file : ImageFile S) (a : Allocator) (marks : KeepsPinsAndNotes old.file.caches file.caches) (lists : ListsTables old.file.free_list file.free_list) (header : KeepsHeader old.file.header file.header) (leaks : leaked_by (Some a) ≡ leaked_in old) where
     abbrev taken : Qcow2 S F
@@ -83,22 +99,7 @@ module _ {S F : Type 0} (view : S → StorageView) (backing : F → BackingView)
 
     pub image_step_handed_back : InternalFillingStep view backing new_data after old left out
     image_step_handed_back = record {
-      sound = record {
-        works = sound.works;
-        file = file_invariant_of
-            sound.file.honest
-            (sound_while old.file.header.fields new_data after old.file.caches (contents_in view old.file) safe_step.sound sound.file.caches)
-            sound.file.named_blocks
-            sound.file.room;
-        l1_table = record { cluster = sound.l1_table.cluster; bits = sound.l1_table.bits; count = sound.l1_table.count; entries = sound.l1_table.entries };
-        reftable = reftable_still view old.file left.file refl refl (λ k. refl) old.allocator sound.reftable;
-        inside = sound.inside;
-        alone = sound.alone;
-        below = sound.below;
-        ready = λ k q at. let r = sound.ready k q at in record { own = r.own; mapped = r.mapped };
-        pinned = sound.pinned;
-        once = sound.once;
-      };
+      sound = sound_listed new_data after old left.file.free_list sound safe_step;
       safe_step = safe_step;
       since = pending_safe_throughout (view_in view old.file) (state_in view old.file new_data) (state_in view left.file after) refl safe_step;
       header = refl;

@@ -1,6 +1,6 @@
 -- Parts of a call that guests don't see: what is pending may change, and clusters may be written that no mapping has.
 use Rattle.std.proofs.Common.{◌≡◌, ◌≢◌, ◌⊎◌, ◌+◌, ◌-◌, ◌/◌, ◌%◌, ◌<◌, ◌≤◌, ◌++◌, ◌*◌, ⊎_elim, inl, inr, ℕ, List, length, [], refl, sym, ap, ◌∙◌, subst, arith, Bool, Option, Some, Result, Ok, Err, IfOk}
-use Rattle.qcow2_image.proofs.Common.{slice_get, cases_lt, mod_below, pow_pos, append_assoc, append-nil, fun_ext, BackingView, overwritten, StorageView, EachMomentSince, IsLeftBy, byte_at-overwritten, byte_at, Bytes, HeaderFields, cluster_size, named_for_tables, disk, over_guests, names, Pending, WritesAt, IsUnnamed, covers_format, format_then, size_format, safe_step_none, safe_step_then, safe_throughout_none, steps_safe_throughout, kept_aligned, tied, in_one, private_written, ImageError, ImageStorage, storage_of, order_of, state_in, view_in, contents_in, known_in, nothing_given, Qcow2, Prepared, IsWriteOutcome, WritesBytes, AreThere, InternalStep, InternalFillingStep, HoldsAll, IsInHeldCluster, SameHeld, cover, L2Mapping, Data, Zero, Compressed, Uncovered, IsAlike, IsAlikeRun, unseen_disk, new_data_by, place_of, backing_bytes, disk_of, ImageInvariant}
+use Rattle.qcow2_image.proofs.Common.{slice_get, cases_lt, mod_below, pow_pos, append_assoc, append-nil, fun_ext, BackingView, overwritten, StorageView, EachMomentSince, IsLeftBy, byte_at-overwritten, byte_at, Bytes, HeaderFields, cluster_size, named_for_tables, disk, over_guests, names, Pending, WritesAt, IsUnnamed, covers_format, format_then, size_format, safe_step_none, safe_step_then, safe_throughout_none, steps_safe_throughout, kept_aligned, tied, in_one, private_written, ImageError, ImageStorage, storage_of, order_of, state_in, view_in, contents_in, known_in, nothing_given, Qcow2, Prepared, IsWriteOutcome, WritesBytes, AreThere, InternalStep, InternalFillingStep, HoldsAll, IsInHeldCluster, SameHeld, cover, L2Mapping, Data, IsAlike, IsAlikeRun, unseen_disk, new_data_by, place_of, backing_bytes, disk_of, ImageInvariant}
 use Rattle.qcow2_laws.proofs.Shown.{Writes}
 use Rattle.qcow2_laws.proofs.Writes.{new_data_is_unnamed}
 use Rattle.qcow2_alloc.specs.declared.error.ImageError.TheVariants as I
@@ -14,26 +14,7 @@ use Rattle.qcow2_image.proofs.Write.Written.{written, writes, sound_written, sin
 pub written_or_not : (r : Result (Unit {0}) ImageError) (old changed new : List ℕ) → IsWriteOutcome r old changed new → (new ≡ old) ⊎ (new ≡ changed)
 written_or_not (Ok done) old changed new is = inr is
 written_or_not (Err I.Storage) old changed new is = is
-written_or_not (Err I.ReadOnly) old changed new is = inl is
-written_or_not (Err I.BeyondSize) old changed new is = inl is
-written_or_not (Err I.Version) old changed new is = inl is
-written_or_not (Err I.UnalignedTable) old changed new is = inl is
-written_or_not (Err I.InvalidOption) old changed new is = inl is
-written_or_not (Err I.Preallocation) old changed new is = inl is
-written_or_not (Err I.Compressed) old changed new is = inl is
-written_or_not (Err I.InUse) old changed new is = inl is
-written_or_not (Err I.TablePrepared) old changed new is = inl is
-written_or_not (Err I.OutdatedMapping) old changed new is = inl is
-written_or_not (Err I.ForeignState) old changed new is = inl is
-written_or_not (Err I.Dependency) old changed new is = inl is
-written_or_not (Err I.Limit) old changed new is = inl is
-written_or_not (Err I.Memory) old changed new is = inl is
-written_or_not (Err I.Failed) old changed new is = inl is
-written_or_not (Err I.MappingPrepared) old changed new is = inl is
-written_or_not (Err (I.NotCompressed offset)) old changed new is = inl is
-written_or_not (Err I.Metadata) old changed new is = inl is
-written_or_not (Err I.Overflow) old changed new is = inl is
-written_or_not (Err (I.StillInUse tables)) old changed new is = inl is
+written_or_not (Err e) old changed new is = inl is
 
 module _ {S F : Type 0} (view : S → StorageView) (backing : F → BackingView) (out : List (Option Prepared)) where
   pub image_step_kept : (a b : Qcow2 S F) (p p' : Pending) → ImageInvariant view backing p a out → HoldsAll view backing p out → HoldsAll view backing p' out → InternalStep view backing p p' a b out → InternalFillingStep view backing p p' a b out
@@ -189,6 +170,4 @@ alike_within h b offset n within i lt =
     subst (λ g. IsAlike ((g - offset / cluster_size h) * cluster_size h) (cover h b (offset / cluster_size h)) (cover h b g)) (sym here) (alike_self (offset / cluster_size h - offset / cluster_size h) (cluster_size h) (omega arith) (cover h b (offset / cluster_size h))) where
       alike_self : (d size : ℕ) → d ≡ 0 → (v : L2Mapping) → IsAlike (d * size) v v
       alike_self d size none (Data host copied) = (let e : d * size ≡ 0 = ap (λ n. n * size) none ∙ omega arith in omega arith, refl)
-      alike_self d size none (Zero kept) = tt
-      alike_self d size none (Compressed host sectors) = tt
-      alike_self d size none Uncovered = tt
+      alike_self d size none v = tt

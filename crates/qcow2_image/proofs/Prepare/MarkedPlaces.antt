@@ -1,6 +1,6 @@
 -- Host clusters of a sound file that may be written in place lie past cluster 0.
 use Rattle.std.proofs.Common.{◌≡◌, ◌+◌, ◌*◌, ◌/◌, ◌%◌, ◌<◌, ◌≤◌, ℕ, Option, Some, None, refl, ap, ◌∙◌, arith}
-use Rattle.qcow2_image.proofs.Common.{IfSome, mod-mul-add, pow_pos, StorageView, Bytes, cover, cluster_size, HeaderFields, L2Mapping, Data, Zero, Compressed, Uncovered, Pending, Hosting, IsHostedAt, DriverState, beside_tables, contents_in, known_in, state_in, FileInvariant, ImageFile, own_cluster, MarkedIsBehind, IsPlaceOf}
+use Rattle.qcow2_image.proofs.Common.{IfSome, mod-mul-add, pow_pos, StorageView, Bytes, cover, cluster_size, HeaderFields, L2Mapping, Data, Zero, Pending, Hosting, IsHostedAt, DriverState, beside_tables, contents_in, known_in, state_in, FileInvariant, ImageFile, own_cluster, MarkedIsBehind, IsPlaceOf}
 use Rattle.qcow2_laws.specs.GuestLaws.{InPlace, Kept}
 use Rattle.qcow2_image.proofs.Write.Hosted.{behind_tables}
 
@@ -31,12 +31,10 @@ module _ {S : Type 0} (view : S → StorageView) (p : Pending) (file : ImageFile
   marked_of guest (Data host copied) is = λ marked.
       let at = rest guest in
       hosted_behind InPlace (guest * cluster_size h) host (host, ap (cover h known) (row guest) ∙ is ∙ ap (λ b. Data host b) marked, omega (arith, at))
-  marked_of guest (Zero None) is = λ marked. tt
   marked_of guest (Zero (Some k)) is = λ marked.
       let at = rest guest in
       hosted_behind Kept (guest * cluster_size h) k.0 (k.0, ap (cover h known) (row guest) ∙ is ∙ ap (λ b. Zero (Some (k.0, b))) marked, omega (arith, at))
-  marked_of guest (Compressed place sectors) is = λ marked. tt
-  marked_of guest Uncovered is = λ marked. tt
+  marked_of guest m is = λ marked. tt
 
   -- a host cluster that an entry has marked copied
   pub marked_behind : (guest : ℕ) → MarkedIsBehind (cluster_size h) (cover h known guest)

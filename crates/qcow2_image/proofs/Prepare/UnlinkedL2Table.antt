@@ -1,13 +1,11 @@
 -- An image whose new L2 table has its L1 entry, or doesn't: what is pending, and what waits to be freed.
 use Rattle.std.proofs.Common.{◌≡◌, ◌+◌, ◌∷◌, ◌++◌, ◌⊎◌, inl, inr, ℕ, false, List, [], Option, Result, Ok, Err, refl, sym, ap, ◌∙◌, subst, arith, Some}
-use Rattle.qcow2_image.proofs.Common.{cases_lt, BackingView, StorageView, passes_none, HeaderFields, l1_entry, host_offset, EntryTableView, L2TableView, table_in, entry_at, one_at, with_new_tables, new_tables_to_old_tables, Pending, SafeStep, KeepsFormat, pending_safe_throughout, pending_is_changed, unseen_known, run_at, taken_as, InternalAllocatorGrowth, RefusedGrowth, Allocator, KeepsPinsAndNotes, ImageFile, ClustersToFreeEntry, ClusterKind, ImageError, ListsTables, nothing_given, view_in, contents_in, known_in, state_in, one_few, one_here, pending_same, run_before, run_after, run_last, refused_kept, NoFreeBelowHint, BrokeOff, file_invariant_of, Qcow2, Prepared, SaysKnown, MayName, replacing, NamesNew, WritesNew, EntersTable, InterruptedPart, NamesOwn, InternalStep, RefusedStep, ListGrows, pending_with_listed, of_data, of_tables, to_free, ImageInvariant, leaked_by, leaked_in}
+use Rattle.qcow2_image.proofs.Common.{cases_lt, BackingView, StorageView, passes_none, HeaderFields, l1_entry, host_offset, EntryTableView, L2TableView, table_in, entry_at, one_at, with_new_tables, new_tables_to_old_tables, Pending, SafeStep, KeepsFormat, pending_safe_throughout, pending_is_changed, unseen_known, run_at, taken_as, InternalAllocatorGrowth, RefusedGrowth, Allocator, KeepsPinsAndNotes, ImageFile, ClustersToFreeEntry, ClusterKind, ImageError, ListsTables, nothing_given, view_in, contents_in, known_in, state_in, one_few, one_here, pending_same, run_before, run_after, run_last, refused_kept, NoFreeBelowHint, BrokeOff, Qcow2, Prepared, SaysKnown, MayName, replacing, NamesNew, WritesNew, EntersTable, InterruptedPart, NamesOwn, InternalStep, RefusedStep, ListGrows, pending_with_listed, of_data, of_tables, to_free, ImageInvariant, leaked_by, leaked_in}
 use Rattle.qcow2_alloc.specs.declared.clusters_to_free.ClusterKind.TheVariants as Kind
 use Rattle.qcow2_alloc.proofs.FileSteps.{safe_throughout_then}
-use Rattle.qcow2_image.proofs.Open.Reftables.{reftable_still}
 use Rattle.qcow2_image.proofs.Call.Called.{keeps_then}
 use Rattle.qcow2_image.proofs.Images.Formats.{lists_grow, says_format}
-use Rattle.qcow2_image.proofs.Prepare.FirstCluster.{listed_after_on, listed_after_same}
-use Rattle.qcow2_image.proofs.Commit.Released.{sound_while}
+use Rattle.qcow2_image.proofs.Prepare.FirstCluster.{listed_after_on, listed_after_same, sound_listed}
 use Rattle.qcow2_image.proofs.Map.Loading.{still_moved}
 use Rattle.qcow2_image.proofs.Images.Moving.{file_moved_on}
 use Rattle.qcow2_image.proofs.Images.Sound.{free_more}
@@ -72,22 +70,7 @@ module _ {S F : Type 0} (view : S → StorageView) (backing : F → BackingView)
 
     pub keeps_listed : InternalStep view backing p q image relisted out
     keeps_listed = record {
-      sound = record {
-        works = sound.works;
-        file = file_invariant_of
-            sound.file.honest
-            (sound_while image.file.header.fields p q image.file.caches (contents_in view image.file) new_data.sound sound.file.caches)
-            sound.file.named_blocks
-            sound.file.room;
-        l1_table = record { cluster = sound.l1_table.cluster; bits = sound.l1_table.bits; count = sound.l1_table.count; entries = sound.l1_table.entries };
-        reftable = reftable_still view image.file relisted.file refl refl (λ k. refl) image.allocator sound.reftable;
-        inside = sound.inside;
-        alone = sound.alone;
-        below = sound.below;
-        ready = λ j r there. let was = sound.ready j r there in record { own = was.own; mapped = was.mapped };
-        pinned = sound.pinned;
-        once = sound.once;
-      };
+      sound = sound_listed view backing out p q image list sound new_data;
       safe_step = record { sound = new_data.sound; on_storage = new_data.on_storage; known = new_data.known };
       since = pending_safe_throughout (view_in view image.file) (state_in view image.file p) (state_in view image.file q) refl new_data;
       unseen = unseen_known (state_in view image.file p) (state_in view relisted.file q) refl refl;

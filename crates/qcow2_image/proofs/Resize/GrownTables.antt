@@ -79,10 +79,7 @@ module _ {S F : Type 0} (view : S → StorageView) (backing : F → BackingView)
 
     pub reaches_filled : (mode : PreallocateMode) → (mode ≡ Mode.None → filled ≡ long) → ReachesSize (with_size long.file.header.fields size) → FillsGrown view backing size mode long filled out → ReachesSize (with_size filled.file.header.fields size)
     reaches_filled Mode.None same reached fills = subst (λ (image : Qcow2 S F). ReachesSize (with_size image.file.header.fields size)) (sym (same refl)) reached
-    reaches_filled Mode.Zero same reached fills = filled_reaches _ fills.header fills.sound (fills.covers.filled refl)
-    reaches_filled Mode.FormatAllocate same reached fills = filled_reaches _ fills.header fills.sound (fills.covers.filled refl)
-    reaches_filled Mode.FullAllocate same reached fills = filled_reaches _ fills.header fills.sound (fills.covers.filled refl)
-    reaches_filled Mode.WriteData same reached fills = filled_reaches _ fills.header fills.sound (fills.covers.filled refl)
+    reaches_filled mode same reached fills = filled_reaches _ fills.header fills.sound (fills.covers.filled refl)
 
   -- the mappings of the guest clusters, by the images before and after
   abbrev pub Leaves : Qcow2 S F → Qcow2 S F → ℕ → PreallocateMode → Type 0

@@ -8,27 +8,9 @@ use Rattle.qcow2_image.proofs.Resize.ShrinkSteps.{refuses_giving}
 
 -- what is no fault marks nothing, whatever is recorded
 pub failed_other : (e : ImageError) (before recorded now : Bool) → (IsFaultOfTables e → ⊥) → now ≡ before → failed_after e before recorded now
-failed_other I.ReadOnly before recorded now none is = is
-failed_other I.BeyondSize before recorded now none is = is
-failed_other I.Version before recorded now none is = is
-failed_other I.UnalignedTable before recorded now none is = is
-failed_other I.InvalidOption before recorded now none is = is
-failed_other I.Preallocation before recorded now none is = is
-failed_other I.Compressed before recorded now none is = is
-failed_other I.InUse before recorded now none is = is
-failed_other I.TablePrepared before recorded now none is = is
-failed_other I.OutdatedMapping before recorded now none is = is
-failed_other I.ForeignState before recorded now none is = is
-failed_other I.Dependency before recorded now none is = is
-failed_other I.Limit before recorded now none is = is
 failed_other I.Memory before recorded now none is = absurd (none (inr refl))
 failed_other I.Storage before recorded now none is = absurd (none (inl refl))
-failed_other I.Failed before recorded now none is = is
-failed_other I.MappingPrepared before recorded now none is = is
-failed_other (I.NotCompressed offset) before recorded now none is = is
-failed_other I.Metadata before recorded now none is = is
-failed_other I.Overflow before recorded now none is = is
-failed_other (I.StillInUse tables) before recorded now none is = is
+failed_other e before recorded now none is = is
 
 module _ {S F : Type 0} (view : S → StorageView) (backing : F → BackingView) (old mid new : Qcow2 S F) (e : ImageError) (none : IsFaultOfTables e → ⊥) where
   -- nothing was marked by a refusal that is no fault

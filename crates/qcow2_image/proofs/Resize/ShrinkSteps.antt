@@ -21,12 +21,8 @@ past_of false false c is = absurd (cc)
 
 rounds_if : (a b c d f : Bool) → option_or (option_or (refuse_if a I.Failed) (refuse_if b I.Dependency)) (refuse_if c I.ReadOnly) ≡ None → d ≡ false → f ≡ false
     → option_or (option_or (refuse_if a I.Failed) (refuse_if b I.Dependency)) (option_or (refuse_if c I.ReadOnly) (option_or (refuse_if d I.BeyondSize) (option_or None (refuse_if f I.Overflow)))) ≡ None
-rounds_if true b c d f none far near = absurd (cc)
-rounds_if false true c d f none far near = absurd (cc)
-rounds_if false false true d f none far near = absurd (cc)
-rounds_if false false false true f none far near = absurd (cc)
-rounds_if false false false false true none far near = absurd (cc)
 rounds_if false false false false false none far near = refl
+rounds_if a b c d f none far near = absurd cc
 
 within_end : (a : Bool) (size n : ℕ) → n ≡ size → a && nat_lt size n ≡ false
 within_end false size n is = refl

@@ -17,25 +17,7 @@ use Rattle.qcow2_image.proofs.Images.UngivenCovers.{touches_part}
 pub fault_of : (e : ImageError) → IsRefusalByFault (refusal_of e) → IsFaultOfTables e
 fault_of I.Storage is = inl refl
 fault_of I.Memory is = inr refl
-fault_of I.ReadOnly is = absurd is
-fault_of I.BeyondSize is = absurd is
-fault_of I.Version is = absurd is
-fault_of I.UnalignedTable is = absurd is
-fault_of I.InvalidOption is = absurd is
-fault_of I.Preallocation is = absurd is
-fault_of I.Compressed is = absurd is
-fault_of I.InUse is = absurd is
-fault_of I.TablePrepared is = absurd is
-fault_of I.OutdatedMapping is = absurd is
-fault_of I.ForeignState is = absurd is
-fault_of I.Dependency is = absurd is
-fault_of I.Limit is = absurd is
-fault_of I.Failed is = absurd is
-fault_of I.MappingPrepared is = absurd is
-fault_of (I.NotCompressed offset) is = absurd is
-fault_of I.Metadata is = absurd is
-fault_of I.Overflow is = absurd is
-fault_of (I.StillInUse tables) is = absurd is
+fault_of e is = absurd is
 
 pub of_fault : (e : ImageError) → IsFaultOfTables e → IsRefusalByFault (refusal_of e)
 of_fault e (inl is) = subst (λ (x : ImageError). IsRefusalByFault (refusal_of x)) (sym is) tt

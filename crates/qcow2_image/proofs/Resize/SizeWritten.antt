@@ -1,36 +1,16 @@
 -- The size of the disk is written: the image is as sound as before, whatever mappings are prepared, and shows the same bytes.
 use Rattle.std.proofs.Common.{◌≡◌, ◌+◌, ◌/◌, ◌^◌, ◌<◌, ◌≢◌, ◌∷◌, inl, inr, ℕ, Bool, true, false, List, [], Option, Some, None, Result, Ok, Err, refl, sym, ap, ◌∙◌, subst, arith, IsTrue}
-use Rattle.qcow2_image.proofs.Common.{IfSome, slice_get, cond-true, cond-false, fun_ext, BackingView, StorageView, Calls, Changes, EachMomentSince, IsLeftBy, StorageError, Bytes, byte_at, cover, cover_under, HeaderFields, l1_entry, count, count_under, reftable_entry, guest_value, known_byte, cluster_size, with_fields, with_size, size_written, guest_of, meaning_at, with_disk, disk, disk_with, SafeThroughout, Pending, SafeStep, WritesHeader, resized_places, SameUsedBytes, used_by_guests, own_data_of, header_elsewhere, header_fixed, header_l1, header_known_l1, header_known_covers, header_known_counts, tied, step_safe_throughout, header_is_written, known_header, named_some, table_bytes, Allocator, ImageStorage, of_storage, nothing_given, view_in, contents_in, known_in, state_in, storage_of, known_of, order_of, IsAllocatorOf, allocator_kept, InternalCall, Qcow2, Prepared, ClusterMapping, InPlace, Kept, New, LastsKnown, ImageInvariant, IsReadyWith, IsClusterMappingAt, abstract_of, backing_bytes, cluster_of, disk_of, is_private, meaning, pending_in, place_of, CoversStay, MayStand, SetsSize, WritesSize, HoldsAll, stops_of, file_invariant_of}
+use Rattle.qcow2_image.proofs.Common.{IfSome, slice_get, cond-true, cond-false, fun_ext, BackingView, StorageView, Calls, Changes, EachMomentSince, IsLeftBy, StorageError, Bytes, byte_at, cover, cover_under, HeaderFields, l1_entry, count, count_under, reftable_entry, guest_value, known_byte, cluster_size, with_fields, with_size, size_written, guest_of, meaning_at, with_disk, disk, disk_with, SafeThroughout, Pending, SafeStep, WritesHeader, resized_places, SameUsedBytes, used_by_guests, own_data_of, header_elsewhere, header_fixed, header_l1, header_known_l1, header_known_covers, header_known_counts, tied, step_safe_throughout, header_is_written, known_header, named_some, table_bytes, Allocator, ImageStorage, of_storage, nothing_given, view_in, contents_in, known_in, state_in, storage_of, known_of, order_of, IsAllocatorOf, allocator_kept, InternalCall, Qcow2, Prepared, LastsKnown, ImageInvariant, abstract_of, backing_bytes, cluster_of, disk_of, is_private, meaning, pending_in, place_of, CoversStay, MayStand, SetsSize, WritesSize, HoldsAll, stops_of, file_invariant_of}
 use Rattle.image_access.specs.declared.error.StorageError.TheVariants as SE
 use Rattle.qcow2_laws.proofs.Values.{guest_value-same, size_is, value_is}
 use Rattle.qcow2_alloc.specs.declared.error.ImageError.TheVariants as I
 use Rattle.qcow2_alloc.proofs.Numbers.{size_writes}
 use Rattle.qcow2_image.proofs.Lemmas.{same_guest, same_mapping, listed, stays_kept, still_moved, still_ready, private_used, pending_is, all_stay}
+use Rattle.qcow2_image.proofs.Images.Formats.{ready_with}
 use Rattle.qcow2_image.proofs.Open.HeaderKept.{resized_l1, resized_reftable, placed_named_blocks, placed_sound}
 
 -- ---- what is read with a header of another size
 module _ (h : HeaderFields) (size : ℕ) where
-  module _ (known on_storage : Bytes) where
-    mapping_sized : (q : Prepared) (i : ℕ) (cluster_mapping : ClusterMapping) → IsClusterMappingAt h known on_storage q i cluster_mapping → IsClusterMappingAt (with_size h size) known on_storage q i cluster_mapping
-    unfolding cover cover_under l1_entry
-    mapping_sized q i InPlace is = is
-    mapping_sized q i Kept is = record { first = is.first; place = is.place; nameable = is.nameable; entry = is.entry }
-    mapping_sized q i (New taken old_data) is = record { first = is.first; is = is.is; place = is.place; nameable = is.nameable; entry = is.entry; reach = is.reach; drops = is.drops }
-
-    ready_sized : (q : Prepared) (t : Option ℕ) → IsReadyWith h known on_storage q t → IsReadyWith (with_size h size) known on_storage q t
-    unfolding l1_entry
-    ready_sized q None is = is
-    ready_sized q (Some table) is = record {
-      some = is.some;
-      begins = is.begins;
-      enough = is.enough;
-      no_more = is.no_more;
-      within = is.within;
-      named = record { real = is.named.real; place = is.named.place; within = is.named.within };
-      copied = is.copied;
-      each = λ i cluster_mapping at. mapping_sized q i cluster_mapping (is.each i cluster_mapping at);
-    }
-
   cover_sized : (b : Bytes) (g : ℕ) → cover h b g ≡ cover (with_size h size) b g
   unfolding cover cover_under l1_entry
   cover_sized b g = refl
@@ -128,7 +108,7 @@ module _ {S F : Type 0} (view : S → StorageView) (backing : F → BackingView)
           below = sound.below;
           ready = λ k q at. let was = sound.ready k q at in record {
             own = was.own;
-            mapped = ready_sized h size (known_in view sized.file) (contents_in view sized.file) q q.table
+            mapped = ready_with h size h.reftable_offset h.reftable_clusters (known_in view sized.file) (contents_in view sized.file) q q.table
                 (still_ready h known on_storage (known_in view sized.file) (contents_in view sized.file) q top (λ i. l1_now i ∙ top i ∙ known_l1_now i) (λ i _. l1_now i) (λ i. covers_now (cluster_of h q + i)) q.table was.mapped);
           };
           pinned = sound.pinned;

@@ -1,6 +1,6 @@
 -- Bytes are put into a prepared mapping by one write, over bytes in place and private ones.
 use Rattle.std.proofs.Common.{◌≡◌, ◌≢◌, ◌+◌, ◌-◌, ◌*◌, ◌/◌, ◌%◌, ◌<◌, ◌≤◌, ◌∷◌, if◌then◌else◌, inl, inr, ℕ, Bool, true, false, List, length, [], refl, sym, ap, ◌∙◌, subst, arith, cond, eqb, Option, Some, None, IsTrue}
-use Rattle.qcow2_image.proofs.Common.{slice_get, option_map_or, cases_lt, cases_eq, cond-true, cond-false, eq-eqb, ne_eqb, div-add-mod', mod_below, pow_pos, slice_get_within, fun_ext, BackingView, overwritten, StorageView, EachMomentSince, IsLeftBy, byte_at, is_within, laid_over, HeaderFields, cluster_size, cover, known_byte, in_cluster, named_by_cover, named_for_tables, Data, Zero, AreDataAt, EffectOnSound, Disk, disk, with_bytes, Pending, names, Hosting, IsHostedAt, IsHeld, IsGivenAt, WritesRun, PreparedMapping, given_by_put, put_mapping, put_disk, guest_of, meaning_at, DriverState, GivenBytes, IsGiven, in_own, laid_inside, laid_outside, kept_aligned, kept_unlaid, in_one, run_written, ImageStorage, storage_of, state_in, view_in, contents_in, known_in, Qcow2, Prepared, ClusterMapping, InPlace, Kept, New, put_guest, new_data_by, pending_in, abstract_of, meaning, is_entered, is_new, is_private, cluster_of, place_of, mapping_of_cluster, backing_bytes, IsReadyWith, ImageInvariant}
+use Rattle.qcow2_image.proofs.Common.{slice_get, option_map_or, cases_lt, cases_eq, cond-true, cond-false, eq-eqb, ne_eqb, div-add-mod', mod_below, pow_pos, slice_get_within, fun_ext, BackingView, overwritten, StorageView, EachMomentSince, IsLeftBy, byte_at, is_within, laid_over, HeaderFields, cluster_size, cover, known_byte, in_cluster, named_by_cover, named_for_tables, Data, Zero, AreDataAt, EffectOnSound, Disk, disk, with_bytes, Pending, names, Hosting, IsHostedAt, IsHeld, IsGivenAt, WritesRun, PreparedMapping, given_by_put, put_mapping, put_disk, guest_of, meaning_at, DriverState, GivenBytes, IsGiven, in_own, laid_inside, laid_outside, kept_aligned, kept_unlaid, in_one, run_written, ImageStorage, storage_of, state_in, view_in, contents_in, known_in, Qcow2, Prepared, ClusterMapping, InPlace, New, put_guest, new_data_by, pending_in, abstract_of, meaning, is_entered, is_new, is_private, cluster_of, place_of, mapping_of_cluster, backing_bytes, IsReadyWith, ImageInvariant}
 use Rattle.qcow2_laws.specs.GuestLaws.{is_private_hosting as is_hosted_privately}
 use Rattle.qcow2_image.proofs.Lemmas.{names_inside, apart_guests, same_guest, same_mapping, same_meaning, over_all_two, Steps, stepped_works, stepped_sound, Standing, in_new, in_kept, byte_cluster, byte_of_mapping, over_all_at, private_shared, private_stands, ready_table, written, writes, but, there, steps_written}
 use Rattle.qcow2_image.proofs.Write.Hosted.{all_hosted, hosted_as, hosted_with, hosting_in, hosts_no_table}
@@ -11,10 +11,8 @@ unfolding laid_over
 laid_same place n top under under' o same = ap (λ u. if is_within place n o then top (o - place) else u) same
 
 hosted_private : (m : Option ClusterMapping) → is_hosted_privately (hosted_as m) ≡ option_map_or is_entered m false
-hosted_private None = refl
 hosted_private (Some InPlace) = refl
-hosted_private (Some Kept) = refl
-hosted_private (Some (New taken old_data)) = refl
+hosted_private m = refl
 
 -- what isn't hidden is given
 put_has : (d : Disk) (m : PreparedMapping) (at : ℕ) (bytes : List ℕ) (i : ℕ) → i < length bytes → m.is_hidden (m.from + at + i) ≡ false → IsGiven (given_by_put d m at bytes ∷ []) (m.from + at + i) (known_byte (byte_at bytes i))
@@ -29,10 +27,8 @@ put_has d m at bytes i lt shown =
 -- this holds for each cluster mapping
 given_as : (d : Disk) (m : PreparedMapping) (at : ℕ) (bytes : List ℕ) (i : ℕ) → i < length bytes → (x : Option ClusterMapping) → m.is_hidden (m.from + at + i) ≡ option_map_or is_new x false
     → IsGivenAt (given_by_put d m at bytes ∷ []) (hosted_as x) (m.from + at + i) (byte_at bytes i)
-given_as d m at bytes i lt None is = put_has d m at bytes i lt is
-given_as d m at bytes i lt (Some InPlace) is = put_has d m at bytes i lt is
-given_as d m at bytes i lt (Some Kept) is = put_has d m at bytes i lt is
 given_as d m at bytes i lt (Some (New taken old_data)) is = tt
+given_as d m at bytes i lt x is = put_has d m at bytes i lt is
 
 module _ {S F : Type 0} (view : S → StorageView) (backing : F → BackingView) (old : Qcow2 S F) (out : List (Option Prepared)) (sound : ImageInvariant view backing (pending_in view backing old out) old out)
     (storage : ImageStorage S) (bytes : List ℕ) (k : ℕ) (q : Prepared) (at : ℕ) (is : (view (storage_of storage)).contents ≡ overwritten (view_in view old.file).contents (q.offset + at) bytes)

@@ -1,6 +1,6 @@
 -- What a write into a prepared mapping does, from its parts.
 use Rattle.std.proofs.Common.{◌≡◌, ◌+◌, ◌/◌, ◌%◌, ◌≤◌, ◌∷◌, ⊎_elim, inl, inr, ℕ, Bool, true, false, List, length, [], refl, sym, ap, ◌∙◌, subst, arith, is_some, cond, Option, Some, None, Result, Ok, Err}
-use Rattle.qcow2_image.proofs.Common.{is_data_file, slice_get, BackingView, overwritten, StorageView, EachMomentSince, IsLeftBy, Bytes, byte_at, laid_over, HeaderFields, cluster_size, cover, L2Mapping, Data, Zero, Compressed, Uncovered, AreDataAt, EffectOnSound, AnsweredEffect, storage, given_by_put, PreparedMapping, put_mapping, put_disk, GivenBytes, Guest, guest_of, meaning_at, run_data, works_less, works_then, ImageError, ImageStorage, storage_of, view_in, known_in, Qcow2, Prepared, raw, kind_at, IsMappedAs, put_guest, IsPut, IsWriteOutcome, PutsPart, ImageInvariant, pending_in, abstract_of, meaning, Puts, all_given_by_put, refusal_of, number_of, is_failed, cases_lt, cases_eq, cond-true, cond-false, eq-eqb, ne_eqb, known_byte, with_bytes, laid_outside, fun_ext}
+use Rattle.qcow2_image.proofs.Common.{is_data_file, slice_get, BackingView, overwritten, StorageView, EachMomentSince, IsLeftBy, Bytes, byte_at, laid_over, HeaderFields, cluster_size, cover, L2Mapping, Data, Uncovered, AreDataAt, EffectOnSound, AnsweredEffect, storage, given_by_put, PreparedMapping, put_mapping, put_disk, GivenBytes, Guest, guest_of, meaning_at, run_data, works_less, works_then, ImageError, ImageStorage, storage_of, view_in, known_in, Qcow2, Prepared, raw, kind_at, IsMappedAs, put_guest, IsPut, IsWriteOutcome, PutsPart, ImageInvariant, pending_in, abstract_of, meaning, Puts, all_given_by_put, refusal_of, number_of, is_failed, cases_lt, cases_eq, cond-true, cond-false, eq-eqb, ne_eqb, known_byte, with_bytes, laid_outside, fun_ext}
 use Rattle.qcow2_alloc.specs.declared.error.ImageError.TheVariants as I
 use Rattle.qcow2_image.specs.declared.mapping.MappingKind.TheVariants as Kind
 use Rattle.qcow2_image.proofs.Lemmas.{Quietly, quiet_works, quiet_sound, quiet_same, works_none, outcome_answered, outcome_refused, same_guest, MayMarkBy, still_moved}
@@ -14,10 +14,8 @@ mapped_data h known offset n host external backed (Data start copied) is kind gi
     let marked : true ≡ copied = cc in
     let place : host ≡ start + offset % cluster_size h = cc in
     subst (λ b. AreDataAt h known b offset host n) (sym marked) (subst (λ p. AreDataAt h known copied offset p n) (sym place) (given (Data start copied) is start copied refl))
-mapped_data h known offset n host external backed (Zero kept) is kind given = absurd cc
-mapped_data h known offset n host external backed (Compressed place sectors) is kind given = absurd cc
 mapped_data h known offset n host external true Uncovered is kind given = absurd cc
-mapped_data h known offset n host external false Uncovered is kind given = absurd cc
+mapped_data h known offset n host external backed v is kind given = absurd cc
 
 module _ {S F : Type 0} (view : S → StorageView) (backing : F → BackingView) (out : List (Option Prepared)) (k : ℕ) (p : Prepared) (at : ℕ) (bytes : List ℕ) (placed : slice_get out k ≡ Some (Some p)) where
   abbrev given_bytes : Qcow2 S F → List GivenBytes

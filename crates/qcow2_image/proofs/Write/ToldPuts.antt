@@ -35,27 +35,8 @@ checked_unseen view backing old now out keeps list sound =
 
 -- a refused write of which nothing is there
 outcome_none : (e : ImageError) (old changed : List ℕ) → IsWriteOutcome (Err e) old changed old
-outcome_none I.ReadOnly old changed = refl
-outcome_none I.BeyondSize old changed = refl
-outcome_none I.Version old changed = refl
-outcome_none I.UnalignedTable old changed = refl
-outcome_none I.InvalidOption old changed = refl
-outcome_none I.Preallocation old changed = refl
-outcome_none I.Compressed old changed = refl
-outcome_none I.InUse old changed = refl
-outcome_none I.TablePrepared old changed = refl
-outcome_none I.OutdatedMapping old changed = refl
-outcome_none I.ForeignState old changed = refl
-outcome_none I.Dependency old changed = refl
-outcome_none I.Limit old changed = refl
-outcome_none I.Memory old changed = refl
 outcome_none I.Storage old changed = inl refl
-outcome_none I.Failed old changed = refl
-outcome_none I.MappingPrepared old changed = refl
-outcome_none (I.NotCompressed offset) old changed = refl
-outcome_none I.Metadata old changed = refl
-outcome_none I.Overflow old changed = refl
-outcome_none (I.StillInUse tables) old changed = refl
+outcome_none e old changed = refl
 
 module _ {S F : Type 0} (view : S → StorageView) (backing : F → BackingView) (p : Prepared) (at : ℕ) (bytes : List ℕ) where
   -- what no guest sees of a part, on a sound image

@@ -31,8 +31,6 @@ returns-in_err-read-clause-fails g c =
     let old = c.args.self.now in
     let mid = c.read_tables-read.new.self in
     let w = c.replace-named.new.dest in
-    let read = c.read_tables-read.ensures in
-    let back : c.replace-places.new.dest ≡ old.file.header = c.replace-places.ensures.after ∙ c.replace-named.ensures.value in
     let new = with_header mid c.replace-places.new.dest in
     handed_on (λ (r : Result _ ImageError). ImageFails view below old new r MayFail) c.from_residual.result c.in_err-read.field-0.0 c.from_residual.ensures
     (record { faults = counts_named view below old mid w c.replace-places.new.dest _ c.in_err-read.ensures.fails.faults; cause = c.in_err-read.ensures.fails.cause })
@@ -85,8 +83,6 @@ pub returns-clause-fails : goal.returns-clause-fails
 returns-clause-fails g c =
     let old = c.args.self.now in
     let w = c.replace-named.new.dest in
-    let read = c.read_tables-read.ensures in
-    let back : c.replace-places.new.dest ≡ old.file.header = c.replace-places.ensures.after ∙ c.replace-named.ensures.value in
     record { faults = counts_named g.S.Storage.view g.F.BackingDisk.backing old c.read_tables-read.new.self w c.copy_table_pointers.new.header _ c.in_ok-read.ensures.fails.faults; cause = tt }
 
 pub returns-clause-taken : goal.returns-clause-taken
