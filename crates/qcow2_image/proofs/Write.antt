@@ -3,3 +3,4 @@ pub mod Hosted
 pub mod Put
 pub mod PutParts
 pub mod ToldPuts
+pub mod OwnData

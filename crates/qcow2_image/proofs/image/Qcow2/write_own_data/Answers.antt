@@ -1,16 +1,13 @@
-use Rattle.qcow2_image.proofs.Common.{told_kept, notes_of_storage, ap, rules, of_storage, fault_of_storage}
-use Rattle.qcow2_image.proofs.Lemmas.{behind_guard, behind_wrote, hands_unlimited, hands_fault, storage_unlimited, step_none}
+use Rattle.qcow2_image.proofs.Common.{rules, of_storage, fault_of_storage}
+use Rattle.qcow2_image.proofs.Lemmas.{hands_unlimited, hands_fault, storage_unlimited, step_none}
+use Rattle.qcow2_image.proofs.Write.OwnData.{own_written}
 use Rattle.qcow2_image.proofs.image.Qcow2.write_own_data.Goals as goal
 
 pub returns-in_err-write_data-clause-puts : goal.returns-in_err-write_data-clause-puts
 returns-in_err-write_data-clause-puts g c = record { fault = λ behind. hands_fault c.from_residual.result (of_storage c.in_err-write_data.field-0.0) c.from_residual.ensures (fault_of_storage c.in_err-write_data.field-0.0); written = search rules }
 
 pub returns-in_err-write_data-clause-step : goal.returns-in_err-write_data-clause-step
-returns-in_err-write_data-clause-step g c = record {
-  stays = search rules;
-  notes = notes_of_storage (told_kept c.args.self.now.file.storage c.set_write_kind.new.self c.write_data.new.self c.write_data.result c.set_write_kind.ensures.storage c.set_write_kind.ensures.changed _ c.write_data.ensures.writes.written c.write_data.ensures.writes.calls c.write_data.ensures.writes.recorded);
-  header_cluster = behind_wrote c.write_data.result c.args.host c.args.bytes.now (ap g.S.Storage.view c.set_write_kind.ensures.storage) (λ bits lies. behind_guard bits _ c.cluster_size.result c.args.host lies.header c.cluster_size.ensures.value c.if-host-cluster_size.false) c.write_data.ensures.writes.written c.write_data.ensures.writes.calls;
-}
+returns-in_err-write_data-clause-step g c = own_written c.args.self.now c.set_write_kind.new.self c.write_data.new.self c.write_data.result c.args.host c.cluster_size.result c.args.bytes.now c.set_write_kind.ensures.storage c.set_write_kind.ensures.changed c.cluster_size.ensures.value c.if-host-cluster_size.false c.write_data.ensures.writes.written c.write_data.ensures.writes.calls c.write_data.ensures.writes.recorded
 
 pub returns-in_err-write_data-clause-fails : goal.returns-in_err-write_data-clause-fails
 returns-in_err-write_data-clause-fails g c = record {
@@ -20,11 +17,7 @@ returns-in_err-write_data-clause-fails g c = record {
 }
 
 pub returns-clause-step : goal.returns-clause-step
-returns-clause-step g c = record {
-  stays = search rules;
-  notes = notes_of_storage (told_kept c.args.self.now.file.storage c.set_write_kind.new.self c.write_data.new.self c.write_data.result c.set_write_kind.ensures.storage c.set_write_kind.ensures.changed _ c.write_data.ensures.writes.written c.write_data.ensures.writes.calls c.write_data.ensures.writes.recorded);
-  header_cluster = behind_wrote c.write_data.result c.args.host c.args.bytes.now (ap g.S.Storage.view c.set_write_kind.ensures.storage) (λ bits lies. behind_guard bits _ c.cluster_size.result c.args.host lies.header c.cluster_size.ensures.value c.if-host-cluster_size.false) c.write_data.ensures.writes.written c.write_data.ensures.writes.calls;
-}
+returns-clause-step g c = own_written c.args.self.now c.set_write_kind.new.self c.write_data.new.self c.write_data.result c.args.host c.cluster_size.result c.args.bytes.now c.set_write_kind.ensures.storage c.set_write_kind.ensures.changed c.cluster_size.ensures.value c.if-host-cluster_size.false c.write_data.ensures.writes.written c.write_data.ensures.writes.calls c.write_data.ensures.writes.recorded
 
 pub returns-then-host-cluster_size-clause-step : goal.returns-then-host-cluster_size-clause-step
 returns-then-host-cluster_size-clause-step g c = step_none
