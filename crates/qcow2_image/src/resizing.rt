@@ -7,7 +7,8 @@ ghost use Rattle.qcow2_image.specs.ImageSteps.{CallStep, ImageFails, ImageStep, 
 ghost use Rattle.qcow2_image.specs.Noted.{RecordsChanges};
 ghost use Rattle.qcow2_image.specs.BehindHeader.{PreservesHeaderCluster};
 ghost use Rattle.qcow2_alloc.specs.KeptMarks.{HaveRisen, KeepsFileNotes};
-ghost use Rattle.std.specs.Prelude.{List, Option, ◌≡◌, ◌⊎◌, ◌-◌, ◌<◌, ◌≤◌, [], Some, None, Ok, Err, IfErr, IfSome, OnOk, OnErr, IsTrue, MatchOption, false, ◌∷◌};
+ghost use Rattle.std.specs.Prelude.{List, Option, ◌≡◌, ◌⊎◌, ◌-◌, ◌<◌, ◌≤◌};
+ghost use Rattle.std.specs.Prelude.{[], Some, None, Ok, Err, IfErr, IfSome, OnOk, OnErr, IsTrue, MatchOption, false, ◌∷◌};
 ghost use Rattle.image_access.specs.Moments.{IsLeftBy, EachMomentSince};
 ghost use Rattle.qcow2_metadata.specs.Header.{with_fields, with_size};
 ghost use Rattle.qcow2_laws.specs.CrashInvariant.{Pending};
