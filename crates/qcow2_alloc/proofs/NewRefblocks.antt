@@ -1,6 +1,6 @@
 -- New refblocks in the caches: they lie in clusters that nothing names, and nothing else of what is known changes.
 use Rattle.std.proofs.Common.{◌≡◌, ◌⊎◌, ◌+◌, ◌-◌, ◌*◌, ◌/◌, ◌%◌, ◌<◌, ◌≤◌, ◌==◌, ◌∷◌, inl, inr, ℕ, max, Bool, true, false, cond, IsTrue, List, [], length, Option, Some, None, Result, Ok, Err, IfErr, OnOk, refl, sym, ap, ◌∙◌, subst, arith, IfSome}
-use Rattle.qcow2_alloc.proofs.Common.{cases_eq, cond-true, cond-false, eq-eqb, ne_eqb, or_right, pow_pos, StorageView, Bytes, byte_at, HeaderFields, L2Mapping, HeaderView, cluster_size, count, EntryTableView, named_for_tables, RefBlockView, CachedTable, known, overlays, Checkpoint, SafeThroughout, StopOkEverywhere, IsFreeAt, IsFreeOf, AreClean, AreNamedBlocks, BlocksMayGo, HasBlock, Direction, Pending, CrashInvariant, IsTop, IsMixed, SameTop, SameCovers, SameCounts, SameIn, names, named_by_guest, named_in_either, over_guests, IsSameOutside, IsUnnamed, IsWritten, unnamed_free_l2, over_guests-le, over_guests-same, unseen_none, unseen_known, unseen_then, l1_same_then, known-none, known_elsewhere, no_overlay, overlays_within, unmodified_over, within_cluster, cluster_within, Sizes, mixed_crash_invariant, mixed_either, top_stays, covers_stay, counts_stay, SameTop-refl, SameTop-sym, SameTop-trans, IsTop-top, for_tables-top, Allocator, MetadataCaches, ImageError, Room, ImageFile, ImageStorage, run_at, InternalAllocatorStep, HeldStep, KeepsSoundly, IsGrown, nothing_given, view_in, contents_in, known_in, state_in, FileInvariant, AllocatorInvariant, RefusedFileStep, storage_of, is_changed_of, KeepMarks, order_of, l2_tables, refblocks, rb_at, laid_at, CacheInvariant, HavePlaces, InternalCacheStep, Overlay, OverlaysBlock, WritesInOrder, IsBlockOf, room_length, placed_at, AreFree, CountNew, InternalNewBlocks, HasCached, HasCachedBlock, PlacesBlocks, RefusedNewBlocks}
+use Rattle.qcow2_alloc.proofs.Common.{cases_eq, cond-true, cond-false, eq-eqb, ne_eqb, or_right, pow_pos, StorageView, Bytes, byte_at, HeaderFields, L2Mapping, HeaderView, cluster_size, count, EntryTableView, named_for_tables, RefBlockView, CachedTable, overlays, Checkpoint, SafeThroughout, StopOkEverywhere, IsFreeAt, IsFreeOf, AreClean, AreNamedBlocks, BlocksMayGo, HasBlock, Direction, Pending, CrashInvariant, IsTop, IsMixed, SameTop, SameCovers, SameCounts, SameIn, names, named_by_guest, named_in_either, over_guests, IsSameOutside, IsUnnamed, IsWritten, unnamed_free_l2, over_guests-le, over_guests-same, unseen_none, unseen_known, unseen_then, l1_same_then, known-none, known_elsewhere, no_overlay, overlays_within, unmodified_over, within_cluster, cluster_within, Sizes, mixed_crash_invariant, mixed_either, top_stays, covers_stay, counts_stay, SameTop-refl, SameTop-sym, SameTop-trans, IsTop-top, for_tables-top, Allocator, MetadataCaches, ImageError, Room, ImageFile, ImageStorage, run_at, InternalAllocatorStep, HeldStep, KeepsSoundly, IsGrown, nothing_given, view_in, contents_in, known_in, state_in, FileInvariant, AllocatorInvariant, RefusedFileStep, storage_of, is_changed_of, KeepMarks, order_of, l2_tables, refblocks, rb_at, laid_at, CacheInvariant, HavePlaces, InternalCacheStep, Overlay, OverlaysBlock, WritesInOrder, IsBlockOf, room_length, placed_at, AreFree, CountNew, InternalNewBlocks, HasCached, HasCachedBlock, PlacesBlocks, RefusedNewBlocks}
 use Rattle.qcow2_laws.proofs.Lists.{known_there as known_over}
 use Rattle.qcow2_laws.proofs.Writes.{same_crash_invariant, written_known_kept}
 use Rattle.qcow2_alloc.specs.ImageFile.{IsFault}

@@ -19,3 +19,4 @@ pub mod Unlimited
 pub mod Fails
 pub mod WriteSteps
 pub mod MarkedCalls
+pub mod Passed

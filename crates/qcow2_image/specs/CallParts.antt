@@ -31,6 +31,10 @@ IsWriteOutcome (Ok _) old changed new = new ≡ changed
 IsWriteOutcome (Err I.Storage) old changed new = (new ≡ old) ⊎ (new ≡ changed)
 IsWriteOutcome (Err e) old changed new = new ≡ old
 
+-- What a write leaves of a file: this change of its bytes, or no change if it was refused.
+abbrev pub HasChanged : {S : Type 0} → (S → StorageView) → S → (List ℕ → List ℕ) → Result (Unit {0}) ImageError → S → Type 0
+HasChanged view file change result now = (view file).is_honest → (view now).is_honest × IsWriteOutcome result (view file).contents (change (view file).contents) (view now).contents
+
 -- Bytes were put into a mapping; or the put was refused and nothing changed; or the storage failed.
 abbrev pub IsPut : Result (Unit {0}) ImageError → Guest → Guest → Guest → Type 0
 IsPut (Ok _) old put new = new ≡ put
@@ -82,7 +86,7 @@ module _ {S F : Type 0} (view : S → StorageView) where
   pub record WritesBeside (old new : Qcow2 S F) (change : List ℕ → List ℕ) (result : Result (Unit {0}) ImageError) (file : S) : Type 0 where
     pub rest : new ≡ record old { file = record old.file { storage = new.file.storage }; data_file = new.data_file }
     pub storage : storage_of_image new ≡ storage_of_image old
-    pub written : IsSomeAnd new.data_file (λ now. (view file).is_honest → (view now).is_honest × IsWriteOutcome result (view file).contents (change (view file).contents) (view now).contents)
+    pub written : IsSomeAnd new.data_file (HasChanged view file change result)
 
   -- Bytes are written as data to the image's own storage. Behind the header's cluster only a fault refuses this.
   pub record WritesOwnData (old new : Qcow2 S F) (host : ℕ) (bytes : List ℕ) (result : Result (Unit {0}) ImageError) : Type 0 where

@@ -1,5 +1,5 @@
 -- What a call that ran out of memory leaves, and the changes that calls count.
-use Rattle.std.specs.Prelude.{◌≡◌, ◌⊎◌, ℕ, ◌+◌, ◌<◌, ◌≤◌, List, None, Option, Result, IfErr, IsErrOf, IsSome, IsTrue}
+use Rattle.std.specs.Prelude.{◌≡◌, ◌⊎◌, ℕ, ◌+◌, ◌<◌, ◌≤◌, List, None, Option, Result, IfErr, IfSome, IsErrOf, IsSome, IsSomeAnd, IsTrue}
 use Rattle.image_access.specs.Backing.{BackingView}
 use Rattle.image_access.specs.Contents.{overwritten}
 use Rattle.image_access.specs.Moments.{StorageView, ContentsStay, EachMomentSince, IsLeftBy}
@@ -9,7 +9,7 @@ use Rattle.qcow2_alloc.specs.ImageFile.{view_in}
 use Rattle.qcow2_image.specs.declared.image.Qcow2.{Qcow2}
 use Rattle.qcow2_image.specs.declared.prepared.CommitRefused.{CommitRefused}
 use Rattle.qcow2_image.specs.declared.prepared.Prepared.{Prepared}
-use Rattle.qcow2_image.specs.CallParts.{IsWriteOutcome, InternalCall}
+use Rattle.qcow2_image.specs.CallParts.{HasChanged, IsWriteOutcome, InternalCall}
 use Rattle.qcow2_image.specs.Calls.{reason_of}
 use Rattle.qcow2_image.specs.ImageInvariant.{abstract_of}
 use Rattle.qcow2_image.specs.Prepared.{offset_of, table_of}
@@ -71,7 +71,7 @@ module _ {S F : Type 0} (view : S → StorageView) (old new : Qcow2 S F) where
     pub contents : ¬ IsTrue (has_noted_change old) → ¬ ChangesRose old new → ContentsStay (view_in view old.file) (view_in view new.file)
 
 -- How a put writes. At some state `before`, a sound image is sound and looks the same to the guest.
--- From there on, without a data file, the bytes are written by a single write, at the mapping's place in the file.
+-- From there on the bytes are written by a single write, at the mapping's place: in the image's own file, or in the data file if there is one.
 -- A put into a pinned mapping writes nothing else, nor does any other if the L2 table can be looked at without a write.
 pub record PutsOnce {S F : Type 0} (view : S → StorageView) (backing : F → BackingView) (p : Prepared) (at : ℕ) (bytes : List ℕ) (old new : Qcow2 S F) (result : Result (Unit {0}) ImageError) : Type 0 where
   pub before : Qcow2 S F
@@ -81,3 +81,4 @@ pub record PutsOnce {S F : Type 0} (view : S → StorageView) (backing : F → B
   pub idle : IsSome (table_of p) → (storage_of_image before ≡ storage_of_image old) × (changes_of before.file.storage ≡ changes_of old.file.storage)
   pub time : (view_in view before.file).is_honest → EachMomentSince (view_in view before.file) (view_in view new.file) (IsLeftBy (view_in view new.file))
   pub written : old.data_file ≡ None → (view_in view before.file).is_honest → IsWriteOutcome result (view_in view before.file).contents (overwritten (view_in view before.file).contents (offset_of p + at) bytes) (view_in view new.file).contents
+  pub beside : IfSome old.data_file (λ file. IsSomeAnd new.data_file (HasChanged view file (λ b. overwritten b (offset_of p + at) bytes) result))

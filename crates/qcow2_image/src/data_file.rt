@@ -2,6 +2,7 @@
 ghost use Rattle.std.specs.Prelude.{◌≡◌, ◌↔◌, ◌<◌, ◌/◌, IfErr, IfOk, IfSome, IsErr, IsTrue, List, MatchResult, OnOk, Option};
 ghost use Rattle.std.specs.Prelude.{Err, None, Ok, false, length};
 ghost use Rattle.image_access.specs.Contents.{bytes_at, resized};
+ghost use Rattle.image_access.specs.Moments.{SyncCall};
 ghost use Rattle.qcow2_alloc.specs.ImageFile.{view_in};
 ghost use Rattle.qcow2_alloc.specs.ImageStorage.{RecordsWrite};
 ghost use Rattle.qcow2_metadata.specs.Header.{cluster_size};
@@ -15,6 +16,7 @@ ghost use Rattle.qcow2_image.specs.HeldMappings.{ReadsFrom};
 ghost use Rattle.qcow2_image.specs.Image.{HasPinnedTable, is_failed, is_placed_by_guest, place_in, storage_of_image};
 ghost use Rattle.qcow2_image.specs.ImageInvariant.{abstract_of};
 ghost use Rattle.qcow2_image.specs.ImageSteps.{ImageFails, ReadingStep};
+ghost use Rattle.qcow2_image.specs.Storages.{PassesBeside};
 ghost use Rattle.qcow2_image.specs.declared.prepared.Prepared.{Prepared};
 
 use crate::{ImageError, Place, Qcow2};
@@ -133,6 +135,7 @@ impl<S: Storage, F: WrappedFormat<S>> Qcow2<S, F> {
     // Syncs the data file, if there is one.
     pub(crate) fn sync_data_file(&mut self) -> Result<(), ImageError>
         ensures beside { CallsBeside S.view F.backing self.old self.new result }
+        ensures passes { OnOk result (PassesBeside S.passes SyncCall self.old self.new) }
     {
         if let Some(file) = &mut self.data_file {
             file.sync()?;

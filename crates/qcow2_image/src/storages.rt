@@ -1,14 +1,15 @@
 //! The storages of an image: its own, those of its backing disk, and its data file.
 ghost use Rattle.qcow2_image.specs.ImageSteps.{ImageFails, ReadingCall, ReadingStep};
-ghost use Rattle.std.specs.Prelude.{◌≡◌, List, [], None, Option, map, false, IfOk, IfErr, IsTrue, Err};
+ghost use Rattle.std.specs.Prelude.{◌≡◌, List, [], None, Option, map, false, IfOk, IfErr, IsTrue, OnOk, Ok, Err};
+ghost use Rattle.image_access.specs.Moments.{SyncCall};
 ghost use Rattle.qcow2_alloc.specs.ImageError.{IsFault};
 ghost use Rattle.qcow2_alloc.specs.ImageFile.{view_in};
 ghost use Rattle.qcow2_alloc.specs.declared.error.ImageError.TheVariants.{Failed, Memory};
 ghost use Rattle.qcow2_laws.specs.CrashInvariant.{Pending};
 ghost use Rattle.qcow2_image.specs.Calls.{AnswersCall};
-ghost use Rattle.qcow2_image.specs.Image.{is_failed};
+ghost use Rattle.qcow2_image.specs.Image.{is_failed, storage_of_image};
 ghost use Rattle.qcow2_image.specs.ImageInvariant.{ImageInvariant};
-ghost use Rattle.qcow2_image.specs.Storages.{storages_of};
+ghost use Rattle.qcow2_image.specs.Storages.{PassesOn, storages_of};
 ghost use Rattle.qcow2_image.specs.InternalSteps.{InternalStep};
 ghost use Rattle.qcow2_image.specs.Unwritten.{ContentsStayThroughout};
 ghost use Rattle.qcow2_image.specs.declared.prepared.Prepared.{Prepared};
@@ -29,6 +30,7 @@ impl<S: Storage, F: WrappedFormat<S>> Qcow2<S, F> {
         ensures silent { (view_in S.view self.old.file).is_honest
             → ContentsStayThroughout (view_in S.view self.old.file) (view_in S.view self.new.file) }
         ensures sees { AnswersCall S.view F.backing self.old self.new [] (λ done was is. is ≡ was) result }
+        ensures passes { OnOk result (PassesOn S.passes SyncCall self.old self.new) }
     {
         if self.is_failed {
             return Err(ImageError::Failed);
@@ -46,6 +48,7 @@ impl<S: Storage, F: WrappedFormat<S>> Qcow2<S, F> {
             → ContentsStayThroughout (view_in S.view self.old.file) (view_in S.view self.new.file) }
         ensures keeps { (p : Pending) (out : List (Option Prepared)) → ImageInvariant S.view F.backing p self.old out
             → InternalStep S.view F.backing p p self.old self.new out }
+        ensures passes { OnOk result (PassesOn S.passes SyncCall self.old self.new) }
     {
         self.sync_storage()?;
         self.sync_data_file()
@@ -58,6 +61,9 @@ impl<S: Storage, F: WrappedFormat<S>> Qcow2<S, F> {
             → ContentsStayThroughout (view_in S.view self.old.file) (view_in S.view self.new.file) }
         ensures keeps { (p : Pending) (out : List (Option Prepared)) → ImageInvariant S.view F.backing p self.old out
             → InternalStep S.view F.backing p p self.old self.new out }
+        ensures passes { OnOk result
+            (S.passes SyncCall (storage_of_image self.old) (storage_of_image self.new) (Ok tt)) }
+        ensures data_file { self.new.data_file ≡ self.old.data_file }
     {
         self.file.storage.sync()?;
         Ok(())

@@ -1,5 +1,6 @@
 -- The single write of a put, and what the put leaves before it.
-use Rattle.std.proofs.Common.{◌≡◌, ◌+◌, ℕ, Bool, List, [], Option, IsSome, Result, Ok, Err, IfErr, inl, inr, refl, sym, ap, ◌∙◌, subst}
+use Rattle.std.proofs.Common.{◌≡◌, ◌+◌, ℕ, Bool, List, [], Option, Some, None, IsSome, IsSomeAnd, Result, Ok, Err, IfErr, IfSome, inl, inr, refl, sym, ap, ◌∙◌, subst}
+use Rattle.qcow2_image.specs.CallParts.{HasChanged, WritesBeside}
 use Rattle.qcow2_image.proofs.Common.{BackingView, overwritten, StorageView, passes_none, ImageError, view_in, changes_of, Qcow2, Prepared, IsWriteOutcome, InternalCall, IsBegun, storage_of_image, ImageInvariant, abstract_of, pending_in, PutsOnce, offset_of, table_of, InternalFillingStep, InternalStep, Pending, LooksQuietly, IsSpecial, MappingKind, MayFail, MayFailWriting}
 use Rattle.qcow2_image.proofs.Call.FailingErrors.{writing_met}
 use Rattle.qcow2_alloc.specs.declared.error.ImageError.TheVariants as I
@@ -38,14 +39,36 @@ outcome_none : (e : ImageError) (old changed : List ℕ) → IsWriteOutcome (Err
 outcome_none I.Storage old changed = inl refl
 outcome_none e old changed = refl
 
+-- what a write left of the data file
+written_of : {S F : Type 0} (view : S → StorageView) (mid new : Qcow2 S F) (change : List ℕ → List ℕ) (result : Result (Unit {0}) ImageError) (file : Option S) → IfSome file (WritesBeside view mid new change result) → IfSome file (λ was. IsSomeAnd new.data_file (HasChanged view was change result))
+written_of view mid new change result None writes = tt
+written_of view mid new change result (Some file) writes = writes.written
+
+-- told of the file that there was, and of the place that the bytes were for
+pub put_beside : {S F : Type 0} (view : S → StorageView) (file : Option S) (mid new : Qcow2 S F) (host place : ℕ) (bytes : List ℕ) (result : Result (Unit {0}) ImageError) → mid.data_file ≡ file → host ≡ place → IfSome mid.data_file (WritesBeside view mid new (λ b. overwritten b host bytes) result)
+    → IfSome file (λ was. IsSomeAnd new.data_file (HasChanged view was (λ b. overwritten b place bytes) result))
+put_beside view file mid new host place bytes result same here writes =
+    subst (λ o. IfSome file (λ was. IsSomeAnd new.data_file (HasChanged view was (λ b. overwritten b o bytes) result))) here
+    (written_of view mid new (λ b. overwritten b host bytes) result file (subst (λ f. IfSome f (WritesBeside view mid new (λ b. overwritten b host bytes) result)) same writes))
+
 module _ {S F : Type 0} (view : S → StorageView) (backing : F → BackingView) (p : Prepared) (at : ℕ) (bytes : List ℕ) where
   -- what no guest sees of a part, on a sound image
   abbrev IsInternal : Qcow2 S F → Qcow2 S F → Type 0
   IsInternal old now = (out : List (Option Prepared)) → (abstract_of view backing old out).is_sound → InternalCall view backing old now out
 
+  -- a data file that stays the same after a refusal, and after a write of no bytes
+  file_unchanged : (old now : Option S) (e : ImageError) → now ≡ old → IfSome old (λ was. IsSomeAnd now (HasChanged view was (λ b. overwritten b (offset_of p + at) bytes) (Err e)))
+  file_unchanged None now e same = tt
+  file_unchanged (Some file) now e same = subst (λ n. IsSomeAnd n (HasChanged view file (λ b. overwritten b (offset_of p + at) bytes) (Err e))) (sym same) (λ honest. (honest, outcome_none e _ _))
+
+  file_with_none : (old : Option S) → bytes ≡ [] → IfSome old (λ was. IsSomeAnd old (HasChanged view was (λ b. overwritten b (offset_of p + at) bytes) (Ok tt)))
+  unfolding overwritten
+  file_with_none None empty = tt
+  file_with_none (Some file) empty = λ honest. (honest, subst (λ (b : List ℕ). (view file).contents ≡ overwritten (view file).contents (offset_of p + at) b) (sym empty) refl)
+
   -- a put that is refused before its bytes are written, and one of no bytes
-  pub put_unwritten : (old now : Qcow2 S F) (e : ImageError) → ((view_in view old.file).is_honest → (view_in view now.file).is_honest) → (IsSome (table_of p) → now ≡ old) → LooksQuietly view (p.guest + at) old now → IsInternal old now → PutsOnce view backing p at bytes old now (Err e)
-  put_unwritten old now e honest idle quiet unseen = record {
+  pub put_unwritten : (old now : Qcow2 S F) (e : ImageError) → ((view_in view old.file).is_honest → (view_in view now.file).is_honest) → (IsSome (table_of p) → now ≡ old) → LooksQuietly view (p.guest + at) old now → now.data_file ≡ old.data_file → IsInternal old now → PutsOnce view backing p at bytes old now (Err e)
+  put_unwritten old now e honest idle quiet same unseen = record {
     quiet = quiet;
     before = now;
     honest = honest;
@@ -53,10 +76,11 @@ module _ {S F : Type 0} (view : S → StorageView) (backing : F → BackingView)
     idle = λ some. (ap (λ (i : Qcow2 S F). storage_of_image i) (idle some), ap (λ (i : Qcow2 S F). changes_of i.file.storage) (idle some));
     time = λ _. passes_none (view_in view now.file) _;
     written = λ _ _. outcome_none e _ _;
+    beside = file_unchanged old.data_file now.data_file e same;
   }
 
   pub put_refused : (old : Qcow2 S F) (e : ImageError) → PutsOnce view backing p at bytes old old (Err e)
-  put_refused old e = put_unwritten old old e (λ h. h) (λ _. refl) (looks_none view (p.guest + at) old) (λ out sound. unseen_none view backing old out sound)
+  put_refused old e = put_unwritten old old e (λ h. h) (λ _. refl) (looks_none view (p.guest + at) old) refl (λ out sound. unseen_none view backing old out sound)
 
   pub put_nothing : (old : Qcow2 S F) → bytes ≡ [] → PutsOnce view backing p at bytes old old (Ok tt)
   unfolding overwritten
@@ -68,6 +92,7 @@ module _ {S F : Type 0} (view : S → StorageView) (backing : F → BackingView)
     idle = λ _. (refl, refl);
     time = λ _. passes_none (view_in view old.file) _;
     written = λ _ _. subst (λ (b : List ℕ). (view_in view old.file).contents ≡ overwritten (view_in view old.file).contents (offset_of p + at) b) (sym empty) refl;
+    beside = file_with_none old.data_file empty;
   }
 
   -- a call of one part that puts them, whose end is marked
@@ -81,4 +106,5 @@ module _ {S F : Type 0} (view : S → StorageView) (backing : F → BackingView)
         idle = λ some. ((puts.idle some).0 ∙ begins.storage, (puts.idle some).1 ∙ begins.counts);
         time = puts.time;
         written = λ none. puts.written (ap (λ (i : Qcow2 S F). i.data_file) begins.rest ∙ none);
+        beside = subst (λ file. IfSome file (λ was. IsSomeAnd is.data_file (HasChanged view was (λ b. overwritten b (offset_of p + at) bytes) r))) (ap (λ (i : Qcow2 S F). i.data_file) begins.rest) puts.beside;
       })

@@ -1,4 +1,4 @@
-use Rattle.std.proofs.Common.{◌-◌, ℕ, Option, Some, None, subst, IfSome, is_some}
+use Rattle.std.proofs.Common.{ℕ, Option, Some, None, subst, IfSome, is_some}
 use Rattle.qcow2_alloc.proofs.Common.{RefBlockView, count_at, rb_at, CountsLess, LeavesCount, SetsCount, MetadataCaches}
 use Rattle.qcow2_alloc.proofs.Leaks.{one_above, one_less}
 use Rattle.qcow2_alloc.proofs.cache.MetadataCaches.rb_decrement.Goals as goal

@@ -1,6 +1,9 @@
-use Rattle.std.proofs.Common.{◌≡◌, [], sym, ◌∙◌, subst, rules, Result}
-use Rattle.qcow2_image.proofs.Common.{IsSame, view_in, AnswersCall, Qcow2, is_failed, ContentsStayThroughout}
+use Rattle.std.proofs.Common.{◌≡◌, [], sym, ◌∙◌, subst, rules, Result, OnOk}
+use Rattle.qcow2_image.proofs.Common.{on_ok_weaker, IsSame, view_in, AnswersCall, Qcow2, is_failed, ContentsStayThroughout}
 use Rattle.qcow2_image.proofs.Lemmas.{behind_call, told_answers, tells_quietly, quietly_then, counted_marked, may_mark, fails_none, fails_once, if_ok_any, reads_call}
+use Rattle.image_access.specs.Moments.{SyncCall}
+use Rattle.qcow2_image.specs.Storages.{PassesOn}
+use Rattle.qcow2_image.proofs.Call.Passed.{passed_in_call}
 use Rattle.qcow2_image.proofs.image.Qcow2.sync.Goals as goal
 
 pub returns-clause-step : goal.returns-clause-step
@@ -41,3 +44,12 @@ returns-clause-sees g c =
     (tells_quietly view below old new (λ out. quietly_then view below out old c.begin_call.new.self new c.begin_call.ensures.keeps c.begin_call.ensures.list c.sync_storages-done.ensures.keeps c.sync_storages-done.ensures.step.list)
     (is_failed c.mark_failure.new.self) (λ done v w. IsSame v w) c.sync_storages-done.result (may_mark new c.mark_failure.new.self c.sync_storages-done.result c.mark_failure.ensures.marks) (c.sync_storages-done.ensures.step.part.stays.image.number ∙ c.begin_call.ensures.stays.image.number)
     c.if-self.false (λ out sound same. if_ok_any c.sync_storages-done.result (λ done. same)))))
+
+pub returns-clause-passes : goal.returns-clause-passes
+returns-clause-passes g c =
+    let old = c.args.self.now in
+    let new = c.mark_failure.new.self in
+    subst (λ (r : Result _ _). OnOk r (PassesOn g.S.Storage.passes SyncCall old new)) (sym c.mark_failure.ensures.answer)
+    (on_ok_weaker c.sync_storages-done.result
+    (passed_in_call g.S.Storage.passes SyncCall old c.begin_call.new.self c.sync_storages-done.new.self new (is_failed new) c.begin_call.ensures.begun c.mark_failure.ensures.rest)
+    c.sync_storages-done.ensures.passes)

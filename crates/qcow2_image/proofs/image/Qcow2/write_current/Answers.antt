@@ -4,7 +4,7 @@ use Rattle.std.proofs.Common.{◌≡◌, ◌+◌, ◌^◌, ◌≤◌, ⊎_elim, 
 use Rattle.qcow2_image.proofs.Common.{overwritten, view_in, OutdatedMapping, Overflow, handed_on, always_ok, Qcow2, Raw, IsFoundWhole, IsMappedAs, PutsPart, IsWriteOutcome, pending_in, FitsTables, IsHeldAs, cases_lt, IsFault, IsCacheHeld, MayFailPutting, changes_of, storage_of_image, PutsOnce, MayFailPuttingAt, cluster_size, HeaderView, MayFailWriting}
 use Rattle.qcow2_image.proofs.Write.PutParts.{mapped_in_place, puts_nothing, puts_refused, puts_then, puts_written}
 use Rattle.qcow2_image.proofs.Write.Hosted.{hosts_behind_header}
-use Rattle.qcow2_image.proofs.Write.ToldPuts.{written_current, written_plain, checked_unseen, put_refused, put_unwritten}
+use Rattle.qcow2_image.proofs.Write.ToldPuts.{written_current, written_plain, checked_unseen, put_beside, put_refused, put_unwritten}
 
 pub returns-in_err-check_in_place-clause-in_place : goal.returns-in_err-check_in_place-clause-in_place
 returns-in_err-check_in_place-clause-in_place g c = λ none p out sound.
@@ -106,7 +106,7 @@ returns-in_err-check_in_place-clause-once g c =
     let new = c.check_in_place.new.self in
     let e = c.in_err-check_in_place.field-0.0 in
     handed_on (PutsOnce g.S.Storage.view g.F.BackingDisk.backing p c.args.at c.args.bytes.now c.args.self.now new) c.from_residual.result e c.from_residual.ensures
-    (put_unwritten g.S.Storage.view g.F.BackingDisk.backing p c.args.at c.args.bytes.now c.args.self.now new e c.check_in_place.ensures.step.notes.storage.honest (λ some. (c.check_in_place.ensures.private some).1) c.check_in_place.ensures.looks.quiet
+    (put_unwritten g.S.Storage.view g.F.BackingDisk.backing p c.args.at c.args.bytes.now c.args.self.now new e c.check_in_place.ensures.step.notes.storage.honest (λ some. (c.check_in_place.ensures.private some).1) c.check_in_place.ensures.looks.quiet c.check_in_place.ensures.looks.data_file
     (λ out sound. checked_unseen g.S.Storage.view g.F.BackingDisk.backing c.args.self.now new out (λ p out sound. (c.check_in_place.ensures.sound p out sound).keeps) c.check_in_place.ensures.step.list sound))
 
 pub returns-clause-once : goal.returns-clause-once
@@ -122,6 +122,7 @@ returns-clause-once g c =
       idle = λ some. let same = (c.check_in_place.ensures.private some).1 in (ap (λ (i : Qcow2 _ _). storage_of_image i) same, ap (λ (i : Qcow2 _ _). changes_of i.file.storage) same);
       time = c.write_data.ensures.puts.time;
       written = λ none honest. subst (λ o. IsWriteOutcome c.write_data.result contents (overwritten contents o c.args.bytes.now) (view_in view c.write_data.new.self.file).contents) c.in-Some.ensures.1 ((c.write_data.ensures.puts.written (c.check_in_place.ensures.looks.data_file ∙ none)).written honest);
+      beside = put_beside view c.args.self.now.data_file mid c.write_data.new.self c.in-Some.host (c.args.prepared.now.offset + c.args.at) c.args.bytes.now c.write_data.result c.check_in_place.ensures.looks.data_file c.in-Some.ensures.1 c.write_data.ensures.puts.beside;
     }
 
 pub returns-clause-step : goal.returns-clause-step
