@@ -21,7 +21,7 @@ pub record StorageView : Type 1 where
   pub req_align : ℕ
   pub mem_align : ℕ
 
--- A call by which a storage passes on what it keeps, or drops it, and changes no bytes.
+-- The three calls that change no bytes: a flush, a sync, and one that drops cached reads.
 pub data PassingCall : Type 0 where
   FlushCall : PassingCall
   SyncCall : PassingCall

@@ -19,7 +19,7 @@ pub trait Storage: Drop {
     /// Since the present moment, there is no other.
     ghost only_now: { (s : Self) (c : List ℕ) → (view s).had_since (view s).moment c → c ≡ (view s).contents };
 
-    /// What a call that passes something on does to a storage of this type, beyond what it does to any storage.
+    /// What `flush`, `sync` and `invalidate_cache` do to a storage of this type, beyond what they do to any storage.
     ghost passes: { PassingCall → Self → Self → Result (Unit {0}) StorageError → Type 0 };
 
     /// A short name of the kind of storage, such as `mem`.

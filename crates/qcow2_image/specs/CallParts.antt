@@ -93,7 +93,7 @@ module _ {S F : Type 0} (view : S → StorageView) where
     pub fault : cluster_size old.file.header.fields ≤ host → IfErr result IsFaultOfTables
     pub written : WritesBytes old new host bytes result
 
-  -- Bytes are written as data: to the data file, which this change is made of then, or without one to the image's own storage. Behind the header's cluster only a fault refuses this.
+  -- Bytes are written as data: to the data file, whose bytes change in this way, or, if there is none, to the image's own storage. Behind the header's cluster only a fault refuses this.
   pub record WritesData (old new : Qcow2 S F) (host : ℕ) (bytes : List ℕ) (change : List ℕ → List ℕ) (result : Result (Unit {0}) ImageError) : Type 0 where
     pub fault : cluster_size old.file.header.fields ≤ host → IfErr result IsFaultOfTables
     pub rest : new ≡ record old { file = record old.file { storage = new.file.storage }; data_file = new.data_file }

@@ -76,7 +76,7 @@ AreZeros Short = Unit {0}
 AreZeros Taken = Unit {0}
 AreZeros (Plain zeros) = zeros.items ≡ replicate (length zeros.items) 0
 
--- Zeros are written, and at least so many at once can be.
+-- All bytes that are written are zeros, and this many can be written at once.
 pub record WritesZeros (count : ℕ) (writes : ZeroWrites) : Type 0 where
   pub few : count ≤ most_of writes
   pub zeros : AreZeros writes

@@ -41,7 +41,7 @@ module _ {S F : Type 0} (view : S → StorageView) (backing : F → BackingView)
     pub limit : IfLimit result (IsLimited view backing [] (offset + 1) old out)
     pub listed : IfErr result (λ e. IsFault e ⊎ ListGrows old new)
 
-  -- The L1 table has an entry for an offset and all old entries then, a change is recorded, and no cluster waits to be freed. On a sound image guests don't see this, and it lasts over every disk below.
+  -- The L1 table gets an entry for an offset, and keeps its old ones. If this succeeds, a change is recorded, and no cluster waits to be freed. On a sound image guests don't see it, and it lasts over every disk below.
   pub record LengthensTable (offset : ℕ) (old new : Qcow2 S F) (result : Result (Unit {0}) ImageError) : Type 0 where
     pub recorded : OnOk result (IsTrue new.file.caches.is_changed)
     pub placed : old.l1_table.cluster_bits ≡ old.file.header.fields.cluster_bits → OnOk result (IsPlacedNear new.l1_table)
