@@ -35,7 +35,7 @@ from promises import read, take_promises
 ROOT = os.path.dirname(os.path.dirname(os.path.abspath(__file__)))
 HOW_MANY_LINES = 8
 MOST_IN_A_CHECK = 200
-LEAST_IN_A_CHECK = 100
+LEAST_IN_A_CHECK = 200
 FIRST_IN_A_CHECK = 40
 SECONDS_TO_LOOK_AGAIN = 5
 LOOKS = 5
