@@ -59,6 +59,12 @@ pub record IsRefTable (t : EntryTableView) : Type 0 where
   pub room : HasRoomIfPlaced t.cluster_bits (length t.bytes) t.cluster
   pub reads : EachReads ReftableEntryReads t.bytes
 
+-- A table of this kind with so many entries, loaded from the start of a cluster on.
+pub record IsLoaded (IsTable : EntryTableView → Type 0) (cluster_bits cluster entries : ℕ) (t : EntryTableView) : Type 0 where
+  pub table : t ≡ record { cluster = Some cluster; bytes = t.bytes; cluster_bits = cluster_bits }
+  pub length : length t.bytes ≡ 8 * entries
+  pub whole : IsTable t
+
 -- The header points to an L1 table at this offset, with this many entries.
 abbrev pub NamesL1Table : HeaderFields → ℕ → ℕ → Type 0
 NamesL1Table h place entries = (h.l1_offset ≡ place) × (h.l1_entries ≡ entries)

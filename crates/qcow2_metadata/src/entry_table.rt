@@ -8,7 +8,7 @@ ghost use Rattle.image_access.specs.Moments.{ContentsStay, Changes, Calls, Quiet
 ghost use Rattle.qcow2_metadata.specs.MetadataError.{storage_result};
 ghost use Rattle.qcow2_metadata.specs.L2Mapping.{IsHostCluster};
 ghost use Rattle.qcow2_metadata.specs.TableBytes.{entry_at as entry_of, ChangesEntry, IsClusterBits, IsOfStorageOrMemory};
-ghost use Rattle.qcow2_metadata.specs.EntryTable.{entry_count, HasRoom, HasRoomIfPlaced, IsEntryTable, EachReads, SomeUnread, IsClear, PassesLimit, IsOfLengthOrMemory, IsReasonNotToLoad};
+ghost use Rattle.qcow2_metadata.specs.EntryTable.{IsLoaded, entry_count, HasRoom, HasRoomIfPlaced, IsEntryTable, EachReads, SomeUnread, IsClear, PassesLimit, IsOfLengthOrMemory, IsReasonNotToLoad};
 
 use crate::table_bytes::{entry_at, load, put, set_entry, zeros};
 use crate::{ClusterCount, HostCluster, MAX_HOST_OFFSET, MetadataError};
@@ -137,12 +137,10 @@ impl EntryTable {
     ) -> Result<EntryTable, MetadataError>
         requires bits { IsClusterBits cluster_bits }
         requires limit { greatest ≤ 4194304 }
-        ensures table { IfOk result (λ t. t ≡ record { cluster = Some cluster; bytes = t.bytes; cluster_bits = cluster_bits }) }
-        ensures length { IfOk result (λ t. length t.bytes ≡ 8 * entries) }
+        ensures loaded { IfOk result (IsLoaded (IsEntryTable greatest) cluster_bits cluster entries) }
         ensures bytes { (S.view storage.old).is_honest
             → IfOk result (λ t. t.bytes ≡ bytes_at (S.view storage.old).contents (cluster * 2 ^ cluster_bits)
             (8 * entries)) }
-        ensures few { IfOk result (IsEntryTable greatest) }
         ensures reads { IfOk result (λ t. EachReads (IsClear reserved) t.bytes) }
         ensures limit { PassesLimit greatest cluster_bits 0 cluster entries → result ≡ Err MetadataError.Limit }
         ensures err { IfErr result (IsReasonNotToLoad (PassesLimit greatest cluster_bits 0 cluster entries)

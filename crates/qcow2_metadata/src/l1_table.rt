@@ -11,7 +11,7 @@ ghost use Rattle.qcow2_metadata.specs.MetadataError.{storage_result};
 ghost use Rattle.qcow2_metadata.specs.L2Mapping.{greatest_offset, IsHostCluster};
 ghost use Rattle.qcow2_metadata.specs.L2Table.{copied_entry as copied_entry_of};
 ghost use Rattle.qcow2_metadata.specs.TableBytes.{entry_at, ChangesEntry};
-ghost use Rattle.qcow2_metadata.specs.EntryTable.{entry_table, entry_count, HasRoomIfPlaced, IsL1Table, IsL1TableOf, IsL1TableBut, NamesL1Table, SomeUnread, PassesLimit, IsOfLengthOrMemory, IsReasonNotToLoad};
+ghost use Rattle.qcow2_metadata.specs.EntryTable.{IsLoaded, entry_table, entry_count, HasRoomIfPlaced, IsL1Table, IsL1TableOf, IsL1TableBut, NamesL1Table, SomeUnread, PassesLimit, IsOfLengthOrMemory, IsReasonNotToLoad};
 
 use crate::entry_table::EntryTable;
 use crate::l2_mapping::{COPIED, host_offset, is_copied};
@@ -87,9 +87,7 @@ impl L1Table {
         cluster: HostCluster,
         entries: usize,
     ) -> Result<L1Table, MetadataError>
-        ensures table { IfOk result (λ t. t ≡ entry_table header.now.fields (Some cluster) t.bytes) }
-        ensures length { IfOk result (λ t. length t.bytes ≡ 8 * entries) }
-        ensures is_table { IfOk result IsL1Table }
+        ensures loaded { IfOk result (IsLoaded IsL1Table header.now.fields.cluster_bits cluster entries) }
         ensures bytes { (S.view storage.old).is_honest → IfOk result (λ t. t.bytes
             ≡ bytes_at (S.view storage.old).contents (cluster * cluster_size header.now.fields) (8 * entries)) }
         ensures of_image { (S.view storage.old).is_honest → NamesL1Table header.now.fields (cluster * cluster_size header.now.fields) entries

@@ -10,7 +10,7 @@ ghost use Rattle.qcow2_metadata.specs.Entries.{block_offset as block_offset_of, 
 ghost use Rattle.qcow2_metadata.specs.MetadataError.{storage_result};
 ghost use Rattle.qcow2_metadata.specs.L2Mapping.{IsHostCluster};
 ghost use Rattle.qcow2_metadata.specs.TableBytes.{entry_at, ChangesEntry};
-ghost use Rattle.qcow2_metadata.specs.EntryTable.{entry_table, entry_count, IsRefTable, IsRefTableOf, IsRefTableBut, NamesRefTable, SomeUnread, PassesLimit, IsOfLengthOrMemory, IsReasonNotToLoad};
+ghost use Rattle.qcow2_metadata.specs.EntryTable.{IsLoaded, entry_table, entry_count, IsRefTable, IsRefTableOf, IsRefTableBut, NamesRefTable, SomeUnread, PassesLimit, IsOfLengthOrMemory, IsReasonNotToLoad};
 
 use crate::entry_table::{EntryTable, has_room};
 use crate::{ClusterCount, Header, HostCluster, HostOffset, MAX_REFTABLE_ENTRIES, MetadataError};
@@ -76,9 +76,7 @@ impl RefTable {
         cluster: HostCluster,
         entries: usize,
     ) -> Result<RefTable, MetadataError>
-        ensures table { IfOk result (λ t. t ≡ entry_table header.now.fields (Some cluster) t.bytes) }
-        ensures length { IfOk result (λ t. length t.bytes ≡ 8 * entries) }
-        ensures is_table { IfOk result IsRefTable }
+        ensures loaded { IfOk result (IsLoaded IsRefTable header.now.fields.cluster_bits cluster entries) }
         ensures bytes { (S.view storage.old).is_honest → IfOk result (λ t. t.bytes
             ≡ bytes_at (S.view storage.old).contents (cluster * cluster_size header.now.fields) (8 * entries)) }
         ensures of_image { (S.view storage.old).is_honest → NamesRefTable header.now.fields (cluster * cluster_size header.now.fields) entries

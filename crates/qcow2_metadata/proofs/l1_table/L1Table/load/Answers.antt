@@ -1,4 +1,4 @@
-use Rattle.std.proofs.Common.{◌*◌, ◌^◌}
+use Rattle.std.proofs.Common.{◌≡◌, ◌*◌, ◌^◌, Some, subst}
 use Rattle.qcow2_metadata.proofs.Common.{err_from_is_err_and, bytes_at, L1EntryReads, IsClear, PassesLimit}
 use Rattle.qcow2_metadata.proofs.EntryTables.{IsL1TableOf-loaded, IsReasonNotToLoad-reads, clear_l1_reads, l1_reads_clear}
 use Rattle.qcow2_metadata.proofs.l1_table.L1Table.load.Goals as goal
@@ -14,11 +14,18 @@ returns-in_err-table-clause-err g c =
 pub invariant_of-result : goal.invariant_of-result
 invariant_of-result g c = λ i. clear_l1_reads _ (c.in_ok-table.ensures.reads i)
 
-pub returns-clause-is_table : goal.returns-clause-is_table
-returns-clause-is_table g c = record {
-  table = c.in_ok-table.ensures.few;
-  reads = λ i. clear_l1_reads _ (c.in_ok-table.ensures.reads i);
-}
+pub returns-clause-loaded : goal.returns-clause-loaded
+returns-clause-loaded g c =
+    let t = c.in_ok-table.table in
+    let loaded = c.in_ok-table.ensures.loaded in
+    record {
+      table = subst (λ bits. t ≡ record { cluster = Some c.args.cluster; bytes = t.bytes; cluster_bits = bits }) c.cluster_bits-bits.ensures.value loaded.table;
+      length = loaded.length;
+      whole = record {
+        table = loaded.whole;
+        reads = λ i. clear_l1_reads _ (c.in_ok-table.ensures.reads i);
+      };
+    }
 
 pub returns-clause-of_image : goal.returns-clause-of_image
 returns-clause-of_image g c = λ honest names.
