@@ -1,6 +1,6 @@
 -- How steps of the caches compose, and how one cache call is such a step.
 use Rattle.std.proofs.Common.{◌≡◌, ◌≢◌, ◌⊎◌, inr, ℕ, Bool, eqb, List, Option, Some, Result, Ok, Err, IsErr, IsErrAnd, OnOk, OnErr, refl, sym, ◌∙◌, subst, IsFalse}
-use Rattle.qcow2_alloc.proofs.Common.{keys_of, IsDistinct, StorageView, MetadataError, byte_at, L2TableView, RefBlockView, HeaderFields, Pending, MayTurn, AreClean, BlocksMayGo, TablesMayGo, CacheError, L2CacheBackend, RefBlockCacheBackend, MetadataCaches, ImageError, ImageStorage, Cache, KeepsPins, with_entries, Unit₀, Flushes, TablesGo, BlocksGo, CacheStep, TurnStep, LoadStep, PutStep, HeldStep, KeepsSoundly, PutsSoundly, KeepsL2Written, of_cache, IsFaultOr, IsOfTables, storage_of, KeepsNotes, order, order_of, l2_tables, refblocks, known_of, CacheInvariant, err_of, FailsFor, l2_steps, rb_steps}
+use Rattle.qcow2_alloc.proofs.Common.{keys_of, IsDistinct, StorageView, MetadataError, byte_at, L2TableView, RefBlockView, HeaderFields, Pending, MayTurn, AreClean, BlocksMayGo, TablesMayGo, CacheError, L2CacheBackend, RefBlockCacheBackend, MetadataCaches, ImageError, ImageStorage, Cache, KeepsPins, with_entries, Unit₀, Flushes, TablesGo, BlocksGo, CacheStep, TurnStep, LoadStep, PutStep, HeldStep, KeepsSoundly, PutsSoundly, KeepsL2Written, of_cache, IsFaultOr, IsOfTablesIf, storage_of, KeepsNotes, order, order_of, l2_tables, refblocks, known_of, CacheInvariant, err_of, FailsFor, l2_steps, rb_steps}
 use Rattle.qcow2_laws.specs.Clusters as Order
 use Rattle.qcow2_metadata.specs.Tables.{CachedTable}
 use Rattle.qcow2_alloc.specs.CachePins.{SameChanges}
@@ -143,11 +143,11 @@ fails_less {P} {Q} less fails = fails_as (λ e. fits_less P Q e less) fails
 pub fails_putting : {Full P Q : Type 0} {before now : ℕ} {r : Option ImageError} → (Q → P) → FailsFor before now r (IsFaultOr (¬ P)) → FailsFor before now r (λ e. ((e ≡ I.InUse) × Full) ⊎ IsFaultOr (¬ Q) e)
 fails_putting {Full} {P} {Q} less fails = fails_as (λ e is. inr (fits_less P Q e less is)) fails
 
-pub fails_of_tables : {P : Type 0} {before now : ℕ} {r : Option ImageError} → FailsFor before now r (IsFaultOr P) → FailsFor before now r IsOfTables
-fails_of_tables {P} fails = fails_as (fault_or_of_tables P) fails
+pub fails_of_tables : {P unaligned : Type 0} {before now : ℕ} {r : Option ImageError} → FailsFor before now r (IsFaultOr P) → FailsFor before now r (IsOfTablesIf unaligned)
+fails_of_tables {P} {unaligned} fails = fails_as (fault_or_of_tables unaligned P) fails
 
-pub loads_of_tables : {Full P : Type 0} {before now : ℕ} {r : Option ImageError} → FailsFor before now r (λ e. ((e ≡ I.InUse) × Full) ⊎ IsFaultOr P e) → FailsFor before now r IsOfTables
-loads_of_tables {Full} {P} fails = fails_as (in_use_of_tables Full P) fails
+pub loads_of_tables : {Full P unaligned : Type 0} {before now : ℕ} {r : Option ImageError} → FailsFor before now r (λ e. ((e ≡ I.InUse) × Full) ⊎ IsFaultOr P e) → FailsFor before now r (IsOfTablesIf unaligned)
+loads_of_tables {Full} {P} {unaligned} fails = fails_as (in_use_of_tables unaligned Full P) fails
 
 -- ---- a call of one cache
 abbrev seen_by : {S : Type 0} → (S → StorageView) → ImageStorage S → StorageView

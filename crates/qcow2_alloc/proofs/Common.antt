@@ -42,7 +42,7 @@ pub use Rattle.qcow2_alloc.specs.FreeSteps.{FreesListed}
 pub use Rattle.qcow2_alloc.specs.Growing.{IsLeastLength, IsCloneOf, IsLongEnough}
 pub use Rattle.qcow2_alloc.specs.GrownTables.{named_by_reftable_entries, counted_run, with_run, without_reftable, NamesReftable, EntersReftable, StandsGrown, reftable_at, IsGrown}
 pub use Rattle.qcow2_alloc.specs.HeaderClusters.{IsInHeaderCluster, BytesStay, KeepsHeaderCluster, SameAt, IsBesidePointer}
-pub use Rattle.qcow2_alloc.specs.ImageError.{of_storage, IsFault, IsFaultOr, of_cache, IsOfReftableLoad, IsOfTables, of_metadata}
+pub use Rattle.qcow2_alloc.specs.ImageError.{of_storage, IsFault, IsFaultOr, of_cache, IsOfReftableLoad, IsOfTablesIf, IsFaultOrLimit, of_metadata}
 pub use Rattle.qcow2_alloc.specs.ImageFile.{view_in, contents_in, known_in, FileInvariant, AllocatorInvariant, HasReftable, RefusedFileStep, pending_at, nothing_given, state_in, InternalFileStep, InternalFileGrowth, InterruptedFileStep, KeepsHeader}
 pub use Rattle.qcow2_alloc.specs.ImageStorage.{storage_of, met_fault_of, is_changed_of, RecordsWrite, SameNotes, WritesPlaced, changes_of, RecordsFault}
 pub use Rattle.qcow2_alloc.specs.KeptMarks.{KeepMarks, KeepNotes, KeepsMarks}
@@ -59,7 +59,7 @@ pub use Rattle.qcow2_alloc.specs.RecordedFaults.{RecordsFaults}
 pub use Rattle.qcow2_alloc.specs.Rooms.{opens, opened, IsLonger, room_length, placed_at, AreFree, InternalNewBlocks, PlacesBlocks, lacks, CountsRun, WritesTable, CountNew, HasCached, HasCachedBlock, RefusedNewBlocks, counted_one, AllocatesFree, FetchesBlock, CachesBlocks, AllocatesRoom, ReachesRoom, CachesBlock}
 pub use Rattle.qcow2_alloc.specs.SparedClusters.{IsWithin, NamesBlockIn, NamesTableIn, Spares, IsNamedHere}
 pub use Rattle.qcow2_alloc.specs.SparedHeaders.{CachesSpareHeader, KeepBehindHeader, PreservesHeaderButPointer, LeaveHeaderCluster, StandsBehindHeader, SparesBytes, SparesHeader}
-pub use Rattle.qcow2_alloc.specs.Steps.{err_of, FailsFor, TableStep, FileStep, TakenSoFar, EntersRoom, Fails, GivesSoundly, KeepsMarksInTurn, DataStep, PointerStep, PointerStepTo, GrowthStep, FreeStep, FreeStepInTurn, PartStep, AllocatesClusterSoundly, AllocatesRoomSoundly, AllocatesRunSoundly, EntersTable, AllocatesGivenSoundly}
+pub use Rattle.qcow2_alloc.specs.Steps.{AllocatorFails, err_of, FailsFor, TableStep, FileStep, TakenSoFar, EntersRoom, Fails, GivesSoundly, KeepsMarksInTurn, DataStep, PointerStep, PointerStepTo, GrowthStep, FreeStep, FreeStepInTurn, PartStep, AllocatesClusterSoundly, AllocatesRoomSoundly, AllocatesRunSoundly, EntersTable, AllocatesGivenSoundly}
 pub use Rattle.qcow2_alloc.specs.TableCache.{marks_in, settled, FlushesAt, ChangesValue, failure_of}
 pub use Rattle.qcow2_alloc.specs.TableCaches.{IsTableOf, l2_steps, rb_steps, cleared_l2, cleared_rb, IsBlockOf}
 pub use Rattle.qcow2_alloc.specs.TableChanges.{changed_block, SetsCount, SetsTableCount, SetsTableEntry, LeavesCount, changed_table, ChangesOrStays, SetsEntry, ChangesHeld, CantMap, CountsLess}

@@ -6,6 +6,7 @@ use Rattle.qcow2_alloc.proofs.Common.{MatchOption, MatchResult, option_map, eq-e
 use Rattle.qcow2_alloc.proofs.Runs.{run_after, run_before, run_in, run_none}
 use Rattle.qcow2_alloc.proofs.UnalignedLeaks.{listed_both}
 use Rattle.qcow2_alloc.specs.CachePins.{SameChanges}
+use Rattle.qcow2_alloc.specs.CacheSteps.{KeepsHeldTables}
 use Rattle.qcow2_alloc.specs.KeptEntries.{OnlyLoads}
 use Rattle.qcow2_alloc.specs.Leaks.{DecrementsOrLeaks, FreesEach, FreesOff, KeepsBlockBytes, LoadsBlocks}
 
@@ -70,20 +71,20 @@ bytes_kept (Some w) (Some b) kept = ap (λ (x : RefBlockView). x.bytes) kept
 
 module _ {S : Type 0} where
   -- a load into the cache of refblocks
-  pub loads_got : (f g : MetadataCaches S) → OnlyLoads (λ (b : RefBlockView). b.is_modified) f.rb g.rb → SameChanges f g → LoadsBlocks f g
-  loads_got f g loads changes = record { held = λ c. bytes_kept (rb_at f c) (rb_at g c) (loads c); changes = changes }
+  pub loads_got : (f g : MetadataCaches S) → OnlyLoads (λ (b : RefBlockView). b.is_modified) f.rb g.rb → KeepsHeldTables f g → SameChanges f g → LoadsBlocks f g
+  loads_got f g loads tables changes = record { held = λ c. bytes_kept (rb_at f c) (rb_at g c) (loads c); tables = tables; changes = changes }
 
   pub blocks_same : (caches : MetadataCaches S) → KeepsBlockBytes caches caches
-  blocks_same caches = record { held = λ c. refl; changes = (refl, refl) }
+  blocks_same caches = record { held = λ c. refl; tables = λ c. refl; changes = (refl, refl) }
 
   blocks_then : (f g i : MetadataCaches S) → KeepsBlockBytes f g → KeepsBlockBytes g i → KeepsBlockBytes f i
-  blocks_then f g i first then = record { held = λ c. then.held c ∙ first.held c; changes = (then.changes.0 ∙ first.changes.0, then.changes.1 ∙ first.changes.1) }
+  blocks_then f g i first then = record { held = λ c. then.held c ∙ first.held c; tables = λ c. then.tables c ∙ first.tables c; changes = (then.changes.0 ∙ first.changes.0, then.changes.1 ∙ first.changes.1) }
 
   pub blocks_loaded : (f g : MetadataCaches S) → KeepsBlockBytes f g → LoadsBlocks f g
-  blocks_loaded f g same = record { held = λ c. bytes_as (rb_at f c) (rb_at g c) (same.held c); changes = same.changes }
+  blocks_loaded f g same = record { held = λ c. bytes_as (rb_at f c) (rb_at g c) (same.held c); tables = same.tables; changes = same.changes }
 
   loads_from : (f g i : MetadataCaches S) → KeepsBlockBytes f g → LoadsBlocks g i → LoadsBlocks f i
-  loads_from f g i same loads = record { held = λ c. bytes_from (rb_at f c) (rb_at g c) (rb_at i c) (same.held c) (loads.held c); changes = (loads.changes.0 ∙ same.changes.0, loads.changes.1 ∙ same.changes.1) }
+  loads_from f g i same loads = record { held = λ c. bytes_from (rb_at f c) (rb_at g c) (rb_at i c) (same.held c) (loads.held c); tables = λ c. loads.tables c ∙ same.tables c; changes = (loads.changes.0 ∙ same.changes.0, loads.changes.1 ∙ same.changes.1) }
 
 module _ {S : Type 0} (h : HeaderFields) (t : EntryTableView) where
   -- ---- from earlier caches with the same bytes
@@ -95,6 +96,7 @@ module _ {S : Type 0} (h : HeaderFields) (t : EntryTableView) where
         record {
           before = lowered.1.before;
           loads = loads_from f g lowered.1.before same lowered.1.loads;
+          tables = λ c. lowered.1.tables c ∙ same.tables c;
           at = lowered.1.at;
           names = lowered.1.names;
           block = lowered.1.block;
@@ -119,6 +121,15 @@ module _ {S : Type 0} (h : HeaderFields) (t : EntryTableView) where
   each_then : (cs ds : List ℕ) (a b c : Allocator) (f g i : MetadataCaches S) (r : Result (Unit {0}) ImageError) → FreesEach h t cs a f b g (Ok tt) → FreesEach h t ds b g c i r → FreesEach h t (cs ++ ds) a f c i r
   each_then [] ds a b c f g i r first then = each_from a b f g first.0 first.1 ds c i r then
   each_then (e ∷ cs) ds a b c f g i r first then = (first.0, first.1, first.2, each_then cs ds first.0 b c first.1 g i r first.3 then)
+
+  -- L2 tables stay
+  one_tables : (a b : Allocator) (f g : MetadataCaches S) (c : ℕ) → DecrementsOrLeaks h t a f b g c (Ok tt) → KeepsHeldTables f g
+  one_tables a b f g c step = elim step [ inl lowered ↦ lowered.1.tables | inr leaked ↦ leaked.1.tables ]
+
+  pub each_tables : (cs : List ℕ) (a b : Allocator) (f g : MetadataCaches S) (r : Result (Unit {0}) ImageError) → FreesEach h t cs a f b g r → KeepsHeldTables f g
+  each_tables [] a b f g (Ok u) each = each.1.tables
+  each_tables [] a b f g (Err e) each = each.1.tables
+  each_tables (c ∷ cs) a b f g r each = let rest = each_tables cs each.0 b each.1 g r each.3 in let first = one_tables a each.0 f each.1 c each.2 in λ k. rest k ∙ first k
 
   -- ---- with the lists
   pub off_none : (a : Allocator) (f g : MetadataCaches S) (l : List ClustersToFreeEntry) → KeepsBlockBytes f g → FreesOff h t a f l a g l (Ok tt)

@@ -1,6 +1,6 @@
 -- The entries of a list of clusters to free are freed one after another.
 use Rattle.std.proofs.Common.{◌≡◌, ◌≤◌, ◌++◌, ◌∷◌, ◌+◌, ◌-◌, ◌/◌, ◌^◌, ◌<◌, [], List, Result, Ok, refl, sym, ap, ◌∙◌, subst, append_assoc, ℕ, Err}
-use Rattle.qcow2_alloc.proofs.Common.{le_refl, le_trans, StorageView, HeaderView, counts_per_block, one_at, Pending, Allocator, ClusterKind, ClustersToFreeEntry, ImageError, ImageFile, Frees, GivesBack, IsUnaligned, Listed, MayFree, MayDecrement, Owed, listed_as, owed_as, but, run_of, with_listed, FreesListed, IsOfTables, AllocatorInvariant, LeaksOne, LeaksUnaligned, Fails, GivesSoundly, TableStep}
+use Rattle.qcow2_alloc.proofs.Common.{le_refl, le_trans, StorageView, HeaderView, counts_per_block, one_at, Pending, Allocator, ClusterKind, ClustersToFreeEntry, ImageError, ImageFile, Frees, GivesBack, IsUnaligned, Listed, MayFree, MayDecrement, Owed, listed_as, owed_as, but, run_of, with_listed, FreesListed, IsFault, AllocatorInvariant, LeaksOne, LeaksUnaligned, Fails, GivesSoundly, TableStep}
 use Rattle.qcow2_alloc.proofs.AllocationSteps.{allocator_step_none, is_sound_now, may_lower_still}
 use Rattle.qcow2_alloc.proofs.Freeing.{behind_first, but_more, but_same, first_owed, frees_as, frees_then, listed_none, run_freed, run_refused, with_both, with_one, with_relisted}
 use Rattle.qcow2_alloc.proofs.Steps.{fails_ok, fails_since, free_step_listed, free_step_none, free_step_of, free_step_then}
@@ -108,7 +108,7 @@ DecrementsSoundly view at t a t' b result =
 
 module _ {S : Type 0} {view : S → StorageView} {t t' : Allocator} {a b : ImageFile S} (l : List ClustersToFreeEntry) (run : ClustersToFreeEntry) where
   -- a run behind the others on a list
-  run_listed : {result : Result (Unit {0}) ImageError} (next : ClustersToFreeEntry) → next.kind ≡ run.kind → TableStep view t.reftable a t'.reftable b → t'.reftable ≡ t.reftable → Fails view a.storage b.storage result IsOfTables
+  run_listed : {result : Result (Unit {0}) ImageError} (next : ClustersToFreeEntry) → next.kind ≡ run.kind → TableStep view t.reftable a t'.reftable b → t'.reftable ≡ t.reftable → Fails view a.storage b.storage result IsFault
       → ((p : Pending) → AllocatorInvariant view t (listed_as run.kind p (run_of run)) a → MayFree run.kind a → GivesSoundly view (Frees view (listed_as run.kind p (run_of run)) a t' b (listed_as run.kind p (run_of next)) result) t a t' b result)
       → t.leaked_clusters ≤ t'.leaked_clusters → LeaksUnaligned a.header.fields t.reftable t t' (run ∷ []) (next ∷ [])
       → FreesOff a.header.fields t.reftable t a.caches (l ++ run ∷ []) t' b.caches (l ++ next ∷ []) result → FreesListed view run.kind t a (l ++ run ∷ []) t' b (l ++ next ∷ []) result
@@ -132,7 +132,7 @@ module _ {S : Type 0} {view : S → StorageView} {t t' : Allocator} {a b : Image
 
   module _ {at : ℕ} (some : 0 < run.count) (is : at ≡ run.first_cluster) (step : TableStep view t.reftable a t'.reftable b) (same : t'.reftable ≡ t.reftable) (grows : t.leaked_clusters ≤ t'.leaked_clusters) where
     -- its first cluster is freed
-    pub run_lowered : (next : ClustersToFreeEntry) → Fails view {T = Unit {0}} a.storage b.storage (Ok tt) IsOfTables → DecrementsSoundly view at t a t' b (Ok tt) → (run.first_cluster + 1 < 2 ^ 64 → next.first_cluster ≡ run.first_cluster + 1) → next.count ≡ run.count - 1 → next.kind ≡ run.kind
+    pub run_lowered : (next : ClustersToFreeEntry) → Fails view {T = Unit {0}} a.storage b.storage (Ok tt) IsFault → DecrementsSoundly view at t a t' b (Ok tt) → (run.first_cluster + 1 < 2 ^ 64 → next.first_cluster ≡ run.first_cluster + 1) → next.count ≡ run.count - 1 → next.kind ≡ run.kind
         → (IsUnaligned a.header.fields t.reftable (at / counts_per_block a.header.fields) → LeaksOne t t') → DecrementsOrLeaks a.header.fields t.reftable t a.caches t' b.caches at (Ok tt) → FreesListed view run.kind t a (l ++ run ∷ []) t' b (l ++ next ∷ []) (Ok tt)
     run_lowered next fails sound first count of_kind leaks lowers = run_listed next of_kind step same fails
         (λ p begun may.
@@ -147,7 +147,7 @@ module _ {S : Type 0} {view : S → StorageView} {t t' : Allocator} {a b : Image
         (off_first a.header.fields t.reftable t t' a.caches b.caches l run next at is some first count lowers)
 
     -- it can't be freed
-    pub run_stays : {e : ImageError} → Fails view {T = Unit {0}} a.storage b.storage (Err e) IsOfTables → DecrementsSoundly view at t a t' b (Err e) → DecrementsOrLeaks a.header.fields t.reftable t a.caches t' b.caches at (Err e) → FreesListed view run.kind t a (l ++ run ∷ []) t' b (l ++ run ∷ []) (Err e)
+    pub run_stays : {e : ImageError} → Fails view {T = Unit {0}} a.storage b.storage (Err e) IsFault → DecrementsSoundly view at t a t' b (Err e) → DecrementsOrLeaks a.header.fields t.reftable t a.caches t' b.caches at (Err e) → FreesListed view run.kind t a (l ++ run ∷ []) t' b (l ++ run ∷ []) (Err e)
     run_stays {e} fails sound stopped = run_listed run refl step same fails
         (λ p begun may.
         let q = listed_as run.kind p (run_of run) in

@@ -56,7 +56,7 @@ pub use Rattle.qcow2_alloc.proofs.RoomWrites.{free_in_run, allocator_step_remove
 pub use Rattle.qcow2_alloc.proofs.Rooms.{ends_room, one_none, free_taken, opened_none, still_noted, run_of_same, noted_of_same, noted_of_room, run_past, left_none, left_one, left_fault, owed_now, counted_few, run_taken, run_not_taken, opened_more, more_short, is_flag, flag_few, noted_more, empty_run}
 pub use Rattle.qcow2_alloc.proofs.Runs.{run_in, run_before, run_after, taken_alone, none_there, run_last, run_none, taken_none, taken_first, new_data_more}
 pub use Rattle.qcow2_alloc.proofs.SparedHeaders.{not_first, spares_then, spares_listed, spares_pointer, placed_above, spares_entry, at_place, spares_cached, spares_tables, spares_written}
-pub use Rattle.qcow2_alloc.proofs.Steps.{fails_by, fails_ok, memory_other, step_none, fails_on, fails_since, step_as, step_on, step_then, data_then, data_cached, table_step_none, table_step_as, fails_still, table_step_cached, other_as, table_step_then, table_step_tables, limit_other, step_grown, pointer_step_on, pointer_step_then, free_in_turn, turn_cached, turn_then, growth_step_none, growth_step_on, fails_storage, same_faults, fails_loaded, table_step_dropped, table_step_part, pointer_step_to, fails_of}
+pub use Rattle.qcow2_alloc.proofs.Steps.{fails_moved, fails_by_fault, fails_aligned, never_unaligned, tables_more, fails_by, fails_ok, memory_other, step_none, fails_on, fails_since, step_as, step_on, step_then, data_then, data_cached, table_step_none, table_step_as, fails_still, table_step_cached, other_as, table_step_then, table_step_tables, limit_other, step_grown, pointer_step_on, pointer_step_then, free_in_turn, turn_cached, turn_then, growth_step_none, growth_step_on, fails_storage, same_faults, fails_loaded, table_step_dropped, table_step_part, pointer_step_to, fails_of}
 pub use Rattle.qcow2_alloc.proofs.TableErrors.{storage_of_tables}
 pub use Rattle.qcow2_alloc.proofs.TableMarks.{marks_set, settled_right, mark_looked, kept_same, is_there, is_missing, touched, touched_none, next_out, none_out, removed_next, fewer_without, pinned_without}
 pub use Rattle.qcow2_alloc.proofs.UnalignedLeaks.{leaks_as, leaks_then}

@@ -1,9 +1,12 @@
 -- Steps of the allocator one after another, and refusals that are passed on.
 use Rattle.std.proofs.Common.{◌≡◌, ◌≢◌, inl, inr, ℕ, List, Option, Some, None, Result, Ok, Err, IsErr, IsErrAnd, refl, sym, ap, ◌∙◌, subst, arith, IfErr}
-use Rattle.qcow2_alloc.proofs.Common.{StorageView, HasCause, StorageError, MetadataError, storage_result, EntryTableView, FaultsReported, KeepsPinsAndNotes, HeldStep, ReplacesReftable, OldReftablesQueued, KeepsHeaderCluster, view_in, of_storage, of_metadata, IsOfReftableLoad, IsOfTables, IsReasonNotToLoad, KeepMarks, KeepsMarks, KeepsNotes, kept_then, ClustersToFreeEntry, CachesSpareHeader, KeepBehindHeader, MetadataCaches, ImageStorage, err_of, FailsFor, TableStep, FileStep, KeepsMarksInTurn, DataStep, PointerStep, PointerStepTo, GrowthStep, FreeStep, FreeStepInTurn, PartStep, ImageError, ImageFile}
+use Rattle.qcow2_alloc.proofs.Common.{StorageView, HasCause, StorageError, MetadataError, storage_result, EntryTableView, FaultsReported, KeepsPinsAndNotes, HeldStep, ReplacesReftable, OldReftablesQueued, KeepsHeaderCluster, view_in, of_storage, of_metadata, IsOfReftableLoad, IsOfTablesIf, IsReasonNotToLoad, KeepMarks, KeepsMarks, KeepsNotes, kept_then, ClustersToFreeEntry, CachesSpareHeader, KeepBehindHeader, MetadataCaches, ImageStorage, err_of, FailsFor, TableStep, FileStep, KeepsMarksInTurn, DataStep, PointerStep, PointerStepTo, GrowthStep, FreeStep, FreeStepInTurn, PartStep, ImageError, ImageFile}
 use Rattle.image_access.specs.declared.error.StorageError.TheVariants as S
 use Rattle.qcow2_metadata.specs.declared.error.MetadataError.TheVariants as M
 use Rattle.qcow2_alloc.specs.declared.error.ImageError.TheVariants as I
+use Rattle.qcow2_alloc.specs.Allocation.{HasUnaligned}
+use Rattle.qcow2_alloc.specs.ImageError.{IsFault}
+use Rattle.qcow2_metadata.specs.declared.header.HeaderFields.{HeaderFields}
 use Rattle.qcow2_alloc.proofs.AllocationSteps.{handed_on, named_then}
 use Rattle.qcow2_alloc.proofs.CachePins.{marks_then}
 use Rattle.qcow2_alloc.proofs.FormerReftables.{former_none, former_same, former_then}
@@ -194,6 +197,33 @@ fails_as {P} {Q} {before} {now} {r} more fails = by r fails where
 pub fails_still : {Refuses : ImageError → Type 0} {before mid now : ℕ} {e : Option ImageError} → FailsFor before mid e Refuses → now ≡ mid → FailsFor before now e Refuses
 fails_still {Refuses} {before} {mid} {now} {e} fails same = subst (λ n. FailsFor before n e Refuses) (sym same) fails
 
+-- over the same reftable and header
+pub fails_moved : {h h' : HeaderFields} {r r' : EntryTableView} {before now : ℕ} {e : Option ImageError} → h' ≡ h → r' ≡ r → FailsFor before now e (IsOfTablesIf (HasUnaligned h r)) → FailsFor before now e (IsOfTablesIf (HasUnaligned h' r'))
+fails_moved {h} {h'} {r} {r'} {before} {now} {e} header reftable fails = subst (λ x. FailsFor before now e (IsOfTablesIf (HasUnaligned x r'))) (sym header) (subst (λ x. FailsFor before now e (IsOfTablesIf (HasUnaligned h x))) (sym reftable) fails)
+
+-- among the refusals of tables
+fault_of_tables : (unaligned : Type 0) (e : ImageError) → IsFault e → IsOfTablesIf unaligned e
+fault_of_tables unaligned e (inl storage) = subst (IsOfTablesIf unaligned) (sym storage) tt
+fault_of_tables unaligned e (inr memory) = subst (IsOfTablesIf unaligned) (sym memory) tt
+
+pub tables_more : {P Q : Type 0} (more : P → Q) (e : ImageError) → IsOfTablesIf P e → IsOfTablesIf Q e
+tables_more more I.UnalignedTable is = more is
+tables_more more I.InUse is = tt
+tables_more more I.Limit is = tt
+tables_more more I.Memory is = tt
+tables_more more I.Storage is = tt
+tables_more more e is = absurd is
+
+pub fails_by_fault : {unaligned : Type 0} {before now : ℕ} {e : Option ImageError} → FailsFor before now e IsFault → FailsFor before now e (IsOfTablesIf unaligned)
+fails_by_fault {unaligned} fails = fails_as (fault_of_tables unaligned) fails
+
+-- never by 4
+pub never_unaligned : (unaligned : Type 0) (e : ImageError) → IsOfTablesIf ⊥ e → IsOfTablesIf unaligned e
+never_unaligned unaligned e is = tables_more {P = ⊥} {Q = unaligned} (λ bad. absurd bad) e is
+
+pub fails_aligned : {unaligned : Type 0} {before now : ℕ} {e : Option ImageError} → FailsFor before now e (IsOfTablesIf ⊥) → FailsFor before now e (IsOfTablesIf unaligned)
+fails_aligned {unaligned} fails = fails_as (never_unaligned unaligned) fails
+
 -- to and from the clauses `storage_faults` and `cause`
 pub fails_of : {T : Type 0} {Refuses : ImageError → Type 0} {before now : ℕ} (r : Result T ImageError) → FaultsReported before now r → IfErr r Refuses → FailsFor before now (err_of r) Refuses
 fails_of (Ok x) told cause = fails_ok told.told
@@ -209,9 +239,9 @@ pub same_faults : {S : Type 0} (view : S → StorageView) {before now : S} → n
 same_faults view same = ap (λ s. (view s).faults) same
 
 -- what the storage answered, which `?` hands on
-pub fails_storage : {T A : Type 0} {before now : ℕ} (r : Result T ImageError) (e : StorageError) → IsErr r × IsErrAnd r (λ x. x ≡ of_storage e) → HasCause {T = A} before now (Err e) → FailsFor before now (err_of r) IsOfTables
-fails_storage {T} {A} {before} {now} r e on cause = fails_on r (of_storage e) on (answered e cause) where
-  answered : (e : StorageError) → HasCause {T = A} before now (Err e) → FailsFor before now (Some (of_storage e)) IsOfTables
+pub fails_storage : {T A unaligned : Type 0} {before now : ℕ} (r : Result T ImageError) (e : StorageError) → IsErr r × IsErrAnd r (λ x. x ≡ of_storage e) → HasCause {T = A} before now (Err e) → FailsFor before now (err_of r) (IsOfTablesIf unaligned)
+fails_storage {T} {A} {unaligned} {before} {now} r e on cause = fails_on r (of_storage e) on (answered e cause) where
+  answered : (e : StorageError) → HasCause {T = A} before now (Err e) → FailsFor before now (Some (of_storage e)) (IsOfTablesIf unaligned)
   answered S.Fault cause = record { no_fewer = cause.no_fewer; rose = λ is. cause.fault refl; told = λ other. absurd (other refl); cause = tt }
   answered S.Memory cause = fails_by I.Memory memory_other (cause.told (λ bad. cc)) tt
 

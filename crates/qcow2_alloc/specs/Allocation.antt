@@ -86,6 +86,10 @@ pub record IsUnaligned (h : HeaderFields) (reftable : EntryTableView) (range : �
   pub within : range < entry_count reftable
   pub off : block_offset (entry_at reftable.bytes range) % cluster_size h ≢ 0
 
+-- The reftable has an entry whose offset is not aligned, or no place.
+abbrev pub HasUnaligned : HeaderFields → EntryTableView → Type 0
+HasUnaligned h reftable = ((range : ℕ) × IsUnaligned h reftable range) ⊎ (reftable.cluster ≡ None)
+
 -- The cluster belongs to the first range, which has no refblock although the reftable has an entry for it.
 pub record LacksFirst (h : HeaderFields) (reftable : EntryTableView) (cluster : ℕ) : Type 0 where
   pub none : HasNone reftable 0

@@ -18,7 +18,7 @@ use Rattle.qcow2_alloc.specs.KeptNotes.{KeepsNotes}
 use Rattle.qcow2_alloc.specs.MetadataCaches.{order_of, l2_at, rb_at, l2_tables, refblocks, known_of, AreAllWritten, CacheInvariant, KeepSound, OverlaysBlock, OverlaysTable, DecrementsCount, DecrementsSome, InsertKeeps, IncrementsCount, IncrementsZero, AllocatesBlock, WritesInOrder}
 use Rattle.qcow2_alloc.specs.Quiet.{KeepAllWritten, OthersStayHeld, WritesNothing, GetsBlockQuietly, GetsTableQuietly, PutsBlockQuietly, PutsTableQuietly}
 use Rattle.qcow2_alloc.specs.SparedHeaders.{LeaveHeaderCluster, CachesSpareHeader, KeepBehindHeader}
-use Rattle.qcow2_alloc.specs.TableCaches.{IsBlockOf, IsTableOf}
+use Rattle.qcow2_alloc.specs.TableCaches.{IsBlockOf, IsTableOf, cleared_l2}
 use Rattle.qcow2_alloc.specs.declared.cache.MetadataCaches.{MetadataCaches}
 use Rattle.qcow2_alloc.specs.declared.error.ImageError.{ImageError}
 use Rattle.qcow2_alloc.specs.declared.image_storage.ImageStorage.{ImageStorage}
@@ -35,6 +35,10 @@ module _ {S : Type 0} where
   -- The same refblocks are cached, with the same bytes.
   abbrev pub KeepsHeldBlocks : MetadataCaches S → MetadataCaches S → Type 0
   KeepsHeldBlocks caches caches' = (c : ℕ) → option_map (λ b. b.bytes) (rb_at caches' c) ≡ option_map (λ b. b.bytes) (rb_at caches c)
+
+  -- The same L2 tables are cached, with the same entries.
+  abbrev pub KeepsHeldTables : MetadataCaches S → MetadataCaches S → Type 0
+  KeepsHeldTables caches caches' = (c : ℕ) → option_map cleared_l2 (l2_at caches' c) ≡ option_map cleared_l2 (l2_at caches c)
 
   -- A call that only works on cached tables keeps the pins and the order of writes, and records changes. No table moves to cluster 0.
   pub record HeldStep (caches caches' : MetadataCaches S) : Type 0 where

@@ -4,7 +4,7 @@ use Rattle.image_access.specs.Moments.{StorageView}
 use Rattle.qcow2_laws.specs.CrashInvariant.{Pending}
 use Rattle.qcow2_alloc.specs.Allocation.{Frees, MayFree}
 use Rattle.qcow2_alloc.specs.FreeList.{but, with_listed}
-use Rattle.qcow2_alloc.specs.ImageError.{IsOfTables}
+use Rattle.qcow2_alloc.specs.ImageError.{IsFault}
 use Rattle.qcow2_alloc.specs.ImageFile.{AllocatorInvariant}
 use Rattle.qcow2_alloc.specs.Leaks.{FreesOff, LeaksUnaligned}
 use Rattle.qcow2_alloc.specs.Steps.{Fails, FreeStep, GivesSoundly}
@@ -17,7 +17,7 @@ use Rattle.qcow2_alloc.specs.declared.image_file.ImageFile.{ImageFile}
 -- Clusters of one kind on a list are freed, and those that are not freed are on the new list. Entries of the other kind stay on it.
 pub record FreesListed {S : Type 0} (view : S → StorageView) (kind : ClusterKind) (allocator : Allocator) (old : ImageFile S) (list : List ClustersToFreeEntry) (allocator' : Allocator) (new : ImageFile S) (list' : List ClustersToFreeEntry) (result : Result (Unit {0}) ImageError) : Type 0 where
   pub step : FreeStep view allocator.reftable old allocator'.reftable new
-  pub fails : Fails view old.storage new.storage result IsOfTables
+  pub fails : Fails view old.storage new.storage result IsFault
   pub others : but kind list' ≡ but kind list
   pub sound : (p : Pending) → AllocatorInvariant view allocator (with_listed p list) old → MayFree kind old
       → GivesSoundly view (Frees view (with_listed p list) old allocator' new (with_listed p list') result) allocator old allocator' new result

@@ -84,29 +84,37 @@ IsFault e = (e ≡ I.Storage) ⊎ (e ≡ I.Memory)
 abbrev pub IsFaultOr : Type 0 → ImageError → Type 0
 IsFaultOr Cause e = IsFault e ⊎ ((e ≡ I.Limit) × Cause)
 
--- The refusals of loading, changing and writing tables, and of allocating clusters: 4, 8, 13, 14 and 15.
+-- The refusal is a fault or a limit.
+abbrev pub IsFaultOrLimit : ImageError → Type 0
+IsFaultOrLimit e = IsFault e ⊎ (e ≡ I.Limit)
+
+-- The refusals of loading, changing and writing tables, and of allocating clusters: 4, if this holds, and 8, 13, 14 and 15.
+abbrev pub IsOfTablesIf : Type 0 → ImageError → Type 0
+IsOfTablesIf unaligned I.ReadOnly = ⊥
+IsOfTablesIf unaligned I.BeyondSize = ⊥
+IsOfTablesIf unaligned I.Version = ⊥
+IsOfTablesIf unaligned I.UnalignedTable = unaligned
+IsOfTablesIf unaligned I.InvalidOption = ⊥
+IsOfTablesIf unaligned I.Preallocation = ⊥
+IsOfTablesIf unaligned I.Compressed = ⊥
+IsOfTablesIf unaligned I.InUse = Unit {0}
+IsOfTablesIf unaligned I.TablePrepared = ⊥
+IsOfTablesIf unaligned I.OutdatedMapping = ⊥
+IsOfTablesIf unaligned I.ForeignState = ⊥
+IsOfTablesIf unaligned I.Dependency = ⊥
+IsOfTablesIf unaligned I.Limit = Unit {0}
+IsOfTablesIf unaligned I.Memory = Unit {0}
+IsOfTablesIf unaligned I.Storage = Unit {0}
+IsOfTablesIf unaligned I.Failed = ⊥
+IsOfTablesIf unaligned I.MappingPrepared = ⊥
+IsOfTablesIf unaligned (I.NotCompressed offset) = ⊥
+IsOfTablesIf unaligned I.Metadata = ⊥
+IsOfTablesIf unaligned I.Overflow = ⊥
+IsOfTablesIf unaligned (I.StillInUse tables) = ⊥
+
+-- The same, with 4 for any cause.
 abbrev pub IsOfTables : ImageError → Type 0
-IsOfTables I.ReadOnly = ⊥
-IsOfTables I.BeyondSize = ⊥
-IsOfTables I.Version = ⊥
-IsOfTables I.UnalignedTable = Unit {0}
-IsOfTables I.InvalidOption = ⊥
-IsOfTables I.Preallocation = ⊥
-IsOfTables I.Compressed = ⊥
-IsOfTables I.InUse = Unit {0}
-IsOfTables I.TablePrepared = ⊥
-IsOfTables I.OutdatedMapping = ⊥
-IsOfTables I.ForeignState = ⊥
-IsOfTables I.Dependency = ⊥
-IsOfTables I.Limit = Unit {0}
-IsOfTables I.Memory = Unit {0}
-IsOfTables I.Storage = Unit {0}
-IsOfTables I.Failed = ⊥
-IsOfTables I.MappingPrepared = ⊥
-IsOfTables (I.NotCompressed offset) = ⊥
-IsOfTables I.Metadata = ⊥
-IsOfTables I.Overflow = ⊥
-IsOfTables (I.StillInUse tables) = ⊥
+IsOfTables = IsOfTablesIf (Unit {0})
 
 -- The refusals of loading the reftable: also 19, for an entry that is not readable.
 abbrev pub IsOfReftableLoad : ImageError → Type 0

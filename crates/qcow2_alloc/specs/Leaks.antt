@@ -10,7 +10,7 @@ use Rattle.qcow2_alloc.specs.declared.clusters_to_free.ClustersToFreeEntry.{Clus
 use Rattle.qcow2_metadata.specs.RefBlock.{RefBlockView, count_at}
 use Rattle.qcow2_alloc.specs.Allocation.{NamesBlock, SameLeaks}
 use Rattle.qcow2_alloc.specs.CachePins.{SameChanges}
-use Rattle.qcow2_alloc.specs.CacheSteps.{KeepsHeldBlocks}
+use Rattle.qcow2_alloc.specs.CacheSteps.{KeepsHeldBlocks, KeepsHeldTables}
 use Rattle.qcow2_alloc.specs.CountedChanges.{IsOneChange}
 use Rattle.qcow2_alloc.specs.ImageError.{IsFault}
 use Rattle.qcow2_alloc.specs.MetadataCaches.{rb_at}
@@ -38,14 +38,16 @@ LeaksUnaligned h reftable old new list list' =
     (n : ℕ) → n ≤ 2 ^ 64 → min (old.leaked_clusters + unaligned_below h reftable list n) (2 ^ 64 - 1) ≤ new.leaked_clusters + unaligned_below h reftable list' n
 
 module _ {S : Type 0} where
-  -- Each refblock that is cached now was cached before, with the same bytes, or is unmodified, as one that was just loaded. No change is recorded.
+  -- Each refblock that is cached now was cached before, with the same bytes, or is unmodified, as one that was just loaded. L2 tables stay, and no change is recorded.
   pub record LoadsBlocks (old new : MetadataCaches S) : Type 0 where
     pub held : (c : ℕ) → IfSome (rb_at new c) (λ b. MatchOption (rb_at old c) (b.is_modified ≡ false) (λ was. b.bytes ≡ was.bytes))
+    pub tables : KeepsHeldTables old new
     pub changes : SameChanges old new
 
-  -- The same refblocks are cached, with the same bytes. No change is recorded.
+  -- The same tables are cached, with the same entries. No change is recorded.
   pub record KeepsBlockBytes (old new : MetadataCaches S) : Type 0 where
     pub held : KeepsHeldBlocks old new
+    pub tables : KeepsHeldTables old new
     pub changes : SameChanges old new
 
   module _ (h : HeaderFields) (reftable : EntryTableView) where
@@ -59,6 +61,7 @@ module _ {S : Type 0} where
       pub new_data : rb_at before at ≡ Some block
       pub some : 0 < count_at block (cluster % counts_per_block h)
       pub falls : SetsCount before new at (cluster % counts_per_block h) block (count_at block (cluster % counts_per_block h) - 1)
+      pub tables : KeepsHeldTables old new
       pub recorded : IsOneChange new.is_changed before.changes new.changes
 
     -- Whether a refcount was decremented. If not, no refcount changes. No cluster is leaked by this.

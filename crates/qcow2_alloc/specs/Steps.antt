@@ -6,7 +6,7 @@ use Rattle.qcow2_metadata.specs.Header.{counts_per_block, entries_per_cluster}
 use Rattle.qcow2_metadata.specs.L2Mapping.{IsHostCluster}
 use Rattle.qcow2_metadata.specs.declared.header.HeaderFields.{HeaderFields}
 use Rattle.qcow2_laws.specs.CrashInvariant.{Pending}
-use Rattle.qcow2_alloc.specs.Allocation.{Allocates, AllocatesAt, GivesBack, GrowsTable, GetsBlock, HasNone, KeepsEntries, KeepsNamed, NamesBlock, NamesLacking, SameLeaks, AllocatesCluster, AllocatesGiven, AllocatesRun, InternalAllocatorGrowth, run_at, taken_as}
+use Rattle.qcow2_alloc.specs.Allocation.{HasUnaligned, Allocates, AllocatesAt, GivesBack, GrowsTable, GetsBlock, HasNone, KeepsEntries, KeepsNamed, NamesBlock, NamesLacking, SameLeaks, AllocatesCluster, AllocatesGiven, AllocatesRun, InternalAllocatorGrowth, run_at, taken_as}
 use Rattle.qcow2_alloc.specs.CachePins.{KeepsPinsAndNotes}
 use Rattle.qcow2_alloc.specs.Faults.{faults_of}
 use Rattle.qcow2_alloc.specs.FreeList.{pending_then, run_of, FillsClusters, ReplacesReftable, ListsTables, OldReftablesQueued}
@@ -28,6 +28,7 @@ use Rattle.qcow2_alloc.specs.declared.clusters_to_free.ClusterKind.{ClusterKind}
 use Rattle.qcow2_alloc.specs.declared.clusters_to_free.ClustersToFreeEntry.{ClustersToFreeEntry}
 use Rattle.qcow2_alloc.specs.declared.free_room.Reach.{Reach}
 use Rattle.qcow2_alloc.specs.declared.free_room.Room.{Room}
+use Rattle.qcow2_alloc.specs.ImageError.{IsOfTablesIf}
 use Rattle.qcow2_alloc.specs.declared.error.ImageError.{ImageError}
 use Rattle.qcow2_alloc.specs.declared.error.ImageError.TheVariants as I
 use Rattle.qcow2_alloc.specs.declared.image_file.ImageFile.{ImageFile}
@@ -56,6 +57,10 @@ module _ {S : Type 0} (view : S → StorageView) where
   -- A call on the image's storage succeeded, or was refused for such a cause.
   abbrev pub Fails : {T : Type 0} → ImageStorage S → ImageStorage S → Result T ImageError → (ImageError → Type 0) → Type 0
   Fails old new result Refuses = FailsFor (faults_of view old) (faults_of view new) (err_of result) Refuses
+
+  -- A call of the allocator succeeded, or was refused. It is refused 4 only if the offset of a refblock is not aligned, or the reftable has no place.
+  abbrev pub AllocatorFails : {T : Type 0} → ImageFile S → EntryTableView → ImageFile S → Result T ImageError → Type 0
+  AllocatorFails old reftable' new result = Fails old.storage new.storage result (IsOfTablesIf (HasUnaligned new.header.fields reftable'))
 
   -- ---- what stays the same
 

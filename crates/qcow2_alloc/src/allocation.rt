@@ -4,9 +4,9 @@ ghost use Rattle.qcow2_laws.specs.Clusters.{L2DependsOnRb};
 ghost use Rattle.qcow2_laws.specs.CrashInvariant.{Pending};
 ghost use Rattle.qcow2_alloc.specs.Allocation.{MayAllocate, AllocatesSomeRun, is_data, Allocates, SameLeaks};
 ghost use Rattle.qcow2_alloc.specs.FreeList.{pending_then};
-ghost use Rattle.qcow2_alloc.specs.Steps.{Fails, FileStep, AllocatesClusterSoundly, AllocatesRunSoundly, DataStep, AllocatesAtSoundly};
+ghost use Rattle.qcow2_alloc.specs.Steps.{AllocatorFails, Fails, FileStep, AllocatesClusterSoundly, AllocatesRunSoundly, DataStep, AllocatesAtSoundly};
 ghost use Rattle.qcow2_alloc.specs.Steps.{AllocatesSoundly, BeginsFrom, ReadsFile, AllocatesLowestSoundly};
-ghost use Rattle.qcow2_alloc.specs.ImageError.{IsOfReftableLoad, IsOfTables};
+ghost use Rattle.qcow2_alloc.specs.ImageError.{IsOfReftableLoad};
 ghost use Rattle.qcow2_alloc.specs.ImageFile.{view_in, contents_in, AllocatorInvariant};
 ghost use Rattle.qcow2_alloc.specs.LoadedTables.{IsReasonAgainstReftable, ReftableReads};
 ghost use Rattle.qcow2_alloc.specs.ImageStorage.{SameNotes};
@@ -119,7 +119,7 @@ impl Allocator {
             → AllocatesSoundly S.view p ClusterKind.Metadata count self.old file.old self.new file.new result }
         ensures nameable { IfOk result (λ p. IsHostCluster file.old.header.fields.cluster_bits p.first_cluster) }
         ensures elsewhere { IfOk result (λ p. 0 < p.first_cluster) }
-        ensures fails { Fails S.view file.old.storage file.new.storage result IsOfTables }
+        ensures fails { AllocatorFails S.view file.old self.new.reftable file.new result }
     {
         self.allocate(file, count, ClusterKind::Metadata)
     }
@@ -138,7 +138,7 @@ impl Allocator {
             → AllocatesSoundly S.view p ClusterKind.Data count self.old file.old self.new file.new result }
         ensures nameable { IfOk result (λ p. IsHostCluster file.old.header.fields.cluster_bits p.first_cluster) }
         ensures elsewhere { IfOk result (λ p. 0 < p.first_cluster) }
-        ensures fails { Fails S.view file.old.storage file.new.storage result IsOfTables }
+        ensures fails { AllocatorFails S.view file.old self.new.reftable file.new result }
     {
         file.caches.l2_depends_on_rb(&mut file.storage)?;
         self.allocate(file, count, ClusterKind::Data)
@@ -159,7 +159,7 @@ impl Allocator {
             → AllocatesAtSoundly S.view p cluster self.old file.old self.new file.new result }
         ensures nameable { IfOk result (λ run. IsSome run → IsHostCluster file.old.header.fields.cluster_bits cluster) }
         ensures elsewhere { IfOk result (λ run. IsSome run → 0 < cluster) }
-        ensures fails { Fails S.view file.old.storage file.new.storage result IsOfTables }
+        ensures fails { AllocatorFails S.view file.old self.new.reftable file.new result }
     {
         file.caches.l2_depends_on_rb(&mut file.storage)?;
         let at = cluster.value();
@@ -206,7 +206,7 @@ impl Allocator {
             (λ run. run.first_cluster) count self.old file.old self.new file.new result }
         ensures nameable { IfOk result (λ p. IsHostCluster file.old.header.fields.cluster_bits p.first_cluster) }
         ensures elsewhere { IfOk result (λ p. 0 < p.first_cluster) }
-        ensures fails { Fails S.view file.old.storage file.new.storage result IsOfTables }
+        ensures fails { AllocatorFails S.view file.old self.new.reftable file.new result }
         ensures leaks { (p : Pending) → AllocatorInvariant S.view self.old p file.old → SameLeaks self.old self.new }
     {
         let entry = ClustersToFreeEntry {
@@ -237,7 +237,7 @@ impl Allocator {
             (λ first. first) n self.old file.old self.new file.new result }
         ensures nameable { IfOk result (λ first. IsHostCluster file.old.header.fields.cluster_bits first) }
         ensures elsewhere { IfOk result (λ first. 0 < first) }
-        ensures fails { Fails S.view file.old.storage file.new.storage result IsOfTables }
+        ensures fails { AllocatorFails S.view file.old self.new.reftable file.new result }
         ensures leaks { (p : Pending) → AllocatorInvariant S.view self.old p file.old → SameLeaks self.old self.new }
     {
         self.skip_kept();
@@ -255,7 +255,7 @@ impl Allocator {
             (λ first. first) n self.old file.old self.new file.new result }
         ensures nameable { IfOk result (λ first. IsHostCluster file.old.header.fields.cluster_bits first) }
         ensures elsewhere { IfOk result (λ first. 0 < first) }
-        ensures fails { Fails S.view file.old.storage file.new.storage result IsOfTables }
+        ensures fails { AllocatorFails S.view file.old self.new.reftable file.new result }
         ensures leaks { (p : Pending) → AllocatorInvariant S.view self.old p file.old → SameLeaks self.old self.new }
     {
         let limit = (MAX_HOST_OFFSET >> file.header.cluster_bits()) + 1;
@@ -282,7 +282,7 @@ impl Allocator {
         requires near { first + n < 2 ^ 63 }
         requires above { 0 < first }
         ensures step { FileStep S.view self.old.reftable file.old self.new.reftable file.new }
-        ensures fails { Fails S.view file.old.storage file.new.storage result IsOfTables }
+        ensures fails { AllocatorFails S.view file.old self.new.reftable file.new result }
         ensures sound { (p : Pending) (is_data : Bool) → AllocatorInvariant S.view self.old p file.old
             → MayAllocate is_data file.old
             → AllocatesRunSoundly S.view p is_data self.old file.old self.new file.new first n result }
@@ -306,7 +306,7 @@ impl Allocator {
         requires near { first + n < 2 ^ 63 }
         requires above { 0 < first }
         ensures step { FileStep S.view self.old.reftable file.old self.new.reftable file.new }
-        ensures fails { Fails S.view file.old.storage file.new.storage result IsOfTables }
+        ensures fails { AllocatorFails S.view file.old self.new.reftable file.new result }
         ensures sound { (p : Pending) (is_data : Bool) → AllocatorInvariant S.view self.old p file.old
             → MayAllocate is_data file.old
             → AllocatesRunSoundly S.view p is_data self.old file.old self.new file.new first n result }
@@ -340,7 +340,7 @@ impl Allocator {
         requires near { cluster < 2 ^ 63 }
         requires above { 0 < cluster }
         ensures step { FileStep S.view self.old.reftable file.old self.new.reftable file.new }
-        ensures fails { Fails S.view file.old.storage file.new.storage result IsOfTables }
+        ensures fails { AllocatorFails S.view file.old self.new.reftable file.new result }
         ensures sound { (p : Pending) (is_data : Bool) → AllocatorInvariant S.view self.old p file.old
             → MayAllocate is_data file.old
             → AllocatesClusterSoundly S.view p is_data self.old file.old self.new file.new cluster result }

@@ -14,7 +14,7 @@ ghost use Rattle.qcow2_alloc.specs.MetadataCaches.{MapsCachedEntry, ZeroesEntry,
 ghost use Rattle.qcow2_alloc.specs.MetadataCaches.{RecordsHeld, ShowsKnown, EvictsTable};
 ghost use Rattle.qcow2_alloc.specs.CacheSteps.{CacheStep, TurnStep, KeepsSoundly, TablesGo, BlocksGo, FlushesL2, FlushesRb};
 ghost use Rattle.qcow2_alloc.specs.CacheSteps.{LoadStep, PutStep, HeldStep, GetsL2, GetsRb, PutsL2, PutsRb, PutsL2Soundly, PutsRbSoundly};
-ghost use Rattle.qcow2_alloc.specs.CacheSteps.{KeepsL2Written, KeepsBlocks, KeepsHeldBlocks, FlushesBlocks};
+ghost use Rattle.qcow2_alloc.specs.CacheSteps.{KeepsL2Written, KeepsBlocks, KeepsHeldBlocks, KeepsHeldTables, FlushesBlocks};
 ghost use Rattle.qcow2_alloc.specs.CacheSteps.{RemovesBlock, IncrementsSoundly, DecrementsSoundly, AreNewCaches};
 ghost use Rattle.qcow2_alloc.specs.CacheSteps.{MakesWayForL2, MakesWayForRb, SwitchesToRb, SwitchesToL2};
 ghost use Rattle.qcow2_alloc.specs.Steps.{Fails};
@@ -90,6 +90,7 @@ impl<S: Storage> MetadataCaches<S> {
         ensures sound { TablesGo self.old → KeepsSoundly S.view storage.old self.old storage.new self.new }
         ensures flushes { FlushesL2 S.view storage.old self.old storage.new self.new result }
         ensures free { (size c : ℕ) → IsFreeOf size (l2_tables self.old) c → IsFreeOf size (l2_tables self.new) c }
+        ensures held { KeepsHeldTables self.old self.new }
     {
         storage.watch_faults();
         if let Err(refusal) = self.l2.flush(storage) {
@@ -210,6 +211,7 @@ impl<S: Storage> MetadataCaches<S> {
         ensures sound { KeepsSoundly S.view storage.old self.old storage.new self.new }
         ensures way { MakesWayForRb S.view storage.old self.old storage.new self.new result }
         ensures free { (size c : ℕ) → IsFreeOf size (l2_tables self.old) c → IsFreeOf size (l2_tables self.new) c }
+        ensures held { KeepsHeldTables self.old self.new }
     {
         match self.direction {
             Direction::RbDependsOnL2 => self.write_tables(storage),
@@ -251,6 +253,7 @@ impl<S: Storage> MetadataCaches<S> {
         ensures sound { KeepsSoundly S.view storage.old self.old storage.new self.new }
         ensures gets { GetsRb S.view storage.old self.old storage.new self.new result cluster }
         ensures held { IsSome (rb_at self.old cluster) → KeepsBlocks storage.old self.old storage.new self.new }
+        ensures tables { KeepsHeldTables self.old self.new }
     {
         if self.rb.get_or_insert(storage, cluster, false)?? {
             return Ok(());
@@ -569,6 +572,7 @@ impl<S: Storage> MetadataCaches<S> {
         ensures refused { IsNone result → self.new ≡ self.old }
         ensures cached { IsSome result → IsSome (rb_at self.new cluster) }
         ensures missing { IsNone (rb_at self.old cluster) → IsNone result }
+        ensures apart { self.new.l2 ≡ self.old.l2 }
     {
         let left = self.rb.change(cluster, &Decrement { index })?;
         self.is_changed = true;

@@ -4,11 +4,10 @@ ghost use Rattle.qcow2_metadata.specs.Header.{counts_per_block};
 ghost use Rattle.qcow2_laws.specs.CrashInvariant.{Pending};
 ghost use Rattle.qcow2_alloc.specs.Allocation.{InternalAllocatorStep};
 ghost use Rattle.qcow2_alloc.specs.GrownTables.{with_run};
-ghost use Rattle.qcow2_alloc.specs.ImageError.{IsOfTables};
 ghost use Rattle.qcow2_alloc.specs.ImageFile.{AllocatorInvariant};
 ghost use Rattle.qcow2_alloc.specs.LowestRuns.{IsUsed, NoFreeBelowHint, SearchStays};
 ghost use Rattle.qcow2_alloc.specs.Rooms.{lacks, opens, IsReach, IsRoomBelow, AllocatesFree};
-ghost use Rattle.qcow2_alloc.specs.Steps.{Fails, TableStep, ReachesRoomSoundly, AllocatesRoomSoundly};
+ghost use Rattle.qcow2_alloc.specs.Steps.{AllocatorFails, TableStep, ReachesRoomSoundly, AllocatesRoomSoundly};
 ghost use Rattle.qcow2_alloc.specs.Steps.{LeavesSoundly};
 
 use crate::free_runs::range_around;
@@ -45,7 +44,7 @@ impl Allocator {
         requires few { clusters ≤ 2 ^ 32 }
         requires near { end ≤ 2 ^ 60 }
         ensures step { TableStep S.view self.old.reftable file.old self.new.reftable file.new }
-        ensures fails { Fails S.view file.old.storage file.new.storage result IsOfTables }
+        ensures fails { AllocatorFails S.view file.old self.new.reftable file.new result }
         ensures sound { (p : Pending) → AllocatorInvariant S.view self.old p file.old
             → AllocatesRoomSoundly S.view p clusters end self.old file.old self.new file.new result }
         ensures room { IfOk result (IsRoomBelow file.old.header.fields self.old.reftable clusters end file.new) }
@@ -71,7 +70,7 @@ impl Allocator {
         requires few { clusters ≤ 2 ^ 32 }
         requires near { end ≤ 2 ^ 60 }
         ensures step { TableStep S.view self.old.reftable file.old self.new.reftable file.new }
-        ensures fails { Fails S.view file.old.storage file.new.storage result IsOfTables }
+        ensures fails { AllocatorFails S.view file.old self.new.reftable file.new result }
         ensures sound { (p : Pending) → AllocatorInvariant S.view self.old p file.old
             → AllocatesRoomSoundly S.view p clusters end self.old file.old self.new file.new result }
         ensures room { IfOk result (IsRoomBelow file.old.header.fields self.old.reftable clusters end file.new) }
@@ -107,7 +106,7 @@ impl Allocator {
         requires few { clusters ≤ 2 ^ 32 }
         requires near { end ≤ 2 ^ 60 }
         ensures step { TableStep S.view self.old.reftable file.old self.new.reftable file.new }
-        ensures fails { Fails S.view file.old.storage file.new.storage result IsOfTables }
+        ensures fails { AllocatorFails S.view file.old self.new.reftable file.new result }
         ensures sound { (p : Pending) → AllocatorInvariant S.view self.old p file.old
             → ReachesRoomSoundly S.view p first clusters end self.old file.old self.new file.new result }
         ensures reach { IfOk result (IsReach file.old.header.fields self.old.reftable first clusters end file.new) }
@@ -144,7 +143,7 @@ impl Allocator {
             → AllocatesFree S.view p file.old self.new file.new self.old.reftable cluster result }
         ensures recorded { IfOk result (λ taken. IsTrue taken → lacks self.old.reftable (cluster / 2 ^ bits) ≡ false
             → IsTrue file.new.caches.is_changed) }
-        ensures fails { Fails S.view file.old.storage file.new.storage result IsOfTables }
+        ensures fails { AllocatorFails S.view file.old self.new.reftable file.new result }
         ensures used { (p : Pending) → AllocatorInvariant S.view self.old p file.old
             → NoFreeBelowHint S.view self.old file.old
             → IfOk result (λ taken. taken ≡ false → IsUsed S.view file.new cluster) }
@@ -182,7 +181,7 @@ impl Allocator {
             → InternalAllocatorStep S.view p start self.old file.old
             (with_run p start.header.fields self.old.reftable first n)
             → LeavesSoundly S.view p first n start self.old file.old self.new file.new result }
-        ensures fails { Fails S.view file.old.storage file.new.storage result IsOfTables }
+        ensures fails { AllocatorFails S.view file.old self.new.reftable file.new result }
     {
         let bits = file.header.rb_bits();
         'leaving: for cluster in first..first + n {

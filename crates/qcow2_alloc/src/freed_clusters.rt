@@ -10,9 +10,9 @@ ghost use Rattle.qcow2_alloc.specs.FreeSteps.{FreesListed};
 ghost use Rattle.qcow2_alloc.specs.Leaks.{LeaksOne, LeaksUnaligned, TriesToDecrement, DecrementsOrLeaks, FreesOff};
 ghost use Rattle.qcow2_alloc.specs.LowestRuns.{NoFreeBelowHint, KeepsNoFreeBelowHint, KeepsUsedBut};
 ghost use Rattle.qcow2_alloc.specs.LowestRuns.{IsPassed, SearchStays};
-ghost use Rattle.qcow2_alloc.specs.ImageError.{IsOfTables};
+ghost use Rattle.qcow2_alloc.specs.ImageError.{IsFault, IsFaultOrLimit};
 ghost use Rattle.qcow2_alloc.specs.ImageFile.{AllocatorInvariant};
-ghost use Rattle.qcow2_alloc.specs.Steps.{Fails, FreeStepInTurn, TableStep, GivesSoundly};
+ghost use Rattle.qcow2_alloc.specs.Steps.{AllocatorFails, Fails, FreeStepInTurn, TableStep, GivesSoundly};
 
 use crate::{Allocator, ClusterKind, ImageError, ImageFile, PendingClusters, TakenClusters};
 use image_access::Storage;
@@ -32,7 +32,7 @@ impl Allocator {
         ensures reftable { self.new.reftable ≡ self.old.reftable }
         ensures none { n ≡ 0 → IsOk result × (file.new ≡ file.old) }
         ensures sound { GivesBackRun S.view self.old file.old self.new file.new first n result }
-        ensures fails { Fails S.view file.old.storage file.new.storage result IsOfTables }
+        ensures fails { Fails S.view file.old.storage file.new.storage result IsFault }
         ensures leaks { (p : Pending) (is_data : Bool)
             → AllocatorInvariant S.view self.old (taken_as is_data p (run_at first n)) file.old
             → SameLeaks self.old self.new }
@@ -69,7 +69,7 @@ impl Allocator {
         ensures or_leaks { DecrementsOrLeaks file.old.header.fields self.old.reftable
             self.old file.old.caches self.new file.new.caches cluster result }
         ensures grows { self.old.leaked_clusters ≤ self.new.leaked_clusters }
-        ensures fails { Fails S.view file.old.storage file.new.storage result IsOfTables }
+        ensures fails { Fails S.view file.old.storage file.new.storage result IsFault }
         ensures unaligned { IsUnaligned file.old.header.fields self.old.reftable
             (cluster / counts_per_block file.old.header.fields) → IsOk result × LeaksOne self.old self.new
             × (file.new ≡ file.old) }
@@ -100,7 +100,7 @@ impl Allocator {
             (with_listed p file.new.free_list) result)
             self.old file.old self.new file.new result }
         ensures grows { self.old.leaked_clusters ≤ self.new.leaked_clusters }
-        ensures fails { Fails S.view file.old.storage file.new.storage result IsOfTables }
+        ensures fails { Fails S.view file.old.storage file.new.storage result IsFaultOrLimit }
         ensures unaligned { LeaksUnaligned file.old.header.fields self.old.reftable self.old self.new
             file.old.free_list file.new.free_list }
         ensures each { FreesOff file.old.header.fields self.old.reftable self.old file.old.caches file.old.free_list
@@ -223,7 +223,7 @@ impl Allocator {
         ensures sound { (p : Pending) (owed : Owed)
             → AllocatorInvariant S.view self.old (owed_as owed p (one_at cluster)) file.old → MayDecrement owed file.old
             → DecrementsOne S.view (owed_as owed p (one_at cluster)) file.old self.new file.new p result }
-        ensures fails { Fails S.view file.old.storage file.new.storage result IsOfTables }
+        ensures fails { AllocatorFails S.view file.old self.new.reftable file.new result }
         ensures hint { (p : Pending) (owed : Owed)
             → AllocatorInvariant S.view self.old (owed_as owed p (one_at cluster)) file.old → MayDecrement owed file.old
             → NoFreeBelowHint S.view self.old file.old → KeepsNoFreeBelowHint S.view self.new file.new result }

@@ -10,7 +10,7 @@ ghost use Rattle.qcow2_laws.specs.Caches.{AreClean, BlocksMayGo};
 ghost use Rattle.qcow2_laws.specs.CrashInvariant.{Pending};
 ghost use Rattle.qcow2_alloc.specs.Allocation.{run_at};
 ghost use Rattle.qcow2_alloc.specs.GrownTables.{with_run};
-ghost use Rattle.qcow2_alloc.specs.ImageError.{IsOfTables};
+ghost use Rattle.qcow2_alloc.specs.ImageError.{IsOfTablesIf};
 ghost use Rattle.qcow2_alloc.specs.ImageFile.{AllocatorInvariant};
 ghost use Rattle.qcow2_alloc.specs.ImageStorage.{is_changed_of};
 ghost use Rattle.qcow2_alloc.specs.CacheSteps.{HeldStep};
@@ -19,7 +19,7 @@ ghost use Rattle.qcow2_alloc.specs.Rooms.{room_length, placed_at, AreFree, Cache
 ghost use Rattle.qcow2_alloc.specs.Rooms.{FillsTable, HasDropped, InternalNewBlocks, IsRoomFor, PlacesBlocks, WritesTable};
 ghost use Rattle.qcow2_alloc.specs.TableCaches.{IsBlockOf};
 ghost use Rattle.qcow2_alloc.specs.declared.allocation.Allocator.{Allocator as AllocatorView};
-ghost use Rattle.qcow2_alloc.specs.Steps.{EntersRoom, Fails, NamesSoundly, PartStep, PointerStep, TableStep};
+ghost use Rattle.qcow2_alloc.specs.Steps.{AllocatorFails, EntersRoom, Fails, NamesSoundly, PartStep, PointerStep, TableStep};
 
 use crate::free_room::Room;
 use crate::{Allocator, ImageError, ImageFile, WriteKind};
@@ -45,7 +45,7 @@ fn run_block(
     ensures modified { IfOk result (λ block. block.is_modified ≡ true) }
     ensures counts { IfOk result (λ block. CountsRun header.now.fields block begin first (end - first)) }
     ensures memory { IfErr result (λ e. e ≡ ImageError.Memory) }
-    ensures cause { IfErr result IsOfTables }
+    ensures cause { IfErr result (IsOfTablesIf ⊥) }
 {
     let mut block = RefBlock::new_cleared(alloc, header)?;
     block.set_cluster(cluster);
@@ -63,7 +63,7 @@ fn cache_new_block<S: Storage>(file: &mut ImageFile<S>, block: RefBlock) -> Resu
     requires placed { IsSome block.cluster }
     requires elsewhere { IfSome block.cluster (λ at. 0 < at) }
     ensures step { (reftable : EntryTableView) → TableStep S.view reftable file.old reftable file.new }
-    ensures fails { Fails S.view file.old.storage file.new.storage result IsOfTables }
+    ensures fails { Fails S.view file.old.storage file.new.storage result (IsOfTablesIf ⊥) }
     ensures sound { (q : Pending) (allocator : AllocatorView) (old : ImageFile S) (first n at : ℕ)
         → InternalNewBlocks S.view q old allocator file.old first n → HavePlaces file.old.header.fields file.old.caches
         → block.cluster ≡ Some at → 0 < run_at first n at → HasPlace file.old.header.fields.cluster_bits at
@@ -112,7 +112,7 @@ pub(crate) fn place_table<S: Storage>(
         → length table.old.bytes ≡ clusters * cluster_size file.old.header.fields
         → WritesTable S.view (with_run p file.old.header.fields allocator.reftable first n) file.old allocator file.new
         cluster clusters table.old.bytes result }
-    ensures fails { Fails S.view file.old.storage file.new.storage result IsOfTables }
+    ensures fails { Fails S.view file.old.storage file.new.storage result (IsOfTablesIf ⊥) }
 {
     table.set_cluster(cluster);
     file.storage.set_write_kind(WriteKind::Other);
@@ -129,7 +129,7 @@ impl Allocator {
         range: u64,
     ) -> Result<(), ImageError>
         ensures step { TableStep S.view self.now.reftable file.old self.now.reftable file.new }
-        ensures fails { Fails S.view file.old.storage file.new.storage result IsOfTables }
+        ensures fails { AllocatorFails S.view file.old self.now.reftable file.new result }
         ensures sound { (q : Pending) (old : ImageFile S) (first n : ℕ)
             → InternalNewBlocks S.view q old self.now file.old first n
             → HavePlaces file.old.header.fields file.old.caches
@@ -155,7 +155,7 @@ impl Allocator {
     ) -> Result<(), ImageError>
         requires room { IsRoomFor file.old.header.fields self.now.reftable table.old room }
         ensures step { TableStep S.view self.now.reftable file.old self.now.reftable file.new }
-        ensures fails { Fails S.view file.old.storage file.new.storage result IsOfTables }
+        ensures fails { AllocatorFails S.view file.old self.now.reftable file.new result }
         ensures sound { (p : Pending) → AllocatorInvariant S.view self.now
             (with_run p file.old.header.fields self.now.reftable room.first (room_length room)) file.old
             → BlocksMayGo (order_of file.old.caches) (l2_tables file.old.caches)
@@ -199,7 +199,7 @@ impl Allocator {
     ) -> Result<(), ImageError>
         requires room { IsRoomFor file.old.header.fields self.now.reftable table.old room }
         ensures step { TableStep S.view self.now.reftable file.old self.now.reftable file.new }
-        ensures fails { Fails S.view file.old.storage file.new.storage result IsOfTables }
+        ensures fails { AllocatorFails S.view file.old self.now.reftable file.new result }
         ensures sound { (p : Pending) → AllocatorInvariant S.view self.now
             (with_run p file.old.header.fields self.now.reftable room.first (room_length room)) file.old
             → BlocksMayGo (order_of file.old.caches) (l2_tables file.old.caches)
@@ -223,7 +223,7 @@ impl Allocator {
         requires room { IsRoomFor file.old.header.fields self.old.reftable table room }
         requires some { 0 < room.clusters }
         ensures step { PointerStep S.view self.old.reftable file.old self.new.reftable file.new }
-        ensures fails { Fails S.view file.old.storage file.new.storage result IsOfTables }
+        ensures fails { AllocatorFails S.view file.old self.new.reftable file.new result }
         ensures sound { (p : Pending) → AllocatorInvariant S.view self.old
             (with_run p file.old.header.fields self.old.reftable room.first (room_length room)) file.old
             → IsLonger file.old.header.fields self.old.reftable table room.clusters

@@ -9,11 +9,11 @@ ghost use Rattle.qcow2_alloc.specs.KeptMarks.{KeepsMarks};
 ghost use Rattle.qcow2_alloc.specs.CachePins.{LeavesPinned};
 ghost use Rattle.qcow2_alloc.specs.SparedHeaders.{KeepBehindHeader};
 ghost use Rattle.qcow2_alloc.specs.Leaks.{LoadsBlocks};
-ghost use Rattle.qcow2_alloc.specs.Steps.{EnsuresSoundly, Fails, FindsBlock, GetsSoundly, TableStep, AllocatesGivenSoundly};
+ghost use Rattle.qcow2_alloc.specs.Steps.{AllocatorFails, EnsuresSoundly, Fails, FindsBlock, GetsSoundly, TableStep, AllocatesGivenSoundly};
 ghost use Rattle.qcow2_alloc.specs.Steps.{BlockStep, FileStep, RangeStep, ReachesSoundly};
 ghost use Rattle.qcow2_alloc.specs.LowestRuns.{NoFreeBelowHint, KeepsNoFreeBelowHint, SearchesAnew, SearchStays};
 ghost use Rattle.number_runs.specs.NumberRuns.{IsIn};
-ghost use Rattle.qcow2_alloc.specs.ImageError.{IsOfTables};
+ghost use Rattle.qcow2_alloc.specs.ImageError.{IsOfTablesIf};
 ghost use Rattle.qcow2_alloc.specs.ImageFile.{has_noted, AllocatorInvariant};
 ghost use Rattle.qcow2_alloc.specs.ImageStorage.{is_changed_of};
 ghost use Rattle.qcow2_laws.specs.Caches.{AreClean, BlocksMayGo};
@@ -36,7 +36,7 @@ fn new_block(alloc: Global, header: &Header, counts_itself: bool) -> Result<RefB
     ensures whole { IfOk result IsRefBlock }
     ensures counts { IfOk result (λ block. (i : ℕ) → count_at block i ≡ first_counts counts_itself i) }
     ensures memory { IfErr result (λ e. e ≡ ImageError.Memory) }
-    ensures cause { IfErr result IsOfTables }
+    ensures cause { IfErr result (IsOfTablesIf ⊥) }
 {
     let mut block = RefBlock::new_cleared(alloc, header)?;
     if counts_itself && block.counts() > 0 {
@@ -55,7 +55,7 @@ fn write_block<S: Storage>(
     requires placed { block.now.cluster ≡ Some cluster }
     requires elsewhere { 0 < cluster }
     ensures step { BlockStep S.view block.now.cluster_bits file.old file.new }
-    ensures fails { Fails S.view file.old.storage file.new.storage result IsOfTables }
+    ensures fails { Fails S.view file.old.storage file.new.storage result (IsOfTablesIf ⊥) }
     ensures sound { (p : Pending) (counts_itself : Bool) (allocator : Allocator) (range : ℕ)
         → AllocatorInvariant S.view allocator (placing counts_itself p cluster) file.old
         → HasPlaceFor counts_itself file.old.header.fields allocator.reftable range cluster
@@ -101,7 +101,7 @@ impl Allocator {
         range: u64,
     ) -> Result<Option<HostCluster>, ImageError>
         ensures step { TableStep S.view self.now.reftable file.old self.now.reftable file.new }
-        ensures fails { Fails S.view file.old.storage file.new.storage result IsOfTables }
+        ensures fails { AllocatorFails S.view file.old self.now.reftable file.new result }
         ensures finds { IfOk result (FindsBlock file.old.header.fields self.now.reftable file.new.caches range) }
         ensures sound { (p : Pending) → AllocatorInvariant S.view self.now p file.old
             → LoadsBlock S.view p file.old self.now file.new range result }
@@ -129,7 +129,7 @@ impl Allocator {
     ) -> Result<bool, ImageError>
         requires above { 0 < cluster }
         ensures step { TableStep S.view self.old.reftable file.old self.new.reftable file.new }
-        ensures fails { Fails S.view file.old.storage file.new.storage result IsOfTables }
+        ensures fails { AllocatorFails S.view file.old self.new.reftable file.new result }
         ensures sound { (p : Pending) (is_data : Bool) → AllocatorInvariant S.view self.old p file.old
             → MayAllocate is_data file.old
             → AllocatesGivenSoundly S.view p is_data self.old file.old self.new file.new cluster result }
@@ -159,7 +159,7 @@ impl Allocator {
         ensures step { FileStep S.view self.old.reftable file.old self.new.reftable file.new }
         ensures sound { (p : Pending) → AllocatorInvariant S.view self.old p file.old
             → ReachesSoundly S.view p cluster self.old file.old self.new file.new result }
-        ensures fails { Fails S.view file.old.storage file.new.storage result IsOfTables }
+        ensures fails { AllocatorFails S.view file.old self.new.reftable file.new result }
         ensures has { OnOk result (HasNone self.new.reftable (cluster / counts_per_block file.old.header.fields) → ⊥) }
         ensures named { cluster / counts_per_block file.old.header.fields < entry_count self.old.reftable
             → KeepsNamed self.old.reftable self.new.reftable }
@@ -190,7 +190,7 @@ impl Allocator {
     ) -> Result<(), ImageError>
         requires { cluster < 2 ^ 63 }
         ensures step { TableStep S.view self.old.reftable file.old self.new.reftable file.new }
-        ensures fails { Fails S.view file.old.storage file.new.storage result IsOfTables }
+        ensures fails { AllocatorFails S.view file.old self.new.reftable file.new result }
         ensures sound { (p : Pending) → AllocatorInvariant S.view self.old p file.old
             → EnsuresSoundly S.view p self.old file.old self.new file.new cluster result }
         ensures leaks { SameLeaks self.old self.new }
@@ -232,7 +232,7 @@ impl Allocator {
             self.old.reftable self.new.reftable }
         ensures sound { (p : Pending) → AllocatorInvariant S.view self.old p file.old
             → AllocatesLowest S.view p file.old self.new file.new result }
-        ensures fails { Fails S.view file.old.storage file.new.storage result IsOfTables }
+        ensures fails { AllocatorFails S.view file.old self.new.reftable file.new result }
         ensures leaks { SameLeaks self.old self.new }
         ensures hint { (p : Pending) → AllocatorInvariant S.view self.old p file.old
             → NoFreeBelowHint S.view self.old file.old → KeepsNoFreeBelowHint S.view self.new file.new result }
@@ -259,7 +259,7 @@ impl Allocator {
             self.old.reftable self.new.reftable }
         ensures sound { (p : Pending) → AllocatorInvariant S.view self.old p file.old
             → AllocatesLowest S.view p file.old self.new file.new result }
-        ensures fails { Fails S.view file.old.storage file.new.storage result IsOfTables }
+        ensures fails { AllocatorFails S.view file.old self.new.reftable file.new result }
         ensures leaks { SameLeaks self.old self.new }
         ensures hint { (p : Pending) → AllocatorInvariant S.view self.old p file.old
             → NoFreeBelowHint S.view self.old file.old → KeepsNoFreeBelowHint S.view self.new file.new result }
@@ -287,7 +287,7 @@ impl Allocator {
     ) -> Result<(), ImageError>
         requires { range * counts_per_block file.old.header.fields < 2 ^ 63 }
         ensures step { TableStep S.view self.old.reftable file.old self.new.reftable file.new }
-        ensures fails { Fails S.view file.old.storage file.new.storage result IsOfTables }
+        ensures fails { AllocatorFails S.view file.old self.new.reftable file.new result }
         ensures sound { (p : Pending) → AllocatorInvariant S.view self.old p file.old
             → GetsSoundly S.view p self.old file.old self.new file.new range result }
         ensures entries { KeepsEntries (λ k. k ≢ range) self.old.reftable self.new.reftable }
@@ -319,7 +319,7 @@ impl Allocator {
         requires place { CanName file.old.header.fields.cluster_bits self.old.reftable range at }
         requires block { IsBlockOf file.old.header.fields block × IsRefBlock block }
         ensures step { RangeStep S.view range self.old.reftable file.old self.new.reftable file.new }
-        ensures fails { Fails S.view file.old.storage file.new.storage result IsOfTables }
+        ensures fails { AllocatorFails S.view file.old self.new.reftable file.new result }
         ensures sound { (p : Pending) (counts_itself : Bool)
             → AllocatorInvariant S.view self.old (placing counts_itself p at) file.old
             → HasPlaceFor counts_itself file.old.header.fields self.old.reftable range at

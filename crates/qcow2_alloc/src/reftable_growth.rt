@@ -9,11 +9,11 @@ ghost use Rattle.qcow2_alloc.specs.ClustersToFree.{metadata_entry};
 ghost use Rattle.qcow2_alloc.specs.declared.clusters_to_free.ClusterKind.TheVariants.{Metadata};
 ghost use Rattle.qcow2_alloc.specs.FreeList.{IsRunOfTable};
 ghost use Rattle.qcow2_alloc.specs.Growing.{IsLongEnough, IsLeastLength, IsCloneOf};
-ghost use Rattle.qcow2_alloc.specs.ImageError.{IsOfTables};
+ghost use Rattle.qcow2_alloc.specs.ImageError.{IsOfTablesIf};
 ghost use Rattle.qcow2_alloc.specs.ImageFile.{AllocatorInvariant};
 ghost use Rattle.qcow2_alloc.specs.Limits.{IsFaultOr};
 ghost use Rattle.qcow2_alloc.specs.LowestRuns.{SearchStays};
-ghost use Rattle.qcow2_alloc.specs.Steps.{EntersSoundly, EntersTable, Fails, GrowsSoundly, GrowthStep, HasGrown};
+ghost use Rattle.qcow2_alloc.specs.Steps.{AllocatorFails, EntersSoundly, EntersTable, GrowsSoundly, GrowthStep, HasGrown};
 ghost use Rattle.qcow2_alloc.specs.Steps.{PointerStep};
 
 use crate::reftable_length::grown_length;
@@ -35,7 +35,7 @@ impl Allocator {
         index: usize,
     ) -> Result<(), ImageError>
         ensures step { GrowthStep S.view self.old.reftable file.old self.new.reftable file.new result }
-        ensures fails { Fails S.view file.old.storage file.new.storage result IsOfTables }
+        ensures fails { AllocatorFails S.view file.old self.new.reftable file.new result }
         ensures sound { (p : Pending) → AllocatorInvariant S.view self.old p file.old
             → GrowsSoundly S.view p index self.old file.old self.new file.new result }
         ensures grown { OnOk result
@@ -66,7 +66,7 @@ impl Allocator {
         ensures length { IfOk result (λ t. IsLeastLength (entry_count self.now.reftable) index
             (entries_per_cluster header.now.fields) (counts_per_block header.now.fields) (entry_count t)) }
         ensures entries { IfOk result (IsCloneOf self.now.reftable) }
-        ensures cause { IfErr result IsOfTables }
+        ensures cause { IfErr result (IsOfTablesIf ⊥) }
         ensures no_fault { IsErrOf result ImageError.Storage → ⊥ }
         ensures limit { IfErr result (IsFaultOr
             ((entries : ℕ) → entries ≤ 2 ^ 20
@@ -95,7 +95,7 @@ impl Allocator {
             self.now.reftable.cluster_bits))) }
         ensures kind { IfOk result (λ former. former.kind ≡ Metadata) }
         ensures is_table { IsRefTable self.now.reftable }
-        ensures cause { IfErr result IsOfTables }
+        ensures cause { IfErr result (IsOfTablesIf (self.now.reftable.cluster ≡ None)) }
         ensures of_table { IfOk result (IsRunOfTable self.now.reftable) }
         ensures no_fault { IsErrOf result ImageError.Storage → ⊥ }
         ensures placed { IsSome self.now.reftable.cluster → IfErr result (λ e. e ≡ ImageError.Memory) }
@@ -118,7 +118,7 @@ impl Allocator {
     ) -> Result<(), ImageError>
         requires some { 0 < entry_count table }
         ensures step { PointerStep S.view self.old.reftable file.old self.new.reftable file.new }
-        ensures fails { Fails S.view file.old.storage file.new.storage result IsOfTables }
+        ensures fails { AllocatorFails S.view file.old self.new.reftable file.new result }
         ensures sound { (p : Pending) → AllocatorInvariant S.view self.old p file.old
             → IsCloneOf self.old.reftable table → entry_count table % entries_per_cluster file.old.header.fields ≡ 0
             → EntersSoundly S.view p (entry_count table) self.old file.old self.new file.new result }

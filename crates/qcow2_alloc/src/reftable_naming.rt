@@ -2,10 +2,9 @@
 ghost use Rattle.std.specs.Prelude.{◌≡◌, ℕ, ◌+◌, OnOk, OnErr, IsTrue};
 ghost use Rattle.qcow2_laws.specs.CrashInvariant.{Pending};
 ghost use Rattle.qcow2_alloc.specs.GrownTables.{with_run, StandsBehind, StandsGrown};
-ghost use Rattle.qcow2_alloc.specs.ImageError.{IsOfTables};
 ghost use Rattle.qcow2_alloc.specs.ImageFile.{AllocatorInvariant};
 ghost use Rattle.qcow2_alloc.specs.ImageStorage.{is_changed_of};
-ghost use Rattle.qcow2_alloc.specs.Steps.{Fails, NamesSoundly, PointerStepTo};
+ghost use Rattle.qcow2_alloc.specs.Steps.{AllocatorFails, NamesSoundly, PointerStepTo};
 
 use crate::{Allocator, ImageError, ImageFile, WriteKind};
 use image_access::Storage;
@@ -21,7 +20,7 @@ impl Allocator {
         requires recorded { IsTrue (is_changed_of file.old.storage) }
         ensures step { PointerStepTo S.view (StandsBehind file.old.header.fields table)
             self.old.reftable file.old self.new.reftable file.new }
-        ensures fails { Fails S.view file.old.storage file.new.storage result IsOfTables }
+        ensures fails { AllocatorFails S.view file.old self.new.reftable file.new result }
         ensures sound { (p : Pending) (first blocks clusters : ℕ)
             → AllocatorInvariant S.view self.old
             (with_run p file.old.header.fields self.old.reftable first (blocks + clusters)) file.old

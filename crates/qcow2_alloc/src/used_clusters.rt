@@ -3,11 +3,10 @@ ghost use Rattle.std.specs.Prelude.{◌≡◌, ◌⊎◌, ℕ, ◌+◌, ◌-◌,
 ghost use Rattle.std.specs.Prelude.{IsTrue, IsFalse};
 ghost use Rattle.number_runs.specs.NumberRuns.{IsIn, Adds, NoneIn};
 ghost use Rattle.qcow2_laws.specs.CrashInvariant.{Pending};
-ghost use Rattle.qcow2_alloc.specs.ImageError.{IsOfTables};
 ghost use Rattle.qcow2_alloc.specs.ImageFile.{AllocatorInvariant};
 ghost use Rattle.qcow2_alloc.specs.LowestRuns.{IsCovered, NoFreeBelowHint, KeepsNoFreeBelowHint, KeepsRuns};
 ghost use Rattle.qcow2_alloc.specs.UsedCounts.{MovesOn, PassesKnown, StaysSound, SearchContinuesIn, AreFoundFree, IsFoundUsed, SparedStayOut, AddsFree};
-ghost use Rattle.qcow2_alloc.specs.Steps.{Fails, TableStep};
+ghost use Rattle.qcow2_alloc.specs.Steps.{AllocatorFails, TableStep};
 
 use crate::free_runs::range_around;
 use crate::{Allocator, ImageError, ImageFile, MetadataCaches};
@@ -27,7 +26,7 @@ impl Allocator {
         ensures moves { MovesOn self.old self.new cluster result }
         ensures sound { (p : Pending) → AllocatorInvariant S.view self.old p file.old
             → PassesKnown S.view p self.old file.old self.new file.new cluster result }
-        ensures fails { Fails S.view file.old.storage file.new.storage result IsOfTables }
+        ensures fails { AllocatorFails S.view file.old self.new.reftable file.new result }
         ensures behind { IfOk result (λ next. cluster ≤ next) }
         ensures far { IfOk result (SearchContinuesIn file.old.header.fields self.new file.new.caches cluster) }
         ensures hint { (p : Pending) → AllocatorInvariant S.view self.old p file.old
@@ -52,7 +51,7 @@ impl Allocator {
         ensures step { TableStep S.view self.now.reftable file.old self.now.reftable file.new }
         ensures sound { (p : Pending) → AllocatorInvariant S.view self.now p file.old
             → PassesKnown S.view p self.now file.old self.now file.new cluster result }
-        ensures fails { Fails S.view file.old.storage file.new.storage result IsOfTables }
+        ensures fails { AllocatorFails S.view file.old self.now.reftable file.new result }
         ensures behind { IfOk result (λ next. cluster ≤ next) }
         ensures far { IfOk result (SearchContinuesIn file.old.header.fields self.now file.new.caches cluster) }
     {
@@ -80,7 +79,7 @@ impl Allocator {
             ≡ record self.old { read = self.new.read; free = self.new.free; crowded = self.new.crowded } }
         ensures sound { (p : Pending) → AllocatorInvariant S.view self.old p file.old
             → StaysSound S.view p file.old self.new file.new result }
-        ensures fails { Fails S.view file.old.storage file.new.storage result IsOfTables }
+        ensures fails { AllocatorFails S.view file.old self.new.reftable file.new result }
         ensures hint { (p : Pending) → AllocatorInvariant S.view self.old p file.old
             → NoFreeBelowHint S.view self.old file.old → KeepsNoFreeBelowHint S.view self.new file.new result }
     {

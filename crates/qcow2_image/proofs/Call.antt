@@ -5,6 +5,7 @@ pub mod DataFiles
 pub mod Answers
 pub mod Answered
 pub mod FailingErrors
+pub mod KeptOffsets
 pub mod CacheErrors
 pub mod Marked
 pub mod Stepped

@@ -70,7 +70,7 @@ pub use Rattle.qcow2_image.proofs.Prepare.MissingL2Table.{fault_alone, named_pla
 pub use Rattle.qcow2_image.proofs.Prepare.NameablePlaces.{past_existing}
 pub use Rattle.qcow2_image.proofs.Prepare.NewL2Table.{holds, keeps_placed, keeps_put, keeps_stored, places_when, stands_ready, stands_there}
 pub use Rattle.qcow2_image.proofs.Prepare.NextCluster.{extended}
-pub use Rattle.qcow2_image.proofs.Prepare.PinnedL2Tables.{finds_freed, finds_owns, lies_below, pinned_exists, refused_exists, found_pins, heeds_refused, met_untaken, begun_own, heeds_begun, of_tables_untaken, whole_quotient, unpinned_begun, prepared_unpinned, unpinned_refused}
+pub use Rattle.qcow2_image.proofs.Prepare.PinnedL2Tables.{finds_freed, finds_owns, lies_below, pinned_exists, refused_exists, found_pins, heeds_refused, met_untaken, begun_own, heeds_begun, freed_untaken, whole_quotient, unpinned_begun, prepared_unpinned, unpinned_refused}
 pub use Rattle.qcow2_image.proofs.Prepare.RefusedAsPrepared.{taken_by}
 pub use Rattle.qcow2_image.proofs.Prepare.RestOfCluster.{IsNowPending, mapping_at, prepared_by, private_inside, readied, one_mapping}
 pub use Rattle.qcow2_image.proofs.Prepare.Unannounced.{copied_as, compressed_as, compressed_at}

@@ -40,5 +40,6 @@ pub mod ImageSteps
 pub mod SoundParts
 pub mod WriteSteps
 pub mod Storages
+pub mod UnalignedTables
 pub mod Invalidated
 pub mod SizeSteps

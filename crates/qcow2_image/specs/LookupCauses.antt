@@ -1,26 +1,23 @@
 -- Why lookups and reads are refused, whatever the image contains.
 use Rattle.std.specs.Prelude.{ℕ, ◌+◌, ◌-◌, ◌*◌, ◌/◌, ◌%◌, ◌^◌, ◌≡◌, ◌<◌, ◌≤◌, ◌⊎◌, Some, None}
 use Rattle.qcow2_metadata.specs.Header.{cluster_size}
-use Rattle.qcow2_metadata.specs.L2Mapping.{HasAlignedHost}
 use Rattle.qcow2_metadata.specs.L2Table.{L2TableView}
 use Rattle.qcow2_metadata.specs.declared.header.HeaderFields.{HeaderFields}
 use Rattle.qcow2_alloc.specs.CacheCauses.{MayFailLoadingL2}
 use Rattle.qcow2_alloc.specs.ImageError.{IsFault}
 use Rattle.qcow2_alloc.specs.MetadataCaches.{l2_at}
+use Rattle.qcow2_alloc.specs.declared.cache.MetadataCaches.{MetadataCaches}
 use Rattle.qcow2_alloc.specs.declared.error.ImageError.{ImageError}
 use Rattle.qcow2_alloc.specs.declared.error.ImageError.TheVariants as I
-use Rattle.qcow2_image.specs.Found.{further_by, mapping_of}
-use Rattle.qcow2_image.specs.HeldMappings.{IsCompressedInTables, named_place}
+use Rattle.qcow2_image.specs.Found.{further_by}
+use Rattle.qcow2_image.specs.HeldMappings.{IsCompressedInTables}
 use Rattle.qcow2_image.specs.MayFail.{IsSpecial}
 use Rattle.qcow2_image.specs.PinnedTables.{own_table}
+pub use Rattle.qcow2_image.specs.UnalignedTables.{IsTableUnaligned, IsUnalignedIn}
 use Rattle.qcow2_image.specs.Prepared.{guest_offset_of, offset_of, table_of}
 use Rattle.qcow2_image.specs.declared.image.Qcow2.{Qcow2}
 use Rattle.qcow2_image.specs.declared.mapping.MappingKind.{MappingKind}
 use Rattle.qcow2_image.specs.declared.prepared.Prepared.{Prepared}
-
--- The host offset of a guest cluster is not on a cluster, by an L2 table.
-abbrev pub IsUnalignedIn : L2TableView → ℕ → Type 0
-IsUnalignedIn table guest = ¬ HasAlignedHost table.cluster_bits (mapping_of table guest)
 
 -- So it is of the guest cluster, or of a later one that begins less than so many bytes after its end.
 abbrev pub HasUnalignedBehind : L2TableView → (guest max : ℕ) → Type 0
@@ -31,14 +28,14 @@ abbrev pub HasUnalignedFrom : HeaderFields → L2TableView → (offset n : ℕ) 
 HasUnalignedFrom h table offset n =
     IsUnalignedIn table (offset / cluster_size h) ⊎ ((k : ℕ) × (cluster_size h - offset % cluster_size h + k * 2 ^ table.cluster_bits < n) × IsUnalignedIn table (offset / cluster_size h + k + 1))
 
-module _ {S F : Type 0} (image : Qcow2 S F) (offset : ℕ) where
-  -- The offset of the L2 table is not on a cluster, by the L1 table in memory.
-  abbrev pub IsTableUnaligned : Type 0
-  IsTableUnaligned = ¬ (named_place image.file.header.fields image.l1_table offset % cluster_size image.file.header.fields ≡ 0)
+-- The L2 table in a cluster is cached, and has such an entry for the n bytes from an offset on.
+abbrev pub HasUnalignedAt : {S : Type 0} → HeaderFields → MetadataCaches S → (cluster offset n : ℕ) → Type 0
+HasUnalignedAt h caches cluster offset n = (table : L2TableView) × (l2_at caches cluster ≡ Some table) × HasUnalignedFrom h table offset n
 
+module _ {S F : Type 0} (image : Qcow2 S F) (offset : ℕ) where
   -- The L2 table of the offset is cached, and has such an entry for the n bytes.
   abbrev pub HasUnalignedEntry : ℕ → Type 0
-  HasUnalignedEntry n = (table : L2TableView) × (l2_at image.file.caches (own_table image offset) ≡ Some table) × HasUnalignedFrom image.file.header.fields table offset n
+  HasUnalignedEntry n = HasUnalignedAt image.file.header.fields image.file.caches (own_table image offset) offset n
 
   -- A lookup's kind: its host offset fits into 64 bits, and it is special only where the tables in memory have the guest cluster as compressed.
   pub record IsKindIn (kind : MappingKind) : Type 0 where

@@ -20,7 +20,7 @@ use Rattle.qcow2_image.specs.declared.mapping.MappingKind.TheVariants as Kind
 use Rattle.qcow2_image.specs.declared.prepared.Prepared.{Prepared}
 use Rattle.qcow2_image.specs.Found.{l1_index_of}
 use Rattle.qcow2_image.specs.Prepared.{offset_of, table_of}
-use Rattle.qcow2_image.specs.Refusals.{IsFaultOrLimit, MayFail}
+use Rattle.qcow2_image.specs.Refusals.{IsFaultOrLimit, MayFailOn}
 use Rattle.qcow2_image.specs.InternalSteps.{is_announced}
 
 -- Why a call that allocates is refused while no mapping is prepared: a fault; a limit; 7, if bytes of a compressed cluster would have to be copied; or 20, if an L1 entry past 64 bits would have to be written.
@@ -86,9 +86,9 @@ MayFailReading kind e = IsFault e ⊎ (((e ≡ I.Compressed) × IsSpecial kind) 
 abbrev pub MayFailWriting : ImageError → Type 0
 MayFailWriting e = IsFault e ⊎ (e ≡ I.Metadata)
 
--- Why bytes of this kind are not copied: as a call during its work; or 10, if they lie past the end.
-abbrev pub MayFailCopying : MappingKind → ImageError → Type 0
-MayFailCopying kind e = MayFail e ⊎ ((e ≡ I.OutdatedMapping) × (kind ≡ Kind.Eof))
+-- Why bytes of this kind are not copied: as a change during its work; or 10, if they lie past the end.
+abbrev pub MayFailCopying : {S F : Type 0} → Qcow2 S F → MappingKind → ImageError → Type 0
+MayFailCopying new kind e = MayFailOn new e ⊎ ((e ≡ I.OutdatedMapping) × (kind ≡ Kind.Eof))
 
 -- ---- lookups, reads and puts on a sound image, whatever is prepared
 

@@ -21,7 +21,7 @@ use Rattle.qcow2_disk.specs.Mappings.{IsPrepared}
 use Rattle.qcow2_laws.specs.Internal.{KeepsFormat}
 use Rattle.qcow2_alloc.specs.ImageFile.{contents_in, known_in}
 use Rattle.qcow2_alloc.specs.Limits.{IsPastLimits}
-use Rattle.qcow2_alloc.specs.MetadataCaches.{AreAllWritten}
+use Rattle.qcow2_alloc.specs.MetadataCaches.{AreAllWritten, l2_at}
 use Rattle.qcow2_alloc.specs.declared.clusters_to_free.ClusterKind.TheVariants as Kind
 use Rattle.qcow2_alloc.specs.declared.clusters_to_free.ClustersToFreeEntry.{ClustersToFreeEntry}
 use Rattle.qcow2_alloc.specs.declared.error.ImageError.{ImageError}
@@ -97,6 +97,7 @@ module _ {S F : Type 0} (view : S → StorageView) where
     pub changed : new.file.caches.is_changed ≡ old.file.caches.is_changed
     pub counted : new.file.caches.changes ≡ old.file.caches.changes
     pub written : AreAllWritten old.file.caches → AreAllWritten new.file.caches
+    pub held : (cluster : ℕ) → l2_at new.file.caches cluster ≡ l2_at old.file.caches cluster
 
   -- The mapping of a range of n bytes covers at least the rest of the first cluster, and no more than that or the range. If it is shorter than the range, there is a cause. If the first guest cluster keeps a host cluster, the mapping begins there.
   pub record Reaches (image : Qcow2 S F) (offset n : ℕ) (p : Prepared) : Type 0 where

@@ -74,6 +74,8 @@ pub record IsNewlyOpened {S F : Type 0} (before : StorageView) (writable : Bool)
   pub number_is : number_of image ≡ number
   pub works : is_failed image ≡ false
   pub writable_is : is_writable image ≡ writable
+  -- 128 L2 tables and 32 refblocks can be cached.
+  pub room : (image.file.caches.l2.size ≡ 128) × (image.file.caches.rb.size ≡ 32)
   pub unpinned : ¬ HasPinnedTable image
   pub unmodified : HoldsNothingModified image
   pub header_cluster : NamesTablesBehind image.file.header.fields → LiesBehindHeader image

@@ -3,10 +3,12 @@ use Rattle.std.specs.Prelude.{◌≡◌, ◌⊎◌, ℕ, ◌<◌, ◌+◌, ◌==
 use Rattle.std.specs.Option.{option_or}
 use Rattle.image_access.specs.declared.storage.PreallocateMode.{PreallocateMode}
 use Rattle.image_access.specs.declared.storage.PreallocateMode.TheVariants as Mode
+pub use Rattle.qcow2_alloc.specs.ImageError.{IsFaultOrLimit}
 use Rattle.qcow2_alloc.specs.ImageError.{IsFault}
 use Rattle.qcow2_alloc.specs.declared.error.ImageError.{ImageError}
 use Rattle.qcow2_alloc.specs.declared.error.ImageError.TheVariants as I
 use Rattle.qcow2_image.specs.declared.image.Qcow2.{Qcow2}
+use Rattle.qcow2_image.specs.UnalignedTables.{HasUnalignedOffset}
 use Rattle.qcow2_image.specs.Image.{HasNothingToFree, HasPinnedTable, has_noted_change, is_failed, is_writable, lacks_data_file, size_of, number_of}
 
 -- A refusal, if a test says so.
@@ -35,29 +37,33 @@ module _ {S F : Type 0} (image : Qcow2 S F) where
   abbrev pub refuses_mapping : ℕ → Option ImageError
   refuses_mapping number = option_or unusable (refuse_if (not (number == number_of image)) I.ForeignState)
 
--- The refusals that come during the work, after all checks: 4, 7, 8, 13, 14, 15, 19 and 20.
+-- The refusals that come during the work, after all checks: 4, if this holds, and 7, 8, 13, 14, 15, 19 and 20.
+abbrev pub MayFailIf : Type 0 → ImageError → Type 0
+MayFailIf unaligned I.ReadOnly = ⊥
+MayFailIf unaligned I.BeyondSize = ⊥
+MayFailIf unaligned I.Version = ⊥
+MayFailIf unaligned I.UnalignedTable = unaligned
+MayFailIf unaligned I.InvalidOption = ⊥
+MayFailIf unaligned I.Preallocation = ⊥
+MayFailIf unaligned I.Compressed = Unit {0}
+MayFailIf unaligned I.InUse = Unit {0}
+MayFailIf unaligned I.TablePrepared = ⊥
+MayFailIf unaligned I.OutdatedMapping = ⊥
+MayFailIf unaligned I.ForeignState = ⊥
+MayFailIf unaligned I.Dependency = ⊥
+MayFailIf unaligned I.Limit = Unit {0}
+MayFailIf unaligned I.Memory = Unit {0}
+MayFailIf unaligned I.Storage = Unit {0}
+MayFailIf unaligned I.Failed = ⊥
+MayFailIf unaligned I.MappingPrepared = ⊥
+MayFailIf unaligned (I.NotCompressed offset) = ⊥
+MayFailIf unaligned I.Metadata = Unit {0}
+MayFailIf unaligned I.Overflow = Unit {0}
+MayFailIf unaligned (I.StillInUse tables) = ⊥
+
+-- The same, with 4 for any cause.
 abbrev pub MayFail : ImageError → Type 0
-MayFail I.ReadOnly = ⊥
-MayFail I.BeyondSize = ⊥
-MayFail I.Version = ⊥
-MayFail I.UnalignedTable = Unit {0}
-MayFail I.InvalidOption = ⊥
-MayFail I.Preallocation = ⊥
-MayFail I.Compressed = Unit {0}
-MayFail I.InUse = Unit {0}
-MayFail I.TablePrepared = ⊥
-MayFail I.OutdatedMapping = ⊥
-MayFail I.ForeignState = ⊥
-MayFail I.Dependency = ⊥
-MayFail I.Limit = Unit {0}
-MayFail I.Memory = Unit {0}
-MayFail I.Storage = Unit {0}
-MayFail I.Failed = ⊥
-MayFail I.MappingPrepared = ⊥
-MayFail (I.NotCompressed offset) = ⊥
-MayFail I.Metadata = Unit {0}
-MayFail I.Overflow = Unit {0}
-MayFail (I.StillInUse tables) = ⊥
+MayFail = MayFailIf (Unit {0})
 
 -- The refusals of a read during its work: 4, 7, 8, 13, 14 and 15.
 abbrev pub MayFailToRead : ImageError → Type 0
@@ -84,9 +90,13 @@ MayFailToRead I.Overflow = ⊥
 MayFailToRead (I.StillInUse tables) = ⊥
 
 module _ {S F : Type 0} (new : Qcow2 S F) where
+  -- The refusals of a change during its work: 4 only if an offset is not on a cluster, by the tables in memory.
+  abbrev pub MayFailOn : ImageError → Type 0
+  MayFailOn = MayFailIf (HasUnalignedOffset new)
+
   -- The refusals of a prepare during its work: also 9, while an L2 table is pinned by another mapping.
   abbrev pub MayFailPreparing : ImageError → Type 0
-  MayFailPreparing e = MayFail e ⊎ ((e ≡ I.TablePrepared) × HasPinnedTable new)
+  MayFailPreparing e = MayFailOn e ⊎ ((e ≡ I.TablePrepared) × HasPinnedTable new)
 
   -- The refusals of growing a disk during the work: as of a prepare; or 3, if zero clusters are asked for below version 3.
   abbrev pub MayFailToGrow : PreallocateMode → ImageError → Type 0
@@ -96,10 +106,6 @@ module _ {S F : Type 0} (new : Qcow2 S F) where
 abbrev pub IsUnlimited : ImageError → Type 0
 IsUnlimited I.Limit = ⊥
 IsUnlimited e = Unit {0}
-
--- The refusal is a fault or a limit.
-abbrev pub IsFaultOrLimit : ImageError → Type 0
-IsFaultOrLimit e = IsFault e ⊎ (e ≡ I.Limit)
 
 -- What a refused prepare leaves: no cluster waits to be freed, except after a fault and after 9.
 abbrev pub FreesRefused : {S F : Type 0} → Qcow2 S F → ImageError → Type 0

@@ -6,7 +6,7 @@ use Rattle.image_access.specs.declared.storage.PreallocateMode.{PreallocateMode}
 use Rattle.qcow2_metadata.specs.EntryTable.{EntryTableView, entry_count}
 use Rattle.qcow2_metadata.specs.Header.{cluster_size, rounded_up}
 use Rattle.qcow2_laws.specs.CrashInvariant.{Pending}
-use Rattle.qcow2_alloc.specs.ImageError.{IsFault, IsOfTables}
+use Rattle.qcow2_alloc.specs.ImageError.{IsFault, IsFaultOrLimit}
 use Rattle.qcow2_alloc.specs.FreeList.{with_listed}
 use Rattle.qcow2_alloc.specs.ImageFile.{contents_in, known_in}
 use Rattle.qcow2_alloc.specs.declared.error.ImageError.{ImageError}
@@ -61,7 +61,7 @@ module _ {S F : Type 0} (view : S → StorageView) (backing : F → BackingView)
 
   -- A flush of an image that has not failed is refused only for a cause that reading and writing tables has. On a sound image a refusal is a fault.
   pub record FlushFails (old : Qcow2 S F) (result : Result (Unit {0}) ImageError) : Type 0 where
-    pub late : is_failed old ≡ false → IfErr result IsOfTables
+    pub late : is_failed old ≡ false → IfErr result IsFaultOrLimit
     pub fault : (out : List (Option Prepared)) → (abstract_of view backing old out).is_sound → IfErr result IsFault
 
   -- A growth. The size is the last write. If nothing refuses a resize, and the size is larger, each refusal has its cause in the image before the call; a limit (13) was passed at some state within it. The L1 table and the L2 tables are as the mode says.

@@ -18,7 +18,7 @@ use Rattle.qcow2_alloc.specs.ImageFile.{KeepsHeader, known_in}
 use Rattle.qcow2_alloc.specs.KeptMarks.{KeepsFileNotes}
 use Rattle.qcow2_alloc.specs.declared.error.ImageError.{ImageError}
 use Rattle.qcow2_alloc.specs.declared.error.ImageError.TheVariants.{Compressed, Failed, ForeignState, OutdatedMapping, ReadOnly, TablePrepared}
-use Rattle.qcow2_alloc.specs.ImageError.{IsFault, IsOfTables}
+use Rattle.qcow2_alloc.specs.ImageError.{IsFault, IsFaultOrLimit}
 use Rattle.qcow2_image.specs.Backings.{HasPinnedMapping}
 use Rattle.qcow2_image.specs.BehindHeader.{PreservesHeaderCluster}
 use Rattle.qcow2_image.specs.Calls.{reason_of}
@@ -359,7 +359,7 @@ module _ {S F : Type 0} (view : S → StorageView) (backing : F → BackingView)
     pub foreign : image_of p ≢ number_of old → (result ≡ Err (Kept ForeignState p)) × (new ≡ old)
     pub failed : image_of p ≡ number_of old → IsTrue (is_failed old) → (result ≡ Err (Kept Failed p)) × (new ≡ old)
     pub kept : IfErr result (IsHandedBackBy p)
-    pub late : image_of p ≡ number_of old → is_failed old ≡ false → IfErr result (λ r. IsOfTables (reason_of r))
+    pub late : image_of p ≡ number_of old → is_failed old ≡ false → IfErr result (λ r. IsFaultOrLimit (reason_of r))
 
   -- A committed mapping is copied data at its place. An existing one leaves the list of clusters to free the same.
   pub record CommitsSoundly (p : Prepared) (result : Result (Unit {0}) CommitRefused) : Type 0 where
@@ -402,7 +402,7 @@ module _ {S F : Type 0} (view : S → StorageView) (backing : F → BackingView)
 
   -- A guest cluster gets a mapping to a host offset, if it can have one.
   pub record SharesSoundly (p : Pending) (out : List (Option Prepared)) (host offset n : ℕ) (overwrite : Bool) (covered : L2Mapping) (result : Result (Option ClusterMapping) ImageError) : Type 0 where
-    pub clusters : ClusterMappingsAt view backing p old new out offset n overwrite covered host result
+    pub clusters : host % cluster_size old.file.header.fields ≡ 0 → ClusterMappingsAt view backing p old new out offset n overwrite covered host result
     pub may_fail : host % cluster_size old.file.header.fields ≡ 0 → IfErr result (MayFailAlone (IsCopiedCompressed old.file.header.fields covered offset n overwrite) ⊥)
     pub limit : IfLimit result (IsLimitedTaking view backing p 1 old out)
 

@@ -15,7 +15,7 @@ ghost use Rattle.qcow2_image.specs.CopyRange.{HasByte};
 ghost use Rattle.qcow2_image.specs.ImageInvariant.{ImageInvariant};
 ghost use Rattle.qcow2_image.specs.Found.{IsMappedAs};
 ghost use Rattle.qcow2_image.specs.declared.prepared.Prepared.{Prepared};
-ghost use Rattle.qcow2_image.specs.Refusals.{MayFail};
+ghost use Rattle.qcow2_image.specs.Refusals.{MayFailOn};
 ghost use Rattle.qcow2_metadata.specs.L2Mapping.{IsHostCluster, IsInReach, greatest_offset};
 ghost use Rattle.qcow2_metadata.specs.Cover.{cover};
 ghost use Rattle.qcow2_metadata.specs.Header.{cluster_size};
@@ -26,7 +26,7 @@ use image_access::{Storage, WrappedFormat};
 use qcow2_alloc::{ImageError, WriteKind};
 use qcow2_metadata::{GuestOffset, HostCluster, L2Mapping};
 
-#[tactic(auto, using(crate::proofs::Call::FailingErrors::tables_met, crate::proofs::Call::FailingErrors::storage_met, crate::proofs::Call::FailingErrors::reading_copied, crate::proofs::Call::FailingErrors::writing_met))]
+#[tactic(auto, using(crate::proofs::Call::FailingErrors::tables_met, crate::proofs::Call::FailingErrors::fault_met, crate::proofs::Call::FailingErrors::storage_met, crate::proofs::Call::FailingErrors::reading_copied, crate::proofs::Call::FailingErrors::writing_met))]
 impl<S: Storage, F: WrappedFormat<S>> Qcow2<S, F> {
     // Fills the new cluster of an offset with what its old mapping shows, except where the caller promised to overwrite.
     pub(crate) fn fill_cluster(
@@ -40,7 +40,7 @@ impl<S: Storage, F: WrappedFormat<S>> Qcow2<S, F> {
         requires nameable { IsHostCluster self.old.file.header.fields.cluster_bits cluster }
         requires reach { IsInReach old.now }
         ensures step { FillingStep S.view self.old self.new }
-        ensures fails { FailsUnlimited S.view F.backing self.old self.new result MayFail }
+        ensures fails { FailsUnlimited S.view F.backing self.old self.new result (MayFailOn self.new) }
         ensures may_fail { 0 < cluster → IfErr result
             (λ e. IsFault e ⊎ ((e ≡ ImageError.Compressed)
             × IsCopiedCompressed self.old.file.header.fields old.now offset length overwrite)) }
@@ -69,7 +69,7 @@ impl<S: Storage, F: WrappedFormat<S>> Qcow2<S, F> {
     ) -> Result<(), ImageError>
         requires reach { host ≤ greatest_offset }
         ensures step { ImageStep S.view self.old self.new }
-        ensures fails { FailsUnlimited S.view F.backing self.old self.new result MayFail }
+        ensures fails { FailsUnlimited S.view F.backing self.old self.new result (MayFailOn self.new) }
         ensures fault { cluster_size self.old.file.header.fields ≤ host → IfErr result IsFault }
         ensures rest { self.new ≡ record self.old {
           file = record self.old.file { storage = self.new.file.storage };
@@ -116,7 +116,7 @@ impl<S: Storage, F: WrappedFormat<S>> Qcow2<S, F> {
         length: u64,
     ) -> Result<(), ImageError>
         ensures step { FillingStep S.view self.old self.new }
-        ensures fails { FailsUnlimited S.view F.backing self.old self.new result (MayFailCopying kind.now) }
+        ensures fails { FailsUnlimited S.view F.backing self.old self.new result (MayFailCopying self.new kind.now) }
         ensures may_fail { cluster_size self.old.file.header.fields ≤ at → IfErr result (MayFailReading kind.now) }
         ensures image_step { (p : Pending) (out : List (Option Prepared)) (cluster : ℕ)
             → ImageInvariant S.view F.backing p self.old out → HoldsAll S.view F.backing p out
@@ -139,7 +139,7 @@ impl<S: Storage, F: WrappedFormat<S>> Qcow2<S, F> {
     // refused 19 (metadata).
     fn write_zeros(&mut self, at: u64, length: u64) -> Result<(), ImageError>
         ensures step { ImageStep S.view self.old self.new }
-        ensures fails { FailsUnlimited S.view F.backing self.old self.new result MayFail }
+        ensures fails { FailsUnlimited S.view F.backing self.old self.new result (MayFailOn self.new) }
         ensures puts { WritesData S.view self.old self.new at (replicate length 0)
             (λ b. zeroed b at length) result }
     {
@@ -155,7 +155,7 @@ impl<S: Storage, F: WrappedFormat<S>> Qcow2<S, F> {
     // Writes zeros as data to the image's own file. A place in cluster 0, which no entry has, is refused 19 (metadata).
     fn write_own_zeros(&mut self, at: u64, length: u64) -> Result<(), ImageError>
         ensures step { ImageStep S.view self.old self.new }
-        ensures fails { FailsUnlimited S.view F.backing self.old self.new result MayFail }
+        ensures fails { FailsUnlimited S.view F.backing self.old self.new result (MayFailOn self.new) }
         ensures puts { WritesOwnData S.view self.old self.new at (replicate length 0) result }
     {
         if at < self.file.header.cluster_size() {

@@ -18,7 +18,7 @@ ghost use Rattle.qcow2_image.specs.L1Entries.{HasOwnTable};
 ghost use Rattle.qcow2_image.specs.PinnedTables.{RespectsPins};
 ghost use Rattle.qcow2_image.specs.Image.{ImageStays, is_placed_by_guest, is_writable, size_of};
 ghost use Rattle.qcow2_image.specs.ImageInvariant.{ImageInvariant, pending_in, listed_run};
-ghost use Rattle.qcow2_image.specs.Refusals.{FreesRefused, MayFail, MayFailPreparing, passes as passes_size};
+ghost use Rattle.qcow2_image.specs.Refusals.{FreesRefused, MayFailOn, MayFailPreparing, passes as passes_size};
 ghost use Rattle.qcow2_image.specs.ClearingCalls.{ClearsInTable, ClearsStep, ClearsSoundly};
 ghost use Rattle.qcow2_image.specs.ClearingCalls.{FailsToClear};
 ghost use Rattle.qcow2_image.specs.Clearing.{ClearsEntry, ClearsTable, IsClearable, ReadsAll, ReadsDropped};
@@ -88,13 +88,12 @@ pub(crate) fn rounded_up(offset: u64, size: u64) -> Option<u64>
 }
 
 // Adds a run of data clusters at the end of a list.
-#[tactic(auto, using(crate::proofs::Call::FailingErrors::tables_met, crate::proofs::Clear::Touched::nothing_more))]
+#[tactic(auto, using(crate::proofs::Call::FailingErrors::tables_met, crate::proofs::Call::FailingErrors::fault_met, crate::proofs::Clear::Touched::nothing_more))]
 fn list_run(
     alloc: Global,
     list: &mut ClustersToFreeList,
     run: Option<(HostCluster, ClusterCount)>,
 ) -> Result<(), ImageError>
-    ensures cause { IfErr result MayFail }
     ensures fault { IfErr result IsFault }
     ensures listed { OnOk result (list.new ≡ list.old ++ listed_run run) }
     ensures faults { IfErr result IsNotOfStorage }
@@ -105,7 +104,7 @@ fn list_run(
     Ok(())
 }
 
-#[tactic(auto, using(crate::proofs::Call::FailingErrors::tables_met, crate::proofs::Call::FailingErrors::storage_met, crate::proofs::Call::FailingErrors::unaligned_met))]
+#[tactic(auto, using(crate::proofs::Call::FailingErrors::tables_met, crate::proofs::Call::FailingErrors::fault_met, crate::proofs::Call::FailingErrors::storage_met))]
 impl<S: Storage, F: WrappedFormat<S>> Qcow2<S, F> {
     /// Discards the whole clusters of a range, in bytes, so that the backing disk shows there. Returns where the first whole cluster begins,
     /// and how many bytes of the range were cleared: within one L2 table, and 0 if no cluster is whole. The disk's last cluster counts as
@@ -317,7 +316,7 @@ impl<S: Storage, F: WrappedFormat<S>> Qcow2<S, F> {
         how: ClearMode,
     ) -> Result<ClustersToFreeList, ImageError>
         requires near { first + count < 2 ^ 64 }
-        ensures cause { IfErr result MayFail }
+        ensures cause { IfErr result (MayFailOn self.now) }
         ensures only_faults { (p : Pending) (i : ℕ) → FileInvariant S.view p self.now.file
             → self.now.file.header.fields.incompatible ≡ 0
             → IsEntryAt self.now.file.header.fields (known_in S.view self.now.file) i table
@@ -345,7 +344,7 @@ impl<S: Storage, F: WrappedFormat<S>> Qcow2<S, F> {
         cluster: GuestCluster,
         how: ClearMode,
     ) -> Result<(), ImageError>
-        ensures cause { IfErr result MayFail }
+        ensures cause { IfErr result (MayFailOn self.now) }
         ensures only_faults { (p : Pending) (i : ℕ) → FileInvariant S.view p self.now.file
             → self.now.file.header.fields.incompatible ≡ 0
             → IsEntryAt self.now.file.header.fields (known_in S.view self.now.file) i table

@@ -73,7 +73,7 @@ fn lacks_another(missing: Missing, header: &Header) -> bool
     }
 }
 
-#[tactic(auto, using(crate::proofs::Call::FailingErrors::tables_met, crate::proofs::Call::FailingErrors::storage_met, crate::proofs::Call::FailingErrors::memory_met, crate::proofs::Call::FailingErrors::length_met, crate::proofs::Call::FailingErrors::reftable_met))]
+#[tactic(auto, using(crate::proofs::Call::FailingErrors::tables_met, crate::proofs::Call::FailingErrors::fault_met, crate::proofs::Call::FailingErrors::storage_met, crate::proofs::Call::FailingErrors::memory_met, crate::proofs::Call::FailingErrors::length_met, crate::proofs::Call::FailingErrors::reftable_met))]
 impl<S: Storage, F: WrappedFormat<S>> Qcow2<S, F> {
     ghost use Rattle.std.specs.Prelude.{◌≡◌, ◌≤◌, [], IfOk, IfErr, OnOk, IsTrue, MatchOption, MatchResult, true, Ok, Err, Some, None, false, nat_le, option_map, if◌then◌else◌, List, Option};
     ghost use Rattle.std.specs.String.{string_bytes};
@@ -89,13 +89,14 @@ impl<S: Storage, F: WrappedFormat<S>> Qcow2<S, F> {
     ghost use Rattle.qcow2_laws.specs.CrashInvariant.{Pending};
     ghost use Rattle.qcow2_image.specs.ImageInvariant.{abstract_of, pending_in, ImageInvariant, HasL1Table};
     ghost use Rattle.qcow2_image.specs.CallParts.{EndsFreeing};
-    ghost use Rattle.qcow2_alloc.specs.ImageError.{IsFault, IsOfTables};
+    ghost use Rattle.qcow2_alloc.specs.ImageError.{IsFault, IsFaultOrLimit};
     ghost use Rattle.qcow2_image.specs.Calls.{FlushesImage};
     ghost use Rattle.qcow2_image.specs.SizeSteps.{FlushFails, WritesTables};
     ghost use Rattle.qcow2_alloc.specs.ImageFile.{contents_in, known_in, view_in};
     ghost use Rattle.qcow2_image.specs.InternalSteps.{InternalStep, FreesListed};
     ghost use Rattle.qcow2_alloc.specs.FreeList.{with_listed};
     ghost use Rattle.qcow2_alloc.specs.ImageStorage.{storage_of, SameNotes};
+    ghost use Rattle.qcow2_image.specs.UnalignedTables.{KeepsOffsets};
     ghost use Rattle.qcow2_image.specs.Refusals.{unusable, MayFail, MarksFailed, MarksRefused};
     ghost use Rattle.image_access.specs.Moments.{ContentsStay, EachMomentSince, IsLeftBy};
     ghost use Rattle.qcow2_metadata.specs.Bytes.{byte_at};
@@ -449,7 +450,7 @@ impl<S: Storage, F: WrappedFormat<S>> Qcow2<S, F> {
     // Frees the clusters that wait to be freed, writes the cached tables, and flushes the storage, then the data file.
     fn write_back(&mut self) -> Result<(), ImageError>
         ensures step { ImageStep S.view self.old self.new }
-        ensures fails { ImageFails S.view F.backing self.old self.new result IsOfTables }
+        ensures fails { ImageFails S.view F.backing self.old self.new result IsFaultOrLimit }
         ensures tables { WritesTables S.view F.backing self.old self.new result }
     {
         self.flush_image()?;
@@ -457,10 +458,10 @@ impl<S: Storage, F: WrappedFormat<S>> Qcow2<S, F> {
     }
 
     // Frees the clusters that wait to be freed, writes the cached tables, and flushes the image's own storage.
-    #[tactic(auto, using(crate::proofs::Call::FailingErrors::storage_of_tables, crate::proofs::Call::CacheErrors::fault_or_tables))]
+    #[tactic(auto, using(crate::proofs::Call::FailingErrors::storage_or_limit, crate::proofs::Call::FailingErrors::fault_or_limit))]
     fn flush_image(&mut self) -> Result<(), ImageError>
         ensures step { ImageStep S.view self.old self.new }
-        ensures fails { ImageFails S.view F.backing self.old self.new result IsOfTables }
+        ensures fails { ImageFails S.view F.backing self.old self.new result IsFaultOrLimit }
         ensures tables { WritesTables S.view F.backing self.old self.new result }
     {
         self.process_free_list()?;
@@ -473,8 +474,8 @@ impl<S: Storage, F: WrappedFormat<S>> Qcow2<S, F> {
     pub(crate) fn process_free_list(&mut self) -> Result<(), ImageError>
         ensures step { ImageStep S.view self.old self.new }
         ensures keeps_rest { KeepsRest self.old self.new }
-        ensures table { self.new.l1_table ≡ self.old.l1_table }
-        ensures cause { IfErr result IsOfTables }
+        ensures offsets { KeepsOffsets self.old self.new }
+        ensures cause { IfErr result IsFaultOrLimit }
         ensures emptied { IsTrue (is_writable self.old) → OnOk result (HasNothingToFree self.new) }
         ensures frees { (p : Pending) (out : List (Option Prepared))
             → ImageInvariant S.view F.backing (with_listed p self.old.file.free_list) self.old out
@@ -497,7 +498,7 @@ impl<S: Storage, F: WrappedFormat<S>> Qcow2<S, F> {
 
     // Frees the clusters on the list, at the end of a call that changed an entry. Does nothing if the list is empty.
     pub(crate) fn process_free_list_at_end(&mut self) -> Result<(), ImageError>
-        ensures fails { ImageFails S.view F.backing self.old self.new result IsOfTables }
+        ensures fails { ImageFails S.view F.backing self.old self.new result IsFaultOrLimit }
         ensures image { IsSameImage self.old self.new }
         ensures notes { KeepsFileNotes S.view self.old.file self.new.file }
         ensures header_cluster { PreservesHeaderCluster S.view self.old self.new }

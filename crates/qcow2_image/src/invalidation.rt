@@ -43,7 +43,7 @@ fn copy_table_pointers(header: &mut Header, other: &Header)
     }
 }
 
-#[tactic(auto, using(crate::proofs::Call::FailingErrors::tables_met, crate::proofs::Call::FailingErrors::storage_met, crate::proofs::Call::FailingErrors::reftable_met, crate::proofs::Call::FailingErrors::header_anew, crate::proofs::Call::FailingErrors::prepared_anew))]
+#[tactic(auto, using(crate::proofs::Call::FailingErrors::tables_met, crate::proofs::Call::FailingErrors::fault_met, crate::proofs::Call::FailingErrors::storage_met, crate::proofs::Call::FailingErrors::reftable_met, crate::proofs::Call::FailingErrors::header_anew, crate::proofs::Call::FailingErrors::prepared_anew))]
 impl<S: Storage, F: WrappedFormat<S>> Qcow2<S, F> {
     /// Drops everything that is cached, unwritten, and reads the pointers to the tables, the L1 table and the reftable again:
     /// for an image that another program wrote to. Call `flush` before, with no mapping prepared: everything that is not flushed is

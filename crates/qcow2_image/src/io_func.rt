@@ -36,7 +36,7 @@ use crate::{Mapping, MappingKind, Prepared, Qcow2};
 use image_access::{Storage, WrappedFormat};
 use qcow2_alloc::{ImageError, WriteKind};
 
-#[tactic(auto, using(crate::proofs::Call::FailingErrors::tables_met, crate::proofs::Call::FailingErrors::storage_met, crate::proofs::Call::FailingErrors::tables_read, crate::proofs::Call::FailingErrors::storage_read, crate::proofs::Call::FailingErrors::read_met))]
+#[tactic(auto, using(crate::proofs::Call::FailingErrors::tables_met, crate::proofs::Call::FailingErrors::fault_met, crate::proofs::Call::FailingErrors::storage_met, crate::proofs::Call::FailingErrors::tables_read, crate::proofs::Call::FailingErrors::storage_read, crate::proofs::Call::FailingErrors::read_met))]
 impl<S: Storage, F: WrappedFormat<S>> Qcow2<S, F> {
     /// Refuses a range that can't be read, in this order: 16 (failed), 12 (dependency), 2 (beyond size). Refusal 2 is for a range of at least one
     /// byte that ends past the disk's size. Nothing is read.
@@ -150,7 +150,7 @@ impl<S: Storage, F: WrappedFormat<S>> Qcow2<S, F> {
     }
 
     // Reads bytes of a range with this mapping.
-    #[tactic(auto, using(crate::proofs::Call::FailingErrors::tables_met, crate::proofs::Call::FailingErrors::storage_met, crate::proofs::Call::FailingErrors::tables_read, crate::proofs::Call::FailingErrors::storage_read, crate::proofs::Call::FailingErrors::read_met, crate::proofs::Call::Unlimited::storage_unlimited))]
+    #[tactic(auto, using(crate::proofs::Call::FailingErrors::tables_met, crate::proofs::Call::FailingErrors::fault_met, crate::proofs::Call::FailingErrors::storage_met, crate::proofs::Call::FailingErrors::tables_read, crate::proofs::Call::FailingErrors::storage_read, crate::proofs::Call::FailingErrors::read_met, crate::proofs::Call::Unlimited::storage_unlimited))]
     pub(crate) fn read_as(
         &mut self,
         offset: u64,
@@ -186,7 +186,7 @@ impl<S: Storage, F: WrappedFormat<S>> Qcow2<S, F> {
         }
     }
 
-    #[tactic(auto, using(crate::proofs::Call::FailingErrors::tables_met, crate::proofs::Call::FailingErrors::storage_met, crate::proofs::Call::FailingErrors::tables_read, crate::proofs::Call::FailingErrors::storage_read, crate::proofs::Call::FailingErrors::read_met, crate::proofs::Call::Unlimited::storage_unlimited))]
+    #[tactic(auto, using(crate::proofs::Call::FailingErrors::tables_met, crate::proofs::Call::FailingErrors::fault_met, crate::proofs::Call::FailingErrors::storage_met, crate::proofs::Call::FailingErrors::tables_read, crate::proofs::Call::FailingErrors::storage_read, crate::proofs::Call::FailingErrors::read_met, crate::proofs::Call::Unlimited::storage_unlimited))]
     pub(crate) fn read_backing(&mut self, offset: u64, bytes: &mut [u8]) -> Result<(), ImageError>
         ensures step { ImageStep S.view self.old self.new }
         ensures fails { FailsUnlimited S.view F.backing self.old self.new result MayFailToRead }

@@ -20,7 +20,7 @@ ghost use Rattle.qcow2_image.specs.LongerTables.{run_of_table, listed, with_tabl
 ghost use Rattle.qcow2_image.specs.LongerTables.{PlacesTable, NamesTable, NamesTaken, Lengthens};
 ghost use Rattle.qcow2_image.specs.LongerTables.{MakesEntry};
 ghost use Rattle.qcow2_alloc.specs.declared.error.ImageError.TheVariants.{Limit};
-ghost use Rattle.qcow2_image.specs.Refusals.{IsFaultOrLimit, MayFail};
+ghost use Rattle.qcow2_image.specs.Refusals.{IsFaultOrLimit, MayFailOn};
 ghost use Rattle.qcow2_image.specs.InternalSteps.{ListGrows};
 ghost use Rattle.qcow2_image.specs.Faults.{CountsImageFaults, IsNotOfStorage};
 
@@ -31,14 +31,14 @@ use qcow2_alloc::{
 };
 use qcow2_metadata::{GuestOffset, HostCluster, L1Table, MAX_L1_ENTRIES};
 
-#[tactic(auto, using(crate::proofs::Call::FailingErrors::tables_met, crate::proofs::Call::FailingErrors::storage_met, crate::proofs::Call::FailingErrors::memory_met, crate::proofs::Call::FailingErrors::length_met))]
+#[tactic(auto, using(crate::proofs::Call::FailingErrors::tables_met, crate::proofs::Call::FailingErrors::fault_met, crate::proofs::Call::FailingErrors::storage_met, crate::proofs::Call::FailingErrors::memory_met, crate::proofs::Call::FailingErrors::length_met))]
 impl<S: Storage, F: WrappedFormat<S>> Qcow2<S, F> {
     // Makes sure that there is an L1 entry for an offset. An L1 table that is too short is replaced by a longer one, and
     // then the clusters on the list are freed.
     pub(crate) fn ensure_l1_entry(&mut self, offset: u64) -> Result<(), ImageError>
         requires writable { IsTrue (is_writable self.old) }
         ensures step { ImageStep S.view self.old self.new }
-        ensures fails { ImageFails S.view F.backing self.old self.new result MayFail }
+        ensures fails { ImageFails S.view F.backing self.old self.new result (MayFailOn self.new) }
         ensures sound { (out : List (Option Prepared))
             → ImageInvariant S.view F.backing (pending_in S.view F.backing self.old out) self.old out
             → EntrySoundly S.view F.backing offset self.old self.new out result
@@ -65,7 +65,7 @@ impl<S: Storage, F: WrappedFormat<S>> Qcow2<S, F> {
     pub(crate) fn grow_l1_table(&mut self, index: usize) -> Result<(), ImageError>
         ensures step { ImageStep S.view self.old self.new }
         ensures recorded { OnOk result (IsTrue self.new.file.caches.is_changed) }
-        ensures cause { IsTrue (is_writable self.old) → IfErr result MayFail }
+        ensures cause { IsTrue (is_writable self.old) → IfErr result (MayFailOn self.new) }
         ensures limit { (p : Pending) (out : List (Option Prepared)) → ImageInvariant S.view F.backing p self.old out
             → (offset : ℕ) → index ≡ l1_index_of self.old.file.header.fields offset
             → IfLimit result (IsLimitedInternal S.view F.backing p (offset + 1) self.old out) }
@@ -100,7 +100,7 @@ impl<S: Storage, F: WrappedFormat<S>> Qcow2<S, F> {
 
     // Memory for an entry of the list of clusters to free, with the clusters of the L1 table.
     fn former_l1_table(&self) -> Result<Option<PendingClusters>, ImageError>
-        ensures cause { IfErr result MayFail }
+        ensures cause { IfErr result (MayFailOn self.now) }
         ensures fault { IfErr result IsFault }
         ensures run { IfOk result (λ former. former ≡ run_of_table self.now.l1_table self.now.l1_table.cluster) }
         ensures faults { IfErr result IsNotOfStorage }
@@ -117,7 +117,7 @@ impl<S: Storage, F: WrappedFormat<S>> Qcow2<S, F> {
     fn enter_l1_table(&mut self, table: L1Table) -> Result<(), ImageError>
         ensures recorded { OnOk result (IsTrue self.new.file.caches.is_changed) }
         ensures step { ImageStepWhere S.view (table.cluster_bits ≡ self.old.l1_table.cluster_bits) self.old self.new }
-        ensures cause { IsTrue (is_writable self.old) → IfErr result MayFail }
+        ensures cause { IsTrue (is_writable self.old) → IfErr result (MayFailOn self.new) }
         ensures sound { (p : Pending) (out : List (Option Prepared)) → ImageInvariant S.view F.backing p self.old out
             → IsLongerL1 self.old table → EntersTable S.view F.backing p table self.old self.new out result }
         ensures entries { OnOk result (entry_count self.new.l1_table ≡ entry_count table) }
@@ -140,7 +140,7 @@ impl<S: Storage, F: WrappedFormat<S>> Qcow2<S, F> {
         taken: PendingClusters,
     ) -> Result<(), ImageError>
         requires { IsHostCluster self.old.file.header.fields.cluster_bits taken.first_cluster }
-        ensures fails { ImageFails S.view F.backing self.old self.new result MayFail }
+        ensures fails { ImageFails S.view F.backing self.old self.new result (MayFailOn self.new) }
         ensures step { ImageStepWhere S.view
             ((table.cluster_bits ≡ self.old.l1_table.cluster_bits) × (0 < taken.first_cluster)) self.old self.new }
         ensures fault { (p : Pending) (out : List (Option Prepared))
@@ -162,7 +162,7 @@ impl<S: Storage, F: WrappedFormat<S>> Qcow2<S, F> {
     // Writes the table first, then the pointer to it.
     fn write_l1_table(&mut self, mut table: L1Table, cluster: HostCluster) -> Result<(), ImageError>
         requires { IsHostCluster self.old.file.header.fields.cluster_bits cluster }
-        ensures fails { ImageFails S.view F.backing self.old self.new result MayFail }
+        ensures fails { ImageFails S.view F.backing self.old self.new result (MayFailOn self.new) }
         ensures step { ImageStepWhere S.view
             ((table.cluster_bits ≡ self.old.l1_table.cluster_bits) × (0 < cluster)) self.old self.new }
         ensures fault { (p : Pending) (out : List (Option Prepared))
@@ -187,7 +187,7 @@ impl<S: Storage, F: WrappedFormat<S>> Qcow2<S, F> {
         table: &mut L1Table,
         cluster: HostCluster,
     ) -> Result<(), ImageError>
-        ensures fails { ImageFails S.view F.backing self.old self.new result MayFail }
+        ensures fails { ImageFails S.view F.backing self.old self.new result (MayFailOn self.new) }
         ensures notes { KeepsFileNotes S.view self.old.file self.new.file }
         ensures header_cluster { table.old.cluster_bits ≡ self.old.l1_table.cluster_bits → 0 < cluster
             → PreservesHeaderCluster S.view self.old self.new }
@@ -221,7 +221,7 @@ impl<S: Storage, F: WrappedFormat<S>> Qcow2<S, F> {
     // Writes the pointer to an L1 table, which is the image's table from then on.
     fn name_l1_table(&mut self, table: L1Table, cluster: HostCluster) -> Result<(), ImageError>
         requires { IsHostCluster self.old.file.header.fields.cluster_bits cluster }
-        ensures fails { ImageFails S.view F.backing self.old self.new result MayFail }
+        ensures fails { ImageFails S.view F.backing self.old self.new result (MayFailOn self.new) }
         ensures step { ImageStepWhere S.view (KeepsL1TableBehind self.old.l1_table table) self.old self.new }
         ensures fault { IfErr result IsFault }
         ensures allocator { self.new.allocator ≡ self.old.allocator }

@@ -27,21 +27,21 @@ ghost use Rattle.qcow2_alloc.specs.TableCaches.{IsTableOf};
 ghost use Rattle.qcow2_laws.specs.Changes.{one_at, with_new_tables};
 ghost use Rattle.qcow2_metadata.specs.L2Table.{L2TableView};
 ghost use Rattle.qcow2_image.specs.PinnedTables.{FindsOwn, own_table};
-ghost use Rattle.qcow2_image.specs.Refusals.{MayFail};
+ghost use Rattle.qcow2_image.specs.Refusals.{MayFailOn};
 
 use crate::Qcow2;
 use image_access::{Storage, WrappedFormat};
 use qcow2_alloc::{ClustersToFreeEntry, ClustersToFreeList, ImageError, WriteKind};
 use qcow2_metadata::{ClusterCount, GuestOffset, HostCluster, L2Table};
 
-#[tactic(auto, using(crate::proofs::Call::FailingErrors::tables_met, crate::proofs::Call::FailingErrors::storage_met, crate::proofs::Call::FailingErrors::memory_met))]
+#[tactic(auto, using(crate::proofs::Call::FailingErrors::tables_met, crate::proofs::Call::FailingErrors::fault_met, crate::proofs::Call::FailingErrors::storage_met, crate::proofs::Call::FailingErrors::memory_met))]
 impl<S: Storage, F: WrappedFormat<S>> Qcow2<S, F> {
     // The L2 table of an offset, cached and marked copied. If a new one is made, the clusters on the list are freed afterwards. An L1 entry whose
     // own offset would pass 64 bits is not written.
     pub(crate) fn writable_l2_table(&mut self, offset: u64) -> Result<HostCluster, ImageError>
         requires writable { IsTrue (is_writable self.old) }
         ensures step { ImageStep S.view self.old self.new }
-        ensures fails { ImageFails S.view F.backing self.old self.new result MayFail }
+        ensures fails { ImageFails S.view F.backing self.old self.new result (MayFailOn self.new) }
         ensures elsewhere { IfOk result (λ table. 0 < table) }
         ensures sound { (out : List (Option Prepared))
             → ImageInvariant S.view F.backing (pending_in S.view F.backing self.old out) self.old out
@@ -88,7 +88,7 @@ impl<S: Storage, F: WrappedFormat<S>> Qcow2<S, F> {
     pub(crate) fn ensure_cached_l2(&mut self, offset: u64) -> Result<HostCluster, ImageError>
         requires writable { IsTrue (is_writable self.old) }
         ensures step { ImageStep S.view self.old self.new }
-        ensures fails { ImageFails S.view F.backing self.old self.new result MayFail }
+        ensures fails { ImageFails S.view F.backing self.old self.new result (MayFailOn self.new) }
         ensures keeps_rest { KeepsRestOn self.old self.new }
         ensures elsewhere { IfOk result (λ table. 0 < table) }
         ensures sound { (p : Pending) (out : List (Option Prepared)) → ImageInvariant S.view F.backing p self.old out
@@ -117,7 +117,7 @@ impl<S: Storage, F: WrappedFormat<S>> Qcow2<S, F> {
     fn writable_l2_cluster(&mut self, offset: u64) -> Result<HostCluster, ImageError>
         requires writable { IsTrue (is_writable self.old) }
         ensures step { ImageStep S.view self.old self.new }
-        ensures fails { ImageFails S.view F.backing self.old self.new result MayFail }
+        ensures fails { ImageFails S.view F.backing self.old self.new result (MayFailOn self.new) }
         ensures keeps_rest { KeepsRestOn self.old self.new }
         ensures elsewhere { IfOk result (λ table. 0 < table) }
         ensures sound { (p : Pending) (out : List (Option Prepared)) → ImageInvariant S.view F.backing p self.old out
@@ -150,7 +150,7 @@ impl<S: Storage, F: WrappedFormat<S>> Qcow2<S, F> {
     fn replace_l2(&mut self, index: usize, old: HostCluster) -> Result<HostCluster, ImageError>
         requires writable { IsTrue (is_writable self.old) }
         ensures step { ImageStepWhere S.view (0 < old) self.old self.new }
-        ensures fails { ImageFails S.view F.backing self.old self.new result MayFail }
+        ensures fails { ImageFails S.view F.backing self.old self.new result (MayFailOn self.new) }
         ensures keeps_rest { KeepsRestOn self.old self.new }
         ensures elsewhere { IfOk result (λ table. 0 < table) }
         ensures own { OnOk result (HasOwnEntry self.new index) }
@@ -178,7 +178,7 @@ impl<S: Storage, F: WrappedFormat<S>> Qcow2<S, F> {
     ) -> Result<HostCluster, ImageError>
         requires writable { IsTrue (is_writable self.old) }
         ensures step { ImageStep S.view self.old self.new }
-        ensures fails { ImageFails S.view F.backing self.old self.new result MayFail }
+        ensures fails { ImageFails S.view F.backing self.old self.new result (MayFailOn self.new) }
         ensures keeps_rest { KeepsRestOn self.old self.new }
         ensures elsewhere { IfOk result (λ table. 0 < table) }
         ensures own { OnOk result (HasOwnEntry self.new index) }
@@ -207,7 +207,7 @@ impl<S: Storage, F: WrappedFormat<S>> Qcow2<S, F> {
     fn allocate_l2(&mut self, index: usize, table: L2Table) -> Result<HostCluster, ImageError>
         requires writable { IsTrue (is_writable self.old) }
         ensures step { ImageStep S.view self.old self.new }
-        ensures fails { ImageFails S.view F.backing self.old self.new result MayFail }
+        ensures fails { ImageFails S.view F.backing self.old self.new result (MayFailOn self.new) }
         ensures keeps_rest { KeepsRestOn self.old self.new }
         ensures elsewhere { IfOk result (λ table. 0 < table) }
         ensures own { OnOk result (HasOwnEntry self.new index) }
@@ -243,7 +243,7 @@ impl<S: Storage, F: WrappedFormat<S>> Qcow2<S, F> {
         table: L2Table,
     ) -> Result<(), ImageError>
         ensures step { ImageStepWhere S.view (0 < cluster) self.old self.new }
-        ensures fails { ImageFails S.view F.backing self.old self.new result MayFail }
+        ensures fails { ImageFails S.view F.backing self.old self.new result (MayFailOn self.new) }
         ensures keeps_rest { KeepsRest self.old self.new }
         ensures may_fail { (p : Pending) (out : List (Option Prepared))
             → ImageInvariant S.view F.backing (with_new_tables p (one_at cluster)) self.old out
@@ -273,7 +273,7 @@ impl<S: Storage, F: WrappedFormat<S>> Qcow2<S, F> {
     #[tactic(auto, using(crate::proofs::Call::CacheErrors::fault_or_met))]
     fn store_first(&mut self) -> Result<(), ImageError>
         ensures step { ImageStep S.view self.old self.new }
-        ensures fails { ImageFails S.view F.backing self.old self.new result MayFail }
+        ensures fails { ImageFails S.view F.backing self.old self.new result (MayFailOn self.new) }
         ensures keeps_rest { KeepsRest self.old self.new }
         ensures fault { (p : Pending) (out : List (Option Prepared)) → ImageInvariant S.view F.backing p self.old out → IfErr result IsFault }
         ensures rest { self.new ≡ record self.old {
@@ -295,7 +295,7 @@ impl<S: Storage, F: WrappedFormat<S>> Qcow2<S, F> {
     #[tactic(auto, using(crate::proofs::Call::FailingErrors::storage_met, crate::proofs::Call::CacheErrors::in_use_met))]
     fn write_l2_bytes(&mut self, cluster: HostCluster, mut table: L2Table) -> Result<(), ImageError>
         ensures step { ImageStepWhere S.view (0 < cluster) self.old self.new }
-        ensures fails { ImageFails S.view F.backing self.old self.new result MayFail }
+        ensures fails { ImageFails S.view F.backing self.old self.new result (MayFailOn self.new) }
         ensures keeps_rest { KeepsRest self.old self.new }
         ensures may_fail { (p : Pending) (out : List (Option Prepared)) → ImageInvariant S.view F.backing p self.old out
             → 0 < p.new_tables cluster → IsTableOf self.old.file.header.fields table → IsStored S.view self.old
@@ -329,7 +329,7 @@ impl<S: Storage, F: WrappedFormat<S>> Qcow2<S, F> {
     fn link_l2(&mut self, index: usize, cluster: HostCluster) -> Result<(), ImageError>
         requires enter { CanEnter self.old.l1_table index cluster }
         ensures step { ImageStep S.view self.old self.new }
-        ensures fails { ImageFails S.view F.backing self.old self.new result MayFail }
+        ensures fails { ImageFails S.view F.backing self.old self.new result (MayFailOn self.new) }
         ensures keeps_rest { KeepsRest self.old self.new }
         ensures allocator { self.new.allocator ≡ self.old.allocator }
         ensures fault { IfErr result IsFault }

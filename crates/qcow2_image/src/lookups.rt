@@ -13,7 +13,7 @@ ghost use Rattle.qcow2_alloc.specs.ImageFile.{known_in, FileInvariant};
 ghost use Rattle.qcow2_image.specs.declared.prepared.Prepared.{Prepared};
 ghost use Rattle.qcow2_image.specs.Calls.{AnswersCall};
 ghost use Rattle.qcow2_alloc.specs.declared.error.ImageError.TheVariants.{UnalignedTable};
-ghost use Rattle.qcow2_image.specs.LookupCauses.{HasUnalignedBehind, HasUnalignedEntry};
+ghost use Rattle.qcow2_image.specs.LookupCauses.{HasUnalignedAt, HasUnalignedBehind};
 ghost use Rattle.qcow2_image.specs.LookupCauses.{IsKindIn, IsTableUnaligned, IsUnalignedIn, MayFailFinding};
 ghost use Rattle.qcow2_disk.specs.Found.{rest_of_table};
 ghost use Rattle.qcow2_image.specs.Faults.{IsNotOfStorage};
@@ -194,7 +194,7 @@ impl<S: Storage, F: WrappedFormat<S>> Qcow2<S, F> {
         requires near { max ≤ 2 ^ 40 }
         requires cached { IsSome (l2_at self.now.file.caches table) }
         ensures cause { IfErr result (λ e. (e ≡ UnalignedTable)
-            × (table ≡ own_table self.now offset → HasUnalignedEntry self.now offset max)) }
+            × HasUnalignedAt self.now.file.header.fields self.now.file.caches table offset max) }
         ensures reads { (p : Pending) → FileInvariant S.view p self.now.file
             → IsEntryAt self.now.file.header.fields (known_in S.view self.now.file)
             (l1_index_of self.now.file.header.fields offset) table (l2_index_of self.now.file.header.fields offset)

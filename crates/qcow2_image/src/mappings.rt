@@ -28,7 +28,7 @@ ghost use Rattle.qcow2_image.specs.declared.prepared.Prepared.{Prepared};
 ghost use Rattle.qcow2_image.specs.Calls.{Commits, Discards, Prepares, reason_of};
 ghost use Rattle.qcow2_image.specs.CallParts.{EntersAll, IsEntered, IsExisting, RefusedCall};
 ghost use Rattle.qcow2_alloc.specs.CachePins.{l2_pins};
-ghost use Rattle.qcow2_alloc.specs.ImageError.{IsFault, IsOfTables};
+ghost use Rattle.qcow2_alloc.specs.ImageError.{IsFault, IsFaultOrLimit};
 ghost use Rattle.qcow2_image.specs.Faults.{CountsImageFaults, IsNotOfStorage, SameFaults};
 ghost use Rattle.qcow2_image.specs.declared.image.Qcow2.{Qcow2};
 ghost use Rattle.qcow2_image.specs.Found.{l1_index_of, l2_index_of};
@@ -38,8 +38,9 @@ ghost use Rattle.qcow2_image.specs.ImageInvariant.{ImageInvariant, listed_run, p
 ghost use Rattle.qcow2_metadata.specs.Header.{entries_per_cluster, cluster_size};
 ghost use Rattle.qcow2_metadata.specs.Cover.{cover};
 ghost use Rattle.qcow2_image.specs.declared.mapping.Place.TheVariants.{Image};
-ghost use Rattle.qcow2_image.specs.Refusals.{FreesRefused, refuses_to_prepare, passes as passes_size, MayFail};
-ghost use Rattle.qcow2_image.specs.Refusals.{IsUnlimited, MayFailPreparing};
+ghost use Rattle.qcow2_image.specs.UnalignedTables.{KeepsOffsets};
+ghost use Rattle.qcow2_image.specs.Refusals.{FreesRefused, MayFailOn, passes as passes_size, refuses_to_prepare};
+ghost use Rattle.qcow2_image.specs.Refusals.{IsUnlimited, MayFailOn, MayFailPreparing};
 ghost use Rattle.qcow2_image.specs.declared.prepared.CommitRefused.TheVariants.{Kept, Spent};
 ghost use Rattle.qcow2_image.specs.declared.prepared.ClusterMapping.TheVariants.{InPlace};
 ghost use Rattle.qcow2_alloc.specs.declared.error.ImageError.TheVariants.{Failed, ForeignState, TablePrepared};
@@ -148,7 +149,7 @@ pub(crate) fn keeps(mapping: &L2Mapping, place: u64) -> bool
     preallocated_offset(mapping) == Some(place)
 }
 
-#[tactic(auto, using(crate::proofs::Call::FailingErrors::tables_met, crate::proofs::Call::FailingErrors::storage_met, crate::proofs::Call::FailingErrors::unaligned_met))]
+#[tactic(auto, using(crate::proofs::Call::FailingErrors::tables_met, crate::proofs::Call::FailingErrors::fault_met, crate::proofs::Call::FailingErrors::storage_met))]
 impl<S: Storage, F: WrappedFormat<S>> Qcow2<S, F> {
     /// Prepares a range to be written at one place in the file, or in the data file if there is one. With `overwrite` the caller promises to
     /// write all of it, and old bytes are not copied. The mapping may be shorter than the range, and must be committed or discarded. A mapping
@@ -282,9 +283,9 @@ impl<S: Storage, F: WrappedFormat<S>> Qcow2<S, F> {
     pub(crate) fn process_free_list_after(&mut self, refusal: ImageError) -> ImageError
         ensures step { ImageStep S.view self.old self.new }
         ensures keeps_rest { KeepsRest self.old self.new }
-        ensures table { self.new.l1_table ≡ self.old.l1_table }
+        ensures offsets { KeepsOffsets self.old self.new }
         ensures refused { RefusesAfter self.old self.new refusal result }
-        ensures told { ((result ≡ refusal) ⊎ IsOfTables result) × ((out : List (Option Prepared))
+        ensures told { ((result ≡ refusal) ⊎ IsFaultOrLimit result) × ((out : List (Option Prepared))
             → ImageInvariant S.view F.backing (pending_in S.view F.backing self.old out) self.old out
             → (result ≡ refusal) ⊎ IsFault result) }
         ensures emptied { IsTrue (is_writable self.old) → (out : List (Option Prepared))
@@ -317,7 +318,7 @@ impl<S: Storage, F: WrappedFormat<S>> Qcow2<S, F> {
         length: u64,
     ) -> Result<Option<u64>, ImageError>
         requires cached { IsSome (l2_at self.now.file.caches table) }
-        ensures cause { IfErr result MayFail }
+        ensures cause { IfErr result (MayFailOn self.now) }
         ensures reads { (p : Pending) → FileInvariant S.view p self.now.file
             → IsEntryAt self.now.file.header.fields (known_in S.view self.now.file)
             (l1_index_of self.now.file.header.fields offset) table (l2_index_of self.now.file.header.fields offset)
@@ -382,7 +383,7 @@ impl<S: Storage, F: WrappedFormat<S>> Qcow2<S, F> {
 
     // The mapping of a guest cluster in a cached table. An entry that is marked copied in the header's cluster is refused 19 (metadata),
     // unless data are in a data file.
-    #[tactic(auto, using(crate::proofs::Call::FailingErrors::tables_met, crate::proofs::Call::FailingErrors::storage_met, crate::proofs::Call::FailingErrors::unaligned_met, crate::proofs::Call::Unlimited::unaligned_unlimited))]
+    #[tactic(auto, using(crate::proofs::Call::FailingErrors::tables_met, crate::proofs::Call::FailingErrors::fault_met, crate::proofs::Call::FailingErrors::storage_met, crate::proofs::Call::Unlimited::unaligned_unlimited))]
     pub(crate) fn cover_in(
         &self,
         table: HostCluster,
@@ -390,7 +391,7 @@ impl<S: Storage, F: WrappedFormat<S>> Qcow2<S, F> {
     ) -> Result<L2Mapping, ImageError>
         ensures reach { IfOk result IsInReach }
         ensures behind { IfOk result (IsMarkedBehind self.now) }
-        ensures cause { IfErr result MayFail }
+        ensures cause { IfErr result (MayFailOn self.now) }
         ensures limited { IfErr result IsUnlimited }
         ensures reads { (p : Pending) (i : ℕ) → FileInvariant S.view p self.now.file
             → self.now.file.header.fields.incompatible ≡ 0
@@ -422,7 +423,6 @@ impl<S: Storage, F: WrappedFormat<S>> Qcow2<S, F> {
     pub(crate) fn named_by(&self, mapping: &L2Mapping) -> Result<ClustersToFreeList, ImageError>
         requires { IsInReach mapping.now }
         ensures list { IfOk result (λ list. list ≡ listed_run (named_run self.now.file.header.fields.cluster_bits mapping.now)) }
-        ensures cause { IfErr result MayFail }
         ensures fault { IfErr result IsFault }
         ensures faults { IfErr result IsNotOfStorage }
     {

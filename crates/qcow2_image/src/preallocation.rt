@@ -20,7 +20,7 @@ ghost use Rattle.qcow2_image.specs.Image.{HasNothingToFree, is_writable, size_of
 ghost use Rattle.qcow2_image.specs.ImageInvariant.{ImageInvariant, pending_in};
 ghost use Rattle.qcow2_image.specs.Preallocation.{AreZeros, CommitsWhole, FillsFirst, FillsGrownOrRefuses};
 ghost use Rattle.qcow2_image.specs.Preallocation.{FillsOrRefuses, IsWholeRange, WritesZeros, most_of};
-ghost use Rattle.qcow2_image.specs.Refusals.{FreesRefused, MayFail, MayFailPreparing, MayFailToGrow};
+ghost use Rattle.qcow2_image.specs.Refusals.{FreesRefused, MayFailOn, MayFailPreparing, MayFailToGrow};
 ghost use Rattle.qcow2_image.specs.Faults.{IsNotOfStorage, SameFaults};
 
 use crate::discarding::{ClearMode, rounded_up};
@@ -43,13 +43,12 @@ pub(crate) enum ZeroWrites {
     Plain(Vec<u8>),
 }
 
-#[tactic(auto, using(crate::proofs::Call::FailingErrors::tables_met, crate::proofs::Call::FailingErrors::storage_met))]
+#[tactic(auto, using(crate::proofs::Call::FailingErrors::tables_met, crate::proofs::Call::FailingErrors::fault_met, crate::proofs::Call::FailingErrors::storage_met))]
 impl ZeroWrites {
     // A buffer of zeros.
     fn plain(alloc: Global, count: usize) -> Result<Self, ImageError>
         ensures most { IfOk result (λ writes. most_of writes ≡ count) }
         ensures zeros { IfOk result AreZeros }
-        ensures cause { IfErr result MayFail }
         ensures fault { IfErr result IsFault }
         ensures faults { IfErr result IsNotOfStorage }
     {
@@ -107,7 +106,7 @@ impl ZeroWrites {
     }
 }
 
-#[tactic(auto, using(crate::proofs::Call::FailingErrors::tables_met, crate::proofs::Call::FailingErrors::storage_met))]
+#[tactic(auto, using(crate::proofs::Call::FailingErrors::tables_met, crate::proofs::Call::FailingErrors::fault_met, crate::proofs::Call::FailingErrors::storage_met))]
 impl<S: Storage, F: WrappedFormat<S>> Qcow2<S, F> {
     // Puts zeros past the end of a disk that will grow, up to the end of its last cluster, as a mode says. After
     // a refusal, the clusters on the list are freed, except after a fault and after 9.
@@ -379,7 +378,7 @@ impl<S: Storage, F: WrappedFormat<S>> Qcow2<S, F> {
     fn put_zeros(&mut self, host: u64, count: u64, writes: &ZeroWrites) -> Result<(), ImageError>
         requires { WritesZeros count writes.now }
         ensures step { ImageStep S.view self.old self.new }
-        ensures fails { FailsUnlimited S.view F.backing self.old self.new result MayFail }
+        ensures fails { FailsUnlimited S.view F.backing self.old self.new result (MayFailOn self.new) }
         ensures puts { WritesData S.view self.old self.new host (replicate count 0)
             (λ b. zeroed b host count) result }
     {
@@ -401,7 +400,7 @@ impl<S: Storage, F: WrappedFormat<S>> Qcow2<S, F> {
     ) -> Result<(), ImageError>
         requires { WritesZeros count writes.now }
         ensures step { ImageStep S.view self.old self.new }
-        ensures fails { FailsUnlimited S.view F.backing self.old self.new result MayFail }
+        ensures fails { FailsUnlimited S.view F.backing self.old self.new result (MayFailOn self.new) }
         ensures puts { WritesOwnData S.view self.old self.new host (replicate count 0) result }
     {
         if host < self.file.header.cluster_size() {

@@ -8,7 +8,7 @@ ghost use Rattle.qcow2_metadata.specs.L2Mapping.{IsHostCluster, IsInReach};
 ghost use Rattle.qcow2_metadata.specs.Header.{cluster_size};
 ghost use Rattle.qcow2_disk.specs.Found.{rest_of_table};
 ghost use Rattle.qcow2_image.specs.Image.{is_writable};
-ghost use Rattle.qcow2_image.specs.Refusals.{MayFail};
+ghost use Rattle.qcow2_image.specs.Refusals.{MayFailOn};
 ghost use Rattle.qcow2_image.specs.declared.prepared.Prepared.{Prepared};
 ghost use Rattle.qcow2_image.specs.declared.image.Qcow2.{Qcow2};
 ghost use Rattle.qcow2_image.specs.CallParts.{IsReadied};
@@ -24,7 +24,7 @@ use image_access::{Storage, WrappedFormat};
 use qcow2_alloc::{ClustersToFreeList, ImageError, PendingClusters};
 use qcow2_metadata::{GuestOffset, HostCluster, HostOffset, L2Mapping};
 
-#[tactic(auto, using(crate::proofs::Call::FailingErrors::tables_met, crate::proofs::Call::FailingErrors::storage_met, crate::proofs::Call::FailingErrors::unaligned_met))]
+#[tactic(auto, using(crate::proofs::Call::FailingErrors::tables_met, crate::proofs::Call::FailingErrors::fault_met, crate::proofs::Call::FailingErrors::storage_met))]
 impl<S: Storage, F: WrappedFormat<S>> Qcow2<S, F> {
     // For how many clusters memory is allocated: at least those of a range within its first L2 table.
     pub(crate) fn clusters_in(&self, offset: u64, length: u64) -> usize
@@ -51,7 +51,7 @@ impl<S: Storage, F: WrappedFormat<S>> Qcow2<S, F> {
         requires whole { EndsWithCluster self.old.file.header.fields prepared.old }
         requires room { HasRoomForRange self.old.file.header.fields length prepared.old }
         ensures step { AllocatingStep S.view self.old self.new }
-        ensures fails { ImageFails S.view F.backing self.old self.new result MayFail }
+        ensures fails { ImageFails S.view F.backing self.old self.new result (MayFailOn self.new) }
         ensures sound { (start : Qcow2 S F) (out : List (Option Prepared)) (k : ℕ) → slice_get out k ≡ Some None
             → prepared.old.table ≡ Some table
             → IsReadied S.view F.backing start self.old out k prepared.old.guest length overwrite prepared.old
@@ -80,7 +80,7 @@ impl<S: Storage, F: WrappedFormat<S>> Qcow2<S, F> {
         requires writable { IsTrue (is_writable self.old) }
         requires room { vec_len prepared.old.clusters < vec_capacity prepared.old.clusters }
         ensures step { AllocatingStep S.view self.old self.new }
-        ensures fails { ImageFails S.view F.backing self.old self.new result MayFail }
+        ensures fails { ImageFails S.view F.backing self.old self.new result (MayFailOn self.new) }
         ensures sound { (out : List (Option Prepared)) (k : ℕ) → slice_get out k ≡ Some (Some prepared.old)
             → MayGoOn self.old.file.header.fields length table prepared.old
             → ImageInvariant S.view F.backing (pending_in S.view F.backing self.old out) self.old out
@@ -110,7 +110,7 @@ impl<S: Storage, F: WrappedFormat<S>> Qcow2<S, F> {
     ) -> Result<Option<ClusterMapping>, ImageError>
         requires writable { IsTrue (is_writable self.old) }
         ensures step { AllocatingStep S.view self.old self.new }
-        ensures fails { ImageFails S.view F.backing self.old self.new result MayFail }
+        ensures fails { ImageFails S.view F.backing self.old self.new result (MayFailOn self.new) }
         ensures sound { (out : List (Option Prepared)) (k : ℕ) → slice_get out k ≡ Some (Some prepared.now)
             → MayGoOn self.old.file.header.fields length table prepared.now
             → ImageInvariant S.view F.backing (pending_in S.view F.backing self.old out) self.old out
@@ -152,7 +152,7 @@ impl<S: Storage, F: WrappedFormat<S>> Qcow2<S, F> {
     ) -> Result<Option<ClusterMapping>, ImageError>
         requires reach { IsInReach old.now }
         ensures step { FillingStep S.view self.old self.new }
-        ensures fails { ImageFails S.view F.backing self.old self.new result MayFail }
+        ensures fails { ImageFails S.view F.backing self.old self.new result (MayFailOn self.new) }
     {
         if host != offset {
             return Ok(None);
@@ -176,12 +176,12 @@ impl<S: Storage, F: WrappedFormat<S>> Qcow2<S, F> {
         requires writable { IsTrue (is_writable self.old) }
         requires reach { IsInReach old.now }
         ensures step { AllocatingStep S.view self.old self.new }
-        ensures fails { ImageFails S.view F.backing self.old self.new result MayFail }
+        ensures fails { ImageFails S.view F.backing self.old self.new result (MayFailOn self.new) }
         ensures sound { SharesCluster S.view F.backing self.old self.new host offset length overwrite old.now result }
     {
         let bits = self.file.header.cluster_bits();
         let Some(cluster) = HostOffset::new(host).checked_cluster(bits) else {
-            return Err(ImageError::UnalignedTable);
+            return Ok(None);
         };
         let old_data = self.named_by(old)?;
         let Some(pending) = self.new_cluster_at(cluster, offset, length, overwrite, old)? else {
@@ -205,7 +205,7 @@ impl<S: Storage, F: WrappedFormat<S>> Qcow2<S, F> {
         requires writable { IsTrue (is_writable self.old) }
         requires reach { IsInReach old.now }
         ensures step { AllocatingStep S.view self.old self.new }
-        ensures fails { ImageFails S.view F.backing self.old self.new result MayFail }
+        ensures fails { ImageFails S.view F.backing self.old self.new result (MayFailOn self.new) }
         ensures sound { GainsClusterAt S.view F.backing self.old self.new cluster offset length overwrite
             old.now result }
         ensures nameable { IfOk result (λ run. IsSome run → IsHostCluster self.old.file.header.fields.cluster_bits cluster) }
@@ -229,7 +229,7 @@ impl<S: Storage, F: WrappedFormat<S>> Qcow2<S, F> {
     ) -> Result<Option<PendingClusters>, ImageError>
         requires writable { IsTrue (is_writable self.old) }
         ensures step { AllocatingStep S.view self.old self.new }
-        ensures fails { ImageFails S.view F.backing self.old self.new result MayFail }
+        ensures fails { ImageFails S.view F.backing self.old self.new result (MayFailOn self.new) }
         ensures sound { AllocatesAt S.view F.backing self.old self.new cluster result }
         ensures nameable { IfOk result (λ run. IsSome run → IsHostCluster self.old.file.header.fields.cluster_bits cluster) }
         ensures list { ListGrows self.old self.new }

@@ -23,8 +23,8 @@ ghost use Rattle.qcow2_image.specs.Growing.{LastsCall};
 ghost use Rattle.qcow2_image.specs.Image.{HasNothingToFree, IsSameImage, has_noted_change, is_failed, is_writable};
 ghost use Rattle.qcow2_image.specs.Image.{size_of, with_marks};
 ghost use Rattle.qcow2_image.specs.ImageInvariant.{ImageInvariant, abstract_of, pending_in};
-ghost use Rattle.qcow2_image.specs.Refusals.{MayFail, MayFailToGrow, MarksFailed};
-ghost use Rattle.qcow2_image.specs.Refusals.{MarksRefused};
+ghost use Rattle.qcow2_image.specs.Refusals.{MarksFailed, MayFailOn, MayFailToGrow};
+ghost use Rattle.qcow2_image.specs.Refusals.{MarksRefused, MayFailOn};
 ghost use Rattle.qcow2_image.specs.Resizing.{GrowsTo, MayFailShrinking, IsResized, Shrinks, WritesSize};
 ghost use Rattle.qcow2_image.specs.Resizing.{refuses_to_resize, size_after};
 ghost use Rattle.qcow2_image.specs.Resizing.{takes_over};
@@ -306,7 +306,7 @@ impl<S: Storage, F: WrappedFormat<S>> Qcow2<S, F> {
         requires some { 0 < size }
         requires writable { IsTrue (is_writable self.old) }
         ensures step { ImageStep S.view self.old self.new }
-        ensures fails { ImageFails S.view F.backing self.old self.new result MayFail }
+        ensures fails { ImageFails S.view F.backing self.old self.new result (MayFailOn self.new) }
         ensures longer { LengthensTable S.view F.backing (size - 1) self.old self.new result }
     {
         self.lengthen_data_file(size, mode)?;
@@ -316,7 +316,7 @@ impl<S: Storage, F: WrappedFormat<S>> Qcow2<S, F> {
     // Grows a data file that has data at their guest offsets, if the mode allocates no clusters.
     fn lengthen_data_file(&mut self, size: u64, mode: PreallocateMode) -> Result<(), ImageError>
         requires some { 0 < size }
-        ensures step { DataFileStep S.view F.backing self.old self.new MayFail result }
+        ensures step { DataFileStep S.view F.backing self.old self.new (MayFailOn self.new) result }
         ensures none { self.old.data_file ≡ None → (result ≡ Ok tt) × (self.new ≡ self.old) }
     {
         if allocates(mode) {
@@ -331,7 +331,7 @@ impl<S: Storage, F: WrappedFormat<S>> Qcow2<S, F> {
     // Grows the data file, if the L1 table wouldn't be too long for the size.
     fn lengthen_placed_data(&mut self, size: u64) -> Result<(), ImageError>
         requires some { 0 < size }
-        ensures step { DataFileStep S.view F.backing self.old self.new MayFail result }
+        ensures step { DataFileStep S.view F.backing self.old self.new (MayFailOn self.new) result }
     {
         self.check_l1_length(size)?;
         self.resize_data_file(size)
@@ -340,7 +340,7 @@ impl<S: Storage, F: WrappedFormat<S>> Qcow2<S, F> {
     // Refused 13 (limit) if the L1 table would be too long for a size.
     fn check_l1_length(&self, size: u64) -> Result<(), ImageError>
         requires some { 0 < size }
-        ensures cause { IfErr result MayFail }
+        ensures cause { IfErr result (MayFailOn self.now) }
         ensures faults { IfErr result IsNotOfStorage }
     {
         let index = GuestOffset::new(size - 1).l1_index(self.file.header.cluster_bits());
@@ -352,11 +352,11 @@ impl<S: Storage, F: WrappedFormat<S>> Qcow2<S, F> {
 
     // Replaces the L1 table by one that has an entry for an offset, and all old entries. The clusters of the old one are freed then. After
     // a refusal, those on the list stay on it.
-    #[tactic(auto, using(crate::proofs::Call::FailingErrors::tables_met))]
+    #[tactic(auto, using(crate::proofs::Call::FailingErrors::tables_met, crate::proofs::Call::FailingErrors::fault_met))]
     fn lengthen_l1_table(&mut self, offset: u64) -> Result<(), ImageError>
         requires writable { IsTrue (is_writable self.old) }
         ensures step { ImageStep S.view self.old self.new }
-        ensures fails { ImageFails S.view F.backing self.old self.new result MayFail }
+        ensures fails { ImageFails S.view F.backing self.old self.new result (MayFailOn self.new) }
         ensures longer { LengthensTable S.view F.backing offset self.old self.new result }
     {
         let index = GuestOffset::new(offset).l1_index(self.file.header.cluster_bits());

@@ -16,7 +16,7 @@ pub use Rattle.image_access.specs.Moments.{StorageView, HasCause, Rose, EachMome
 pub use Rattle.image_access.specs.declared.error.StorageError.{StorageError}
 pub use Rattle.qcow2_alloc.proofs.AllocationSteps.{fault_of_storage}
 pub use Rattle.qcow2_alloc.proofs.KeptTables.AllWritten.{written_then, written_none}
-pub use Rattle.qcow2_alloc.specs.ImageError.{of_storage, IsOfTables}
+pub use Rattle.qcow2_alloc.specs.ImageError.{of_storage, IsFaultOrLimit}
 pub use Rattle.qcow2_alloc.specs.ImageFile.{known_in, contents_in, state_in, nothing_given, view_in}
 pub use Rattle.qcow2_alloc.specs.MetadataCaches.{IsEntryAt, ShowsKnown}
 pub use Rattle.qcow2_alloc.specs.declared.error.ImageError.{ImageError}
@@ -34,8 +34,10 @@ pub use Rattle.qcow2_disk.specs.Runs.{get_mapping, prepare, done, prepared_is, r
 pub use Rattle.qcow2_disk.specs.Stops.{IsGiven, GivenBytes, Checkpoint, checkpoint_at, IsSafeAfter, StopOkEverywhere}
 pub use Rattle.qcow2_disk.specs.UngivenCovers.{Touches, IsUngiven}
 pub use Rattle.qcow2_image.proofs.Call.BehindHeader.{behind_none, behind_then}
-pub use Rattle.qcow2_image.proofs.Call.CacheErrors.{finding_read, found_read, putting_met, telling_or, telling_read}
-pub use Rattle.qcow2_image.proofs.Call.FailingErrors.{read_met, storage_met, storage_read, tables_met, tables_read}
+pub use Rattle.qcow2_image.proofs.Call.CacheErrors.{finding_read, found_read, telling_or, telling_read}
+pub use Rattle.qcow2_image.proofs.Call.KeptOffsets.{met_kept, putting_met, released_offsets}
+pub use Rattle.qcow2_image.proofs.Call.FailingErrors.{freeing_met, freeing_read, met_any, read_met, storage_met, storage_read, tables_read}
+pub use Rattle.qcow2_image.proofs.Prepare.PinnedL2Tables.{freed_untaken, met_untaken}
 pub use Rattle.qcow2_image.proofs.Call.FaultCounts.{faults_then, counted_on, counted_since, each_since, fewer_of, rose_after, tells_since, untouched, counted_still}
 pub use Rattle.qcow2_image.proofs.Call.OnceWritten.{changes_before, counts_on, counts_still, counts_released, changes_later, once_none}
 pub use Rattle.qcow2_image.proofs.Call.Unlimited.{fault_unlimited, storage_unlimited}
@@ -68,7 +70,7 @@ pub use Rattle.qcow2_image.specs.Prepared.{file_of, IsHandedBackBy, guest_offset
 pub use Rattle.qcow2_image.specs.Preparing.{IsAnswered, IsTaken, IsOfNothing}
 pub use Rattle.qcow2_image.specs.Ranges.{ReleasesOneMapping}
 pub use Rattle.qcow2_image.specs.PinnedTables.{ExistsInTables}
-pub use Rattle.qcow2_image.specs.Refusals.{refuse_if, passes, unusable, refuses_to_read, refuses_to_prepare, refuses_mapping, MayFail, MayFailToRead, MayFailPreparing, IsUnlimited, MarksFailed, MarksRefused, failed_after}
+pub use Rattle.qcow2_image.specs.Refusals.{refuse_if, passes, unusable, refuses_to_read, refuses_to_prepare, refuses_mapping, MayFail, MayFailOn, MayFailToRead, MayFailPreparing, IsUnlimited, MarksFailed, MarksRefused, failed_after}
 pub use Rattle.qcow2_image.specs.Resizing.{refuses_to_resize, GrowsTo, Shrinks, WritesSizeLast, IsResized, takes_over}
 pub use Rattle.qcow2_image.specs.Unwritten.{ReadsQuietly, ContentsStayThroughout, HoldsNothingModified}
 pub use Rattle.qcow2_image.specs.declared.image.Missing.{Missing}

@@ -3,7 +3,7 @@ use Rattle.qcow2_image.specs.Prepared.{file_of}
 use Rattle.qcow2_image.specs.declared.mapping.MappingKind.TheVariants.{Raw}
 use Rattle.qcow2_image.proofs.Map.Held.{mapped_less}
 use Rattle.std.proofs.Common.{◌≡◌, ◌+◌, ◌<◌, ◌≤◌, ◌&&◌, ◌∙◌, inl, inr, ℕ, Bool, true, false, not, IsTrue, List, Option, Some, None, refl, sym, ap, arith, subst, Ok, Err, Result, is_some, IsSome}
-use Rattle.qcow2_session.proofs.Common.{nat_lt, option_or, cases_Bool, cases_lt, common_steps, Bytes, cluster_size, HeaderFields, ImageError, IsUnderMapping, IsSameImage, is_beside, lacks_data_file, is_failed, is_writable, number_of, size_of, IsUnderMappingIn, IsTaken, MayFail, passes, refuse_if, refuses_mapping, refuses_to_prepare, refuses_to_read, unusable, Qcow2, Prepared, table_of, ExistsInTables, FitsTables, IsHeldAs, Mapping, further_by, IsHeldRun}
+use Rattle.qcow2_session.proofs.Common.{nat_lt, option_or, cases_Bool, cases_lt, common_steps, Bytes, cluster_size, HeaderFields, ImageError, IsUnderMapping, IsSameImage, is_beside, lacks_data_file, is_failed, is_writable, number_of, size_of, IsUnderMappingIn, IsTaken, passes, refuse_if, refuses_mapping, refuses_to_prepare, refuses_to_read, unusable, Qcow2, Prepared, table_of, ExistsInTables, FitsTables, IsHeldAs, Mapping, further_by, IsHeldRun}
 use Rattle.qcow2_alloc.specs.declared.error.ImageError.TheVariants as I
 use Rattle.qcow2_session.proofs.Beyond.{part_passes}
 use Rattle.qcow2_session.proofs.Causing.{own_mapping, put_writes, then_none}
@@ -85,8 +85,8 @@ module _ {S F : Type 0} (old mid : Qcow2 S F) (same : IsSameImage old mid) where
   mapping_usable number own works none = own_mapping mid number (own ∙ sym same.number) ∙ still_usable (works ∙ not_failed_yet none) none
 
   -- what a put of k of n bytes is refused for, if the range is mapped as it was prepared
-  pub put_met : (number offset n k : ℕ) (e : ImageError) → number ≡ number_of old → is_failed mid ≡ is_failed old → (n ≡ 0 → k ≡ 0) → refuses_to_prepare old offset n ≡ None
-      → (refuses_mapping mid number ≡ None → IsTrue (is_writable mid) → (e ≡ I.OutdatedMapping → ⊥) → MayFail e) → (refuses_mapping mid number ≡ None → k ≡ 0 → ⊥) → (refuses_mapping mid number ≡ None → 0 < n → 0 < k → e ≡ I.OutdatedMapping → ⊥) → MayFail e
+  pub put_met : {P : Type 0} (number offset n k : ℕ) (e : ImageError) → number ≡ number_of old → is_failed mid ≡ is_failed old → (n ≡ 0 → k ≡ 0) → refuses_to_prepare old offset n ≡ None
+      → (refuses_mapping mid number ≡ None → IsTrue (is_writable mid) → (e ≡ I.OutdatedMapping → ⊥) → P) → (refuses_mapping mid number ≡ None → k ≡ 0 → ⊥) → (refuses_mapping mid number ≡ None → 0 < n → 0 < k → e ≡ I.OutdatedMapping → ⊥) → P
   put_met number offset n k e own works none_of_none none late nothing current =
       let whole = three_none (unusable old) (passes (size_of old) offset n) (nat_lt 0 n && not (is_writable old)) none in
       let usable = mapping_usable number own works whole.0 in

@@ -1,7 +1,7 @@
 -- Why a range of an image that may be read is not written.
 use Rattle.qcow2_alloc.specs.declared.error.ImageError.TheVariants as I
 use Rattle.std.proofs.Common.{◌≡◌, ◌⊎◌, ◌+◌, ◌<◌, ◌≤◌, ◌&&◌, ⊎_elim, inl, inr, ℕ, Bool, true, false, not, List, [], Option, Some, None, refl, sym, ap, ◌∙◌, subst, arith, IsTrue, Result, Err}
-use Rattle.qcow2_session.proofs.Common.{nat_lt, IfSome, option_or, cases_Bool, BackingView, StorageView, IsRefusalByFault, RefusedEffect, known_in, ImageError, HasPinnedMapping, refusal_of, IsSameImage, is_failed, is_writable, size_of, abstract_of, CopiesCompressed, MayFailReadingRange, MayFailAllocating, IsUnderMappingIn, MayFail, MayFailPreparing, HasPinnedTable, passes, refuse_if, refuses_to_prepare, refuses_to_read, unusable, Qcow2, Prepared, MayFailImporting, IsReasonNotToWrite, GivenBytes, IsLimited, cluster_size_of}
+use Rattle.qcow2_session.proofs.Common.{MayFailOn, met_any, nat_lt, IfSome, option_or, cases_Bool, BackingView, StorageView, IsRefusalByFault, RefusedEffect, known_in, ImageError, HasPinnedMapping, refusal_of, IsSameImage, is_failed, is_writable, size_of, abstract_of, CopiesCompressed, MayFailReadingRange, MayFailAllocating, IsUnderMappingIn, MayFail, MayFailPreparing, HasPinnedTable, passes, refuse_if, refuses_to_prepare, refuses_to_read, unusable, Qcow2, Prepared, MayFailImporting, IsReasonNotToWrite, GivenBytes, IsLimited, cluster_size_of}
 use Rattle.qcow2_session.proofs.Lemmas.{same_error, then_none, kept_cover, same_size, compressed_within, not_failed_yet, part_reads, part_under}
 
 writing_left : (u : Option ImageError) (c t : Bool) → u ≡ None → c ≡ false → option_or u (option_or (refuse_if c I.BeyondSize) (refuse_if t I.ReadOnly)) ≡ refuse_if t I.ReadOnly
@@ -56,7 +56,7 @@ module _ {S F : Type 0} (view : S → StorageView) (backing : F → BackingView)
   write_reason written at n works none out e k X early late taken limit = ⊎_elim
       (λ (closed : (e ≡ I.ReadOnly) × (is_writable mid ≡ false)). inr (inl (closed.0, sym same.writable ∙ closed.1)))
       (λ (free : refuses_to_prepare mid at n ≡ None).
-      ⊎_elim (λ (may_fail : MayFail e). inl (may_fail, limit free)) (λ (t : (e ≡ I.TablePrepared) × HasPinnedTable written). inr (inr (t.0, carried at (at + n) at (at + n) (omega arith) (omega arith) out (taken free t.0)))) (late free).0)
+      ⊎_elim (λ (may_fail : MayFailOn written e). inl (met_any written e may_fail, limit free)) (λ (t : (e ≡ I.TablePrepared) × HasPinnedTable written). inr (inr (t.0, carried at (at + n) at (at + n) (omega arith) (omega arith) out (taken free t.0)))) (late free).0)
       (early_or_late old mid same at n works none e k X early)
 
 -- ---- why an import into a sound image is refused

@@ -10,7 +10,7 @@ use Rattle.image_access.specs.Moments.{StorageView}
 use Rattle.image_access.specs.declared.storage.PreallocateMode.{PreallocateMode}
 use Rattle.qcow2_metadata.specs.Header.{cluster_size, rounded_up}
 use Rattle.qcow2_disk.specs.Calls.{shows_old, to_backing, to_kept_zero, to_zero}
-use Rattle.qcow2_alloc.specs.ImageError.{IsFault, IsOfTables}
+use Rattle.qcow2_alloc.specs.ImageError.{IsFault, IsFaultOrLimit}
 use Rattle.qcow2_alloc.specs.ImageFile.{known_in}
 use Rattle.qcow2_alloc.specs.declared.error.ImageError.{ImageError}
 use Rattle.qcow2_image.specs.Backings.{HasPinnedMapping}
@@ -103,7 +103,7 @@ module _ {S F : Type 0} (old new : Qcow2 S F) (before : List (Option Prepared)) 
   MayFailWith (C.GetMapping slot offset max) e = MayFailFinding old new offset max e
   MayFailWith (C.ReadMapped slot at n) e = (m : Mapping) × (found slot ≡ Some m) × MayFailReadingAt m at n e
   MayFailWith (C.PrepareDataMapping slot offset n overwrite) e = MayFailPreparing new e
-  MayFailWith (C.CommitDataMapping slot) e = IsOfTables e
+  MayFailWith (C.CommitDataMapping slot) e = IsFaultOrLimit e
   MayFailWith (C.DiscardDataMapping slot) e = ⊥
   MayFailWith (C.EnsureZeroMapping offset n) e = MayFailPreparing new e
   MayFailWith (C.DiscardToZero offset n) e = MayFailPreparing new e
@@ -111,7 +111,7 @@ module _ {S F : Type 0} (old new : Qcow2 S F) (before : List (Option Prepared)) 
   MayFailWith (C.DiscardToBacking offset n) e = MayFailPreparing new e
   MayFailWith (C.ReadvSpecial offset n) e = MayFailTelling old new offset 1 e ⊎ ((e ≡ I.NotCompressed offset) × ¬ IsCompressedInTables new offset)
   MayFailWith (C.TryReadvSpecial offset n) e = MayFailTelling old new offset 1 e
-  MayFailWith C.Flush e = IsOfTables e
+  MayFailWith C.Flush e = IsFaultOrLimit e
   MayFailWith C.Sync e = IsFault e
   MayFailWith C.InvalidateCache e = MayFailToInvalidate e
   MayFailWith (C.ResizeGrow size mode) e = MayFailToGrow new mode e

@@ -6,7 +6,7 @@ use Rattle.qcow2_disk.specs.AbstractImages.{AbstractImage, Setting}
 use Rattle.qcow2_disk.specs.Rules.{answered}
 use Rattle.qcow2_disk.specs.Runs.{State, RefinesState, RefinesCommand, HasNoInvalidation, begun}
 use Rattle.qcow2_metadata.specs.Header.{cluster_size}
-use Rattle.qcow2_alloc.specs.ImageError.{IsOfTables}
+use Rattle.qcow2_alloc.specs.ImageError.{IsFaultOrLimit}
 use Rattle.qcow2_alloc.specs.ImageFile.{known_in}
 use Rattle.qcow2_image.specs.declared.image.Qcow2.{Qcow2}
 use Rattle.qcow2_image.specs.declared.mapping.Mapping.{Mapping}
@@ -50,7 +50,7 @@ abbrev pub SlotsAfter : (before : List (Option Prepared)) → Command → Reply 
 SlotsAfter before (C.PrepareDataMapping slot offset n overwrite) (R.Prepared host count existing) after =
     (p : Prepared) × FillsSlot before slot p after × (host ≡ offset_of p) × (count ≡ length_of p) × (existing ≡ is_none (table_of p))
 SlotsAfter before (C.CommitDataMapping slot) R.Done after = EmptiesSlot before slot after
-SlotsAfter before (C.CommitDataMapping slot) (R.Refused e) after = (after ≡ before) ⊎ (IsOfTables e × EmptiesSlot before slot after)
+SlotsAfter before (C.CommitDataMapping slot) (R.Refused e) after = (after ≡ before) ⊎ (IsFaultOrLimit e × EmptiesSlot before slot after)
 SlotsAfter before (C.DiscardDataMapping slot) R.Done after = EmptiesSlot before slot after
 SlotsAfter before command reply after = after ≡ before
 

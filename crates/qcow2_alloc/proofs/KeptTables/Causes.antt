@@ -1,6 +1,6 @@
 -- Why calls of the caches are refused, whatever they hold; and on sound caches.
 use Rattle.std.proofs.Common.{◌≡◌, ◌⊎◌, ◌≤◌, ◌^◌, arith, inl, inr, ℕ, Bool, true, false, eqb, List, [], length, Option, Some, Result, Ok, Err, IfErr, IsErr, IsErrAnd, IsSome, refl, sym, ◌∙◌, subst, IfSome}
-use Rattle.qcow2_alloc.proofs.Common.{IsNone, lookup, lookup_entry, remove_entry, promoted, StorageView, Bytes, MetadataError, HeaderFields, L2TableView, RefBlockView, HasPlace, IsOfStorageOrMemory, Pending, AreNamedBlocks, Slot, CacheError, InUse, StillInUse, Memory, Backend, L2CacheBackend, RefBlockCacheBackend, MetadataCaches, with_entries, ImageError, ImageStorage, Cache, pinned, Steps, Unit₀, Flushes, GetsNew, InsertsNew, Replaces, CachesHaveRoom, AreAllPinned, IsInUseOrFault, of_metadata, of_cache, IsFault, IsFaultOr, TablesFit, BlocksFit, AllFit, AreBlocksPinned, MayFailInsertingL2, MayFailInsertingRb, MayFailLoadingL2, MayFailLoadingRb, IsOfTables, IsOfTable, storage_of, l2_steps, rb_steps, cleared_l2, cleared_rb, IsTableOf, IsBlockOf, HavePlaces, CacheInvariant, err_of, FailsFor, IsFreeOf, l2_tables, refblocks}
+use Rattle.qcow2_alloc.proofs.Common.{IsNone, lookup, lookup_entry, remove_entry, promoted, StorageView, Bytes, MetadataError, HeaderFields, L2TableView, RefBlockView, HasPlace, IsOfStorageOrMemory, Pending, AreNamedBlocks, Slot, CacheError, InUse, StillInUse, Memory, Backend, L2CacheBackend, RefBlockCacheBackend, MetadataCaches, with_entries, ImageError, ImageStorage, Cache, pinned, Steps, Unit₀, Flushes, GetsNew, InsertsNew, Replaces, CachesHaveRoom, AreAllPinned, IsInUseOrFault, of_metadata, of_cache, IsFault, IsFaultOr, TablesFit, BlocksFit, AllFit, AreBlocksPinned, MayFailInsertingL2, MayFailInsertingRb, MayFailLoadingL2, MayFailLoadingRb, IsOfTablesIf, IsOfTable, storage_of, l2_steps, rb_steps, cleared_l2, cleared_rb, IsTableOf, IsBlockOf, HavePlaces, CacheInvariant, err_of, FailsFor, IsFreeOf, l2_tables, refblocks}
 use Rattle.image_access.specs.declared.error.StorageError.TheVariants as S
 use Rattle.qcow2_metadata.specs.declared.error.MetadataError.TheVariants as M
 use Rattle.qcow2_alloc.specs.declared.error.ImageError.TheVariants as I
@@ -228,11 +228,11 @@ block_alone caches e room fit (inl used) = absurd (blocks_room caches room used.
 block_alone caches e room fit (inr is) = fault_alone e fit is
 
 -- ---- among the refusals of tables
-pub fault_or_of_tables : (P : Type 0) (e : ImageError) → IsFaultOr P e → IsOfTables e
-fault_or_of_tables P e (inl (inl is)) = subst IsOfTables (sym is) tt
-fault_or_of_tables P e (inl (inr is)) = subst IsOfTables (sym is) tt
-fault_or_of_tables P e (inr limit) = subst IsOfTables (sym limit.0) tt
+pub fault_or_of_tables : (unaligned P : Type 0) (e : ImageError) → IsFaultOr P e → IsOfTablesIf unaligned e
+fault_or_of_tables unaligned P e (inl (inl is)) = subst (IsOfTablesIf unaligned) (sym is) tt
+fault_or_of_tables unaligned P e (inl (inr is)) = subst (IsOfTablesIf unaligned) (sym is) tt
+fault_or_of_tables unaligned P e (inr limit) = subst (IsOfTablesIf unaligned) (sym limit.0) tt
 
-pub in_use_of_tables : (Full P : Type 0) (e : ImageError) → ((e ≡ I.InUse) × Full) ⊎ IsFaultOr P e → IsOfTables e
-in_use_of_tables Full P e (inl used) = subst IsOfTables (sym used.0) tt
-in_use_of_tables Full P e (inr is) = fault_or_of_tables P e is
+pub in_use_of_tables : (unaligned Full P : Type 0) (e : ImageError) → ((e ≡ I.InUse) × Full) ⊎ IsFaultOr P e → IsOfTablesIf unaligned e
+in_use_of_tables unaligned Full P e (inl used) = subst (IsOfTablesIf unaligned) (sym used.0) tt
+in_use_of_tables unaligned Full P e (inr is) = fault_or_of_tables unaligned P e is

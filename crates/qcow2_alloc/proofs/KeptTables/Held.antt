@@ -1,10 +1,11 @@
--- A flush leaves the bytes of each cached table the same.
+-- A flush leaves the contents of each cached table the same.
 use Rattle.std.proofs.Common.{◌≡◌, ◌∷◌, ℕ, Bool, inl, inr, eqb, List, [], Option, Some, None, Result, ap, ◌∙◌}
-use Rattle.qcow2_alloc.proofs.Common.{cases_Bool, option_map, StorageView, MetadataError, RefBlockView, Slot, CacheError, RefBlockCacheBackend, MetadataCaches, ImageStorage, Cache, value_at, Steps, Unit₀, Flushes, FlushesEntry, FlushesAll, storage_of, rb_at, rb_steps}
+use Rattle.qcow2_alloc.proofs.Common.{cases_Bool, option_map, StorageView, MetadataError, RefBlockView, Slot, CacheError, RefBlockCacheBackend, MetadataCaches, ImageStorage, Cache, value_at, Steps, Unit₀, Flushes, FlushesEntry, FlushesAll, storage_of, rb_at, rb_steps, l2_steps, cleared_l2, L2CacheBackend, L2TableView}
+use Rattle.qcow2_alloc.specs.CacheSteps.{KeepsHeldTables}
 use Rattle.qcow2_alloc.proofs.KeptTables.Flushing.{all_of}
 
-module _ {S V E : Type 0} (steps : Steps S ℕ V E) (bytes : V → List ℕ) (keeps : (s t : S) (k : ℕ) (v w : V) → steps.flushed s k v w t → bytes w ≡ bytes v) (test : ℕ → Bool) where
-  abbrev bytes_held : List (ℕ × Slot V) → Option (List ℕ)
+module _ {S V E X : Type 0} (steps : Steps S ℕ V E) (bytes : V → X) (keeps : (s t : S) (k : ℕ) (v w : V) → steps.flushed s k v w t → bytes w ≡ bytes v) (test : ℕ → Bool) where
+  abbrev bytes_held : List (ℕ × Slot V) → Option X
   bytes_held es = option_map bytes (value_at test es)
 
   entry_held : (s t : S) (e : ℕ × Slot V) (x : Option E) (d : Slot V) → FlushesEntry steps s e x t d → bytes d.value ≡ bytes e.1.value
@@ -30,3 +31,11 @@ blocks_held {S} view old new caches rb result h c =
     let steps = rb_steps (λ (s : ImageStorage S). view (storage_of s)) caches.rb.backend.header.fields in
     let all = all_of steps old new caches.rb.entries rb.entries result h in
     all_held steps (λ (b : RefBlockView). b.bytes) (λ s t k v w f. ap (λ (b : RefBlockView). b.bytes) f.clean) (λ k. eqb c k) old new caches.rb.entries rb.entries all.0 all.1
+
+-- and one of the L2 tables its entries
+pub tables_held : {S : Type 0} (view : S → StorageView) (old new : ImageStorage S) (caches : MetadataCaches S) (l2 : Cache (L2CacheBackend S) ℕ L2TableView) (result : Result Unit₀ (CacheError ℕ MetadataError))
+    → Flushes (l2_steps (λ s. view (storage_of s)) caches.l2.backend.header.fields) old caches.l2.entries result new l2.entries → KeepsHeldTables caches (record caches { l2 = l2 })
+tables_held {S} view old new caches l2 result h c =
+    let steps = l2_steps (λ (s : ImageStorage S). view (storage_of s)) caches.l2.backend.header.fields in
+    let all = all_of steps old new caches.l2.entries l2.entries result h in
+    all_held steps cleared_l2 (λ s t k v w f. ap cleared_l2 f.clean) (λ k. eqb c k) old new caches.l2.entries l2.entries all.0 all.1

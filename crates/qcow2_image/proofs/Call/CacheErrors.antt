@@ -1,8 +1,8 @@
 -- Refusals of the caches, of lookups and of reads are among the refusals that come during the work of a call.
-use Rattle.std.proofs.Common.{◌≡◌, ◌⊎◌, ◌+◌, inl, inr, ℕ, sym, subst}
-use Rattle.qcow2_image.proofs.Common.{ImageError, IsFaultOr, IsOfTables, MayFail, MayFailFinding, MayFailPuttingAt, MayFailReadingFound, MayFailTelling, MayFailToRead, Prepared, Qcow2}
+use Rattle.std.proofs.Common.{◌≡◌, ◌⊎◌, inl, inr, ℕ, sym, subst}
+use Rattle.qcow2_image.proofs.Common.{ImageError, IsFaultOr, IsOfTables, MayFailIf, MayFailFinding, MayFailReadingFound, MayFailTelling, MayFailToRead, Qcow2}
 use Rattle.qcow2_alloc.specs.declared.error.ImageError.TheVariants as I
-use Rattle.qcow2_image.proofs.Call.FailingErrors.{read_met}
+use Rattle.qcow2_image.proofs.Call.FailingErrors.{fault_met}
 
 pub fault_or_tables : (P : Type 0) (e : ImageError) → IsFaultOr P e → IsOfTables e
 fault_or_tables P e (inl (inl is)) = subst IsOfTables (sym is) tt
@@ -18,11 +18,13 @@ in_use_read : (Full P : Type 0) (e : ImageError) → ((e ≡ I.InUse) × Full) �
 in_use_read Full P e (inl used) = subst MayFailToRead (sym used.0) tt
 in_use_read Full P e (inr is) = fault_or_read P e is
 
-pub fault_or_met : (P : Type 0) (e : ImageError) → IsFaultOr P e → MayFail e
-fault_or_met P e is = read_met e (fault_or_read P e is)
+pub fault_or_met : (unaligned P : Type 0) (e : ImageError) → IsFaultOr P e → MayFailIf unaligned e
+fault_or_met unaligned P e (inl fault) = fault_met unaligned e fault
+fault_or_met unaligned P e (inr limit) = subst (MayFailIf unaligned) (sym limit.0) tt
 
-pub in_use_met : (Full P : Type 0) (e : ImageError) → ((e ≡ I.InUse) × Full) ⊎ IsFaultOr P e → MayFail e
-in_use_met Full P e is = read_met e (in_use_read Full P e is)
+pub in_use_met : (unaligned Full P : Type 0) (e : ImageError) → ((e ≡ I.InUse) × Full) ⊎ IsFaultOr P e → MayFailIf unaligned e
+in_use_met unaligned Full P e (inl used) = subst (MayFailIf unaligned) (sym used.0) tt
+in_use_met unaligned Full P e (inr is) = fault_or_met unaligned P e is
 
 module _ {S F : Type 0} (old new : Qcow2 S F) (offset n : ℕ) (e : ImageError) where
   pub finding_tables : MayFailFinding old new offset n e → IsOfTables e
@@ -47,14 +49,6 @@ module _ {S F : Type 0} (old new : Qcow2 S F) (offset n : ℕ) (e : ImageError) 
   pub telling_or : (P : Type 0) → MayFailTelling old new offset n e ⊎ P → MayFailToRead e ⊎ P
   telling_or P (inl telling) = inl (telling_read telling)
   telling_or P (inr is) = inr is
-
--- of a put too
-pub putting_met : {S F : Type 0} (old new : Qcow2 S F) (p : Prepared) (at n : ℕ) (e : ImageError) → (e ≡ I.OutdatedMapping → ⊥) → MayFailPuttingAt old new p at n e → MayFail e
-putting_met old new p at n e current (inl (inl is)) = subst MayFail (sym is) tt
-putting_met old new p at n e current (inl (inr is)) = subst MayFail (sym is) tt
-putting_met old new p at n e current (inr (inl again)) = read_met e (found_read old new (p.guest + at) n e current (inl again.1))
-putting_met old new p at n e current (inr (inr (inl past))) = subst MayFail (sym past.0) tt
-putting_met old new p at n e current (inr (inr (inr first))) = subst MayFail (sym first.0) tt
 
 -- a refusal for an entry that is not on a cluster
 pub unaligned_as : {P : Type 0} (C : ImageError → Type 0) (e : ImageError) → (e ≡ I.UnalignedTable) × P → C I.UnalignedTable → C e

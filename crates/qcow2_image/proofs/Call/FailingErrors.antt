@@ -1,6 +1,8 @@
 -- Refusals of tables and of lower layers are among the refusals that come during the work of a call.
-use Rattle.std.proofs.Common.{◌≡◌, inl, inr, refl, sym, subst}
-use Rattle.qcow2_image.proofs.Common.{StorageError, MetadataError, ImageError, IsOfLengthOrMemory, IsOfPrepared, of_storage, of_metadata, IsOfReftableLoad, IsOfTables, MappingKind, MayFail, MayFailCopying, MayFailReading, MayFailToInvalidate, MayFailToRead, MayFailWriting}
+use Rattle.std.proofs.Common.{◌≡◌, inl, inr, refl, sym, subst, Option, Some}
+use Rattle.std.specs.Prelude.{IsSomeAnd}
+use Rattle.qcow2_alloc.specs.Allocation.{HasUnaligned}
+use Rattle.qcow2_image.proofs.Common.{Allocator, IsFault, IsOfTablesIf, MayFailIf, MayFailOn, Qcow2, StorageError, MetadataError, ImageError, IsOfLengthOrMemory, IsOfPrepared, of_storage, of_metadata, IsFaultOr, IsFaultOrLimit, IsOfReftableLoad, IsOfTables, MappingKind, MayFail, MayFailCopying, MayFailReading, MayFailToInvalidate, MayFailToRead, MayFailWriting}
 use Rattle.image_access.specs.declared.error.StorageError.TheVariants as S
 use Rattle.qcow2_metadata.specs.declared.error.MetadataError.TheVariants as M
 use Rattle.qcow2_alloc.specs.declared.error.ImageError.TheVariants as I
@@ -22,55 +24,89 @@ read_met I.Memory h = tt
 read_met I.Storage h = tt
 read_met e h = absurd h
 
-pub tables_met : (e : ImageError) → IsOfTables e → MayFail e
-tables_met e tables = read_met e (tables_read e tables)
+pub tables_met : (unaligned : Type 0) (e : ImageError) → IsOfTablesIf unaligned e → MayFailIf unaligned e
+tables_met unaligned I.UnalignedTable h = h
+tables_met unaligned I.InUse h = tt
+tables_met unaligned I.Limit h = tt
+tables_met unaligned I.Memory h = tt
+tables_met unaligned I.Storage h = tt
+tables_met unaligned e h = absurd h
+
+-- with another cause of 4
+pub met_if : {P Q : Type 0} (more : P → Q) (e : ImageError) → MayFailIf P e → MayFailIf Q e
+met_if more I.UnalignedTable h = more h
+met_if more I.Compressed h = tt
+met_if more I.InUse h = tt
+met_if more I.Limit h = tt
+met_if more I.Memory h = tt
+met_if more I.Storage h = tt
+met_if more I.Metadata h = tt
+met_if more I.Overflow h = tt
+met_if more e h = absurd h
+
+pub met_any : {S F : Type 0} (image : Qcow2 S F) (e : ImageError) → MayFailOn image e → MayFail e
+met_any image e met = met_if (λ _. tt) e met
+
+-- of the allocator
+pub allocator_met : {S F : Type 0} (image : Qcow2 S F) (allocator : Allocator) → image.allocator ≡ Some allocator → (e : ImageError) → IsOfTablesIf (HasUnaligned image.file.header.fields allocator.reftable) e → MayFailOn image e
+allocator_met image allocator is e tables = met_if (λ off. inl (subst (λ (a : Option Allocator). IsSomeAnd a (λ x. HasUnaligned image.file.header.fields x.reftable)) (sym is) off)) e (tables_met _ e tables)
 
 pub reftable_met : (e : ImageError) → IsOfReftableLoad e → MayFail e
 reftable_met e (inl is) = subst MayFail (sym is) tt
-reftable_met e (inr tables) = tables_met e tables
+reftable_met e (inr tables) = tables_met _ e tables
+
+-- ---- clusters that are freed, and caches that are flushed
+pub fault_met : (unaligned : Type 0) (e : ImageError) → IsFault e → MayFailIf unaligned e
+fault_met unaligned e (inl storage) = subst (MayFailIf unaligned) (sym storage) tt
+fault_met unaligned e (inr memory) = subst (MayFailIf unaligned) (sym memory) tt
+
+pub freeing_met : (unaligned : Type 0) (e : ImageError) → IsFaultOrLimit e → MayFailIf unaligned e
+freeing_met unaligned e (inl fault) = fault_met unaligned e fault
+freeing_met unaligned e (inr limit) = subst (MayFailIf unaligned) (sym limit) tt
+
+pub freeing_read : (e : ImageError) → IsFaultOrLimit e → MayFailToRead e
+freeing_read e (inl (inl storage)) = subst MayFailToRead (sym storage) tt
+freeing_read e (inl (inr memory)) = subst MayFailToRead (sym memory) tt
+freeing_read e (inr limit) = subst MayFailToRead (sym limit) tt
+
+pub storage_or_limit : (e : StorageError) → IsFaultOrLimit (of_storage e)
+storage_or_limit S.Fault = inl (inl refl)
+storage_or_limit S.Memory = inl (inr refl)
+
+pub fault_or_limit : (P : Type 0) (e : ImageError) → IsFaultOr P e → IsFaultOrLimit e
+fault_or_limit P e (inl fault) = inl fault
+fault_or_limit P e (inr limit) = inr limit.0
 
 -- ---- bytes that are read, copied or written
-pub reading_copied : (kind : MappingKind) (e : ImageError) → MayFailReading kind e → MayFailCopying kind e
-reading_copied kind e (inl (inl storage)) = inl (subst MayFail (sym storage) tt)
-reading_copied kind e (inl (inr memory)) = inl (subst MayFail (sym memory) tt)
-reading_copied kind e (inr (inl special)) = inl (subst MayFail (sym special.0) tt)
-reading_copied kind e (inr (inr past)) = inr past
+pub reading_copied : {S F : Type 0} (new : Qcow2 S F) (kind : MappingKind) (e : ImageError) → MayFailReading kind e → MayFailCopying new kind e
+reading_copied new kind e (inl fault) = inl (fault_met _ e fault)
+reading_copied new kind e (inr (inl special)) = inl (subst (MayFailOn new) (sym special.0) tt)
+reading_copied new kind e (inr (inr past)) = inr past
 
-pub writing_met : (e : ImageError) → MayFailWriting e → MayFail e
-writing_met e (inl (inl storage)) = subst MayFail (sym storage) tt
-writing_met e (inl (inr memory)) = subst MayFail (sym memory) tt
-writing_met e (inr metadata) = subst MayFail (sym metadata) tt
+pub writing_met : (unaligned : Type 0) (e : ImageError) → MayFailWriting e → MayFailIf unaligned e
+writing_met unaligned e (inl fault) = fault_met unaligned e fault
+writing_met unaligned e (inr metadata) = subst (MayFailIf unaligned) (sym metadata) tt
 
 -- ---- errors of the storage
-pub storage_of_tables : (e : StorageError) → IsOfTables (of_storage e)
-storage_of_tables S.Fault = tt
-storage_of_tables S.Memory = tt
-
 pub storage_read : (e : StorageError) → MayFailToRead (of_storage e)
 storage_read S.Fault = tt
 storage_read S.Memory = tt
 
-pub storage_met : (e : StorageError) → MayFail (of_storage e)
-storage_met S.Fault = tt
-storage_met S.Memory = tt
+pub storage_met : (unaligned : Type 0) (e : StorageError) → MayFailIf unaligned (of_storage e)
+storage_met unaligned S.Fault = tt
+storage_met unaligned S.Memory = tt
 
 -- ---- errors of tables
-pub unaligned_of_tables : (e : MetadataError) → e ≡ M.Unaligned → IsOfTables (of_metadata e)
-unaligned_of_tables e is = subst (λ (x : MetadataError). IsOfTables (of_metadata x)) (sym is) tt
+pub memory_met : (unaligned : Type 0) (e : MetadataError) → e ≡ M.Memory → MayFailIf unaligned (of_metadata e)
+memory_met unaligned e is = subst (λ (x : MetadataError). MayFailIf unaligned (of_metadata x)) (sym is) tt
 
-pub unaligned_met : (e : MetadataError) → e ≡ M.Unaligned → MayFail (of_metadata e)
-unaligned_met e is = subst (λ (x : MetadataError). MayFail (of_metadata x)) (sym is) tt
-
-pub memory_met : (e : MetadataError) → e ≡ M.Memory → MayFail (of_metadata e)
-memory_met e is = subst (λ (x : MetadataError). MayFail (of_metadata x)) (sym is) tt
-
-pub length_met : (IsTooLong : Type 0) (e : MetadataError) → IsOfLengthOrMemory IsTooLong e → MayFail (of_metadata e)
-length_met IsTooLong M.Memory h = tt
-length_met IsTooLong M.Limit h = tt
-length_met IsTooLong e h = absurd h
+pub length_met : (unaligned IsTooLong : Type 0) (e : MetadataError) → IsOfLengthOrMemory IsTooLong e → MayFailIf unaligned (of_metadata e)
+length_met unaligned IsTooLong M.Memory h = tt
+length_met unaligned IsTooLong M.Limit h = tt
+length_met unaligned IsTooLong e h = absurd h
 
 pub header_anew : (e : MetadataError) → MayFailToInvalidate (of_metadata e)
-header_anew (M.Storage e) = inl (storage_met e)
+header_anew (M.Storage e) = inl (storage_met _ e)
 header_anew M.Version = inr (inl refl)
 header_anew e = inl tt
 

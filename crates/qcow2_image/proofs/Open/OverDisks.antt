@@ -18,6 +18,7 @@ module _ {S F : Type 0} (before : StorageView) (writable : Bool) (number : ℕ) 
     number_is = is.number_is;
     works = is.works;
     writable_is = is.writable_is;
+    room = is.room;
     unpinned = λ has. is.unpinned (record { cluster = has.cluster; pins = has.pins });
     unmodified = is.unmodified;
     header_cluster = is.header_cluster;

@@ -125,4 +125,4 @@ module _ {S F : Type 0} (view : S → StorageView) (backing : F → BackingView)
 
     -- refused before anything was done
     pub early_refused : (e : ImageError) → MayFail e → IsUnlimited e → RefusedGrown view backing size mode old old out e
-    early_refused e may_fail unlimited = grown_refused old e (refused_here view backing out old (size_of old) end e (λ is. met_taken e may_fail is) (limited_not e unlimited) sound)
+    early_refused e may_fail unlimited = grown_refused old e (refused_here view backing out old (size_of old) end e (λ is. met_taken _ e may_fail is) (limited_not e unlimited) sound)

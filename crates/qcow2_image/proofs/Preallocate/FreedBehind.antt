@@ -1,20 +1,21 @@
 -- A growth is refused, and clusters are freed after the refusal.
 use Rattle.std.proofs.Common.{◌≡◌, ◌<◌, ◌⊎◌, ◌∙◌, inl, inr, ℕ, true, List, [], sym, subst, Option, Result, Err}
-use Rattle.qcow2_image.proofs.Common.{MayFailPreparing, HeaderView, BackingView, StorageView, PreallocateMode, GivenBytes, works_less, works_then, IsFault, ImageError, RefusedCall, Qcow2, Prepared, ImageInvariant, abstract_of, pending_in, FillsGrownInPart, InterruptedGiving, all_given_by_growing, FreesRefused, IsOfTables, MayFailToGrow, TablePrepared}
-use Rattle.qcow2_image.proofs.Call.FailingErrors.{tables_met}
+use Rattle.qcow2_image.proofs.Common.{MayFailPreparing, HeaderView, BackingView, StorageView, PreallocateMode, GivenBytes, works_less, works_then, IsFault, ImageError, RefusedCall, Qcow2, Prepared, ImageInvariant, abstract_of, pending_in, FillsGrownInPart, InterruptedGiving, all_given_by_growing, FreesRefused, IsFaultOrLimit, MayFailToGrow, TablePrepared}
+use Rattle.qcow2_image.proofs.Call.FailingErrors.{freeing_met}
+use Rattle.qcow2_image.proofs.Prepare.PinnedL2Tables.{freed_untaken}
 
 pub same_refusal : {A : Type 0} (r : Result A ImageError) (e e' : ImageError) → r ≡ Err e → r ≡ Err e' → e ≡ e'
 same_refusal r e e' was is = let both : Err e ≡ Err e' = sym was ∙ is in cc
 
 -- what is reported afterwards is the refusal, or one of freeing clusters
-pub grow_told : {S F : Type 0} (mid new : Qcow2 S F) (mode : PreallocateMode) (e e' : ImageError) → new.file.header ≡ mid.file.header → (MayFailPreparing mid e → MayFailPreparing new e') → MayFailToGrow mid mode e → (e' ≡ e) ⊎ IsOfTables e' → MayFailToGrow new mode e'
+pub grow_told : {S F : Type 0} (mid new : Qcow2 S F) (mode : PreallocateMode) (e e' : ImageError) → new.file.header ≡ mid.file.header → (MayFailPreparing mid e → MayFailPreparing new e') → MayFailToGrow mid mode e → (e' ≡ e) ⊎ IsFaultOrLimit e' → MayFailToGrow new mode e'
 grow_told mid new mode e e' header cause (inl preparing) told = inl (cause preparing)
 grow_told mid new mode e e' header cause (inr version) (inl same) = inr (same ∙ version.0, version.1, subst (λ (h : HeaderView). h.fields.version < 3) (sym header) version.2)
-grow_told mid new mode e e' header cause (inr version) (inr tables) = inl (inl (tables_met e' tables))
+grow_told mid new mode e e' header cause (inr version) (inr tables) = inl (inl (freeing_met _ e' tables))
 
-pub taken_told : (e e' : ImageError) → (e' ≡ e) ⊎ IsOfTables e' → e' ≡ TablePrepared → e ≡ TablePrepared
+pub taken_told : (e e' : ImageError) → (e' ≡ e) ⊎ IsFaultOrLimit e' → e' ≡ TablePrepared → e ≡ TablePrepared
 taken_told e e' (inl same) taken = sym same ∙ taken
-taken_told e e' (inr tables) taken = absurd (subst IsOfTables taken tables)
+taken_told e e' (inr tables) taken = absurd (freed_untaken e' tables taken)
 
 module _ {S F : Type 0} (view : S → StorageView) (backing : F → BackingView) (out : List (Option Prepared)) (old mid new : Qcow2 S F) (size : ℕ) (mode : PreallocateMode) (e e' : ImageError) where
   abbrev given : List GivenBytes

@@ -9,7 +9,7 @@ use Rattle.qcow2_image.proofs.Lemmas.{Quietly, listed, image_step_stays, stays_k
 -- bytes that are not written are neither outdated nor compressed
 pub written_current : {A : Type 0} (result : Result A ImageError) → IfErr result MayFailWriting → result ≡ Err I.OutdatedMapping → ⊥
 written_current (Ok done) why is = absurd cc
-written_current (Err e) why is = let outdated : e ≡ I.OutdatedMapping = cc in subst MayFail outdated (writing_met e why)
+written_current (Err e) why is = let outdated : e ≡ I.OutdatedMapping = cc in subst MayFail outdated (writing_met _ e why)
 
 pub written_plain : {A : Type 0} (kind : MappingKind) (result : Result A ImageError) → IfErr result MayFailWriting → result ≡ Err I.Compressed → IsSpecial kind
 written_plain kind (Ok done) why is = absurd cc

@@ -72,7 +72,7 @@ returns-in-Err-clause-any g c = (
 pub returns-in_err-read-clause-late : goal.returns-in_err-read-clause-late
 returns-in_err-read-clause-late g c = λ none out sound.
     subst (λ r. IfErr r (IsReasonNotToWrite g.S.Storage.view g.F.BackingDisk.backing c.args.image.now c.args.image.now c.args.at (c.args.at + length c.args.wanted.now) out)) (sym (refused_is _ (of_storage c.in_err-read.field-0.0) c.from_residual.ensures))
-    (inl (storage_met c.in_err-read.field-0.0, other_limit _ (of_storage c.in_err-read.field-0.0) (storage_unlimited c.in_err-read.field-0.0)))
+    (inl (storage_met _ c.in_err-read.field-0.0, other_limit _ (of_storage c.in_err-read.field-0.0) (storage_unlimited c.in_err-read.field-0.0)))
 
 pub returns-in_err-read_into-clause-late : goal.returns-in_err-read_into-clause-late
 returns-in_err-read_into-clause-late g c = λ none out sound.

@@ -1,6 +1,6 @@
 use Rattle.qcow2_session.proofs.convert.to_qcow2.Goals as goal
 use Rattle.std.proofs.Common.{◌≡◌, ◌⊎◌, IfErr, inl, inr, refl, sym, ap, ◌∙◌, subst, length, Ok, Err, rules}
-use Rattle.qcow2_session.proofs.Common.{HasCause, size_of, refuses_to_read, storage_met, storage_read, tables_met, tables_read, fault_unlimited, storage_unlimited, other_limit, fault_of_storage, of_storage, InvalidOption, Memory, DiffersWhereKept, Imports, ImportsAll, MayFailImporting, IsReasonNotToWrite, IsRefusedUnequal, IsOfReading, behind_none, behind_then, written_then}
+use Rattle.qcow2_session.proofs.Common.{freeing_read, HasCause, size_of, refuses_to_read, storage_met, storage_read, freeing_met, fault_unlimited, storage_unlimited, other_limit, fault_of_storage, of_storage, InvalidOption, Memory, DiffersWhereKept, Imports, ImportsAll, MayFailImporting, IsReasonNotToWrite, IsRefusedUnequal, IsOfReading, behind_none, behind_then, written_then}
 use Rattle.qcow2_session.proofs.Lemmas.{converted, converting_else, converting_image, converting_part, converting_raw, so_far_call, so_far_none, so_far_part, so_far_then, any_nothing, imports_nothing, imports_unflushed, imports_flushed, refused_none, answered_at_once, in_parts, refused_at_once, refused_is, quiet_image}
 use Rattle.qcow2_session.proofs.Differing.{early_reading, option_other, reading_differs, reading_other, size_untold}
 
@@ -113,7 +113,7 @@ returns-in_err-size-clause-fails g c = record {
       );
   option = search rules;
   cause = search rules;
-  late = λ none out sound. subst (λ r. IfErr r (λ e. (e ≡ InvalidOption) ⊎ IsReasonNotToWrite g.S.Storage.view g.F.BackingDisk.backing c.args.image.now c.args.image.now 0 (size_of c.args.image.now) out e)) (sym (refused_is _ (of_storage c.in_err-size.field-0.0) c.from_residual-in_err-size.ensures)) (inr (inl (storage_met c.in_err-size.field-0.0, other_limit _ (of_storage c.in_err-size.field-0.0) (storage_unlimited c.in_err-size.field-0.0))));
+  late = λ none out sound. subst (λ r. IfErr r (λ e. (e ≡ InvalidOption) ⊎ IsReasonNotToWrite g.S.Storage.view g.F.BackingDisk.backing c.args.image.now c.args.image.now 0 (size_of c.args.image.now) out e)) (sym (refused_is _ (of_storage c.in_err-size.field-0.0) c.from_residual-in_err-size.ensures)) (inr (inl (storage_met _ c.in_err-size.field-0.0, other_limit _ (of_storage c.in_err-size.field-0.0) (storage_unlimited c.in_err-size.field-0.0))));
   may_fail = λ none out sound.
       subst (λ r. IfErr r (λ e. (e ≡ InvalidOption) ⊎ MayFailImporting g.S.Storage.view 0 (size_of c.args.image.now) c.args.image.now out e)) (sym (refused_is _ (of_storage c.in_err-size.field-0.0) c.from_residual-in_err-size.ensures)) (inr (inl (inl (fault_of_storage c.in_err-size.field-0.0))));
   differs = λ honest.
@@ -187,7 +187,7 @@ returns-in_err-flush-clause-fails g c = record {
   cause = search rules;
   late = λ none out sound.
       let now = ((c.in_ok-import_all.ensures.any.2 out).answer sound).0 in
-      subst (λ r. IfErr r (λ e. (e ≡ InvalidOption) ⊎ IsReasonNotToWrite g.S.Storage.view g.F.BackingDisk.backing c.args.image.now c.flush.new.self 0 (size_of c.args.image.now) out e)) (sym (refused_is _ c.in_err-flush.field-0.0 c.from_residual-in_err-flush.ensures)) (inr (inl (tables_met c.in_err-flush.field-0.0 (c.in_err-flush.ensures.fails.late now.works), other_limit _ c.in_err-flush.field-0.0 (fault_unlimited c.in_err-flush.field-0.0 (c.in_err-flush.ensures.fails.fault out now)))));
+      subst (λ r. IfErr r (λ e. (e ≡ InvalidOption) ⊎ IsReasonNotToWrite g.S.Storage.view g.F.BackingDisk.backing c.args.image.now c.flush.new.self 0 (size_of c.args.image.now) out e)) (sym (refused_is _ c.in_err-flush.field-0.0 c.from_residual-in_err-flush.ensures)) (inr (inl (freeing_met _ c.in_err-flush.field-0.0 (c.in_err-flush.ensures.fails.late now.works), other_limit _ c.in_err-flush.field-0.0 (fault_unlimited c.in_err-flush.field-0.0 (c.in_err-flush.ensures.fails.fault out now)))));
   may_fail = λ none out sound.
       let now = ((c.in_ok-import_all.ensures.any.2 out).answer sound).0 in
       subst (λ r. IfErr r (λ e. (e ≡ InvalidOption) ⊎ MayFailImporting g.S.Storage.view 0 (size_of c.args.image.now) c.flush.new.self out e)) (sym (refused_is _ c.in_err-flush.field-0.0 c.from_residual-in_err-flush.ensures)) (inr (inl (inl (c.in_err-flush.ensures.fails.fault out now))));
@@ -195,7 +195,7 @@ returns-in_err-flush-clause-fails g c = record {
       let e = c.in_err-flush.field-0.0 in
       subst (λ r. IfErr r (DiffersWhereKept g.S.Storage.view g.F.BackingDisk.backing c.args.image.now 0 (g.R.Storage.view c.args.raw.now).contents)) (sym (refused_is _ e c.from_residual-in_err-flush.ensures))
       (λ out sound kept shows.
-      reading_other e (inl (tables_read e (c.in_err-flush.ensures.fails.late (((c.in_ok-import_all.ensures.any.2 out).answer sound).0).works))) kept);
+      reading_other e (inl (freeing_read e (c.in_err-flush.ensures.fails.late (((c.in_ok-import_all.ensures.any.2 out).answer sound).0).works))) kept);
 }
 
 pub returns-in_err-check_read-clause-step : goal.returns-in_err-check_read-clause-step

@@ -1,5 +1,5 @@
 use Rattle.std.proofs.Common.{◌≡◌, inl, inr, refl, sym, ap, subst, ◌∙◌, List, Option, Some, None, Err, rules}
-use Rattle.qcow2_session.proofs.Common.{MarksAtOnce, slice_get, slice_set, IsNone, RefinesCommand, commit, done, misuse, refused, done_as, refused_as, none_as, image_abstraction, abstract_image, refusal_of, Commits, reason_of, fault_of, AreExisting, is_failed, table_of, IsOfTables, behind_none, reads_none, get_set_same, set_set, set_same}
+use Rattle.qcow2_session.proofs.Common.{MarksAtOnce, slice_get, slice_set, IsNone, RefinesCommand, commit, done, misuse, refused, done_as, refused_as, none_as, image_abstraction, abstract_image, refusal_of, Commits, reason_of, fault_of, AreExisting, is_failed, table_of, IsFaultOrLimit, behind_none, reads_none, get_set_same, set_set, set_same}
 use Rattle.qcow2_session.proofs.Lemmas.{at_rest, commit_at_once, set_again, found_at, none_at, does_commit, refuses_commit, not_both, not_old_tables, kept_is, existing_set, is_done, is_misused, is_refused, kept_error, kept_same, not_failed, not_free, same_mapping, where_failed, where_works, quiet_commit}
 use Rattle.qcow2_session.specs.declared.session.Command.TheVariants as C
 use Rattle.qcow2_session.specs.declared.session.Reply.TheVariants as R
@@ -70,15 +70,15 @@ returns-in-Err-Spent g c = record {
   finds = search rules;
   after = let own = c.in-Some.ensures.own ∙ c.put.ensures.image ∙ c.requires in
       inr (
-        where_works (IsOfTables c.in-Err-Spent.refusal) (is_failed c.args.image.now) (λ f. not_old_tables c.in-Err-Spent.field-0-is (c.in-Err-Spent.ensures.refusals.failed own f))
-            (λ works. subst (λ r. IsOfTables (reason_of r)) c.in-Err-Spent.field-0-is (c.in-Err-Spent.ensures.refusals.late own works)),
+        where_works (IsFaultOrLimit c.in-Err-Spent.refusal) (is_failed c.args.image.now) (λ f. not_old_tables c.in-Err-Spent.field-0-is (c.in-Err-Spent.ensures.refusals.failed own f))
+            (λ works. subst (λ r. IsFaultOrLimit (reason_of r)) c.in-Err-Spent.field-0-is (c.in-Err-Spent.ensures.refusals.late own works)),
         (c.in-Some.prepared, c.in-Some.ensures.was, c.put.ensures.is),
       );
   reports = tt;
   causes = let own = c.in-Some.ensures.own ∙ c.put.ensures.image ∙ c.requires in
       is_refused g.S.Storage.view g.F.BackingDisk.backing c.args.image.now c.commit_data_mapping.new.self c.args.slots.now.prepared.items (C.CommitDataMapping c.args.slot) c.in-Err-Spent.refusal (R.Refused c.in-Err-Spent.refusal) (λ is. absurd cc) (λ is. absurd cc, λ free. absurd (not_free c.args.slots.now.prepared.items c.args.slot c.in-Some.ensures.was free)) refl
       (where_failed _ (is_failed c.args.image.now) (λ f. absurd (not_old_tables c.in-Err-Spent.field-0-is (c.in-Err-Spent.ensures.refusals.failed own f))))
-      (λ none. subst (λ r. IsOfTables (reason_of r)) c.in-Err-Spent.field-0-is (c.in-Err-Spent.ensures.refusals.late own (not_failed (is_failed c.args.image.now) none)))
+      (λ none. subst (λ r. IsFaultOrLimit (reason_of r)) c.in-Err-Spent.field-0-is (c.in-Err-Spent.ensures.refusals.late own (not_failed (is_failed c.args.image.now) none)))
       (λ _ _. tt) (λ none idle. let no = (c.in-Err-Spent.ensures.existing own (not_failed (is_failed c.args.image.now) none) (subst (λ p. IsNone (table_of p)) (same_mapping c.args.slots.now.prepared.items c.args.slot c.in-Some.ensures.was idle.1) idle.2)).0 in absurd cc) (λ _ sound. fault_of c.in-Err-Spent.refusal ((subst (λ r. Commits g.S.Storage.view g.F.BackingDisk.backing c.args.image.now c.commit_data_mapping.new.self c.in-Some.prepared (Err r)) c.in-Err-Spent.field-0-is c.in-Err-Spent.ensures.sees c.args.slots.now.prepared.items c.args.slot c.in-Some.ensures.was).0 sound));
   quiet = λ reading existing. record { reading = c.commit_data_mapping.ensures.step.image.writable ∙ reading; quiet = quiet_commit g.S.Storage.view c.args.image.now c.commit_data_mapping.new.self (c.commit_data_mapping.ensures.refusals.failed (c.in-Some.ensures.own ∙ c.put.ensures.image ∙ c.requires)) (λ works. c.commit_data_mapping.ensures.existing (c.in-Some.ensures.own ∙ c.put.ensures.image ∙ c.requires) works (existing c.args.slot c.in-Some.prepared c.in-Some.ensures.was)); existing = subst AreExisting (sym c.put.ensures.is) (existing_set c.args.slots.now.prepared.items c.args.slot None existing tt) };
 }
@@ -107,7 +107,7 @@ returns-in-Err-Kept g c = record {
   causes = let own = c.in-Some.ensures.own ∙ c.put.ensures.image ∙ c.requires in
       is_refused g.S.Storage.view g.F.BackingDisk.backing c.args.image.now c.commit_data_mapping.new.self c.args.slots.now.prepared.items (C.CommitDataMapping c.args.slot) c.in-Err-Kept.refusal (R.Refused c.in-Err-Kept.refusal) (λ is. absurd cc) (λ is. absurd cc, λ free. absurd (not_free c.args.slots.now.prepared.items c.args.slot c.in-Some.ensures.was free)) refl
       (where_failed _ (is_failed c.args.image.now) (λ f. (kept_error c.in-Err-Kept.field-0-is (c.in-Err-Kept.ensures.refusals.failed own f).0, (c.in-Err-Kept.ensures.refusals.failed own f).1)))
-      (λ none. subst (λ r. IsOfTables (reason_of r)) c.in-Err-Kept.field-0-is (c.in-Err-Kept.ensures.refusals.late own (not_failed (is_failed c.args.image.now) none)))
+      (λ none. subst (λ r. IsFaultOrLimit (reason_of r)) c.in-Err-Kept.field-0-is (c.in-Err-Kept.ensures.refusals.late own (not_failed (is_failed c.args.image.now) none)))
       (λ _ _. tt) (λ none idle. let no = (c.in-Err-Kept.ensures.existing own (not_failed (is_failed c.args.image.now) none) (subst (λ p. IsNone (table_of p)) (same_mapping c.args.slots.now.prepared.items c.args.slot c.in-Some.ensures.was idle.1) idle.2)).0 in absurd cc) (λ _ sound. fault_of c.in-Err-Kept.refusal ((subst (λ r. Commits g.S.Storage.view g.F.BackingDisk.backing c.args.image.now c.commit_data_mapping.new.self c.in-Some.prepared (Err r)) c.in-Err-Kept.field-0-is c.in-Err-Kept.ensures.sees c.args.slots.now.prepared.items c.args.slot c.in-Some.ensures.was).0 sound));
   quiet = λ reading existing. record {
     reading = c.commit_data_mapping.ensures.step.image.writable ∙ reading;

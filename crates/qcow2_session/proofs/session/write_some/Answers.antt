@@ -1,7 +1,7 @@
 use Rattle.std.proofs.Common.{Bool, ◌&&◌, ◌≡◌, ◌∷◌, ◌+◌, ◌<◌, ◌≤◌, sym, subst, ap, ◌∙◌, Err, [], Some, None, min, length, refl, arith, ℕ, ⊎_elim, List, inl, inr, take, true, false, rules, Ok, Option, Result, IfErr, is_some, length-take}
 use Rattle.qcow2_session.specs.Sessions.{IsOfWriting}
 use Rattle.qcow2_alloc.specs.declared.error.ImageError.TheVariants as I
-use Rattle.qcow2_session.proofs.Common.{file_of, is_failed, lacks_data_file, nat_lt, not, option_or, passes, refuse_if, MarksAtOnce, counts_on, counts_released, IsUnderMapping, IfSome, IfOk, IsOk, given_of, Setting, guest_of, refusal_of, Commits, reason_of, CountsImageFaults, is_writable, number_of, size_of, IsHandedBackBy, image_of, length_of, guest_offset_of, offset_of, table_of, refuses_mapping, refuses_to_prepare, MayFail, MayFailPreparing, Kept, abstract_of, image_abstraction, meaning, AreDataAt, cluster_size_of, LeavesCopied, WritesFirst, RespectsFirst, free_places, Qcow2, cases_Bool, cases_lt, pow_pos, IsOfNothing, Prepared, common_steps, ImageError, counted_still, faults_then, IsOfTables, tables_met, behind_then, written_then, known_in, fault_unlimited, limited_upto, other_limit, fault_of, NeedsOverflowingL1Entry, IfLimit, IsLimited, CopiesCompressed, IsCacheHeld, MayFailAllocating, HasPinnedMapping, taking_as, putting_met}
+use Rattle.qcow2_session.proofs.Common.{MayFailOn, freed_untaken, met_any, met_kept, met_untaken, released_offsets, file_of, is_failed, lacks_data_file, nat_lt, not, option_or, passes, refuse_if, MarksAtOnce, counts_on, counts_released, IsUnderMapping, IfSome, IfOk, IsOk, given_of, Setting, guest_of, refusal_of, Commits, reason_of, CountsImageFaults, is_writable, number_of, size_of, IsHandedBackBy, image_of, length_of, guest_offset_of, offset_of, table_of, refuses_mapping, refuses_to_prepare, MayFailPreparing, Kept, abstract_of, image_abstraction, meaning, AreDataAt, cluster_size_of, LeavesCopied, WritesFirst, RespectsFirst, free_places, Qcow2, cases_Bool, cases_lt, pow_pos, IsOfNothing, Prepared, common_steps, ImageError, counted_still, faults_then, IsFaultOrLimit, freeing_met, behind_then, written_then, known_in, fault_unlimited, limited_upto, other_limit, fault_of, NeedsOverflowingL1Entry, IfLimit, IsLimited, CopiesCompressed, IsCacheHeld, MayFailAllocating, HasPinnedMapping, taking_as, putting_met}
 use Rattle.qcow2_session.proofs.Lemmas.{commit_at_once, in_parts, parts_answered, parts_before, parts_behind, parts_handed, refused_at_once, cut_long, cut_part, cut_short, may_write_none, put_refused, written, commit_old_tables, commit_kept, chunk_ends, no_more_then, none_refused, refused_is, none_within, refuses_if, refuses_less, nothing_refused, nothing_prepared, prepare_same, put_same, commit_since, mapping_usable, not_failed_yet, prepares_usable, prepares_within, prepares_writable, put_met, under_taken, untaken_beside, quiet_commit, quiet_image, quiet_release, existing_or_not, kept_data, part_copied, existing_found, existing_long, existing_near, put_unlimited, compressed_behind, put_looking, put_current}
 use Rattle.qcow2_session.proofs.session.write_some.Goals as goal
 
@@ -111,20 +111,20 @@ returns-in-Err-clause-fails g c =
     let mid = c.prepare_data_mapping.new.self in
     let p = c.in_ok-prepared.prepared in
     let n = length c.args.bytes.now in
-    let may : refuses_to_prepare old c.args.offset n ≡ None → MayFail c.in-Err.refusal = λ none. put_met old mid c.prepare_data_mapping.ensures.step.image (image_of p) c.args.offset n (length (take c.min-count.result c.args.bytes.now)) c.in-Err.refusal
+    let may : refuses_to_prepare old c.args.offset n ≡ None → MayFailOn c.write_mapped.new.self c.in-Err.refusal = λ none. put_met old mid c.prepare_data_mapping.ensures.step.image (image_of p) c.args.offset n (length (take c.min-count.result c.args.bytes.now)) c.in-Err.refusal
     c.in_ok-prepared.ensures.answer.own c.in_ok-prepared.ensures.step.marks (λ empty. grind (arith, common_steps)) none (λ usable writes current. putting_met c.prepare_data_mapping.new.self c.write_mapped.new.self c.in_ok-prepared.prepared 0 (length (take c.min-count.result c.args.bytes.now)) c.in-Err.refusal current (c.in-Err.ensures.refusals.late usable writes)) (λ usable empty. let no = (c.in-Err.ensures.refusals.nothing usable empty).0 in absurd cc)
     (λ usable some more. put_current mid c.write_mapped.new.self p c.args.offset n (length (take c.min-count.result c.args.bytes.now)) c.in-Err.refusal (c.in_ok-prepared.ensures.existing some none)
     (let long = length-take c.min-count.result c.args.bytes.now in omega (arith, long)) c.in-Err.ensures.private (λ existing. c.in-Err.ensures.held usable existing more)) in
     record {
       early = nothing_refused _ _ (refuses_to_prepare c.args.image.now c.args.offset (length c.args.bytes.now)) c.prepare_data_mapping.result c.in_ok-prepared.prepared c.prepare_data_mapping.ensures.refusals.early c.in_ok-prepared.was;
       late = λ none. (
-        inl (may none),
+        inl (met_kept (released_offsets g.S.Storage.view c.write_mapped.new.self c.release.new.image c.release.ensures.rest) c.in-Err.refusal (may none)),
         some_bytes n (λ empty.
             let usable = mapping_usable old mid c.prepare_data_mapping.ensures.step.image (image_of p) c.in_ok-prepared.ensures.answer.own c.in_ok-prepared.ensures.step.marks (prepares_usable old c.args.offset n none) in
             let no = (c.in-Err.ensures.refusals.nothing usable (grind (arith, common_steps))).0 in absurd cc),
       );
       beyond = search rules;
-      cause = inl (inl (may (none_refused _ (refuses_to_prepare old c.args.offset n) c.in_ok-prepared.prepared c.in_ok-prepared.ensures.refusals.early)));
+      cause = inl (inl (met_any c.write_mapped.new.self c.in-Err.refusal (may (none_refused _ (refuses_to_prepare old c.args.offset n) c.in_ok-prepared.prepared c.in_ok-prepared.ensures.refusals.early))));
     }
 
 pub returns-in-Err-Spent-clause-fails : goal.returns-in-Err-Spent-clause-fails
@@ -135,7 +135,7 @@ returns-in-Err-Spent-clause-fails g c = record {
       let n = length c.args.bytes.now in
       let own = c.in_ok-prepared.ensures.answer.own ∙ sym (c.write_mapped.ensures.step.image.number ∙ c.prepare_data_mapping.ensures.step.image.number) in
       let works = c.in_default.ensures.step.marks ∙ c.in_ok-prepared.ensures.step.marks ∙ not_failed_yet old c.prepare_data_mapping.new.self c.prepare_data_mapping.ensures.step.image (prepares_usable old c.args.offset n none) in (
-        inl (tables_met c.in-Err-Spent.refusal (subst (λ r. IsOfTables (reason_of r)) c.in-Err-Spent.field-0-is (c.in-Err-Spent.ensures.refusals.late own works))),
+        inl (freeing_met _ c.in-Err-Spent.refusal (subst (λ r. IsFaultOrLimit (reason_of r)) c.in-Err-Spent.field-0-is (c.in-Err-Spent.ensures.refusals.late own works))),
         some_bytes n (λ empty.
             let nothing = (c.in_ok-prepared.ensures.refusals.nothing (ap (λ k. refuses_to_prepare old c.args.offset k) (sym empty) ∙ none) empty).1 in
             let no = (c.in-Err-Spent.ensures.existing own works nothing.0).0 in absurd cc),
@@ -146,18 +146,18 @@ returns-in-Err-Spent-clause-fails g c = record {
       let none = none_refused _ (refuses_to_prepare old c.args.offset n) c.in_ok-prepared.prepared c.in_ok-prepared.ensures.refusals.early in
       let own = c.in_ok-prepared.ensures.answer.own ∙ sym (c.write_mapped.ensures.step.image.number ∙ c.prepare_data_mapping.ensures.step.image.number) in
       let works = c.in_default.ensures.step.marks ∙ c.in_ok-prepared.ensures.step.marks ∙ not_failed_yet old c.prepare_data_mapping.new.self c.prepare_data_mapping.ensures.step.image (prepares_usable old c.args.offset n none) in
-      inl (inl (tables_met c.in-Err-Spent.refusal (subst (λ r. IsOfTables (reason_of r)) c.in-Err-Spent.field-0-is (c.in-Err-Spent.ensures.refusals.late own works))));
+      inl (inl (freeing_met _ c.in-Err-Spent.refusal (subst (λ r. IsFaultOrLimit (reason_of r)) c.in-Err-Spent.field-0-is (c.in-Err-Spent.ensures.refusals.late own works))));
 }
 
 pub returns-in-Err-Kept-clause-fails : goal.returns-in-Err-Kept-clause-fails
 returns-in-Err-Kept-clause-fails g c = record {
-  early = search rules;
+  early = nothing_refused _ _ (refuses_to_prepare c.args.image.now c.args.offset (length c.args.bytes.now)) c.prepare_data_mapping.result c.in_ok-prepared.prepared c.prepare_data_mapping.ensures.refusals.early c.in_ok-prepared.was;
   late = λ none.
       let old = c.args.image.now in
       let n = length c.args.bytes.now in
       let own = c.in_ok-prepared.ensures.answer.own ∙ sym (c.write_mapped.ensures.step.image.number ∙ c.prepare_data_mapping.ensures.step.image.number) in
       let works = c.in_default.ensures.step.marks ∙ c.in_ok-prepared.ensures.step.marks ∙ not_failed_yet old c.prepare_data_mapping.new.self c.prepare_data_mapping.ensures.step.image (prepares_usable old c.args.offset n none) in (
-        inl (tables_met c.in-Err-Kept.refusal (subst (λ r. IsOfTables (reason_of r)) c.in-Err-Kept.field-0-is (c.in-Err-Kept.ensures.refusals.late own works))),
+        inl (freeing_met _ c.in-Err-Kept.refusal (subst (λ r. IsFaultOrLimit (reason_of r)) c.in-Err-Kept.field-0-is (c.in-Err-Kept.ensures.refusals.late own works))),
         some_bytes n (λ empty.
             let nothing = (c.in_ok-prepared.ensures.refusals.nothing (ap (λ k. refuses_to_prepare old c.args.offset k) (sym empty) ∙ none) empty).1 in
             let no = (c.in-Err-Kept.ensures.existing own works nothing.0).0 in absurd cc),
@@ -168,7 +168,7 @@ returns-in-Err-Kept-clause-fails g c = record {
       let none = none_refused _ (refuses_to_prepare old c.args.offset n) c.in_ok-prepared.prepared c.in_ok-prepared.ensures.refusals.early in
       let own = c.in_ok-prepared.ensures.answer.own ∙ sym (c.write_mapped.ensures.step.image.number ∙ c.prepare_data_mapping.ensures.step.image.number) in
       let works = c.in_default.ensures.step.marks ∙ c.in_ok-prepared.ensures.step.marks ∙ not_failed_yet old c.prepare_data_mapping.new.self c.prepare_data_mapping.ensures.step.image (prepares_usable old c.args.offset n none) in
-      inl (inl (tables_met c.in-Err-Kept.refusal (subst (λ r. IsOfTables (reason_of r)) c.in-Err-Kept.field-0-is (c.in-Err-Kept.ensures.refusals.late own works))));
+      inl (inl (freeing_met _ c.in-Err-Kept.refusal (subst (λ r. IsFaultOrLimit (reason_of r)) c.in-Err-Kept.field-0-is (c.in-Err-Kept.ensures.refusals.late own works))));
 }
 
 pub returns-in_err-prepared-clause-fails : goal.returns-in_err-prepared-clause-fails
@@ -187,7 +187,7 @@ returns-in_err-prepared-clause-fails g c = record {
       subst (λ (r : Result _ _). IfErr r IsOfWriting) (sym (refused_is _ e c.from_residual.ensures))
       (refused_writing _ (refuses_to_prepare old c.args.offset n) c.prepare_data_mapping.result e c.prepare_data_mapping.ensures.refusals.early c.in_err-prepared.was
       (λ x is. writing_early (is_failed old) (lacks_data_file old) (passes (size_of old) c.args.offset n) (nat_lt 0 n && not (is_writable old)) x is)
-      (λ none. elim (c.in_err-prepared.ensures.refusals.late none) [ inl may ↦ inl (inl may) | inr pinned ↦ inr (inr pinned.0) ]));
+      (λ none. elim (c.in_err-prepared.ensures.refusals.late none) [ inl may ↦ inl (inl (met_any c.prepare_data_mapping.new.self e may)) | inr pinned ↦ inr (inr pinned.0) ]));
 }
 
 -- so many of the first bytes are put
@@ -433,10 +433,10 @@ returns-in-Err-clause-sound g c = λ out sound. record {
             elim (put_looking (IsCacheHeld mid (Some p ∷ out)) out p c.in-Err.refusal (λ held. held.1) (λ existing. existing_near view below out old mid p offset n prepared.0 same maps some existing)
             (λ existing outdated. (c.in-Err.ensures.sound (Some p ∷ out) prepared.0).outdated existing (ap Err outdated) (existing_found view below out old mid p offset n prepared.0 same maps some existing fits c.in_ok-prepared.ensures.answer.place prepared.1.0.from (length (take count c.args.bytes.now)) (long existing)))
             ((c.in-Err.ensures.sound (Some p ∷ out) prepared.0).may_fail 0 refl (c.prepare_data_mapping.ensures.step.image.writable ∙ prepares_writable old offset n none some))) [ inl fault ↦ inl (inl (inl fault)) | inr used ↦ inr (inl used) ];
-        taken = λ is. absurd (subst MayFail is (put_met c.args.image.now c.prepare_data_mapping.new.self c.prepare_data_mapping.ensures.step.image (image_of c.in_ok-prepared.prepared) c.args.offset (length c.args.bytes.now) (length (take c.min-count.result c.args.bytes.now)) c.in-Err.refusal
+        taken = λ is. absurd (met_untaken _ c.in-Err.refusal (put_met c.args.image.now c.prepare_data_mapping.new.self c.prepare_data_mapping.ensures.step.image (image_of c.in_ok-prepared.prepared) c.args.offset (length c.args.bytes.now) (length (take c.min-count.result c.args.bytes.now)) c.in-Err.refusal
             c.in_ok-prepared.ensures.answer.own c.in_ok-prepared.ensures.step.marks (λ empty. grind (arith, common_steps)) none (λ usable writes current. putting_met c.prepare_data_mapping.new.self c.write_mapped.new.self c.in_ok-prepared.prepared 0 (length (take c.min-count.result c.args.bytes.now)) c.in-Err.refusal current (c.in-Err.ensures.refusals.late usable writes)) (λ usable empty. let no = (c.in-Err.ensures.refusals.nothing usable empty).0 in absurd cc)
             (λ usable some more. put_current c.prepare_data_mapping.new.self c.write_mapped.new.self c.in_ok-prepared.prepared c.args.offset (length c.args.bytes.now) (length (take c.min-count.result c.args.bytes.now)) c.in-Err.refusal (c.in_ok-prepared.ensures.existing some none)
-            (let long = length-take c.min-count.result c.args.bytes.now in omega (arith, long)) c.in-Err.ensures.private (λ existing. c.in-Err.ensures.held usable existing more))));
+            (let long = length-take c.min-count.result c.args.bytes.now in omega (arith, long)) c.in-Err.ensures.private (λ existing. c.in-Err.ensures.held usable existing more))) is);
         limit = other_limit _ c.in-Err.refusal (put_unlimited _ p 0 c.in-Err.refusal ((c.in-Err.ensures.sound (Some p ∷ out) prepared.0).may_fail 0 refl (c.prepare_data_mapping.ensures.step.image.writable ∙ prepares_writable old c.args.offset n none some)));
       };
   freeing = search rules;
@@ -454,9 +454,9 @@ returns-in-Err-Spent-clause-sound g c = λ out sound. record {
       let refused = subst (λ r. Commits view below c.write_mapped.new.self c.commit_data_mapping.new.self p (Err r)) c.in-Err-Spent.field-0-is c.in-Err-Spent.ensures.sees (Some p ∷ out) 0 refl in
       record {
         may_fail = inl (inl (inl (fault_of c.in-Err-Spent.refusal (refused.0 ready.0))));
-        taken = λ is. absurd (subst IsOfTables is (subst (λ r. IsOfTables (reason_of r)) c.in-Err-Spent.field-0-is
+        taken = λ is. absurd (freed_untaken c.in-Err-Spent.refusal (subst (λ r. IsFaultOrLimit (reason_of r)) c.in-Err-Spent.field-0-is
             (c.in-Err-Spent.ensures.refusals.late (c.in_ok-prepared.ensures.answer.own ∙ sym (c.write_mapped.ensures.step.image.number ∙ c.prepare_data_mapping.ensures.step.image.number))
-            (c.in_default.ensures.step.marks ∙ c.in_ok-prepared.ensures.step.marks ∙ not_failed_yet c.args.image.now c.prepare_data_mapping.new.self c.prepare_data_mapping.ensures.step.image (prepares_usable c.args.image.now c.args.offset (length c.args.bytes.now) none)))));
+            (c.in_default.ensures.step.marks ∙ c.in_ok-prepared.ensures.step.marks ∙ not_failed_yet c.args.image.now c.prepare_data_mapping.new.self c.prepare_data_mapping.ensures.step.image (prepares_usable c.args.image.now c.args.offset (length c.args.bytes.now) none)))) is);
         limit = other_limit _ c.in-Err-Spent.refusal (fault_unlimited c.in-Err-Spent.refusal (fault_of c.in-Err-Spent.refusal (refused.0 ready.0)));
       };
   freeing = search rules;
@@ -475,9 +475,9 @@ returns-in-Err-Kept-clause-sound g c = λ out sound. record {
       let refused = subst (λ r. Commits view below c.write_mapped.new.self c.commit_data_mapping.new.self p (Err r)) (c.in-Err-Kept.field-0-is ∙ ap (λ q. Kept c.in-Err-Kept.refusal q) same) c.in-Err-Kept.ensures.sees (Some p ∷ out) 0 refl in
       record {
         may_fail = inl (inl (inl (fault_of c.in-Err-Kept.refusal (refused.0 ready.0))));
-        taken = λ is. absurd (subst IsOfTables is (subst (λ r. IsOfTables (reason_of r)) c.in-Err-Kept.field-0-is
+        taken = λ is. absurd (freed_untaken c.in-Err-Kept.refusal (subst (λ r. IsFaultOrLimit (reason_of r)) c.in-Err-Kept.field-0-is
             (c.in-Err-Kept.ensures.refusals.late (c.in_ok-prepared.ensures.answer.own ∙ sym (c.write_mapped.ensures.step.image.number ∙ c.prepare_data_mapping.ensures.step.image.number))
-            (c.in_default.ensures.step.marks ∙ c.in_ok-prepared.ensures.step.marks ∙ not_failed_yet c.args.image.now c.prepare_data_mapping.new.self c.prepare_data_mapping.ensures.step.image (prepares_usable c.args.image.now c.args.offset (length c.args.bytes.now) none)))));
+            (c.in_default.ensures.step.marks ∙ c.in_ok-prepared.ensures.step.marks ∙ not_failed_yet c.args.image.now c.prepare_data_mapping.new.self c.prepare_data_mapping.ensures.step.image (prepares_usable c.args.image.now c.args.offset (length c.args.bytes.now) none)))) is);
         limit = other_limit _ c.in-Err-Kept.refusal (fault_unlimited c.in-Err-Kept.refusal (fault_of c.in-Err-Kept.refusal (refused.0 ready.0)));
       };
   freeing = search rules;

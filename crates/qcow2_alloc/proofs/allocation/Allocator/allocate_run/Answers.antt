@@ -1,7 +1,7 @@
-use Rattle.std.proofs.Common.{◌≡◌, ◌+◌, ◌<◌, inl, inr, ℕ, Bool, IsTrue, refl, sym, ap, ◌∙◌, subst, arith, Err, Some}
-use Rattle.qcow2_alloc.proofs.Common.{cases_eq, cases_lt, StorageView, Pending, Allocator, ImageError, ImageFile, run_at, taken_as, InternalAllocatorGrowth, RefusedGrowth, GivesBackAs, SameLeaks, pending_then, ListsTables, IsHostCluster, CantCount, CantCountRun, NoFreeBelowHint, IsUsed, KeepsNoFreeBelowHint, KeepsUsedBut, faults_of, IsOfTables, FailsFor, TakenSoFar, AllocatesRunSoundly}
+use Rattle.std.proofs.Common.{◌≡◌, ◌+◌, ◌<◌, inl, inr, ℕ, Bool, IsTrue, refl, sym, ap, ◌∙◌, subst, arith, Err}
+use Rattle.qcow2_alloc.proofs.Common.{cases_eq, cases_lt, StorageView, Pending, Allocator, ImageError, ImageFile, run_at, taken_as, InternalAllocatorGrowth, RefusedGrowth, GivesBackAs, SameLeaks, pending_then, ListsTables, IsHostCluster, CantCount, CantCountRun, NoFreeBelowHint, IsUsed, KeepsNoFreeBelowHint, KeepsUsedBut, HeaderView, AllocatorFails, TakenSoFar, AllocatesRunSoundly}
 use Rattle.qcow2_alloc.specs.ImageFile.{IsFault}
-use Rattle.qcow2_alloc.proofs.Lemmas.{handed_on, of_equal, may_still, on_none, is_sound_on, still_as, kept_then, not_broken, none_there, run_after, run_last, run_none, taken_none, cause_as, count_back, host_of_few, not_both, listed_after_same, more_taken, ends_taken, then_leaves, header_bits, still_taken, fails_ok, fails_on, fails_since, fails_still, step_as, step_none, step_on, step_then}
+use Rattle.qcow2_alloc.proofs.Lemmas.{handed_on, of_equal, may_still, on_none, is_sound_on, still_as, kept_then, not_broken, none_there, run_after, run_last, run_none, taken_none, cause_as, count_back, host_of_few, not_both, listed_after_same, more_taken, ends_taken, then_leaves, header_bits, still_taken, fails_ok, fails_on, fails_since, fails_still, fails_moved, fails_by_fault, step_as, step_none, step_on, step_then}
 use Rattle.qcow2_alloc.proofs.allocation.Allocator.allocate_run.Goals.{then-not-is_fault+in_ok-give_back-in-Err, else-not-is_fault}
 use Rattle.qcow2_alloc.proofs.allocation.Allocator.allocate_run.Goals as goal
 
@@ -109,7 +109,7 @@ returns-in-Err-clause-step g c = elim c.if-not-is_fault.branch [
 
 pub returns-in_err-give_back-in-Ok-false-clause-fails : goal.returns-in_err-give_back-in-Ok-false-clause-fails
 returns-in_err-give_back-in-Ok-false-clause-fails g c = fails_on c.from_residual.result c.in_err-give_back-in-Ok-false.field-0.0 c.from_residual.ensures
-    (fails_since (c.in-Ok-false.ensures.fails.told ∙ c.taking.invariant.faults) c.in_err-give_back-in-Ok-false.ensures.fails)
+    (fails_since (c.in-Ok-false.ensures.fails.told ∙ c.taking.invariant.faults) (fails_by_fault c.in_err-give_back-in-Ok-false.ensures.fails))
 
 pub returns-in-Ok-false-clause-fails : goal.returns-in-Ok-false-clause-fails
 returns-in-Ok-false-clause-fails g c = fails_ok (c.in_ok-give_back-in-Ok-false.ensures.fails.told ∙ (c.in-Ok-false.ensures.fails.told ∙ c.taking.invariant.faults))
@@ -117,13 +117,19 @@ returns-in-Ok-false-clause-fails g c = fails_ok (c.in_ok-give_back-in-Ok-false.e
 pub returns-in_err-give_back-in-Err-clause-fails : goal.returns-in_err-give_back-in-Err-clause-fails
 returns-in_err-give_back-in-Err-clause-fails g c = fails_on c.from_residual-in_err-give_back-in-Err.result c.in_err-give_back-in-Err.field-0.0 c.from_residual-in_err-give_back-in-Err.ensures
     (fails_since (c.in-Err.ensures.fails.told (λ is. not_both c.is_fault.result (c.is_fault.ensures.1 (inl is)) c.if-not-is_fault.true) ∙ c.taking.invariant.faults)
-    c.in_err-give_back-in-Err.ensures.fails)
+    (fails_by_fault c.in_err-give_back-in-Err.ensures.fails))
 
 pub returns-in-Err-clause-fails : goal.returns-in-Err-clause-fails
-returns-in-Err-clause-fails g c = elim c.if-not-is_fault.branch [
-  | then-not-is_fault+in_ok-give_back-in-Err w ↦ subst (λ (f : ImageFile g.row.S.Denot). FailsFor (faults_of g.S.Storage.view c.args.file.now.storage) (faults_of g.S.Storage.view f.storage) (Some c.in-Err.refusal) IsOfTables) (sym w.file-is) (fails_still (fails_since c.taking.invariant.faults c.in-Err.ensures.fails) w.in_ok-give_back-in-Err.ensures.fails.told)
-  | else-not-is_fault w ↦ subst (λ (f : ImageFile g.row.S.Denot). FailsFor (faults_of g.S.Storage.view c.args.file.now.storage) (faults_of g.S.Storage.view f.storage) (Some c.in-Err.refusal) IsOfTables) (sym w.file-is) (fails_since c.taking.invariant.faults c.in-Err.ensures.fails)
-]
+returns-in-Err-clause-fails g c =
+    let refused = fails_since c.taking.invariant.faults c.in-Err.ensures.fails in
+    let Refused = λ (t : Allocator) (f : ImageFile g.row.S.Denot). AllocatorFails g.S.Storage.view {T = ℕ} c.args.file.now t.reftable f (Err c.in-Err.refusal) in
+    elim c.if-not-is_fault.branch [
+      | then-not-is_fault+in_ok-give_back-in-Err w ↦
+          let back = w.give_back-then-not-is_fault.ensures in
+          of_equal Refused c.if-not-is_fault.self w.give_back-then-not-is_fault.new.self c.if-not-is_fault.file w.give_back-then-not-is_fault.new.file w.self-is w.file-is
+          (fails_moved (ap (λ (h : HeaderView). h.fields) back.step.header) back.reftable (fails_still refused w.in_ok-give_back-in-Err.ensures.fails.told))
+      | else-not-is_fault w ↦ of_equal Refused c.if-not-is_fault.self c.allocate_cluster.new.self c.if-not-is_fault.file c.allocate_cluster.new.file w.self-is w.file-is refused
+    ]
 
 pub returns-clause-fails : goal.returns-clause-fails
 returns-clause-fails g c = fails_ok c.taking.invariant.faults

@@ -1,6 +1,6 @@
 use Rattle.std.proofs.Common.{◌≡◌, ◌+◌, ◌-◌, ◌*◌, ◌/◌, ◌%◌, ◌^◌, ◌<◌, ◌≤◌, inr, ℕ, length, refl, sym, ap, ◌∙◌, subst, arith}
 use Rattle.qcow2_alloc.proofs.Common.{div-add-mod', div-le_self, mul-le-mul_left, greatest_offset, IsHostCluster, EntryTableView, entry_count, HeaderFields, HeaderView, cluster_size, counts_per_block, IsSameOutside, Bytes, one_if, ChangesEntry, HasPlace, run_at, NamesLacking, HasBytesAt, with_run, contents_in, known_in, HavePlaces, opens, opened, room_length, CachesBlocks, InternalNewBlocks, IsBlockOf, faults_of}
-use Rattle.qcow2_alloc.proofs.Lemmas.{handed_on, lacking_none, lacking_more, entries_entered, named_have_places, new_blocks_none, opened_none, free_in_run, run_in, EntersSo, Counting, opens_range, enters_none, enters_first, counting_first, entries_aligned, of_three, rest_then, placed_more, range_within, run_within, counts_as, room_enters, room_counts, file_sizes, fails_by, fails_ok, fails_on, fails_since, memory_other, other_as, table_step_as, table_step_none, table_step_then}
+use Rattle.qcow2_alloc.proofs.Lemmas.{fails_aligned, never_unaligned, handed_on, lacking_none, lacking_more, entries_entered, named_have_places, new_blocks_none, opened_none, free_in_run, run_in, EntersSo, Counting, opens_range, enters_none, enters_first, counting_first, entries_aligned, of_three, rest_then, placed_more, range_within, run_within, counts_as, room_enters, room_counts, file_sizes, fails_by, fails_ok, fails_on, fails_since, memory_other, other_as, table_step_as, table_step_none, table_step_then}
 use Rattle.qcow2_alloc.proofs.allocation.Allocator.cache_blocks.Goals.{then-opens_range+in_ok-block+in_ok-cache_new_block, else-opens_range+in_ok-bring_to_front}
 use Rattle.qcow2_alloc.proofs.allocation.Allocator.cache_blocks.Goals as goal
 
@@ -56,7 +56,7 @@ returns-in_err-block-clause-sound g c = λ p sound may longer.
 pub returns-in_err-cache_new_block : goal.returns-in_err-cache_new_block
 returns-in_err-cache_new_block g c = record {
   step = table_step_then c.placing.invariant.step (c.cache_new_block.ensures.step c.args.self.now.reftable);
-  fails = fails_on c.from_residual-in_err-cache_new_block.result c.in_err-cache_new_block.field-0.0 c.from_residual-in_err-cache_new_block.ensures (fails_since c.placing.invariant.faults c.in_err-cache_new_block.ensures.fails);
+  fails = fails_on c.from_residual-in_err-cache_new_block.result c.in_err-cache_new_block.field-0.0 c.from_residual-in_err-cache_new_block.ensures (fails_aligned (fails_since c.placing.invariant.faults c.in_err-cache_new_block.ensures.fails));
   sound = λ p sound may longer.
       let view = g.S.Storage.view in
       let a = c.args.self.now in
@@ -229,7 +229,7 @@ enter_refblock-requires-clause-cluster g c =
 
 pub returns-in_err-block-clause-fails : goal.returns-in_err-block-clause-fails
 returns-in_err-block-clause-fails g c =
-    fails_since c.placing.invariant.faults (fails_on c.from_residual.result c.in_err-block.field-0.0 c.from_residual.ensures (fails_by c.in_err-block.field-0.0 (other_as c.in_err-block.ensures.memory memory_other) refl c.in_err-block.ensures.cause))
+    fails_since c.placing.invariant.faults (fails_on c.from_residual.result c.in_err-block.field-0.0 c.from_residual.ensures (fails_by c.in_err-block.field-0.0 (other_as c.in_err-block.ensures.memory memory_other) refl (never_unaligned _ c.in_err-block.field-0.0 c.in_err-block.ensures.cause)))
 
 pub returns-clause-fails : goal.returns-clause-fails
 returns-clause-fails g c = fails_ok c.placing.invariant.faults

@@ -84,7 +84,7 @@ returns-clause-tries g c =
     let found = rw c.in-Some.is at c.in_ok-block.ensures.finds in
     let names = subst (λ n. NamesBlock h c.args.self.now.reftable (c.args.cluster / n) (Some c.in-Some.block)) (sym c.rb_bits-bits.ensures.counts) found.names in
     rw c.is_some.ensures (tried h c.args.self.now.reftable c.args.file.now.caches c.load_block.new.file.caches c.rb_release-left.new.self c.load_block.ensures.loads c.in-Some.block c.rb_index-index.result c.args.cluster index names c.rb_release-left.result
-    c.rb_release-left.ensures.counts c.rb_release-left.ensures.missing c.rb_release-left.ensures.recorded c.rb_release-left.ensures.refused)
+    c.rb_release-left.ensures.counts c.rb_release-left.ensures.missing c.rb_release-left.ensures.recorded c.rb_release-left.ensures.refused c.rb_release-left.ensures.apart)
 
 pub returns-clause-step : goal.returns-clause-step
 returns-clause-step g c = table_step_as c.record_decrement.ensures.reftable refl (table_step_then c.load_block.ensures.step (table_step_tables (marks_of_caches c.rb_release-left.ensures.step.marks c.rb_release-left.ensures.step.order) c.rb_release-left.ensures.step.header_cluster))

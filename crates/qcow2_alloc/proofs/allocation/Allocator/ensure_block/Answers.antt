@@ -1,6 +1,6 @@
 use Rattle.std.proofs.Common.{◌≡◌, ◌≤◌, ◌<◌, ◌*◌, ◌/◌, ◌%◌, ◌^◌, mul-pos, inl, inr, false, sym, ap, ◌∙◌, refl, arith, Result, IsTrue, subst, ℕ, IfErr, IsSome}
 use Rattle.qcow2_alloc.proofs.Common.{block_offset, counts_per_block, one_at, taken_as, HasNone, GetsBlock, IsFault, KeepsNoFreeBelowHint, div-mul-le_self, pow_pos, ImageError, IsHostCluster, IsBlockOf}
-use Rattle.qcow2_alloc.proofs.Lemmas.{leaves_then, lacking_above, hint_got, hint_placed, hint_refused, hint_stays, ok_as, passed_same, passed_still, range_as, not_broken, named_then, named_covered, none_named, handed_on, allocator_step_then, gets_then, gets_taken, is_sound_now, none_in_memory, stands_none, still_sound, host_below, is_able, placed_fault, range_near, not_both, on_no_ok, spares_then, kept_marks_then, limit_other, memory_other, other_as, fails_by, fails_ok, fails_on, fails_since, table_step_then}
+use Rattle.qcow2_alloc.proofs.Lemmas.{never_unaligned, leaves_then, lacking_above, hint_got, hint_placed, hint_refused, hint_stays, ok_as, passed_same, passed_still, range_as, not_broken, named_then, named_covered, none_named, handed_on, allocator_step_then, gets_then, gets_taken, is_sound_now, none_in_memory, stands_none, still_sound, host_below, is_able, placed_fault, range_near, not_both, on_no_ok, spares_then, kept_marks_then, limit_other, memory_other, other_as, fails_by, fails_ok, fails_on, fails_since, table_step_then}
 use Rattle.qcow2_alloc.specs.declared.error.ImageError.TheVariants as I
 use Rattle.qcow2_alloc.proofs.allocation.Allocator.ensure_block.Goals as goal
 
@@ -59,7 +59,7 @@ pub returns-in_err-block-clause-step : goal.returns-in_err-block-clause-step
 returns-in_err-block-clause-step g c = c.load_block.ensures.step
 
 pub returns-in_err-block-clause-fails : goal.returns-in_err-block-clause-fails
-returns-in_err-block-clause-fails g c = fails_on c.from_residual-in_err-block.result c.in_err-block.field-0.0 c.from_residual-in_err-block.ensures (fails_by c.in_err-block.field-0.0 (other_as c.in_err-block.ensures.memory memory_other) c.in_ok-load_block.ensures.fails.told c.in_err-block.ensures.cause)
+returns-in_err-block-clause-fails g c = fails_on c.from_residual-in_err-block.result c.in_err-block.field-0.0 c.from_residual-in_err-block.ensures (fails_by c.in_err-block.field-0.0 (other_as c.in_err-block.ensures.memory memory_other) c.in_ok-load_block.ensures.fails.told (never_unaligned _ c.in_err-block.field-0.0 c.in_err-block.ensures.cause))
 
 pub returns-in_err-block-clause-sound : goal.returns-in_err-block-clause-sound
 returns-in_err-block-clause-sound g c = λ p sound.

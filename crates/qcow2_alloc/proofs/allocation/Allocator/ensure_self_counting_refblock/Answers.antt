@@ -1,6 +1,6 @@
 use Rattle.std.proofs.Common.{◌≡◌, ◌*◌, ◌<◌, ◌^◌, mul-pos, inl, inr, true, false, sym, ap, ◌∙◌, arith, Result, IsTrue, refl, subst, IfErr}
 use Rattle.qcow2_alloc.proofs.Common.{counts_per_block, GetsBlock, IsFault, pow_pos, ImageError, IsHostCluster}
-use Rattle.qcow2_alloc.proofs.Lemmas.{lacking_above, search_by, search_same, named_covered, none_named, handed_on, gets_placed, gets_then, is_sound_now, none_in_memory, stands_none, placed_fault, host_below, is_able, entries_none, on_no_ok, spares_then, kept_marks_then, limit_other, memory_other, other_as, fails_by, fails_ok, fails_on, fails_since}
+use Rattle.qcow2_alloc.proofs.Lemmas.{never_unaligned, lacking_above, search_by, search_same, named_covered, none_named, handed_on, gets_placed, gets_then, is_sound_now, none_in_memory, stands_none, placed_fault, host_below, is_able, entries_none, on_no_ok, spares_then, kept_marks_then, limit_other, memory_other, other_as, fails_by, fails_ok, fails_on, fails_since}
 use Rattle.qcow2_alloc.specs.declared.error.ImageError.TheVariants as I
 use Rattle.qcow2_alloc.proofs.allocation.Allocator.ensure_self_counting_refblock.Goals as goal
 
@@ -51,7 +51,7 @@ returns-then-not-can_name-clause-sound g c = λ p sound.
 pub returns-in_err-block : goal.returns-in_err-block
 returns-in_err-block g c = record {
   step = c.load_block.ensures.step;
-  fails = fails_on c.from_residual-in_err-block.result c.in_err-block.field-0.0 c.from_residual-in_err-block.ensures (fails_by c.in_err-block.field-0.0 (other_as c.in_err-block.ensures.memory memory_other) c.in_ok-load_block.ensures.fails.told c.in_err-block.ensures.cause);
+  fails = fails_on c.from_residual-in_err-block.result c.in_err-block.field-0.0 c.from_residual-in_err-block.ensures (fails_by c.in_err-block.field-0.0 (other_as c.in_err-block.ensures.memory memory_other) c.in_ok-load_block.ensures.fails.told (never_unaligned _ c.in_err-block.field-0.0 c.in_err-block.ensures.cause));
   sound = λ p sound.
       let one = (c.in_ok-load_block.ensures.sound p sound).0 in
       record {

@@ -1,8 +1,10 @@
-use Rattle.qcow2_alloc.proofs.Common.{refl, inl, Err, ap, ◌∙◌, Pending, Data, ImageFile, Frees, with_listed, but, KeepsNoFreeBelowHint, HeaderView}
-use Rattle.qcow2_alloc.proofs.Lemmas.{handed_on, is_sound_now, allocator_step_cached, hint_stays, passed_still, but_both, frees_then, leaks_as, leaks_then, fails_ok, fails_on, fails_since, free_in_turn, turn_cached, turn_then, fault_alone, file_fits, fails_of_tables}
+use Rattle.std.proofs.Common.{eqb}
+use Rattle.qcow2_alloc.proofs.Common.{option_map, cleared_l2, value_at, inr, refl, inl, Err, ap, ◌∙◌, Pending, Data, ImageFile, Frees, with_listed, but, KeepsNoFreeBelowHint, HeaderView}
+use Rattle.qcow2_alloc.proofs.Lemmas.{handed_on, is_sound_now, allocator_step_cached, hint_stays, passed_still, but_both, frees_then, leaks_as, leaks_then, fails_ok, fails_on, fails_since, free_in_turn, turn_cached, turn_then, fault_alone, file_fits}
 use Rattle.qcow2_alloc.proofs.Freeing.{on_ok, allocator_step_on}
 use Rattle.qcow2_alloc.proofs.FreedEach.{blocks_loaded, off_none, off_of, off_refused, off_then}
 use Rattle.qcow2_alloc.specs.Leaks.{FreesOff, KeepsBlockBytes}
+use Rattle.qcow2_alloc.proofs.Steps.{fails_as}
 use Rattle.qcow2_alloc.proofs.allocation.Allocator.free.Goals as goal
 
 pub returns-clause-emptied : goal.returns-clause-emptied
@@ -73,13 +75,13 @@ pub returns-in_err-free_kind-clause-step : goal.returns-in_err-free_kind-clause-
 returns-in_err-free_kind-clause-step g c = free_in_turn c.free_kind.ensures.frees.step
 
 pub returns-in_err-free_kind-clause-fails : goal.returns-in_err-free_kind-clause-fails
-returns-in_err-free_kind-clause-fails g c = fails_on c.from_residual.result c.in_err-free_kind.field-0.0 c.from_residual.ensures c.in_err-free_kind.ensures.frees.fails
+returns-in_err-free_kind-clause-fails g c = fails_on c.from_residual.result c.in_err-free_kind.field-0.0 c.from_residual.ensures (fails_as (λ e is. inl is) c.in_err-free_kind.ensures.frees.fails)
 
 pub returns-in_err-rb_depends_on_l2-clause-step : goal.returns-in_err-rb_depends_on_l2-clause-step
 returns-in_err-rb_depends_on_l2-clause-step g c = turn_then (free_in_turn c.free_kind.ensures.frees.step) (turn_cached c.rb_depends_on_l2.ensures.step.marks.pins c.rb_depends_on_l2.ensures.step.marks.notes c.rb_depends_on_l2.ensures.step.header_cluster)
 
 pub returns-in_err-rb_depends_on_l2-clause-fails : goal.returns-in_err-rb_depends_on_l2-clause-fails
-returns-in_err-rb_depends_on_l2-clause-fails g c = fails_on c.from_residual-in_err-rb_depends_on_l2.result c.in_err-rb_depends_on_l2.field-0.0 c.from_residual-in_err-rb_depends_on_l2.ensures (fails_since c.in_ok-free_kind.ensures.frees.fails.told (fails_of_tables c.in_err-rb_depends_on_l2.ensures.fails))
+returns-in_err-rb_depends_on_l2-clause-fails g c = fails_on c.from_residual-in_err-rb_depends_on_l2.result c.in_err-rb_depends_on_l2.field-0.0 c.from_residual-in_err-rb_depends_on_l2.ensures (fails_since c.in_ok-free_kind.ensures.frees.fails.told (fails_as (λ e is. elim is [ inl fault ↦ inl fault | inr limit ↦ inr limit.0 ]) c.in_err-rb_depends_on_l2.ensures.fails))
 
 pub returns-then-is_empty-clause-step : goal.returns-then-is_empty-clause-step
 returns-then-is_empty-clause-step g c = free_in_turn c.free_kind.ensures.frees.step
@@ -91,7 +93,7 @@ pub returns-clause-step : goal.returns-clause-step
 returns-clause-step g c = turn_then (turn_then (free_in_turn c.free_kind.ensures.frees.step) (turn_cached c.rb_depends_on_l2.ensures.step.marks.pins c.rb_depends_on_l2.ensures.step.marks.notes c.rb_depends_on_l2.ensures.step.header_cluster)) (free_in_turn c.free_kind-2.ensures.frees.step)
 
 pub returns-clause-fails : goal.returns-clause-fails
-returns-clause-fails g c = fails_since (c.in_ok-rb_depends_on_l2.ensures.fails.told ∙ c.in_ok-free_kind.ensures.frees.fails.told) c.free_kind-2.ensures.frees.fails
+returns-clause-fails g c = fails_since (c.in_ok-rb_depends_on_l2.ensures.fails.told ∙ c.in_ok-free_kind.ensures.frees.fails.told) (fails_as (λ e is. inl is) c.free_kind-2.ensures.frees.fails)
 
 pub returns-clause-unaligned : goal.returns-clause-unaligned
 returns-clause-unaligned g c =
@@ -109,7 +111,7 @@ returns-then-is_empty-clause-each g c = c.in_ok-free_kind.ensures.frees.each
 
 pub returns-in_err-rb_depends_on_l2-clause-each : goal.returns-in_err-rb_depends_on_l2-clause-each
 returns-in_err-rb_depends_on_l2-clause-each g c =
-    let turned : KeepsBlockBytes c.free_kind.new.file.caches c.rb_depends_on_l2.new.self = record { held = c.rb_depends_on_l2.ensures.held; changes = c.rb_depends_on_l2.ensures.turns.changes } in
+    let turned : KeepsBlockBytes c.free_kind.new.file.caches c.rb_depends_on_l2.new.self = record { held = c.rb_depends_on_l2.ensures.held; tables = λ k. ap (λ l2. option_map cleared_l2 (value_at (λ j. eqb k j) l2.entries)) c.rb_depends_on_l2.ensures.turns.others_stay; changes = c.rb_depends_on_l2.ensures.turns.changes } in
     handed_on (FreesOff c.args.file.now.header.fields c.args.self.now.reftable c.args.self.now c.args.file.now.caches c.args.file.now.free_list c.free_kind.new.self c.rb_depends_on_l2.new.self c.free_kind.new.file.free_list)
     c.from_residual-in_err-rb_depends_on_l2.result c.in_err-rb_depends_on_l2.field-0.0 c.from_residual-in_err-rb_depends_on_l2.ensures
     (off_then c.args.file.now.header.fields c.args.self.now.reftable c.args.self.now c.free_kind.new.self c.free_kind.new.self c.args.file.now.caches c.free_kind.new.file.caches c.rb_depends_on_l2.new.self c.args.file.now.free_list c.free_kind.new.file.free_list c.free_kind.new.file.free_list (Err c.in_err-rb_depends_on_l2.field-0.0)
@@ -118,7 +120,7 @@ returns-in_err-rb_depends_on_l2-clause-each g c =
 
 pub returns-clause-each : goal.returns-clause-each
 returns-clause-each g c =
-    let turned : KeepsBlockBytes c.free_kind.new.file.caches c.rb_depends_on_l2.new.self = record { held = c.rb_depends_on_l2.ensures.held; changes = c.rb_depends_on_l2.ensures.turns.changes } in
+    let turned : KeepsBlockBytes c.free_kind.new.file.caches c.rb_depends_on_l2.new.self = record { held = c.rb_depends_on_l2.ensures.held; tables = λ k. ap (λ l2. option_map cleared_l2 (value_at (λ j. eqb k j) l2.entries)) c.rb_depends_on_l2.ensures.turns.others_stay; changes = c.rb_depends_on_l2.ensures.turns.changes } in
     let list = c.free_kind.new.file.free_list in
     off_then c.args.file.now.header.fields c.args.self.now.reftable c.args.self.now c.free_kind.new.self c.free_kind-2.new.self c.args.file.now.caches c.free_kind.new.file.caches c.free_kind-2.new.file.caches c.args.file.now.free_list list c.free_kind-2.new.file.free_list c.free_kind-2.result c.in_ok-free_kind.ensures.frees.each
     (off_then c.args.file.now.header.fields c.args.self.now.reftable c.free_kind.new.self c.free_kind.new.self c.free_kind-2.new.self c.free_kind.new.file.caches c.rb_depends_on_l2.new.self c.free_kind-2.new.file.caches list list c.free_kind-2.new.file.free_list c.free_kind-2.result

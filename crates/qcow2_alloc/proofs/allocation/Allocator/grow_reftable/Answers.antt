@@ -1,6 +1,6 @@
 use Rattle.std.proofs.Common.{◌≡◌, ◌^◌, ◌≤◌, ◌++◌, ◌∷◌, ℕ, IsSome, inl, inr, Result, refl, ◌∙◌, [], List, sym, ap, subst, arith, Err, IfErr}
 use Rattle.qcow2_alloc.proofs.Common.{IsUsed, KeepsUsed, entry_count, HeaderView, counts_per_block, entries_per_cluster, Pending, ClustersToFreeEntry, InternalAllocatorGrowth, RefusedGrowth, GrowsTable, ImageError, pending_then, IsLeastLength, IsLongEnough, IsFaultOr, HasNoRoomFor, CantGrow, IsAllocatedMetadata, AllocatesOnly}
-use Rattle.qcow2_alloc.proofs.Lemmas.{spares_listed, handed_on, lacking_clone, on_none, cause_as, listed_after_same, on_no_ok, made_entered, made_unentered, growth_step_none, growth_step_on, fails_by, fails_ok, fails_on}
+use Rattle.qcow2_alloc.proofs.Lemmas.{never_unaligned, tables_more, spares_listed, handed_on, lacking_clone, on_none, cause_as, listed_after_same, on_no_ok, made_entered, made_unentered, growth_step_none, growth_step_on, fails_by, fails_ok, fails_on}
 use Rattle.qcow2_alloc.proofs.FullRooms.{cant_grow}
 use Rattle.qcow2_alloc.proofs.GrownReftables.{grown}
 use Rattle.qcow2_alloc.proofs.allocation.Allocator.grow_reftable.Goals as goal
@@ -122,10 +122,10 @@ returns-in_err-former-clause-sound g c = λ p sound.
     }
 
 pub returns-in_err-table-clause-fails : goal.returns-in_err-table-clause-fails
-returns-in_err-table-clause-fails g c = fails_on c.from_residual.result c.in_err-table.field-0.0 c.from_residual.ensures (fails_by c.in_err-table.field-0.0 (λ is. c.in_err-table.ensures.no_fault (ap Err is)) refl c.in_err-table.ensures.cause)
+returns-in_err-table-clause-fails g c = fails_on c.from_residual.result c.in_err-table.field-0.0 c.from_residual.ensures (fails_by c.in_err-table.field-0.0 (λ is. c.in_err-table.ensures.no_fault (ap Err is)) refl (never_unaligned _ c.in_err-table.field-0.0 c.in_err-table.ensures.cause))
 
 pub returns-in_err-former-clause-fails : goal.returns-in_err-former-clause-fails
-returns-in_err-former-clause-fails g c = fails_on c.from_residual-in_err-former.result c.in_err-former.field-0.0 c.from_residual-in_err-former.ensures (fails_by c.in_err-former.field-0.0 (λ is. c.in_err-former.ensures.no_fault (ap Err is)) refl c.in_err-former.ensures.cause)
+returns-in_err-former-clause-fails g c = fails_on c.from_residual-in_err-former.result c.in_err-former.field-0.0 c.from_residual-in_err-former.ensures (fails_by c.in_err-former.field-0.0 (λ is. c.in_err-former.ensures.no_fault (ap Err is)) refl (tables_more (λ none. inr none) c.in_err-former.field-0.0 c.in_err-former.ensures.cause))
 
 pub returns-in-Ok-clause-fails : goal.returns-in-Ok-clause-fails
 returns-in-Ok-clause-fails g c = fails_ok c.in-Ok.ensures.fails.told

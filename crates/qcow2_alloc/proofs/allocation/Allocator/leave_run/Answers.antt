@@ -1,6 +1,6 @@
 use Rattle.std.proofs.Common.{◌≡◌, ◌+◌, ◌-◌, ◌/◌, ◌^◌, inl, inr, false, true, refl, sym, ap, ◌∙◌, subst, arith}
 use Rattle.qcow2_alloc.proofs.Common.{counts_per_block, one_at, Pending, Taken, taken_as, InternalAllocatorStep, GivesBack, IsUsed, with_run, lacks, faults_of}
-use Rattle.qcow2_alloc.proofs.Lemmas.{handed_on, of_equal, not_in_run, search_as, search_same, search_then, taken_pending, used_stays, run_past, left_none, left_one, left_fault, owed_now, fails_ok, fails_on, fails_since, table_step_none, table_step_then, table_step_as, on_no_ok}
+use Rattle.qcow2_alloc.proofs.Lemmas.{fails_by_fault, handed_on, of_equal, not_in_run, search_as, search_same, search_then, taken_pending, used_stays, run_past, left_none, left_one, left_fault, owed_now, fails_ok, fails_on, fails_since, table_step_none, table_step_then, table_step_as, on_no_ok}
 use Rattle.qcow2_alloc.proofs.allocation.Allocator.leave_run.Goals.{then-not-lacks_block+in_ok-decrement_or_leak, else-not-lacks_block}
 use Rattle.qcow2_alloc.proofs.allocation.Allocator.leave_run.Goals as goal
 
@@ -101,7 +101,7 @@ returns-in_err-decrement_or_leak g c = record {
             ∙ c.leaving.invariant.leaks p start same b;
         kept = on_no_ok _ c.from_residual.result c.in_err-decrement_or_leak.field-0.0 c.from_residual.ensures;
       };
-  fails = fails_on c.from_residual.result c.in_err-decrement_or_leak.field-0.0 c.from_residual.ensures (fails_since c.leaving.invariant.faults c.in_err-decrement_or_leak.ensures.fails);
+  fails = fails_on c.from_residual.result c.in_err-decrement_or_leak.field-0.0 c.from_residual.ensures (fails_by_fault (fails_since c.leaving.invariant.faults c.in_err-decrement_or_leak.ensures.fails));
 }
 
 pub returns-clause-fails : goal.returns-clause-fails

@@ -56,10 +56,10 @@ pub returns-clause-fails : goal.returns-clause-fails
 returns-clause-fails g c = fails_ok c.in_ok-rb_get_or_insert.ensures.fails.told
 
 pub returns-in_err-rb_get_or_insert-clause-loads : goal.returns-in_err-rb_get_or_insert-clause-loads
-returns-in_err-rb_get_or_insert-clause-loads g c = loads_got c.args.file.now.caches c.rb_get_or_insert.new.self c.rb_get_or_insert.ensures.gets.kept.loads c.rb_get_or_insert.ensures.gets.changes
+returns-in_err-rb_get_or_insert-clause-loads g c = loads_got c.args.file.now.caches c.rb_get_or_insert.new.self c.rb_get_or_insert.ensures.gets.kept.loads c.rb_get_or_insert.ensures.tables c.rb_get_or_insert.ensures.gets.changes
 
 pub returns-clause-loads : goal.returns-clause-loads
-returns-clause-loads g c = loads_got c.args.file.now.caches c.rb_get_or_insert.new.self c.rb_get_or_insert.ensures.gets.kept.loads c.rb_get_or_insert.ensures.gets.changes
+returns-clause-loads g c = loads_got c.args.file.now.caches c.rb_get_or_insert.new.self c.rb_get_or_insert.ensures.gets.kept.loads c.rb_get_or_insert.ensures.tables c.rb_get_or_insert.ensures.gets.changes
 
 pub returns-in_default-clause-loads : goal.returns-in_default-clause-loads
 returns-in_default-clause-loads g c = blocks_loaded c.args.file.now.caches c.args.file.now.caches (blocks_same c.args.file.now.caches)

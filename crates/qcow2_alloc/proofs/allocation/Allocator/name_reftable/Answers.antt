@@ -1,6 +1,6 @@
 use Rattle.std.proofs.Common.{◌+◌, ◌*◌, ◌^◌, inr, sym, ap, ◌∙◌, refl, subst}
-use Rattle.qcow2_alloc.proofs.Common.{with_run, IsOfTables, MetadataError, NamesReftable, of_storage, of_metadata, storage_of, KeepsUsed, KeepsHeader, ImageFile, PreservesHeaderButPointer, HeaderView}
-use Rattle.qcow2_alloc.proofs.Lemmas.{handed_on, fault_of_storage, header_same, note_kept, spares_pointer, placed_above, kept_marks_none, told_kept, marks_of_storage, fails_by, limit_other, fails_ok, fails_on, fails_since, fails_storage, other_as, same_faults}
+use Rattle.qcow2_alloc.proofs.Common.{with_run, IsOfTablesIf, MetadataError, NamesReftable, of_storage, of_metadata, storage_of, KeepsUsed, KeepsHeader, ImageFile, PreservesHeaderButPointer, HeaderView}
+use Rattle.qcow2_alloc.proofs.Lemmas.{fails_aligned, handed_on, fault_of_storage, header_same, note_kept, spares_pointer, placed_above, kept_marks_none, told_kept, marks_of_storage, fails_by, limit_other, fails_ok, fails_on, fails_since, fails_storage, other_as, same_faults}
 use Rattle.qcow2_alloc.proofs.NamedReftables.{within_limit, interrupted_named, allocator_step_named, keeps_used}
 use Rattle.qcow2_alloc.proofs.SparedHeaders.{spares_none}
 use Rattle.qcow2_alloc.specs.declared.error.ImageError.TheVariants as I
@@ -81,7 +81,7 @@ returns-clause-step g c = record {
 pub returns-in_err-set_reftable-clause-fails : goal.returns-in_err-set_reftable-clause-fails
 returns-in_err-set_reftable-clause-fails g c =
     let e = c.in_err-set_reftable.field-0.0 in
-    fails_on c.from_residual.result (of_metadata e) c.from_residual.ensures (fails_by (of_metadata e) (other_as (ap of_metadata c.in_err-set_reftable.ensures.err.0) limit_other) refl (subst (λ (x : MetadataError). IsOfTables (of_metadata x)) (sym c.in_err-set_reftable.ensures.err.0) tt))
+    fails_aligned (fails_on c.from_residual.result (of_metadata e) c.from_residual.ensures (fails_by (of_metadata e) (other_as (ap of_metadata c.in_err-set_reftable.ensures.err.0) limit_other) refl (subst (λ (x : MetadataError). IsOfTablesIf ⊥ (of_metadata x)) (sym c.in_err-set_reftable.ensures.err.0) tt)))
 
 pub returns-in_err-write_reftable_pointer-clause-fails : goal.returns-in_err-write_reftable_pointer-clause-fails
 returns-in_err-write_reftable_pointer-clause-fails g c = fails_since (same_faults g.S.Storage.view c.set_write_kind.ensures.storage) (fails_storage c.from_residual-in_err-write_reftable_pointer.result c.in_err-write_reftable_pointer.field-0.0 c.from_residual-in_err-write_reftable_pointer.ensures c.in_err-write_reftable_pointer.ensures.writes.calls.cause)

@@ -1,6 +1,6 @@
 use Rattle.std.proofs.Common.{◌≡◌, ◌+◌, ◌*◌, ◌/◌, ◌^◌, ◌<◌, ◌≤◌, inr, ℕ, Bool, IsTrue, Some, Result, Ok, Err, refl, sym, ap, ◌∙◌, subst, arith, IsSome, IfSome}
 use Rattle.qcow2_alloc.proofs.Common.{div-add-mod', w64, to_be_bytes, overwritten, StorageView, Changes, Calls, StorageError, HeaderFields, EntryTableView, entry_count, cluster_size, RefBlockView, IsRefBlock, count_at, IsHostCluster, entry_at, ChangesEntry, HasPlace, block_offset, Pending, AreClean, BlocksMayGo, Allocator, ImageError, ImageStorage, ImageFile, placing, first_counts, HasPlaceFor, NamesRefblock, InternalAllocatorStep, HoldsBlock, PlacesBlock, WritesBlock, of_storage, IsFault, view_in, AllocatorInvariant, storage_of, is_changed_of, order_of, l2_tables, refblocks, IsBlockOf, or_left}
-use Rattle.qcow2_alloc.proofs.Lemmas.{file_step_then, interrupted_then, entered_has, handed_on, entries_entered, fault_of_storage, is_sound_now, names_refblock, entry_write_as, real, safe_throughout_named, named_so, on_no_ok, entries_none, spares_then, spares_entry, kept_marks_then, placed_kept, marks_of_storage, note_kept, fails_on, fails_ok, fails_since, fails_storage, same_faults}
+use Rattle.qcow2_alloc.proofs.Lemmas.{fails_aligned, file_step_then, interrupted_then, entered_has, handed_on, entries_entered, fault_of_storage, is_sound_now, names_refblock, entry_write_as, real, safe_throughout_named, named_so, on_no_ok, entries_none, spares_then, spares_entry, kept_marks_then, placed_kept, marks_of_storage, note_kept, fails_on, fails_ok, fails_since, fails_storage, same_faults}
 use Rattle.qcow2_alloc.proofs.allocation.Allocator.place_block.Goals as goal
 
 format_in : (h : HeaderFields) (b b' : RefBlockView) (k : ℕ) → b' ≡ record b { cluster = Some k } → IsBlockOf h b → IsBlockOf h b'
@@ -31,7 +31,7 @@ returns-in_err-write_block g c = record {
     marks = c.write_block.ensures.step.marks;
     header_cluster = c.write_block.ensures.step.header_cluster c.args.self.now.reftable (format_in _ c.args.block c.set_cluster.new.self _ c.set_cluster.ensures c.requires.block.0).bits;
   };
-  fails = fails_on c.from_residual.result c.in_err-write_block.field-0.0 c.from_residual.ensures c.in_err-write_block.ensures.fails;
+  fails = fails_on c.from_residual.result c.in_err-write_block.field-0.0 c.from_residual.ensures (fails_aligned c.in_err-write_block.ensures.fails);
   sound = λ p itself sound place counts.
       handed_on (PlacesBlock g.S.Storage.view (placing itself p c.args.at) c.args.file.now c.args.self.now c.write_block.new.file p c.args.range c.args.at)
       c.from_residual.result c.in_err-write_block.field-0.0 c.from_residual.ensures

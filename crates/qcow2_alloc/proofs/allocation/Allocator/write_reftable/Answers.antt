@@ -1,6 +1,6 @@
-use Rattle.std.proofs.Common.{ℕ, ◌≡◌, ◌+◌, ◌*◌, ◌/◌, ◌<◌, ◌≤◌, sym, ap, ◌∙◌, subst, arith, Some, inl, IfSome}
+use Rattle.std.proofs.Common.{ℕ, refl, ◌≡◌, ◌+◌, ◌*◌, ◌/◌, ◌<◌, ◌≤◌, sym, ap, ◌∙◌, subst, arith, Some, inl, IfSome}
 use Rattle.qcow2_alloc.proofs.Common.{HeaderFields, EntryTableView, entry_count, cluster_size, HeaderView, AreClean, ImageFile, MetadataCaches, run_at, NamesLacking, HasBytesAt, faults_of, with_run, NamesReftable, StandsGrown, contents_in, AllocatorInvariant, KeepsUsed, order_of, l2_tables, refblocks, rb_at, room_length, placed_at, EntersRoom, or_left, is_changed_of}
-use Rattle.qcow2_alloc.proofs.Lemmas.{handed_on, allocator_step_cached, allocator_step_then, is_sound_now, leaves_then, file_sizes, Counting, may_go, new_blocks_refused, counting_beside, table_err, table_ok, stands_ready, names_then, uses_after, ok_as, uses_refused, fails_on, fails_since, fails_still, pointer_step_on, pointer_step_then, table_step_cached, table_step_dropped, table_step_then, table_step_part, pointer_step_to, fault_alone, file_fits, fails_of_tables}
+use Rattle.qcow2_alloc.proofs.Lemmas.{fails_moved, fails_aligned, handed_on, allocator_step_cached, allocator_step_then, is_sound_now, leaves_then, file_sizes, Counting, may_go, new_blocks_refused, counting_beside, table_err, table_ok, stands_ready, names_then, uses_after, ok_as, uses_refused, fails_on, fails_since, fails_still, pointer_step_on, pointer_step_then, table_step_cached, table_step_dropped, table_step_then, table_step_part, pointer_step_to, fault_alone, file_fits, fails_of_tables}
 use Rattle.qcow2_alloc.proofs.allocation.Allocator.write_reftable.Goals as goal
 
 pub returns-in_err-before_rb-clause-sound : goal.returns-in_err-before_rb-clause-sound
@@ -137,7 +137,7 @@ pub returns-in_err-placed-clause-step : goal.returns-in_err-placed-clause-step
 returns-in_err-placed-clause-step g c = pointer_step_on (table_step_then (table_step_then (table_step_cached c.before_rb.ensures.step.marks c.before_rb.ensures.step.header_cluster) c.place_blocks-placed.ensures.step) (table_step_dropped c.drop_blocks.ensures.rest c.drop_blocks.ensures.step))
 
 pub returns-in_err-placed-clause-fails : goal.returns-in_err-placed-clause-fails
-returns-in_err-placed-clause-fails g c = fails_on c.from_residual-in_err-placed.result c.in_err-placed.field-0.0 c.from_residual-in_err-placed.ensures (fails_still (fails_since c.in_ok-before_rb.ensures.fails.told c.in_err-placed.ensures.fails) (ap (λ (x : ImageFile _). faults_of g.S.Storage.view x.storage) c.drop_blocks.ensures.rest))
+returns-in_err-placed-clause-fails g c = fails_on c.from_residual-in_err-placed.result c.in_err-placed.field-0.0 c.from_residual-in_err-placed.ensures (fails_moved (ap (λ (x : ImageFile _). x.header.fields) c.drop_blocks.ensures.rest) refl (fails_still (fails_since c.in_ok-before_rb.ensures.fails.told c.in_err-placed.ensures.fails) (ap (λ (x : ImageFile _). faults_of g.S.Storage.view x.storage) c.drop_blocks.ensures.rest)))
 
 pub returns-in_err-place_table-clause-step : goal.returns-in_err-place_table-clause-step
 returns-in_err-place_table-clause-step g c =
@@ -146,7 +146,7 @@ returns-in_err-place_table-clause-step g c =
 
 pub returns-in_err-place_table-clause-fails : goal.returns-in_err-place_table-clause-fails
 returns-in_err-place_table-clause-fails g c =
-    fails_on c.from_residual-in_err-place_table.result c.in_err-place_table.field-0.0 c.from_residual-in_err-place_table.ensures (fails_since ((ap (λ (x : ImageFile _). faults_of g.S.Storage.view x.storage) c.drop_blocks.ensures.rest) ∙ (c.in_ok-placed.ensures.fails.told ∙ c.in_ok-before_rb.ensures.fails.told)) c.in_err-place_table.ensures.fails)
+    fails_on c.from_residual-in_err-place_table.result c.in_err-place_table.field-0.0 c.from_residual-in_err-place_table.ensures (fails_since ((ap (λ (x : ImageFile _). faults_of g.S.Storage.view x.storage) c.drop_blocks.ensures.rest) ∙ (c.in_ok-placed.ensures.fails.told ∙ c.in_ok-before_rb.ensures.fails.told)) (fails_aligned c.in_err-place_table.ensures.fails))
 
 pub returns-clause-step : goal.returns-clause-step
 returns-clause-step g c =

@@ -58,5 +58,6 @@ returns g c =
       recorded = λ _. c.one_more-self.ensures;
       refused = λ none. absurd cc;
       cached = λ _. rw ch.is (still_new_data c.args.cluster c.args.self.now.rb.entries ch.before ch.after ch.found);
+      apart = refl;
       missing = λ none. let bad = subst (λ (o : Option RefBlockView). IsNone o) ch.found none in cc;
     }

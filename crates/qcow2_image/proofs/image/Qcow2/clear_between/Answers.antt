@@ -30,7 +30,7 @@ returns-in-Err-clause-sound g c = λ out sound.
             may_fail = met_freed view below out (MayFailAllocating (HasPinnedMapping out) (IsUnderMapping old.file.header.fields c.args.from out) ⊥ (NeedsOverflowingL1Entry old c.args.from)) (λ e fault. inl (inl (inl fault))) old mid new e told part.clears fault
                 (c.process_free_list_after.ensures.told.1 out) part.may_fail;
             limit = λ is. part.limit (limited_frees view below out old mid new e told part.clears fault (c.process_free_list_after.ensures.told.1 out) is);
-            lacks = λ none. lacking_freed view below out old mid new e told part.clears fault c.args.from c.process_free_list_after.ensures.table c.process_free_list_after.ensures.keeps_rest.header (c.process_free_list_after.ensures.frees out) (part.lacks none);
+            lacks = λ none. lacking_freed view below out old mid new e told part.clears fault c.args.from c.process_free_list_after.ensures.offsets.l1_table c.process_free_list_after.ensures.keeps_rest.header (c.process_free_list_after.ensures.frees out) (part.lacks none);
           };
       taken = λ is. was.taken (c.process_free_list_after.ensures.refused.taken c.in-Err.ensures.fails.cause is);
       free = tt;

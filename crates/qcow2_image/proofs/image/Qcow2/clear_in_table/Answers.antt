@@ -60,7 +60,7 @@ returns-in_err-table-clause-sound g c = λ out sound.
         limit = found.limit;
         lacks = found.lacks;
       };
-      taken = λ is. absurd (met_untaken e c.in_err-table.ensures.fails.cause is);
+      taken = λ is. absurd (met_untaken _ e c.in_err-table.ensures.fails.cause is);
       free = tt;
     })
 
@@ -104,7 +104,7 @@ returns-in_err-old_data-clause-sound g c = λ out sound.
             limit = other_limit _ e (fault_unlimited e fault);
             lacks = λ none. inl fault;
           };
-      taken = λ is. absurd (met_untaken e c.in_err-old_data.ensures.cause is);
+      taken = λ is. absurd (met_untaken _ e c.in_err-old_data.ensures.cause is);
       free = tt;
     })
 
@@ -141,14 +141,14 @@ returns-clause-sound g c = λ out sound.
     }
 
 pub returns-in_err-table-clause-pinned : goal.returns-in_err-table-clause-pinned
-returns-in_err-table-clause-pinned g c = λ own. heeds_refused c.args.self.now c.args.from c.from_residual.result c.in_err-table.field-0.0 c.from_residual.ensures (λ is. absurd (met_untaken c.in_err-table.field-0.0 c.in_err-table.ensures.fails.cause is))
+returns-in_err-table-clause-pinned g c = λ own. heeds_refused c.args.self.now c.args.from c.from_residual.result c.in_err-table.field-0.0 c.from_residual.ensures (λ is. absurd (met_untaken _ c.in_err-table.field-0.0 c.in_err-table.ensures.fails.cause is))
 
 pub returns-then-l2_is_pinned-clause-pinned : goal.returns-then-l2_is_pinned-clause-pinned
 returns-then-l2_is_pinned-clause-pinned g c = λ own is.
     subst (λ n. 0 < n) (found_pins c.args.self.now c.writable_l2_table.new.self c.args.from c.in_ok-table.table (c.in_ok-table.ensures.own own)) (c.l2_is_pinned.ensures.0 c.if-l2_is_pinned.true)
 
 pub returns-in_err-old_data-clause-pinned : goal.returns-in_err-old_data-clause-pinned
-returns-in_err-old_data-clause-pinned g c = λ own. heeds_refused c.args.self.now c.args.from c.from_residual-in_err-old_data.result c.in_err-old_data.field-0.0 c.from_residual-in_err-old_data.ensures (λ is. absurd (met_untaken c.in_err-old_data.field-0.0 c.in_err-old_data.ensures.cause is))
+returns-in_err-old_data-clause-pinned g c = λ own. heeds_refused c.args.self.now c.args.from c.from_residual-in_err-old_data.result c.in_err-old_data.field-0.0 c.from_residual-in_err-old_data.ensures (λ is. absurd (met_untaken _ c.in_err-old_data.field-0.0 c.in_err-old_data.ensures.cause is))
 
 pub returns-clause-pinned : goal.returns-clause-pinned
 returns-clause-pinned g c = λ own.

@@ -1,9 +1,9 @@
 use Rattle.std.proofs.Common.{◌≡◌, ◌<◌, ◌+◌, ◌-◌, [], ℕ, min, sym, ap, ◌∙◌, subst, arith, inl, refl, Ok, Err, IfErr, IfOk, IsTrue, Result}
 use Rattle.qcow2_image.proofs.Common.{IfLimit, IsLimited, is_changed_of, or_right, Memory, TablePrepared, HasPinnedMapping, IsFaultOrLacksTable, RefusedCall, EndsFreeing, InternalCall, Clears, ClearsOrRefuses, IsUnderMapping, RefusesClearing, from_in, to_in, Qcow2, is_failed, has_noted_change, ImageInvariant, pending_in, NeedsOverflowingL1Entry, HasOwnTable, MayFailPreparing, MarksFailed, FreesRefused, notes_then, handed_on, err_as, RespectsPins, ImageError, MayFailAllocating, ClearsSoundly, ClearsStep, FailsToClear, IsFault}
 use Rattle.qcow2_image.proofs.image.Qcow2.clear_range.Goals as goal
-use Rattle.qcow2_image.proofs.Lemmas.{answered_counts, counts_begun, fails_marked, fails_once, kept_noted, notes_begun, notes_part, notes_since, refused_since, MayMarkBy, marks_memory, may_mark, may_mark_refused, is_fault, outcome, fault_of, clear_interruption, clear_covers, clear_done, clear_refused, fault_interruption, under_after, under_before, ungiven_interruption, ungiven_refused, counted_as, same_of, counted_marked, counted_ok, faults_then, untouched, same_kept, some_answered, behind_call, behind_then, begun_own, heeds_begun, of_tables_untaken, other_limit, goes_begun, limited_since, fault_unlimited, far_before, taking_as}
+use Rattle.qcow2_image.proofs.Lemmas.{answered_counts, counts_begun, fails_marked, fails_once, kept_noted, notes_begun, notes_part, notes_since, refused_since, MayMarkBy, marks_memory, may_mark, may_mark_refused, is_fault, outcome, fault_of, clear_interruption, clear_covers, clear_done, clear_refused, fault_interruption, under_after, under_before, ungiven_interruption, ungiven_refused, counted_as, same_of, counted_marked, counted_ok, faults_then, untouched, same_kept, some_answered, behind_call, behind_then, begun_own, heeds_begun, freed_untaken, other_limit, goes_begun, limited_since, fault_unlimited, far_before, taking_as}
 use Rattle.qcow2_image.proofs.Clear.ClearedCalls.{begins_clearing, early_fails, early_sound, early_step, idle_fails, idle_sound, idle_step, not_early, parts_cleared, same_image_then}
-use Rattle.qcow2_image.proofs.Call.FailingErrors.{tables_met}
+use Rattle.qcow2_image.proofs.Call.FailingErrors.{freeing_met}
 
 pub returns-in_err-from-clause-step : goal.returns-in_err-from-clause-step
 returns-in_err-from-clause-step g c = early_step g.S.Storage.view g.F.BackingDisk.backing c.args.self.now c.args.how c.args.offset c.args.length c.check_clear.result c.check_clear.ensures.refusal c.in_err-from.field-0.0 c.in_err-from.was c.from_residual.result c.from_residual.ensures c.in_err-from.ensures.faults
@@ -169,14 +169,14 @@ returns-in_err-process_free_list_at_end-clause-fails g c =
     let fault : (out : _) → ImageInvariant view below (pending_in view below old out) old out → IsFault c.in_err-process_free_list_at_end.field-0.0 = λ out sound. fault_of x (fault_interruption view below old how offset n b.works begun entries b.quiet parts freed c.process_free_list_at_end.result ends number x c.in_err-process_free_list_at_end.was out sound) in
     handed_on (λ (r : Result (ℕ × ℕ) ImageError). FailsToClear view below how old freed offset n r) c.from_residual-in_err-process_free_list_at_end.result x c.from_residual-in_err-process_free_list_at_end.ensures (record {
       early = not_early view below old how offset n c.check_clear.result c.check_clear.ensures.refusal c.in_ok-from.from c.in_ok-from.to c.in_ok-from.was freed (Err x);
-      late = λ none. inl (tables_met x c.in_err-process_free_list_at_end.ensures.fails.cause);
+      late = λ none. inl (freeing_met _ x c.in_err-process_free_list_at_end.ensures.fails.cause);
       refused = record {
         ungiven = ungiven_interruption view below old how offset n b.works begun entries b.quiet parts freed c.process_free_list_at_end.result ends number x c.in_err-process_free_list_at_end.was;
         lacks = λ none out sound unprepared. inl (fault out sound);
         may_fail = λ none out sound. inl (inl (inl (fault out sound)));
       };
-      pinned = λ some none own is. absurd (of_tables_untaken x c.in_err-process_free_list_at_end.ensures.fails.cause is);
-      under = λ none some out sound. ((λ is. absurd (of_tables_untaken x c.in_err-process_free_list_at_end.ensures.fails.cause is)), tt);
+      pinned = λ some none own is. absurd (freed_untaken x c.in_err-process_free_list_at_end.ensures.fails.cause is);
+      under = λ none some out sound. ((λ is. absurd (freed_untaken x c.in_err-process_free_list_at_end.ensures.fails.cause is)), tt);
       freed = λ none some out sound. inl (fault out sound);
       limit = λ none some out sound. other_limit _ x (fault_unlimited x (fault out sound));
     })

@@ -122,7 +122,7 @@ returns-in-None-3-clause-sound g c = λ out k at may sound.
       does = finds_shared view below old out k p at c.args.length c.args.table c.args.overwrite may sound new mapping c.in_ok-old.ensures.reach (c.in-None-3.ensures.none refl) (λ own. let yes = c.keeps.ensures.answer.1 (own ∙ ap (λ b. Zero (Some (b, true))) (sym c.in-Some-checked_add.ensures.1)) in let e : true ≡ false = sym yes ∙ c.if-keeps.false in cc) covered r
           (subst (λ x. ClusterMappingsAt view below before old new out x (c.args.length - p.length) o mapping (p.offset + p.length) r) c.in-Some.ensures.1
           (subst (λ x. ClusterMappingsAt view below before old new out c.in-Some.next x o mapping (p.offset + p.length) r) c.saturating_sub-left.ensures
-          (subst (λ x. ClusterMappingsAt view below before old new out c.in-Some.next c.saturating_sub-left.result o mapping x r) c.in-Some-checked_add.ensures.1 ((c.cluster_mapping_at.ensures.sound before out sound (λ m. omega arith)).clusters))));
+          (subst (λ x. ClusterMappingsAt view below before old new out c.in-Some.next c.saturating_sub-left.result o mapping x r) c.in-Some-checked_add.ensures.1 ((c.cluster_mapping_at.ensures.sound before out sound (λ m. omega arith)).clusters aligned))));
       may_fail = IfErr-weaker c.cluster_mapping_at.result _ _
           (alone_as (λ copied. (
             subst IsCompressed (sym here) copied.0,
@@ -141,7 +141,7 @@ returns-in_err-old-clause-sound g c = λ out k at may sound.
     let h = old.file.header.fields in
     let cluster : c.cluster-cluster.result ≡ (p.guest + p.length) / cluster_size h = c.cluster-cluster.ensures ∙ ap (λ o. o / 2 ^ c.cluster_bits.result) (c.new.ensures ∙ c.in-Some.ensures.1) ∙ ap (λ b. (p.guest + p.length) / 2 ^ b) c.cluster_bits.ensures.value in
     record {
-      does = search rules;
+      does = absurd (let no : false ≡ true = next_reads view below old out k p at c.args.length c.args.table c.args.overwrite may sound c.cluster-cluster.result cluster (c.in_err-old.ensures.reads (pending_in view below old out) (l1_index_of h p.guest) sound.file sound.inside) in cc);
       may_fail = absurd (let no : false ≡ true = next_reads view below old out k p at c.args.length c.args.table c.args.overwrite may sound c.cluster-cluster.result cluster (c.in_err-old.ensures.reads (pending_in view below old out) (l1_index_of h p.guest) sound.file sound.inside) in cc);
       limit = hands_limit c.from_residual.result c.in_err-old.field-0.0 c.from_residual.ensures (other_limit _ c.in_err-old.field-0.0 c.in_err-old.ensures.limited);
     }

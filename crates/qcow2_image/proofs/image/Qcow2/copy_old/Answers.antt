@@ -1,5 +1,5 @@
 use Rattle.std.proofs.Common.{◌≡◌, ◌+◌, ◌/◌, ◌≤◌, ℕ, List, length, replicate, refl, sym, ap, ◌∙◌, subst, arith, rules, is_some, inl}
-use Rattle.qcow2_image.proofs.Common.{length-replicate, get_or-replicate, cover, known_byte, cluster_size, HeaderView, Disk, known_in, state_in, found_kind, IsMappedAs, backing_bytes, MayFail, MayFailCopying, MayFailReading, MayFailWriting, IsFault, IfOk-weaker}
+use Rattle.qcow2_image.proofs.Common.{length-replicate, get_or-replicate, cover, known_byte, cluster_size, HeaderView, Disk, known_in, state_in, found_kind, IsMappedAs, backing_bytes, MayFailOn, MayFailCopying, MayFailReading, MayFailWriting, IsFault, IfOk-weaker}
 use Rattle.qcow2_image.proofs.Call.FailingErrors.{reading_copied, writing_met}
 use Rattle.qcow2_image.proofs.Map.Reading.{none_below, zero_shown}
 use Rattle.qcow2_image.proofs.Lemmas.{disk_kept, image_step_data, image_step_kept, image_step_then, own_of, there_written, hands_unlimited, hands_met, met_as, filling_of_read, filling_then, filling_written}
@@ -79,7 +79,7 @@ returns-in_err-read_as-clause-step g c = filling_of_read c.read_as.ensures.step 
 pub returns-in_err-read_as-clause-fails : goal.returns-in_err-read_as-clause-fails
 returns-in_err-read_as-clause-fails g c = record {
   faults = search rules;
-  cause = hands_met (MayFailCopying c.args.kind.now) c.from_residual-in_err-read_as.result c.in_err-read_as.field-0.0 c.from_residual-in_err-read_as.ensures (reading_copied c.args.kind.now c.in_err-read_as.field-0.0 c.in_err-read_as.ensures.fails.cause);
+  cause = hands_met (MayFailCopying c.read_as.new.self c.args.kind.now) c.from_residual-in_err-read_as.result c.in_err-read_as.field-0.0 c.from_residual-in_err-read_as.ensures (reading_copied c.read_as.new.self c.args.kind.now c.in_err-read_as.field-0.0 c.in_err-read_as.ensures.fails.cause);
   limited = hands_unlimited c.from_residual-in_err-read_as.result c.in_err-read_as.field-0.0 c.from_residual-in_err-read_as.ensures c.in_err-read_as.ensures.fails.limited;
 }
 
@@ -89,13 +89,13 @@ returns-clause-step g c = filling_then (filling_of_read c.read_as.ensures.step c
 pub returns-clause-fails : goal.returns-clause-fails
 returns-clause-fails g c = record {
   faults = search rules;
-  cause = met_as MayFailWriting (MayFailCopying c.args.kind.now) c.write_data.result (λ e why. inl (writing_met e why)) c.write_data.ensures.fails.cause;
+  cause = met_as MayFailWriting (MayFailCopying c.write_data.new.self c.args.kind.now) c.write_data.result (λ e why. inl (writing_met _ e why)) c.write_data.ensures.fails.cause;
   limited = search rules;
 }
 
 pub returns-in-Zero-clause-fails : goal.returns-in-Zero-clause-fails
 returns-in-Zero-clause-fails g c = record {
   faults = search rules;
-  cause = met_as MayFail (MayFailCopying c.args.kind.now) c.write_zeros.result (λ e why. inl why) c.write_zeros.ensures.fails.cause;
+  cause = met_as (MayFailOn c.write_zeros.new.self) (MayFailCopying c.write_zeros.new.self c.args.kind.now) c.write_zeros.result (λ e why. inl why) c.write_zeros.ensures.fails.cause;
   limited = search rules;
 }

@@ -16,7 +16,7 @@ returns-clause-length g c =
     let idx : c.l1_index-index.result ≡ l1_index_of old.file.header.fields c.args.offset =
     c.l1_index-index.ensures ∙ ap (λ n. n / 2 ^ c.cluster_bits.result / (2 ^ c.cluster_bits.result / 8)) c.new.ensures ∙ ap (λ b. c.args.offset / 2 ^ b / (2 ^ b / 8)) c.cluster_bits.ensures.value in
     always_ok c.process_free_list.result
-    (ap entry_count c.process_free_list.ensures.table ∙ c.in_ok-grow_l1_table.ensures.length ∙ ap (λ i. max (entry_count old.l1_table) (i + 1)) idx)
+    (ap entry_count c.process_free_list.ensures.offsets.l1_table ∙ c.in_ok-grow_l1_table.ensures.length ∙ ap (λ i. max (entry_count old.l1_table) (i + 1)) idx)
 
 pub returns-then-in_bounds-clause-placed : goal.returns-then-in_bounds-clause-placed
 returns-then-in_bounds-clause-placed g c = λ past bits.
@@ -25,7 +25,7 @@ returns-then-in_bounds-clause-placed g c = λ past bits.
     absurd (let lt = c.in_bounds.ensures.0 c.if-in_bounds.true in omega (arith, lt, idx, past))
 
 pub returns-clause-placed : goal.returns-clause-placed
-returns-clause-placed g c = λ past bits. always_ok c.process_free_list.result (subst IsPlacedNear (sym c.process_free_list.ensures.table) (c.in_ok-grow_l1_table.ensures.placed bits))
+returns-clause-placed g c = λ past bits. always_ok c.process_free_list.result (subst IsPlacedNear (sym c.process_free_list.ensures.offsets.l1_table) (c.in_ok-grow_l1_table.ensures.placed bits))
 
 pub returns-then-in_bounds-clause-step : goal.returns-then-in_bounds-clause-step
 returns-then-in_bounds-clause-step g c = step_none

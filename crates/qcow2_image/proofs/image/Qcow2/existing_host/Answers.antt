@@ -1,5 +1,6 @@
-use Rattle.std.proofs.Common.{◌≡◌, ◌-◌, ◌≤◌, ℕ, Option, None, Some, refl, sym, ap, ◌∙◌, subst, arith, min, is_some, false, true}
-use Rattle.qcow2_image.proofs.Common.{IfSome, IsLongestRun, is_beside, known_in, rest_of_table, writable_place, IsPlaceOf, IsWritableInTables, MayFail, IsUnlimited}
+use Rattle.qcow2_image.proofs.Call.KeptOffsets.{cached_at}
+use Rattle.std.proofs.Common.{inr, ◌≡◌, ◌-◌, ◌≤◌, ℕ, Option, None, Some, refl, sym, ap, ◌∙◌, subst, arith, min, is_some, false, true}
+use Rattle.qcow2_image.proofs.Common.{IfSome, IsLongestRun, is_beside, known_in, rest_of_table, writable_place, IsPlaceOf, IsWritableInTables, MayFailOn, IsUnlimited}
 use Rattle.qcow2_image.proofs.Lemmas.{writable_held, hands_met, unaligned_as}
 use Rattle.qcow2_alloc.proofs.ChangedTables.{if_some_then}
 use Rattle.qcow2_image.proofs.Prepare.WritableInPlace.{place_found, short_of}
@@ -48,7 +49,8 @@ returns-clause-held g c = λ lies own.
     (λ host place. subst (λ m. IsWritableInTables image c.args.offset m host) whole (writable_held h (is_beside image) (is_some image.backing) image.l1_table image.file.caches c.args.offset c.in_ok-kind.kind c.in_ok-kind.found host (sym c.writable_place-place.ensures ∙ place) run.mapped))
 
 pub returns-in_err-kind-clause-cause : goal.returns-in_err-kind-clause-cause
-returns-in_err-kind-clause-cause g c = hands_met MayFail c.from_residual.result c.in_err-kind.field-0.0 c.from_residual.ensures (unaligned_as MayFail c.in_err-kind.field-0.0 c.in_err-kind.ensures.cause tt)
+returns-in_err-kind-clause-cause g c = hands_met (MayFailOn c.args.self.now) c.from_residual.result c.in_err-kind.field-0.0 c.from_residual.ensures
+    (unaligned_as (MayFailOn c.args.self.now) c.in_err-kind.field-0.0 c.in_err-kind.ensures.cause (inr (inr (cached_at c.args.self.now.file.header.fields c.args.self.now.file.caches c.args.table c.args.offset _ c.in_err-kind.ensures.cause.1))))
 
 -- what is found, if something is
 each_found : (o : Option ℕ) (P : ℕ → Type 0) → ((host : ℕ) → o ≡ Some host → P host) → IfSome o P

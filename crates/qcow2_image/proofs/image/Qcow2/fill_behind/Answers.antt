@@ -1,3 +1,4 @@
+use Rattle.qcow2_image.proofs.Call.FailingErrors.{fault_met}
 use Rattle.qcow2_image.proofs.Lemmas.{fault_unlimited, early_refused, grown_none, grown_or_refused, step_none, hands_met}
 use Rattle.std.proofs.Common.{◌<◌, inl, inr, ap, refl, subst, sym, arith, IfErr, Result}
 use Rattle.qcow2_image.proofs.Common.{shows_old, handed_on, cluster_size, rounded_up, FillsGrownOrRefuses, cases_lt, known_in, MayFailGrowing, PreallocateMode, IfErr-weaker}
@@ -81,7 +82,7 @@ returns-in_err-writes-in-WriteData-clause-sound g c = λ out sound.
           let old = c.args.self.now in
           let e = c.in_err-writes-in-WriteData.field-0.0 in
           handed_on (λ r. FillsGrownOrRefuses view below c.args.size c.args.mode old old out r) c.from_residual.result e c.from_residual.ensures
-          (early_refused view below out old sound c.args.size c.args.mode (subst (λ n. n < c.args.size) c.requires.end c.requires.larger) (ap shows_old c.in-WriteData.is) e c.in_err-writes-in-WriteData.ensures.cause (fault_unlimited e c.in_err-writes-in-WriteData.ensures.fault));
+          (early_refused view below out old sound c.args.size c.args.mode (subst (λ n. n < c.args.size) c.requires.end c.requires.larger) (ap shows_old c.in-WriteData.is) e (fault_met _ e c.in_err-writes-in-WriteData.ensures.fault) (fault_unlimited e c.in_err-writes-in-WriteData.ensures.fault));
       may_fail = λ near.
           let h = c.args.self.now.file.header.fields in
           hands_met (MayFailGrowing out c.args.mode c.args.old (rounded_up (cluster_size h) c.args.size) h (known_in g.S.Storage.view c.args.self.now.file)) c.from_residual.result c.in_err-writes-in-WriteData.field-0.0 c.from_residual.ensures

@@ -4,14 +4,15 @@ use Rattle.qcow2_image.proofs.image.Qcow2.fill_first.Goals as goal
 use Rattle.std.proofs.Common.{◌≡◌, ◌+◌, ◌^◌, ◌≤◌, ◌<◌, ◌∷◌, Err, ◌∙◌, [], None, Option, is_some, true, inl, min, refl, sym, ap, subst, arith, rules, inr}
 use Rattle.qcow2_image.proofs.Common.{Pending, handed_on, ImageInvariant, abstract_of, pending_in, FillsFirst, FillsPart, given_by_zeros, CountsImageFaults, IsFault, known_in, ImageError, HasCompressedIn, MayFailAllocating, HasPinnedMapping}
 use Rattle.qcow2_image.proofs.Preallocate.Piece.{all_behind, all_filled, all_fits, all_next, all_put, all_within, piece_gone, sound_now}
-use Rattle.qcow2_image.proofs.Call.FailingErrors.{tables_met}
+use Rattle.qcow2_image.proofs.Call.FailingErrors.{freeing_met}
+use Rattle.qcow2_image.proofs.Call.KeptOffsets.{met_kept, released_offsets}
 
 pub returns-in-Err-clause-step : goal.returns-in-Err-clause-step
 returns-in-Err-clause-step g c = step_then (step_then (step_then c.prepare.ensures.step c.put_zeros.ensures.step) c.release_prepared.ensures.step) c.process_free_list_after.ensures.step
 
 pub returns-in-Err-clause-fails : goal.returns-in-Err-clause-fails
 returns-in-Err-clause-fails g c = record {
-  cause = search rules;
+  cause = c.process_free_list_after.ensures.refused.cause (inl (met_kept (released_offsets g.S.Storage.view c.put_zeros.new.self c.release_prepared.new.self c.release_prepared.ensures.rest) c.in-Err.refusal c.in-Err.ensures.fails.cause));
   faults = let view = g.S.Storage.view in
       let below = g.F.BackingDisk.backing in
       let old = c.args.self.now in
@@ -77,7 +78,7 @@ returns-in-Err-clause-sound g c = λ out sound.
           refused_after view below out old old c.process_free_list_after.new.self to from to from from from (from + p.length) (omega arith) (omega (arith, lt)) (omega arith) within (fills_none view below out old to from sound (works_none (abstract_of view below old out) sound)) (goes_step step_none) e'
           (record {
             left = piece_gone view below out old mid p from n sound ready answered fits c.put_zeros.new.self c.release_prepared.new.self c.process_free_list_after.new.self to e e' within put c.release_prepared.ensures.sees c.process_free_list_after.ensures.refused.fault (λ still. c.process_free_list_after.ensures.frees out still);
-            taken = λ is. met_taken e c.in-Err.ensures.fails.cause (c.process_free_list_after.ensures.refused.taken (inl c.in-Err.ensures.fails.cause) is);
+            taken = λ is. met_taken _ e c.in-Err.ensures.fails.cause (c.process_free_list_after.ensures.refused.taken (inl (met_kept (released_offsets g.S.Storage.view c.put_zeros.new.self c.release_prepared.new.self c.release_prepared.ensures.rest) c.in-Err.refusal c.in-Err.ensures.fails.cause)) is);
             limit = λ is.
                 let gone = sound_now view below out old mid p from n sound ready answered fits c.put_zeros.new.self c.release_prepared.new.self c.process_free_list_after.new.self to e e' within put c.release_prepared.ensures.sees c.process_free_list_after.ensures.refused.fault in
                 elim (c.process_free_list_after.ensures.told.1 out gone) [ inl same ↦ other_limit _ e c.in-Err.ensures.fails.limited (sym same ∙ is) | inr fault ↦ other_limit _ e' (fault_unlimited e' fault) is ];
@@ -112,7 +113,7 @@ returns-in_err-process_free_list-clause-sound g c = λ out sound.
           let part = all_filled view below out old mid p from to c.most.result n c.min-count.result sound ready answered lt whole few asked counted (c.in_ok-prepared.ensures.some some).some c.put_zeros.new.self done (c.in_default.ensures.puts.written own) c.commit_filled.ensures.commits c.commit_filled.ensures.header c.in_ok-prepared.ensures.l1_place in
           let listed = subst (λ (x : Pending). ImageInvariant view below x done out) (all_listed view below done out) part.sound in
           handed_on (λ r. FillsFirst view below to from to old new out r) c.from_residual-in_err-process_free_list.result e c.from_residual-in_err-process_free_list.ensures
-          (fills_refused view below out old done new to from (from + p.length) part to e within (tables_met e c.in_err-process_free_list.ensures.cause) (fault_unlimited e (c.in_err-process_free_list.ensures.faults (beside view below done out) out listed))
+          (fills_refused view below out old done new to from (from + p.length) part to e within (freeing_met _ e c.in_err-process_free_list.ensures.cause) (fault_unlimited e (c.in_err-process_free_list.ensures.faults (beside view below done out) out listed))
           (freed_refused view below done out new e part.sound (c.in_err-process_free_list.ensures.frees (beside view below done out) out listed)) c.process_free_list.ensures.keeps_rest.header);
       may_fail = λ whole near. let part = all_filled view below out old mid p from to c.most.result n c.min-count.result sound ready answered lt whole few asked counted (c.in_ok-prepared.ensures.some some).some c.put_zeros.new.self done (c.in_default.ensures.puts.written own) c.commit_filled.ensures.commits c.commit_filled.ensures.header c.in_ok-prepared.ensures.l1_place in
           let listed = subst (λ (x : Pending). ImageInvariant view below x done out) (all_listed view below done out) part.sound in

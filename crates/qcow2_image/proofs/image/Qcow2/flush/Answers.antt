@@ -1,4 +1,4 @@
-use Rattle.qcow2_image.proofs.Common.{[], sym, ◌∙◌, subst, ap, rules, Result, IfErr, Pending, with_listed, FlushesImage, Qcow2, is_failed, ImageInvariant, pending_in, IsFault, IsOfTables}
+use Rattle.qcow2_image.proofs.Common.{[], sym, ◌∙◌, subst, ap, rules, Result, IfErr, Pending, with_listed, FlushesImage, Qcow2, is_failed, ImageInvariant, pending_in, IsFault, IsFaultOrLimit}
 use Rattle.qcow2_image.proofs.Lemmas.{written_back, all_listed, beside, flushes_with_outcome, frees_on, counted_marked, marks_memory, may_mark, fails_none, fails_once, behind_call, quiet_sound, reads_call}
 use Rattle.qcow2_image.proofs.image.Qcow2.flush.Goals as goal
 
@@ -51,7 +51,7 @@ returns-then-self-clause-step g c = record { image = search rules; marks = searc
 
 pub returns-clause-fails : goal.returns-clause-fails
 returns-clause-fails g c = record {
-  late = λ usable. subst (λ (r : Result _ _). IfErr r IsOfTables) (sym c.mark_failure.ensures.answer) c.write_back-done.ensures.fails.cause;
+  late = λ usable. subst (λ (r : Result _ _). IfErr r IsFaultOrLimit) (sym c.mark_failure.ensures.answer) c.write_back-done.ensures.fails.cause;
   fault = λ out sound.
       let view = g.S.Storage.view in
       let below = g.F.BackingDisk.backing in

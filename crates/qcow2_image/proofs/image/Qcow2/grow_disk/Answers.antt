@@ -1,6 +1,6 @@
 use Rattle.qcow2_image.proofs.Call.FailingErrors.{writing_met}
 use Rattle.std.proofs.Common.{◌∷◌, ◌≡◌, ◌+◌, ◌-◌, ◌<◌, ◌⊎◌, [], inl, inr, ◌∙◌, max, sym, ap, subst, arith, refl, rules, Err, IfErr, IsTrue, Ok, Result}
-use Rattle.qcow2_image.proofs.Common.{GoesTo, IfLimit, IsLimited, or_right, ImageFile, has_noted, known_in, notes_then, OnOk, HeaderFields, entry_count, with_size, cluster_size, rounded_up, Memory, Version, IsFault, is_changed_of, InternalCall, Qcow2, l1_index_of, Lasts, LastsCall, ReachesSize, HasNothingToFree, is_failed, size_of, with_marks, has_noted_change, ImageInvariant, pending_in, MakesEntry, ReachesOffset, IsPlacedNear, FillsGrown, FillsGrownOrRefuses, FreesRefused, IsFaultOrLimit, MayFail, IsUnlimited, GrowsTables, GrowsTo, LacksZeros, RefusesUnchanged, WritesSizeLast, all_given_by_grow, handed_on, err_as, FailsOnceWritten, pow_pos, MayFailGrowing, IfErr-weaker, LastsPart, ListGrows, MayFailToGrow}
+use Rattle.qcow2_image.proofs.Common.{GoesTo, IfLimit, IsLimited, or_right, ImageFile, has_noted, known_in, notes_then, OnOk, HeaderFields, entry_count, with_size, cluster_size, rounded_up, Memory, Version, IsFault, is_changed_of, InternalCall, Qcow2, l1_index_of, Lasts, LastsCall, ReachesSize, HasNothingToFree, is_failed, size_of, with_marks, has_noted_change, ImageInvariant, pending_in, MakesEntry, ReachesOffset, IsPlacedNear, FillsGrown, FillsGrownOrRefuses, FreesRefused, IsFaultOrLimit, MayFailOn, IsUnlimited, GrowsTables, GrowsTo, LacksZeros, RefusesUnchanged, WritesSizeLast, all_given_by_grow, handed_on, err_as, FailsOnceWritten, pow_pos, MayFailGrowing, IfErr-weaker, LastsPart, ListGrows, MayFailToGrow}
 use Rattle.qcow2_image.proofs.image.Qcow2.grow_disk.Goals as goal
 use Rattle.qcow2_image.proofs.Lemmas.{same_kept, call_marked, known_then, lasts_asking, lasts_step, lasts_then, shown_none, MayMarkBy, marks_memory, may_mark, stays_then, err_is, reaches_begun, reaches_on, reaches_told, file_step_then, met_taken, same_version, untaken_grown, begun_call, same_of, counted_marked, counted_on, untouched, kept_noted, fails_marked, fails_once, behind_by, behind_call, behind_none, behind_then, faults_unlimited, goes_begun, goes_step, goes_then, hands_limit, limited_giving, limited_since, unlimited_all, up_least, same_size, met_behind, near_longer_ends, hands_met, met_as}
 use Rattle.qcow2_image.proofs.Grow.GrownByParts.{call_then}
@@ -182,7 +182,7 @@ returns-in_err-mark_failure-clause-sound g c = λ out sound.
       };
       tables = subst (λ (r : Result _ _). GrowsTables view below old c.mark_failure.new.self c.args.size c.args.mode out r) (sym (err_is c.from_residual.result c.from_residual.ensures))
           (record {
-            taken = λ is. met_taken e (subst (λ (r : Result _ _). IfErr r MayFail) done c.lengthen_files-longer.ensures.fails.cause) is;
+            taken = λ is. met_taken _ e (subst (λ (r : Result _ _). IfErr r (MayFailOn mid)) done c.lengthen_files-longer.ensures.fails.cause) is;
             zeros = λ zero lacks. subst (λ (image : Qcow2 _ _). RefusesUnchanged view below old image out e) (sym c.mark_failure.ensures.rest)
                 (unchanged_not view below old c.args.size c.args.mode c.requires.usable c.requires.larger begun mid e marked first
                 (λ list still. subst (MakesEntry view below begun mid list) done ((c.lengthen_files-longer.ensures.longer.sound list still).makes))
@@ -351,7 +351,8 @@ returns-clause-sound g c = λ out sound.
 pub returns-in_err-mark_failure-clause-cause : goal.returns-in_err-mark_failure-clause-cause
 returns-in_err-mark_failure-clause-cause g c = handed_on (λ r. IfErr r (MayFailToGrow c.mark_failure.new.self c.args.mode)) c.from_residual.result c.in_err-mark_failure.field-0.0 c.from_residual.ensures
     (let done : c.lengthen_files-longer.result ≡ Err c.in_err-mark_failure.field-0.0 = sym c.mark_failure.ensures.answer ∙ c.in_err-mark_failure.was in
-    inl (inl (subst (λ (r : Result _ _). IfErr r MayFail) done c.lengthen_files-longer.ensures.fails.cause)))
+    subst (λ (image : Qcow2 _ _). MayFailToGrow image c.args.mode c.in_err-mark_failure.field-0.0) (sym c.mark_failure.ensures.rest)
+    (inl (inl (subst (λ (r : Result _ _). IfErr r (MayFailOn c.lengthen_files-longer.new.self)) done c.lengthen_files-longer.ensures.fails.cause))))
 
 pub returns-in_err-mark_fault-clause-cause : goal.returns-in_err-mark_fault-clause-cause
 returns-in_err-mark_fault-clause-cause g c = handed_on (λ r. IfErr r (MayFailToGrow c.mark_fault.new.self c.args.mode)) c.from_residual-in_err-mark_fault.result c.in_err-mark_fault.field-0.0 c.from_residual-in_err-mark_fault.ensures
@@ -361,4 +362,4 @@ returns-in_err-mark_fault-clause-cause g c = handed_on (λ r. IfErr r (MayFailTo
 
 pub returns-clause-cause : goal.returns-clause-cause
 returns-clause-cause g c = subst (λ (r : Result _ _). IfErr r (MayFailToGrow c.mark_fault-2.new.self c.args.mode)) (sym c.mark_fault-2.ensures.answer)
-    (met_as IsFault (MayFailToGrow c.mark_fault-2.new.self c.args.mode) c.write_size-written.result (λ e fault. inl (inl (writing_met e (inl fault)))) c.write_size-written.ensures.fails.cause)
+    (met_as IsFault (MayFailToGrow c.mark_fault-2.new.self c.args.mode) c.write_size-written.result (λ e fault. inl (inl (writing_met _ e (inl fault)))) c.write_size-written.ensures.fails.cause)

@@ -41,9 +41,9 @@ returns-clause-longer g c = record {
       let idx : c.l1_index-index.result ≡ l1_index_of old.file.header.fields c.args.offset =
       c.l1_index-index.ensures ∙ ap (λ n. n / 2 ^ c.cluster_bits.result / (2 ^ c.cluster_bits.result / 8)) c.new.ensures ∙ ap (λ b. c.args.offset / 2 ^ b / (2 ^ b / 8)) c.cluster_bits.ensures.value in
       always_ok c.process_free_list.result
-      (ap entry_count c.process_free_list.ensures.table ∙ c.in_ok-grow_l1_table.ensures.length ∙ ap (λ i. max (entry_count old.l1_table) (i + 1)) idx);
+      (ap entry_count c.process_free_list.ensures.offsets.l1_table ∙ c.in_ok-grow_l1_table.ensures.length ∙ ap (λ i. max (entry_count old.l1_table) (i + 1)) idx);
   recorded = on_ok _ c.process_free_list.result (c.process_free_list.ensures.step.notes.tables.recorded c.in_ok-grow_l1_table.ensures.recorded);
-  placed = λ bits. on_ok _ c.process_free_list.result (subst IsPlacedNear (sym c.process_free_list.ensures.table) (c.in_ok-grow_l1_table.ensures.placed bits));
+  placed = λ bits. on_ok _ c.process_free_list.result (subst IsPlacedNear (sym c.process_free_list.ensures.offsets.l1_table) (c.in_ok-grow_l1_table.ensures.placed bits));
   sound = λ out sound.
       let view = g.S.Storage.view in
       let below = g.F.BackingDisk.backing in

@@ -1,5 +1,5 @@
 use Rattle.std.proofs.Common.{◌≡◌, ◌/◌, ◌<◌, inl, sym, ap, ◌∙◌, subst, rules, Ok}
-use Rattle.qcow2_image.proofs.Common.{handed_on, cover, cluster_size, Guest, with_new_data, cover_format, size_format, known_in, Qcow2, AllocatesDataAt, GainsAt, InternalFillingStep, RefusedFillingStep, IsGained, pending_with_listed, run_of, new_data_by, over_all, IsCopiedCompressed}
+use Rattle.qcow2_image.proofs.Common.{handed_on, cover, cluster_size, Guest, with_new_data, cover_format, size_format, known_in, Qcow2, AllocatesDataAt, GainsAt, InternalFillingStep, RefusedFillingStep, IsGained, pending_with_listed, run_of, new_data_by, over_all, IsCopiedCompressed, MayFailOn}
 use Rattle.qcow2_image.proofs.Lemmas.{listed_after_on, image_step_left, taken_new_data, taken_unused, still_holds, filled_as, image_step_then, hands_limit, other_limit, copied_as, filling_met, new_behind, hands_alone, taking_listed, taking_of_filling, taking_then}
 use Rattle.qcow2_image.proofs.image.Qcow2.new_cluster_at.Goals as goal
 
@@ -83,3 +83,9 @@ returns-in_err-pending-clause-sound g c = λ p out sound holds.
       may_fail = hands_alone (IsCopiedCompressed c.args.self.now.file.header.fields c.args.old.now c.args.offset c.args.length c.args.overwrite) ⊥ c.from_residual.result c.in_err-pending.field-0.0 c.from_residual.ensures (inl ((c.in_err-pending.ensures.sound p out sound holds).fault));
       limit = hands_limit c.from_residual.result c.in_err-pending.field-0.0 c.from_residual.ensures ((c.in_err-pending.ensures.sound p out sound holds).limit);
     }
+
+pub returns-in-Err-clause-fails : goal.returns-in-Err-clause-fails
+returns-in-Err-clause-fails g c = record {
+  cause = subst (λ (image : Qcow2 _ _). MayFailOn image c.in-Err.refusal) (sym c.hand_back.ensures) c.in-Err.ensures.fails.cause;
+  faults = search rules;
+}

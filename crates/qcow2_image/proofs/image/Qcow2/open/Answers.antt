@@ -1,5 +1,5 @@
 use Rattle.std.proofs.Common.{◌≡◌, ◌⊎◌, sym, refl, arith, subst, ap, inl, inr, ◌∙◌, rules, None, false}
-use Rattle.qcow2_image.proofs.Common.{byte_at, nothing_pending, surplus_of, ImageFile, Qcow2, IsKeptSince, HeaderReads, header, HeaderFields, SameFormat, ImageError, Dependency, UnalignedTable, IsFault, IsJustifiedRefusal, AreAllWritten}
+use Rattle.qcow2_image.proofs.Common.{MetadataCaches, byte_at, nothing_pending, surplus_of, ImageFile, Qcow2, IsKeptSince, HeaderReads, header, HeaderFields, SameFormat, ImageError, Dependency, UnalignedTable, IsFault, IsJustifiedRefusal, AreAllWritten}
 use Rattle.qcow2_image.proofs.Open.Left.{left_loaded, left_opened, left_refused}
 use Rattle.qcow2_image.proofs.Open.Opening.{new_tables_new, opened, kept_loaded, kept_opened, named_still}
 use Rattle.qcow2_alloc.specs.declared.error.ImageError.TheVariants as I
@@ -126,6 +126,7 @@ returns-in-Ok-load_tables-clause-image g c = record {
   number_is = refl;
   works = refl;
   writable_is = c.in-Ok-load_tables.ensures.allocator;
+  room = subst (λ (caches : MetadataCaches _). (caches.l2.size ≡ 128) × (caches.rb.size ≡ 32)) (sym c.load_tables.ensures.step.caches) c.in-Ok-new.ensures.sizes;
   unpinned =
       λ has.
       let none : l2_pins c.in-Ok-new.caches has.cluster ≡ 0 = c.in-Ok-new.ensures.pins has.cluster in

@@ -1,4 +1,5 @@
 use Rattle.qcow2_image.proofs.Lemmas.{taking_where, taking_with, where_then, back_refused, free_places, counted_as, counted_still, step_none, goes_step, hands_limit, limited_from, places_enter, alone_as, compressed_as, compressed_at, hands_met, taking_as}
+use Rattle.qcow2_image.proofs.Call.KeptOffsets.{met_kept, released_offsets}
 use Rattle.qcow2_image.proofs.image.Qcow2.prepare_in.Goals as goal
 use Rattle.std.proofs.Common.{◌≡◌, ◌+◌, ◌-◌, ◌/◌, ◌%◌, ◌∷◌, ◌<◌, [], refl, sym, ap, ◌∙◌, subst, arith, inl, rules, None, Err, ℕ, Option, IsSome}
 use Rattle.qcow2_image.proofs.Common.{cover, cluster_size, HeaderFields, known_in, handed_on, header_format, header_then, IsReadied, PreparesRange, GoesTo, pow_pos, mod_below, CopiesCompressed, MayFailAllocating, HasPinnedMapping, l2_pins}
@@ -43,7 +44,7 @@ returns-in-Err-clause-step g c = where_then (where_then c.prepare_first.ensures.
 
 pub returns-in-Err-clause-fails : goal.returns-in-Err-clause-fails
 returns-in-Err-clause-fails g c = record {
-  cause = search rules;
+  cause = inl (met_kept (released_offsets g.S.Storage.view c.prepare_rest.new.self c.release_prepared.new.self c.release_prepared.ensures.rest) c.in-Err.refusal c.in-Err.ensures.fails.cause);
   faults = let view = g.S.Storage.view in
       let below = g.F.BackingDisk.backing in
       let old = c.args.self.now in

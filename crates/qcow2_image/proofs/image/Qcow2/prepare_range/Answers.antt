@@ -18,10 +18,10 @@ returns-in-Some-clause-some g c = λ some.
     record { some = subst (λ n. 0 < n) (sym c.existing_at.ensures.length) some; behind = subst (IsPlacedBehind mid) (sym c.existing_at.ensures.offset) behind }
 
 pub returns-in_err-table-clause-pinned : goal.returns-in_err-table-clause-pinned
-returns-in_err-table-clause-pinned g c = λ own. unpinned_refused c.args.self.now c.args.offset c.from_residual.result c.in_err-table.field-0.0 c.from_residual.ensures (λ is. absurd (met_untaken c.in_err-table.field-0.0 c.in_err-table.ensures.fails.cause is))
+returns-in_err-table-clause-pinned g c = λ own. unpinned_refused c.args.self.now c.args.offset c.from_residual.result c.in_err-table.field-0.0 c.from_residual.ensures (λ is. absurd (met_untaken _ c.in_err-table.field-0.0 c.in_err-table.ensures.fails.cause is))
 
 pub returns-in_err-host-clause-pinned : goal.returns-in_err-host-clause-pinned
-returns-in_err-host-clause-pinned g c = λ own. unpinned_refused c.args.self.now c.args.offset c.from_residual-in_err-host.result c.in_err-host.field-0.0 c.from_residual-in_err-host.ensures (λ is. absurd (met_untaken c.in_err-host.field-0.0 c.in_err-host.ensures.cause is))
+returns-in_err-host-clause-pinned g c = λ own. unpinned_refused c.args.self.now c.args.offset c.from_residual-in_err-host.result c.in_err-host.field-0.0 c.from_residual-in_err-host.ensures (λ is. absurd (met_untaken _ c.in_err-host.field-0.0 c.in_err-host.ensures.cause is))
 
 pub returns-in-None-clause-pinned : goal.returns-in-None-clause-pinned
 returns-in-None-clause-pinned g c = λ own.

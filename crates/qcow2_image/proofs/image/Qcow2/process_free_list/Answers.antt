@@ -1,5 +1,6 @@
 use Rattle.qcow2_image.proofs.Common.{subst, rules, IfSome, with_listed, IsAllocatorOf, notes_of_both}
 use Rattle.qcow2_image.proofs.Lemmas.{freeing_step_kept, frees_listed, frees_fault, leaked_still, keeps_none, behind_freed, step_none}
+use Rattle.qcow2_image.proofs.Call.KeptOffsets.{offsets_none, freed_offsets}
 use Rattle.qcow2_image.proofs.image.Qcow2.process_free_list.Goals as goal
 
 pub returns-then-is_empty-clause-frees : goal.returns-then-is_empty-clause-frees
@@ -33,3 +34,12 @@ returns-in_default-clause-step g c = step_none
 
 pub returns-clause-step : goal.returns-clause-step
 returns-clause-step g c = record { stays = search rules; notes = (notes_of_both c.free.ensures.step.marks.pins c.free.ensures.step.marks.notes); header_cluster = behind_freed c.in-Some.is c.free.ensures.step.header_cluster }
+
+pub returns-then-is_empty-clause-offsets : goal.returns-then-is_empty-clause-offsets
+returns-then-is_empty-clause-offsets g c = offsets_none c.args.self.now
+
+pub returns-in_default-clause-offsets : goal.returns-in_default-clause-offsets
+returns-in_default-clause-offsets g c = offsets_none c.args.self.now
+
+pub returns-clause-offsets : goal.returns-clause-offsets
+returns-clause-offsets g c = freed_offsets g.S.Storage.view c.args.self.now c.in-Some.allocator c.free.new.self c.free.new.file c.free.result c.in-Some.is c.free.ensures.step.header c.free.ensures.step.reftable c.free.ensures.each

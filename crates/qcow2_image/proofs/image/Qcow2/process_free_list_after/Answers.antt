@@ -1,6 +1,8 @@
 use Rattle.std.proofs.Common.{◌≡◌, inl, inr, refl, sym, ◌∙◌, subst, Ok, Err, rules, []}
 use Rattle.qcow2_image.proofs.Common.{not_both, Pending, ImageInvariant}
 use Rattle.qcow2_image.proofs.Lemmas.{all_listed, beside, freed_refused, tidy_stays, counted_as, counted_still, step_none, freed_since, lasts_none}
+use Rattle.qcow2_image.proofs.Call.FailingErrors.{freeing_met}
+use Rattle.qcow2_image.proofs.Call.KeptOffsets.{met_kept, offsets_none}
 use Rattle.qcow2_image.proofs.image.Qcow2.process_free_list_after.Goals as goal
 
 pub returns-then-is_last-clause-refused : goal.returns-then-is_last-clause-refused
@@ -13,7 +15,7 @@ returns-then-is_last-clause-refused g c = record {
 
 pub returns-in-Ok-clause-refused : goal.returns-in-Ok-clause-refused
 returns-in-Ok-clause-refused g c = record {
-  cause = λ may. elim may [ inl met ↦ inl met | inr taken ↦ absurd (not_both c.is_last.result (c.is_last.ensures.taken taken.0) c.if-is_last.false) ];
+  cause = λ may. elim may [ inl met ↦ inl (met_kept c.process_free_list.ensures.offsets c.args.refusal met) | inr taken ↦ absurd (not_both c.is_last.result (c.is_last.ensures.taken taken.0) c.if-is_last.false) ];
   taken = search rules;
   fault = search rules;
   idle = λ none. (refl, (c.process_free_list.ensures.idle none).1);
@@ -21,7 +23,7 @@ returns-in-Ok-clause-refused g c = record {
 
 pub returns-in-Err-clause-refused : goal.returns-in-Err-clause-refused
 returns-in-Err-clause-refused g c = record {
-  cause = search rules;
+  cause = λ may. inl (freeing_met _ c.in-Err.fault c.in-Err.ensures.cause);
   taken = search rules;
   fault = search rules;
   idle = λ none. absurd (let no : Ok tt ≡ Err c.in-Err.fault = sym (c.process_free_list.ensures.idle none).0 ∙ c.in-Err.is in cc);
@@ -85,3 +87,6 @@ returns-in-Err-clause-lasts g c = λ out sound.
     let below = g.F.BackingDisk.backing in
     let old = c.args.self.now in
     freed_since view below out (beside view below old out) old c.process_free_list.new.self (Err c.in-Err.fault) (c.in-Err.ensures.frees (beside view below old out) out (subst (λ (x : Pending). ImageInvariant view below x old out) (all_listed view below old out) sound))
+
+pub returns-then-is_last-clause-offsets : goal.returns-then-is_last-clause-offsets
+returns-then-is_last-clause-offsets g c = offsets_none c.args.self.now

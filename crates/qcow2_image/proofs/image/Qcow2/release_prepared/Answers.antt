@@ -28,7 +28,7 @@ returns-clause-rest g c =
     let tables : SameTables old.file.caches caches = subst (λ (m : Qcow2 _ _). SameTables m.file.caches caches) freed un.tables in
     let changed : caches.is_changed ≡ old.file.caches.is_changed = un.changed ∙ ap (λ (m : Qcow2 _ _). m.file.caches.is_changed) freed in
     let counted : caches.changes ≡ old.file.caches.changes = un.counted ∙ ap (λ (m : Qcow2 _ _). m.file.caches.changes) freed in
-    subst (λ (image : Qcow2 _ _). ReleasesOneMapping view old image) (sym same) (record { rest = refl; known = tables.known old.file.header.fields (contents_in view old.file); changed = changed; counted = counted; written = λ all. (subst AreClean (sym tables.l2_tables) all.0, subst AreClean (sym tables.refblocks) all.1) })
+    subst (λ (image : Qcow2 _ _). ReleasesOneMapping view old image) (sym same) (record { rest = refl; held = tables.l2_at; known = tables.known old.file.header.fields (contents_in view old.file); changed = changed; counted = counted; written = λ all. (subst AreClean (sym tables.l2_tables) all.0, subst AreClean (sym tables.refblocks) all.1) })
 
 pub returns-clause-faults : goal.returns-clause-faults
 returns-clause-faults g c =

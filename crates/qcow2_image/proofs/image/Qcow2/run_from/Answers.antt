@@ -1,5 +1,5 @@
 use Rattle.std.proofs.Common.{◌≡◌, ◌-◌, ◌/◌, ◌<◌, refl, sym, ap, ◌∙◌, subst, arith, min, is_some, Option, Some, None, false, true, rules, ⊎_elim, ℕ, inl, inr, Err}
-use Rattle.qcow2_image.proofs.Common.{Qcow2, is_beside, IfOk-weaker, cluster_size, host_offset, IsLongestRun, table_at, Sizes-from, cover_none, IsTop-top, contents_in, known_in, kind_at, rest_of_table, l1_index_of, l2_index_of, NamesL2Table, IsRunFrom, IfSome, MatchOption, IsEntryAt, IsCacheHeld, MayFailLooking, own_table, GetsTableQuietly, HasUnalignedEntry, UnalignedTable, MayFailFinding, MayFailLoadingL2, Uncovered, file_loads}
+use Rattle.qcow2_image.proofs.Common.{Qcow2, is_beside, IfOk-weaker, cluster_size, host_offset, IsLongestRun, table_at, Sizes-from, cover_none, IsTop-top, contents_in, known_in, kind_at, rest_of_table, l1_index_of, l2_index_of, NamesL2Table, IsRunFrom, IfSome, MatchOption, IsEntryAt, IsCacheHeld, MayFailLooking, own_table, GetsTableQuietly, HasUnalignedAt, UnalignedTable, MayFailFinding, MayFailLoadingL2, Uncovered, file_loads}
 use Rattle.qcow2_image.proofs.Lemmas.{caches_moved, with_caches, none_found, behind_caches, answers_met, cache_looking, named_entry, hands_met, named_place, reads_none, uncovered_held, only_none, met_as, finding_more, still_loaded}
 use Rattle.qcow2_image.specs.HeldMappings.{named_place as place_named}
 use Rattle.qcow2_image.proofs.Map.Looked.{compressed_there}
@@ -183,8 +183,8 @@ returns-in_ok-l2_get_or_insert-in-Some-clause-fails g c =
     let new = record image { file = record image.file { storage = c.l2_get_or_insert.new.storage; caches = c.l2_get_or_insert.new.self } } in
     record {
       faults = search rules;
-      cause = met_as (λ e. (e ≡ UnalignedTable) × (c.in-Some.table ≡ own_table new c.args.offset → HasUnalignedEntry new c.args.offset c.min-max.result)) (MayFailFinding image new c.args.offset c.args.max) c.run_in_table.result
-          (λ e why. finding_more image new c.args.offset c.min-max.result c.args.max (let a = c.min-max.ensures in omega arith) e (inl (why.0, inr (why.1 own.0)))) c.run_in_table.ensures.cause;
+      cause = met_as (λ e. (e ≡ UnalignedTable) × HasUnalignedAt new.file.header.fields new.file.caches c.in-Some.table c.args.offset c.min-max.result) (MayFailFinding image new c.args.offset c.args.max) c.run_in_table.result
+          (λ e why. finding_more image new c.args.offset c.min-max.result c.args.max (let a = c.min-max.ensures in omega arith) e (inl (why.0, inr (subst (λ cluster. HasUnalignedAt new.file.header.fields new.file.caches cluster c.args.offset c.min-max.result) own.0 why.1)))) c.run_in_table.ensures.cause;
     }
 
 pub returns-in-None-clause-kind : goal.returns-in-None-clause-kind

@@ -1,5 +1,5 @@
 use Rattle.std.proofs.Common.{◌≡◌, ◌+◌, ◌-◌, ◌/◌, ◌%◌, ◌^◌, ◌<◌, ℕ, sym, ap, ◌∙◌, subst, arith, min, refl, is_some, Some, false, true, inl}
-use Rattle.qcow2_image.proofs.Common.{cluster_size, entries_per_cluster, cover, IsLongestRun, Sizes-from, IsTop-top, contents_in, known_in, is_beside, kind_in, mapping_of, l1_index_of, IsRunBehind, l2_at, IsLongestSo, named_place, HasUnalignedEntry, IsUnalignedIn, UnalignedTable, of_metadata, own_table, IsCompressed, L2TableView}
+use Rattle.qcow2_image.proofs.Common.{cluster_size, entries_per_cluster, cover, IsLongestRun, Sizes-from, IsTop-top, contents_in, known_in, is_beside, kind_in, mapping_of, l1_index_of, IsRunBehind, l2_at, IsLongestSo, named_place, HasUnalignedAt, IsUnalignedIn, UnalignedTable, of_metadata, IsCompressed, L2TableView}
 use Rattle.qcow2_image.proofs.Lemmas.{cluster_near, says_known, run_found, run_held, hands_met, unaligned_from}
 use Rattle.qcow2_image.proofs.Map.Special.{special_found}
 use Rattle.qcow2_image.proofs.Map.Aligned.{entries_aligned}
@@ -79,9 +79,9 @@ returns-in_err-first-clause-cause g c =
     let image = c.args.self.now in
     let h = image.file.header.fields in
     let own : c.cluster.result ≡ c.args.offset / cluster_size h = c.cluster.ensures ∙ ap (λ o. o / 2 ^ c.cluster_bits-bits.result) c.new-guest.ensures ∙ ap (λ b. c.args.offset / 2 ^ b) c.cluster_bits-bits.ensures.value in
-    hands_met (λ e. (e ≡ UnalignedTable) × (c.args.table ≡ own_table image c.args.offset → HasUnalignedEntry image c.args.offset c.args.max)) c.from_residual.result (of_metadata c.in_err-first.field-0.0) c.from_residual.ensures (
+    hands_met (λ e. (e ≡ UnalignedTable) × HasUnalignedAt h image.file.caches c.args.table c.args.offset c.args.max) c.from_residual.result (of_metadata c.in_err-first.field-0.0) c.from_residual.ensures (
       ap of_metadata c.in_err-first.ensures.err.0,
-      λ own_is. (c.in-Some.table.now, ap (l2_at image.file.caches) (sym own_is) ∙ sym c.in-Some.ensures.value, inl (subst (IsUnalignedIn c.in-Some.table.now) own c.in_err-first.ensures.err.1)),
+      (c.in-Some.table.now, sym c.in-Some.ensures.value, inl (subst (IsUnalignedIn c.in-Some.table.now) own c.in_err-first.ensures.err.1)),
     )
 
 pub returns-in_err-behind-clause-cause : goal.returns-in_err-behind-clause-cause
@@ -95,7 +95,7 @@ returns-in_err-behind-clause-cause g c =
     let f : c.new-guest.result % 2 ^ c.cluster_bits-bits.result ≡ c.args.offset % cluster_size h = ap (λ o. o % 2 ^ c.cluster_bits-bits.result) c.new-guest.ensures ∙ ap (λ b. c.args.offset % 2 ^ b) bits in
     let k : 2 ^ c.cluster_bits-bits.result ≡ cluster_size h = ap (λ b. 2 ^ b) bits in omega arith in
     let more : c.saturating_sub.result ≡ c.args.max - (cluster_size h - c.args.offset % cluster_size h) = c.saturating_sub.ensures ∙ ap (λ n. c.args.max - n) rest in
-    hands_met (λ e. (e ≡ UnalignedTable) × (c.args.table ≡ own_table image c.args.offset → HasUnalignedEntry image c.args.offset c.args.max)) c.from_residual-in_err-behind.result c.in_err-behind.field-0.0 c.from_residual-in_err-behind.ensures (
+    hands_met (λ e. (e ≡ UnalignedTable) × HasUnalignedAt h image.file.caches c.args.table c.args.offset c.args.max) c.from_residual-in_err-behind.result c.in_err-behind.field-0.0 c.from_residual-in_err-behind.ensures (
       c.in_err-behind.ensures.cause.0,
-      λ own_is. (c.in-Some.table.now, ap (l2_at image.file.caches) (sym own_is) ∙ sym c.in-Some.ensures.value, unaligned_from h c.in-Some.table.now c.args.offset c.args.max c.cluster-2.result c.saturating_sub.result own more c.in_err-behind.ensures.cause.1),
+      (c.in-Some.table.now, sym c.in-Some.ensures.value, unaligned_from h c.in-Some.table.now c.args.offset c.args.max c.cluster-2.result c.saturating_sub.result own more c.in_err-behind.ensures.cause.1),
     )

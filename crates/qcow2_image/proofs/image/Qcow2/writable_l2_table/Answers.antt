@@ -154,7 +154,7 @@ returns-clause-sound g c = λ out sound.
     let listed = subst (λ (x : Pending). ImageInvariant view below x mid out) (all_listed view below mid out) first.sound in
     let second = tidy_stays view below mid out freed first.sound (c.in_ok-process_free_list.ensures.frees (beside view below mid out) out listed) in
     let at = ap (λ (v : HeaderView). l1_index_of v.fields c.args.offset) c.writable_l2_cluster.ensures.keeps_rest.header in
-    let own = own_after view below out (pending_with_listed (pending_in view below long out) long mid) mid freed owned.0.sound c.args.offset (l1_index_of long.file.header.fields c.args.offset) at owned.1.own c.process_free_list.ensures.table c.process_free_list.ensures.keeps_rest.header in
+    let own = own_after view below out (pending_with_listed (pending_in view below long out) long mid) mid freed owned.0.sound c.args.offset (l1_index_of long.file.header.fields c.args.offset) at owned.1.own c.process_free_list.ensures.offsets.l1_table c.process_free_list.ensures.keeps_rest.header in
     let writable = subst IsTrue (sym (c.writable_l2_cluster.ensures.step.stays.image.writable ∙ c.ensure_l1_entry.ensures.step.stays.image.writable)) c.requires.writable in
     record {
       finds = finds_after view below out old long new reached c.args.offset c.ensure_cached_l2-2.result
@@ -177,5 +177,5 @@ returns-then-has_own_l2-clause-owns g c =
 
 pub returns-clause-owns : goal.returns-clause-owns
 returns-clause-owns g c =
-    finds_freed c.writable_l2_cluster.new.self c.process_free_list.new.self c.ensure_cached_l2-2.new.self c.args.offset c.ensure_cached_l2-2.result c.process_free_list.ensures.table c.process_free_list.ensures.keeps_rest.header
+    finds_freed c.writable_l2_cluster.new.self c.process_free_list.new.self c.ensure_cached_l2-2.new.self c.args.offset c.ensure_cached_l2-2.result c.process_free_list.ensures.offsets.l1_table c.process_free_list.ensures.keeps_rest.header
     c.in_ok-writable_l2_cluster.ensures.owns c.ensure_cached_l2-2.ensures.own

@@ -1,7 +1,7 @@
 use Rattle.std.proofs.Common.{◌≡◌, ◌+◌, ◌-◌, ◌^◌, ◌<◌, ◌∷◌, ◌∙◌, [], inl, min, ap, subst, arith, rules}
 use Rattle.qcow2_image.proofs.Common.{rest_of_table, entry_count, Pending, Sizes-from, handed_on, contents_in, known_in, IsClearable, KeptZeros, ImageInvariant, abstract_of, pending_in, FillsFirst, given_by_zeros, HasPinnedMapping, MayFailAllocating}
 use Rattle.qcow2_image.proofs.Lemmas.{works_none, all_listed, beside, freed_refused, tidy_stays, cleared_fills, fill_unseen, fills_none, fills_refused, fills_stays, next_whole, next_within, taken_here, untaken_cleared, fault_unlimited, limited_giving, limited_upto, under_prepared, never_far, hands_met, taking_as, step_none, step_then}
-use Rattle.qcow2_image.proofs.Call.FailingErrors.{tables_met}
+use Rattle.qcow2_image.proofs.Call.FailingErrors.{freeing_met}
 use Rattle.qcow2_image.proofs.image.Qcow2.zero_first.Goals as goal
 
 pub returns-clause-whole : goal.returns-clause-whole
@@ -100,7 +100,7 @@ returns-in_err-process_free_list-clause-sound g c = λ out sound order whole thi
           (untaken_cleared h (known_in view old.file) sizes out from next (next_within h sizes.some sizes.entries from to next whole.1 is high) ((c.in_ok-clear_between.ensures.sound out sound).free)) in
           let listed = subst (λ (x : Pending). ImageInvariant view below x mid out) (all_listed view below mid out) part.sound in
           handed_on (λ r. FillsFirst view below 0 from to old new out r) c.from_residual-in_err-process_free_list.result e c.from_residual-in_err-process_free_list.ensures
-          (fills_refused view below out old mid new 0 from next part to e (omega (arith, is)) (tables_met e c.in_err-process_free_list.ensures.cause) (fault_unlimited e (c.in_err-process_free_list.ensures.faults (beside view below mid out) out listed))
+          (fills_refused view below out old mid new 0 from next part to e (omega (arith, is)) (freeing_met _ e c.in_err-process_free_list.ensures.cause) (fault_unlimited e (c.in_err-process_free_list.ensures.faults (beside view below mid out) out listed))
           (freed_refused view below mid out new e part.sound (c.in_err-process_free_list.ensures.frees (beside view below mid out) out listed)) c.process_free_list.ensures.keeps_rest.header);
       may_fail = λ near. let part = ((c.in_ok-clear_between.ensures.sound out sound).whole (record {
         begins = whole.0;
