@@ -1,6 +1,6 @@
 -- Refcounts of one refblock, and entries of one L2 table, change in the known contents.
 use Rattle.std.proofs.Common.{◌≡◌, ◌+◌, ◌-◌, ◌*◌, ◌/◌, ◌%◌, ◌<◌, ◌≤◌, ◌≢◌, ◌⊎◌, ℕ, List, [], refl, sym, ap, ◌∙◌, arith, inl, inr, subst}
-use Rattle.qcow2_laws.proofs.Common.{cases_eq, cases_lt, eq-eqb, ne_eqb, cond-true, cond-false, div-add-mod', mod_below, mul-le, Bytes, HeaderFields, cluster_size, entries_per_cluster, count_width, counts_per_block, l2_entry, reftable_entry, count, block_count, host_offset, block_offset, cover, entry_cover, guest_value, in_cluster, named_by_l1_table, named_for_tables, CoverIsAligned, GivenBytes, IsGiven, Checkpoint, checkpoint_with, StopOkEverywhere, Direction, L2DependsOnRb, RbDependsOnL2, guests, names, marks, named_in_either, table_at, Pending, cluster, CrashInvariant, SafeStep, IsTop, SameTop, SameCovers, SameCounts, one_at, with_new_data, with_new_tables, without_old_tables, without_old_data, remapped, IsSameOutside}
+use Rattle.qcow2_laws.proofs.Common.{cases_eq, cases_lt, eq-eqb, ne_eqb, cond-true, cond-false, div-add-mod', mod_below, mul-le, Bytes, HeaderFields, cluster_size, entries_per_cluster, count_width, counts_per_block, l2_entry, reftable_entry, count, block_count, host_offset, block_offset, cover, entry_cover, guest_value, in_cluster, named_by_l1_table, named_for_tables, CoverIsAligned, StandsIfBeside, GivenBytes, IsGiven, Checkpoint, checkpoint_with, StopOkEverywhere, Direction, L2DependsOnRb, RbDependsOnL2, guests, names, marks, named_in_either, table_at, Pending, cluster, CrashInvariant, SafeStep, IsTop, SameTop, SameCovers, SameCounts, one_at, with_new_data, with_new_tables, without_old_tables, without_old_data, remapped, IsSameOutside}
 use Rattle.qcow2_laws.proofs.Places.{Sizes, Sizes-from, count_in, cover_in, has_table}
 use Rattle.qcow2_laws.proofs.Tops.{IsTop-top, for_tables-top}
 use Rattle.qcow2_laws.proofs.Clusters.{new_data_unnamed}
@@ -219,12 +219,13 @@ module _ (h : HeaderFields) (d : Direction) (p : Pending) (on_storage known know
 
   module _ (new_data : (c : ℕ) → names h known' c (i0 * entries_per_cluster h + j0) - names h known c (i0 * entries_per_cluster h + j0) ≤ p.new_data c)
       (marked : (c : ℕ) → marks h known' c (i0 * entries_per_cluster h + j0) ≤ marks h known c (i0 * entries_per_cluster h + j0) + (names h known' c (i0 * entries_per_cluster h + j0) - names h known c (i0 * entries_per_cluster h + j0)))
-      (aligned : CoverIsAligned h (cover h known' (i0 * entries_per_cluster h + j0))) where
+      (aligned : CoverIsAligned h (cover h known' (i0 * entries_per_cluster h + j0)))
+      (at_guest : StandsIfBeside h (i0 * entries_per_cluster h + j0) (cover h known' (i0 * entries_per_cluster h + j0))) where
     pub entry_set : CrashInvariant h d (remapped p (λ c. names h known c (i0 * entries_per_cluster h + j0)) (λ c. names h known' c (i0 * entries_per_cluster h + j0))) on_storage known'
-    entry_set = entry_mapped h d p on_storage known known' crash_invariant (i0 * entries_per_cluster h + j0) guest_within entry_top entry_others entry_counts new_data marked aligned entry_stays
+    entry_set = entry_mapped h d p on_storage known known' crash_invariant (i0 * entries_per_cluster h + j0) guest_within entry_top entry_others entry_counts new_data marked aligned at_guest entry_stays
 
     pub entry_kept : (backing : Bytes) (m : Checkpoint) (given : List GivenBytes)
         → ((o : ℕ) → o / cluster_size h ≡ i0 * entries_per_cluster h + j0 → (guest_value h known' known' backing o ≡ guest_value h known known backing o) ⊎ IsGiven given o (guest_value h known' known' backing o))
         → StopOkEverywhere backing m known → StopOkEverywhere backing (checkpoint_with given [] m) known'
     entry_kept backing m given there kept =
-        mapping_kept h d p on_storage known known' crash_invariant (i0 * entries_per_cluster h + j0) guest_within entry_top entry_others entry_counts new_data marked aligned entry_stays backing m given there kept
+        mapping_kept h d p on_storage known known' crash_invariant (i0 * entries_per_cluster h + j0) guest_within entry_top entry_others entry_counts new_data marked aligned at_guest entry_stays backing m given there kept

@@ -1,6 +1,6 @@
 -- A change of the known contents keeps the crash invariant, and leaves a stop as safe as before.
 use Rattle.std.proofs.Common.{◌≡◌, ◌+◌, ◌-◌, ◌/◌, ◌<◌, ◌≤◌, ◌≢◌, ◌⊎◌, ℕ, true, false, cond, eqb, List, [], refl, sym, ap, ◌∙◌, arith, inl, inr, subst, max}
-use Rattle.qcow2_laws.proofs.Common.{cases_eq, cases_lt, Bytes, HeaderFields, cluster_size, count, cover, guest_value, named_by_guest, CoverIsAligned, L2Mapping, GivenBytes, IsGiven, Checkpoint, checkpoint_with, StopOkEverywhere, Direction, L2DependsOnRb, RbDependsOnL2, guests, over_guests, names, marks, named_in_either, marked_by_guest, SameTop, Pending, cluster, CrashInvariant, SameCovers, SameCounts, one_at, with_new_data, with_new_tables, without_old_tables, without_old_data, new_data_to_old_data, new_data_to_old_tables, new_tables_to_old_tables, remapped}
+use Rattle.qcow2_laws.proofs.Common.{cases_eq, cases_lt, Bytes, HeaderFields, cluster_size, count, cover, guest_value, named_by_guest, CoverIsAligned, StandsIfBeside, L2Mapping, GivenBytes, IsGiven, Checkpoint, checkpoint_with, StopOkEverywhere, Direction, L2DependsOnRb, RbDependsOnL2, guests, over_guests, names, marks, named_in_either, marked_by_guest, SameTop, Pending, cluster, CrashInvariant, SameCovers, SameCounts, one_at, with_new_data, with_new_tables, without_old_tables, without_old_data, new_data_to_old_data, new_data_to_old_tables, new_tables_to_old_tables, remapped}
 use Rattle.qcow2_laws.proofs.Clusters.{Good, allocate_data, allocate_table, free_table, free_data, drop_new_data, undo, abandon, remap, new_data_unnamed}
 use Rattle.qcow2_laws.proofs.Places.{Sizes-from}
 use Rattle.qcow2_laws.proofs.Guests.{own_data_of, over_guests-same, over_guests-change, guest_le, names_within}
@@ -43,6 +43,7 @@ module _ (h : HeaderFields) (d : Direction) (p p' : Pending) (on_storage known k
         known_aligned = λ g. subst (CoverIsAligned h) (covers g) (crash_invariant.known_aligned g);
         own = λ g c marked. crash_invariant.own g c (subst (λ v. 0 < marked_by_guest h c v) (sym (covers g)) marked);
         not_overlaid = λ o some. let same = max_same (named_by_guest h (o / cluster_size h)) in bytes o (omega arith);
+        at_guests = λ g. subst (StandsIfBeside h g) (covers g) (crash_invariant.at_guests g);
       }
 
 -- the guest sees what it saw
@@ -124,7 +125,7 @@ module _ (h : HeaderFields) (d : Direction) (p : Pending) (on_storage known know
     (top : SameTop h known known') (others : (g : ℕ) → g ≢ g0 → cover h known g ≡ cover h known' g) (counts : SameCounts h known known')
     (new_data : (c : ℕ) → names h known' c g0 - names h known c g0 ≤ p.new_data c)
     (marked : (c : ℕ) → marks h known' c g0 ≤ marks h known c g0 + (names h known' c g0 - names h known c g0))
-    (aligned : CoverIsAligned h (cover h known' g0))
+    (aligned : CoverIsAligned h (cover h known' g0)) (at_guest : StandsIfBeside h g0 (cover h known' g0))
     (bytes : (o : ℕ) → 0 < named_in_either h on_storage known (o / cluster_size h) + p.new_data (o / cluster_size h) → known o ≡ known' o) where
   sum_changed : (f : L2Mapping → ℕ) → over_guests h (λ g. f (cover h known' g)) + f (cover h known g0) ≡ over_guests h (λ g. f (cover h known g)) + f (cover h known' g0)
   sum_changed f = over_guests-change h (λ g. f (cover h known' g)) (λ g. f (cover h known g)) g0 within (λ g ne. ap f (sym (others g ne)))
@@ -181,6 +182,10 @@ module _ (h : HeaderFields) (d : Direction) (p : Pending) (on_storage known know
         let taken = new_data (o / cluster_size h) in
         let as_before : 0 < named_in_either h on_storage known (o / cluster_size h) + p.new_data (o / cluster_size h) = omega arith in
         crash_invariant.not_overlaid o as_before ∙ bytes o as_before;
+    at_guests = λ g. elim (cases_eq g g0) [
+      | inl e ↦ subst (λ n. StandsIfBeside h n (cover h known' n)) (sym e) at_guest
+      | inr ne ↦ subst (StandsIfBeside h g) (others g ne) (crash_invariant.at_guests g)
+    ];
   }
 
   -- the other guest clusters show what they showed

@@ -15,6 +15,7 @@ pub use Rattle.qcow2_disk.specs.Disk.{disk, Disk, with_values}
 pub use Rattle.qcow2_disk.specs.HeaderRest.{IsOfHeaderRest, KeepsHeaderRest}
 pub use Rattle.qcow2_disk.specs.Mappings.{given_shown, given_of}
 pub use Rattle.qcow2_disk.specs.Stops.{GivenBytes, IsGiven, Checkpoint, checkpoint_with, StopOkEverywhere, IsAsked, IsIn, SafeThroughout, LeavesKept, IsSafeAfter}
+pub use Rattle.qcow2_laws.specs.Beside.{StandsIfBeside}
 pub use Rattle.qcow2_laws.specs.Caches.{known_bytes, IsFreeOf, CacheInvariantOver, AreNamedBlocks, IsFreeAt, AreApart, AreClean, HasOwnL2, HasBlock, IsWrittenSo, BlocksMayGo, TablesMayGo, InternalTableWrite}
 pub use Rattle.qcow2_laws.specs.Changes.{one_at, with_new_data, with_new_tables, without_old_tables, without_old_data, remapped, renamed, new_data_to_old_data, new_data_to_old_tables, new_tables_to_old_tables, named_now}
 pub use Rattle.qcow2_laws.specs.Clusters.{Direction, L2DependsOnRb, RbDependsOnL2, Neither, ClusterInvariant, Cluster, Ordered}

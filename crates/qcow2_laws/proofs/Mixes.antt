@@ -140,6 +140,7 @@ module _ (h : HeaderFields) (d : Direction) (p : Pending) (on_storage known b : 
           | inl same ↦ same o refl ∙ (crash_invariant.not_overlaid o (omega arith))
           | inr same ↦ same o refl
         ];
+    at_guests = crash_invariant.at_guests;
   }
 
 -- ---- what is known is itself guarded
@@ -175,4 +176,5 @@ turned_crash_invariant h d to p on_storage known may crash_invariant = record {
   known_aligned = crash_invariant.known_aligned;
   own = crash_invariant.own;
   not_overlaid = crash_invariant.not_overlaid;
+  at_guests = crash_invariant.at_guests;
 }

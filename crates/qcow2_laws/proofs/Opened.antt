@@ -103,4 +103,5 @@ module _ (h : HeaderFields) (b : Bytes) (ok : Consistent h b) where
     known_aligned = each_cover h b (CoverIsAligned h) sizes tt ok.data_aligned;
     own = λ g c marked. marks-all h c (cover h b g) marked;
     not_overlaid = λ o some. refl;
+    at_guests = λ g beside. let none : false ≡ true = sym own_data ∙ beside in absurd (cc);
   }

@@ -1,6 +1,6 @@
 -- The header, the L1 table or the reftable changes, on the storage and in the known contents, and all guest clusters keep their mappings.
 use Rattle.std.proofs.Common.{◌≡◌, ◌+◌, ◌-◌, ◌*◌, ◌/◌, ◌<◌, ◌≤◌, ◌⊎◌, ℕ, List, [], refl, sym, ap, ◌∙◌, arith, inl, inr, ⊎_elim, subst, max}
-use Rattle.qcow2_laws.proofs.Common.{mul-le, Bytes, sum_below, HeaderFields, header, cluster_size, entries_per_cluster, count, cover, guest_value, value_under, named_for_tables, named_by_guest, CoverIsAligned, L2Mapping, Uncovered, disk, IsOfHeaderRest, IsAsked, Direction, RbDependsOnL2, guests, over_guests, names, named_in_either, marked_by_guest, marked_by_l1_table, IsTop, SameTop, Pending, cluster, CrashInvariant, SafeStep, SameCovers, Places, with_places, KeepsCovers, kept_on}
+use Rattle.qcow2_laws.proofs.Common.{mul-le, Bytes, sum_below, HeaderFields, header, cluster_size, entries_per_cluster, count, cover, guest_value, value_under, named_for_tables, named_by_guest, CoverIsAligned, StandsIfBeside, L2Mapping, Uncovered, disk, IsOfHeaderRest, IsAsked, Direction, RbDependsOnL2, guests, over_guests, names, named_in_either, marked_by_guest, marked_by_l1_table, IsTop, SameTop, Pending, cluster, CrashInvariant, SafeStep, SameCovers, Places, with_places, KeepsCovers, kept_on}
 use Rattle.qcow2_laws.proofs.Clusters.{Good, rename}
 use Rattle.qcow2_laws.proofs.Sums.{sum_below-same, sum_below-longer}
 use Rattle.qcow2_laws.proofs.Places.{Sizes, Sizes-from}
@@ -83,6 +83,7 @@ module _ (h : HeaderFields) (a : Places) (d : Direction) (p p' : Pending) (on_st
         known_aligned = λ g. subst (CoverIsAligned h) (known_covers g) (crash_invariant.known_aligned g);
         own = λ g c some. subst (λ v. named_by_guest h c v ≤ marked_by_guest h c v) (covers g) (crash_invariant.own g c (subst (λ v. 0 < marked_by_guest h c v) (sym (known_covers g)) some));
         not_overlaid = λ o some. not_overlaid o (let e = either_sum (named_by_guest h (o / cluster_size h)) (uncovered_names h (o / cluster_size h)) in omega arith);
+        at_guests = λ g. subst (StandsIfBeside h g) (known_covers g) (crash_invariant.at_guests g);
       }
 
   -- the same, by how often tables are named anew: i are fresh and counted on the storage, s are counted with it, u are no longer named

@@ -61,10 +61,10 @@ pending_is_changed = record {
 
 pub entry_is_changed : EntryIsChanged
 entry_is_changed s known' i j given sound changes shows = record {
-  sound = entry_set s.header s.direction s.pending s.on_storage s.known known' sound i j changes.real changes.within changes.outside changes.entries changes.new_data changes.marked changes.aligned;
+  sound = entry_set s.header s.direction s.pending s.on_storage s.known known' sound i j changes.real changes.within changes.outside changes.entries changes.new_data changes.marked changes.aligned changes.at_guest;
   on_storage = λ backing m ok known_ok. kept_more backing (given backing) [] m s.on_storage ok;
   known = λ backing m ok known_ok.
-      entry_kept s.header s.direction s.pending s.on_storage s.known known' sound i j changes.real changes.within changes.outside changes.entries changes.new_data changes.marked changes.aligned
+      entry_kept s.header s.direction s.pending s.on_storage s.known known' sound i j changes.real changes.within changes.outside changes.entries changes.new_data changes.marked changes.aligned changes.at_guest
       backing m (given backing) (shows backing) known_ok;
 }
 

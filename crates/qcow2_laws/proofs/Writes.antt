@@ -1,6 +1,6 @@
 -- Writes to clusters without a table keep the invariant, and leave a stop as safe as before, with what they give.
 use Rattle.std.proofs.Common.{◌≡◌, ◌+◌, ◌*◌, ◌/◌, ◌%◌, ◌<◌, ◌≤◌, ◌⊎◌, false, ℕ, List, [], refl, sym, ap, ◌∙◌, arith, inl, inr, subst, max}
-use Rattle.qcow2_laws.proofs.Common.{cases_eq, cases_lt, div-add-mod', mod_below, mod-mul-add, pow_pos, Bytes, HeaderFields, cluster_size, has_data_file, count, cover, known_byte, guest_value, value_under, named_for_tables, in_cluster, named_by_cover, named_by_guest, marked_by_cover, CoverIsAligned, L2Mapping, Data, Compressed, GivenBytes, IsGiven, Checkpoint, checkpoint_with, StopOkEverywhere, Direction, RbDependsOnL2, over_guests, names, marks, named_in_either, marked_by_guest, Pending, cluster, CrashInvariant, SameTop, SameCovers, SameCounts, SameIn, IsUnnamed, IsWritten}
+use Rattle.qcow2_laws.proofs.Common.{cases_eq, cases_lt, div-add-mod', mod_below, mod-mul-add, pow_pos, Bytes, HeaderFields, cluster_size, has_data_file, count, cover, known_byte, guest_value, value_under, named_for_tables, in_cluster, named_by_cover, named_by_guest, marked_by_cover, CoverIsAligned, StandsIfBeside, L2Mapping, Data, Compressed, GivenBytes, IsGiven, Checkpoint, checkpoint_with, StopOkEverywhere, Direction, RbDependsOnL2, over_guests, names, marks, named_in_either, marked_by_guest, Pending, cluster, CrashInvariant, SameTop, SameCovers, SameCounts, SameIn, IsUnnamed, IsWritten}
 use Rattle.qcow2_laws.proofs.Clusters.{Good, Written, new_data_unnamed, new_tables_unnamed, unused_unnamed, named_once}
 use Rattle.qcow2_laws.proofs.Places.{Sizes, Sizes-from, in_one}
 use Rattle.qcow2_laws.proofs.Guests.{own_data_of, over_guests-same, guest_le, two_guests_le, names_within, marks-le}
@@ -52,6 +52,7 @@ module _ (h : HeaderFields) (d : Direction) (p : Pending) (on_storage known on_s
     own = λ g c some.
         subst (λ v. named_by_guest h c v ≤ marked_by_guest h c v) (covers g) (crash_invariant.own g c (subst (λ v. 0 < marked_by_guest h c v) (sym (known_covers g)) some));
     not_overlaid = λ o some. not_overlaid o (let e = either_same (named_by_guest h (o / cluster_size h)) in omega arith);
+    at_guests = λ g. subst (StandsIfBeside h g) (known_covers g) (crash_invariant.at_guests g);
   }
 
 -- ---- what is pending, or counted nowhere, is unnamed

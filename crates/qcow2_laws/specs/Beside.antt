@@ -18,6 +18,10 @@ StandsAtGuest h g (Zero (Some k)) = k.0 ≡ g * cluster_size h
 StandsAtGuest h g (Compressed place sectors) = ⊥
 StandsAtGuest h g Uncovered = ⊤
 
+-- If the data are in an external file, the mapping of a guest cluster is as such an image has it. Otherwise it may be anything.
+abbrev pub StandsIfBeside : HeaderFields → ℕ → L2Mapping → Type 0
+StandsIfBeside h g v = has_data_file h ≡ true → StandsAtGuest h g v
+
 -- The cluster of a table: it has one reference, and refcount 1.
 abbrev pub IsOwnTable : HeaderFields → Bytes → ℕ → Type 0
 IsOwnTable h b place = (named_for_tables h b (place / cluster_size h) ≡ 1) × (count h b (place / cluster_size h) ≡ 1)

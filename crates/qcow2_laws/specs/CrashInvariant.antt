@@ -7,6 +7,7 @@ use Rattle.qcow2_metadata.specs.Entries.{l1_entry, reftable_entry, count, block_
 use Rattle.qcow2_metadata.specs.Cover.{cover}
 use Rattle.qcow2_metadata.specs.Named.{named_for_tables}
 use Rattle.qcow2_metadata.specs.Consistent.{CoverIsAligned, IsAligned}
+use Rattle.qcow2_laws.specs.Beside.{StandsIfBeside}
 use Rattle.qcow2_laws.specs.Clusters.{Direction, Neither, L2DependsOnRb, RbDependsOnL2, Cluster, ClusterInvariant, Ordered}
 use Rattle.qcow2_laws.specs.Guests.{over_guests, names, marks, named_in_either, table_at, marked_by_l1_table}
 
@@ -80,6 +81,8 @@ pub record CrashInvariant (h : HeaderFields) (d : Direction) (p : Pending) (on_s
   pub own : (g c : ℕ) → 0 < marks h known c g → names h on_storage c g ≤ marks h on_storage c g
   -- No modified table covers data or new data.
   pub not_overlaid : (o : ℕ) → 0 < named_in_either h on_storage known (o / cluster_size h) + p.new_data (o / cluster_size h) → on_storage o ≡ known o
+  -- With an external data file, each guest cluster is at its own offset in it.
+  pub at_guests : (g : ℕ) → StandsIfBeside h g (cover h known g)
 
 -- The two have the same bytes in the cluster.
 abbrev pub SameIn : ℕ → ℕ → Bytes → Bytes → Type 0

@@ -8,6 +8,7 @@ use Rattle.qcow2_metadata.specs.Cover.{cover}
 use Rattle.qcow2_metadata.specs.Guest.{guest_value}
 use Rattle.qcow2_metadata.specs.Consistent.{CoverIsAligned}
 use Rattle.qcow2_disk.specs.Stops.{GivenBytes, IsGiven}
+use Rattle.qcow2_laws.specs.Beside.{StandsIfBeside}
 use Rattle.qcow2_laws.specs.Guests.{names, marks, table_at}
 use Rattle.qcow2_laws.specs.Changes.{one_at}
 use Rattle.qcow2_laws.specs.Tops.{IsSameOutside}
@@ -46,6 +47,7 @@ pub record EntryChanges (s : DriverState) (known' : Bytes) (i j : ℕ) : Type 0 
   pub marked : (c : ℕ) → marks s.header known' c (guest_at s.header i j)
       ≤ marks s.header s.known c (guest_at s.header i j) + (names s.header known' c (guest_at s.header i j) - names s.header s.known c (guest_at s.header i j))
   pub aligned : CoverIsAligned s.header (cover s.header known' (guest_at s.header i j))
+  pub at_guest : StandsIfBeside s.header (guest_at s.header i j) (cover s.header known' (guest_at s.header i j))
 
 -- Each byte of a guest cluster has its old value, or a given one.
 abbrev pub ShowsGiven : HeaderFields → Bytes → Bytes → ℕ → (Bytes → List GivenBytes) → Type 0
