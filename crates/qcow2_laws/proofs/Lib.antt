@@ -40,3 +40,4 @@ pub mod MappedAnew
 pub mod MappedRanges
 pub mod KeptClusters
 pub mod BesideDisks
+pub mod BesideSteps

@@ -38,7 +38,7 @@ module _ (s : DriverState) (known' : Bytes) (i j : ℕ) (sound : StateInvariant 
         bytes = table_bytes s (record s { pending = p'; known = known' }) sound (table_at s.header s.known i / cluster_size s.header) table_refs changes.outside;
       }
 
-  new_header : header known' ≡ s.header
+  pub new_header : header known' ≡ s.header
   new_header =
       let top = entry_top s.header s.direction s.pending s.on_storage s.known known' sound i j changes.real changes.within changes.outside changes.entries in
       (IsTop-top s.header s.known known' top (IsTop-top s.header s.on_storage s.known sound.same_top sound.top)).header_is

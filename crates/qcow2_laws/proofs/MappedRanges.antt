@@ -40,7 +40,7 @@ module _ (size first n : ℕ) (some : 0 < size) (values : ℕ → Value) (d : Di
   abbrev range : ℕ → Disk
   range k = with_values d (first * size) ((first + k) * size - first * size) (λ i. values (first * size + i))
 
-  one_more_at : (o : ℕ) → (with_cluster size (range n) (first + n) values).value o ≡ (range (suc n)).value o
+  pub one_more_at : (o : ℕ) → (with_cluster size (range n) (first + n) values).value o ≡ (range (suc n)).value o
   one_more_at o =
       let e : (first + n) * size ≡ first * size + n * size = omega arith in
       let e' : (first + suc n) * size ≡ first * size + n * size + size = omega arith in
@@ -59,6 +59,16 @@ module _ (size first n : ℕ) (some : 0 < size) (values : ℕ → Value) (d : Di
         ]
       ]
 
+-- a disk with an empty range
+pub nothing_laid : (size first : ℕ) (values : ℕ → Value) (d : Disk) → d ≡ with_values d (first * size) ((first + 0) * size - first * size) (λ i. values (first * size + i))
+nothing_laid size first values d =
+    let e : (first + 0) * size - first * size ≡ 0 = omega arith in
+    let value : d.value ≡ laid values d.value (first * size) ((first + 0) * size - first * size) = fun_ext (λ o. sym (laid_out values d.value (first * size) _ o (nowhere o (first * size) _ e))) in
+    λ j. record d { value = value j }
+  where
+    nowhere : (o from n : ℕ) → n ≡ 0 → (o < from) ⊎ (from + n ≤ o)
+    nowhere o from n none = elim (cases_lt o from) [ inl below ↦ inl below | inr above ↦ inr (omega arith) ]
+
 -- ---- none, and one more
 pub maps_none : (s : DriverState) (first : ℕ) (values : Bytes → ℕ → Value) → StateInvariant s → MapsRange first 0 s s values
 maps_none s first values sound = record {
@@ -67,19 +77,8 @@ maps_none s first values sound = record {
   covers = λ g out. refl;
   used = λ c some. some;
   bytes = λ o some. refl;
-  shows = λ backing.
-      let e : (first + 0) * cluster_size s.header - first * cluster_size s.header ≡ 0 = omega arith in
-      let value : (o : ℕ) → (disk s.known backing).value o ≡ laid (values backing) (disk s.known backing).value (first * cluster_size s.header) ((first + 0) * cluster_size s.header - first * cluster_size s.header) o =
-      λ o. sym (laid_out (values backing) (disk s.known backing).value (first * cluster_size s.header) _ o (nowhere o (first * cluster_size s.header) _ e)) in
-      same_values backing (fun_ext value);
+  shows = λ backing. nothing_laid (cluster_size s.header) first (values backing) (disk s.known backing);
 }
-  where
-    nowhere : (o from n : ℕ) → n ≡ 0 → (o < from) ⊎ (from + n ≤ o)
-    nowhere o from n none = elim (cases_lt o from) [ inl below ↦ inl below | inr above ↦ inr (omega arith) ]
-
-    same_values : (backing : Bytes) → (disk s.known backing).value ≡ laid (values backing) (disk s.known backing).value (first * cluster_size s.header) ((first + 0) * cluster_size s.header - first * cluster_size s.header)
-        → disk s.known backing ≡ with_values (disk s.known backing) (first * cluster_size s.header) ((first + 0) * cluster_size s.header - first * cluster_size s.header) (λ i. values backing (first * cluster_size s.header + i))
-    same_values backing value = λ j. record (disk s.known backing) { value = value j }
 
 module _ (first n : ℕ) (a b c : DriverState) (values : Bytes → ℕ → Value) (one : MapsRange first n a b values) (two : Maps (first + n) b c values)
     (less : (k : ℕ) → 0 < used_by_guests c k → 0 < used_by_guests b k) where
