@@ -1,14 +1,19 @@
 -- Steps of the driver on an image with an external data file: no stop asks anything of them, and what guests see of them.
-use Rattle.std.proofs.Common.{◌≡◌, ◌+◌, ◌-◌, ◌*◌, ◌/◌, ◌%◌, ◌^◌, ◌<◌, ◌≤◌, ◌⊎◌, ℕ, Bool, true, false, zero, suc, List, length, cond, [], refl, sym, ap, ◌∙◌, arith, inl, inr, subst, Some, None}
-use Rattle.qcow2_laws.proofs.Common.{Option, cases_lt, cond-true, cond-false, fun_ext, div-add-mod', pow_pos, passes_if, Bytes, byte_at, HeaderFields, cluster_size, has_data_file, cover, known_byte, compressed_byte, Value, guest_value, value_under, L2Mapping, Data, Zero, Compressed, Uncovered, Disk, disk_with, with_values, GivenBytes, Checkpoint, StopOkEverywhere, SafeThroughout, StandsIfBeside, DriverState, StateInvariant, SafeStep, SameCovers, KeepsFormat, guest_at, EntryChanges, with_cluster, MapsEntry, MapsInTurn, IsZeros, laid_inside, laid_outside}
-use Rattle.qcow2_disk.specs.Disk.{zeroed_between, uncovered}
+use Rattle.std.proofs.Common.{◌≡◌, ◌+◌, ◌-◌, ◌*◌, ◌/◌, ◌%◌, ◌^◌, ◌<◌, ◌≤◌, ◌⊎◌, ℕ, Bool, true, false, not, zero, suc, List, length, cond, [], refl, sym, ap, ◌∙◌, arith, inl, inr, subst}
+use Rattle.qcow2_laws.proofs.Common.{Option, fun_ext, div-add-mod', pow_pos, passes_if, Bytes, byte_at, HeaderFields, cluster_size, has_data_file, cover, known_byte, compressed_byte, Value, guest_value, value_under, L2Mapping, Data, Zero, Compressed, Uncovered, Disk, disk_with, with_values, GivenBytes, Checkpoint, StopOkEverywhere, SafeThroughout, StandsIfBeside, DriverState, StateInvariant, SafeStep, SameCovers, KeepsFormat, WritesHeader, with_places, with_l1_at, IsNewL1, state_with_l1_table, resized_places, guest_at, EntryChanges, with_cluster, MapsInTurn, IsZeros, laid_inside, laid_outside}
+use Rattle.qcow2_disk.specs.Disk.{with_bytes, zeroed_between, uncovered}
+use Rattle.qcow2_disk.specs.Mappings.{is_copied_data}
 use Rattle.image_access.specs.Moments.{StorageView, EachMomentSince}
 use Rattle.qcow2_laws.specs.Beside.{StandsAtGuest}
 use Rattle.qcow2_laws.proofs.Lemmas.{own_data_of, known_header}
 use Rattle.qcow2_laws.proofs.Formats.{cover_format}
 use Rattle.qcow2_laws.proofs.Consistency.{own_of_kept}
 use Rattle.qcow2_laws.proofs.Blocks.{entry_set}
+use Rattle.qcow2_laws.proofs.Headers.{resized_known_covers}
+use Rattle.qcow2_laws.proofs.Steps.{header_is_written}
+use Rattle.qcow2_laws.proofs.GuestLaws.{longer_l1_table_keeps_guests}
 use Rattle.qcow2_laws.proofs.BesideDisks.{beside_entry}
+use Rattle.qcow2_laws.proofs.PutRuns.{in_range, same_either}
 use Rattle.qcow2_laws.proofs.MappedAnew.{pending_after, entry_unseen, new_header}
 use Rattle.qcow2_laws.proofs.MappedRanges.{one_more_at, nothing_laid}
 
@@ -56,6 +61,12 @@ shown_as h b file backing o _ at = refl
 file_value : (file file' backing : Bytes) (o : ℕ) (v : L2Mapping) → file' o ≡ file o → value_beside file' backing o v ≡ value_beside file backing o v
 file_value file file' backing o (Data host copied) same = ap known_byte same
 file_value file file' backing o _ same = refl
+
+-- a mapping to copied data shows the file's new byte, and another one what it showed
+put_value : (h : HeaderFields) (file file' backing : Bytes) (o g : ℕ) (v : L2Mapping) → StandsAtGuest h g v → value_beside file' backing o v ≡ cond (not (is_copied_data v)) (value_beside file backing o v) (known_byte (file' o))
+put_value h file file' backing o g (Data host copied) at = ap (λ t. cond (not t) (known_byte (file o)) (known_byte (file' o))) (sym at.1)
+put_value h file file' backing o g (Compressed place sectors) at = absurd at
+put_value h file file' backing o g _ at = refl
 
 same_disk : (d d' : Disk) → d.size ≡ d'.size → ((o : ℕ) → d.value o ≡ d'.value o) → d ≡ d'
 same_disk d d' size values = let value : d.value ≡ d'.value = fun_ext values in λ j. record { size = size j; value = value j }
@@ -105,6 +116,30 @@ module _ (s : DriverState) (sound : StateInvariant s) (beside : has_data_file s.
       → (o : ℕ) → (P (o / cluster_size s.header) → ⊥) → (disk_with s.known file' backing).value o ≡ (disk_with s.known file backing).value o
   beside_written_within file file' backing P within o none = (beside_written file file' backing).value o (elim (within o) [ inl same ↦ same | inr allowed ↦ absurd (none allowed) ])
 
+  -- bytes of a range are put into the file: those in place are shown, and private ones are not
+  pub beside_put : (file file' backing : Bytes) (is_private : ℕ → Bool) (offset : ℕ) (bytes : List ℕ)
+      → ((i : ℕ) → i < length bytes → is_private (offset + i) ≡ not (is_copied_data (cover s.header s.known ((offset + i) / cluster_size s.header))))
+      → ((o : ℕ) → (o < offset) ⊎ (offset + length bytes ≤ o) → file' o ≡ file o) → ((i : ℕ) → i < length bytes → file' (offset + i) ≡ byte_at bytes i)
+      → disk_with s.known file' backing ≡ record (disk_with s.known file backing) { value = λ o. cond (is_private o) ((disk_with s.known file backing).value o) ((with_bytes (disk_with s.known file backing) offset bytes).value o) }
+  beside_put file file' backing is_private offset bytes private others there =
+      let d : Disk = disk_with s.known file backing in
+      same_disk _ _ ((beside_written file file' backing).size) (λ o. elim (in_range o offset (length bytes)) [
+        | inl out ↦
+            let same = (beside_written file file' backing).value o (others o out) in
+            same_either (is_private o) _ _ _ same (same ∙ sym (laid_outside offset (length bytes) (λ i. known_byte (byte_at bytes i)) (disk_with s.known file backing).value o out))
+        | inr at ↦
+            subst (λ (p : ℕ). (disk_with s.known file' backing).value p ≡ cond (is_private p) ((disk_with s.known file backing).value p) ((with_bytes (disk_with s.known file backing) offset bytes).value p)) at.2
+            (put_at at.0 at.1)
+      ])
+    where
+      put_at : (i : ℕ) → i < length bytes → (disk_with s.known file' backing).value (offset + i) ≡ cond (is_private (offset + i)) ((disk_with s.known file backing).value (offset + i)) ((with_bytes (disk_with s.known file backing) offset bytes).value (offset + i))
+      put_at i lt =
+          beside_shown file' backing (offset + i)
+          ∙ put_value s.header file file' backing (offset + i) ((offset + i) / cluster_size s.header) (cover s.header s.known ((offset + i) / cluster_size s.header)) (sound.at_guests ((offset + i) / cluster_size s.header) beside)
+          ∙ ap (λ t. cond t (value_beside file backing (offset + i) (cover s.header s.known ((offset + i) / cluster_size s.header))) (known_byte (file' (offset + i)))) (sym (private i lt))
+          ∙ ap (λ v. cond (is_private (offset + i)) v (known_byte (file' (offset + i)))) (sym (beside_shown file backing (offset + i)))
+          ∙ ap (cond (is_private (offset + i)) ((disk_with s.known file backing).value (offset + i))) (ap known_byte (there i lt) ∙ sym (laid_inside offset (length bytes) (λ i. known_byte (byte_at bytes i)) (disk_with s.known file backing).value i lt))
+
 -- ---- all mappings stay
 module _ (old new : DriverState) (sound : StateInvariant old) (sound' : StateInvariant new) (beside : has_data_file old.header ≡ true) (beside' : has_data_file new.header ≡ true)
     (bits : new.header.cluster_bits ≡ old.header.cluster_bits) (covers : (g : ℕ) → cover old.header old.known g ≡ cover new.header new.known g) (file backing : Bytes) where
@@ -125,6 +160,22 @@ pub beside_unseen : (old new : DriverState) → StateInvariant old → StateInva
 beside_unseen old new sound sound' beside format covers file backing =
     beside_same_disk old new sound sound' beside (ap (λ (h : HeaderFields). has_data_file h) format ∙ beside) (ap (λ (h : HeaderFields). h.cluster_bits) format)
     (λ g. covers g ∙ sym (cover_format old.header new.header format new.known g)) file backing (ap (λ (h : HeaderFields). h.size) format)
+
+-- the L1 table is replaced by a longer one
+pub beside_longer : (s : DriverState) (on_storage' known' : Bytes) (offset entries : ℕ) → StateInvariant s → has_data_file s.header ≡ true → WritesHeader s.header (with_l1_at s.header offset entries) s.on_storage s.known on_storage' known'
+    → IsNewL1 s.header s.direction s.pending s.on_storage s.known offset entries → (file backing : Bytes) → disk_with known' file backing ≡ disk_with s.known file backing
+beside_longer s on_storage' known' offset entries sound beside writes new file backing =
+    beside_same_disk s (state_with_l1_table s offset entries on_storage' known') sound (header_is_written.l1_table s on_storage' known' offset entries sound writes new).sound beside beside refl
+    (longer_l1_table_keeps_guests s on_storage' known' offset entries sound writes new).covers file backing refl
+
+-- the size is written
+pub beside_resized : (s : DriverState) (on_storage' known' : Bytes) (size autoclear : ℕ) → StateInvariant s → has_data_file s.header ≡ true → WritesHeader s.header (resized_places s.header size autoclear) s.on_storage s.known on_storage' known'
+    → (file backing : Bytes) → disk_with known' file backing ≡ record (disk_with s.known file backing) { size = size }
+beside_resized s on_storage' known' size autoclear sound beside writes file backing =
+    let new : DriverState = record s { header = with_places s.header (resized_places s.header size autoclear); on_storage = on_storage'; known = known' } in
+    let sound' = (header_is_written.size s on_storage' known' size autoclear sound writes).sound in
+    same_disk _ _ (beside_size new sound' beside file backing)
+    (beside_same_value s new sound sound' beside beside refl (resized_known_covers s.header size autoclear s.direction s.pending s.on_storage s.known on_storage' known' sound writes) file backing)
 
 -- ---- the mapping of one guest cluster changes
 module _ (s : DriverState) (known' : Bytes) (i j : ℕ) (sound : StateInvariant s) (beside : has_data_file s.header ≡ true) (changes : EntryChanges s known' i j) where

@@ -27,7 +27,7 @@ cover_own h b (Data host copied) own = λ is.
 cover_own h b (Zero kept) own = kept_own h b kept own
 cover_own h b _ own = tt
 
-l1_marked : (h : HeaderFields) (b : Bytes) (i : ℕ) → i < h.l1_entries → table_at h b i ≢ 0 → IsTrue (is_copied (l1_entry h b i))
+pub l1_marked : (h : HeaderFields) (b : Bytes) (i : ℕ) → i < h.l1_entries → table_at h b i ≢ 0 → IsTrue (is_copied (l1_entry h b i))
     → 0 < marked_by_l1_table h b (table_at h b i / cluster_size h)
 unfolding marked_by_l1_table
 l1_marked h b i lt real copied =
@@ -38,7 +38,7 @@ l1_marked h b i lt real copied =
     omega arith
 
 -- what holds of each guest cluster holds of each entry of each table
-each_entry : (h : HeaderFields) (b : Bytes) (P : L2Mapping → Type 0) → Sizes h → ((g : ℕ) → P (cover h b g)) → EachCover h b P
+pub each_entry : (h : HeaderFields) (b : Bytes) (P : L2Mapping → Type 0) → Sizes h → ((g : ℕ) → P (cover h b g)) → EachCover h b P
 each_entry h b P sizes each i j lt real within = subst P (cover_at h b i j sizes real within) (each (i * entries_per_cluster h + j))
 
 module _ (h : HeaderFields) (d : Direction) (p : Pending) (on_storage known : Bytes) (crash_invariant : CrashInvariant h d p on_storage known) (own : h.incompatible ≡ 0) where

@@ -152,7 +152,7 @@ module _ (h : HeaderFields) (size autoclear : ℕ) (d : Direction) (p : Pending)
   resized_covers : KeepsCovers h (resized_places h size autoclear) on_storage on_storage'
   resized_covers g = header_covers h (resized_places h size autoclear) d p on_storage known on_storage' known' crash_invariant writes g ∙ sym (covers_too on_storage' g)
 
-  resized_known_covers : KeepsCovers h (resized_places h size autoclear) known known'
+  pub resized_known_covers : KeepsCovers h (resized_places h size autoclear) known known'
   resized_known_covers g = header_known_covers h (resized_places h size autoclear) d p on_storage known on_storage' known' crash_invariant writes g ∙ sym (covers_too known' g)
 
   resized_unlaid : (o : ℕ) → 0 < named_in_either h on_storage known (o / cluster_size h) + p.new_data (o / cluster_size h) → on_storage' o ≡ known' o

@@ -26,7 +26,7 @@ meets size from c (suc n) = elim (meets size from c n) [
   ]
 ]
 
-same_either : {X : Type 0} (test : Bool) (a b v : X) → v ≡ a → v ≡ b → v ≡ cond test a b
+pub same_either : {X : Type 0} (test : Bool) (a b v : X) → v ≡ a → v ≡ b → v ≡ cond test a b
 same_either true a b v e f = e
 same_either false a b v e f = f
 
