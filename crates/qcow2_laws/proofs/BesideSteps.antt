@@ -1,13 +1,15 @@
 -- Steps of the driver on an image with an external data file: no stop asks anything of them, and what guests see of them.
 use Rattle.std.proofs.Common.{◌≡◌, ◌+◌, ◌-◌, ◌*◌, ◌/◌, ◌%◌, ◌^◌, ◌<◌, ◌≤◌, ◌⊎◌, ℕ, Bool, true, false, not, zero, suc, List, length, cond, [], refl, sym, ap, ◌∙◌, arith, inl, inr, subst}
-use Rattle.qcow2_laws.proofs.Common.{Option, fun_ext, div-add-mod', pow_pos, passes_if, Bytes, byte_at, HeaderFields, cluster_size, has_data_file, cover, known_byte, compressed_byte, Value, guest_value, value_under, L2Mapping, Data, Zero, Compressed, Uncovered, Disk, disk_with, with_values, GivenBytes, Checkpoint, StopOkEverywhere, SafeThroughout, StandsIfBeside, DriverState, StateInvariant, SafeStep, SameCovers, KeepsFormat, WritesHeader, with_places, with_l1_at, IsNewL1, state_with_l1_table, resized_places, guest_at, EntryChanges, with_cluster, MapsInTurn, IsZeros, laid_inside, laid_outside}
+use Rattle.qcow2_laws.proofs.Common.{Option, cond-true, fun_ext, div-add-mod', pow_pos, passes_if, Bytes, byte_at, HeaderFields, cluster_size, has_data_file, count, cover, named_for_tables, CoverIsAligned, guests, over_guests, names, marked_by_l1_table, table_at, cluster, CrashInvariant, known_byte, compressed_byte, Value, guest_value, value_under, L2Mapping, Data, Zero, Compressed, Uncovered, Disk, disk_with, with_values, GivenBytes, Checkpoint, StopOkEverywhere, SafeThroughout, StandsIfBeside, DriverState, StateInvariant, SafeStep, SameCovers, KeepsFormat, WritesHeader, with_places, with_l1_at, IsNewL1, state_with_l1_table, resized_places, guest_at, EntryChanges, with_cluster, MapsInTurn, IsZeros, laid_inside, laid_outside}
 use Rattle.qcow2_disk.specs.Disk.{with_bytes, zeroed_between, uncovered}
 use Rattle.qcow2_disk.specs.Mappings.{is_copied_data}
 use Rattle.image_access.specs.Moments.{StorageView, EachMomentSince}
-use Rattle.qcow2_laws.specs.Beside.{StandsAtGuest}
-use Rattle.qcow2_laws.proofs.Lemmas.{own_data_of, known_header}
+use Rattle.qcow2_laws.specs.Beside.{StandsAtGuest, ConsistentBeside}
+use Rattle.qcow2_laws.proofs.Lemmas.{own_data_of, known_header, sum_below-zero, tied, Sizes-from}
 use Rattle.qcow2_laws.proofs.Formats.{cover_format}
-use Rattle.qcow2_laws.proofs.Consistency.{own_of_kept}
+use Rattle.qcow2_laws.proofs.Clusters.{Fine, fine}
+use Rattle.qcow2_laws.proofs.Mixes.{good, known_crash_invariant}
+use Rattle.qcow2_laws.proofs.Consistency.{own_of_kept, each_entry, l1_marked}
 use Rattle.qcow2_laws.proofs.Blocks.{entry_set}
 use Rattle.qcow2_laws.proofs.Headers.{resized_known_covers}
 use Rattle.qcow2_laws.proofs.Steps.{header_is_written}
@@ -272,3 +274,38 @@ beside_range = record {
       let r = maps_in_turn_beside (λ v. v ≡ Uncovered) (λ file backing o. known_byte (backing o)) first (λ v is file backing o. ap (value_beside file backing o) is) n s new sound beside turn in
       record { sound = r.sound; header = r.header; covers = r.covers; shows = r.shows };
 }
+
+-- ---- what is known is a consistent image of its kind
+module _ (s : DriverState) (sound : StateInvariant s) (beside : has_data_file s.header ≡ true) where
+  known_kept : CrashInvariant s.header s.direction s.pending s.known s.known
+  known_kept = known_crash_invariant s.header s.direction s.pending s.on_storage s.known sound
+
+  -- guest clusters name nothing in the image
+  no_names : (c : ℕ) → over_guests s.header (names s.header s.known c) ≡ 0
+  unfolding over_guests
+  no_names c = sum_below-zero (guests s.header) (names s.header s.known c) (λ g lt. cond-true {A = ℕ} _ _ _ beside)
+
+  fine_at : (c : ℕ) → Fine (cluster s.header s.pending s.known s.known c)
+  fine_at c = fine s.direction (cluster s.header s.pending s.known s.known c) (s.pending.surplus c) (tied s.header s.pending s.known s.known c) (good s.header s.direction s.pending s.known s.known known_kept c)
+
+  own_table : (c : ℕ) → 0 < marked_by_l1_table s.header s.known c → (named_for_tables s.header s.known c ≡ 1) × (count s.header s.known c ≡ 1)
+  own_table c some = let one = (fine_at c).copied (omega arith) in let none = no_names c in (omega (arith, one.0), one.1)
+
+  pub consistent_beside : ConsistentBeside s.header s.known
+  consistent_beside = record {
+    header_reads = known_kept.top.header_reads;
+    reftable_fits = known_kept.top.reftable_fits;
+    l1_reads = known_kept.top.l1_reads;
+    reftable_reads = known_kept.top.reftable_reads;
+    no_snapshots = known_kept.top.no_snapshots;
+    external = beside;
+    l1_aligned = known_kept.top.l1_aligned;
+    reftable_aligned = known_kept.top.reftable_aligned;
+    l2_tables_aligned = known_kept.top.l2_tables_aligned;
+    refblocks_aligned = known_kept.top.refblocks_aligned;
+    data_aligned = each_entry s.header s.known (CoverIsAligned s.header) (Sizes-from s.header s.known known_kept.top.header_reads) sound.known_aligned;
+    counted = λ c. let enough = (fine_at c).counted in omega arith;
+    tables_once = λ c some. let one = (fine_at c).tables (omega (arith, some)) in let none = no_names c in omega arith;
+    copied_tables = λ i lt real copied. own_table (table_at s.header s.known i / cluster_size s.header) (l1_marked s.header s.known i lt real copied);
+    at_guests = λ g. sound.at_guests g beside;
+  }
