@@ -41,3 +41,4 @@ pub mod MappedRanges
 pub mod KeptClusters
 pub mod BesideDisks
 pub mod BesideSteps
+pub mod BesideSamples
