@@ -1,6 +1,6 @@
 -- Steps of the driver on an image with an external data file: no stop asks anything of them, and what guests see of them.
 use Rattle.std.proofs.Common.{◌≡◌, ◌+◌, ◌-◌, ◌*◌, ◌/◌, ◌%◌, ◌^◌, ◌<◌, ◌≤◌, ◌⊎◌, ℕ, Bool, true, false, not, zero, suc, List, length, cond, [], refl, sym, ap, ◌∙◌, arith, inl, inr, subst}
-use Rattle.qcow2_laws.proofs.Common.{Option, cond-true, fun_ext, div-add-mod', pow_pos, passes_if, Bytes, byte_at, HeaderFields, cluster_size, has_data_file, count, cover, named_for_tables, CoverIsAligned, guests, over_guests, names, marked_by_l1_table, table_at, cluster, CrashInvariant, known_byte, compressed_byte, Value, guest_value, value_under, L2Mapping, Data, Zero, Compressed, Uncovered, Disk, disk_with, with_values, GivenBytes, Checkpoint, StopOkEverywhere, SafeThroughout, StandsIfBeside, DriverState, StateInvariant, SafeStep, SameCovers, KeepsFormat, WritesHeader, with_places, with_l1_at, IsNewL1, state_with_l1_table, resized_places, guest_at, EntryChanges, with_cluster, MapsInTurn, IsZeros, laid_inside, laid_outside}
+use Rattle.qcow2_laws.proofs.Common.{Option, cond-true, fun_ext, div-add-mod', pow_pos, Bytes, byte_at, HeaderFields, cluster_size, has_data_file, count, cover, named_for_tables, CoverIsAligned, guests, over_guests, names, marked_by_l1_table, table_at, cluster, CrashInvariant, known_byte, compressed_byte, Value, guest_value, value_under, L2Mapping, Data, Zero, Compressed, Uncovered, Disk, disk_with, with_values, GivenBytes, Checkpoint, StopOkEverywhere, SafeThroughout, StandsIfBeside, DriverState, StateInvariant, SafeStep, SameCovers, KeepsFormat, WritesHeader, with_places, with_l1_at, IsNewL1, state_with_l1_table, resized_places, guest_at, EntryChanges, with_cluster, MapsInTurn, IsZeros, laid_inside, laid_outside}
 use Rattle.qcow2_disk.specs.Disk.{with_bytes, zeroed_between, uncovered}
 use Rattle.qcow2_disk.specs.Mappings.{is_copied_data}
 use Rattle.image_access.specs.Moments.{StorageView, EachMomentSince}
@@ -12,6 +12,7 @@ use Rattle.qcow2_laws.proofs.Mixes.{good, known_crash_invariant}
 use Rattle.qcow2_laws.proofs.Consistency.{own_of_kept, each_entry, l1_marked}
 use Rattle.qcow2_laws.proofs.Blocks.{entry_set}
 use Rattle.qcow2_laws.proofs.Headers.{resized_known_covers}
+use Rattle.qcow2_laws.proofs.SafeSteps.{always_safe_throughout}
 use Rattle.qcow2_laws.proofs.Steps.{header_is_written}
 use Rattle.qcow2_laws.proofs.GuestLaws.{longer_l1_table_keeps_guests}
 use Rattle.qcow2_laws.proofs.BesideDisks.{beside_entry}
@@ -25,10 +26,11 @@ stands_inside h g v inside beside = let none : false ≡ true = sym (own_data_of
 
 -- ---- stops
 module _ (old : DriverState) (sound : StateInvariant old) (beside : has_data_file old.header ≡ true) where
-  -- no checkpoint keeps such an image: it is not consistent in the sense of images that hold their own data
+  -- at no checkpoint is such an image safe: it is not consistent in the sense of images that hold their own data
   pub no_stop_beside : (backing : Bytes) (m : Checkpoint) → StopOkEverywhere backing m old.known → ⊥
   no_stop_beside backing m kept = stands_inside old.header 0 (Compressed 0 0) (own_of_kept old.header backing m old.known (known_header old sound) kept) beside
 
+  -- so every step to a state with the invariant is safe, and so are all moments on the way
   pub safe_beside : (new : DriverState) (given : Bytes → List GivenBytes) (asked : List ℕ) → StateInvariant new → SafeStep old new given asked
   safe_beside new given asked sound' = record {
     sound = sound';
@@ -37,10 +39,7 @@ module _ (old : DriverState) (sound : StateInvariant old) (beside : has_data_fil
   }
 
   pub since_beside : {P : List ℕ → Type 0} (a b : StorageView) (given : Bytes → List GivenBytes) (asked : List ℕ) → EachMomentSince a b P → SafeThroughout a b old.known given asked
-  since_beside a b given asked time = record {
-    moments = passes_if _ (λ c _ backing m ok known_ok. absurd (no_stop_beside backing m known_ok)) time;
-    contents = λ backing m ok known_ok. absurd (no_stop_beside backing m known_ok);
-  }
+  since_beside a b given asked time = always_safe_throughout a b old.known given asked time (λ c backing m ok known_ok. absurd (no_stop_beside backing m known_ok))
 
 -- ---- what is shown
 -- What guest byte o shows through its mapping. No mapping is compressed.
@@ -124,7 +123,6 @@ module _ (s : DriverState) (sound : StateInvariant s) (beside : has_data_file s.
       → ((o : ℕ) → (o < offset) ⊎ (offset + length bytes ≤ o) → file' o ≡ file o) → ((i : ℕ) → i < length bytes → file' (offset + i) ≡ byte_at bytes i)
       → disk_with s.known file' backing ≡ record (disk_with s.known file backing) { value = λ o. cond (is_private o) ((disk_with s.known file backing).value o) ((with_bytes (disk_with s.known file backing) offset bytes).value o) }
   beside_put file file' backing is_private offset bytes private others there =
-      let d : Disk = disk_with s.known file backing in
       same_disk _ _ ((beside_written file file' backing).size) (λ o. elim (in_range o offset (length bytes)) [
         | inl out ↦
             let same = (beside_written file file' backing).value o (others o out) in

@@ -71,6 +71,11 @@ by_return : (old new : StorageView) (known : Bytes) (given : Bytes → List Give
 by_return old new known given asked time now =
     record { moments = passes_if (IsSafeAfter old known given asked) (λ c (is : IsLeftBy new c). subst (IsSafeAfter old known given asked) (sym is) now) time; contents = now }
 
+-- any calls, where whatever they may leave is safe
+pub always_safe_throughout : {P : List ℕ → Type 0} (old new : StorageView) (known : Bytes) (given : Bytes → List GivenBytes) (asked : List ℕ) → EachMomentSince old new P → ((c : List ℕ) → IsSafeAfter old known given asked c)
+    → SafeThroughout old new known given asked
+always_safe_throughout old new known given asked time safe = record { moments = passes_if (IsSafeAfter old known given asked) (λ c _. safe c) time; contents = safe new.contents }
+
 -- a call of the storage that keeps the contents
 pub keep_safe_throughout : (old new : StorageView) (known : Bytes) → EachMomentSince old new (IsLeftBy new) → new.contents ≡ old.contents → SafeThroughout old new known (λ _. []) []
 keep_safe_throughout old new known time same = by_return old new known (λ _. []) [] time (λ backing m ok known_ok. subst (λ (c : List ℕ). StopOkEverywhere backing m (byte_at c)) (sym same) ok)
