@@ -10,13 +10,14 @@ use Rattle.qcow2_alloc.specs.declared.cache.Direction.{Direction}
 use Rattle.qcow2_alloc.specs.declared.error.ImageError.TheVariants as I
 use Rattle.qcow2_alloc.proofs.CachePins.{marks_none, marks_tables, marks_blocks}
 use Rattle.qcow2_alloc.proofs.Faults.{CacheReports, cache_told}
-use Rattle.qcow2_alloc.proofs.KeptMarks.{kept_marks_none, kept_marks_then, marks_of_both}
+use Rattle.qcow2_alloc.proofs.KeptMarks.{kept_marks_none, kept_marks_then, load_marks_then, marks_alone}
 use Rattle.qcow2_alloc.proofs.KeptTables.AllWritten.{written_none, written_then, written_turned, tables_flushed_written, blocks_flushed_written}
 use Rattle.qcow2_alloc.proofs.KeptTables.ApartCalls.{apart_none, apart_then, apart_turned, tables_flushed_apart, blocks_flushed_apart}
 use Rattle.qcow2_alloc.proofs.KeptTables.BehindHeader.{caches_none, caches_then, turned_behind, tables_flushed_behind, blocks_flushed_behind}
 use Rattle.qcow2_alloc.proofs.KeptTables.Causes.{given_err, fits_less, fault_or_of_tables, in_use_of_tables}
 use Rattle.qcow2_alloc.proofs.KeptTables.Clean.{blocks_go, tables_go}
 use Rattle.qcow2_alloc.proofs.KeptTables.Flushing.{tables_flushed, blocks_flushed}
+use Rattle.qcow2_alloc.proofs.KeptTables.Held.{tables_held}
 use Rattle.qcow2_alloc.proofs.KeptTables.InOrder.{order_none, order_then, tables_in_order, blocks_in_order}
 use Rattle.qcow2_alloc.proofs.KeptTables.Switching.{keep_none, keep_then, keep_turned}
 use Rattle.qcow2_alloc.proofs.Outcomes.{on_err, on_no_ok}
@@ -38,31 +39,31 @@ module _ {S : Type 0} {view : S → StorageView} where
   -- a flush, and then the order of writes turns
   pub step_turned : {r s : ImageStorage S} {a b : MetadataCaches S} (d : Direction) → CacheStep view r a s b → TurnStep view r a s (record b { direction = d })
   step_turned d step = record {
-    marks = record { pins = record { pins = step.marks.pins.pins; room = λ r. let now = step.marks.pins.room r in record { tables = now.tables; some = now.some; free = now.free }; changes = step.marks.pins.changes }; notes = step.marks.notes };
+    marks = record { pins = record { pins = step.marks.pins.pins; room = λ r. let now = step.marks.pins.room r in record { tables = now.tables; some = now.some; free = now.free }; changes = step.marks.pins.changes }; notes = step.marks.notes; tables = step.marks.tables };
     header_cluster = turned_behind d step.header_cluster;
     all_written = written_turned d step.all_written;
   }
 
   pub step_in_turn : {r s : ImageStorage S} {a b : MetadataCaches S} → CacheStep view r a s b → TurnStep view r a s b
-  step_in_turn step = record { marks = record { pins = step.marks.pins; notes = step.marks.notes }; header_cluster = step.header_cluster; all_written = step.all_written }
+  step_in_turn step = record { marks = record { pins = step.marks.pins; notes = step.marks.notes; tables = step.marks.tables }; header_cluster = step.header_cluster; all_written = step.all_written }
 
   -- loads
   pub load_step_on : {r s : ImageStorage S} {a b : MetadataCaches S} {cluster : ℕ} → CacheStep view r a s b → LoadStep view r a s b cluster
-  load_step_on step = record { marks = step.marks; header_cluster = λ _. step.header_cluster; all_written = step.all_written }
+  load_step_on step = record { marks = marks_alone step.marks; header_cluster = λ _. step.header_cluster; all_written = step.all_written }
 
   pub load_step_then : {r s t : ImageStorage S} {a b c : MetadataCaches S} {cluster : ℕ} → LoadStep view r a s b cluster → LoadStep view s b t c cluster → LoadStep view r a t c cluster
   load_step_then first then = record {
-    marks = kept_marks_then first.marks then.marks;
+    marks = load_marks_then first.marks then.marks;
     header_cluster = λ above. caches_then (first.header_cluster above) (then.header_cluster above);
     all_written = written_then view first.all_written then.all_written;
   }
 
   -- what is put in for a cluster
   pub put_step_on : {r s : ImageStorage S} {a b : MetadataCaches S} {cluster : ℕ} → CacheStep view r a s b → PutStep view r a s b (Some cluster)
-  put_step_on step = record { marks = step.marks; header_cluster = λ _. step.header_cluster }
+  put_step_on step = record { marks = marks_alone step.marks; header_cluster = λ _. step.header_cluster }
 
   pub put_step_then : {r s t : ImageStorage S} {a b c : MetadataCaches S} {cluster : ℕ} → PutStep view r a s b (Some cluster) → PutStep view s b t c (Some cluster) → PutStep view r a t c (Some cluster)
-  put_step_then first then = record { marks = kept_marks_then first.marks then.marks; header_cluster = λ above. caches_then (first.header_cluster above) (then.header_cluster above) }
+  put_step_then first then = record { marks = load_marks_then first.marks then.marks; header_cluster = λ above. caches_then (first.header_cluster above) (then.header_cluster above) }
 
   pub put_step_as : {r s : ImageStorage S} {a b : MetadataCaches S} {place : Option ℕ} {cluster : ℕ} → place ≡ Some cluster → PutStep view r a s b (Some cluster) → PutStep view r a s b place
   put_step_as {r} {s} {a} {b} is step = subst (PutStep view r a s b) (sym is) step
@@ -87,7 +88,7 @@ module _ {S : Type 0} {view : S → StorageView} where
   -- ---- what the storage was told before, whether a failure is watched for
   pub watched_step : {s t : ImageStorage S} {a b : MetadataCaches S} (is_met : Bool) → CacheStep view (record s { met_fault = is_met }) a t b → CacheStep view s a t b
   watched_step is_met step = record {
-    marks = record { pins = step.marks.pins; order = step.marks.order; notes = record { honest = step.marks.notes.honest; changes = step.marks.notes.changes; contents = step.marks.notes.contents } };
+    marks = record { pins = step.marks.pins; order = step.marks.order; notes = record { honest = step.marks.notes.honest; changes = step.marks.notes.changes; contents = step.marks.notes.contents }; tables = step.marks.tables };
     header_cluster = record { bytes = step.header_cluster.bytes; behind = step.header_cluster.behind };
     all_written = record { tables = step.all_written.tables; quiet = step.all_written.quiet };
   }
@@ -159,7 +160,7 @@ module _ {S : Type 0} (view : S → StorageView) (old new : ImageStorage S) (cac
     module _ (answer : Result Unit₀ (CacheError ℕ MetadataError)) (flushes : Flushes (l2_steps (seen_by view) caches.l2.backend.header.fields) old caches.l2.entries answer new l2.entries) where
       pub l2_flushed_step : KeepsPins eqb caches.l2.entries l2.entries → KeepsNotes view old new → CacheStep view old caches new (record caches { l2 = l2 })
       l2_flushed_step pins notes = record {
-        marks = marks_of_both (marks_tables caches l2 others pins) refl notes;
+        marks = record { pins = marks_tables caches l2 others pins; order = refl; notes = notes; tables = tables_held view old new caches l2 answer flushes };
         header_cluster = tables_flushed_behind view old new caches l2 answer others flushes;
         all_written = tables_flushed_written view old new caches l2 answer flushes;
       }
@@ -176,7 +177,7 @@ module _ {S : Type 0} (view : S → StorageView) (old new : ImageStorage S) (cac
     module _ (answer : Result Unit₀ (CacheError ℕ MetadataError)) (flushes : Flushes (rb_steps (seen_by view) caches.rb.backend.header.fields) old caches.rb.entries answer new rb.entries) where
       pub rb_flushed_step : KeepsPins eqb caches.rb.entries rb.entries → KeepsNotes view old new → CacheStep view old caches new (record caches { rb = rb })
       rb_flushed_step pins notes = record {
-        marks = marks_of_both (marks_blocks caches rb others pins) refl notes;
+        marks = record { pins = marks_blocks caches rb others pins; order = refl; notes = notes; tables = λ k. refl };
         header_cluster = blocks_flushed_behind view old new caches rb answer others flushes;
         all_written = blocks_flushed_written view old new caches rb answer flushes;
       }

@@ -45,7 +45,7 @@ pub use Rattle.qcow2_alloc.specs.HeaderClusters.{IsInHeaderCluster, BytesStay, K
 pub use Rattle.qcow2_alloc.specs.ImageError.{of_storage, IsFault, IsFaultOr, of_cache, IsOfReftableLoad, IsOfTablesIf, IsFaultOrLimit, of_metadata}
 pub use Rattle.qcow2_alloc.specs.ImageFile.{view_in, contents_in, known_in, FileInvariant, AllocatorInvariant, HasReftable, RefusedFileStep, pending_at, nothing_given, state_in, InternalFileStep, InternalFileGrowth, InterruptedFileStep, KeepsHeader}
 pub use Rattle.qcow2_alloc.specs.ImageStorage.{storage_of, met_fault_of, is_changed_of, RecordsWrite, SameNotes, WritesPlaced, changes_of, RecordsFault}
-pub use Rattle.qcow2_alloc.specs.KeptMarks.{KeepMarks, KeepNotes, KeepsMarks}
+pub use Rattle.qcow2_alloc.specs.KeptMarks.{KeepMarks, KeepMarksAndTables, KeepsHeldTables, KeepNotes, KeepsMarks}
 pub use Rattle.qcow2_alloc.specs.KeptNotes.{KeepsNotes, kept_then, kept_same}
 pub use Rattle.qcow2_alloc.specs.KeptTables.{cached_table, cached_tables, AllValuesFit, IsSafeSince, AreElsewhere, AreLoaded, AreKept, IsCurrent, IsInOrderSince}
 pub use Rattle.qcow2_alloc.specs.Leaks.{LeaksOne, LeaksUnaligned, IsDecremented, TriesToDecrement, is_unaligned, unaligned_below}

@@ -6,7 +6,7 @@ use Rattle.qcow2_alloc.proofs.Common.{MatchOption, MatchResult, option_map, eq-e
 use Rattle.qcow2_alloc.proofs.Runs.{run_after, run_before, run_in, run_none}
 use Rattle.qcow2_alloc.proofs.UnalignedLeaks.{listed_both}
 use Rattle.qcow2_alloc.specs.CachePins.{SameChanges}
-use Rattle.qcow2_alloc.specs.CacheSteps.{KeepsHeldTables}
+use Rattle.qcow2_alloc.specs.KeptMarks.{KeepsHeldTables}
 use Rattle.qcow2_alloc.specs.KeptEntries.{OnlyLoads}
 use Rattle.qcow2_alloc.specs.Leaks.{DecrementsOrLeaks, FreesEach, FreesOff, KeepsBlockBytes, LoadsBlocks}
 

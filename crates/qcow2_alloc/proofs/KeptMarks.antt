@@ -1,22 +1,33 @@
 -- Steps one after another keep the marks of an image's file.
 use Rattle.std.proofs.Common.{◌≡◌, ℕ, List, Option, Some, None, IsSome, Result, refl, sym, ◌∙◌, subst, IfSome}
-use Rattle.qcow2_alloc.proofs.Common.{StorageView, Calls, Changes, StorageError, KeepsPinsAndNotes, storage_of, RecordsWrite, SameNotes, counts_none, counts_then, KeepMarks, KeepNotes, KeepsNotes, kept_same, kept_then, order_of, MetadataCaches, ImageStorage}
+use Rattle.qcow2_alloc.proofs.Common.{StorageView, Calls, Changes, StorageError, KeepsPinsAndNotes, storage_of, RecordsWrite, SameNotes, counts_none, counts_then, KeepMarks, KeepMarksAndTables, KeepsHeldTables, KeepNotes, KeepsNotes, kept_same, kept_then, order_of, MetadataCaches, ImageStorage}
 use Rattle.qcow2_alloc.proofs.CachePins.{marks_none, marks_then}
 use Rattle.qcow2_alloc.proofs.KeptNotes.{kept_told, write_kept}
 
 module _ {S : Type 0} {view : S → StorageView} where
-  pub kept_marks_none : {s : ImageStorage S} {a : MetadataCaches S} → KeepMarks view s a s a
-  kept_marks_none {s} {a} = record { pins = marks_none a; order = refl; notes = kept_same s }
+  pub kept_marks_none : {s : ImageStorage S} {a : MetadataCaches S} → KeepMarksAndTables view s a s a
+  kept_marks_none {s} {a} = record { pins = marks_none a; order = refl; notes = kept_same s; tables = λ k. refl }
 
-  pub kept_marks_then : {r s t : ImageStorage S} {a b c : MetadataCaches S} → KeepMarks view r a s b → KeepMarks view s b t c → KeepMarks view r a t c
-  kept_marks_then {r} {s} {t} {a} {b} {c} first then = record { pins = marks_then a b c first.pins then.pins; order = then.order ∙ first.order; notes = kept_then r s t first.notes then.notes }
+  pub kept_marks_then : {r s t : ImageStorage S} {a b c : MetadataCaches S} → KeepMarksAndTables view r a s b → KeepMarksAndTables view s b t c → KeepMarksAndTables view r a t c
+  kept_marks_then {r} {s} {t} {a} {b} {c} first then =
+      record { pins = marks_then a b c first.pins then.pins; order = then.order ∙ first.order; notes = kept_then r s t first.notes then.notes; tables = λ k. then.tables k ∙ first.tables k }
+
+  -- loads of L2 tables, which may drop others
+  pub load_marks_then : {r s t : ImageStorage S} {a b c : MetadataCaches S} → KeepMarks view r a s b → KeepMarks view s b t c → KeepMarks view r a t c
+  load_marks_then {r} {s} {t} {a} {b} {c} first then = record { pins = marks_then a b c first.pins then.pins; order = then.order ∙ first.order; notes = kept_then r s t first.notes then.notes }
+
+  pub marks_alone : {r s : ImageStorage S} {a b : MetadataCaches S} → KeepMarksAndTables view r a s b → KeepMarks view r a s b
+  marks_alone marks = record { pins = marks.pins; order = marks.order; notes = marks.notes }
+
+  pub marks_with : {r s : ImageStorage S} {a b : MetadataCaches S} → KeepMarks view r a s b → KeepsHeldTables a b → KeepMarksAndTables view r a s b
+  marks_with marks tables = record { pins = marks.pins; order = marks.order; notes = marks.notes; tables = tables }
 
   -- a call of the caches that leaves the storage alone, one that leaves the caches alone, and one of both
-  pub marks_of_caches : {s : ImageStorage S} {a b : MetadataCaches S} → KeepsPinsAndNotes a b → order_of b ≡ order_of a → KeepMarks view s a s b
-  marks_of_caches {s} pins order = record { pins = pins; order = order; notes = kept_same s }
+  pub marks_of_caches : {s : ImageStorage S} {a b : MetadataCaches S} → KeepsPinsAndNotes a b → order_of b ≡ order_of a → KeepsHeldTables a b → KeepMarksAndTables view s a s b
+  marks_of_caches {s} pins order tables = record { pins = pins; order = order; notes = kept_same s; tables = tables }
 
-  pub marks_of_storage : {r s : ImageStorage S} {a b : MetadataCaches S} → b ≡ a → KeepsNotes view r s → KeepMarks view r a s b
-  marks_of_storage {r} {s} {a} same notes = subst (λ (x : MetadataCaches S). KeepMarks view r a s x) (sym same) (record { pins = marks_none a; order = refl; notes = notes })
+  pub marks_of_storage : {r s : ImageStorage S} {a b : MetadataCaches S} → b ≡ a → KeepsNotes view r s → KeepMarksAndTables view r a s b
+  marks_of_storage {r} {s} {a} same notes = subst (λ (x : MetadataCaches S). KeepMarksAndTables view r a s x) (sym same) (record { pins = marks_none a; order = refl; notes = notes; tables = λ k. refl })
 
   pub marks_of_both : {r s : ImageStorage S} {a b : MetadataCaches S} → KeepsPinsAndNotes a b → order_of b ≡ order_of a → KeepsNotes view r s → KeepMarks view r a s b
   marks_of_both pins order notes = record { pins = pins; order = order; notes = notes }
@@ -40,7 +51,7 @@ module _ {S : Type 0} {view : S → StorageView} where
   notes_then {r} {s} {t} {a} {b} {c} first then = record { storage = kept_then r s t first.storage then.storage; tables = counts_then a.is_changed b.is_changed c.is_changed a.changes b.changes c.changes first.tables then.tables }
 
   -- a call of both, one of the storage alone, and one of the caches alone
-  pub notes_of_marks : {r s : ImageStorage S} {a b : MetadataCaches S} → KeepMarks view r a s b → KeepNotes view r a s b
+  pub notes_of_marks : {r s : ImageStorage S} {a b : MetadataCaches S} → KeepMarksAndTables view r a s b → KeepNotes view r a s b
   notes_of_marks marks = record { storage = marks.notes; tables = marks.pins.changes }
 
   pub notes_of_both : {r s : ImageStorage S} {a b : MetadataCaches S} → KeepsPinsAndNotes a b → KeepsNotes view r s → KeepNotes view r a s b

@@ -16,7 +16,7 @@ pub use Rattle.qcow2_alloc.proofs.FreedLists.{listed_stay, listed_then, run_lowe
 pub use Rattle.qcow2_alloc.proofs.Freeing.{free_more, but_both, frees_then, but_first}
 pub use Rattle.qcow2_alloc.proofs.HeaderClusters.{placed_elsewhere}
 pub use Rattle.qcow2_alloc.proofs.Hints.{used_stays, uses_then, passed_same, hint_more, hint_raised, hint_refused, raised_used, range_as, uses_raised, uses_refused, hint_stays, ok_as, passed_still, header_used, taken_used, search_then, kept_then, not_broken, hint_lowered, is_zero, lowered_so, stands_still, lacking_above, hint_got, hint_placed, has_entries, hint_used, uses_got, hint_or_interruption, search_by, search_same, search_after, search_as, kept_refused, not_in_run, taken_pending, hint_passed, hint_taken, hint_header, lowest_behind, lowest_first, lowest_passed, lowest_stays}
-pub use Rattle.qcow2_alloc.proofs.KeptMarks.{marks_of_caches, kept_marks_then, kept_marks_none, told_kept, marks_of_storage, placed_kept}
+pub use Rattle.qcow2_alloc.proofs.KeptMarks.{marks_of_caches, marks_with, kept_marks_then, kept_marks_none, told_kept, marks_of_storage, placed_kept}
 pub use Rattle.qcow2_alloc.proofs.KeptNotes.{note_kept}
 pub use Rattle.qcow2_alloc.proofs.KeptRuns.{hint_kept, invariant_for, search_kept, moved_on, stayed, stood_still}
 pub use Rattle.qcow2_alloc.proofs.KeptTables.ApartCalls.{apart_then, table_kept_apart, table_put_apart, tables_under_then, block_kept_apart, block_put_apart, blocks_under_then}

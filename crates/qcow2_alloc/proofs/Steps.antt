@@ -1,16 +1,18 @@
 -- Steps of the allocator one after another, and refusals that are passed on.
 use Rattle.std.proofs.Common.{◌≡◌, ◌≢◌, inl, inr, ℕ, List, Option, Some, None, Result, Ok, Err, IsErr, IsErrAnd, refl, sym, ap, ◌∙◌, subst, arith, IfErr}
-use Rattle.qcow2_alloc.proofs.Common.{StorageView, HasCause, StorageError, MetadataError, storage_result, EntryTableView, FaultsReported, KeepsPinsAndNotes, HeldStep, ReplacesReftable, OldReftablesQueued, KeepsHeaderCluster, view_in, of_storage, of_metadata, IsOfReftableLoad, IsOfTablesIf, IsReasonNotToLoad, KeepMarks, KeepsMarks, KeepsNotes, kept_then, ClustersToFreeEntry, CachesSpareHeader, KeepBehindHeader, MetadataCaches, ImageStorage, err_of, FailsFor, TableStep, FileStep, KeepsMarksInTurn, DataStep, PointerStep, PointerStepTo, GrowthStep, FreeStep, FreeStepInTurn, PartStep, ImageError, ImageFile}
+use Rattle.qcow2_alloc.proofs.Common.{StorageView, HasCause, StorageError, MetadataError, storage_result, EntryTableView, FaultsReported, KeepsPinsAndNotes, HeldStep, ReplacesReftable, OldReftablesQueued, KeepsHeaderCluster, view_in, of_storage, of_metadata, IsOfReftableLoad, IsOfTablesIf, IsReasonNotToLoad, KeepMarksAndTables, KeepsMarks, KeepsNotes, kept_then, ClustersToFreeEntry, CachesSpareHeader, KeepBehindHeader, MetadataCaches, ImageStorage, err_of, FailsFor, TableStep, FileStep, KeepsMarksInTurn, DataStep, PointerStep, PointerStepTo, GrowthStep, FreeStep, FreeStepInTurn, PartStep, ImageError, ImageFile}
 use Rattle.image_access.specs.declared.error.StorageError.TheVariants as S
 use Rattle.qcow2_metadata.specs.declared.error.MetadataError.TheVariants as M
 use Rattle.qcow2_alloc.specs.declared.error.ImageError.TheVariants as I
 use Rattle.qcow2_alloc.specs.Allocation.{HasUnaligned}
+use Rattle.qcow2_alloc.specs.CacheSteps.{KeepMarksInTurn}
 use Rattle.qcow2_alloc.specs.ImageError.{IsFault}
 use Rattle.qcow2_metadata.specs.declared.header.HeaderFields.{HeaderFields}
 use Rattle.qcow2_alloc.proofs.AllocationSteps.{handed_on, named_then}
 use Rattle.qcow2_alloc.proofs.CachePins.{marks_then}
 use Rattle.qcow2_alloc.proofs.FormerReftables.{former_none, former_same, former_then}
 use Rattle.qcow2_alloc.proofs.HeaderClusters.{header_cluster_none}
+use Rattle.qcow2_alloc.proofs.KeptTables.Held.{held_same}
 use Rattle.qcow2_alloc.proofs.KeptMarks.{kept_marks_none, kept_marks_then, marks_of_caches}
 use Rattle.qcow2_alloc.proofs.ListedAfter.{header_same, header_then, lists_none, lists_same, lists_then}
 use Rattle.qcow2_alloc.proofs.Outcomes.{entries_none}
@@ -35,15 +37,15 @@ module _ {S : Type 0} {view : S → StorageView} where
   table_step_as {t} {t'} {t''} {a} {b} {c} table file step = subst (λ x. TableStep view t a x c) (sym table) (subst (TableStep view t a t') (sym file) step)
 
   -- a call of the caches, or of them alone
-  pub table_step_cached : {t : EntryTableView} {f : ImageFile S} {storage : ImageStorage S} {caches : MetadataCaches S} → KeepMarks view f.storage f.caches storage caches → CachesSpareHeader view f.storage f.caches storage caches
+  pub table_step_cached : {t : EntryTableView} {f : ImageFile S} {storage : ImageStorage S} {caches : MetadataCaches S} → KeepMarksAndTables view f.storage f.caches storage caches → CachesSpareHeader view f.storage f.caches storage caches
       → TableStep view t f t (record f { storage = storage; caches = caches })
   table_step_cached {t} {f} {storage} {caches} marks spare = record { header = refl; list = refl; named = entries_none _ t; marks = marks; header_cluster = spares_cached t f storage caches spare }
 
-  pub table_step_tables : {t : EntryTableView} {f : ImageFile S} {caches : MetadataCaches S} → KeepMarks view f.storage f.caches f.storage caches → KeepBehindHeader f.caches caches → TableStep view t f t (record f { caches = caches })
+  pub table_step_tables : {t : EntryTableView} {f : ImageFile S} {caches : MetadataCaches S} → KeepMarksAndTables view f.storage f.caches f.storage caches → KeepBehindHeader f.caches caches → TableStep view t f t (record f { caches = caches })
   table_step_tables {t} {f} {caches} marks keep = record { header = refl; list = refl; named = entries_none _ t; marks = marks; header_cluster = spares_tables t f caches keep }
 
-  pub table_step_dropped : {t : EntryTableView} {a b : ImageFile S} → b ≡ record a { caches = b.caches } → HeldStep a.caches b.caches → TableStep view t a t b
-  table_step_dropped {t} {a} {b} same held = table_step_as refl same (table_step_tables (marks_of_caches held.marks held.order) held.header_cluster)
+  pub table_step_dropped : {t : EntryTableView} {a b : ImageFile S} → b ≡ record a { caches = b.caches } → HeldStep a.caches b.caches → b.caches.l2 ≡ a.caches.l2 → TableStep view t a t b
+  table_step_dropped {t} {a} {b} same held tables = table_step_as refl same (table_step_tables (marks_of_caches held.marks held.order (held_same a.caches b.caches tables)) held.header_cluster)
 
   -- ---- of a part of a call, which leaves the reftable
   pub part_none : {bits : ℕ} {f : ImageFile S} → PartStep view bits f f
@@ -85,19 +87,19 @@ module _ {S : Type 0} {view : S → StorageView} where
 
   -- ---- where the order of writes turns
   pub in_turn : {a b : ImageFile S} → KeepsMarks view a b → KeepsMarksInTurn view a b
-  in_turn marks = record { pins = marks.pins; notes = marks.notes }
+  in_turn marks = record { pins = marks.pins; notes = marks.notes; tables = marks.tables }
 
   pub in_turn_then : {a b c : ImageFile S} → KeepsMarksInTurn view a b → KeepsMarksInTurn view b c → KeepsMarksInTurn view a c
-  in_turn_then {a} {b} {c} first then = record { pins = marks_then a.caches b.caches c.caches first.pins then.pins; notes = kept_then a.storage b.storage c.storage first.notes then.notes }
+  in_turn_then {a} {b} {c} first then = record { pins = marks_then a.caches b.caches c.caches first.pins then.pins; notes = kept_then a.storage b.storage c.storage first.notes then.notes; tables = λ k. then.tables k ∙ first.tables k }
 
   -- the caches turned, and then clusters are taken
-  pub data_cached : {t : EntryTableView} {f : ImageFile S} {storage : ImageStorage S} {caches : MetadataCaches S} → KeepsPinsAndNotes f.caches caches → KeepsNotes view f.storage storage → CachesSpareHeader view f.storage f.caches storage caches
+  pub data_cached : {t : EntryTableView} {f : ImageFile S} {storage : ImageStorage S} {caches : MetadataCaches S} → KeepMarksInTurn view f.storage f.caches storage caches → CachesSpareHeader view f.storage f.caches storage caches
       → DataStep view t f t (record f { storage = storage; caches = caches })
-  data_cached {t} {f} {storage} {caches} pins notes spare = record {
+  data_cached {t} {f} {storage} {caches} marks spare = record {
     header = header_same f.header f.header refl;
     list = lists_none f.free_list;
     former = former_none t f.free_list;
-    marks = record { pins = pins; notes = notes };
+    marks = record { pins = marks.pins; notes = marks.notes; tables = marks.tables };
     header_cluster = spares_less (spares_cached t f storage caches spare);
   }
 
@@ -126,9 +128,9 @@ module _ {S : Type 0} {view : S → StorageView} where
   pub free_in_turn : {t t' : EntryTableView} {a b : ImageFile S} → FreeStep view t a t' b → FreeStepInTurn view t a t' b
   free_in_turn step = record { header = step.header; reftable = step.reftable; marks = in_turn step.marks; header_cluster = step.header_cluster }
 
-  pub turn_cached : {t : EntryTableView} {f : ImageFile S} {storage : ImageStorage S} {caches : MetadataCaches S} → KeepsPinsAndNotes f.caches caches → KeepsNotes view f.storage storage → CachesSpareHeader view f.storage f.caches storage caches
+  pub turn_cached : {t : EntryTableView} {f : ImageFile S} {storage : ImageStorage S} {caches : MetadataCaches S} → KeepMarksInTurn view f.storage f.caches storage caches → CachesSpareHeader view f.storage f.caches storage caches
       → FreeStepInTurn view t f t (record f { storage = storage; caches = caches })
-  turn_cached {t} {f} {storage} {caches} pins notes spare = record { header = refl; reftable = refl; marks = record { pins = pins; notes = notes }; header_cluster = spares_cached t f storage caches spare }
+  turn_cached {t} {f} {storage} {caches} marks spare = record { header = refl; reftable = refl; marks = record { pins = marks.pins; notes = marks.notes; tables = marks.tables }; header_cluster = spares_cached t f storage caches spare }
 
   pub turn_then : {t t' t'' : EntryTableView} {a b c : ImageFile S} → FreeStepInTurn view t a t' b → FreeStepInTurn view t' b t'' c → FreeStepInTurn view t a t'' c
   turn_then first then = record { header = then.header ∙ first.header; reftable = then.reftable ∙ first.reftable; marks = in_turn_then first.marks then.marks; header_cluster = spares_then first.header_cluster then.header_cluster }

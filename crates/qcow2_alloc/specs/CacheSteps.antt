@@ -13,12 +13,12 @@ use Rattle.qcow2_alloc.specs.ApartCaches.{KeepsKnownApart, ChangesBlockApart, Ov
 use Rattle.qcow2_alloc.specs.AsyncLruCache.{Cache}
 use Rattle.qcow2_alloc.specs.CachePins.{l2_pins, CachesHaveRoom, KeepsPinsAndNotes, SameChanges}
 use Rattle.qcow2_alloc.specs.KeptEntries.{KeepsCached, OnlyPromotes}
-use Rattle.qcow2_alloc.specs.KeptMarks.{KeepMarks}
+use Rattle.qcow2_alloc.specs.KeptMarks.{KeepMarks, KeepMarksAndTables, KeepsHeldTables}
 use Rattle.qcow2_alloc.specs.KeptNotes.{KeepsNotes}
 use Rattle.qcow2_alloc.specs.MetadataCaches.{order_of, l2_at, rb_at, l2_tables, refblocks, known_of, AreAllWritten, CacheInvariant, KeepSound, OverlaysBlock, OverlaysTable, DecrementsCount, DecrementsSome, InsertKeeps, IncrementsCount, IncrementsZero, AllocatesBlock, WritesInOrder}
 use Rattle.qcow2_alloc.specs.Quiet.{KeepAllWritten, OthersStayHeld, WritesNothing, GetsBlockQuietly, GetsTableQuietly, PutsBlockQuietly, PutsTableQuietly}
 use Rattle.qcow2_alloc.specs.SparedHeaders.{LeaveHeaderCluster, CachesSpareHeader, KeepBehindHeader}
-use Rattle.qcow2_alloc.specs.TableCaches.{IsBlockOf, IsTableOf, cleared_l2}
+use Rattle.qcow2_alloc.specs.TableCaches.{IsBlockOf, IsTableOf}
 use Rattle.qcow2_alloc.specs.declared.cache.MetadataCaches.{MetadataCaches}
 use Rattle.qcow2_alloc.specs.declared.error.ImageError.{ImageError}
 use Rattle.qcow2_alloc.specs.declared.image_storage.ImageStorage.{ImageStorage}
@@ -36,10 +36,6 @@ module _ {S : Type 0} where
   abbrev pub KeepsHeldBlocks : MetadataCaches S → MetadataCaches S → Type 0
   KeepsHeldBlocks caches caches' = (c : ℕ) → option_map (λ b. b.bytes) (rb_at caches' c) ≡ option_map (λ b. b.bytes) (rb_at caches c)
 
-  -- The same L2 tables are cached, with the same entries.
-  abbrev pub KeepsHeldTables : MetadataCaches S → MetadataCaches S → Type 0
-  KeepsHeldTables caches caches' = (c : ℕ) → option_map cleared_l2 (l2_at caches' c) ≡ option_map cleared_l2 (l2_at caches c)
-
   -- A call that only works on cached tables keeps the pins and the order of writes, and records changes. No table moves to cluster 0.
   pub record HeldStep (caches caches' : MetadataCaches S) : Type 0 where
     pub marks : KeepsPinsAndNotes caches caches'
@@ -49,10 +45,11 @@ module _ {S : Type 0} where
 module _ {S : Type 0} (view : S → StorageView) where
   -- ---- what each call keeps, whatever the caches hold
 
-  -- Pins stay the same, and changes are recorded. The order of writes may change.
+  -- Pins and the cached L2 tables stay the same, and changes are recorded. The order of writes may change.
   pub record KeepMarksInTurn (old : ImageStorage S) (caches : MetadataCaches S) (new : ImageStorage S) (caches' : MetadataCaches S) : Type 0 where
     pub pins : KeepsPinsAndNotes caches caches'
     pub notes : KeepsNotes view old new
+    pub tables : KeepsHeldTables caches caches'
 
   -- A call keeps marks and cluster 0, as its two parameters say. If no cached table is modified before, none is after, and nothing is written.
   pub record CacheStepBy (Keeps Spares : Type 0) (old : ImageStorage S) (caches : MetadataCaches S) (new : ImageStorage S) (caches' : MetadataCaches S) : Type 0 where
@@ -61,9 +58,9 @@ module _ {S : Type 0} (view : S → StorageView) where
     pub all_written : KeepAllWritten view old caches new caches'
 
   module _ (old : ImageStorage S) (caches : MetadataCaches S) (new : ImageStorage S) (caches' : MetadataCaches S) where
-    -- A flush keeps the order of writes.
+    -- A flush keeps the order of writes and the cached L2 tables.
     abbrev pub CacheStep : Type 0
-    CacheStep = CacheStepBy (KeepMarks view old caches new caches') (CachesSpareHeader view old caches new caches') old caches new caches'
+    CacheStep = CacheStepBy (KeepMarksAndTables view old caches new caches') (CachesSpareHeader view old caches new caches') old caches new caches'
 
     -- A switch may change the order of writes.
     abbrev pub TurnStep : Type 0
@@ -205,18 +202,20 @@ module _ {S : Type 0} where
   abbrev pub KeepsBlocks : ImageStorage S → MetadataCaches S → ImageStorage S → MetadataCaches S → Type 0
   KeepsBlocks old caches new caches' = (new ≡ old) × ((c : ℕ) → rb_at caches' c ≡ rb_at caches c)
 
-  -- If the call returns true, the refblock of a cluster was dropped. On sound caches without a pinned refblock it is not cached afterwards in any case.
+  -- If the call returns true, the refblock of a cluster was dropped. On sound caches without a pinned refblock it is not cached afterwards in any case. The L2 tables stay.
   pub record RemovesBlock (caches caches' : MetadataCaches S) (cluster : ℕ) (result : Bool) : Type 0 where
     pub taken : IsTrue result → AllocatesBlock caches caches' cluster
     pub taken_apart : IsTrue result → AllocatesBlockApart caches caches' cluster
     pub gone : (h : HeaderFields) (p : Pending) (on_storage : Bytes) → CacheInvariant h p caches on_storage → CachesHaveRoom caches → rb_at caches' cluster ≡ None
     pub clean : AreClean (refblocks caches) → AreClean (refblocks caches')
+    pub l2 : caches'.l2 ≡ caches.l2
 
-  -- If the call returns true, a refcount of a cached refblock was changed. On sound caches it returns false only at the end of a refcount's range.
+  -- If the call returns true, a refcount of a cached refblock was changed. On sound caches it returns false only at the end of a refcount's range. The L2 tables stay.
   pub record ChangesCountSoundly (Counts Makes : Type 0) (caches caches' : MetadataCaches S) (cluster : ℕ) (result : Bool) : Type 0 where
     pub counted : IsTrue result → Counts
     pub made : Makes
     pub apart : ChangesBlockApart caches caches' cluster
+    pub l2 : caches'.l2 ≡ caches.l2
 
   module _ (caches caches' : MetadataCaches S) (cluster index : ℕ) (result : Bool) where
     abbrev pub IncrementsSoundly : Type 0

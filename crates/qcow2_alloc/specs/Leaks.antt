@@ -10,9 +10,10 @@ use Rattle.qcow2_alloc.specs.declared.clusters_to_free.ClustersToFreeEntry.{Clus
 use Rattle.qcow2_metadata.specs.RefBlock.{RefBlockView, count_at}
 use Rattle.qcow2_alloc.specs.Allocation.{NamesBlock, SameLeaks}
 use Rattle.qcow2_alloc.specs.CachePins.{SameChanges}
-use Rattle.qcow2_alloc.specs.CacheSteps.{KeepsHeldBlocks, KeepsHeldTables}
+use Rattle.qcow2_alloc.specs.CacheSteps.{KeepsHeldBlocks}
 use Rattle.qcow2_alloc.specs.CountedChanges.{IsOneChange}
 use Rattle.qcow2_alloc.specs.ImageError.{IsFault}
+use Rattle.qcow2_alloc.specs.KeptMarks.{KeepsHeldTables}
 use Rattle.qcow2_alloc.specs.MetadataCaches.{rb_at}
 use Rattle.qcow2_alloc.specs.TableChanges.{SetsCount}
 use Rattle.qcow2_alloc.specs.declared.allocation.Allocator.{Allocator}

@@ -14,7 +14,7 @@ use Rattle.qcow2_alloc.specs.GrownTables.{counted_run, EntersReftable, NamesReft
 use Rattle.qcow2_alloc.specs.Growing.{IsLeastLength}
 use Rattle.qcow2_alloc.specs.HeaderClusters.{KeepsHeaderCluster}
 use Rattle.qcow2_alloc.specs.ImageFile.{has_noted, view_in, HasReftable, KeepsHeader, IsFault}
-use Rattle.qcow2_alloc.specs.KeptMarks.{KeepsMarks}
+use Rattle.qcow2_alloc.specs.KeptMarks.{KeepsMarks, KeepsHeldTables}
 use Rattle.qcow2_alloc.specs.KeptNotes.{KeepsNotes}
 use Rattle.qcow2_alloc.specs.Limits.{CantCount, CantCountRun, CantGrow, HasNoPlace, HasNoRoomBelow, HasNoRoomFor, IsLowestRoom, IsPastLimits, LiesLowest, IsFaultOr, nameable_clusters}
 use Rattle.qcow2_alloc.specs.LowestRuns.{IsLowestRun, IsPassed, IsUsed, KeepsNoFreeBelowHint, NoFreeBelowHint, StaysUsed, KeepsUsed}
@@ -95,10 +95,11 @@ module _ {S : Type 0} (view : S → StorageView) where
     pub header_cluster : KeepsHeaderCluster bits (view_in view old) (view_in view new)
     pub behind : KeepBehindHeader old.caches new.caches
 
-  -- Pins stay the same, and changes are recorded. The order of writes may change.
+  -- Pins and the cached L2 tables stay the same, and changes are recorded. The order of writes may change.
   pub record KeepsMarksInTurn (old new : ImageFile S) : Type 0 where
     pub pins : KeepsPinsAndNotes old.caches new.caches
     pub notes : KeepsNotes view old.storage new.storage
+    pub tables : KeepsHeldTables old.caches new.caches
 
   -- Marks are kept. The reftable may be replaced by a longer one: the header then points to it, and the clusters of the old one are listed. Otherwise the header, the list and cluster 0 stay the same.
   pub record FileStepBy (Keeps : ImageFile S → ImageFile S → Type 0) (reftable : EntryTableView) (old : ImageFile S) (reftable' : EntryTableView) (new : ImageFile S) : Type 0 where

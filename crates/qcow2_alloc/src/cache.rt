@@ -14,9 +14,10 @@ ghost use Rattle.qcow2_alloc.specs.MetadataCaches.{MapsCachedEntry, ZeroesEntry,
 ghost use Rattle.qcow2_alloc.specs.MetadataCaches.{RecordsHeld, ShowsKnown, EvictsTable};
 ghost use Rattle.qcow2_alloc.specs.CacheSteps.{CacheStep, TurnStep, KeepsSoundly, TablesGo, BlocksGo, FlushesL2, FlushesRb};
 ghost use Rattle.qcow2_alloc.specs.CacheSteps.{LoadStep, PutStep, HeldStep, GetsL2, GetsRb, PutsL2, PutsRb, PutsL2Soundly, PutsRbSoundly};
-ghost use Rattle.qcow2_alloc.specs.CacheSteps.{KeepsL2Written, KeepsBlocks, KeepsHeldBlocks, KeepsHeldTables, FlushesBlocks};
+ghost use Rattle.qcow2_alloc.specs.CacheSteps.{KeepsL2Written, KeepsBlocks, KeepsHeldBlocks, FlushesBlocks};
 ghost use Rattle.qcow2_alloc.specs.CacheSteps.{RemovesBlock, IncrementsSoundly, DecrementsSoundly, AreNewCaches};
 ghost use Rattle.qcow2_alloc.specs.CacheSteps.{MakesWayForL2, MakesWayForRb, SwitchesToRb, SwitchesToL2};
+ghost use Rattle.qcow2_alloc.specs.KeptMarks.{KeepsHeldTables};
 ghost use Rattle.qcow2_alloc.specs.Steps.{Fails};
 ghost use Rattle.qcow2_alloc.specs.ApartCaches.{ChangesTableApart, EvictsTableApart};
 ghost use Rattle.qcow2_metadata.specs.L2Table.{entries_of};
@@ -90,7 +91,6 @@ impl<S: Storage> MetadataCaches<S> {
         ensures sound { TablesGo self.old → KeepsSoundly S.view storage.old self.old storage.new self.new }
         ensures flushes { FlushesL2 S.view storage.old self.old storage.new self.new result }
         ensures free { (size c : ℕ) → IsFreeOf size (l2_tables self.old) c → IsFreeOf size (l2_tables self.new) c }
-        ensures held { KeepsHeldTables self.old self.new }
     {
         storage.watch_faults();
         if let Err(refusal) = self.l2.flush(storage) {
@@ -211,7 +211,6 @@ impl<S: Storage> MetadataCaches<S> {
         ensures sound { KeepsSoundly S.view storage.old self.old storage.new self.new }
         ensures way { MakesWayForRb S.view storage.old self.old storage.new self.new result }
         ensures free { (size c : ℕ) → IsFreeOf size (l2_tables self.old) c → IsFreeOf size (l2_tables self.new) c }
-        ensures held { KeepsHeldTables self.old self.new }
     {
         match self.direction {
             Direction::RbDependsOnL2 => self.write_tables(storage),
@@ -303,6 +302,7 @@ impl<S: Storage> MetadataCaches<S> {
         ensures fails { Fails S.view storage.old storage.new result (MayFailInsertingRb self.old) }
         ensures sound { PutsRbSoundly S.view storage.old self.old storage.new self.new result block }
         ensures puts { PutsRb S.view storage.old self.old storage.new self.new result block }
+        ensures tables { KeepsHeldTables self.old self.new }
     {
         let Some(cluster) = block.get_cluster() else {
             unreachable!();
@@ -386,7 +386,7 @@ impl<S: Storage> MetadataCaches<S> {
     pub fn invalidate_rb(&mut self) -> Result<(), ImageError>
         ensures step { HeldStep self.old self.new }
         ensures left { LeavesPinned self.old.rb.entries result self.new.rb.entries }
-        ensures tables { l2_tables self.new ≡ l2_tables self.old }
+        ensures tables { self.new.l2 ≡ self.old.l2 }
         ensures taken { EvictsTable (AreClean (refblocks self.old)) self.old self.new }
         ensures taken_apart { EvictsTableApart (AreClean (refblocks self.old)) self.old self.new }
     {
@@ -572,7 +572,6 @@ impl<S: Storage> MetadataCaches<S> {
         ensures refused { IsNone result → self.new ≡ self.old }
         ensures cached { IsSome result → IsSome (rb_at self.new cluster) }
         ensures missing { IsNone (rb_at self.old cluster) → IsNone result }
-        ensures apart { self.new.l2 ≡ self.old.l2 }
     {
         let left = self.rb.change(cluster, &Decrement { index })?;
         self.is_changed = true;

@@ -81,7 +81,7 @@ fn drop_blocks<S: Storage>(file: &mut ImageFile<S>, room: Room)
     requires near { room.first + room_length room < 2 ^ 63 }
     ensures rest { file.new ≡ record file.old { caches = file.new.caches } }
     ensures step { HeldStep file.old.caches file.new.caches }
-    ensures tables { l2_tables file.new.caches ≡ l2_tables file.old.caches }
+    ensures tables { file.new.caches.l2 ≡ file.old.caches.l2 }
     ensures clean { AreClean (refblocks file.old.caches) → AreClean (refblocks file.new.caches) }
     ensures sound { (q : Pending) (allocator : AllocatorView) → AllocatorInvariant S.view allocator q file.old
         → AreFree S.view q file.old room.first (room_length room)

@@ -6,7 +6,7 @@ use Rattle.qcow2_metadata.specs.L2Mapping.{HasAlignedHost}
 use Rattle.qcow2_metadata.specs.L2Table.{L2TableView}
 use Rattle.qcow2_metadata.specs.TableBytes.{entry_at}
 use Rattle.qcow2_alloc.specs.Allocation.{HasUnaligned}
-use Rattle.qcow2_alloc.specs.CacheSteps.{KeepsHeldTables}
+use Rattle.qcow2_alloc.specs.KeptMarks.{KeepsHeldTables}
 use Rattle.qcow2_alloc.specs.MetadataCaches.{l2_at}
 use Rattle.qcow2_alloc.specs.declared.cache.MetadataCaches.{MetadataCaches}
 use Rattle.qcow2_image.specs.Found.{l1_index_of, mapping_of}

@@ -1,7 +1,7 @@
 -- A flush leaves the contents of each cached table the same.
 use Rattle.std.proofs.Common.{◌≡◌, ◌∷◌, ℕ, Bool, inl, inr, eqb, List, [], Option, Some, None, Result, ap, ◌∙◌}
-use Rattle.qcow2_alloc.proofs.Common.{cases_Bool, option_map, StorageView, MetadataError, RefBlockView, Slot, CacheError, RefBlockCacheBackend, MetadataCaches, ImageStorage, Cache, value_at, Steps, Unit₀, Flushes, FlushesEntry, FlushesAll, storage_of, rb_at, rb_steps, l2_steps, cleared_l2, L2CacheBackend, L2TableView}
-use Rattle.qcow2_alloc.specs.CacheSteps.{KeepsHeldTables}
+use Rattle.qcow2_alloc.proofs.Common.{cases_Bool, option_map, StorageView, MetadataError, RefBlockView, Slot, CacheError, RefBlockCacheBackend, MetadataCaches, ImageStorage, Cache, value_at, Steps, Unit₀, Flushes, FlushesEntry, FlushesAll, storage_of, rb_at, rb_steps, l2_steps, cleared_l2, L2CacheBackend, L2TableView, l2_tables, cached_tables}
+use Rattle.qcow2_alloc.specs.KeptMarks.{KeepsHeldTables}
 use Rattle.qcow2_alloc.proofs.KeptTables.Flushing.{all_of}
 
 module _ {S V E X : Type 0} (steps : Steps S ℕ V E) (bytes : V → X) (keeps : (s t : S) (k : ℕ) (v w : V) → steps.flushed s k v w t → bytes w ≡ bytes v) (test : ℕ → Bool) where
@@ -22,6 +22,13 @@ module _ {S V E X : Type 0} (steps : Steps S ℕ V E) (bytes : V → X) (keeps :
   all_held s t [] fs o h = ap bytes_held h.2
   all_held s t (e ∷ es) fs o h =
       ap bytes_held h.8 ∙ next_held e h.2 es h.4 (entry_held s h.1 e h.0 h.2 h.5) (all_held h.1 t es h.4 h.3 h.6)
+
+-- the same L2 tables beside other refblocks
+pub held_same : {S : Type 0} (a b : MetadataCaches S) → b.l2 ≡ a.l2 → KeepsHeldTables a b
+held_same {S} a b same c = ap (λ (x : Cache (L2CacheBackend S) ℕ L2TableView). option_map cleared_l2 (value_at (λ k. eqb c k) x.entries)) same
+
+pub listed_same : {S : Type 0} (a b : MetadataCaches S) → b.l2 ≡ a.l2 → l2_tables b ≡ l2_tables a
+listed_same {S} a b same = ap (λ (x : Cache (L2CacheBackend S) ℕ L2TableView). cached_tables x.backend.header.fields.cluster_bits (λ (t : L2TableView). t.bytes) (λ t. t.is_modified) x.entries) same
 
 -- a flush of the refblocks leaves each held one its bytes
 pub blocks_held : {S : Type 0} (view : S → StorageView) (old new : ImageStorage S) (caches : MetadataCaches S) (rb : Cache (RefBlockCacheBackend S) ℕ RefBlockView) (result : Result Unit₀ (CacheError ℕ MetadataError))

@@ -3,7 +3,7 @@ use Rattle.std.proofs.Common.{◌≡◌, ◌+◌, ℕ, inl, inr, Option, Some, N
 use Rattle.std.specs.Prelude.{IsSomeAnd, IfSome}
 use Rattle.qcow2_image.proofs.Common.{option_map, L2TableView, HeaderFields, HeaderView, EntryTableView, l2_at, Allocator, MetadataCaches, Qcow2, ImageError, HasUnalignedAt, HasUnalignedCached, HasUnalignedOffset, IsUnalignedIn, KeepsOffsets, MayFailFinding, MayFailOn, MayFailPuttingAt, Prepared, ReleasesOneMapping, StorageView, ImageFile, Result}
 use Rattle.qcow2_alloc.specs.Allocation.{HasUnaligned}
-use Rattle.qcow2_alloc.specs.CacheSteps.{KeepsHeldTables}
+use Rattle.qcow2_alloc.specs.KeptMarks.{KeepsHeldTables}
 use Rattle.qcow2_alloc.specs.TableCaches.{cleared_l2}
 use Rattle.qcow2_alloc.specs.Leaks.{FreesOff}
 use Rattle.qcow2_alloc.proofs.FreedEach.{each_tables}

@@ -34,7 +34,7 @@ dropping-preserved g c =
         order = c.rb_remove.ensures.step.order ∙ inv.step.order;
         header_cluster = λ bits leave. c.rb_remove.ensures.step.header_cluster bits (inv.step.header_cluster bits leave);
       };
-      tables = c.rb_remove.ensures.tables ∙ inv.tables;
+      tables = c.rb_remove.ensures.removes.l2 ∙ inv.tables;
       clean = λ all. c.rb_remove.ensures.removes.clean (inv.clean all);
       sound = λ q a sound free.
           let before = inv.sound q a sound free in

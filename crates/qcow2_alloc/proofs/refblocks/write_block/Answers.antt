@@ -1,6 +1,7 @@
 use Rattle.std.proofs.Common.{ℕ, ◌≡◌, ◌+◌, ◌*◌, ◌^◌, ◌<◌, inl, Bool, Some, None, Result, Ok, length, IsFalse, IsSome, refl, sym, ap, ◌∙◌, subst, IfSome}
 use Rattle.qcow2_alloc.proofs.Common.{overwritten, StorageView, Changes, Calls, StorageError, byte_at-overwritten, HeaderFields, byte_at, cluster_size, RefBlockView, BlocksMayGo, Pending, placing, HasPlaceFor, HasBytesAt, InternalAllocatorStep, WritesBlock, of_storage, MetadataCaches, ImageStorage, KeepsPinsAndNotes, Allocator, ImageFile, contents_in, AllocatorInvariant, storage_of, order_of, l2_tables, rb_at, KeepSound, IsBlockOf, KeepsHeaderCluster}
 use Rattle.qcow2_alloc.specs.CacheSteps.{RemovesBlock}
+use Rattle.qcow2_alloc.proofs.KeptTables.Held.{held_same}
 use Rattle.qcow2_alloc.proofs.Lemmas.{file_step_then, handed_on, fault_of_storage, allocator_step_then, allocator_step_cached, IsFree, is_free, file_step_rewritten, reftable_rewritten, write_as, allocator_step_removed, spares_cached, spares_tables, spares_then, spares_written, kept_marks_then, placed_kept, marks_of_caches, marks_of_storage, fails_on, fails_ok, fails_since, fails_storage, same_faults, placed_elsewhere, fault_alone, file_fits, fails_of_tables}
 use Rattle.qcow2_alloc.proofs.refblocks.write_block.Goals as goal
 
@@ -87,7 +88,7 @@ returns g c = record {
       let elsewhere = placed_elsewhere c.args.block.now.cluster_bits c.args.block.now.bytes c.args.block.now.cluster (subst (λ o. IsSome o) (sym c.requires.placed) refl) (subst (λ o. IfSome o (λ k. 0 < k)) (sym c.requires.placed) c.requires.elsewhere) c.write_new_refblock.ensures.writes in record {
         header = refl;
         list = refl;
-        marks = kept_marks_then (kept_marks_then c.flush_rb.ensures.step.marks (marks_of_caches c.rb_remove.ensures.step.marks c.rb_remove.ensures.step.order)) (marks_of_storage refl (placed_kept c.flush_rb.new.storage c.set_write_kind.new.self c.write_new_refblock.new.self c.write_new_refblock.result c.set_write_kind.ensures.storage c.set_write_kind.ensures.changed c.args.block.now.cluster _ (subst (λ o. IsSome o) (sym c.requires.placed) refl) c.write_new_refblock.ensures.writes.written c.write_new_refblock.ensures.writes.calls c.write_new_refblock.ensures.writes.recorded));
+        marks = kept_marks_then (kept_marks_then c.flush_rb.ensures.step.marks (marks_of_caches c.rb_remove.ensures.step.marks c.rb_remove.ensures.step.order (held_same c.flush_rb.new.self c.rb_remove.new.self c.rb_remove.ensures.removes.l2))) (marks_of_storage refl (placed_kept c.flush_rb.new.storage c.set_write_kind.new.self c.write_new_refblock.new.self c.write_new_refblock.result c.set_write_kind.ensures.storage c.set_write_kind.ensures.changed c.args.block.now.cluster _ (subst (λ o. IsSome o) (sym c.requires.placed) refl) c.write_new_refblock.ensures.writes.written c.write_new_refblock.ensures.writes.calls c.write_new_refblock.ensures.writes.recorded));
         header_cluster = λ r bits.
             spares_then (spares_then (spares_cached r c.args.file.now c.flush_rb.new.storage c.flush_rb.new.self c.flush_rb.ensures.step.header_cluster) (spares_tables r flushed c.rb_remove.new.self c.rb_remove.ensures.step.header_cluster))
             (spares_written r (record flushed { caches = c.rb_remove.new.self }) c.args.block.now.cluster_bits c.write_new_refblock.new.self bits (subst (λ s. KeepsHeaderCluster c.args.block.now.cluster_bits (g.S.Storage.view s) (g.S.Storage.view (storage_of c.write_new_refblock.new.self))) c.set_write_kind.ensures.storage elsewhere));
@@ -125,7 +126,7 @@ returns-in_err-write_new_refblock-clause-step g c =
     let elsewhere = placed_elsewhere c.args.block.now.cluster_bits c.args.block.now.bytes c.args.block.now.cluster (subst (λ o. IsSome o) (sym c.requires.placed) refl) (subst (λ o. IfSome o (λ k. 0 < k)) (sym c.requires.placed) c.requires.elsewhere) c.write_new_refblock.ensures.writes in record {
       header = refl;
       list = refl;
-      marks = kept_marks_then (kept_marks_then c.flush_rb.ensures.step.marks (marks_of_caches c.rb_remove.ensures.step.marks c.rb_remove.ensures.step.order)) (marks_of_storage refl (placed_kept c.flush_rb.new.storage c.set_write_kind.new.self c.write_new_refblock.new.self c.write_new_refblock.result c.set_write_kind.ensures.storage c.set_write_kind.ensures.changed c.args.block.now.cluster _ (subst (λ o. IsSome o) (sym c.requires.placed) refl) c.write_new_refblock.ensures.writes.written c.write_new_refblock.ensures.writes.calls c.write_new_refblock.ensures.writes.recorded));
+      marks = kept_marks_then (kept_marks_then c.flush_rb.ensures.step.marks (marks_of_caches c.rb_remove.ensures.step.marks c.rb_remove.ensures.step.order (held_same c.flush_rb.new.self c.rb_remove.new.self c.rb_remove.ensures.removes.l2))) (marks_of_storage refl (placed_kept c.flush_rb.new.storage c.set_write_kind.new.self c.write_new_refblock.new.self c.write_new_refblock.result c.set_write_kind.ensures.storage c.set_write_kind.ensures.changed c.args.block.now.cluster _ (subst (λ o. IsSome o) (sym c.requires.placed) refl) c.write_new_refblock.ensures.writes.written c.write_new_refblock.ensures.writes.calls c.write_new_refblock.ensures.writes.recorded));
       header_cluster = λ r bits.
           spares_then (spares_then (spares_cached r c.args.file.now c.flush_rb.new.storage c.flush_rb.new.self c.flush_rb.ensures.step.header_cluster) (spares_tables r flushed c.rb_remove.new.self c.rb_remove.ensures.step.header_cluster))
           (spares_written r (record flushed { caches = c.rb_remove.new.self }) c.args.block.now.cluster_bits c.write_new_refblock.new.self bits (subst (λ s. KeepsHeaderCluster c.args.block.now.cluster_bits (g.S.Storage.view s) (g.S.Storage.view (storage_of c.write_new_refblock.new.self))) c.set_write_kind.ensures.storage elsewhere));

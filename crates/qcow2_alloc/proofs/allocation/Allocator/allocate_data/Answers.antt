@@ -4,13 +4,13 @@ use Rattle.qcow2_alloc.proofs.Lemmas.{hint_stays, ok_as, passed_still, handed_on
 use Rattle.qcow2_alloc.proofs.allocation.Allocator.allocate_data.Goals as goal
 
 pub returns-in_err-l2_depends_on_rb-clause-step : goal.returns-in_err-l2_depends_on_rb-clause-step
-returns-in_err-l2_depends_on_rb-clause-step g c = data_cached c.l2_depends_on_rb.ensures.step.marks.pins c.l2_depends_on_rb.ensures.step.marks.notes c.l2_depends_on_rb.ensures.step.header_cluster
+returns-in_err-l2_depends_on_rb-clause-step g c = data_cached c.l2_depends_on_rb.ensures.step.marks c.l2_depends_on_rb.ensures.step.header_cluster
 
 pub returns-in_err-l2_depends_on_rb-clause-fails : goal.returns-in_err-l2_depends_on_rb-clause-fails
 returns-in_err-l2_depends_on_rb-clause-fails g c = fails_on c.from_residual.result c.in_err-l2_depends_on_rb.field-0.0 c.from_residual.ensures (fails_of_tables c.in_err-l2_depends_on_rb.ensures.fails)
 
 pub returns-clause-step : goal.returns-clause-step
-returns-clause-step g c = data_then (data_cached c.l2_depends_on_rb.ensures.step.marks.pins c.l2_depends_on_rb.ensures.step.marks.notes c.l2_depends_on_rb.ensures.step.header_cluster) c.allocate.ensures.step
+returns-clause-step g c = data_then (data_cached c.l2_depends_on_rb.ensures.step.marks c.l2_depends_on_rb.ensures.step.header_cluster) c.allocate.ensures.step
 
 pub returns-clause-fails : goal.returns-clause-fails
 returns-clause-fails g c = fails_since c.in_ok-l2_depends_on_rb.ensures.fails.told c.allocate.ensures.fails

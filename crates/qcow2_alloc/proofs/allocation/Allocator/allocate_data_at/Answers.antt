@@ -40,16 +40,16 @@ not_given g c p sound why =
     }
 
 pub returns-in_err-l2_depends_on_rb-clause-step : goal.returns-in_err-l2_depends_on_rb-clause-step
-returns-in_err-l2_depends_on_rb-clause-step g c = data_cached c.l2_depends_on_rb.ensures.step.marks.pins c.l2_depends_on_rb.ensures.step.marks.notes c.l2_depends_on_rb.ensures.step.header_cluster
+returns-in_err-l2_depends_on_rb-clause-step g c = data_cached c.l2_depends_on_rb.ensures.step.marks c.l2_depends_on_rb.ensures.step.header_cluster
 
 pub returns-in_err-l2_depends_on_rb-clause-fails : goal.returns-in_err-l2_depends_on_rb-clause-fails
 returns-in_err-l2_depends_on_rb-clause-fails g c = fails_on c.from_residual.result c.in_err-l2_depends_on_rb.field-0.0 c.from_residual.ensures (fails_of_tables c.in_err-l2_depends_on_rb.ensures.fails)
 
 pub returns-then-not-is_nameable-clause-step : goal.returns-then-not-is_nameable-clause-step
-returns-then-not-is_nameable-clause-step g c = data_cached c.l2_depends_on_rb.ensures.step.marks.pins c.l2_depends_on_rb.ensures.step.marks.notes c.l2_depends_on_rb.ensures.step.header_cluster
+returns-then-not-is_nameable-clause-step g c = data_cached c.l2_depends_on_rb.ensures.step.marks c.l2_depends_on_rb.ensures.step.header_cluster
 
 pub returns-then-range-clause-step : goal.returns-then-range-clause-step
-returns-then-range-clause-step g c = data_cached c.l2_depends_on_rb.ensures.step.marks.pins c.l2_depends_on_rb.ensures.step.marks.notes c.l2_depends_on_rb.ensures.step.header_cluster
+returns-then-range-clause-step g c = data_cached c.l2_depends_on_rb.ensures.step.marks c.l2_depends_on_rb.ensures.step.header_cluster
 
 pub returns-then-not-is_nameable-clause-fails : goal.returns-then-not-is_nameable-clause-fails
 returns-then-not-is_nameable-clause-fails g c = fails_ok c.in_ok-l2_depends_on_rb.ensures.fails.told
@@ -58,31 +58,31 @@ pub returns-then-range-clause-fails : goal.returns-then-range-clause-fails
 returns-then-range-clause-fails g c = fails_ok c.in_ok-l2_depends_on_rb.ensures.fails.told
 
 pub returns-then-at-eq0-clause-step : goal.returns-then-at-eq0-clause-step
-returns-then-at-eq0-clause-step g c = data_cached c.l2_depends_on_rb.ensures.step.marks.pins c.l2_depends_on_rb.ensures.step.marks.notes c.l2_depends_on_rb.ensures.step.header_cluster
+returns-then-at-eq0-clause-step g c = data_cached c.l2_depends_on_rb.ensures.step.marks c.l2_depends_on_rb.ensures.step.header_cluster
 
 pub returns-then-at-eq0-clause-fails : goal.returns-then-at-eq0-clause-fails
 returns-then-at-eq0-clause-fails g c = fails_ok c.in_ok-l2_depends_on_rb.ensures.fails.told
 
 pub returns-in_default-clause-step : goal.returns-in_default-clause-step
-returns-in_default-clause-step g c = data_cached c.l2_depends_on_rb.ensures.step.marks.pins c.l2_depends_on_rb.ensures.step.marks.notes c.l2_depends_on_rb.ensures.step.header_cluster
+returns-in_default-clause-step g c = data_cached c.l2_depends_on_rb.ensures.step.marks c.l2_depends_on_rb.ensures.step.header_cluster
 
 pub returns-in_default-clause-fails : goal.returns-in_default-clause-fails
 returns-in_default-clause-fails g c = fails_by I.Memory memory_other c.in_ok-l2_depends_on_rb.ensures.fails.told tt
 
 pub returns-in-Ok-true-clause-step : goal.returns-in-Ok-true-clause-step
-returns-in-Ok-true-clause-step g c = data_then (data_cached c.l2_depends_on_rb.ensures.step.marks.pins c.l2_depends_on_rb.ensures.step.marks.notes c.l2_depends_on_rb.ensures.step.header_cluster) c.allocate_cluster.ensures.step
+returns-in-Ok-true-clause-step g c = data_then (data_cached c.l2_depends_on_rb.ensures.step.marks c.l2_depends_on_rb.ensures.step.header_cluster) c.allocate_cluster.ensures.step
 
 pub returns-in-Ok-true-clause-fails : goal.returns-in-Ok-true-clause-fails
 returns-in-Ok-true-clause-fails g c = fails_ok (c.in-Ok-true.ensures.fails.told ∙ c.in_ok-l2_depends_on_rb.ensures.fails.told)
 
 pub returns-in-Ok-false-clause-step : goal.returns-in-Ok-false-clause-step
-returns-in-Ok-false-clause-step g c = data_then (data_cached c.l2_depends_on_rb.ensures.step.marks.pins c.l2_depends_on_rb.ensures.step.marks.notes c.l2_depends_on_rb.ensures.step.header_cluster) c.allocate_cluster.ensures.step
+returns-in-Ok-false-clause-step g c = data_then (data_cached c.l2_depends_on_rb.ensures.step.marks c.l2_depends_on_rb.ensures.step.header_cluster) c.allocate_cluster.ensures.step
 
 pub returns-in-Ok-false-clause-fails : goal.returns-in-Ok-false-clause-fails
 returns-in-Ok-false-clause-fails g c = fails_ok (c.in-Ok-false.ensures.fails.told ∙ c.in_ok-l2_depends_on_rb.ensures.fails.told)
 
 pub returns-in-Err-clause-step : goal.returns-in-Err-clause-step
-returns-in-Err-clause-step g c = data_then (data_cached c.l2_depends_on_rb.ensures.step.marks.pins c.l2_depends_on_rb.ensures.step.marks.notes c.l2_depends_on_rb.ensures.step.header_cluster) c.allocate_cluster.ensures.step
+returns-in-Err-clause-step g c = data_then (data_cached c.l2_depends_on_rb.ensures.step.marks c.l2_depends_on_rb.ensures.step.header_cluster) c.allocate_cluster.ensures.step
 
 pub returns-in-Err-clause-fails : goal.returns-in-Err-clause-fails
 returns-in-Err-clause-fails g c = fails_since c.in_ok-l2_depends_on_rb.ensures.fails.told c.in-Err.ensures.fails

@@ -1,6 +1,6 @@
 use Rattle.std.proofs.Common.{◌^◌, refl}
 use Rattle.qcow2_alloc.proofs.Common.{FetchesBlock, contents_in}
-use Rattle.qcow2_alloc.proofs.Lemmas.{handed_on, place_fits, put_places, new_blocks_kept, not_first, fails_ok, fails_on, table_step_cached, table_step_none, all_fit, rb_place, block_alone, loads_of_tables}
+use Rattle.qcow2_alloc.proofs.Lemmas.{marks_with, handed_on, place_fits, put_places, new_blocks_kept, not_first, fails_ok, fails_on, table_step_cached, table_step_none, all_fit, rb_place, block_alone, loads_of_tables}
 use Rattle.qcow2_alloc.proofs.allocation.Allocator.bring_to_front.Goals as goal
 
 pub returns-in_default-clause-sound : goal.returns-in_default-clause-sound
@@ -11,7 +11,7 @@ returns-in_default-checked_cluster-clause-sound g c = λ q old first n blocks pl
 
 pub returns-in_err-rb_get_or_insert : goal.returns-in_err-rb_get_or_insert
 returns-in_err-rb_get_or_insert g c = record {
-  step = table_step_cached c.rb_get_or_insert.ensures.step.marks
+  step = table_step_cached (marks_with c.rb_get_or_insert.ensures.step.marks c.rb_get_or_insert.ensures.tables)
       (c.rb_get_or_insert.ensures.step.header_cluster (not_first c.in-Some-checked_cluster.cluster (2 ^ c.cluster_bits.result) c.in-Some.offset c.in-Some.ensures.some c.in-Some-checked_cluster.ensures.cluster));
   fails = fails_on c.from_residual.result c.in_err-rb_get_or_insert.field-0.0 c.from_residual.ensures (loads_of_tables c.in_err-rb_get_or_insert.ensures.fails);
   sound = λ q old first n blocks places.
@@ -30,7 +30,7 @@ returns-in_err-rb_get_or_insert g c = record {
 
 pub returns : goal.returns
 returns g c = record {
-  step = table_step_cached c.rb_get_or_insert.ensures.step.marks
+  step = table_step_cached (marks_with c.rb_get_or_insert.ensures.step.marks c.rb_get_or_insert.ensures.tables)
       (c.rb_get_or_insert.ensures.step.header_cluster (not_first c.in-Some-checked_cluster.cluster (2 ^ c.cluster_bits.result) c.in-Some.offset c.in-Some.ensures.some c.in-Some-checked_cluster.ensures.cluster));
   fails = fails_ok c.in_ok-rb_get_or_insert.ensures.fails.told;
   sound = λ q old first n blocks places.

@@ -1,5 +1,6 @@
 use Rattle.std.proofs.Common.{◌≡◌, ◌==◌, ◌/◌, ◌%◌, ◌^◌, ℕ, true, Option, Some, None, Ok, refl, ap, ◌∙◌, sym, subst, IfSome, IsSome}
 use Rattle.qcow2_alloc.proofs.Common.{unwrap_or, one_at, owed_as, DecrementsOne, KeepsNoFreeBelowHint, contents_in, ReportsCount, NamesBlock, TriesToDecrement}
+use Rattle.qcow2_alloc.proofs.KeptTables.Held.{held_same}
 use Rattle.qcow2_alloc.proofs.Lemmas.{search_same, hint_lowered, is_zero, lowered_so, passed_still, stands_still, hint_refused, handed_on, of_equal, allocator_step_as, may_lower_still, counted_at, given_one, owed_counted, owed_has_block, marks_of_caches, handed_unaligned, ok_no_err, fails_ok, fails_on, table_step_as, table_step_tables, table_step_then}
 use Rattle.qcow2_alloc.proofs.Leaks.{tried}
 use Rattle.qcow2_alloc.specs.declared.error.ImageError.TheVariants as I
@@ -84,10 +85,10 @@ returns-clause-tries g c =
     let found = rw c.in-Some.is at c.in_ok-block.ensures.finds in
     let names = subst (λ n. NamesBlock h c.args.self.now.reftable (c.args.cluster / n) (Some c.in-Some.block)) (sym c.rb_bits-bits.ensures.counts) found.names in
     rw c.is_some.ensures (tried h c.args.self.now.reftable c.args.file.now.caches c.load_block.new.file.caches c.rb_release-left.new.self c.load_block.ensures.loads c.in-Some.block c.rb_index-index.result c.args.cluster index names c.rb_release-left.result
-    c.rb_release-left.ensures.counts c.rb_release-left.ensures.missing c.rb_release-left.ensures.recorded c.rb_release-left.ensures.refused c.rb_release-left.ensures.apart)
+    c.rb_release-left.ensures.counts c.rb_release-left.ensures.missing c.rb_release-left.ensures.recorded c.rb_release-left.ensures.refused c.rb_release-left.ensures.sound.l2)
 
 pub returns-clause-step : goal.returns-clause-step
-returns-clause-step g c = table_step_as c.record_decrement.ensures.reftable refl (table_step_then c.load_block.ensures.step (table_step_tables (marks_of_caches c.rb_release-left.ensures.step.marks c.rb_release-left.ensures.step.order) c.rb_release-left.ensures.step.header_cluster))
+returns-clause-step g c = table_step_as c.record_decrement.ensures.reftable refl (table_step_then c.load_block.ensures.step (table_step_tables (marks_of_caches c.rb_release-left.ensures.step.marks c.rb_release-left.ensures.step.order (held_same c.load_block.new.file.caches c.rb_release-left.new.self c.rb_release-left.ensures.sound.l2)) c.rb_release-left.ensures.step.header_cluster))
 
 pub returns-clause-fails : goal.returns-clause-fails
 returns-clause-fails g c = fails_ok c.in_ok-block.ensures.fails.told

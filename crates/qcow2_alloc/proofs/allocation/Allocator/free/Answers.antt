@@ -78,7 +78,7 @@ pub returns-in_err-free_kind-clause-fails : goal.returns-in_err-free_kind-clause
 returns-in_err-free_kind-clause-fails g c = fails_on c.from_residual.result c.in_err-free_kind.field-0.0 c.from_residual.ensures (fails_as (λ e is. inl is) c.in_err-free_kind.ensures.frees.fails)
 
 pub returns-in_err-rb_depends_on_l2-clause-step : goal.returns-in_err-rb_depends_on_l2-clause-step
-returns-in_err-rb_depends_on_l2-clause-step g c = turn_then (free_in_turn c.free_kind.ensures.frees.step) (turn_cached c.rb_depends_on_l2.ensures.step.marks.pins c.rb_depends_on_l2.ensures.step.marks.notes c.rb_depends_on_l2.ensures.step.header_cluster)
+returns-in_err-rb_depends_on_l2-clause-step g c = turn_then (free_in_turn c.free_kind.ensures.frees.step) (turn_cached c.rb_depends_on_l2.ensures.step.marks c.rb_depends_on_l2.ensures.step.header_cluster)
 
 pub returns-in_err-rb_depends_on_l2-clause-fails : goal.returns-in_err-rb_depends_on_l2-clause-fails
 returns-in_err-rb_depends_on_l2-clause-fails g c = fails_on c.from_residual-in_err-rb_depends_on_l2.result c.in_err-rb_depends_on_l2.field-0.0 c.from_residual-in_err-rb_depends_on_l2.ensures (fails_since c.in_ok-free_kind.ensures.frees.fails.told (fails_as (λ e is. elim is [ inl fault ↦ inl fault | inr limit ↦ inr limit.0 ]) c.in_err-rb_depends_on_l2.ensures.fails))
@@ -90,7 +90,7 @@ pub returns-then-is_empty-clause-fails : goal.returns-then-is_empty-clause-fails
 returns-then-is_empty-clause-fails g c = fails_ok c.in_ok-free_kind.ensures.frees.fails.told
 
 pub returns-clause-step : goal.returns-clause-step
-returns-clause-step g c = turn_then (turn_then (free_in_turn c.free_kind.ensures.frees.step) (turn_cached c.rb_depends_on_l2.ensures.step.marks.pins c.rb_depends_on_l2.ensures.step.marks.notes c.rb_depends_on_l2.ensures.step.header_cluster)) (free_in_turn c.free_kind-2.ensures.frees.step)
+returns-clause-step g c = turn_then (turn_then (free_in_turn c.free_kind.ensures.frees.step) (turn_cached c.rb_depends_on_l2.ensures.step.marks c.rb_depends_on_l2.ensures.step.header_cluster)) (free_in_turn c.free_kind-2.ensures.frees.step)
 
 pub returns-clause-fails : goal.returns-clause-fails
 returns-clause-fails g c = fails_since (c.in_ok-rb_depends_on_l2.ensures.fails.told ∙ c.in_ok-free_kind.ensures.frees.fails.told) (fails_as (λ e is. inl is) c.free_kind-2.ensures.frees.fails)

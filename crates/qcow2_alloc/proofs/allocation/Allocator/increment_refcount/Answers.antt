@@ -1,5 +1,6 @@
 use Rattle.std.proofs.Common.{◌≡◌, ◌==◌, ◌/◌, ◌%◌, ◌^◌, inl, inr, Bool, true, false, Ok, refl, sym, ap, ◌∙◌, arith}
 use Rattle.qcow2_alloc.proofs.Common.{nat_tests, block_offset, count, entry_at, known_in, contents_in, AllocatesGivenSoundly}
+use Rattle.qcow2_alloc.proofs.KeptTables.Held.{held_same}
 use Rattle.qcow2_alloc.proofs.Lemmas.{allocator_step_none, handed_on, of_equal, counted_at, none_in_memory, taken_one, is_zero, used_stays, marks_of_caches, fails_on, table_step_none, table_step_tables, table_step_then}
 use Rattle.qcow2_alloc.proofs.allocation.Allocator.increment_refcount.Goals as goal
 
@@ -14,7 +15,7 @@ not_both : (b : Bool) → b ≡ true → b ≡ false → ⊥
 not_both b yes_so no_so = let bad : true ≡ false = sym yes_so ∙ no_so in cc
 
 pub returns-clause-step : goal.returns-clause-step
-returns-clause-step g c = table_step_then c.load_block.ensures.step (table_step_tables (marks_of_caches c.rb_allocate.ensures.step.marks c.rb_allocate.ensures.step.order) c.rb_allocate.ensures.step.header_cluster)
+returns-clause-step g c = table_step_then c.load_block.ensures.step (table_step_tables (marks_of_caches c.rb_allocate.ensures.step.marks c.rb_allocate.ensures.step.order (held_same c.load_block.new.file.caches c.rb_allocate.new.self c.rb_allocate.ensures.sound.l2)) c.rb_allocate.ensures.step.header_cluster)
 
 pub returns-in_err-block-clause-fails : goal.returns-in_err-block-clause-fails
 returns-in_err-block-clause-fails g c = fails_on c.from_residual.result c.in_err-block.field-0.0 c.from_residual.ensures c.in_err-block.ensures.fails

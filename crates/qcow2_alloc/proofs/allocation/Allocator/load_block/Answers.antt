@@ -1,6 +1,6 @@
 use Rattle.std.proofs.Common.{◌^◌, refl, inl}
 use Rattle.qcow2_alloc.proofs.Common.{LoadsBlock, contents_in}
-use Rattle.qcow2_alloc.proofs.Lemmas.{file_step_cached, reftable_cached, handed_on, place_fits, names_refblock, not_first, fails_ok, fails_on, table_step_cached, table_step_none, rb_place, block_alone, file_fits, loads_of_tables}
+use Rattle.qcow2_alloc.proofs.Lemmas.{marks_with, file_step_cached, reftable_cached, handed_on, place_fits, names_refblock, not_first, fails_ok, fails_on, table_step_cached, table_step_none, rb_place, block_alone, file_fits, loads_of_tables}
 use Rattle.qcow2_alloc.proofs.AlignedBlocks.{not_off}
 use Rattle.qcow2_alloc.proofs.FreedEach.{blocks_loaded, blocks_same, loads_got}
 use Rattle.qcow2_alloc.proofs.allocation.Allocator.load_block.Goals as goal
@@ -36,11 +36,11 @@ pub returns-clause-unaligned : goal.returns-clause-unaligned
 returns-clause-unaligned g c = λ u. not_off c.args.file.now.header.fields c.args.self.now.reftable c.args.range c.in-Some-checked_cluster.cluster c.cluster_bits.result c.in-Some.offset c.in-Some.ensures.offset c.in-Some-checked_cluster.ensures.cluster c.cluster_bits.ensures.value u
 
 pub returns-in_err-rb_get_or_insert-clause-step : goal.returns-in_err-rb_get_or_insert-clause-step
-returns-in_err-rb_get_or_insert-clause-step g c = table_step_cached c.rb_get_or_insert.ensures.step.marks
+returns-in_err-rb_get_or_insert-clause-step g c = table_step_cached (marks_with c.rb_get_or_insert.ensures.step.marks c.rb_get_or_insert.ensures.tables)
     (c.rb_get_or_insert.ensures.step.header_cluster (not_first c.in-Some-checked_cluster.cluster (2 ^ c.cluster_bits.result) c.in-Some.offset c.in-Some.ensures.some c.in-Some-checked_cluster.ensures.cluster))
 
 pub returns-clause-step : goal.returns-clause-step
-returns-clause-step g c = table_step_cached c.rb_get_or_insert.ensures.step.marks
+returns-clause-step g c = table_step_cached (marks_with c.rb_get_or_insert.ensures.step.marks c.rb_get_or_insert.ensures.tables)
     (c.rb_get_or_insert.ensures.step.header_cluster (not_first c.in-Some-checked_cluster.cluster (2 ^ c.cluster_bits.result) c.in-Some.offset c.in-Some.ensures.some c.in-Some-checked_cluster.ensures.cluster))
 
 pub returns-in_default-clause-step : goal.returns-in_default-clause-step

@@ -1,5 +1,6 @@
 use Rattle.std.proofs.Common.{ℕ, refl, ◌≡◌, ◌+◌, ◌*◌, ◌/◌, ◌<◌, ◌≤◌, sym, ap, ◌∙◌, subst, arith, Some, inl, IfSome}
 use Rattle.qcow2_alloc.proofs.Common.{HeaderFields, EntryTableView, entry_count, cluster_size, HeaderView, AreClean, ImageFile, MetadataCaches, run_at, NamesLacking, HasBytesAt, faults_of, with_run, NamesReftable, StandsGrown, contents_in, AllocatorInvariant, KeepsUsed, order_of, l2_tables, refblocks, rb_at, room_length, placed_at, EntersRoom, or_left, is_changed_of}
+use Rattle.qcow2_alloc.proofs.KeptTables.Held.{listed_same}
 use Rattle.qcow2_alloc.proofs.Lemmas.{fails_moved, fails_aligned, handed_on, allocator_step_cached, allocator_step_then, is_sound_now, leaves_then, file_sizes, Counting, may_go, new_blocks_refused, counting_beside, table_err, table_ok, stands_ready, names_then, uses_after, ok_as, uses_refused, fails_on, fails_since, fails_still, pointer_step_on, pointer_step_then, table_step_cached, table_step_dropped, table_step_then, table_step_part, pointer_step_to, fault_alone, file_fits, fails_of_tables}
 use Rattle.qcow2_alloc.proofs.allocation.Allocator.write_reftable.Goals as goal
 
@@ -61,7 +62,7 @@ returns-in_err-place_table-clause-sound g c = λ p sound longer.
     let three = allocator_step_then view q q old f2 f3 a a two dropped.allocator_step in
     let header_two = ap (λ (x : HeaderView). x.fields) c.place_blocks-placed.ensures.step.header in
     let header_three : f3.header.fields ≡ h = ap (λ (x : ImageFile _). x.header.fields) c.drop_blocks.ensures.rest ∙ header_two in
-    let may_three = may_go f2 f3 c.drop_blocks.ensures.step.order c.drop_blocks.ensures.tables placed.may in
+    let may_three = may_go f2 f3 c.drop_blocks.ensures.step.order (listed_same f2.caches f3.caches c.drop_blocks.ensures.tables) placed.may in
     let at_is = c.new.ensures in
     let low : c.args.room.first ≤ c.new.result = omega (arith, at_is) in
     let high : c.new.result + c.args.room.clusters ≤ c.args.room.first + room_length c.args.room = omega (arith, at_is) in
@@ -96,7 +97,7 @@ returns-clause-sound g c = λ p sound longer.
     let three = allocator_step_then view q q old f2 f3 a a two dropped.allocator_step in
     let header_two = ap (λ (x : HeaderView). x.fields) c.place_blocks-placed.ensures.step.header in
     let header_three : f3.header.fields ≡ h = ap (λ (x : ImageFile _). x.header.fields) c.drop_blocks.ensures.rest ∙ header_two in
-    let may_three = may_go f2 f3 c.drop_blocks.ensures.step.order c.drop_blocks.ensures.tables placed.may in
+    let may_three = may_go f2 f3 c.drop_blocks.ensures.step.order (listed_same f2.caches f3.caches c.drop_blocks.ensures.tables) placed.may in
     let at_is = c.new.ensures in
     let low : c.args.room.first ≤ c.new.result = omega (arith, at_is) in
     let high : c.new.result + c.args.room.clusters ≤ c.args.room.first + room_length c.args.room = omega (arith, at_is) in
@@ -134,14 +135,14 @@ pub returns-in_err-before_rb-clause-fails : goal.returns-in_err-before_rb-clause
 returns-in_err-before_rb-clause-fails g c = fails_on c.from_residual.result c.in_err-before_rb.field-0.0 c.from_residual.ensures (fails_of_tables c.in_err-before_rb.ensures.fails)
 
 pub returns-in_err-placed-clause-step : goal.returns-in_err-placed-clause-step
-returns-in_err-placed-clause-step g c = pointer_step_on (table_step_then (table_step_then (table_step_cached c.before_rb.ensures.step.marks c.before_rb.ensures.step.header_cluster) c.place_blocks-placed.ensures.step) (table_step_dropped c.drop_blocks.ensures.rest c.drop_blocks.ensures.step))
+returns-in_err-placed-clause-step g c = pointer_step_on (table_step_then (table_step_then (table_step_cached c.before_rb.ensures.step.marks c.before_rb.ensures.step.header_cluster) c.place_blocks-placed.ensures.step) (table_step_dropped c.drop_blocks.ensures.rest c.drop_blocks.ensures.step c.drop_blocks.ensures.tables))
 
 pub returns-in_err-placed-clause-fails : goal.returns-in_err-placed-clause-fails
 returns-in_err-placed-clause-fails g c = fails_on c.from_residual-in_err-placed.result c.in_err-placed.field-0.0 c.from_residual-in_err-placed.ensures (fails_moved (ap (λ (x : ImageFile _). x.header.fields) c.drop_blocks.ensures.rest) refl (fails_still (fails_since c.in_ok-before_rb.ensures.fails.told c.in_err-placed.ensures.fails) (ap (λ (x : ImageFile _). faults_of g.S.Storage.view x.storage) c.drop_blocks.ensures.rest)))
 
 pub returns-in_err-place_table-clause-step : goal.returns-in_err-place_table-clause-step
 returns-in_err-place_table-clause-step g c =
-    let before = table_step_then (table_step_then (table_step_cached c.before_rb.ensures.step.marks c.before_rb.ensures.step.header_cluster) c.place_blocks-placed.ensures.step) (table_step_dropped c.drop_blocks.ensures.rest c.drop_blocks.ensures.step) in
+    let before = table_step_then (table_step_then (table_step_cached c.before_rb.ensures.step.marks c.before_rb.ensures.step.header_cluster) c.place_blocks-placed.ensures.step) (table_step_dropped c.drop_blocks.ensures.rest c.drop_blocks.ensures.step c.drop_blocks.ensures.tables) in
     pointer_step_on (table_step_then before (table_step_part (ap (λ (x : EntryTableView). x.cluster_bits) c.place_blocks-placed.ensures.table.rest ∙ c.requires.room.bits ∙ sym (ap (λ (x : HeaderView). x.fields.cluster_bits) before.header)) c.place_table.ensures.step))
 
 pub returns-in_err-place_table-clause-fails : goal.returns-in_err-place_table-clause-fails
@@ -150,7 +151,7 @@ returns-in_err-place_table-clause-fails g c =
 
 pub returns-clause-step : goal.returns-clause-step
 returns-clause-step g c =
-    let before = table_step_then (table_step_then (table_step_cached c.before_rb.ensures.step.marks c.before_rb.ensures.step.header_cluster) c.place_blocks-placed.ensures.step) (table_step_dropped c.drop_blocks.ensures.rest c.drop_blocks.ensures.step) in
+    let before = table_step_then (table_step_then (table_step_cached c.before_rb.ensures.step.marks c.before_rb.ensures.step.header_cluster) c.place_blocks-placed.ensures.step) (table_step_dropped c.drop_blocks.ensures.rest c.drop_blocks.ensures.step c.drop_blocks.ensures.tables) in
     let bits = ap (λ (x : EntryTableView). x.cluster_bits) c.place_blocks-placed.ensures.table.rest ∙ c.requires.room.bits ∙ sym (ap (λ (x : HeaderView). x.fields.cluster_bits) before.header) in
     pointer_step_then (pointer_step_on (table_step_then before (table_step_part bits c.place_table.ensures.step))) (pointer_step_to (record {
       bits = ap (λ (x : EntryTableView). x.cluster_bits) c.place_table.ensures.table ∙ bits ∙ sym (ap (λ (x : HeaderView). x.fields.cluster_bits) c.place_table.ensures.step.header);

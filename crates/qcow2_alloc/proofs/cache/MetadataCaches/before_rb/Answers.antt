@@ -22,9 +22,3 @@ returns-in-None-clause-sound g c = soundly_none
 
 pub returns-in-None-clause-way : goal.returns-in-None-clause-way
 returns-in-None-clause-way g c = record { stays = refl; changes = (refl, refl); others_stay = λ _. refl; first = blocks_free c.args.self.now c.in-None.is; quiet = λ _ honest. quiet_none _ honest }
-
-pub returns-in-RbDependsOnL2-clause-held : goal.returns-in-RbDependsOnL2-clause-held
-returns-in-RbDependsOnL2-clause-held g c = c.write_tables.ensures.held
-
-pub returns-in-None-clause-held : goal.returns-in-None-clause-held
-returns-in-None-clause-held g c = λ k. refl

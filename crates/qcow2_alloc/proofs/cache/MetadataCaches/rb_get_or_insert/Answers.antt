@@ -45,7 +45,7 @@ returns-in_err-before_rb g c =
       fails = fails_since (one.tries.told.same _ c.in_ok-branch.was) (fails_on c.from_residual-in_err-before_rb.result c.in_err-before_rb.field-0.0 c.from_residual-in_err-before_rb.ensures (fails_putting (λ fit. fit.0.0) c.in_err-before_rb.ensures.fails));
       sound = soundly_then refl one.sound c.before_rb.ensures.sound;
       gets = gets_none RbDependsOnL2 one (c.in_ok-branch.was ∙ ap Ok c.if-branch.false) c.before_rb.ensures.way c.from_residual-in_err-before_rb.result (on_no_ok _ c.from_residual-in_err-before_rb.result c.in_err-before_rb.field-0.0 c.from_residual-in_err-before_rb.ensures);
-      tables = c.before_rb.ensures.held;
+      tables = c.before_rb.ensures.step.marks.tables;
       held = λ there. absurd (let bad = sym (one.hit there).0 ∙ c.in_ok-branch.was ∙ ap Ok c.if-branch.false in cc);
     }
 
@@ -61,7 +61,7 @@ returns-in_err-branch-2 g c =
           (block_load_as c.args.self.now c.before_rb.new.self (of_cache c.in_err-branch-2.field-0.0) c.args.cluster (held one.tries full c.before_rb.ensures.way) (two.tries.refused c.in_err-branch-2.field-0.0 c.in_err-branch-2.was)));
       sound = soundly_then c.before_rb.ensures.step.marks.order (soundly_then refl one.sound c.before_rb.ensures.sound) two.sound;
       gets = gets_again RbDependsOnL2 one full c.before_rb.ensures.way two c.from_residual-in_err-branch-2.result (on_no_ok _ c.from_residual-in_err-branch-2.result (of_cache c.in_err-branch-2.field-0.0) c.from_residual-in_err-branch-2.ensures);
-      tables = c.before_rb.ensures.held;
+      tables = c.before_rb.ensures.step.marks.tables;
       held = λ there. absurd (let bad = sym (one.hit there).0 ∙ full in cc);
     }
 
@@ -76,7 +76,7 @@ returns g c =
       gets = gets_again RbDependsOnL2 one (c.in_ok-branch.was ∙ ap Ok c.if-branch.false) c.before_rb.ensures.way two (Ok tt)
           (held_in_front c.args.cluster c.get_or_insert-2.new.self.entries (c.in_ok-get_or_insert-2.ensures.front
           (got_at_last (rb_steps (λ s. g.S.Storage.view (storage_of s)) c.before_rb.new.self.rb.backend.header.fields) c.before_rb.new.self.rb.size c.args.cluster c.before_rb.new.storage c.get_or_insert-2.new.store c.before_rb.new.self.rb.entries c.get_or_insert-2.new.self.entries c.in_ok-get_or_insert-2.field-0 c.in_ok-branch-2.field-0 c.in_ok-branch-2.was c.in_ok-get_or_insert-2.ensures.hit c.in_ok-get_or_insert-2.ensures.miss)));
-      tables = c.before_rb.ensures.held;
+      tables = c.before_rb.ensures.step.marks.tables;
       held = λ there. absurd (let bad = sym (one.hit there).0 ∙ c.in_ok-branch.was ∙ ap Ok c.if-branch.false in cc);
     }
 
@@ -106,4 +106,4 @@ pub returns-in_err-get_or_insert-clause-tables : goal.returns-in_err-get_or_inse
 returns-in_err-get_or_insert-clause-tables g c = λ k. refl
 
 pub returns-in_err-get_or_insert-2-clause-tables : goal.returns-in_err-get_or_insert-2-clause-tables
-returns-in_err-get_or_insert-2-clause-tables g c = c.before_rb.ensures.held
+returns-in_err-get_or_insert-2-clause-tables g c = c.before_rb.ensures.step.marks.tables

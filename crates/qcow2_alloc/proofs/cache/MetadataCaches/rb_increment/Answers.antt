@@ -27,6 +27,7 @@ returns-in_default g c =
         made = λ h p on_storage k sound at there counted.
             absurd (count_there c.args.self.now c.args.cluster (Refuses c.args.index) c.args.index h p on_storage k sound at there left.1 (λ b inside is refused. not_full b.refcount_order (count_at b c.args.index) (sym is ∙ counted) (refused inside)));
         apart = block_stays_apart c.args.self.now c.args.cluster c.change.ensures.distinct;
+        l2 = refl;
       });
       counts = left.1;
       recorded = λ bad. never bad;
@@ -47,6 +48,7 @@ returns g c =
                 (count_after c.args.self.now c.args.cluster ch.after c.one_more-self.result c.one_more-self.ensures) refl refl refl ch.by.1.counted free;
             made = λ h p on_storage k sound at there counted. refl;
             apart = count_apart c.args.self.now c.args.cluster ch.after c.one_more-self.result c.one_more-self.ensures c.change.ensures.distinct;
+            l2 = refl;
           });
       counts = rw ch.is (if_some _ (value_at (eqb c.args.cluster) c.args.self.now.rb.entries) ch.before ch.found (ch.by.1.inside, ch.by.0, count_set c.args.self.now c.args.cluster ch.after c.one_more-self.result c.one_more-self.ensures ch.found ch.by.1));
       recorded = λ _. c.one_more-self.ensures;

@@ -21,6 +21,7 @@ returns-in_err-branch g c =
       step = put_step_as is one.step;
       fails = fails_cache c.in_ok-insert.field-0 e c.from_residual-in_err-branch.result one.tries.told c.in_err-branch.was c.from_residual-in_err-branch.ensures (block_put_as c.args.self.now c.args.self.now (of_cache e) refl (one.tries.refused e c.in_err-branch.was));
       sound = puts_refused c.from_residual-in_err-branch.result (of_cache e) c.from_residual-in_err-branch.ensures (one.sound (λ went. let bad = sym c.in_err-branch.was ∙ went in cc));
+      tables = λ k. refl;
       puts = puts_at_once one c.args.block.cluster is RbDependsOnL2 c.from_residual-in_err-branch.result (on_no_ok _ c.from_residual-in_err-branch.result (of_cache e) c.from_residual-in_err-branch.ensures);
     }
 
@@ -34,6 +35,7 @@ returns-then-branch g c =
       step = put_step_as is one.step;
       fails = fails_ok (one.tries.told.same _ c.in_ok-branch.was);
       sound = soundly_at_once one c.args.block.cluster is went;
+      tables = λ k. refl;
       puts = puts_at_once one c.args.block.cluster is RbDependsOnL2 (Ok tt) (if_some _ c.args.block.cluster c.in-Some.cluster is (one.taken.new_data went));
     }
 
@@ -48,6 +50,7 @@ returns-in_err-before_rb g c =
       step = put_step_as is (put_step_then one.step (put_step_on c.before_rb.ensures.step));
       fails = fails_since (one.tries.told.same _ c.in_ok-branch.was) (fails_on c.from_residual-in_err-before_rb.result e c.from_residual-in_err-before_rb.ensures (fails_putting (λ fit. fit.0) c.in_err-before_rb.ensures.fails));
       sound = puts_refused c.from_residual-in_err-before_rb.result e c.from_residual-in_err-before_rb.ensures (soundly_then refl (one.sound (λ went. let bad = sym full ∙ went in cc)) c.before_rb.ensures.sound);
+      tables = c.before_rb.ensures.step.marks.tables;
       puts = puts_none one c.args.block.cluster is full c.before_rb.ensures.way c.from_residual-in_err-before_rb.result (on_no_ok _ c.from_residual-in_err-before_rb.result e c.from_residual-in_err-before_rb.ensures);
     }
 
@@ -66,6 +69,7 @@ returns-in_err-branch-2 g c =
           (block_put_as c.args.self.now c.before_rb.new.self (of_cache e) (held one.tries full c.before_rb.ensures.way) (two.tries.refused e c.in_err-branch-2.was)));
       sound = puts_refused c.from_residual-in_err-branch-2.result (of_cache e) c.from_residual-in_err-branch-2.ensures
           (soundly_then c.before_rb.ensures.step.marks.order (soundly_then refl (one.sound (λ went. let bad = sym full ∙ went in cc)) c.before_rb.ensures.sound) (two.sound (λ went. let bad = sym c.in_err-branch-2.was ∙ went in cc)));
+      tables = c.before_rb.ensures.step.marks.tables;
       puts = puts_again one c.args.block.cluster is full c.before_rb.ensures.way two c.from_residual-in_err-branch-2.result (on_no_ok _ c.from_residual-in_err-branch-2.result (of_cache e) c.from_residual-in_err-branch-2.ensures);
     }
 
@@ -91,6 +95,7 @@ returns g c =
           let k = kept.keeps h p honest sound in
           if_some _ c.args.block.cluster c.in-Some.cluster is (λ free. laid_then view h p c.args.storage.now c.before_rb.new.storage c.insert-2.new.store a before d (laid_at h c.in-Some.cluster c.args.block.bytes) _ _ k (rw is at (two.lays went h p k.honest k.sound fits marked) (c.before_rb.ensures.free (cluster_size h) c.in-Some.cluster free))))
           (λ h honest are. if_some _ c.args.block.cluster c.in-Some.cluster is (blocks_under_then view c.args.storage.now c.before_rb.new.storage c.insert-2.new.store a before d c.in-Some.cluster c.args.block.bytes c.args.block.is_modified same kept.apart (λ h honest are. rw is at (two.lays_apart went h honest are)) h honest are));
+      tables = c.before_rb.ensures.step.marks.tables;
       puts = puts_again one c.args.block.cluster is full c.before_rb.ensures.way two (Ok tt) (if_some _ c.args.block.cluster c.in-Some.cluster is (two.taken.new_data went));
     }
 
@@ -105,6 +110,7 @@ returns-in_err-insert-2 g c = record {
       let full = c.in_ok-branch.was ∙ ap Ok c.if-branch.false in
       rw (c.in_err-insert-2.ensures.refused.0, c.in_err-insert-2.ensures.refused.1) (puts_refused c.from_residual-in_err-insert-2.result I.Memory c.from_residual-in_err-insert-2.ensures
       (soundly_then refl ((tried g (goal.at.returns-in_err-insert-2 g c).In_ok-insert).sound (λ went. let bad = sym full ∙ went in cc)) c.before_rb.ensures.sound));
+  tables = c.before_rb.ensures.step.marks.tables;
   puts =
       let path = goal.at.returns-in_err-insert-2 g c in
       rw (c.in_err-insert-2.ensures.refused.0, c.in_err-insert-2.ensures.refused.1) (puts_none (tried g path.In_ok-insert) c.args.block.cluster (sym c.get_cluster.ensures.value ∙ c.in-Some.is) (c.in_ok-branch.was ∙ ap Ok c.if-branch.false) c.before_rb.ensures.way c.from_residual-in_err-insert-2.result
@@ -127,3 +133,6 @@ returns-in_err-insert-clause-puts g c =
       others_stay = λ _. refl;
       quiet = if_some _ c.args.block.cluster c.in-Some.cluster (sym c.get_cluster.ensures.value ∙ c.in-Some.is) (λ may honest. rw c.in_err-insert.ensures.refused.1 (quiet_none (g.S.Storage.view (storage_of c.args.storage.now)) honest));
     }
+
+pub returns-in_err-insert-clause-tables : goal.returns-in_err-insert-clause-tables
+returns-in_err-insert-clause-tables g c = λ k. refl

@@ -23,6 +23,7 @@ returns-in_err-left-clause-sound g c =
       made = λ h p on_storage k sound at there counted.
           absurd (count_there c.args.self.now c.args.cluster (Refuses c.args.index) c.args.index h p on_storage k sound at there left.1 (λ b inside is refused. counted (is ∙ refused inside)));
       apart = block_stays_apart c.args.self.now c.args.cluster c.change.ensures.distinct;
+      l2 = refl;
     })
 
 pub returns-in_err-left-clause-counts : goal.returns-in_err-left-clause-counts
@@ -49,6 +50,7 @@ returns g c =
                 (count_after c.args.self.now c.args.cluster ch.after c.one_more-self.result c.one_more-self.ensures) refl refl refl fewer (one_above (count_at ch.before c.args.index) c.in_ok-left.left ch.by.0);
             made = λ h p on_storage k sound at there counted. refl;
             apart = count_apart c.args.self.now c.args.cluster ch.after c.one_more-self.result c.one_more-self.ensures c.change.ensures.distinct;
+            l2 = refl;
           });
       counts = rw ch.is (if_some _ (value_at (eqb c.args.cluster) c.args.self.now.rb.entries) ch.before ch.found (ch.by.1.inside, ch.by.0, count_set c.args.self.now c.args.cluster ch.after c.one_more-self.result c.one_more-self.ensures ch.found ch.by.1));
       left =
@@ -58,6 +60,5 @@ returns g c =
       recorded = λ _. c.one_more-self.ensures;
       refused = λ none. absurd cc;
       cached = λ _. rw ch.is (still_new_data c.args.cluster c.args.self.now.rb.entries ch.before ch.after ch.found);
-      apart = refl;
       missing = λ none. let bad = subst (λ (o : Option RefBlockView). IsNone o) ch.found none in cc;
     }

@@ -18,4 +18,5 @@ returns-clause-removes g c = record {
   taken_apart = removed_apart_block c.args.self.now c.args.cluster c.remove.result c.remove.new.self c.remove.ensures.value c.remove.ensures.entries c.remove.ensures.distinct;
   gone = removed_gone c.args.self.now c.args.cluster c.remove.result c.remove.new.self c.remove.ensures.value c.remove.ensures.entries;
   clean = removed_clean c.args.self.now c.args.cluster c.remove.result c.remove.new.self c.remove.ensures.value c.remove.ensures.entries;
+  l2 = refl;
 }

@@ -1,6 +1,5 @@
 use Rattle.qcow2_alloc.proofs.Common.{ℕ, false, Err, inl, refl, ◌∙◌, sym, ap, subst, of_cache, IsFaultOr, TablesFit, storage_of, met_fault_of, L2TableView, IsFreeOf, Cache, cached_tables, L2CacheBackend, l2_steps}
 use Rattle.qcow2_alloc.proofs.Lemmas.{tables_written, tables_flush_refused, flush_free, tables_quiet, flush_refused, told_as, l2_flush_tells, watched_step, watched_soundly, l2_flushed_step, l2_flushed_soundly, fails_ok, fails_of}
-use Rattle.qcow2_alloc.proofs.KeptTables.Held.{tables_held}
 use Rattle.qcow2_alloc.proofs.cache.MetadataCaches.write_tables.Goals as goal
 
 pub returns-in-Err : goal.returns-in-Err
@@ -19,7 +18,6 @@ returns-in-Err g c = record {
     written = tt;
     quiet = tables_quiet g.S.Storage.view (record c.args.storage.now { met_fault = false }) c.flush.new.store c.args.self.now c.flush.new.self c.flush.result (rw c.watch_faults.ensures at c.flush.ensures.flushed);
   };
-  held = tables_held g.S.Storage.view (record c.args.storage.now { met_fault = false }) c.flush.new.store c.args.self.now c.flush.new.self c.flush.result (rw c.watch_faults.ensures at c.flush.ensures.flushed);
   free = λ size cluster free.
       subst (λ (n : L2CacheBackend g.row.S.Denot). IsFreeOf size (cached_tables n.header.fields.cluster_bits (λ (t : L2TableView). t.bytes) (λ t. t.is_modified) c.flush.new.self.entries) cluster)
       (sym (ap (λ (l2 : Cache (L2CacheBackend g.row.S.Denot) ℕ L2TableView). l2.backend) c.flush.ensures.others))
@@ -39,7 +37,6 @@ returns g c = record {
     written = tables_written g.S.Storage.view (record c.args.storage.now { met_fault = false }) c.flush.new.store c.args.self.now c.flush.new.self c.flush.ensures.others c.flush.result (rw c.watch_faults.ensures at c.flush.ensures.flushed) c.in_default.is;
     quiet = tables_quiet g.S.Storage.view (record c.args.storage.now { met_fault = false }) c.flush.new.store c.args.self.now c.flush.new.self c.flush.result (rw c.watch_faults.ensures at c.flush.ensures.flushed);
   };
-  held = tables_held g.S.Storage.view (record c.args.storage.now { met_fault = false }) c.flush.new.store c.args.self.now c.flush.new.self c.flush.result (rw c.watch_faults.ensures at c.flush.ensures.flushed);
   free = λ size cluster free.
       subst (λ (n : L2CacheBackend g.row.S.Denot). IsFreeOf size (cached_tables n.header.fields.cluster_bits (λ (t : L2TableView). t.bytes) (λ t. t.is_modified) c.flush.new.self.entries) cluster)
       (sym (ap (λ (l2 : Cache (L2CacheBackend g.row.S.Denot) ℕ L2TableView). l2.backend) c.flush.ensures.others))

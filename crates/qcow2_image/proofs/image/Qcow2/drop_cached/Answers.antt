@@ -1,5 +1,6 @@
 use Rattle.qcow2_image.proofs.Common.{◌∙◌, Err, List, Option, Result, Some, refl, sym, ap, subst, rules, IfErr, option_map, IsOfPrepared, LeavesPinned, kept_same, EntryTableView, Allocator, ClustersToFreeEntry, ImageError, ImageFile, handed_on, notes_of_marks, notes_then, leaked_by, IsReasonAgainstReading, InternalStep, Qcow2}
 use Rattle.qcow2_image.proofs.Lemmas.{behind_by, behind_tables, behind_then, keeps_then}
+use Rattle.qcow2_alloc.proofs.KeptTables.Held.{listed_same}
 use Rattle.qcow2_image.proofs.Invalidate.Dropped.{anew_moved, behind_dropped, dropped_moved, holds_none, left_none, left_prepared, no_entries, rests_there, unmodified_l2, unmodified_rb, why_blocks, why_left}
 use Rattle.qcow2_image.proofs.image.Qcow2.drop_cached.Goals as goal
 
@@ -82,7 +83,7 @@ pub returns-clause-dropped : goal.returns-clause-dropped
 returns-clause-dropped g c =
     let old = c.args.self.now in
     let none = subst (λ (r : Result _ ImageError). LeavesPinned old.file.caches.l2.entries r c.invalidate_l2.new.self.l2.entries) c.in_ok-invalidate_l2.was c.invalidate_l2.ensures.left in
-    holds_none (record old { file = record old.file { caches = c.invalidate_rb.new.self; free_list = c.take-forgotten.new.self } }) (no_entries c.invalidate_l2.new.self c.invalidate_rb.new.self none.1 c.invalidate_rb.ensures.tables) c.invalidate_rb.result
+    holds_none (record old { file = record old.file { caches = c.invalidate_rb.new.self; free_list = c.take-forgotten.new.self } }) (no_entries c.invalidate_l2.new.self c.invalidate_rb.new.self none.1 (listed_same c.invalidate_l2.new.self c.invalidate_rb.new.self c.invalidate_rb.ensures.tables)) c.invalidate_rb.result
     (left_none c.invalidate_l2.new.self.rb.entries c.invalidate_rb.new.self.rb.entries c.invalidate_rb.result c.invalidate_rb.ensures.left)
 
 pub returns-clause-keeps : goal.returns-clause-keeps
@@ -136,7 +137,7 @@ returns-clause-rest g c =
       rest = ap (λ (l : List ClustersToFreeEntry). record old { file = record old.file { caches = c.invalidate_rb.new.self; free_list = l } }) c.take-forgotten.ensures.emptied;
       reftable = refl;
       leaks = refl;
-      unmodified = λ all. unmodified_rb c.invalidate_l2.new.self c.invalidate_rb.new.self c.invalidate_rb.result rb.left rb.tables (unmodified_l2 old.file.caches c.invalidate_l2.new.self c.invalidate_l2.result l2.left l2.blocks all);
+      unmodified = λ all. unmodified_rb c.invalidate_l2.new.self c.invalidate_rb.new.self c.invalidate_rb.result rb.left (listed_same c.invalidate_l2.new.self c.invalidate_rb.new.self rb.tables) (unmodified_l2 old.file.caches c.invalidate_l2.new.self c.invalidate_l2.result l2.left l2.blocks all);
     }
 
 pub returns-in_err-invalidate_l2-clause-fails : goal.returns-in_err-invalidate_l2-clause-fails
